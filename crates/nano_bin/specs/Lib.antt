@@ -1,0 +1,6 @@
+pub mod Reading
+pub mod LittleEndian
+pub mod Faults
+pub mod Spellings
+pub mod SpellingLaws
+pub mod Writing

@@ -1,0 +1,167 @@
+-- What is written, and that it is read back.
+use Rattle.std.specs.Prelude.{◌≡◌, ◌<◌, ◌^◌, ℕ, refl, List, [], ◌∷◌, ◌++◌, map, length, Option, Some, None}
+use Rattle.std.specs.Option.{option_map}
+use Rattle.std.specs.List.{AllByRecursion, flat_map}
+use Rattle.std.proofs.Common.{sym, ◌∙◌, subst, ap, lit<}
+use Rattle.nano_value.specs.Meaning.{Meaning, whole, text, optional, listed, paired, pair_map, usize_bound, whole_injective, text_injective, both_injective, listed_injective}
+use Rattle.nano_value.specs.Legal.{IsImage, AllOfOption, BothOfPair, AllOfList, IsText, length-map}
+use Rattle.nano_bin.specs.Reading.{IsSpelling, Spelling}
+use Rattle.nano_bin.specs.LittleEndian.{SpellsNumber, little_endian}
+use Rattle.nano_bin.specs.Spellings.{SpellsPair, SpellsOption, SpellsItems, SpellsList, SpellsText}
+use Rattle.nano_bin.specs.SpellingLaws.{unsigned, texts, option_of, pair_of, list_of}
+
+-- what the values of a type are written as: the same for what means the same
+pub record Writing (A : Type 0) : Type 0 where
+  pub means : A → Meaning
+  pub written : A → List ℕ
+  pub same_written : (x y : A) → means x ≡ means y → written x ≡ written y
+
+-- a writing and a spelling that fit together: what is written of a legal value spells its meaning
+pub record Format (A : Type 0) : Type 1 where
+  pub writing : Writing A
+  pub spelling : Spelling
+  pub reads_back : (x : A) → spelling.legal (writing.means x) → spelling.spelled (writing.written x) (writing.means x)
+
+-- ---- the written bytes
+
+-- the byte 0; or the byte 1 and the item
+abbrev pub written_option : {A : Type 0} → (A → List ℕ) → Option A → List ℕ
+written_option W None = little_endian 1 0
+written_option W (Some x) = little_endian 1 1 ++ W x
+
+-- one part behind the other
+abbrev pub written_pair : {A B : Type 0} → (A → List ℕ) → (B → List ℕ) → A × B → List ℕ
+written_pair V W p = V p.0 ++ W p.1
+
+-- the count of the items as a `usize`, and the items
+abbrev pub written_list : {A : Type 0} → (A → List ℕ) → List A → List ℕ
+written_list W xs = little_endian 8 (length xs) ++ flat_map W xs
+
+-- the length as a `usize`, and the bytes
+abbrev pub written_text : List ℕ → List ℕ
+written_text utf8 = little_endian 8 (length utf8) ++ utf8
+
+-- ---- writings
+
+pub number_same : (k m n : ℕ) → whole m ≡ whole n → little_endian k m ≡ little_endian k n
+number_same k m n e = ap (little_endian k) (whole_injective m n e)
+
+abbrev pub unsigned_writing : ℕ → Writing ℕ
+unsigned_writing k = record { means = whole; written = little_endian k; same_written = number_same k }
+
+-- a type whose values are seen as those of another
+abbrev pub writing_as : {A B : Type 0} → (A → B) → Writing B → Writing A
+writing_as f w = record { means = λ x. w.means (f x); written = λ x. w.written (f x); same_written = λ x y. w.same_written (f x) (f y) }
+
+pub text_same : (xs ys : List ℕ) → text xs ≡ text ys → written_text xs ≡ written_text ys
+text_same xs ys e = ap written_text (text_injective xs ys e)
+
+abbrev pub text_writing : Writing (List ℕ)
+text_writing = record { means = text; written = written_text; same_written = text_same }
+
+module _ {A : Type 0} (w : Writing A) where
+  pub option_same : (x y : Option A) → optional (option_map w.means x) ≡ optional (option_map w.means y) → written_option w.written x ≡ written_option w.written y
+  option_same None None e = refl
+  option_same None (Some y) e = absurd (cc)
+  option_same (Some x) None e = absurd (cc)
+  option_same (Some x) (Some y) e = ap (λ l. little_endian 1 1 ++ l) (w.same_written x y (both_injective _ _ _ _ e).0)
+
+  pub items_same : (xs ys : List A) → map w.means xs ≡ map w.means ys → (length xs ≡ length ys) × (flat_map w.written xs ≡ flat_map w.written ys)
+  items_same [] [] e = (refl, refl)
+  items_same [] (y ∷ ys) e = absurd (cc)
+  items_same (x ∷ xs) [] e = absurd (cc)
+  items_same (x ∷ xs) (y ∷ ys) e =
+      let head : w.means x ≡ w.means y = cc in
+      let tail : map w.means xs ≡ map w.means ys = cc in
+      let rest = items_same xs ys tail in
+      (cc, λ i. w.same_written x y head i ++ rest.1 i)
+
+  pub list_same : (xs ys : List A) → listed (map w.means xs) ≡ listed (map w.means ys) → written_list w.written xs ≡ written_list w.written ys
+  list_same xs ys e = let same = items_same xs ys (listed_injective _ _ e) in λ i. little_endian 8 (same.0 i) ++ same.1 i
+
+pub pair_same : {A B : Type 0} (v : Writing A) (w : Writing B) (x y : A × B) → paired (pair_map v.means w.means x) ≡ paired (pair_map v.means w.means y) → written_pair v.written w.written x ≡ written_pair v.written w.written y
+pair_same v w x y e = let same = both_injective (v.means x.0) (w.means x.1) (v.means y.0) (w.means y.1) e in λ i. v.same_written x.0 y.0 same.0 i ++ w.same_written x.1 y.1 same.1 i
+
+abbrev pub option_writing : {A : Type 0} → Writing A → Writing (Option A)
+option_writing w = record { means = λ x. optional (option_map w.means x); written = written_option w.written; same_written = option_same w }
+
+abbrev pub pair_writing : {A B : Type 0} → Writing A → Writing B → Writing (A × B)
+pair_writing v w = record { means = λ x. paired (pair_map v.means w.means x); written = written_pair v.written w.written; same_written = pair_same v w }
+
+abbrev pub list_writing : {A : Type 0} → Writing A → Writing (List A)
+list_writing w = record { means = λ xs. listed (map w.means xs); written = written_list w.written; same_written = list_same w }
+
+-- ---- what is written is read back
+
+-- what is written of a value whose meaning has the property spells the meaning
+abbrev pub ReadsBack : {A M : Type 0} → (A → M) → (M → Type 0) → (List ℕ → M → Type 0) → (A → List ℕ) → Type 0
+ReadsBack {A} means P S W = (x : A) → P (means x) → S (W x) (means x)
+
+pub unsigned_reads_back : (k : ℕ) → ReadsBack whole (unsigned k).legal (unsigned k).spelled (little_endian k)
+unsigned_reads_back k n h = record { part = n; has = record { fits = subst (λ m. m < 256 ^ k) (sym (whole_injective n h.part h.is)) h.has; whole = refl }; is = refl }
+
+pub text_reads_back : ReadsBack text texts.legal texts.spelled written_text
+text_reads_back utf8 h =
+    let is : IsText utf8 = subst IsText (sym (text_injective utf8 h.part h.is)) h.has in
+    record { part = utf8; has = record { head = little_endian 8 (length utf8); whole = refl; count = record { fits = is.count; whole = refl }; is_utf8 = is.utf8 }; is = refl }
+
+module _ {A : Type 0} (means : A → Meaning) (P : Meaning → Type 0) (S : List ℕ → Meaning → Type 0) (W : A → List ℕ) (back : ReadsBack means P S W) where
+  some_or_none_back : (x : Option A) → AllOfOption P (option_map means x) → SpellsOption S (written_option W x) (option_map means x)
+  some_or_none_back None h = (0, (λ e. let zero_is_one : 0 ≡ 1 = e in absurd (cc)), record { fits = lit< tt; whole = refl })
+  some_or_none_back (Some x) h = record { head = little_endian 1 1; tail = W x; whole = refl; first = record { fits = lit< tt; whole = refl }; second = back x h }
+
+  optional_told : (x : Option A) (m : Option Meaning) → optional (option_map means x) ≡ optional m → option_map means x ≡ m
+  optional_told None None e = refl
+  optional_told None (Some m) e = absurd (cc)
+  optional_told (Some x) None e = absurd (cc)
+  optional_told (Some x) (Some m) e = ap Some (both_injective _ _ _ _ e).0
+
+  pub option_reads_back : ReadsBack (λ x. optional (option_map means x)) (IsImage optional (AllOfOption P)) (λ bytes. IsImage optional (SpellsOption S bytes)) (written_option W)
+  option_reads_back x h = record { part = option_map means x; has = some_or_none_back x (subst (AllOfOption P) (sym (optional_told x h.part h.is)) h.has); is = refl }
+
+  pub items_read_back : (xs : List A) → AllByRecursion P (map means xs) → SpellsItems S (flat_map W xs) (map means xs)
+  items_read_back [] h = refl
+  items_read_back (x ∷ xs) h = (W x, flat_map W xs, refl, back x h.0, items_read_back xs h.1)
+
+  pub list_reads_back : ReadsBack (λ xs. listed (map means xs)) (IsImage listed (AllOfList P)) (λ bytes. IsImage listed (SpellsList S bytes)) (written_list W)
+  list_reads_back xs h =
+      let all : AllOfList P (map means xs) = subst (AllOfList P) (sym (listed_injective _ _ h.is)) h.has in
+      record {
+        part = map means xs;
+        has = record { head = little_endian 8 (length xs); tail = flat_map W xs; whole = refl; count = record { fits = all.count; whole = ap (little_endian 8) (sym (length-map means xs)) }; items = items_read_back xs all.items };
+        is = refl;
+      }
+
+pub pair_reads_back : {A B : Type 0} (f : A → Meaning) (P : Meaning → Type 0) (S : List ℕ → Meaning → Type 0) (V : A → List ℕ) (g : B → Meaning) (Q : Meaning → Type 0) (R : List ℕ → Meaning → Type 0) (W : B → List ℕ) → ReadsBack f P S V → ReadsBack g Q R W → ReadsBack (λ x. paired (pair_map f g x)) (IsImage paired (BothOfPair P Q)) (λ bytes. IsImage paired (SpellsPair S R bytes)) (written_pair V W)
+pair_reads_back f P S V g Q R W v w x h =
+    let parts = both_injective (f x.0) (g x.1) h.part.0 h.part.1 h.is in
+    record {
+      part = pair_map f g x;
+      has = record { head = V x.0; tail = W x.1; whole = refl; first = v x.0 (subst P (sym parts.0) h.has.0); second = w x.1 (subst Q (sym parts.1) h.has.1) };
+      is = refl;
+    }
+
+-- ---- formats
+
+abbrev pub unsigned_format : ℕ → Format ℕ
+unsigned_format k = record { writing = unsigned_writing k; spelling = unsigned k; reads_back = unsigned_reads_back k }
+
+abbrev pub text_format : Format (List ℕ)
+text_format = record { writing = text_writing; spelling = texts; reads_back = text_reads_back }
+
+abbrev pub option_format : {A : Type 0} → Format A → Format (Option A)
+option_format f = record { writing = option_writing f.writing; spelling = option_of f.spelling; reads_back = option_reads_back f.writing.means f.spelling.legal f.spelling.spelled f.writing.written f.reads_back }
+
+abbrev pub pair_format : {A B : Type 0} → Format A → Format B → Format (A × B)
+pair_format f g = record {
+  writing = pair_writing f.writing g.writing;
+  spelling = pair_of f.spelling g.spelling;
+  reads_back = pair_reads_back f.writing.means f.spelling.legal f.spelling.spelled f.writing.written g.writing.means g.spelling.legal g.spelling.spelled g.writing.written f.reads_back g.reads_back;
+}
+
+abbrev pub list_format : {A : Type 0} → Format A → Format (List A)
+list_format f = record { writing = list_writing f.writing; spelling = list_of f.spelling; reads_back = list_reads_back f.writing.means f.spelling.legal f.spelling.spelled f.writing.written f.reads_back }
+
+-- a type whose values are seen as those of another
+abbrev pub format_as : {A B : Type 0} → (A → B) → Format B → Format A
+format_as f g = record { writing = writing_as f g.writing; spelling = g.spelling; reads_back = λ x. g.reads_back (f x) }

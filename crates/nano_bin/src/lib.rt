@@ -1,0 +1,19 @@
+//! The binary format of nanoserde: fixed-width little-endian numbers, lengths and counts as eight bytes.
+//!
+//! A value is written by [`SerBin`] and read by [`DeBin`]; a type that has both is [`BothBin`], and what it
+//! writes is read back at any offset, whatever bytes follow.
+#![tactic(auto)]
+
+mod append;
+mod error;
+mod lists;
+mod numbers;
+mod options;
+mod take;
+mod texts;
+mod traits;
+mod tuples;
+
+pub use append::append_part;
+pub use error::{DeBinErr, DeBinKind};
+pub use traits::{BothBin, DeBin, SerBin};

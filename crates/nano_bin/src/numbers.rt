@@ -1,0 +1,199 @@
+// Unsigned integers: fixed widths, the lowest byte first.
+ghost use Rattle.std.specs.Prelude.{◌≡◌, drop, refl, IfOk, IfErr, OnErr};
+ghost use Rattle.nano_value.specs.Meaning.{whole};
+ghost use Rattle.nano_bin.specs.Reading.{Reads, NothingFits};
+ghost use Rattle.nano_bin.specs.Spellings.{SpellsUnsigned};
+ghost use Rattle.nano_bin.specs.SpellingLaws.{unsigned};
+ghost use Rattle.nano_bin.specs.Writing.{unsigned_writing, unsigned_format};
+ghost use Rattle.nano_bin.specs.Faults.{IsTooShort};
+
+use crate::append::append_bytes;
+use crate::error::DeBinErr;
+use crate::take::take_number;
+use crate::traits::{BothBin, DeBin, SerBin};
+use std::alloc::{AllocError, Global};
+
+impl SerBin for u8 {
+    ghost writing = { unsigned_writing 1 };
+
+    ghost writes_meaning = { refl };
+
+    #[tactic(auto, using(crate::specs::LittleEndian::little_byte))]
+    fn ser_bin(&self, alloc: Global, output: &mut Vec<u8>) -> Result<(), AllocError> {
+        append_bytes(output, &[*self])
+    }
+}
+
+impl DeBin for u8 {
+    ghost spelling = { unsigned 1 };
+
+    ghost spells_legal = { λ m h. h };
+
+    /// Takes no memory, and is refused exactly where fewer than 1 byte is left.
+    #[tactic(auto, using(crate::specs::LittleEndian::from_le_bytes_8))]
+    fn de_bin(alloc: Global, offset: &mut usize, bytes: &[u8]) -> Result<u8, DeBinErr>
+        ensures ok { IfOk result (λ value. Reads (SpellsUnsigned 1) bytes.now offset.old (whole value) offset.new) }
+        ensures err { IfErr result (λ e. NothingFits (SpellsUnsigned 1) (drop offset.old bytes.now)) }
+        ensures short { IfErr result (IsTooShort bytes.now offset.old 1) }
+        ensures kept { OnErr result (offset.new ≡ offset.old) }
+    {
+        match take_number::<1>(offset, bytes) {
+            Ok(taken) => Ok(u8::from_le_bytes(taken)),
+            Err(error) => Err(error),
+        }
+    }
+}
+
+impl BothBin for u8 {
+    ghost format = { unsigned_format 1 };
+
+    ghost reads_back = { (unsigned_format 1).reads_back };
+}
+
+impl SerBin for u16 {
+    ghost writing = { unsigned_writing 2 };
+
+    ghost writes_meaning = { refl };
+
+    #[tactic(auto, using(crate::specs::LittleEndian::to_le_bytes_16))]
+    fn ser_bin(&self, alloc: Global, output: &mut Vec<u8>) -> Result<(), AllocError> {
+        append_bytes(output, &self.to_le_bytes())
+    }
+}
+
+impl DeBin for u16 {
+    ghost spelling = { unsigned 2 };
+
+    ghost spells_legal = { λ m h. h };
+
+    /// Takes no memory, and is refused exactly where fewer than 2 bytes are left.
+    #[tactic(auto, using(crate::specs::LittleEndian::from_le_bytes_16))]
+    fn de_bin(alloc: Global, offset: &mut usize, bytes: &[u8]) -> Result<u16, DeBinErr>
+        ensures ok { IfOk result (λ value. Reads (SpellsUnsigned 2) bytes.now offset.old (whole value) offset.new) }
+        ensures err { IfErr result (λ e. NothingFits (SpellsUnsigned 2) (drop offset.old bytes.now)) }
+        ensures short { IfErr result (IsTooShort bytes.now offset.old 2) }
+        ensures kept { OnErr result (offset.new ≡ offset.old) }
+    {
+        match take_number::<2>(offset, bytes) {
+            Ok(taken) => Ok(u16::from_le_bytes(taken)),
+            Err(error) => Err(error),
+        }
+    }
+}
+
+impl BothBin for u16 {
+    ghost format = { unsigned_format 2 };
+
+    ghost reads_back = { (unsigned_format 2).reads_back };
+}
+
+impl SerBin for u32 {
+    ghost writing = { unsigned_writing 4 };
+
+    ghost writes_meaning = { refl };
+
+    #[tactic(auto, using(crate::specs::LittleEndian::to_le_bytes_32))]
+    fn ser_bin(&self, alloc: Global, output: &mut Vec<u8>) -> Result<(), AllocError> {
+        append_bytes(output, &self.to_le_bytes())
+    }
+}
+
+impl DeBin for u32 {
+    ghost spelling = { unsigned 4 };
+
+    ghost spells_legal = { λ m h. h };
+
+    /// Takes no memory, and is refused exactly where fewer than 4 bytes are left.
+    #[tactic(auto, using(crate::specs::LittleEndian::from_le_bytes_32))]
+    fn de_bin(alloc: Global, offset: &mut usize, bytes: &[u8]) -> Result<u32, DeBinErr>
+        ensures ok { IfOk result (λ value. Reads (SpellsUnsigned 4) bytes.now offset.old (whole value) offset.new) }
+        ensures err { IfErr result (λ e. NothingFits (SpellsUnsigned 4) (drop offset.old bytes.now)) }
+        ensures short { IfErr result (IsTooShort bytes.now offset.old 4) }
+        ensures kept { OnErr result (offset.new ≡ offset.old) }
+    {
+        match take_number::<4>(offset, bytes) {
+            Ok(taken) => Ok(u32::from_le_bytes(taken)),
+            Err(error) => Err(error),
+        }
+    }
+}
+
+impl BothBin for u32 {
+    ghost format = { unsigned_format 4 };
+
+    ghost reads_back = { (unsigned_format 4).reads_back };
+}
+
+impl SerBin for u64 {
+    ghost writing = { unsigned_writing 8 };
+
+    ghost writes_meaning = { refl };
+
+    #[tactic(auto, using(crate::specs::LittleEndian::to_le_bytes_64))]
+    fn ser_bin(&self, alloc: Global, output: &mut Vec<u8>) -> Result<(), AllocError> {
+        append_bytes(output, &self.to_le_bytes())
+    }
+}
+
+impl DeBin for u64 {
+    ghost spelling = { unsigned 8 };
+
+    ghost spells_legal = { λ m h. h };
+
+    /// Takes no memory, and is refused exactly where fewer than 8 bytes are left.
+    #[tactic(auto, using(crate::specs::LittleEndian::from_le_bytes_64))]
+    fn de_bin(alloc: Global, offset: &mut usize, bytes: &[u8]) -> Result<u64, DeBinErr>
+        ensures ok { IfOk result (λ value. Reads (SpellsUnsigned 8) bytes.now offset.old (whole value) offset.new) }
+        ensures err { IfErr result (λ e. NothingFits (SpellsUnsigned 8) (drop offset.old bytes.now)) }
+        ensures short { IfErr result (IsTooShort bytes.now offset.old 8) }
+        ensures kept { OnErr result (offset.new ≡ offset.old) }
+    {
+        match take_number::<8>(offset, bytes) {
+            Ok(taken) => Ok(u64::from_le_bytes(taken)),
+            Err(error) => Err(error),
+        }
+    }
+}
+
+impl BothBin for u64 {
+    ghost format = { unsigned_format 8 };
+
+    ghost reads_back = { (unsigned_format 8).reads_back };
+}
+
+impl SerBin for usize {
+    ghost writing = { unsigned_writing 8 };
+
+    ghost writes_meaning = { refl };
+
+    #[tactic(auto, using(crate::specs::LittleEndian::to_le_bytes_64))]
+    fn ser_bin(&self, alloc: Global, output: &mut Vec<u8>) -> Result<(), AllocError> {
+        append_bytes(output, &self.to_le_bytes())
+    }
+}
+
+impl DeBin for usize {
+    ghost spelling = { unsigned 8 };
+
+    ghost spells_legal = { λ m h. h };
+
+    /// Takes no memory, and is refused exactly where fewer than 8 bytes are left.
+    #[tactic(auto, using(crate::specs::LittleEndian::from_le_bytes_64))]
+    fn de_bin(alloc: Global, offset: &mut usize, bytes: &[u8]) -> Result<usize, DeBinErr>
+        ensures ok { IfOk result (λ value. Reads (SpellsUnsigned 8) bytes.now offset.old (whole value) offset.new) }
+        ensures err { IfErr result (λ e. NothingFits (SpellsUnsigned 8) (drop offset.old bytes.now)) }
+        ensures short { IfErr result (IsTooShort bytes.now offset.old 8) }
+        ensures kept { OnErr result (offset.new ≡ offset.old) }
+    {
+        match take_number::<8>(offset, bytes) {
+            Ok(taken) => Ok(usize::from_le_bytes(taken)),
+            Err(error) => Err(error),
+        }
+    }
+}
+
+impl BothBin for usize {
+    ghost format = { unsigned_format 8 };
+
+    ghost reads_back = { (unsigned_format 8).reads_back };
+}

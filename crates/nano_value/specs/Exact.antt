@@ -1,0 +1,48 @@
+-- Tests of equality that hold of two values exactly where they mean the same.
+use Rattle.std.specs.Prelude.{◌≡◌, ℕ, Bool, true, false, ◌&&◌, refl, List, [], ◌∷◌, map, Option, Some, None, nat_eq}
+use Rattle.std.specs.Bool.{Decides}
+use Rattle.std.specs.Option.{option_map, option_eq}
+use Rattle.std.specs.Cmp.{first_so, second_so, unsigned_Decides}
+use Rattle.std.specs.Cmp.Lexicographic.{pointwise, bytes_decides}
+use Rattle.std.proofs.Common.{ap, sym, ◌∙◌, subst}
+use Rattle.nano_value.specs.Meaning.{Meaning, number, text, nothing, both, whole, optional, listed, paired, pair_map, whole_injective, text_injective, both_injective}
+
+-- the test is true of two values exactly where they mean the same
+abbrev pub Tells : {A : Type 0} → (A → A → Bool) → (A → Meaning) → Type 0
+Tells {A} test means = (x y : A) → Decides (test x y) (means x ≡ means y)
+
+false_is_not_true : {P : Type 0} → false ≡ true → P
+false_is_not_true h = absurd (cc)
+
+and_is_true : (b c : Bool) → b ≡ true → c ≡ true → (b && c) ≡ true
+and_is_true b c h k = ap (λ d. d && c) h ∙ k
+
+pub unsigned_tell : Tells nat_eq whole
+unsigned_tell x y = ((λ e. ap whole ((unsigned_Decides x y).0 e)), λ e. (unsigned_Decides x y).1 (whole_injective x y e))
+
+pub texts_tell : {A : Type 0} (bytes : A → List ℕ) → Tells (λ x y. pointwise nat_eq (bytes x) (bytes y)) (λ x. text (bytes x))
+texts_tell bytes x y = ((λ e. ap text ((bytes_decides (bytes x) (bytes y)).0 e)), λ e. (bytes_decides (bytes x) (bytes y)).1 (text_injective (bytes x) (bytes y) e))
+
+module _ {A : Type 0} (means : A → Meaning) (test : A → A → Bool) (tells : Tells test means) where
+  pub options_tell : Tells (option_eq test) (λ x. optional (option_map means x))
+  options_tell None None = (λ _. refl, λ _. refl)
+  options_tell None (Some y) = (false_is_not_true, λ e. absurd (cc))
+  options_tell (Some x) None = (false_is_not_true, λ e. absurd (cc))
+  options_tell (Some x) (Some y) = (λ e. ap (λ m. both m nothing) ((tells x y).0 e), λ e. (tells x y).1 (both_injective _ _ _ _ e).0)
+
+  pub lists_tell : Tells (pointwise test) (λ xs. listed (map means xs))
+  lists_tell [] [] = (λ _. refl, λ _. refl)
+  lists_tell [] (y ∷ ys) = (false_is_not_true, λ e. absurd (cc))
+  lists_tell (x ∷ xs) [] = (false_is_not_true, λ e. absurd (cc))
+  lists_tell (x ∷ xs) (y ∷ ys) = (
+    λ e i. both ((tells x y).0 (first_so (test x y) (pointwise test xs ys) e) i) ((lists_tell xs ys).0 (second_so (test x y) (pointwise test xs ys) e) i),
+    λ e. let parts = both_injective (means x) (listed (map means xs)) (means y) (listed (map means ys)) e in
+        and_is_true (test x y) (pointwise test xs ys) ((tells x y).1 parts.0) ((lists_tell xs ys).1 parts.1),
+  )
+
+pub pairs_tell : {A B : Type 0} (f : A → Meaning) (test : A → A → Bool) (g : B → Meaning) (test' : B → B → Bool) → Tells test f → Tells test' g → Tells (λ x y. test x.0 y.0 && test' x.1 y.1) (λ x. paired (pair_map f g x))
+pairs_tell f test g test' t u x y = (
+  λ e i. both ((t x.0 y.0).0 (first_so (test x.0 y.0) (test' x.1 y.1) e) i) ((u x.1 y.1).0 (second_so (test x.0 y.0) (test' x.1 y.1) e) i),
+  λ e. let parts = both_injective (f x.0) (g x.1) (f y.0) (g y.1) e in
+      and_is_true (test x.0 y.0) (test' x.1 y.1) ((t x.0 y.0).1 parts.0) ((u x.1 y.1).1 parts.1),
+)

@@ -1,0 +1,100 @@
+-- Which meanings the values of a type have.
+use Rattle.std.specs.Prelude.{◌≡◌, ℕ, suc, ◌<◌, ◌^◌, refl, List, [], ◌∷◌, map, length, Option, Some, None, IsUtf8}
+use Rattle.std.specs.List.{AllByRecursion}
+use Rattle.std.specs.Option.{option_map}
+use Rattle.std.proofs.Common.{ap, sym, subst}
+use Rattle.nano_value.specs.Meaning.{Meaning, whole, text, optional, listed, paired, pair_map, usize_bound}
+
+-- the meaning is what a part that has the property is mapped to
+pub record IsImage {A : Type 0} (f : A → Meaning) (P : A → Type 0) (m : Meaning) : Type 0 where
+  pub part : A
+  pub has : P part
+  pub is : m ≡ f part
+
+-- an unsigned number of so many bits
+abbrev pub LegalUnsigned : ℕ → Meaning → Type 0
+LegalUnsigned bits = IsImage whole (λ n. n < 2 ^ bits)
+
+-- UTF-8 whose length is a `usize`
+pub record IsText (bytes : List ℕ) : Type 0 where
+  pub count : length bytes < usize_bound
+  pub utf8 : IsUtf8 bytes
+
+abbrev pub LegalText : Meaning → Type 0
+LegalText = IsImage text IsText
+
+-- absent, or a legal item
+abbrev pub AllOfOption : {A : Type 0} → (A → Type 0) → Option A → Type 0
+AllOfOption P None = Unit {0}
+AllOfOption P (Some x) = P x
+
+abbrev pub LegalOption : (Meaning → Type 0) → Meaning → Type 0
+LegalOption P = IsImage optional (AllOfOption P)
+
+-- a count that is a `usize`, and items that have the property
+pub record AllOfList {A : Type 0} (P : A → Type 0) (xs : List A) : Type 0 where
+  pub count : length xs < usize_bound
+  pub items : AllByRecursion P xs
+
+abbrev pub LegalList : (Meaning → Type 0) → Meaning → Type 0
+LegalList P = IsImage listed (AllOfList P)
+
+-- each part of a pair has its property
+abbrev pub BothOfPair : {A B : Type 0} → (A → Type 0) → (B → Type 0) → A × B → Type 0
+BothOfPair P Q p = P p.0 × Q p.1
+
+abbrev pub LegalPair : (Meaning → Type 0) → (Meaning → Type 0) → Meaning → Type 0
+LegalPair P Q = IsImage paired (BothOfPair P Q)
+
+-- ---- how `known` shows them
+
+-- the image of a part with the property
+pub image_of : {A : Type 0} (f : A → Meaning) (P : A → Type 0) (x : A) → P x → IsImage f P (f x)
+image_of f P x h = record { part = x; has = h; is = refl }
+
+pub length-map : {A B : Type 0} (f : A → B) (xs : List A) → length (map f xs) ≡ length xs
+length-map f [] = refl
+length-map f (x ∷ xs) = ap (λ n. suc n) (length-map f xs)
+
+pub all-map : {A B : Type 0} (P : B → Type 0) (f : A → B) (xs : List A) → AllByRecursion (λ x. P (f x)) xs → AllByRecursion P (map f xs)
+all-map P f [] h = tt
+all-map P f (x ∷ xs) h = (h.0, all-map P f xs h.1)
+
+-- a list of legal items is legal
+pub list_is_legal : {A : Type 0} (means : A → Meaning) (P : Meaning → Type 0) (xs : List A) → length xs < usize_bound → AllByRecursion (λ x. P (means x)) xs → LegalList P (listed (map means xs))
+list_is_legal means P xs count all =
+    image_of listed (AllOfList P) (map means xs) (record { count = subst (λ n. n < usize_bound) (sym (length-map means xs)) count; items = all-map P means xs all })
+
+-- a pair of legal parts is legal
+pub pair_is_legal : (P Q : Meaning → Type 0) (m n : Meaning) → P m → Q n → LegalPair P Q (paired (m, n))
+pair_is_legal P Q m n h k = image_of paired (BothOfPair P Q) (m, n) (h, k)
+
+-- a present item that is legal makes a legal option
+pub some_is_legal : (P : Meaning → Type 0) (m : Meaning) → P m → LegalOption P (optional (Some m))
+some_is_legal P m h = image_of optional (AllOfOption P) (Some m) h
+
+pub none_is_legal : (P : Meaning → Type 0) → LegalOption P (optional None)
+none_is_legal P = image_of optional (AllOfOption P) None tt
+
+-- ---- what holds of more parts
+
+image_weaker : {A : Type 0} (f : A → Meaning) (P Q : A → Type 0) → ((x : A) → P x → Q x) → (m : Meaning) → IsImage f P m → IsImage f Q m
+image_weaker f P Q weaker m h = record { part = h.part; has = weaker h.part h.has; is = h.is }
+
+module _ (P Q : Meaning → Type 0) (weaker : (m : Meaning) → P m → Q m) where
+  pub all_weaker : (ms : List Meaning) → AllByRecursion P ms → AllByRecursion Q ms
+  all_weaker [] h = tt
+  all_weaker (m ∷ ms) h = (weaker m h.0, all_weaker ms h.1)
+
+  all_of_option_weaker : (m : Option Meaning) → AllOfOption P m → AllOfOption Q m
+  all_of_option_weaker None h = tt
+  all_of_option_weaker (Some m) h = weaker m h
+
+  pub option_weaker : (m : Meaning) → LegalOption P m → LegalOption Q m
+  option_weaker = image_weaker optional (AllOfOption P) (AllOfOption Q) all_of_option_weaker
+
+  pub list_weaker : (m : Meaning) → LegalList P m → LegalList Q m
+  list_weaker = image_weaker listed (AllOfList P) (AllOfList Q) (λ ms h. record { count = h.count; items = all_weaker ms h.items })
+
+pub pair_weaker : (P P' Q Q' : Meaning → Type 0) → ((m : Meaning) → P m → P' m) → ((m : Meaning) → Q m → Q' m) → (m : Meaning) → LegalPair P Q m → LegalPair P' Q' m
+pair_weaker P P' Q Q' first second = image_weaker paired (BothOfPair P Q) (BothOfPair P' Q') (λ p h. (first p.0 h.0, second p.1 h.1))

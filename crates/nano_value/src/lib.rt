@@ -1,0 +1,14 @@
+//! What the values of a program mean, and which of them `==` tells apart.
+//!
+//! The formats of this repository speak of meanings alone: a number, a text, nothing, or two meanings. Two
+//! values are the same if they mean the same, whatever their capacity or the order in which they are walked.
+#![tactic(auto)]
+
+mod lists;
+mod numbers;
+mod options;
+mod texts;
+mod tuples;
+mod value;
+
+pub use value::{Key, Value};
