@@ -4,3 +4,4 @@ pub mod Faults
 pub mod Spellings
 pub mod SpellingLaws
 pub mod Writing
+pub mod Promises

@@ -6,6 +6,7 @@
 
 mod append;
 mod error;
+pub mod laws;
 mod lists;
 mod numbers;
 mod options;

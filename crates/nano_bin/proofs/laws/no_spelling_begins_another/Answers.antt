@@ -1,0 +1,7 @@
+use Rattle.std.proofs.Common.{◌≡◌, List, [], ◌++◌, sym, ◌∙◌, subst, ap}
+use Rattle.std.proofs.lemmas.List.{append-nil, append_cancel_left}
+use Rattle.nano_bin.specs.SpellingLaws.{same_fronts}
+use Rattle.nano_bin.proofs.laws.no_spelling_begins_another.Goals as goal
+
+pub returns : goal.returns
+returns g c bytes more x y h k = (same_fronts g.T.DeBin.spelling.laws bytes (bytes ++ more) more [] x y h k (sym (append-nil (bytes ++ more)))).1
