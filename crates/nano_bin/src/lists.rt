@@ -1,65 +1,31 @@
 // Lists: the count, and the items.
-ghost use Rattle.std.specs.Prelude.{◌≡◌, ◌≢◌, ◌≤◌, ◌++◌, map, take, drop, vec_len, IfOk, IfErr, OnOk, OnErr};
+ghost use Rattle.std.specs.Prelude.{◌≡◌, ◌++◌, map, take, OnOk, OnErr};
 ghost use Rattle.std.specs.List.{flat_map};
 ghost use Rattle.nano_value.specs.Meaning.{listed};
 ghost use Rattle.nano_value.specs.Legal.{list_weaker};
-ghost use Rattle.nano_bin.specs.declared.error.DeBinKind.{DeBinKind};
-ghost use Rattle.nano_bin.specs.Reading.{Reads, NothingFits};
-ghost use Rattle.nano_bin.specs.Spellings.{SpellsCount};
 ghost use Rattle.nano_bin.specs.SpellingLaws.{list_of};
 ghost use Rattle.nano_bin.specs.Writing.{list_writing, list_format, list_reads_back, writing_as, format_as};
 
-use crate::append::append_part;
-use crate::error::DeBinErr;
-use crate::take::no_memory;
-use crate::traits::{BothBin, DeBin, SerBin};
 use std::alloc::{AllocError, Global};
 
+use crate::error::DeBinErr;
+use crate::traits::{BothBin, DeBin, SerBin};
+
 /// Appends the items of a list, or cuts `output` back to its first `start` bytes where that is refused.
-pub(crate) fn append_items<T: SerBin>(
+fn append_items<T: SerBin>(
     alloc: Global,
     items: &[T],
     output: &mut Vec<u8>,
     start: usize,
 ) -> Result<(), AllocError>
-    requires { start ≤ vec_len output.old }
     ensures ok { OnOk result (output.new.items ≡ output.old.items ++ flat_map T.writing.written items.now) }
     ensures err { OnErr result (output.new.items ≡ take start output.old.items) }
 {
-    for item in items {
-        append_part(alloc, item, output, start)?;
+    let written = T::ser_bin_items(alloc, items, output);
+    if written.is_err() {
+        output.truncate(start);
     }
-    Ok(())
-}
-
-/// Reads so many items, one behind the other.
-pub(crate) fn take_items<T: DeBin>(
-    alloc: Global,
-    count: usize,
-    offset: &mut usize,
-    bytes: &[u8],
-) -> Result<Vec<T>, DeBinErr>
-    ensures ok { IfOk result (λ items. Reads (SpellsCount count T.spelling.spelled) bytes.now offset.old (map T.means items.items) offset.new) }
-    ensures err { IfErr result (λ e. e.kind ≢ DeBinKind.Memory → NothingFits (SpellsCount count T.spelling.spelled) (drop offset.old bytes.now)) }
-    ensures kept { OnErr result (offset.new ≡ offset.old) }
-{
-    let start = *offset;
-    let mut items = Vec::new(alloc);
-    for _ in 0..count {
-        match T::de_bin(alloc, offset, bytes) {
-            Ok(item) => {
-                if items.push(item).is_err() {
-                    *offset = start;
-                    return Err(no_memory(start, bytes));
-                }
-            }
-            Err(error) => {
-                *offset = start;
-                return Err(error);
-            }
-        }
-    }
-    Ok(items)
+    written
 }
 
 impl<T: SerBin> SerBin for Vec<T> {
@@ -82,7 +48,7 @@ impl<T: DeBin> DeBin for Vec<T> {
     fn de_bin(alloc: Global, offset: &mut usize, bytes: &[u8]) -> Result<Vec<T>, DeBinErr> {
         let start = *offset;
         match usize::de_bin(alloc, offset, bytes) {
-            Ok(count) => match take_items(alloc, count, offset, bytes) {
+            Ok(count) => match T::de_bin_items(alloc, count, offset, bytes) {
                 Ok(items) => Ok(items),
                 Err(error) => {
                     *offset = start;

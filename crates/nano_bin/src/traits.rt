@@ -1,5 +1,6 @@
 // The three traits.
 use crate::error::DeBinErr;
+use crate::take::no_memory;
 use nano_value::Value;
 use std::alloc::{AllocError, Global};
 
@@ -24,6 +25,28 @@ pub trait SerBin: Value {
         let mut output = Vec::new(alloc);
         self.ser_bin(alloc, &mut output)?;
         Ok(output)
+    }
+
+    /// Appends the written bytes of each item, one behind the other. A refused write leaves `output` as it was.
+    ///
+    /// A type whose items lie in memory as they are written gives a body that copies them at once.
+    fn ser_bin_items(
+        alloc: Global,
+        items: &[Self],
+        output: &mut Vec<u8>,
+    ) -> Result<(), AllocError>
+        ensures ok { OnOk result (output.new.items ≡ output.old.items ++ flat_map writing.written items.now) }
+        ensures err { OnErr result (output.new.items ≡ output.old.items) }
+    {
+        let start = output.len();
+        for item in items {
+            let written = item.ser_bin(alloc, output);
+            if written.is_err() {
+                output.truncate(start);
+                return written;
+            }
+        }
+        Ok(())
     }
 
     /// The writing is of what the values mean.
@@ -58,6 +81,39 @@ pub trait DeBin: Value + Drop {
     {
         let mut offset = 0;
         Self::de_bin(alloc, &mut offset, d)
+    }
+
+    /// Reads so many items, one behind the other, and sets `offset` behind the last. A refusal is that of the
+    /// first item that cannot be read, and leaves `offset` as it was; `count` reserves no memory.
+    ///
+    /// A type of a fixed width gives a body that reads the items at once.
+    fn de_bin_items(
+        alloc: Global,
+        count: usize,
+        offset: &mut usize,
+        bytes: &[u8],
+    ) -> Result<Vec<Self>, DeBinErr>
+        ensures ok { IfOk result (λ items. Reads (SpellsCount count spelling.spelled) bytes.now offset.old (map Self.means items.items) offset.new) }
+        ensures err { IfErr result (λ e. e.kind ≢ DeBinKind.Memory → NothingFits (SpellsCount count spelling.spelled) (drop offset.old bytes.now)) }
+        ensures kept { OnErr result (offset.new ≡ offset.old) }
+    {
+        let start = *offset;
+        let mut items = Vec::new(alloc);
+        for _ in 0..count {
+            match Self::de_bin(alloc, offset, bytes) {
+                Ok(item) => {
+                    if items.push(item).is_err() {
+                        *offset = start;
+                        return Err(no_memory(start, bytes));
+                    }
+                }
+                Err(error) => {
+                    *offset = start;
+                    return Err(error);
+                }
+            }
+        }
+        Ok(items)
     }
 
     /// What the spelling calls legal is a legal meaning of the type.

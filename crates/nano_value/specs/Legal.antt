@@ -1,9 +1,11 @@
 -- Which meanings the values of a type have.
-use Rattle.std.specs.Prelude.{◌≡◌, ℕ, suc, ◌<◌, ◌^◌, refl, List, [], ◌∷◌, map, length, Option, Some, None, IsUtf8}
+use Rattle.std.specs.Prelude.{◌≡◌, ℕ, suc, ◌<◌, ◌≤◌, drop, ◌^◌, refl, List, [], ◌∷◌, map, length, Option, Some, None, IsUtf8, FitsSigned}
 use Rattle.std.specs.List.{AllByRecursion}
 use Rattle.std.specs.Option.{option_map}
-use Rattle.std.proofs.Common.{ap, sym, subst}
-use Rattle.nano_value.specs.Meaning.{Meaning, whole, text, optional, listed, paired, pair_map, usize_bound}
+use Rattle.std.specs.Int.{Width, w8, w16, w32, w64, w128}
+use Rattle.std.proofs.Common.{ap, sym, subst, ◌∙◌}
+use Rattle.std.proofs.lemmas.List.{drop_all}
+use Rattle.nano_value.specs.Meaning.{Meaning, number, whole, truth, nothing, text, optional, listed, paired, pair_map, usize_bound}
 
 -- the meaning is what a part that has the property is mapped to
 pub record IsImage {A : Type 0} (f : A → Meaning) (P : A → Type 0) (m : Meaning) : Type 0 where
@@ -14,6 +16,16 @@ pub record IsImage {A : Type 0} (f : A → Meaning) (P : A → Type 0) (m : Mean
 -- an unsigned number of so many bits
 abbrev pub LegalUnsigned : ℕ → Meaning → Type 0
 LegalUnsigned bits = IsImage whole (λ n. n < 2 ^ bits)
+
+-- a signed number of a width
+abbrev pub LegalSigned : Width → Meaning → Type 0
+LegalSigned w = IsImage number (FitsSigned w)
+
+abbrev pub LegalTruth : Meaning → Type 0
+LegalTruth = IsImage truth (λ _. Unit {0})
+
+abbrev pub LegalUnit : Meaning → Type 0
+LegalUnit m = m ≡ nothing
 
 -- UTF-8 whose length is a `usize`
 pub record IsText (bytes : List ℕ) : Type 0 where
@@ -39,6 +51,14 @@ pub record AllOfList {A : Type 0} (P : A → Type 0) (xs : List A) : Type 0 wher
 abbrev pub LegalList : (Meaning → Type 0) → Meaning → Type 0
 LegalList P = IsImage listed (AllOfList P)
 
+-- so many items that have the property
+pub record AllOfCount {A : Type 0} (count : ℕ) (P : A → Type 0) (xs : List A) : Type 0 where
+  pub count_is : length xs ≡ count
+  pub items : AllByRecursion P xs
+
+abbrev pub LegalArray : ℕ → (Meaning → Type 0) → Meaning → Type 0
+LegalArray count P = IsImage listed (AllOfCount count P)
+
 -- each part of a pair has its property
 abbrev pub BothOfPair : {A B : Type 0} → (A → Type 0) → (B → Type 0) → A × B → Type 0
 BothOfPair P Q p = P p.0 × Q p.1
@@ -60,10 +80,19 @@ pub all-map : {A B : Type 0} (P : B → Type 0) (f : A → B) (xs : List A) → 
 all-map P f [] h = tt
 all-map P f (x ∷ xs) h = (h.0, all-map P f xs h.1)
 
+-- all items are legal, where they are if those from a place past the end on are
+pub all_walked : {A : Type 0} (P : A → Type 0) (place : ℕ) (xs : List A) → length xs ≤ place → (AllByRecursion P (drop place xs) → AllByRecursion P xs) → AllByRecursion P xs
+all_walked P place xs past walked = walked (subst (AllByRecursion P) (sym (drop_all place xs past)) tt)
+
 -- a list of legal items is legal
 pub list_is_legal : {A : Type 0} (means : A → Meaning) (P : Meaning → Type 0) (xs : List A) → length xs < usize_bound → AllByRecursion (λ x. P (means x)) xs → LegalList P (listed (map means xs))
 list_is_legal means P xs count all =
     image_of listed (AllOfList P) (map means xs) (record { count = subst (λ n. n < usize_bound) (sym (length-map means xs)) count; items = all-map P means xs all })
+
+-- an array of legal items is legal
+pub array_is_legal : {A : Type 0} (means : A → Meaning) (P : Meaning → Type 0) (count : ℕ) (xs : List A) → length xs ≡ count → AllByRecursion (λ x. P (means x)) xs → LegalArray count P (listed (map means xs))
+array_is_legal means P count xs long all =
+    image_of listed (AllOfCount count P) (map means xs) (record { count_is = length-map means xs ∙ long; items = all-map P means xs all })
 
 -- a pair of legal parts is legal
 pub pair_is_legal : (P Q : Meaning → Type 0) (m n : Meaning) → P m → Q n → LegalPair P Q (paired (m, n))
@@ -95,6 +124,9 @@ module _ (P Q : Meaning → Type 0) (weaker : (m : Meaning) → P m → Q m) whe
 
   pub list_weaker : (m : Meaning) → LegalList P m → LegalList Q m
   list_weaker = image_weaker listed (AllOfList P) (AllOfList Q) (λ ms h. record { count = h.count; items = all_weaker ms h.items })
+
+  pub array_weaker : (count : ℕ) (m : Meaning) → LegalArray count P m → LegalArray count Q m
+  array_weaker count = image_weaker listed (AllOfCount count P) (AllOfCount count Q) (λ ms h. record { count_is = h.count_is; items = all_weaker ms h.items })
 
 pub pair_weaker : (P P' Q Q' : Meaning → Type 0) → ((m : Meaning) → P m → P' m) → ((m : Meaning) → Q m → Q' m) → (m : Meaning) → LegalPair P Q m → LegalPair P' Q' m
 pair_weaker P P' Q Q' first second = image_weaker paired (BothOfPair P Q) (BothOfPair P' Q') (λ p h. (first p.0 h.0, second p.1 h.1))

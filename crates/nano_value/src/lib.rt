@@ -4,10 +4,12 @@
 //! values are the same if they mean the same, whatever their capacity or the order in which they are walked.
 #![tactic(auto)]
 
+mod boxes;
 mod lists;
 mod numbers;
 mod options;
 mod texts;
+mod truths;
 mod tuples;
 mod value;
 

@@ -1,8 +1,10 @@
-// Lists: the meanings of the items, in order.
-ghost use Rattle.std.specs.Prelude.{map};
-ghost use Rattle.nano_value.specs.Meaning.{listed};
-ghost use Rattle.nano_value.specs.Legal.{LegalList};
+// Lists, slices and arrays: the meanings of the items, in order.
+ghost use Rattle.std.specs.Prelude.{◌≡◌, ◌<◌, length, map};
+ghost use Rattle.nano_value.specs.Meaning.{listed, usize_bound};
+ghost use Rattle.nano_value.specs.Legal.{LegalArray, LegalList};
 ghost use Rattle.nano_value.specs.Exact.{lists_tell};
+
+use std::collections::LinkedList;
 
 use crate::value::{Key, Value};
 
@@ -20,4 +22,62 @@ impl<T: Value> Value for Vec<T> {
 
 impl<T: Key> Key for Vec<T> {
     ghost exact = { λ x y. lists_tell T.means T.eq T.exact x.items y.items };
+}
+
+impl<T: Value> Value for LinkedList<T> {
+    ghost means = { λ x. listed (map T.means x) };
+
+    ghost legal = { LegalList T.legal };
+
+    fn known(&self) {
+        let _count = self.len();
+        for item in self {
+            item.known();
+        }
+    }
+}
+
+impl<T: Key> Key for LinkedList<T> {
+    ghost exact = { lists_tell T.means T.eq T.exact };
+}
+
+/// The number of items, which a `usize` has.
+fn count<T>(items: &[T]) -> usize
+    ensures value { result ≡ length items.now }
+    ensures fits { length items.now < usize_bound }
+{
+    items.len()
+}
+
+impl<T: Value> Value for &[T] {
+    ghost means = { λ x. listed (map T.means x.now) };
+
+    ghost legal = { LegalList T.legal };
+
+    fn known(&self) {
+        let _count = count(self);
+        for item in *self {
+            item.known();
+        }
+    }
+}
+
+impl<T: Key> Key for &[T] {
+    ghost exact = { λ x y. lists_tell T.means T.eq T.exact x.now y.now };
+}
+
+impl<T: Value, const N: usize> Value for [T; N] {
+    ghost means = { λ x. listed (map T.means x) };
+
+    ghost legal = { LegalArray N T.legal };
+
+    fn known(&self) {
+        for item in self {
+            item.known();
+        }
+    }
+}
+
+impl<T: Key, const N: usize> Key for [T; N] {
+    ghost exact = { lists_tell T.means T.eq T.exact };
 }

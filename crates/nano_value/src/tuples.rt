@@ -1,7 +1,7 @@
-// Tuples: the meanings of the parts.
+// Tuples: a pair means the meanings of its parts, and a longer tuple its first part and the tuple of the others.
 ghost use Rattle.nano_value.specs.Meaning.{paired, pair_map};
 ghost use Rattle.nano_value.specs.Legal.{LegalPair};
-ghost use Rattle.nano_value.specs.Exact.{pairs_tell};
+ghost use Rattle.nano_value.specs.Exact.{pairs_tell, triples_tell, quadruples_tell};
 
 use crate::value::{Key, Value};
 
@@ -19,4 +19,39 @@ impl<A: Value, B: Value> Value for (A, B) {
 
 impl<A: Key, B: Key> Key for (A, B) {
     ghost exact = { pairs_tell A.means A.eq B.means B.eq A.exact B.exact };
+}
+
+impl<A: Value, B: Value, C: Value> Value for (A, B, C) {
+    ghost means = { λ x. paired (A.means x.0, paired (B.means x.1, C.means x.2)) };
+
+    ghost legal = { LegalPair A.legal (LegalPair B.legal C.legal) };
+
+    #[tactic(auto, using(crate::specs::Legal::pair_is_legal))]
+    fn known(&self) {
+        self.0.known();
+        self.1.known();
+        self.2.known();
+    }
+}
+
+impl<A: Key, B: Key, C: Key> Key for (A, B, C) {
+    ghost exact = { triples_tell A.means A.eq B.means B.eq C.means C.eq A.exact B.exact C.exact };
+}
+
+impl<A: Value, B: Value, C: Value, D: Value> Value for (A, B, C, D) {
+    ghost means = { λ x. paired (A.means x.0, paired (B.means x.1, paired (C.means x.2, D.means x.3))) };
+
+    ghost legal = { LegalPair A.legal (LegalPair B.legal (LegalPair C.legal D.legal)) };
+
+    #[tactic(auto, using(crate::specs::Legal::pair_is_legal))]
+    fn known(&self) {
+        self.0.known();
+        self.1.known();
+        self.2.known();
+        self.3.known();
+    }
+}
+
+impl<A: Key, B: Key, C: Key, D: Key> Key for (A, B, C, D) {
+    ghost exact = { quadruples_tell A.means A.eq B.means B.eq C.means C.eq D.means D.eq A.exact B.exact C.exact D.exact };
 }

@@ -2,7 +2,7 @@
 use Rattle.std.proofs.Common.{map}
 use Rattle.nano_bin.specs.Reading.{Reads}
 use Rattle.nano_bin.specs.Spellings.{SpellsCount}
-use Rattle.nano_bin.proofs.lists.take_items.Given as goal
+use Rattle.nano_bin.proofs.traits.DeBin.de_bin_items.Given as goal
 
 abbrev pub invariant-loop : goal.invariant-loop
-invariant-loop g l = Reads (SpellsCount l.counter g.T.DeBin.spelling.spelled) l.bytes l.start (map g.T.Value.means l.items.items) l.offset
+invariant-loop g l = Reads (SpellsCount l.counter g.Self.DeBin.spelling.spelled) l.bytes l.start (map g.Self.Value.means l.items.items) l.offset

@@ -1,0 +1,16 @@
+// Boxes: each means its content.
+use crate::value::{Key, Value};
+
+impl<T: Value> Value for Box<T> {
+    ghost means = { λ x. T.means x.value };
+
+    ghost legal = { T.legal };
+
+    fn known(&self) {
+        (**self).known();
+    }
+}
+
+impl<T: Key> Key for Box<T> {
+    ghost exact = { λ x y. T.exact x.value y.value };
+}

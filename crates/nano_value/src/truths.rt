@@ -1,0 +1,32 @@
+// Truth values, and the unit.
+ghost use Rattle.nano_value.specs.Meaning.{nothing, truth};
+ghost use Rattle.nano_value.specs.Legal.{LegalTruth, LegalUnit};
+ghost use Rattle.nano_value.specs.Exact.{truths_tell, units_tell};
+
+use crate::value::{Key, Value};
+
+impl Value for bool {
+    ghost means = { truth };
+
+    ghost legal = { LegalTruth };
+
+    fn known(&self) {
+        let _value = *self;
+    }
+}
+
+impl Key for bool {
+    ghost exact = { truths_tell };
+}
+
+impl Value for () {
+    ghost means = { λ _. nothing };
+
+    ghost legal = { LegalUnit };
+
+    fn known(&self) {}
+}
+
+impl Key for () {
+    ghost exact = { units_tell };
+}
