@@ -1,13 +1,16 @@
 -- What the readers of containers answer, from what the readers of their parts answer.
-use Rattle.std.proofs.Common.{◌≡◌, ◌≢◌, ℕ, suc, ◌+◌, ◌^◌, ◌<◌, ◌≤◌, refl, List, [], ◌∷◌, ◌++◌, map, length, take, drop, Option, Some, None, sym, ◌∙◌, subst, ap, arith, append_assoc, length-append, slice_index, IsUtf8, get_or-drop}
+use Rattle.std.proofs.Common.{◌≡◌, ◌≢◌, ℕ, suc, ◌+◌, ◌^◌, ◌<◌, ◌≤◌, refl, List, [], ◌∷◌, ◌++◌, map, length, take, drop, Option, Some, None, sym, ◌∙◌, subst, ap, arith, append_assoc, length-append, slice_index, IsUtf8, get_or-drop, Bool, true, false, ℤ, FitsSigned, Fits as FitsWidth}
+use Rattle.std.specs.Int.{Width, cast_signed, cast_unsigned}
+use Rattle.std.proofs.Math.Facts.{sfits_to_z, of_z-to_z}
+use Rattle.std.proofs.lemmas.Int.{to_z-of_z}
 use Rattle.std.specs.List.{AllByRecursion}
 use Rattle.std.proofs.lemmas.List.{append-nil, take_at}
-use Rattle.nano_value.specs.Meaning.{Meaning, whole, text, optional, listed, paired, whole_injective}
+use Rattle.nano_value.specs.Meaning.{Meaning, number, truth, whole, text, optional, listed, paired, whole_injective}
 use Rattle.nano_value.specs.Legal.{IsImage}
 use Rattle.nano_bin.specs.Reading.{IsSpelling, Fits, NothingFits, Reads}
 use Rattle.nano_bin.specs.LittleEndian.{SpellsNumber, number_spelling, little_endian, little_value, length-little_endian, little_endian-little_value, little_value_fits}
-use Rattle.nano_bin.specs.Spellings.{SpellsUnsigned, SpellsPair, SpellsOption, SpellsItems, SpellsCount, SpellsList, SpellsText, IsTextOf}
-use Rattle.nano_bin.specs.SpellingLaws.{same_fronts, same_heads}
+use Rattle.nano_bin.specs.Spellings.{SpellsUnsigned, SpellsSigned, SpellsSignedNumber, SpellsTruth, SpellsPair, SpellsOption, SpellsItems, SpellsCount, SpellsList, SpellsText, IsTextOf}
+use Rattle.nano_bin.specs.SpellingLaws.{same_fronts, same_heads, truth_byte}
 
 -- ---- one reader behind another
 
@@ -81,6 +84,33 @@ unsigned_reads k bytes start end n r = record { front = r.front; whole = r.whole
 
 pub unsigned_refused : (k : ℕ) (bytes : List ℕ) → NothingFits (SpellsUnsigned k) bytes → NothingFits (SpellsNumber k) bytes
 unsigned_refused k bytes none n f = none (whole n) (record { front = f.front; rest = f.rest; whole = f.whole; spells = record { part = n; has = f.spells; is = refl } })
+
+-- a signed number stands as its bits; in code it is the signed number of its bits
+pub signed_reads : (w : Width) (k : ℕ) (bytes : List ℕ) (start end n : ℕ) (z : ℤ) → (n < 256 ^ k → FitsWidth w n) → z ≡ cast_signed w n → Reads (SpellsUnsigned k) bytes start (whole n) end → Reads (SpellsSigned w k) bytes start (number (cast_signed w (cast_unsigned w z))) end
+signed_reads w k bytes start end n z fits e r =
+    let bits = unsigned_reads k bytes start end n r in
+    let f = fits bits.spells.fits in
+    let in_range = sfits_to_z {w = w} {n = n} f in
+    let same = ap (λ y. cast_signed w (cast_unsigned w y)) e ∙ to_z-of_z w (cast_signed w n) in_range in
+    subst (λ y. Reads (SpellsSigned w k) bytes start (number y) end) (sym same) (image_reads number bytes start end (cast_signed w n) (record {
+      front = bits.front;
+      whole = bits.whole;
+      moved = bits.moved;
+      spells = record { in_range = in_range; bits = subst (SpellsNumber k bits.front) (sym (of_z-to_z {w = w} {n = n} f)) bits.spells };
+    }))
+
+pub signed_refused : (w : Width) (k : ℕ) (bytes : List ℕ) → NothingFits (SpellsUnsigned k) bytes → NothingFits (SpellsSigned w k) bytes
+signed_refused w k bytes none = image_refused (SpellsSignedNumber w k) number bytes (λ z f. unsigned_refused k bytes none (cast_unsigned w z) (record { front = f.front; rest = f.rest; whole = f.whole; spells = f.spells.bits }))
+
+-- where there is no byte, there is no truth value
+pub truth_refused : (bytes : List ℕ) → NothingFits (SpellsUnsigned 1) bytes → NothingFits (λ a. IsImage truth (SpellsTruth a)) bytes
+truth_refused bytes none = image_refused SpellsTruth truth bytes (first_refused (SpellsNumber 1) SpellsTruth bytes (unsigned_refused 1 bytes none) (λ a z s. let p = truth_byte a z s in (a, [], p.0, sym (append-nil a), p.1)))
+
+pub false_reads : (bytes : List ℕ) (start end : ℕ) → Reads (SpellsUnsigned 1) bytes start (whole 0) end → Reads (λ a. IsImage truth (SpellsTruth a)) bytes start (truth false) end
+false_reads bytes start end r = image_reads truth bytes start end false (as_reads SpellsTruth bytes start end 0 false (unsigned_reads 1 bytes start end 0 r) (λ a h. h))
+
+pub true_reads : (bytes : List ℕ) (start end b : ℕ) → b ≢ 0 → Reads (SpellsUnsigned 1) bytes start (whole b) end → Reads (λ a. IsImage truth (SpellsTruth a)) bytes start (truth true) end
+true_reads bytes start end b other r = image_reads truth bytes start end true (as_reads SpellsTruth bytes start end b true (unsigned_reads 1 bytes start end b r) (λ a h. (b, other, h)))
 
 -- ---- pairs
 

@@ -1,13 +1,15 @@
 -- The laws of the spellings: those of containers from those of their parts.
-use Rattle.std.specs.Prelude.{◌≡◌, ◌≢◌, ℕ, suc, ◌+◌, ◌^◌, ◌<◌, refl, List, [], ◌∷◌, ◌++◌, map, length, Option, Some, None}
+use Rattle.std.specs.Prelude.{◌≡◌, ◌≢◌, ℕ, suc, ◌+◌, ◌^◌, ◌<◌, refl, List, [], ◌∷◌, ◌++◌, map, length, Option, Some, None, Bool, true, false, FitsSigned}
+use Rattle.std.specs.Int.{Width, cast_signed}
 use Rattle.std.specs.List.{AllByRecursion}
 use Rattle.std.proofs.Common.{sym, ◌∙◌, subst, ap, arith, append_assoc, length-append, take}
 use Rattle.std.proofs.lemmas.List.{append_cancel_left, append-nil, take_at}
-use Rattle.nano_value.specs.Meaning.{Meaning, whole, text, optional, listed, paired}
-use Rattle.nano_value.specs.Legal.{IsImage, AllOfOption, BothOfPair, AllOfList, IsText}
+use Rattle.std.proofs.lemmas.Int.{to_z-of_z}
+use Rattle.nano_value.specs.Meaning.{Meaning, number, truth, whole, text, optional, listed, paired}
+use Rattle.nano_value.specs.Legal.{IsImage, AllOfOption, BothOfPair, AllOfList, AllOfCount, LegalUnit, IsText}
 use Rattle.nano_bin.specs.Reading.{IsSpelling, Spelling, NothingFits}
 use Rattle.nano_bin.specs.LittleEndian.{SpellsNumber, number_spelling}
-use Rattle.nano_bin.specs.Spellings.{SpellsUnsigned, SpellsPair, SpellsOption, SpellsItems, SpellsCount, SpellsList, SpellsText}
+use Rattle.nano_bin.specs.Spellings.{SpellsUnsigned, SpellsSignedNumber, SpellsTruth, SpellsUnit, SpellsPair, SpellsOption, SpellsItems, SpellsCount, SpellsList, SpellsText}
 
 -- where two lists begin with spellings, these are one, and so is what is behind them
 pub same_fronts : {A : Type 0} {P : A → Type 0} {S : List ℕ → A → Type 0} → IsSpelling P S → (a b m n : List ℕ) (x y : A) → S a x → S b y → a ++ m ≡ b ++ n → (a ≡ b) × (m ≡ n)
@@ -18,6 +20,40 @@ same_fronts s a b m n x y h j e =
 -- the same where the lists are joined from three
 pub same_heads : {A : Type 0} {P : A → Type 0} {S : List ℕ → A → Type 0} → IsSpelling P S → (a b c d m n : List ℕ) (x y : A) → S a x → S b y → (a ++ c) ++ m ≡ (b ++ d) ++ n → (a ≡ b) × (c ++ m ≡ d ++ n)
 same_heads s a b c d m n x y h j e = same_fronts s a b (c ++ m) (d ++ n) x y h j (sym (append_assoc a c m) ∙ (e ∙ append_assoc b d n))
+
+-- ---- numbers, truth values, the unit
+
+pub signed_spelling : (w : Width) (k : ℕ) → IsSpelling (FitsSigned w) (SpellsSignedNumber w k)
+signed_spelling w k = record {
+  is_legal = λ a x h. h.in_range;
+  one_value = λ a x y h j. sym (to_z-of_z w x h.in_range) ∙ (ap (cast_signed w) ((number_spelling k).one_value a _ _ h.bits j.bits) ∙ to_z-of_z w y j.in_range);
+  one_front = λ a b m n x y h j e. (number_spelling k).one_front a b m n _ _ h.bits j.bits e;
+}
+
+truth_value : (a : List ℕ) (x y : Bool) → SpellsTruth a x → SpellsTruth a y → x ≡ y
+truth_value a true true h j = refl
+truth_value a false false h j = refl
+truth_value a true false h j = absurd (h.1 ((number_spelling 1).one_value a h.0 0 h.2 j))
+truth_value a false true h j = absurd (j.1 ((number_spelling 1).one_value a j.0 0 j.2 h))
+
+-- a spelling of a truth value is a byte
+pub truth_byte : (a : List ℕ) (x : Bool) → SpellsTruth a x → (b : ℕ) × SpellsNumber 1 a b
+truth_byte a true h = (h.0, h.2)
+truth_byte a false h = (0, h)
+
+pub truth_spelling : IsSpelling (λ _. Unit {0}) SpellsTruth
+truth_spelling = record {
+  is_legal = λ a x h. tt;
+  one_value = truth_value;
+  one_front = λ a b m n x y h j e. let p = truth_byte a x h in let q = truth_byte b y j in (number_spelling 1).one_front a b m n p.0 q.0 p.1 q.1 e;
+}
+
+pub unit_spelling : IsSpelling LegalUnit SpellsUnit
+unit_spelling = record {
+  is_legal = λ a m h. h.is;
+  one_value = λ a m n h j. h.is ∙ sym j.is;
+  one_front = λ a b m n x y h j e. h.empty ∙ sym j.empty;
+}
 
 -- ---- one part behind the other
 
@@ -92,9 +128,9 @@ module _ {A : Type 0} {P : A → Type 0} {S : List ℕ → A → Type 0} (s : Is
       let more = items_value xs ys h.1 (omega arith) h.4 (subst (λ l. SpellsItems S l ys) (sym e.1) j.4) in
       λ i. one i ∷ more i
 
-  pub count_spelling : (count : ℕ) → IsSpelling (λ xs. (length xs ≡ count) × AllByRecursion P xs) (SpellsCount count S)
+  pub count_spelling : (count : ℕ) → IsSpelling (AllOfCount count P) (SpellsCount count S)
   count_spelling count = record {
-    is_legal = λ a xs h. (h.count_is, items_are_legal a xs h.items);
+    is_legal = λ a xs h. record { count_is = h.count_is; items = items_are_legal a xs h.items };
     one_value = λ a xs ys h j. items_value xs ys a (h.count_is ∙ sym j.count_is) h.items j.items;
     one_front = λ a b m n xs ys h j e. items_front xs ys a b m n (h.count_is ∙ sym j.count_is) h.items j.items e;
   }
@@ -149,6 +185,16 @@ spelling_of f P S s = record { legal = IsImage f P; spelled = λ bytes. IsImage 
 abbrev pub unsigned : ℕ → Spelling
 unsigned k = spelling_of whole (λ n. n < 256 ^ k) (SpellsNumber k) (number_spelling k)
 
+-- signed numbers of a width of k bytes
+abbrev pub signed : Width → ℕ → Spelling
+signed w k = spelling_of number (FitsSigned w) (SpellsSignedNumber w k) (signed_spelling w k)
+
+abbrev pub truths : Spelling
+truths = spelling_of truth (λ _. Unit {0}) SpellsTruth truth_spelling
+
+abbrev pub units : Spelling
+units = record { legal = LegalUnit; spelled = SpellsUnit; laws = unit_spelling }
+
 abbrev pub texts : Spelling
 texts = spelling_of text IsText SpellsText text_spelling
 
@@ -160,3 +206,7 @@ pair_of s t = spelling_of paired (BothOfPair s.legal t.legal) (SpellsPair s.spel
 
 abbrev pub list_of : Spelling → Spelling
 list_of s = spelling_of listed (AllOfList s.legal) (SpellsList s.spelled) (list_spelling s.laws)
+
+-- so many items
+abbrev pub array_of : ℕ → Spelling → Spelling
+array_of count s = spelling_of listed (AllOfCount count s.legal) (SpellsCount count s.spelled) (count_spelling s.laws count)

@@ -1,12 +1,31 @@
 -- The spellings of the types, those of containers from those of their parts.
-use Rattle.std.specs.Prelude.{◌≡◌, ◌≢◌, ℕ, List, [], ◌∷◌, ◌++◌, length, Option, Some, None, IsUtf8}
-use Rattle.nano_value.specs.Meaning.{Meaning, whole, text, optional, listed, paired}
+use Rattle.std.specs.Prelude.{◌≡◌, ◌≢◌, ℕ, List, [], ◌∷◌, ◌++◌, length, Option, Some, None, IsUtf8, Bool, true, false, ℤ, FitsSigned}
+use Rattle.std.specs.Int.{Width, cast_unsigned}
+use Rattle.nano_value.specs.Meaning.{Meaning, number, nothing, whole, text, optional, listed, paired}
 use Rattle.nano_value.specs.Legal.{IsImage}
 use Rattle.nano_bin.specs.LittleEndian.{SpellsNumber}
 
 -- an unsigned number of k bytes
 abbrev pub SpellsUnsigned : ℕ → List ℕ → Meaning → Type 0
 SpellsUnsigned k bytes = IsImage whole (SpellsNumber k bytes)
+
+-- a signed number of k bytes, in two's complement
+pub record SpellsSignedNumber (w : Width) (k : ℕ) (bytes : List ℕ) (z : ℤ) : Type 0 where
+  pub in_range : FitsSigned w z
+  pub bits : SpellsNumber k bytes (cast_unsigned w z)
+
+abbrev pub SpellsSigned : Width → ℕ → List ℕ → Meaning → Type 0
+SpellsSigned w k bytes = IsImage number (SpellsSignedNumber w k bytes)
+
+-- a byte: 0 is false, and any other true
+abbrev pub SpellsTruth : List ℕ → Bool → Type 0
+SpellsTruth bytes false = SpellsNumber 1 bytes 0
+SpellsTruth bytes true = (b : ℕ) × (b ≢ 0) × SpellsNumber 1 bytes b
+
+-- no byte
+pub record SpellsUnit (bytes : List ℕ) (m : Meaning) : Type 0 where
+  pub empty : bytes ≡ []
+  pub is : m ≡ nothing
 
 -- one part behind the other
 pub record SpellsPair {A B : Type 0} (S : List ℕ → A → Type 0) (R : List ℕ → B → Type 0) (bytes : List ℕ) (pair : A × B) : Type 0 where

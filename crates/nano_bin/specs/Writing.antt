@@ -1,14 +1,16 @@
 -- What is written, and that it is read back.
-use Rattle.std.specs.Prelude.{◌≡◌, ◌<◌, ◌^◌, ℕ, refl, List, [], ◌∷◌, ◌++◌, map, length, Option, Some, None}
+use Rattle.std.specs.Prelude.{◌≡◌, ◌<◌, ◌^◌, ℕ, refl, List, [], ◌∷◌, ◌++◌, map, length, Option, Some, None, Bool, true, false, ℤ, FitsSigned}
+use Rattle.std.specs.Int.{Width, w8, w16, w32, w64, w128, cast_unsigned}
 use Rattle.std.specs.Option.{option_map}
 use Rattle.std.specs.List.{AllByRecursion, flat_map}
 use Rattle.std.proofs.Common.{sym, ◌∙◌, subst, ap, lit<}
-use Rattle.nano_value.specs.Meaning.{Meaning, whole, text, optional, listed, paired, pair_map, usize_bound, whole_injective, text_injective, both_injective, listed_injective}
-use Rattle.nano_value.specs.Legal.{IsImage, AllOfOption, BothOfPair, AllOfList, IsText, length-map}
+use Rattle.std.proofs.Math.Facts.{Fits-of_z}
+use Rattle.nano_value.specs.Meaning.{Meaning, number, truth, nothing, whole, text, optional, listed, paired, pair_map, usize_bound, number_injective, truth_injective, whole_injective, text_injective, both_injective, listed_injective}
+use Rattle.nano_value.specs.Legal.{IsImage, LegalPair, AllOfOption, BothOfPair, AllOfList, AllOfCount, IsText, length-map}
 use Rattle.nano_bin.specs.Reading.{IsSpelling, Spelling}
 use Rattle.nano_bin.specs.LittleEndian.{SpellsNumber, little_endian}
-use Rattle.nano_bin.specs.Spellings.{SpellsPair, SpellsOption, SpellsItems, SpellsList, SpellsText}
-use Rattle.nano_bin.specs.SpellingLaws.{unsigned, texts, option_of, pair_of, list_of}
+use Rattle.nano_bin.specs.Spellings.{SpellsPair, SpellsOption, SpellsItems, SpellsCount, SpellsList, SpellsText}
+use Rattle.nano_bin.specs.SpellingLaws.{unsigned, signed, truths, units, texts, option_of, pair_of, list_of, array_of}
 
 -- what the values of a type are written as: the same for what means the same
 pub record Writing (A : Type 0) : Type 0 where
@@ -23,6 +25,15 @@ pub record Format (A : Type 0) : Type 1 where
   pub reads_back : (x : A) → spelling.legal (writing.means x) → spelling.spelled (writing.written x) (writing.means x)
 
 -- ---- the written bytes
+
+-- the bytes of the two's complement
+abbrev pub written_signed : Width → ℕ → ℤ → List ℕ
+written_signed w k z = little_endian k (cast_unsigned w z)
+
+-- the byte 1 or 0
+abbrev pub written_truth : Bool → List ℕ
+written_truth false = little_endian 1 0
+written_truth true = little_endian 1 1
 
 -- the byte 0; or the byte 1 and the item
 abbrev pub written_option : {A : Type 0} → (A → List ℕ) → Option A → List ℕ
@@ -48,6 +59,21 @@ number_same k m n e = ap (little_endian k) (whole_injective m n e)
 
 abbrev pub unsigned_writing : ℕ → Writing ℕ
 unsigned_writing k = record { means = whole; written = little_endian k; same_written = number_same k }
+
+pub signed_same : (w : Width) (k : ℕ) (y z : ℤ) → number y ≡ number z → written_signed w k y ≡ written_signed w k z
+signed_same w k y z e = ap (written_signed w k) (number_injective y z e)
+
+abbrev pub signed_writing : Width → ℕ → Writing ℤ
+signed_writing w k = record { means = number; written = written_signed w k; same_written = signed_same w k }
+
+pub truth_same : (b c : Bool) → truth b ≡ truth c → written_truth b ≡ written_truth c
+truth_same b c e = ap written_truth (truth_injective b c e)
+
+abbrev pub truth_writing : Writing Bool
+truth_writing = record { means = truth; written = written_truth; same_written = truth_same }
+
+abbrev pub unit_writing : {A : Type 0} → Writing A
+unit_writing = record { means = λ _. nothing; written = λ _. []; same_written = λ x y e. refl }
 
 -- a type whose values are seen as those of another
 abbrev pub writing_as : {A B : Type 0} → (A → B) → Writing B → Writing A
@@ -88,6 +114,10 @@ option_writing w = record { means = λ x. optional (option_map w.means x); writt
 abbrev pub pair_writing : {A B : Type 0} → Writing A → Writing B → Writing (A × B)
 pair_writing v w = record { means = λ x. paired (pair_map v.means w.means x); written = written_pair v.written w.written; same_written = pair_same v w }
 
+-- the items, and no count
+abbrev pub items_writing : {A : Type 0} → Writing A → Writing (List A)
+items_writing w = record { means = λ xs. listed (map w.means xs); written = flat_map w.written; same_written = λ xs ys e. (items_same w xs ys (listed_injective _ _ e)).1 }
+
 abbrev pub list_writing : {A : Type 0} → Writing A → Writing (List A)
 list_writing w = record { means = λ xs. listed (map w.means xs); written = written_list w.written; same_written = list_same w }
 
@@ -99,6 +129,34 @@ ReadsBack {A} means P S W = (x : A) → P (means x) → S (W x) (means x)
 
 pub unsigned_reads_back : (k : ℕ) → ReadsBack whole (unsigned k).legal (unsigned k).spelled (little_endian k)
 unsigned_reads_back k n h = record { part = n; has = record { fits = subst (λ m. m < 256 ^ k) (sym (whole_injective n h.part h.is)) h.has; whole = refl }; is = refl }
+
+pub signed_reads_back : (w : Width) (k : ℕ) → ((z : ℤ) → FitsSigned w z → cast_unsigned w z < 256 ^ k) → ReadsBack number (signed w k).legal (signed w k).spelled (written_signed w k)
+signed_reads_back w k fits z h =
+    let in_range : FitsSigned w z = subst (FitsSigned w) (sym (number_injective z h.part h.is)) h.has in
+    record { part = z; has = record { in_range = in_range; bits = record { fits = fits z in_range; whole = refl } }; is = refl }
+
+-- the bits of a number of each width fit its bytes
+pub bits_fit_8 : (z : ℤ) → FitsSigned w8 z → cast_unsigned w8 z < 256 ^ 1
+bits_fit_8 z h = (Fits-of_z {w = w8} {z = z} h).fits
+
+pub bits_fit_16 : (z : ℤ) → FitsSigned w16 z → cast_unsigned w16 z < 256 ^ 2
+bits_fit_16 z h = (Fits-of_z {w = w16} {z = z} h).fits
+
+pub bits_fit_32 : (z : ℤ) → FitsSigned w32 z → cast_unsigned w32 z < 256 ^ 4
+bits_fit_32 z h = (Fits-of_z {w = w32} {z = z} h).fits
+
+pub bits_fit_64 : (z : ℤ) → FitsSigned w64 z → cast_unsigned w64 z < 256 ^ 8
+bits_fit_64 z h = (Fits-of_z {w = w64} {z = z} h).fits
+
+pub bits_fit_128 : (z : ℤ) → FitsSigned w128 z → cast_unsigned w128 z < 256 ^ 16
+bits_fit_128 z h = (Fits-of_z {w = w128} {z = z} h).fits
+
+pub truth_reads_back : ReadsBack truth truths.legal truths.spelled written_truth
+truth_reads_back false h = record { part = false; has = record { fits = lit< tt; whole = refl }; is = refl }
+truth_reads_back true h = record { part = true; has = (1, (λ e. let one_is_zero : 1 ≡ 0 = e in absurd (cc)), record { fits = lit< tt; whole = refl }); is = refl }
+
+pub unit_reads_back : {A : Type 0} (x : A) → units.legal nothing → units.spelled [] nothing
+unit_reads_back x h = record { empty = refl; is = refl }
 
 pub text_reads_back : ReadsBack text texts.legal texts.spelled written_text
 text_reads_back utf8 h =
@@ -132,6 +190,11 @@ module _ {A : Type 0} (means : A → Meaning) (P : Meaning → Type 0) (S : List
         is = refl;
       }
 
+  pub array_reads_back : (count : ℕ) → ReadsBack (λ xs. listed (map means xs)) (IsImage listed (AllOfCount count P)) (λ bytes. IsImage listed (SpellsCount count S bytes)) (flat_map W)
+  array_reads_back count xs h =
+      let all : AllOfCount count P (map means xs) = subst (AllOfCount count P) (sym (listed_injective _ _ h.is)) h.has in
+      record { part = map means xs; has = record { count_is = all.count_is; items = items_read_back xs all.items }; is = refl }
+
 pub pair_reads_back : {A B : Type 0} (f : A → Meaning) (P : Meaning → Type 0) (S : List ℕ → Meaning → Type 0) (V : A → List ℕ) (g : B → Meaning) (Q : Meaning → Type 0) (R : List ℕ → Meaning → Type 0) (W : B → List ℕ) → ReadsBack f P S V → ReadsBack g Q R W → ReadsBack (λ x. paired (pair_map f g x)) (IsImage paired (BothOfPair P Q)) (λ bytes. IsImage paired (SpellsPair S R bytes)) (written_pair V W)
 pair_reads_back f P S V g Q R W v w x h =
     let parts = both_injective (f x.0) (g x.1) h.part.0 h.part.1 h.is in
@@ -141,10 +204,30 @@ pair_reads_back f P S V g Q R W v w x h =
       is = refl;
     }
 
+module _ {A B C : Type 0} (f : A → Meaning) (P : Meaning → Type 0) (S : List ℕ → Meaning → Type 0) (V : A → List ℕ) (g : B → Meaning) (Q : Meaning → Type 0) (R : List ℕ → Meaning → Type 0) (W : B → List ℕ) (h : C → Meaning) (P' : Meaning → Type 0) (S' : List ℕ → Meaning → Type 0) (X : C → List ℕ) where
+  pub triple_reads_back : ReadsBack f P S V → ReadsBack g Q R W → ReadsBack h P' S' X → ReadsBack (λ x. paired (pair_map f (λ y. paired (pair_map g h y)) x)) (LegalPair P (LegalPair Q P')) (λ bytes. IsImage paired (SpellsPair S (λ rest. IsImage paired (SpellsPair R S' rest)) bytes)) (written_pair V (written_pair W X))
+  triple_reads_back v w x = pair_reads_back f P S V (λ y. paired (pair_map g h y)) (LegalPair Q P') (λ rest. IsImage paired (SpellsPair R S' rest)) (written_pair W X) v (pair_reads_back g Q R W h P' S' X w x)
+
+  pub quadruple_reads_back : {D : Type 0} (k : D → Meaning) (Q' : Meaning → Type 0) (R' : List ℕ → Meaning → Type 0) (Y : D → List ℕ) → ReadsBack f P S V → ReadsBack g Q R W → ReadsBack h P' S' X → ReadsBack k Q' R' Y
+      → ReadsBack (λ x. paired (pair_map f (λ y. paired (pair_map g (λ z. paired (pair_map h k z)) y)) x)) (LegalPair P (LegalPair Q (LegalPair P' Q'))) (λ bytes. IsImage paired (SpellsPair S (λ rest. IsImage paired (SpellsPair R (λ more. IsImage paired (SpellsPair S' R' more)) rest)) bytes)) (written_pair V (written_pair W (written_pair X Y)))
+  quadruple_reads_back k Q' R' Y v w x y =
+      let last = pair_reads_back h P' S' X k Q' R' Y x y in
+      let others = pair_reads_back g Q R W (λ z. paired (pair_map h k z)) (LegalPair P' Q') (λ more. IsImage paired (SpellsPair S' R' more)) (written_pair X Y) w last in
+      pair_reads_back f P S V (λ y. paired (pair_map g (λ z. paired (pair_map h k z)) y)) (LegalPair Q (LegalPair P' Q')) (λ rest. IsImage paired (SpellsPair R (λ more. IsImage paired (SpellsPair S' R' more)) rest)) (written_pair W (written_pair X Y)) v others
+
 -- ---- formats
 
 abbrev pub unsigned_format : ℕ → Format ℕ
 unsigned_format k = record { writing = unsigned_writing k; spelling = unsigned k; reads_back = unsigned_reads_back k }
+
+abbrev pub signed_format : (w : Width) (k : ℕ) → ((z : ℤ) → FitsSigned w z → cast_unsigned w z < 256 ^ k) → Format ℤ
+signed_format w k fits = record { writing = signed_writing w k; spelling = signed w k; reads_back = signed_reads_back w k fits }
+
+abbrev pub truth_format : Format Bool
+truth_format = record { writing = truth_writing; spelling = truths; reads_back = truth_reads_back }
+
+abbrev pub unit_format : {A : Type 0} → Format A
+unit_format = record { writing = unit_writing; spelling = units; reads_back = unit_reads_back }
 
 abbrev pub text_format : Format (List ℕ)
 text_format = record { writing = text_writing; spelling = texts; reads_back = text_reads_back }
@@ -161,6 +244,10 @@ pair_format f g = record {
 
 abbrev pub list_format : {A : Type 0} → Format A → Format (List A)
 list_format f = record { writing = list_writing f.writing; spelling = list_of f.spelling; reads_back = list_reads_back f.writing.means f.spelling.legal f.spelling.spelled f.writing.written f.reads_back }
+
+-- so many items, and no count
+abbrev pub array_format : {A : Type 0} → ℕ → Format A → Format (List A)
+array_format count f = record { writing = items_writing f.writing; spelling = array_of count f.spelling; reads_back = array_reads_back f.writing.means f.spelling.legal f.spelling.spelled f.writing.written f.reads_back count }
 
 -- a type whose values are seen as those of another
 abbrev pub format_as : {A B : Type 0} → (A → B) → Format B → Format A

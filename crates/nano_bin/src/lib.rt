@@ -5,14 +5,18 @@
 #![tactic(auto)]
 
 mod append;
+mod arrays;
+mod boxes;
 mod error;
 pub mod laws;
 mod lists;
 mod numbers;
 mod options;
+mod signed;
 mod take;
 mod texts;
 mod traits;
+mod truths;
 mod tuples;
 
 pub use append::append_part;

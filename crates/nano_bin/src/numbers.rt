@@ -197,3 +197,40 @@ impl BothBin for usize {
 
     ghost reads_back = { (unsigned_format 8).reads_back };
 }
+
+impl SerBin for u128 {
+    ghost writing = { unsigned_writing 16 };
+
+    ghost writes_meaning = { refl };
+
+    #[tactic(auto, using(crate::specs::LittleEndian::to_le_bytes_128))]
+    fn ser_bin(&self, alloc: Global, output: &mut Vec<u8>) -> Result<(), AllocError> {
+        append_bytes(output, &self.to_le_bytes())
+    }
+}
+
+impl DeBin for u128 {
+    ghost spelling = { unsigned 16 };
+
+    ghost spells_legal = { λ m h. h };
+
+    /// Takes no memory, and is refused exactly where fewer than 16 bytes are left.
+    #[tactic(auto, using(crate::specs::LittleEndian::from_le_bytes_128))]
+    fn de_bin(alloc: Global, offset: &mut usize, bytes: &[u8]) -> Result<u128, DeBinErr>
+        ensures ok { IfOk result (λ value. Reads (SpellsUnsigned 16) bytes.now offset.old (whole value) offset.new) }
+        ensures err { IfErr result (λ e. NothingFits (SpellsUnsigned 16) (drop offset.old bytes.now)) }
+        ensures short { IfErr result (IsTooShort bytes.now offset.old 16) }
+        ensures kept { OnErr result (offset.new ≡ offset.old) }
+    {
+        match take_number::<16>(offset, bytes) {
+            Ok(taken) => Ok(u128::from_le_bytes(taken)),
+            Err(error) => Err(error),
+        }
+    }
+}
+
+impl BothBin for u128 {
+    ghost format = { unsigned_format 16 };
+
+    ghost reads_back = { (unsigned_format 16).reads_back };
+}

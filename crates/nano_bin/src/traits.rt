@@ -30,11 +30,7 @@ pub trait SerBin: Value {
     /// Appends the written bytes of each item, one behind the other. A refused write leaves `output` as it was.
     ///
     /// A type whose items lie in memory as they are written gives a body that copies them at once.
-    fn ser_bin_items(
-        alloc: Global,
-        items: &[Self],
-        output: &mut Vec<u8>,
-    ) -> Result<(), AllocError>
+    fn ser_bin_items(alloc: Global, items: &[Self], output: &mut Vec<u8>) -> Result<(), AllocError>
         ensures ok { OnOk result (output.new.items ≡ output.old.items ++ flat_map writing.written items.now) }
         ensures err { OnErr result (output.new.items ≡ output.old.items) }
     {

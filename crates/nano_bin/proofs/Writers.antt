@@ -1,0 +1,37 @@
+-- What a loop over items has written.
+use Rattle.std.proofs.Common.{◌≡◌, ◌≤◌, ℕ, refl, List, [], ◌∷◌, ◌++◌, map, length, take, sym, ◌∙◌, ap, append_assoc, Result, Ok, Err, OnErr}
+use Rattle.std.specs.List.{flat_map}
+use Rattle.std.proofs.lemmas.List.{append-nil, take-append-le}
+
+-- what is written behind the bytes that were there, and the items that are left, make all items
+pub record WritesSoFar {A : Type 0} (W : A → List ℕ) (before now : List ℕ) (left all : List A) : Type 0 where
+  pub done : List ℕ
+  pub is : now ≡ before ++ done
+  pub rest : done ++ flat_map W left ≡ flat_map W all
+
+module _ {A : Type 0} (W : A → List ℕ) where
+  pub write_start : (before : List ℕ) (left all : List A) → left ≡ all → WritesSoFar W before before left all
+  write_start before left all e = record { done = []; is = sym (append-nil before); rest = ap (flat_map W) e }
+
+  pub write_step : (before now more : List ℕ) (left rest all : List A) (x : A) → WritesSoFar W before now left all → left ≡ x ∷ rest → more ≡ now ++ W x → WritesSoFar W before more rest all
+  write_step before now more left rest all x h i e = record {
+    done = h.done ++ W x;
+    is = e ∙ (ap (λ l. l ++ W x) h.is ∙ append_assoc before h.done (W x));
+    rest = append_assoc h.done (W x) (flat_map W rest) ∙ (ap (λ l. h.done ++ flat_map W l) (sym i) ∙ h.rest);
+  }
+
+  pub write_end : (before now : List ℕ) (left all : List A) → WritesSoFar W before now left all → left ≡ [] → now ≡ before ++ flat_map W all
+  write_end before now left all h i = h.is ∙ ap (λ l. before ++ l) (sym (append-nil h.done) ∙ (ap (λ l. h.done ++ flat_map W l) (sym i) ∙ h.rest))
+
+  -- cutting back to where it began leaves what was there
+  pub cut_back : (start : ℕ) (before now : List ℕ) (left all : List A) → start ≤ length before → WritesSoFar W before now left all → take start now ≡ take start before
+  cut_back start before now left all h so_far = ap (take start) so_far.is ∙ take-append-le start before so_far.done h
+
+pub flat_map-map : {A B : Type 0} (W : B → List ℕ) (f : A → B) (xs : List A) → flat_map W (map f xs) ≡ flat_map (λ x. W (f x)) xs
+flat_map-map W f [] = refl
+flat_map-map W f (x ∷ xs) = ap (λ l. W (f x) ++ l) (flat_map-map W f xs)
+
+-- what holds anyway holds on an error
+pub on_err_always : {T E P : Type 0} (r : Result T E) → P → OnErr r P
+on_err_always (Ok x) h = tt
+on_err_always (Err e) h = h

@@ -1,0 +1,188 @@
+// Signed integers: two's complement at fixed widths, the lowest byte first.
+ghost use Rattle.std.specs.Prelude.{◌≡◌, drop, refl, IfOk, IfErr, OnErr};
+ghost use Rattle.std.specs.Int.{w8, w16, w32, w64, w128};
+ghost use Rattle.nano_value.specs.Meaning.{number};
+ghost use Rattle.nano_bin.specs.Reading.{Reads, NothingFits};
+ghost use Rattle.nano_bin.specs.Spellings.{SpellsSigned};
+ghost use Rattle.nano_bin.specs.SpellingLaws.{signed};
+ghost use Rattle.nano_bin.specs.Writing.{signed_writing, signed_format, bits_fit_8, bits_fit_16, bits_fit_32, bits_fit_64, bits_fit_128};
+ghost use Rattle.nano_bin.specs.Faults.{IsTooShort};
+
+use crate::error::DeBinErr;
+use crate::traits::{BothBin, DeBin, SerBin};
+use std::alloc::{AllocError, Global};
+
+impl SerBin for i8 {
+    ghost writing = { signed_writing w8 1 };
+
+    ghost writes_meaning = { refl };
+
+    fn ser_bin(&self, alloc: Global, output: &mut Vec<u8>) -> Result<(), AllocError> {
+        self.cast_unsigned().ser_bin(alloc, output)
+    }
+}
+
+impl DeBin for i8 {
+    ghost spelling = { signed w8 1 };
+
+    ghost spells_legal = { λ m h. h };
+
+    /// Takes no memory, and is refused exactly where fewer than 1 byte is left.
+    fn de_bin(alloc: Global, offset: &mut usize, bytes: &[u8]) -> Result<i8, DeBinErr>
+        ensures ok { IfOk result (λ value. Reads (SpellsSigned w8 1) bytes.now offset.old (number value) offset.new) }
+        ensures err { IfErr result (λ e. NothingFits (SpellsSigned w8 1) (drop offset.old bytes.now)) }
+        ensures short { IfErr result (IsTooShort bytes.now offset.old 1) }
+        ensures kept { OnErr result (offset.new ≡ offset.old) }
+    {
+        match u8::de_bin(alloc, offset, bytes) {
+            Ok(bits) => Ok(bits.cast_signed()),
+            Err(error) => Err(error),
+        }
+    }
+}
+
+impl BothBin for i8 {
+    ghost format = { signed_format w8 1 bits_fit_8 };
+
+    ghost reads_back = { (signed_format w8 1 bits_fit_8).reads_back };
+}
+
+impl SerBin for i16 {
+    ghost writing = { signed_writing w16 2 };
+
+    ghost writes_meaning = { refl };
+
+    fn ser_bin(&self, alloc: Global, output: &mut Vec<u8>) -> Result<(), AllocError> {
+        self.cast_unsigned().ser_bin(alloc, output)
+    }
+}
+
+impl DeBin for i16 {
+    ghost spelling = { signed w16 2 };
+
+    ghost spells_legal = { λ m h. h };
+
+    /// Takes no memory, and is refused exactly where fewer than 2 bytes are left.
+    fn de_bin(alloc: Global, offset: &mut usize, bytes: &[u8]) -> Result<i16, DeBinErr>
+        ensures ok { IfOk result (λ value. Reads (SpellsSigned w16 2) bytes.now offset.old (number value) offset.new) }
+        ensures err { IfErr result (λ e. NothingFits (SpellsSigned w16 2) (drop offset.old bytes.now)) }
+        ensures short { IfErr result (IsTooShort bytes.now offset.old 2) }
+        ensures kept { OnErr result (offset.new ≡ offset.old) }
+    {
+        match u16::de_bin(alloc, offset, bytes) {
+            Ok(bits) => Ok(bits.cast_signed()),
+            Err(error) => Err(error),
+        }
+    }
+}
+
+impl BothBin for i16 {
+    ghost format = { signed_format w16 2 bits_fit_16 };
+
+    ghost reads_back = { (signed_format w16 2 bits_fit_16).reads_back };
+}
+
+impl SerBin for i32 {
+    ghost writing = { signed_writing w32 4 };
+
+    ghost writes_meaning = { refl };
+
+    fn ser_bin(&self, alloc: Global, output: &mut Vec<u8>) -> Result<(), AllocError> {
+        self.cast_unsigned().ser_bin(alloc, output)
+    }
+}
+
+impl DeBin for i32 {
+    ghost spelling = { signed w32 4 };
+
+    ghost spells_legal = { λ m h. h };
+
+    /// Takes no memory, and is refused exactly where fewer than 4 bytes are left.
+    fn de_bin(alloc: Global, offset: &mut usize, bytes: &[u8]) -> Result<i32, DeBinErr>
+        ensures ok { IfOk result (λ value. Reads (SpellsSigned w32 4) bytes.now offset.old (number value) offset.new) }
+        ensures err { IfErr result (λ e. NothingFits (SpellsSigned w32 4) (drop offset.old bytes.now)) }
+        ensures short { IfErr result (IsTooShort bytes.now offset.old 4) }
+        ensures kept { OnErr result (offset.new ≡ offset.old) }
+    {
+        match u32::de_bin(alloc, offset, bytes) {
+            Ok(bits) => Ok(bits.cast_signed()),
+            Err(error) => Err(error),
+        }
+    }
+}
+
+impl BothBin for i32 {
+    ghost format = { signed_format w32 4 bits_fit_32 };
+
+    ghost reads_back = { (signed_format w32 4 bits_fit_32).reads_back };
+}
+
+impl SerBin for i64 {
+    ghost writing = { signed_writing w64 8 };
+
+    ghost writes_meaning = { refl };
+
+    fn ser_bin(&self, alloc: Global, output: &mut Vec<u8>) -> Result<(), AllocError> {
+        self.cast_unsigned().ser_bin(alloc, output)
+    }
+}
+
+impl DeBin for i64 {
+    ghost spelling = { signed w64 8 };
+
+    ghost spells_legal = { λ m h. h };
+
+    /// Takes no memory, and is refused exactly where fewer than 8 bytes are left.
+    fn de_bin(alloc: Global, offset: &mut usize, bytes: &[u8]) -> Result<i64, DeBinErr>
+        ensures ok { IfOk result (λ value. Reads (SpellsSigned w64 8) bytes.now offset.old (number value) offset.new) }
+        ensures err { IfErr result (λ e. NothingFits (SpellsSigned w64 8) (drop offset.old bytes.now)) }
+        ensures short { IfErr result (IsTooShort bytes.now offset.old 8) }
+        ensures kept { OnErr result (offset.new ≡ offset.old) }
+    {
+        match u64::de_bin(alloc, offset, bytes) {
+            Ok(bits) => Ok(bits.cast_signed()),
+            Err(error) => Err(error),
+        }
+    }
+}
+
+impl BothBin for i64 {
+    ghost format = { signed_format w64 8 bits_fit_64 };
+
+    ghost reads_back = { (signed_format w64 8 bits_fit_64).reads_back };
+}
+
+impl SerBin for i128 {
+    ghost writing = { signed_writing w128 16 };
+
+    ghost writes_meaning = { refl };
+
+    fn ser_bin(&self, alloc: Global, output: &mut Vec<u8>) -> Result<(), AllocError> {
+        self.cast_unsigned().ser_bin(alloc, output)
+    }
+}
+
+impl DeBin for i128 {
+    ghost spelling = { signed w128 16 };
+
+    ghost spells_legal = { λ m h. h };
+
+    /// Takes no memory, and is refused exactly where fewer than 16 bytes are left.
+    fn de_bin(alloc: Global, offset: &mut usize, bytes: &[u8]) -> Result<i128, DeBinErr>
+        ensures ok { IfOk result (λ value. Reads (SpellsSigned w128 16) bytes.now offset.old (number value) offset.new) }
+        ensures err { IfErr result (λ e. NothingFits (SpellsSigned w128 16) (drop offset.old bytes.now)) }
+        ensures short { IfErr result (IsTooShort bytes.now offset.old 16) }
+        ensures kept { OnErr result (offset.new ≡ offset.old) }
+    {
+        match u128::de_bin(alloc, offset, bytes) {
+            Ok(bits) => Ok(bits.cast_signed()),
+            Err(error) => Err(error),
+        }
+    }
+}
+
+impl BothBin for i128 {
+    ghost format = { signed_format w128 16 bits_fit_128 };
+
+    ghost reads_back = { (signed_format w128 16 bits_fit_128).reads_back };
+}
