@@ -25,7 +25,7 @@ impl<T: SerBin, const N: usize> SerBin for [T; N] {
     ghost writes_meaning = { λ i x. listed (map (T.writes_meaning i) x) };
 
     fn ser_bin(&self, alloc: Global, output: &mut Vec<u8>) -> Result<(), AllocError> {
-        T::ser_bin_items(alloc, self, output)
+        T::ser_bin_items(alloc, self.as_slice(), output)
     }
 }
 

@@ -12,13 +12,18 @@ pub mod laws;
 mod lists;
 mod numbers;
 mod options;
+mod pairs;
+mod quadruples;
 mod signed;
 mod take;
 mod texts;
 mod traits;
+mod triples;
 mod truths;
-mod tuples;
 
 pub use append::append_part;
 pub use error::{DeBinErr, DeBinKind};
 pub use traits::{BothBin, DeBin, SerBin};
+
+#[cfg(test)]
+mod tests;

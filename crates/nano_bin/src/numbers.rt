@@ -81,7 +81,7 @@ impl SerBin for u16 {
 
     #[tactic(auto, using(crate::specs::LittleEndian::to_le_bytes_16))]
     fn ser_bin(&self, alloc: Global, output: &mut Vec<u8>) -> Result<(), AllocError> {
-        append_bytes(output, &self.to_le_bytes())
+        append_bytes(output, &u16::to_le_bytes(*self))
     }
 }
 
@@ -148,7 +148,7 @@ impl SerBin for u32 {
 
     #[tactic(auto, using(crate::specs::LittleEndian::to_le_bytes_32))]
     fn ser_bin(&self, alloc: Global, output: &mut Vec<u8>) -> Result<(), AllocError> {
-        append_bytes(output, &self.to_le_bytes())
+        append_bytes(output, &u32::to_le_bytes(*self))
     }
 }
 
@@ -215,7 +215,7 @@ impl SerBin for u64 {
 
     #[tactic(auto, using(crate::specs::LittleEndian::to_le_bytes_64))]
     fn ser_bin(&self, alloc: Global, output: &mut Vec<u8>) -> Result<(), AllocError> {
-        append_bytes(output, &self.to_le_bytes())
+        append_bytes(output, &u64::to_le_bytes(*self))
     }
 }
 
@@ -282,7 +282,7 @@ impl SerBin for usize {
 
     #[tactic(auto, using(crate::specs::LittleEndian::to_le_bytes_64))]
     fn ser_bin(&self, alloc: Global, output: &mut Vec<u8>) -> Result<(), AllocError> {
-        append_bytes(output, &self.to_le_bytes())
+        append_bytes(output, &usize::to_le_bytes(*self))
     }
 }
 
@@ -349,7 +349,7 @@ impl SerBin for u128 {
 
     #[tactic(auto, using(crate::specs::LittleEndian::to_le_bytes_128))]
     fn ser_bin(&self, alloc: Global, output: &mut Vec<u8>) -> Result<(), AllocError> {
-        append_bytes(output, &self.to_le_bytes())
+        append_bytes(output, &u128::to_le_bytes(*self))
     }
 }
 

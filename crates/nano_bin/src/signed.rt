@@ -18,7 +18,7 @@ impl SerBin for i8 {
     ghost writes_meaning = { refl };
 
     fn ser_bin(&self, alloc: Global, output: &mut Vec<u8>) -> Result<(), AllocError> {
-        self.cast_unsigned().ser_bin(alloc, output)
+        u8::ser_bin(&self.cast_unsigned(), alloc, output)
     }
 }
 
@@ -35,7 +35,7 @@ impl DeBin for i8 {
         ensures kept { OnErr result (offset.new ≡ offset.old) }
     {
         match u8::de_bin(alloc, offset, bytes) {
-            Ok(bits) => Ok(bits.cast_signed()),
+            Ok(bits) => Ok(u8::cast_signed(bits)),
             Err(error) => Err(error),
         }
     }
@@ -53,7 +53,7 @@ impl SerBin for i16 {
     ghost writes_meaning = { refl };
 
     fn ser_bin(&self, alloc: Global, output: &mut Vec<u8>) -> Result<(), AllocError> {
-        self.cast_unsigned().ser_bin(alloc, output)
+        u16::ser_bin(&self.cast_unsigned(), alloc, output)
     }
 }
 
@@ -70,7 +70,7 @@ impl DeBin for i16 {
         ensures kept { OnErr result (offset.new ≡ offset.old) }
     {
         match u16::de_bin(alloc, offset, bytes) {
-            Ok(bits) => Ok(bits.cast_signed()),
+            Ok(bits) => Ok(u16::cast_signed(bits)),
             Err(error) => Err(error),
         }
     }
@@ -88,7 +88,7 @@ impl SerBin for i32 {
     ghost writes_meaning = { refl };
 
     fn ser_bin(&self, alloc: Global, output: &mut Vec<u8>) -> Result<(), AllocError> {
-        self.cast_unsigned().ser_bin(alloc, output)
+        u32::ser_bin(&self.cast_unsigned(), alloc, output)
     }
 }
 
@@ -105,7 +105,7 @@ impl DeBin for i32 {
         ensures kept { OnErr result (offset.new ≡ offset.old) }
     {
         match u32::de_bin(alloc, offset, bytes) {
-            Ok(bits) => Ok(bits.cast_signed()),
+            Ok(bits) => Ok(u32::cast_signed(bits)),
             Err(error) => Err(error),
         }
     }
@@ -123,7 +123,7 @@ impl SerBin for i64 {
     ghost writes_meaning = { refl };
 
     fn ser_bin(&self, alloc: Global, output: &mut Vec<u8>) -> Result<(), AllocError> {
-        self.cast_unsigned().ser_bin(alloc, output)
+        u64::ser_bin(&self.cast_unsigned(), alloc, output)
     }
 }
 
@@ -140,7 +140,7 @@ impl DeBin for i64 {
         ensures kept { OnErr result (offset.new ≡ offset.old) }
     {
         match u64::de_bin(alloc, offset, bytes) {
-            Ok(bits) => Ok(bits.cast_signed()),
+            Ok(bits) => Ok(u64::cast_signed(bits)),
             Err(error) => Err(error),
         }
     }
@@ -158,7 +158,7 @@ impl SerBin for i128 {
     ghost writes_meaning = { refl };
 
     fn ser_bin(&self, alloc: Global, output: &mut Vec<u8>) -> Result<(), AllocError> {
-        self.cast_unsigned().ser_bin(alloc, output)
+        u128::ser_bin(&self.cast_unsigned(), alloc, output)
     }
 }
 
@@ -175,7 +175,7 @@ impl DeBin for i128 {
         ensures kept { OnErr result (offset.new ≡ offset.old) }
     {
         match u128::de_bin(alloc, offset, bytes) {
-            Ok(bits) => Ok(bits.cast_signed()),
+            Ok(bits) => Ok(u128::cast_signed(bits)),
             Err(error) => Err(error),
         }
     }
