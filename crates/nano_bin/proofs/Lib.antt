@@ -1,4 +1,5 @@
 pub mod Readers
 pub mod RoundTrip
 pub mod Runs
+pub mod Variants
 pub mod Writers

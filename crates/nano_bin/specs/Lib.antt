@@ -5,3 +5,4 @@ pub mod Spellings
 pub mod SpellingLaws
 pub mod Writing
 pub mod Promises
+pub mod Variants

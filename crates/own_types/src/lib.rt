@@ -1,6 +1,8 @@
 //! An example: own types that join the formats by hand.
 #![tactic(auto)]
 
+mod command;
 mod reading;
 
+pub use command::Command;
 pub use reading::Reading;
