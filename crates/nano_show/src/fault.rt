@@ -2,7 +2,7 @@
 ghost use Rattle.std.specs.Prelude.{◌≡◌};
 ghost use Rattle.nano_show.specs.Ending.{status_of, message_of};
 
-use std::alloc::{AllocError, AllocFailed};
+use std::alloc::AllocError;
 use std::error::Error;
 use std::fmt;
 
@@ -53,16 +53,6 @@ impl From<AllocError> for ShowFault {
     ghost from_gives = { λ _ fault. fault ≡ Memory };
 
     fn from(_error: AllocError) -> ShowFault {
-        ShowFault::Memory
-    }
-}
-
-impl<T: Drop> From<AllocFailed<T>> for ShowFault {
-    ghost use Rattle.nano_show.specs.declared.fault.ShowFault.TheVariants.{Memory};
-
-    ghost from_gives = { λ _ fault. fault ≡ Memory };
-
-    fn from(_error: AllocFailed<T>) -> ShowFault {
         ShowFault::Memory
     }
 }

@@ -10,7 +10,7 @@ const DIGITS: &[u8; 16] = b"0123456789abcdef";
 pub(crate) fn hex_line(alloc: Global, bytes: &[u8]) -> Result<Vec<u8>, AllocError>
     ensures { IfOk result (λ text. text.items ≡ line (hex_pairs bytes.now)) }
 {
-    let mut text = Vec::new(alloc);
+    let mut text = Vec::with_capacity(alloc, bytes.len().saturating_mul(3))?;
     for byte in bytes {
         if !text.is_empty() {
             text.push(b' ')?;

@@ -1,6 +1,6 @@
 // From words and input to the answer that is written.
 ghost use Rattle.std.specs.Prelude.{◌≡◌, ◌≢◌, ◌↔◌, ◌++◌, ℕ, List, map, All, Err, IfOk, IfErr, OnOk, OnErr, IsErrOf};
-ghost use Rattle.std.specs.Io.KnownBytes.{Appends, Keeps};
+ghost use Rattle.std.specs.Io.KnownBytes.{Appends};
 ghost use Rattle.nano_show.specs.Requests.{texts, AskForNothing};
 ghost use Rattle.nano_show.specs.Answer.{Answers, HasNoAnswer, WritesAnswer, WritesUpTo, WritesBeginning};
 ghost use Rattle.nano_show.specs.Pairs.{hex_pairs, line};
@@ -40,17 +40,13 @@ pub fn run<R: Read, W: Write>(
     ensures refused { IfErr result (λ fault. (reason : _) → fault ≡ ShowFault.Refused reason →
         HasNoAnswer (texts words.now) (R.remaining input.old)) }
     ensures usage { IsErrOf result ShowFault.Usage ↔ AskForNothing (texts words.now) }
-    ensures unwritten { IfErr result (λ fault. fault ≢ ShowFault.Stream → Keeps (W.contents output.old) (W.contents output.new)) }
+    ensures unwritten { IfErr result (λ fault. fault ≢ ShowFault.Stream → output.new ≡ output.old) }
 
     // No words ask for what depends on the input.
     ensures unread { input.new ≡ input.old }
 {
-    let Some(command) = Command::parse(words) else {
-        return Err(ShowFault::Usage);
-    };
-    let Ok(answer) = answer(alloc, command) else {
-        return Err(ShowFault::Memory);
-    };
+    let command = Command::parse(words).ok_or(ShowFault::Usage)?;
+    let answer = answer(alloc, command)?;
     write_whole(output, &answer)
 }
 
