@@ -1,10 +1,11 @@
 -- The words of a command line, one by one.
-use Rattle.std.proofs.Common.{◌≡◌, ◌≢◌, ℕ, ◌+◌, ◌<◌, ◌≤◌, List, [], ◌∷◌, length, get_or, map, codes, refl, sym, ap, subst, ◌∙◌, arith, Option, Some, None, Bool, true, false, String, string_bytes, option_to_list}
+use Rattle.std.proofs.Common.{◌≡◌, ◌≢◌, ℕ, ◌<◌, List, ◌∷◌, length, get_or, map, codes, refl, sym, ap, subst, ◌∙◌, arith, Option, Some, None, true, false, String, string_bytes, option_to_list}
 use Rattle.std.specs.List.{All, slice_index}
 use Rattle.std.specs.Option.{SomeIff, is_some, IsSome}
+use Rattle.std.specs.Str.Parse.{digits_value}
 use Rattle.std.proofs.Math.ListN.{length-map}
 use Rattle.std.proofs.lemmas.List.{get_or-map}
-use Rattle.nano_show.specs.Requests.{texts, Request, code_of_u16s, code_of_text, IsU16, AskFor, AskForNothing, AskForU16s}
+use Rattle.nano_show.specs.Requests.{texts, Request, code_of_u16s, code_of_text, IsU16, AskFor, AskForNothing}
 
 pub SomeIff-none : {T : Type 0} (o : Option T) (P : Type 0) (v : T) → SomeIff o P v → is_some o ≡ false → P → ⊥
 SomeIff-none None P v h e = h
@@ -58,3 +59,18 @@ module _ (words : List (List ℕ)) where
     no_more_text more text long (code_of_u16s numbers) asked = u16s_is_not_text (head (tail (sym asked.are ∙ code) ∙ text))
     no_more_text more text long (code_of_text None) asked = omega (arith, ap length (tail (sym text ∙ tail (sym code ∙ asked))))
     no_more_text more text long (code_of_text (Some word)) asked = omega (arith, ap length (tail (sym text ∙ tail (sym code ∙ asked))))
+
+-- ---- the words ask for one thing
+
+option_to_list-injective : {A : Type 0} (a b : Option A) → option_to_list a ≡ option_to_list b → a ≡ b
+option_to_list-injective None None e = refl
+option_to_list-injective None (Some y) e = absurd (cc)
+option_to_list-injective (Some x) None e = absurd (cc)
+option_to_list-injective (Some x) (Some y) e = ap Some (head e)
+
+pub one_request : (words : List (List ℕ)) (first second : Request) → AskFor words first → AskFor words second → first ≡ second
+one_request words (code_of_u16s numbers) (code_of_u16s others) h j =
+    ap code_of_u16s (h.values ∙ (ap (map (digits_value 10)) (tail (tail (sym h.are ∙ j.are))) ∙ sym j.values))
+one_request words (code_of_u16s numbers) (code_of_text text) h j = absurd (u16s_is_not_text (head (tail (sym h.are ∙ j))))
+one_request words (code_of_text text) (code_of_u16s numbers) h j = absurd (u16s_is_not_text (head (tail (sym j.are ∙ h))))
+one_request words (code_of_text text) (code_of_text other) h j = ap code_of_text (option_to_list-injective text other (tail (tail (sym h ∙ j))))

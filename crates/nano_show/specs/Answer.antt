@@ -1,5 +1,5 @@
 -- What the program answers to its words and its input.
-use Rattle.std.specs.Prelude.{◌≡◌, ℕ, List, ◌++◌, Option, IfSome}
+use Rattle.std.specs.Prelude.{◌≡◌, ℕ, List, ◌++◌, Option, Some, IfSome}
 use Rattle.std.specs.Io.KnownBytes.{Appends}
 use Rattle.nano_bin.specs.LittleEndian.{little_endian}
 use Rattle.nano_bin.specs.Writing.{written_list, written_option, written_text}
@@ -48,3 +48,11 @@ pub record WritesBeginning (words : List (List ℕ)) (known old new : Option (Li
   pub is : IsAnswer words known answer
   pub rest : List ℕ
   pub written : WritesUpTo rest old new answer
+
+-- words and the bytes of an input have at most one answer
+abbrev pub OneAnswer : Type 0
+OneAnswer = (words : List (List ℕ)) (input first second : List ℕ) → IsAnswer words (Some input) first → IsAnswer words (Some input) second → first ≡ second
+
+-- and where they have one, they are not refused
+abbrev pub AnswerOrRefusal : Type 0
+AnswerOrRefusal = (words : List (List ℕ)) (input answer : List ℕ) → IsAnswer words (Some input) answer → HasNoAnswer words (Some input) → ⊥

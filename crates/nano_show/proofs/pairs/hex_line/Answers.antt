@@ -1,4 +1,4 @@
-use Rattle.std.proofs.Common.{◌≡◌, ◌++◌, ◌<◌, ap, sym, ◌∙◌, arith, length, get_or, nat_eq}
+use Rattle.std.proofs.Common.{◌≡◌, ◌++◌, ◌<◌, ap, ◌∙◌, arith, length, get_or}
 use Rattle.std.proofs.lemmas.Grind.{common_steps}
 use Rattle.nano_show.specs.Pairs.{hex_pair}
 use Rattle.nano_show.proofs.PairLemmas.{pair_first, pair_later}

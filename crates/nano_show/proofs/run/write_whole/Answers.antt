@@ -1,4 +1,4 @@
-use Rattle.std.proofs.Common.{◌≡◌, drop, ap, sym, subst, ◌∙◌, arith}
+use Rattle.std.proofs.Common.{◌≡◌, drop, ap, sym, subst, ◌∙◌}
 use Rattle.std.proofs.lemmas.List.{take_rest}
 use Rattle.nano_show.specs.Answer.{WritesUpTo}
 use Rattle.nano_show.proofs.AnswerLemmas.{WritesUpTo-more, WritesUpTo-kept}

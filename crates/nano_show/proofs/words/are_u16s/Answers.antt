@@ -1,4 +1,4 @@
-use Rattle.std.proofs.Common.{◌≡◌, arith, below_more, subst, sym, refl}
+use Rattle.std.proofs.Common.{arith, below_more, subst, sym, refl}
 use Rattle.nano_show.specs.Requests.{IsU16}
 use Rattle.nano_show.proofs.WordLemmas.{SomeIff-none, SomeIff-some, text_at, length-texts}
 use Rattle.nano_show.proofs.words.are_u16s.Goals as goal
