@@ -17,7 +17,7 @@ use std::env;
 use std::io::ErrorKind;
 use std::process::ExitCode;
 
-/// The words behind the program's name. Words that are not UTF-8 are none that the program knows.
+/// The words behind the program's name. Arguments that are not UTF-8 are none that the program knows.
 fn arguments(rt: &HostRuntime) -> Result<Vec<String>, ShowFault> {
     match env::args(rt) {
         Ok(words) => Ok(words.skip(1).collect(rt.alloc())?),
@@ -26,6 +26,7 @@ fn arguments(rt: &HostRuntime) -> Result<Vec<String>, ShowFault> {
     }
 }
 
+/// Answers the program's arguments and standard input on standard output.
 fn show(rt: &HostRuntime) -> Result<(), ShowFault> {
     let words = arguments(rt)?;
     run(rt.alloc(), &words, &mut rt.stdin(), &mut rt.stdout())

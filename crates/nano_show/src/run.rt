@@ -1,5 +1,5 @@
 // From words and input to the answer that is written.
-ghost use Rattle.std.specs.Prelude.{◌≡◌, ◌≢◌, ◌↔◌, ◌++◌, ℕ, List, map, All, Err, IfOk, IfErr, OnOk, OnErr, IsErrOf};
+ghost use Rattle.std.specs.Prelude.{◌≡◌, ◌≢◌, ◌↔◌, ℕ, List, IfOk, IfErr, OnOk, OnErr, IsErrOf};
 ghost use Rattle.std.specs.Io.KnownBytes.{Appends};
 ghost use Rattle.nano_show.specs.Requests.{texts, AskForNothing};
 ghost use Rattle.nano_show.specs.Answer.{Answers, HasNoAnswer, WritesAnswer, WritesUpTo, WritesBeginning};
@@ -78,6 +78,8 @@ fn write_whole<W: Write>(output: &mut W, bytes: &[u8]) -> Result<(), ShowFault>
     ensures stream { IfErr result (λ fault. fault ≡ ShowFault.Stream) }
 {
     let mut rest = bytes;
+
+    // Each write may be interrupted anew, so the tries are counted.
     'writes: for _ in 0..u64::MAX {
         if rest.is_empty() {
             return Ok(());

@@ -17,7 +17,8 @@ pub(crate) enum Command<'a> {
 }
 
 impl<'a> Command<'a> {
-    /// What the words ask for, or `None` where the program does not know them. It takes no memory.
+    /// What the words ask for, or `None` where the program does not know them. It takes no memory, so wrong words
+    /// are found before a growth can be refused.
     pub(crate) fn parse(words: &'a [String]) -> Option<Command<'a>>
         ensures known { IfSome result (λ command. AskFor (texts words.now) (request_of command)) }
         ensures sound { IfSome result IsSound }
@@ -80,6 +81,7 @@ pub(crate) fn numbers(alloc: Global, numerals: &[String]) -> Result<Vec<u16>, Al
 fn number(word: &str) -> Option<u16>
     ensures { SomeIff result (IsU16 word.now) (digits_value 10 word.now) }
 {
+    // `parse` takes a plus.
     if word.starts_with('+') {
         return None;
     }
