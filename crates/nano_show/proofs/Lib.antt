@@ -1,0 +1,3 @@
+pub mod PairLemmas
+pub mod WordLemmas
+pub mod AnswerLemmas

@@ -1,0 +1,5 @@
+pub mod Requests
+pub mod Pairs
+pub mod Answer
+pub mod Ending
+pub mod Commands

@@ -1,0 +1,37 @@
+-- What the words of a command line ask for.
+use Rattle.std.specs.Prelude.{◌≡◌, ℕ, ◌<◌, ◌^◌, List, ◌∷◌, map, All, codes, Option, option_to_list, String, string_bytes}
+use Rattle.std.specs.Str.Parse.{IsNumeral, digits_value}
+
+-- the bytes of each word
+abbrev pub texts : {Z : Type 0} → List (String Z) → List (List ℕ)
+texts words = map (λ word. string_bytes word) words
+
+-- what can be asked for: the code of a list of numbers, or of a text that may be absent
+pub data Request : Type 0 where
+  code_of_u16s : List ℕ → Request
+  code_of_text : Option (List ℕ) → Request
+
+-- one decimal digit or more, and nothing else, of a value that a `u16` has
+pub record IsU16 (word : List ℕ) : Type 0 where
+  pub digits : IsNumeral 10 word
+  pub fits : digits_value 10 word < 2 ^ 16
+
+-- `code u16s`, and the numerals of the numbers
+pub record AskForU16s (words : List (List ℕ)) (numbers : List ℕ) : Type 0 where
+  pub numerals : List (List ℕ)
+  pub are : words ≡ codes "code" ∷ codes "u16s" ∷ numerals
+  pub each : All IsU16 numerals
+  pub values : numbers ≡ map (digits_value 10) numerals
+
+-- `code text`, and the text where there is one
+abbrev pub AskForText : List (List ℕ) → Option (List ℕ) → Type 0
+AskForText words text = words ≡ codes "code" ∷ codes "text" ∷ option_to_list text
+
+-- what the words ask for
+abbrev pub AskFor : List (List ℕ) → Request → Type 0
+AskFor words (code_of_u16s numbers) = AskForU16s words numbers
+AskFor words (code_of_text text) = AskForText words text
+
+-- the words are none that the program knows
+abbrev pub AskForNothing : List (List ℕ) → Type 0
+AskForNothing words = (request : Request) → AskFor words request → ⊥

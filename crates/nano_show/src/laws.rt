@@ -1,0 +1,12 @@
+// Laws of the answers.
+ghost use Rattle.nano_show.specs.Answer.{OneAnswer, AnswerOrRefusal};
+
+/// Words and the bytes of an input have at most one answer.
+pub fn one_answer()
+    ensures { OneAnswer }
+{}
+
+/// What has an answer is not refused.
+pub fn answer_or_refusal()
+    ensures { AnswerOrRefusal }
+{}

@@ -1,0 +1,44 @@
+//! Shows what the formats of nanoserde make of the words of a command line.
+//!
+//! `nano_show code u16s 1 2` prints the binary code of two numbers, `nano_show code text ab` that of a text.
+#![tactic(auto)]
+
+mod fault;
+pub mod laws;
+mod pairs;
+mod run;
+#[cfg(test)]
+mod tests;
+mod words;
+
+pub use fault::{ShowFault, ending};
+pub use run::run;
+use std::env;
+use std::io::ErrorKind;
+use std::process::ExitCode;
+
+/// The words behind the program's name. Arguments that are not UTF-8 are none that the program knows.
+fn arguments(rt: &HostRuntime) -> Result<Vec<String>, ShowFault> {
+    match env::args(rt) {
+        Ok(words) => Ok(words.skip(1).collect(rt.alloc())?),
+        Err(error) if error.kind() == ErrorKind::InvalidData => Err(ShowFault::Usage),
+        Err(_) => Err(ShowFault::Memory),
+    }
+}
+
+/// Answers the program's arguments and standard input on standard output.
+fn show(rt: &HostRuntime) -> Result<(), ShowFault> {
+    let words = arguments(rt)?;
+    run(rt.alloc(), &words, &mut rt.stdin(), &mut rt.stdout())
+}
+
+fn main(rt: HostRuntime) -> ExitCode {
+    match show(&rt) {
+        Ok(()) => ExitCode::SUCCESS,
+        Err(fault) => {
+            let (status, text) = ending(&fault);
+            let _ = rt.eprintln(text);
+            ExitCode::from(status)
+        }
+    }
+}

@@ -1,0 +1,89 @@
+// Which words ask for what.
+ghost use Rattle.std.specs.Prelude.{◌≡◌, ◌≢◌, ◌↔◌, ℕ, List, ◌∷◌, map, All, IsTrue, IfOk, IfSome, IfNone};
+ghost use Rattle.std.specs.Option.{SomeIff};
+ghost use Rattle.std.specs.Str.Parse.{digits_value};
+ghost use Rattle.nano_show.specs.Requests.{texts, IsU16, AskFor, AskForNothing};
+ghost use Rattle.nano_show.specs.Commands.{request_of, IsSound};
+
+use std::alloc::{AllocError, Global};
+
+/// Words that were understood.
+#[derive(Clone, Copy)]
+pub(crate) enum Command<'a> {
+    /// The code of the numbers that these numerals write.
+    CodeU16s(&'a [String]),
+    /// The code of this text, or of none.
+    CodeText(Option<&'a str>),
+}
+
+impl<'a> Command<'a> {
+    /// What the words ask for, or `None` where the program does not know them. It takes no memory, so wrong words
+    /// are found before a growth can be refused.
+    pub(crate) fn parse(words: &'a [String]) -> Option<Command<'a>>
+        ensures known { IfSome result (λ command. AskFor (texts words.now) (request_of command)) }
+        ensures sound { IfSome result IsSound }
+        ensures unknown { IfNone result (AskForNothing (texts words.now)) }
+    {
+        let words = behind(words, "code")?;
+        if let Some(numerals) = behind(words, "u16s") {
+            if are_u16s(numerals) {
+                return Some(Command::CodeU16s(numerals));
+            }
+            return None;
+        }
+        match behind(words, "text")? {
+            [] => Some(Command::CodeText(None)),
+            [text] => Some(Command::CodeText(Some(text.as_str()))),
+            _ => None,
+        }
+    }
+}
+
+/// The words behind the first one, where that is `word`.
+fn behind<'a>(words: &'a [String], word: &str) -> Option<&'a [String]>
+    ensures some { IfSome result (λ rest. texts words.now ≡ word.now ∷ texts rest.now) }
+    ensures none { IfNone result ((rest : List (List ℕ)) → texts words.now ≢ word.now ∷ rest) }
+{
+    let (first, rest) = words.split_first()?;
+    if first.as_str() == word {
+        Some(rest)
+    } else {
+        None
+    }
+}
+
+/// Whether each word is a numeral of a `u16`.
+fn are_u16s(words: &[String]) -> bool
+    ensures { IsTrue result ↔ All IsU16 (texts words.now) }
+{
+    for word in words {
+        if number(word.as_str()).is_none() {
+            return false;
+        }
+    }
+    true
+}
+
+/// The numbers that the numerals write.
+pub(crate) fn numbers(alloc: Global, numerals: &[String]) -> Result<Vec<u16>, AllocError>
+    requires { All IsU16 (texts numerals.now) }
+    ensures { IfOk result (λ numbers. numbers.items ≡ map (digits_value 10) (texts numerals.now)) }
+{
+    let mut numbers = Vec::with_capacity(alloc, numerals.len())?;
+    for numeral in numerals {
+        let number = number(numeral.as_str()).unwrap();
+        numbers.push(number)?;
+    }
+    Ok(numbers)
+}
+
+/// The number that a numeral writes, where a `u16` has it. A sign is no part of a numeral.
+fn number(word: &str) -> Option<u16>
+    ensures { SomeIff result (IsU16 word.now) (digits_value 10 word.now) }
+{
+    // `parse` takes a plus.
+    if word.starts_with('+') {
+        return None;
+    }
+    word.parse().ok()
+}
