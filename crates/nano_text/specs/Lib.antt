@@ -1,0 +1,6 @@
+pub mod Front
+pub mod Number
+pub mod Place
+pub mod Scan
+pub mod String
+pub mod Tokens
