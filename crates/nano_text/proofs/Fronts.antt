@@ -1,5 +1,5 @@
 -- The front of a text that passes a test, and what is behind it.
-use Rattle.std.proofs.Common.{◌≡◌, ℕ, List, [], ◌∷◌, ◌++◌, Bool, true, false, cond, refl, ap, sym, ◌∙◌}
+use Rattle.std.proofs.Common.{◌≡◌, ℕ, List, [], ◌∷◌, Bool, false, refl}
 use Rattle.nano_text.specs.Front.{first_is, front, behind}
 
 pub behind_stop : (p : ℕ → Bool) (t : List ℕ) → first_is p t ≡ false → behind p t ≡ t

@@ -1,7 +1,10 @@
 pub mod LiveText
+pub mod Escapes
 pub mod Fronts
 pub mod Stops
 pub mod Tokens
+pub mod Utf8Fronts
+pub mod Plain
 pub mod Runs
 pub mod Numbers
 pub mod Parses

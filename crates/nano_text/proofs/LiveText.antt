@@ -1,5 +1,5 @@
 -- What `next` does to the text that is still to be read.
-use Rattle.std.proofs.Common.{◌≡◌, ◌≢◌, ℕ, List, [], ◌∷◌, ◌++◌, Bool, true, false, cond, length, chars, encode_utf8, IsUtf8, refl, ap, sym, ◌∙◌, ne_eqb, eqb-true, arith, nat_eq}
+use Rattle.std.proofs.Common.{◌≡◌, ◌≢◌, ℕ, List, [], ◌∷◌, ◌++◌, Bool, true, false, cond, length, encode_utf8, IsUtf8, refl, ap, sym, ◌∙◌, ne_eqb, eqb-true, nat_eq}
 use Rattle.std.proofs.lemmas.Str.{chars_past_char}
 use Rattle.std.proofs.StrCases.{chars_of_empty}
 use Rattle.std.specs.Str.Iter.{chars_rest}
@@ -49,3 +49,8 @@ live_taken c s t e = ap before_nul (sym e)
 pub live_none : (s t : Chars) → held s ≡ [] → live 0 t ≡ before_nul (held s)
 unfolding live
 live_none s t e = ap before_nul (sym e)
+
+-- the first live character is the current one
+pub live-first : (cur c : ℕ) (s : Chars) (rest : List ℕ) → live cur s ≡ c ∷ rest → cur ≡ c
+unfolding live
+live-first cur c s rest e = elim (nat_eq cur 0) as (λ b. cond b [] (cur ∷ before_nul (held s)) ≡ c ∷ rest → cur ≡ c) [ true ↦ λ h. cc h | false ↦ λ h. cc h ] e

@@ -1,11 +1,11 @@
 -- From the parts that were taken to the number that stands there, and back.
-use Rattle.std.proofs.Common.{◌≡◌, ℕ, ◌+◌, ◌<◌, ◌≤◌, ◌||◌, ◌&&◌, ◌^◌, ◌⊎◌, inl, inr, List, [], ◌∷◌, ◌++◌, Bool, true, false, cond, refl, ap, sym, ◌∙◌, subst, Option, Some, None, IfSome, MatchOption, append_assoc, append-nil, length, length-append, arith, option_map}
+use Rattle.std.proofs.Common.{◌≡◌, ℕ, ◌<◌, ◌||◌, ◌&&◌, ◌⊎◌, inl, inr, List, [], ◌∷◌, ◌++◌, Bool, true, false, cond, refl, ap, sym, ◌∙◌, subst, Option, Some, None, IfSome, append_assoc, append-nil, length, length-append, arith, option_map}
 use Rattle.std.specs.Char.{is_ascii_digit}
 use Rattle.std.specs.Str.{all_ascii_digits}
 use Rattle.nano_text.specs.declared.number.Number.{Number}
-use Rattle.nano_text.specs.declared.number.Number.TheVariants.{U64, I64, Dec}
+use Rattle.nano_text.specs.declared.number.Number.TheVariants.{Dec}
 use Rattle.nano_text.specs.Front.{first_is, front, behind}
-use Rattle.nano_text.specs.Number.{Run, Exponent, is_sign, is_point, is_letter_e, is_minus, sign_text, fraction_text, exponent_text, run_text, IsRun, IsGood, AreGoodParts, continues, fraction_digits, number_of, number_from_parts, IsNumber}
+use Rattle.nano_text.specs.Number.{Exponent, is_sign, is_minus, sign_text, fraction_text, exponent_text, run_text, IsGood, AreGoodParts, number_of, number_from_parts, IsNumber}
 use Rattle.nano_text.specs.Scan.{first_if, fraction_at, behind_fraction, exponent_at, behind_exponent, behind_sign, behind_whole, run_at, behind_run, decimal_good}
 use Rattle.nano_text.proofs.Runs.{run_split, run_is_run, run_ends, run_again, and_true, or_neither}
 

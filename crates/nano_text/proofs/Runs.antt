@@ -1,9 +1,9 @@
 -- The run that a text begins with is the only good one that it can begin with.
-use Rattle.std.proofs.Common.{◌≡◌, ℕ, ◌+◌, ◌<◌, ◌≤◌, ◌||◌, ◌⊎◌, inl, inr, List, [], ◌∷◌, ◌++◌, Bool, true, false, cond, refl, ap, sym, ◌∙◌, subst, Option, Some, None, IfSome, append_assoc, append-nil, length, arith, eqb-true, ne_eqb, ◌&&◌, leb-true, length-append}
+use Rattle.std.proofs.Common.{◌≡◌, ℕ, ◌<◌, ◌≤◌, ◌||◌, ◌⊎◌, inl, inr, List, [], ◌∷◌, ◌++◌, Bool, true, false, cond, refl, ap, ◌∙◌, subst, Option, Some, None, IfSome, append_assoc, length, arith, eqb-true, ne_eqb, ◌&&◌, leb-true}
 use Rattle.std.specs.Char.{is_ascii_digit}
 use Rattle.std.specs.Str.{all_ascii_digits}
 use Rattle.nano_text.specs.Front.{first_is, front, behind}
-use Rattle.nano_text.specs.Number.{Run, Exponent, is_sign, is_point, is_letter_e, is_minus, sign_text, fraction_text, exponent_text, run_text, IsRun, IsGood, AreGoodParts, continues, fraction_digits, number_of, IsNumber}
+use Rattle.nano_text.specs.Number.{Run, Exponent, is_sign, is_point, is_letter_e, is_minus, sign_text, fraction_text, exponent_text, run_text, IsRun, IsGood, AreGoodParts, continues}
 use Rattle.nano_text.specs.Scan.{first_if, behind_one, is_minus_char, fraction_at, behind_fraction, exponent_at, behind_exponent, behind_sign, behind_whole, run_at, behind_run}
 use Rattle.nano_text.proofs.Fronts.{front_stop, behind_stop}
 use Rattle.nano_text.proofs.Stops.{first_stop, one_stop, fraction_stop, behind_fraction_stop, exponent_stop, behind_exponent_stop, or_false}

@@ -1,7 +1,7 @@
 -- A text that doesn't begin with a part has none of it.
-use Rattle.std.proofs.Common.{◌≡◌, ℕ, List, [], ◌∷◌, ◌++◌, Bool, true, false, cond, refl, ap, sym, ◌∙◌, Option, Some, None, ◌||◌}
-use Rattle.nano_text.specs.Front.{first_is, front, behind}
-use Rattle.nano_text.specs.Number.{is_sign, is_point, is_letter_e}
+use Rattle.std.proofs.Common.{◌≡◌, ℕ, List, [], ◌∷◌, Bool, true, false, refl, None, ◌||◌}
+use Rattle.nano_text.specs.Front.{first_is}
+use Rattle.nano_text.specs.Number.{is_point, is_letter_e}
 use Rattle.nano_text.specs.Scan.{first_if, behind_one, fraction_at, behind_fraction, exponent_at, behind_exponent}
 
 pub first_stop : (p : ℕ → Bool) (t : List ℕ) → first_is p t ≡ false → first_if p t ≡ None

@@ -1,5 +1,5 @@
 -- The longest front of a text whose characters all pass a test, and what stands behind it.
-use Rattle.std.specs.Prelude.{ℕ, Bool, true, false, List, [], ◌∷◌, if◌then◌else◌}
+use Rattle.std.specs.Prelude.{ℕ, Bool, false, List, [], ◌∷◌, if◌then◌else◌}
 
 abbrev pub front : (ℕ → Bool) → List ℕ → List ℕ
 front test [] = []

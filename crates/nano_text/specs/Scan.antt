@@ -1,5 +1,5 @@
 -- The run that a text begins with, taken as long as it goes: good or not.
-use Rattle.std.specs.Prelude.{◌≡◌, ℕ, ◌==◌, ◌||◌, ◌&&◌, Bool, true, false, List, [], ◌∷◌, ◌++◌, Option, Some, None, if◌then◌else◌}
+use Rattle.std.specs.Prelude.{ℕ, ◌==◌, ◌||◌, ◌&&◌, Bool, List, [], ◌∷◌, Option, Some, None, if◌then◌else◌}
 use Rattle.std.specs.Char.{is_ascii_digit}
 use Rattle.nano_text.specs.Front.{first_is, front, behind}
 use Rattle.nano_text.specs.Number.{Run, Exponent, is_sign, is_point, is_letter_e}

@@ -1,5 +1,5 @@
 -- String lexemes: a quote, pieces, a quote. What a piece is, how it is written, and which character it stands for.
-use Rattle.std.specs.Prelude.{◌≡◌, ◌≢◌, ℕ, ◌+◌, ◌-◌, ◌*◌, ◌<◌, ◌≤◌, ◌==◌, ◌||◌, ◌⊎◌, Bool, true, false, cond, List, [], ◌∷◌, ◌++◌, flat_map, map, if◌then◌else◌}
+use Rattle.std.specs.Prelude.{◌≡◌, ◌≢◌, ℕ, ◌+◌, ◌-◌, ◌*◌, ◌<◌, ◌≤◌, ◌==◌, ◌⊎◌, ◌&&◌, not, Bool, true, List, [], ◌∷◌, ◌++◌, flat_map, map, if◌then◌else◌}
 use Rattle.std.specs.Char.{digit_value, is_ascii_hexdigit}
 use Rattle.std.specs.List.{AllByRecursion}
 
@@ -9,6 +9,10 @@ pub record CodeUnit : Type 0 where
   pub b : ℕ
   pub c : ℕ
   pub d : ℕ
+
+-- a character that stands for itself: no quote, no backslash, no NUL
+abbrev pub is_plain : ℕ → Bool
+is_plain c = not (c == 34) && (not (c == 92) && not (c == 0))
 
 pub data Piece : Type 0 where
   -- a character itself

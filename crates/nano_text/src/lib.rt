@@ -6,6 +6,8 @@
 
 mod number;
 mod place;
+mod string;
 
 pub use number::{Fault, Number, read_number};
 pub use place::Place;
+pub use string::read_string;

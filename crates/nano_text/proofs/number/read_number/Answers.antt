@@ -1,9 +1,9 @@
-use Rattle.std.proofs.Common.{◌≡◌, sym, ◌∙◌, string_bytes, refl, ap, Some}
+use Rattle.std.proofs.Common.{sym, ◌∙◌, string_bytes, ap, Some}
 use Rattle.nano_text.specs.Place.{text_at}
 use Rattle.nano_text.specs.Number.{run_text, is_minus}
 use Rattle.nano_text.specs.Scan.{run_at}
 use Rattle.nano_text.proofs.Runs.{run_is_run}
-use Rattle.nano_text.proofs.Numbers.{Scanned, scanned, integer_parts, integer_text, integer_found, integer_good, number_at, number_good, decimal_yes, decimal_not}
+use Rattle.nano_text.proofs.Numbers.{scanned, integer_parts, integer_text, integer_found, integer_good, number_at, number_good, decimal_yes, decimal_not}
 use Rattle.nano_text.proofs.number.read_number.Goals as goal
 
 pub returns-in-Some-clause-found : goal.returns-in-Some-clause-found

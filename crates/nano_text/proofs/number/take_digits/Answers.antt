@@ -1,4 +1,4 @@
-use Rattle.std.proofs.Common.{◌≡◌, ◌++◌, sym, ◌∙◌, refl, append-nil}
+use Rattle.std.proofs.Common.{sym, ◌∙◌, refl, append-nil}
 use Rattle.std.specs.Char.{is_ascii_digit}
 use Rattle.nano_text.proofs.LiveText.{first_is-live}
 use Rattle.nano_text.proofs.Fronts.{behind_stop, front_stop}

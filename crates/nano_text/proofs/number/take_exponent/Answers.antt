@@ -1,4 +1,4 @@
-use Rattle.std.proofs.Common.{◌≡◌, ◌++◌, sym, ◌∙◌, refl, append-nil, ap, ne_eqb}
+use Rattle.std.proofs.Common.{sym, ◌∙◌, refl, append-nil}
 use Rattle.nano_text.specs.Number.{is_letter_e}
 use Rattle.nano_text.proofs.LiveText.{first_is-live}
 use Rattle.nano_text.proofs.Stops.{exponent_stop, behind_exponent_stop}

@@ -1,8 +1,5 @@
-use Rattle.std.proofs.Common.{◌≡◌, ◌++◌, sym, ◌∙◌, refl, append-nil, ap, ne_eqb}
-use Rattle.std.specs.Option.{option_map}
-use Rattle.nano_text.specs.Number.{is_point, fraction_text}
-use Rattle.nano_text.specs.Front.{first_is}
-use Rattle.std.specs.Char.{is_ascii_digit}
+use Rattle.std.proofs.Common.{sym, ◌∙◌, refl, append-nil, ne_eqb}
+use Rattle.nano_text.specs.Number.{is_point}
 use Rattle.nano_text.proofs.LiveText.{first_is-live}
 use Rattle.nano_text.proofs.Stops.{fraction_stop, behind_fraction_stop}
 use Rattle.nano_text.proofs.number.take_fraction.Goals as goal

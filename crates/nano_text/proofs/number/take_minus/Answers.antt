@@ -1,4 +1,4 @@
-use Rattle.std.proofs.Common.{◌≡◌, ◌++◌, sym, ◌∙◌, refl, append-nil, ap, ne_eqb}
+use Rattle.std.proofs.Common.{sym, ◌∙◌, refl, append-nil, ne_eqb}
 use Rattle.nano_text.specs.Scan.{is_minus_char}
 use Rattle.nano_text.proofs.LiveText.{first_is-live}
 use Rattle.nano_text.proofs.Stops.{one_stop}

@@ -1,4 +1,4 @@
-use Rattle.std.proofs.Common.{◌≡◌, ◌++◌, sym, ◌∙◌, refl, append-nil, ap, ne_eqb}
+use Rattle.std.proofs.Common.{sym, ◌∙◌, refl, append-nil}
 use Rattle.nano_text.specs.Number.{is_sign}
 use Rattle.nano_text.specs.Scan.{behind_sign}
 use Rattle.nano_text.proofs.LiveText.{first_is-live}

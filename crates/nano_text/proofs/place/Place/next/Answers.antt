@@ -1,6 +1,4 @@
-use Rattle.std.proofs.Common.{rules, arith, ◌≡◌, ℕ, ◌+◌, List, ◌∷◌, refl, sym, ◌∙◌, ap, subst, chars, IsUtf8, ne_eqb}
-use Rattle.std.specs.Str.Iter.{chars_rest}
-use Rattle.nano_text.specs.Place.{held, tail, place_after}
+use Rattle.std.proofs.Common.{refl, subst, IsUtf8, ne_eqb}
 use Rattle.nano_text.proofs.LiveText.{held_next, held_none, live_next, live_last, live_taken, live_none}
 use Rattle.nano_text.proofs.place.Place.next.Goals as goal
 
