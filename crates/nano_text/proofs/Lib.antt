@@ -1,11 +1,12 @@
 pub mod LiveText
+pub mod Digits
 pub mod Escapes
 pub mod Fronts
 pub mod Stops
 pub mod Tokens
 pub mod Utf8Fronts
-pub mod Plain
+pub mod TakenFront
+pub mod RunBytes
 pub mod Runs
 pub mod Numbers
-pub mod Parses
 pub mod Strings

@@ -54,3 +54,12 @@ live_none s t e = ap before_nul (sym e)
 pub live-first : (cur c : ℕ) (s : Chars) (rest : List ℕ) → live cur s ≡ c ∷ rest → cur ≡ c
 unfolding live
 live-first cur c s rest e = elim (nat_eq cur 0) as (λ b. cond b [] (cur ∷ before_nul (held s)) ≡ c ∷ rest → cur ≡ c) [ true ↦ λ h. cc h | false ↦ λ h. cc h ] e
+
+-- a test that the current character doesn't pass, nor NUL, stops before the live text
+pub live_stop : (test : ℕ → Bool) (cur : ℕ) (s : Chars) → test 0 ≡ false → test cur ≡ false → first_is test (live cur s) ≡ false
+live_stop test cur s none fails = first_is-live test cur s none ∙ fails
+
+-- what is behind the first live character
+pub live-tail : (cur c : ℕ) (s : Chars) (rest : List ℕ) → live cur s ≡ c ∷ rest → before_nul (held s) ≡ rest
+unfolding live
+live-tail cur c s rest e = elim (nat_eq cur 0) as (λ b. cond b [] (cur ∷ before_nul (held s)) ≡ c ∷ rest → before_nul (held s) ≡ rest) [ true ↦ λ h. cc h | false ↦ λ h. cc h ] e

@@ -1,58 +1,18 @@
 -- From the parts that were taken to the number that stands there, and back.
-use Rattle.std.proofs.Common.{◌≡◌, ℕ, ◌<◌, ◌||◌, ◌&&◌, ◌⊎◌, inl, inr, List, [], ◌∷◌, ◌++◌, Bool, true, false, cond, refl, ap, sym, ◌∙◌, subst, Option, Some, None, IfSome, append_assoc, append-nil, length, length-append, arith, option_map}
-use Rattle.std.specs.Char.{is_ascii_digit}
-use Rattle.std.specs.Str.{all_ascii_digits}
+use Rattle.std.proofs.Common.{◌≡◌, ℕ, ◌+◌, ◌<◌, ◌||◌, ◌&&◌, ◌⊎◌, inl, inr, List, [], ◌∷◌, ◌++◌, Bool, true, false, cond, nat_lt, refl, ap, sym, ◌∙◌, subst, Option, Some, None, length, length-append, arith, option_map}
+use Rattle.std.proofs.lemmas.Bool.{ltb-false, ltb-true}
+use Rattle.std.proofs.lemmas.Bool.Decides.{nat_tests}
 use Rattle.nano_text.specs.declared.number.Number.{Number}
 use Rattle.nano_text.specs.declared.number.Number.TheVariants.{Dec}
-use Rattle.nano_text.specs.Front.{first_is, front, behind}
-use Rattle.nano_text.specs.Number.{Exponent, is_sign, is_minus, sign_text, fraction_text, exponent_text, run_text, IsGood, AreGoodParts, number_of, number_from_parts, IsNumber}
-use Rattle.nano_text.specs.Scan.{first_if, fraction_at, behind_fraction, exponent_at, behind_exponent, behind_sign, behind_whole, run_at, behind_run, decimal_good}
-use Rattle.nano_text.proofs.Runs.{run_split, run_is_run, run_ends, run_again, and_true, or_neither}
-
-abbrev pub any_digit : List ℕ → Bool
-any_digit ds = first_is is_ascii_digit ds
-
-abbrev pub any_exponent : Exponent → Bool
-any_exponent e = first_is is_ascii_digit e.digits
-
--- what reading the parts has found
-pub record Scanned (text buf rest : List ℕ) (minus whole : Bool) (fraction exponent : Option Bool) : Type 0 where
-  pub rest_is : rest ≡ behind_run text
-  pub buf_is : buf ≡ run_text (run_at text)
-  pub minus_is : minus ≡ is_minus (run_at text).sign
-  pub kind : decimal_good whole fraction exponent ≡ decimal_good (any_digit (run_at text).whole) (option_map any_digit (run_at text).fraction) (option_map any_exponent (run_at text).exponent)
-
-first_is-front : (p : ℕ → Bool) (t : List ℕ) → first_is p (front p t) ≡ first_is p t
-first_is-front p [] = refl
-first_is-front p (c ∷ cs) = elim (p c) as (λ (b : Bool). p c ≡ b → first_is p (cond b (c ∷ front p cs) []) ≡ b) [ true ↦ λ e. e | false ↦ λ e. refl ] refl
-
-pub scanned : (text b0 b1 b2 b3 b4 t1 t2 t3 t4 : List ℕ) (minus whole : Bool) (fraction exponent : Option Bool)
-    → b0 ≡ [] → minus ≡ is_minus (first_if is_sign text) → t1 ≡ behind_sign text → b1 ≡ b0 ++ sign_text (first_if is_sign text)
-    → whole ≡ first_is is_ascii_digit t1 → t2 ≡ behind is_ascii_digit t1 → b2 ≡ b1 ++ front is_ascii_digit t1
-    → fraction ≡ option_map any_digit (fraction_at t2) → t3 ≡ behind_fraction t2 → b3 ≡ b2 ++ fraction_text (fraction_at t2)
-    → exponent ≡ option_map any_exponent (exponent_at t3) → t4 ≡ behind_exponent t3 → b4 ≡ b3 ++ exponent_text (exponent_at t3)
-    → Scanned text b4 t4 minus whole fraction exponent
-unfolding run_at behind_run behind_whole
-scanned text b0 b1 b2 b3 b4 t1 t2 t3 t4 minus whole fraction exponent e0 m r1 w1 m2 r2 w2 m3 r3 w3 m4 r4 w4 =
-    let t2is : t2 ≡ behind is_ascii_digit (behind_sign text) = r2 ∙ ap (behind is_ascii_digit) r1 in
-    let t3is : t3 ≡ behind_fraction (behind is_ascii_digit (behind_sign text)) = r3 ∙ ap behind_fraction t2is in
-    record {
-      rest_is = r4 ∙ ap behind_exponent t3is;
-      buf_is = rw (w4, w3, w2, w1, e0, t3is, t2is, r1) (simp append_assoc);
-      minus_is = m;
-      kind = rw (m2, m3, m4, t3is, t2is, r1, first_is-front is_ascii_digit (behind_sign text)) refl;
-    }
+use Rattle.nano_text.specs.Number.{Exponent, is_minus, sign_text, fraction_text, exponent_text, run_text, IsGood, AreGoodParts, number_of, number_from_parts, IsNumber}
+use Rattle.nano_text.specs.Scan.{run_at, behind_run, exponent_len, minus_room, fraction_room, exponent_room, decimal_len}
+use Rattle.nano_text.proofs.Runs.{run_split, run_is_run, run_ends, run_again, and_true}
 
 -- ---- an integer
 
-pub integer_parts : (x : Bool) (f : Option (List ℕ)) (e : Option Exponent) → decimal_good x (option_map any_digit f) (option_map any_exponent e) ≡ None → (f ≡ None) × (e ≡ None)
-integer_parts x None None h = (refl, refl)
-integer_parts x None (Some e) h = cc h
-integer_parts x (Some ds) None h = cc h
-integer_parts x (Some ds) (Some e) h = cc h
-
-pub integer_text : (s : Option ℕ) (ds : List ℕ) (f : Option (List ℕ)) (e : Option Exponent) → f ≡ None → e ≡ None → sign_text s ++ (ds ++ (fraction_text f ++ exponent_text e)) ≡ sign_text s ++ ds
-integer_text s ds f e p q = rw (p, q, append-nil ds) refl
+pub none_mapped : {A B : Type 0} (f : A → B) (o : Option A) → option_map f o ≡ None → o ≡ None
+none_mapped f None h = refl
+none_mapped f (Some x) h = cc h
 
 -- the run at the front is the number, if it is good
 pub number_at : (text rest : List ℕ) (n : Number) → rest ≡ behind_run text → IsGood (run_at text) → n ≡ number_of (run_at text) → IsNumber text n (run_text (run_at text)) rest
@@ -88,52 +48,65 @@ integer_found text rest n minus t p q m g =
 
 -- ---- a decimal
 
-some_digit : (ds : List ℕ) → first_is is_ascii_digit ds ≡ true → 0 < length ds
-some_digit [] h = cc h
-some_digit (c ∷ cs) h = omega arith
+or_some : (a b : ℕ) → nat_lt 0 a || nat_lt 0 b ≡ true → 0 < a + b
+or_some a b h = grind (arith, nat_tests)
 
-no_digits : (ds : List ℕ) → all_ascii_digits ds ≡ true → first_is is_ascii_digit ds ≡ false → length ds ≡ 0
-no_digits [] h e = refl
-no_digits (c ∷ cs) h e = let x = sym (and_true (is_ascii_digit c) (all_ascii_digits cs) h).0 ∙ e in cc x
+or_none : (a b : ℕ) → nat_lt 0 a || nat_lt 0 b ≡ false → 0 < a + b → ⊥
+or_none a b h g = grind (arith, nat_tests)
 
-or_some : (a b : List ℕ) → any_digit a || any_digit b ≡ true → 0 < length (a ++ b)
-or_some a b h = elim (any_digit a) as (λ (x : Bool). any_digit a ≡ x → x || any_digit b ≡ true → 0 < length (a ++ b)) [
-  | true ↦ λ e k. omega (arith, some_digit a e, length-append a b)
-  | false ↦ λ e k. omega (arith, some_digit b k, length-append a b)
-] refl h
+chosen : (b : Bool) (n m : ℕ) → cond b (Some n) None ≡ Some m → (b ≡ true) × (n ≡ m)
+chosen true n m h = let e : n ≡ m = cc h in (refl, e)
+chosen false n m h = cc h
 
-or_none : (a b : List ℕ) → all_ascii_digits a ≡ true → all_ascii_digits b ≡ true → any_digit a || any_digit b ≡ false → 0 < length (a ++ b) → ⊥
-or_none a b p q h g = let r = or_neither (any_digit a) (any_digit b) h in omega (arith, no_digits a p r.0, no_digits b q r.1, length-append a b)
+not_chosen : (b : Bool) (n : ℕ) → cond b (Some n) None ≡ None → b ≡ false
+not_chosen true n h = cc h
+not_chosen false n h = refl
 
 not_both : (a b : Bool) → a && b ≡ false → (a ≡ false) ⊎ (b ≡ false)
 not_both true b e = inr e
 not_both false b e = inl refl
 
-pub decimal_yes : (minus : Bool) (w : List ℕ) (f : Option (List ℕ)) (e : Option Exponent) → decimal_good (any_digit w) (option_map any_digit f) (option_map any_exponent e) ≡ Some true
-    → AreGoodParts minus w f e × (Dec ≡ number_from_parts minus w f e)
-decimal_yes minus w None None h = cc h
-decimal_yes minus w (Some ds) None h = let b : any_digit w || any_digit ds ≡ true = cc h in (or_some w ds b, refl)
-decimal_yes minus w None (Some e) h = let b : any_digit w && any_exponent e ≡ true = cc h in let p = and_true (any_digit w) (any_exponent e) b in ((rw append-nil (some_digit w p.0), some_digit e.digits p.1), refl)
-decimal_yes minus w (Some ds) (Some e) h = let b : (any_digit w || any_digit ds) && any_exponent e ≡ true = cc h in let p = and_true (any_digit w || any_digit ds) (any_exponent e) b in ((or_some w ds p.0, some_digit e.digits p.1), refl)
+minus_length : (minus : Bool) (ds : List ℕ) → length (cond minus (45 ∷ []) [] ++ ds) ≡ minus_room minus + length ds
+minus_length true ds = omega arith
+minus_length false ds = omega arith
 
-pub decimal_not : (minus : Bool) (w : List ℕ) (f : Option (List ℕ)) (e : Option Exponent) → all_ascii_digits w ≡ true → IfSome f (λ ds. all_ascii_digits ds ≡ true) → IfSome e (λ x. all_ascii_digits x.digits ≡ true)
-    → decimal_good (any_digit w) (option_map any_digit f) (option_map any_exponent e) ≡ Some false → AreGoodParts minus w f e → ⊥
-decimal_not minus w None None p q r h g = cc h
-decimal_not minus w (Some ds) None p q r h g = let b : any_digit w || any_digit ds ≡ false = cc h in or_none w ds p q b g
-decimal_not minus w None (Some e) p q r h g =
-    let b : any_digit w && any_exponent e ≡ false = cc h in
-    elim (not_both (any_digit w) (any_exponent e) b) [
-      | inl x ↦ omega (arith, no_digits w p x, g.0, append-nil w, ap length (append-nil w))
-      | inr x ↦ omega (arith, no_digits e.digits r x, g.1)
-    ]
-decimal_not minus w (Some ds) (Some e) p q r h g =
-    let b : (any_digit w || any_digit ds) && any_exponent e ≡ false = cc h in
-    elim (not_both (any_digit w || any_digit ds) (any_exponent e) b) [
-      | inl x ↦ or_none w ds p q x g.0
-      | inr x ↦ omega (arith, no_digits e.digits r x, g.1)
-    ]
+-- how many characters a fraction and an exponent take
+pub decimal_length : (f : Option (List ℕ)) (e : Option Exponent) → length (fraction_text f ++ exponent_text e) ≡ fraction_room (option_map length f) + exponent_room (option_map exponent_len e)
+decimal_length None None = refl
+decimal_length (Some ds) None = omega (arith, length-append ds [])
+decimal_length None (Some e) = omega (arith, minus_length e.minus e.digits)
+decimal_length (Some ds) (Some e) = omega (arith, length-append ds (exponent_text (Some e)), minus_length e.minus e.digits)
 
--- one number stands at the front of a text, at most
+-- the parts of a good decimal
+pub decimal_yes : (minus : Bool) (w : List ℕ) (f : Option (List ℕ)) (e : Option Exponent) (n : ℕ) → decimal_len (length w) (option_map length f) (option_map exponent_len e) ≡ Some n
+    → AreGoodParts minus w f e × (Dec ≡ number_from_parts minus w f e) × (n + 1 ≡ fraction_room (option_map length f) + exponent_room (option_map exponent_len e))
+decimal_yes minus w None None n h = cc h
+decimal_yes minus w (Some ds) None n h =
+    let is = chosen _ _ n h in
+    (omega (arith, or_some (length w) (length ds) is.0, length-append w ds), refl, omega (arith, is.1))
+decimal_yes minus w None (Some e) n h =
+    let is = chosen _ _ n h in
+    let some = and_true _ _ is.0 in
+    ((omega (arith, ltb-true 0 (length w) some.0, length-append w []), ltb-true 0 (length e.digits) some.1), refl, omega (arith, is.1))
+decimal_yes minus w (Some ds) (Some e) n h =
+    let is = chosen _ _ n h in
+    let some = and_true _ _ is.0 in
+    ((omega (arith, or_some (length w) (length ds) some.0, length-append w ds), ltb-true 0 (length e.digits) some.1), refl, omega (arith, is.1))
+
+-- and of one that isn't
+pub decimal_not : (minus : Bool) (w : List ℕ) (f : Option (List ℕ)) (e : Option Exponent) → ((f ≡ None) × (e ≡ None) → ⊥) → decimal_len (length w) (option_map length f) (option_map exponent_len e) ≡ None → AreGoodParts minus w f e → ⊥
+decimal_not minus w None None some h g = some (refl, refl)
+decimal_not minus w (Some ds) None some h g = or_none (length w) (length ds) (not_chosen _ _ h) (omega (arith, g, length-append w ds))
+decimal_not minus w None (Some e) some h g = elim (not_both _ _ (not_chosen _ _ h)) [
+  | inl x ↦ omega (arith, ltb-false 0 (length w) x, g.0, length-append w [])
+  | inr x ↦ omega (arith, ltb-false 0 (length e.digits) x, g.1)
+]
+decimal_not minus w (Some ds) (Some e) some h g = elim (not_both _ _ (not_chosen _ _ h)) [
+  | inl x ↦ or_none (length w) (length ds) x (omega (arith, g.0, length-append w ds))
+  | inr x ↦ omega (arith, ltb-false 0 (length e.digits) x, g.1)
+]
+
+-- a text begins with one number lexeme, at most
 pub IsNumber-unique : (text : List ℕ) (n m : Number) (run ran rest left : List ℕ) → IsNumber text n run rest → IsNumber text m ran left → (n ≡ m) × (run ≡ ran) × (rest ≡ left)
 IsNumber-unique text n m run ran rest left h k =
     let all : text ≡ run_text h.parts ++ rest = h.split ∙ ap (λ (l : List ℕ). l ++ rest) h.run_is in
@@ -157,3 +130,8 @@ pub IsNumber-shorter : (text run rest : List ℕ) (n : Number) → IsNumber text
 IsNumber-shorter text run rest n h =
     let r = h.parts in
     omega (arith, good_length r.sign (is_minus r.sign) r.whole r.fraction r.exponent h.good, ap length h.split, ap length h.run_is, length-append run rest)
+
+-- an integer is no decimal
+pub integer_not_decimal : (minus : Bool) (ds : List ℕ) (n : Number) → n ≡ number_from_parts minus ds None None → n ≡ Dec → ⊥
+integer_not_decimal true ds n is e = cc (is, e)
+integer_not_decimal false ds n is e = cc (is, e)

@@ -1,6 +1,7 @@
 -- The run that a text begins with, taken as long as it goes: good or not.
-use Rattle.std.specs.Prelude.{ℕ, ◌==◌, ◌||◌, ◌&&◌, Bool, List, [], ◌∷◌, Option, Some, None, if◌then◌else◌}
+use Rattle.std.specs.Prelude.{ℕ, ◌+◌, ◌==◌, ◌||◌, ◌&&◌, nat_lt, Bool, List, [], ◌∷◌, length, Option, Some, None, if◌then◌else◌}
 use Rattle.std.specs.Char.{is_ascii_digit}
+use Rattle.nano_text.specs.declared.number.ExponentLen.{ExponentLen}
 use Rattle.nano_text.specs.Front.{first_is, front, behind}
 use Rattle.nano_text.specs.Number.{Run, Exponent, is_sign, is_point, is_letter_e}
 
@@ -51,9 +52,26 @@ run_at t = record {
 unfoldable pub behind_run : List ℕ → List ℕ
 behind_run t = behind_exponent (behind_fraction (behind_whole t))
 
--- whether the run is a decimal, and then whether it is a good one; from which of its parts have digits
-abbrev pub decimal_good : Bool → Option Bool → Option Bool → Option Bool
-decimal_good whole None None = None
-decimal_good whole (Some any) None = Some (whole || any)
-decimal_good whole None (Some digits) = Some (whole && digits)
-decimal_good whole (Some any) (Some digits) = Some ((whole || any) && digits)
+-- ---- the lengths of a decimal's parts
+
+abbrev pub exponent_len : Exponent → ExponentLen
+exponent_len e = record { minus = e.minus; digits = length e.digits }
+
+abbrev pub minus_room : Bool → ℕ
+minus_room minus = if minus then 1 else 0
+
+-- how many characters they take, the point and the letter too
+abbrev pub fraction_room : Option ℕ → ℕ
+fraction_room None = 0
+fraction_room (Some digits) = digits + 1
+
+abbrev pub exponent_room : Option ExponentLen → ℕ
+exponent_room None = 0
+exponent_room (Some e) = 1 + minus_room e.minus + e.digits
+
+-- how many characters stand behind the point of a good decimal, or behind the letter if it has no point
+abbrev pub decimal_len : ℕ → Option ℕ → Option ExponentLen → Option ℕ
+decimal_len whole None None = None
+decimal_len whole (Some digits) None = if nat_lt 0 whole || nat_lt 0 digits then Some digits else None
+decimal_len whole None (Some e) = if nat_lt 0 whole && nat_lt 0 e.digits then Some (minus_room e.minus + e.digits) else None
+decimal_len whole (Some digits) (Some e) = if (nat_lt 0 whole || nat_lt 0 digits) && nat_lt 0 e.digits then Some (digits + 1 + minus_room e.minus + e.digits) else None

@@ -1,13 +1,12 @@
-use Rattle.std.proofs.Common.{sym, ◌∙◌, refl, append-nil, ne_eqb}
+use Rattle.std.proofs.Common.{sym, refl, ne_eqb}
+use Rattle.nano_text.specs.Place.{text_at}
 use Rattle.nano_text.specs.Scan.{is_minus_char}
-use Rattle.nano_text.proofs.LiveText.{first_is-live}
+use Rattle.nano_text.proofs.LiveText.{live_stop}
 use Rattle.nano_text.proofs.Stops.{one_stop}
 use Rattle.nano_text.proofs.number.take_minus.Goals as goal
 
-pub returns-else-p-eq45-clause-rest : goal.returns-else-p-eq45-clause-rest
-returns-else-p-eq45-clause-rest c =
-    sym (one_stop is_minus_char _ (first_is-live is_minus_char c.args.p.now.cur c.args.i.now refl ∙ ne_eqb _ _ c.if-p-eq45.false))
+pub returns-then-p-ne45-clause-minus : goal.returns-then-p-ne45-clause-minus
+returns-then-p-ne45-clause-minus c = sym (live_stop is_minus_char _ c.args.i.now refl (ne_eqb _ _ c.if-p-ne45.true))
 
-pub returns-else-p-eq45-clause-taken : goal.returns-else-p-eq45-clause-taken
-returns-else-p-eq45-clause-taken c =
-    rw (first_is-live is_minus_char c.args.p.now.cur c.args.i.now refl ∙ ne_eqb _ _ c.if-p-eq45.false) (sym (append-nil _))
+pub returns-then-p-ne45-clause-rest : goal.returns-then-p-ne45-clause-rest
+returns-then-p-ne45-clause-rest c = sym (one_stop is_minus_char (text_at c.args.p.now c.args.i.now) (live_stop is_minus_char _ c.args.i.now refl (ne_eqb _ _ c.if-p-ne45.true)))

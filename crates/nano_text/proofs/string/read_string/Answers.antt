@@ -3,7 +3,7 @@ use Rattle.nano_text.specs.Place.{text_at}
 use Rattle.nano_text.specs.String.{is_plain}
 use Rattle.nano_text.proofs.LiveText.{live_end, live-first}
 use Rattle.nano_text.proofs.Escapes.{piece_some}
-use Rattle.nano_text.proofs.Plain.{plain_behind_shorter}
+use Rattle.nano_text.proofs.TakenFront.{behind_shorter, plain_cut}
 use Rattle.nano_text.proofs.Strings.{reads_piece, reads_plain, no_string, written_le}
 use Rattle.nano_text.proofs.string.read_string.Goals as goal
 
@@ -46,7 +46,7 @@ returns-in_default-clause-malformed c error characters rest string =
 pub pieces-smaller-then-p-ne92 : goal.pieces-smaller-then-p-ne92
 pieces-smaller-then-p-ne92 c =
     let plain : is_plain c.pieces.p.cur ≡ true = rw (ne_eqb _ 34 c.pieces-test.true, ne_eqb _ 92 c.if-p-ne92.true, ne_eqb _ 0 c.if-p-eq0.false) refl in
-    omega (arith, ap length c.in_ok-take_plain.ensures.rest, plain_behind_shorter c.pieces.p.cur c.pieces.i plain)
+    omega (arith, ap length c.in_ok-take_plain.ensures.rest, behind_shorter is_plain refl plain_cut c.pieces.p.cur c.pieces.i plain)
 
 pub pieces-preserved-then-p-ne92 : goal.pieces-preserved-then-p-ne92
 pieces-preserved-then-p-ne92 c = record {
