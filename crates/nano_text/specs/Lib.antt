@@ -1,4 +1,5 @@
 pub mod Front
+pub mod Laws
 pub mod Number
 pub mod Place
 pub mod Scan

@@ -4,6 +4,7 @@
 //! `Chars` holds those that follow: together they are the text that is still to be read.
 #![tactic(auto)]
 
+pub mod laws;
 mod number;
 mod place;
 mod string;
@@ -11,3 +12,6 @@ mod string;
 pub use number::{Fault, Number, read_number};
 pub use place::Place;
 pub use string::read_string;
+
+#[cfg(test)]
+mod tests;

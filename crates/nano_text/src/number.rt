@@ -34,7 +34,7 @@ impl From<AllocError> for Fault {
     ghost from_gives = { λ _ e. e ≡ Memory };
 
     fn from(_e: AllocError) -> Fault {
-        Fault::Memory
+        Self::Memory
     }
 }
 
