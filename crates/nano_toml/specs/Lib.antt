@@ -1,0 +1,5 @@
+pub mod Data
+pub mod View
+pub mod SameData
+pub mod Kinds
+pub mod ErrorText
