@@ -1,0 +1,11 @@
+pub mod Characters
+pub mod Cut
+pub mod LiveText
+pub mod Number
+pub mod Quoted
+pub mod Scan
+pub mod Skipped
+pub mod Span
+pub mod Taken
+pub mod Token
+pub mod Word
