@@ -1,1 +1,4 @@
+pub mod FrontLemmas
+pub mod LiveText
+pub mod StatementLemmas
 pub mod TableViews

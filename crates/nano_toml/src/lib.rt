@@ -4,7 +4,10 @@
 pub mod error;
 pub mod laws;
 mod same;
+mod state;
+mod token;
 pub mod value;
 
 pub use error::TomlErr;
+pub use token::TomlTok;
 pub use value::Toml;
