@@ -1,1 +1,13 @@
 pub mod LiveText
+pub mod Spans
+pub mod Values
+pub mod Gaps
+pub mod Quotes
+pub mod Signs
+pub mod GapCut
+pub mod WordCut
+pub mod StringCut
+pub mod NumberCut
+pub mod LexemeCut
+pub mod CutLaws
+pub mod NextSteps
