@@ -1,9 +1,9 @@
 -- The tokens of a value or of a statement have it at their front, and what stands at the front is one.
-use Rattle.std.proofs.Common.{◌≡◌, ℕ, pos, List, [], ◌∷◌, ◌++◌, Option, Some, None, sym, refl, ap, ◌∙◌, subst, inl, inr, ◌⊎◌, append_assoc, append-nil}
+use Rattle.std.proofs.Common.{◌≡◌, pos, List, [], ◌∷◌, ◌++◌, Some, sym, refl, ap, ◌∙◌, subst, inl, inr, append_assoc, append-nil}
 use Rattle.nano_toml.specs.Data.{Data, Values, no_values, more_values}
 use Rattle.nano_toml.specs.Data as value
-use Rattle.nano_toml.specs.Fronts.{Front, closed, is_open, nothing, push_value, close_all, array_front, value_front, pair_of, pair_front, scope_front, element_front, header_front, statement_front}
-use Rattle.nano_toml.specs.Statements.{scalar_of, Commas, IsClosed, AreClosed, IsOpen, AreOpen, Statement, scope, element, pair, IsName, IsStatement, AreStatements}
+use Rattle.nano_toml.specs.Fronts.{Front, closed, is_open, nothing, push_value, close_all, array_front, value_front}
+use Rattle.nano_toml.specs.Statements.{scalar_of, Commas, IsClosed, AreClosed, IsOpen, AreOpen}
 use Rattle.nano_toml.specs.Token.{Token, ident, string, unsigned, signed, decimal, boolean, nan, infinity, date, equals, open_bracket, close_bracket, comma}
 
 -- ---- lists of values

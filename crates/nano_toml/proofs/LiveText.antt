@@ -1,11 +1,12 @@
 -- What taking a character does to the live text.
-use Rattle.std.proofs.Common.{◌≡◌, ◌≢◌, ℕ, List, [], ◌∷◌, ◌++◌, Bool, true, false, cond, length, chars, encode_utf8, IsUtf8, refl, ap, sym, ◌∙◌, ne_eqb, eqb-true, arith, nat_eq}
+use Rattle.std.proofs.Common.{◌≡◌, ◌≢◌, ℕ, List, [], ◌∷◌, ◌++◌, Bool, true, false, cond, length, chars, encode_utf8, IsUtf8, refl, ap, sym, ◌∙◌, ne_eqb, eqb-true, nat_eq, not}
 use Rattle.std.proofs.lemmas.Str.{chars_past_char}
 use Rattle.std.proofs.StrCases.{chars_of_empty}
 use Rattle.std.specs.Str.Iter.{chars_rest}
 use Rattle.std.specs.declared.str.Chars.{Chars}
 use Rattle.nano_toml.specs.LiveText.{held, live_from, before_nul}
-use Rattle.nano_toml.specs.Span.{begins}
+use Rattle.nano_toml.specs.Span.{begins, behind}
+use Rattle.nano_toml.specs.Characters.{is_line_feed}
 
 -- one character comes off the front
 pub held_next : (s t : Chars) (c : ℕ) → IsUtf8 (chars_rest s) → chars_rest s ≡ encode_utf8 c ++ chars_rest t → held s ≡ c ∷ held t
@@ -44,3 +45,24 @@ begins_live p cur s none = elim (nat_eq cur 0) as (λ b. nat_eq cur 0 ≡ b → 
   | true ↦ λ e. sym (ap p (eqb-true cur 0 e) ∙ none)
   | false ↦ λ e. refl
 ] refl
+
+-- two cursors at one place
+pub live_same : (cur : ℕ) (s t : Chars) → chars_rest s ≡ chars_rest t → live_from cur s ≡ live_from cur t
+unfolding live_from
+live_same cur s t e = ap (λ (bytes : List ℕ). before_nul (cur ∷ chars bytes)) e
+
+pub live_at_nul : (cur : ℕ) (s : Chars) → cur ≡ 0 → live_from cur s ≡ []
+unfolding live_from
+live_at_nul cur s e = rw e refl
+
+pub live_more : (cur : ℕ) (s : Chars) → cur ≢ 0 → live_from cur s ≡ cur ∷ before_nul (held s)
+unfolding live_from
+live_more cur s h = rw (ne_eqb cur 0 h) refl
+
+-- a line stops at the end of the text, and at its line feed
+pub line_at_end : (cur : ℕ) (s : Chars) → cur ≡ 0 → behind (λ c. not (is_line_feed c)) (live_from cur s) ≡ live_from cur s
+line_at_end cur s e = rw (live_at_nul cur s e) refl
+
+pub line_at_feed : (cur : ℕ) (s : Chars) → cur ≡ 10 → behind (λ c. not (is_line_feed c)) (live_from cur s) ≡ live_from cur s
+unfolding live_from
+line_at_feed cur s e = rw e refl

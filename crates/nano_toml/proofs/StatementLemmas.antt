@@ -1,9 +1,10 @@
 -- Tokens are the statements of one list at most.
-use Rattle.std.proofs.Common.{◌≡◌, ℕ, List, [], ◌∷◌, ◌++◌, sym, refl, ap, ◌∙◌, subst, inl, inr, ◌⊎◌, append_assoc}
-use Rattle.nano_toml.specs.Data.{Data}
+use Rattle.std.proofs.Common.{◌≡◌, ℕ, Some, List, [], ◌∷◌, ◌++◌, sym, refl, ap, ◌∙◌, subst, inl, inr, ◌⊎◌}
+use Rattle.nano_toml.specs.Built.{IsPlain}
+use Rattle.nano_toml.specs.Data.{Data, Tables, tables}
 use Rattle.nano_toml.specs.Fronts.{Front, closed, is_open, nothing, value_front, pair_of, pair_front, scope_front, element_front, header_front, statement_front}
-use Rattle.nano_toml.specs.Statements.{IsClosed, IsOpen, Statement, scope, element, pair, IsName, IsStatement, AreStatements}
-use Rattle.nano_toml.specs.Token.{Token, ident, string, equals, open_bracket, close_bracket}
+use Rattle.nano_toml.specs.Statements.{scalar_of, IsClosed, IsOpen, Statement, scope, element, pair, IsName, IsStatement, AreStatements}
+use Rattle.nano_toml.specs.Token.{Token, ident, string, unsigned, signed, decimal, boolean, nan, infinity, date, equals, open_bracket, close_bracket}
 use Rattle.nano_toml.proofs.FrontLemmas.{value_front-closed, value_front-open, value_front_found, IsFront}
 
 -- ---- tokens of statements have them at their front
@@ -140,3 +141,34 @@ one_list (s ∷ ss) other ts (inl (here, more, k, are, split)) b =
     let g = AreStatements-closed ts more s other (ap statement_front split ∙ statement_front-closed s here more k) b in
     ap (λ us. s ∷ us) (one_list ss g.0 more are g.2) ∙ sym g.1
 one_list (s ∷ ss) other ts (inr (k, none)) b = last_list s ss other ts (statement_front-open s ts k) none b
+
+-- ---- the value of a pair is no Array
+
+scalar_plain : (t : Token) (ts : Tables) → scalar_of t ≡ Some (tables ts) → ⊥
+scalar_plain (string s) ts e = cc
+scalar_plain (unsigned n) ts e = cc
+scalar_plain (signed n) ts e = cc
+scalar_plain (decimal s) ts e = cc
+scalar_plain (boolean b) ts e = cc
+scalar_plain (nan b) ts e = cc
+scalar_plain (infinity b) ts e = cc
+scalar_plain (date s) ts e = cc
+scalar_plain _ ts e = cc
+
+closed_plain : (us : List Token) (s : Statement) → IsStatement IsClosed us s → IsPlain s
+closed_plain us (scope name) k = tt
+closed_plain us (element key) k = tt
+closed_plain us (pair name (tables ts)) (t, more, n, (u, e, one), split) = scalar_plain u ts e
+closed_plain us (pair name _) k = tt
+
+open_plain : (us : List Token) (s : Statement) → IsStatement IsOpen us s → IsPlain s
+open_plain us (scope name) k = tt
+open_plain us (element key) k = tt
+open_plain us (pair name (tables ts)) (t, more, n, k, split) = k
+open_plain us (pair name _) k = tt
+
+pub front_plain : (ts rest : List Token) (s : Statement) → statement_front ts ≡ closed s rest → IsPlain s
+front_plain ts rest s e = let f = found_closed (statement_front ts) ts s rest e (statement_front_found ts) in closed_plain f.0 s f.2
+
+pub front_open_plain : (ts : List Token) (s : Statement) → statement_front ts ≡ is_open s → IsPlain s
+front_open_plain ts s e = open_plain ts s (found_open (statement_front ts) ts s e (statement_front_found ts))

@@ -65,14 +65,18 @@ abbrev pub pair_front : List ℕ → List Token → Front Statement
 pair_front name (equals ∷ ts) = pair_of name (value_front ts)
 pair_front name ts = nothing
 
--- behind the name of a scope: its bracket
+-- a closing bracket, and behind it what next finds
+abbrev pub closing : {A : Type 0} → (List Token → Front A) → List Token → Front A
+closing next (close_bracket ∷ ts) = next ts
+closing next ts = nothing
+
+-- behind the name of a scope
 abbrev pub scope_front : List ℕ → List Token → Front Statement
-scope_front name (close_bracket ∷ ts) = closed (scope name) ts
-scope_front name ts = nothing
+scope_front name ts = closing (closed (scope name)) ts
 
 -- behind the two brackets of an element
 abbrev pub element_front : List Token → Front Statement
-element_front (ident name ∷ close_bracket ∷ close_bracket ∷ ts) = closed (element name) ts
+element_front (ident name ∷ ts) = closing (closing (closed (element name))) ts
 element_front ts = nothing
 
 -- behind a bracket
@@ -100,6 +104,10 @@ Reads front text a rest =
     ((ts : List Token) × Begins ts text rest × ((more : List Token) → front (ts ++ more) ≡ closed a more))
     ⊎ ((ts : List Token) × Tokens text ts × (front ts ≡ is_open a) × (rest ≡ []))
 
--- however the text is cut into tokens, they don't begin with it
+-- whatever the tokens of the text are, they don't begin with it
 abbrev pub ReadsNothing : {A : Type 0} → (List Token → Front A) → List ℕ → Type 0
 ReadsNothing front text = (ts : List Token) → Tokens text ts → front ts ≡ nothing
+
+-- no closing bracket is cut from the text
+abbrev pub ClosesNothing : List ℕ → Type 0
+ClosesNothing text = (rest : List ℕ) → Cut text close_bracket rest → ⊥

@@ -1,6 +1,6 @@
 -- The content of a value, where it is of the kind.
 use Rattle.std.specs.Prelude.{ℕ, zero, suc, ℤ, List, Bool, Option, Some, None}
-use Rattle.nano_toml.specs.Data.{Data, text, boolean, number, decimal, nan, infinity, date, tables, values, Values, Tables, no_tables, more_tables, Table}
+use Rattle.nano_toml.specs.Data.{Data, text, boolean, number, date, tables, values, Values, Tables, no_tables, more_tables, Table}
 
 abbrev pub as_text : Data → Option (List ℕ)
 as_text (text s) = Some s

@@ -1,3 +1,4 @@
+pub mod Built
 pub mod Characters
 pub mod Cut
 pub mod Data
@@ -7,6 +8,7 @@ pub mod Kinds
 pub mod LiveText
 pub mod Number
 pub mod Quoted
+pub mod Reading
 pub mod SameData
 pub mod Scan
 pub mod Skipped

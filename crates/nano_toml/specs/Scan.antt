@@ -1,10 +1,10 @@
 -- The tokenizer as a function of the text, character by character. Contracts of private functions alone name it; lemmas tie it to the cut.
-use Rattle.std.specs.Prelude.{◌≡◌, ℕ, ◌+◌, ◌-◌, ◌*◌, ◌^◌, ◌==◌, ◌&&◌, ◌||◌, nat_lt, nat_le, Bool, true, false, cond, List, [], ◌∷◌, ◌++◌, length, encode_utf8, Option, Some, None, option_map, if◌then◌else◌}
+use Rattle.std.specs.Prelude.{ℕ, ◌+◌, ◌-◌, ◌*◌, ◌^◌, ◌==◌, ◌||◌, nat_lt, nat_le, pos, neg_ℤ, Bool, true, false, List, [], ◌∷◌, ◌++◌, length, encode_utf8, Option, Some, None, option_map, if◌then◌else◌}
 use Rattle.nano_toml.specs.Characters.{is_space, is_line_feed, is_quote, is_digit, is_sign, starts_word, is_in_word, starts_number, is_in_digits, is_in_date}
 use Rattle.nano_toml.specs.Span.{front, behind, begins}
-use Rattle.nano_toml.specs.Token.{Token, string, decimal, nan, infinity, date}
+use Rattle.nano_toml.specs.Token.{Token, string, unsigned, signed, decimal, nan, infinity, date}
 use Rattle.nano_toml.specs.Word.{word_token}
-use Rattle.nano_toml.specs.Number.{digits, value, kept_sign, integer_token}
+use Rattle.nano_toml.specs.Number.{digits, value, kept_sign}
 use Rattle.nano_toml.specs.Cut.{mark_token}
 use Rattle.nano_toml.specs.Taken.{Next, a_token, the_end}
 
@@ -68,9 +68,19 @@ abbrev pub any_digit : List ℕ → Bool
 any_digit [] = false
 any_digit (c ∷ cs) = is_digit c || any_digit cs
 
-abbrev pub is_in_range : Bool → ℕ → Bool
-is_in_range true n = nat_le n (2 ^ 63)
-is_in_range false n = nat_lt n (2 ^ 64)
+-- the number, if 64 bits hold it
+abbrev pub fitting : ℕ → Option ℕ
+fitting n = if nat_lt n (2 ^ 64) then Some n else None
+
+-- the value with one more digit
+abbrev pub more_value : Option ℕ → ℕ → Option ℕ
+more_value None digit = None
+more_value (Some n) digit = fitting (n * 10 + (digit - 48))
+
+-- the value with more digits
+abbrev pub value_at : Option ℕ → List ℕ → Option ℕ
+value_at size [] = size
+value_at size (c ∷ cs) = value_at (more_value size c) cs
 
 -- behind the point of a decimal, whose digits before it are these
 abbrev pub decimal_at : Bool → List ℕ → List ℕ → Option Taken
@@ -83,8 +93,15 @@ decimal_at minus whole text =
 abbrev pub date_at : Bool → List ℕ → List ℕ → Option Taken
 date_at minus first text = taken (date ((kept_sign minus ++ digits first) ++ (45 ∷ front is_in_date text))) (behind is_in_date text)
 
+-- an integer, from whether it has a digit and from its value
+abbrev pub integer_from : Bool → Bool → Option ℕ → Option Next
+integer_from minus false size = None
+integer_from minus true None = None
+integer_from false true (Some size) = Some (a_token (unsigned size))
+integer_from true true (Some size) = if nat_le size (2 ^ 63) then Some (a_token (signed (neg_ℤ (pos size)))) else None
+
 abbrev pub integer_at : Bool → List ℕ → List ℕ → Option Taken
-integer_at minus whole text = if any_digit whole && is_in_range minus (value whole) then taken (integer_token minus (value whole)) text else None
+integer_at minus whole text = option_map (λ next. record { next = next; rest = text }) (integer_from minus (any_digit whole) (fitting (value whole)))
 
 -- behind these digits
 abbrev pub behind_digits : Bool → List ℕ → List ℕ → Option Taken

@@ -85,3 +85,7 @@ SpellsTable text table = (ss : List Statement) × Spells text ss × IsLawful ss 
 -- the text spells no lawful statements
 abbrev pub SpellsNoTable : List ℕ → Type 0
 SpellsNoTable text = (ss : List Statement) → Spells text ss → IsLawful ss → ⊥
+
+-- two lists that the text spells are one
+abbrev pub SpellsOneList : List ℕ → Type 0
+SpellsOneList text = (one other : List Statement) → Spells text one → Spells text other → one ≡ other

@@ -2,12 +2,23 @@
 #![tactic(auto)]
 
 pub mod error;
+mod fault;
 pub mod laws;
+mod numbers;
+mod parser;
 mod same;
 mod state;
+mod statements;
+mod strings;
+mod table;
 mod token;
 pub mod value;
+mod words;
 
 pub use error::TomlErr;
+pub use parser::TomlParser;
 pub use token::TomlTok;
 pub use value::Toml;
+
+#[cfg(test)]
+mod tests;

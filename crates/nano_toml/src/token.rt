@@ -32,7 +32,7 @@ pub enum TomlTok {
 }
 
 /// Why no token was cut: want of memory, or what a text that has none there was taken for.
-#[derive(Clone, Copy, Debug, PartialEq)]
+#[derive(Clone, Copy, Debug)]
 pub(crate) enum TokenFault {
     Memory,
     Number,

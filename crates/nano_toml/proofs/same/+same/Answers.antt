@@ -1,12 +1,11 @@
-use Rattle.std.proofs.Common.{rules, ◌≡◌, ℕ, ◌<◌, ◌≤◌, length, Bool, true, false, get_or, ap, sym, ◌∙◌, arith, Some, None, Option, option_map, string_bytes, true≢false, is_some, IsTrue, refl, subst}
+use Rattle.std.proofs.Common.{◌≡◌, ap, sym, ◌∙◌, arith, Some, None, option_map, string_bytes, true≢false, is_some, refl}
 use Rattle.std.proofs.lemmas.Map.Iter.{hash_map_turn}
 use Rattle.std.specs.Map.Iter.{deref_pair}
 use Rattle.std.specs.Option.{option_copied}
 use Rattle.std.specs.String.{string_eq_equiv}
-use Rattle.nano_toml.specs.View.{view, values_view, tables_view, table_view}
-use Rattle.nano_toml.specs.declared.value.Toml.{Toml}
-use Rattle.nano_toml.proofs.TableViews.{at-table_view, same_tables_from_entries, values_view-from_places, length-from_values_view, place-from_values_view, tables_view-from_places, length-from_tables_view, place-from_tables_view, view-Array, view-SimpleArray, Map, value_here, table_here, is_some-at, has_key}
-use Rattle.nano_toml.specs.Data.{at, Data, tables, Tables}
+use Rattle.nano_toml.specs.View.{view, tables_view, table_view}
+use Rattle.nano_toml.proofs.TableViews.{at-table_view, same_tables_from_entries, values_view-from_places, length-from_values_view, tables_view-from_places, length-from_tables_view, view-Array, Map, value_here, table_here, is_some-at, has_key}
+use Rattle.nano_toml.specs.Data.{at, tables, Tables}
 use Rattle.nano_toml.proofs.same.+same.Goals as goal
 
 pub same_table-loop-key-preserved : goal.same_table-loop-key-preserved

@@ -1,4 +1,4 @@
-use Rattle.std.proofs.Common.{◌≡◌, ℕ, ◌<◌, get_or, length}
+use Rattle.std.proofs.Common.{◌≡◌, ℕ, ◌<◌, get_or}
 use Rattle.nano_toml.specs.View.{table_view, view}
 use Rattle.nano_toml.specs.declared.value.Toml.{Toml}
 use Rattle.nano_toml.proofs.TableViews.{Agree, Present, Map}

@@ -1,4 +1,4 @@
-use Rattle.std.proofs.Common.{◌≡◌, ℕ, ◌<◌, IsSome, Some, ap, ◌∙◌, sym, subst, length, arith}
+use Rattle.std.proofs.Common.{◌≡◌, IsSome, Some, ap, ◌∙◌, sym, subst, arith}
 use Rattle.nano_toml.specs.Data.{Data, tables}
 use Rattle.nano_toml.specs.Kinds.{index_of}
 use Rattle.nano_toml.specs.View.{view, table_view, tables_view}
