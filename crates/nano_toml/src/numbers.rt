@@ -140,7 +140,7 @@ impl<'a> Cursor<'a> {
         ensures text { OnOk result (string_bytes text.new ≡ string_bytes text.old ++ digits (front is_in_digits (live self.old))) }
     {
         let mut any = false;
-        'digits: while is_in_digits(self.cur) {
+        'kept: while is_in_digits(self.cur) {
             if is_digit(self.cur) {
                 any = true;
                 text.push(self.cur)?;

@@ -120,7 +120,8 @@ impl<'a> Cursor<'a> {
             self.short_string(&mut text)?;
             return Ok(text);
         }
-        if !self.take('"') {
+        let empty = !self.take('"');
+        if empty {
             return Ok(text);
         }
         self.triple_string(&mut text)?;
