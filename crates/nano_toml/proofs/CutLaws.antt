@@ -1,0 +1,92 @@
+-- The cut and the scan are one; so a text is cut in one way.
+use Rattle.std.proofs.Common.{◌≡◌, ℕ, ◌<◌, List, [], ◌∷◌, ◌++◌, length, length-append, false, Option, Some, None, refl, ap, sym, ◌∙◌, subst, arith}
+use Rattle.nano_toml.specs.Token.{Token}
+use Rattle.nano_toml.specs.Taken.{Next, a_token, the_end, Took}
+use Rattle.nano_toml.specs.Skipped.{gaps_text, last_comment_text, IsLastComment}
+use Rattle.nano_toml.specs.Word.{IsWord}
+use Rattle.nano_toml.specs.Quoted.{pieces_text, IsString, empty, short, triple}
+use Rattle.nano_toml.specs.Number.{sign_text, is_minus, body_text}
+use Rattle.nano_toml.specs.Cut.{Lexeme, a_mark, a_word, a_string, a_number, Cut, CutEnd, CutsNothing, IsCutInOneWay}
+use Rattle.nano_toml.specs.Scan.{Taken, taken, behind_gaps, lexeme_at, next_behind_gaps, next_at}
+use Rattle.nano_toml.proofs.Gaps.{gaps_stop}
+use Rattle.nano_toml.proofs.GapCut.{gaps_scanned, last_comment_scanned, Skips, to_rest, to_end, skips}
+use Rattle.nano_toml.proofs.LexemeCut.{lexeme_scanned, scanned_lexeme, lexeme_no_gap}
+use Rattle.nano_toml.proofs.NumberCut.{same_taken, body_some}
+
+-- ---- what is cut is scanned
+
+at_lexeme : (from : List ℕ) (got : Taken) → lexeme_at from ≡ Some got → (behind_gaps false from ≡ from) × (next_behind_gaps from ≡ Some got)
+at_lexeme [] got h = cc h
+at_lexeme (c ∷ cs) got h = let n = lexeme_no_gap c cs got h in (gaps_stop (c ∷ cs) n.0 n.1, h)
+
+pub cut_scanned : (text rest : List ℕ) (token : Token) → Cut text token rest → next_at text ≡ taken token rest
+cut_scanned text rest token h =
+    let l = at_lexeme h.from _ (lexeme_scanned h.from rest token h.lexeme) in
+    ap (λ (t : List ℕ). next_at t) h.split ∙ (ap next_behind_gaps (gaps_scanned h.gaps h.from h.are_gaps ∙ l.0) ∙ l.1)
+
+last_scanned : (last : Option (List ℕ)) → IsLastComment last → behind_gaps false (last_comment_text last) ≡ []
+last_scanned None h = refl
+last_scanned (Some body) h = last_comment_scanned body h
+
+pub end_scanned : (text : List ℕ) → CutEnd text → next_at text ≡ Some (record { next = the_end; rest = [] })
+end_scanned text h = ap next_behind_gaps (ap (behind_gaps false) h.split ∙ (gaps_scanned h.gaps (last_comment_text h.last) h.are_gaps ∙ last_scanned h.last h.is_last))
+
+-- ---- what is scanned is cut
+
+took_end : (text : List ℕ) (got : Taken) → CutEnd text → Some (record { next = the_end; rest = [] }) ≡ Some got → Took text got.next got.rest
+took_end text got e h = let same : record { next = the_end; rest = [] } ≡ got = same_taken h in subst (λ (x : Taken). Took text x.next x.rest) same (e, refl)
+
+took_skipped : (text rest : List ℕ) (got : Taken) → Skips text rest → next_behind_gaps rest ≡ Some got → Took text got.next got.rest
+took_skipped text [] got (to_rest gaps are split) h = took_end text got (record { gaps = gaps; last = None; are_gaps = are; is_last = tt; split = split }) h
+took_skipped text (c ∷ cs) got (to_rest gaps are split) h =
+    let l = scanned_lexeme c cs got h in
+    subst (λ (n : Next). Took text n got.rest) (sym l.1) (record { gaps = gaps; from = c ∷ cs; are_gaps = are; lexeme = l.2; split = split })
+took_skipped text rest got (to_end gaps body are none split nothing) h =
+    took_end text got (record { gaps = gaps; last = Some body; are_gaps = are; is_last = none; split = split }) (ap next_behind_gaps (sym nothing) ∙ h)
+
+pub scanned_cut : (text : List ℕ) (got : Taken) → next_at text ≡ Some got → Took text got.next got.rest
+scanned_cut text got h = took_skipped text (behind_gaps false text) got (skips text) h
+
+pub scanned_nothing : (text : List ℕ) → next_at text ≡ None → CutsNothing text
+scanned_nothing text h = (
+  λ token rest c. let clash : None ≡ taken token rest = sym h ∙ cut_scanned text rest token c in cc clash,
+  λ e. let clash : None ≡ Some (record { next = the_end; rest = [] }) = sym h ∙ end_scanned text e in cc clash,
+)
+
+-- ---- a text is cut in one way
+
+pub cut_one_way : (text : List ℕ) (one two : Token) (rest left : List ℕ) → Cut text one rest → Cut text two left → (one ≡ two) × (rest ≡ left)
+cut_one_way text one two rest left h k =
+    let same : record { next = a_token one; rest = rest } ≡ record { next = a_token two; rest = left } = same_taken (sym (cut_scanned text rest one h) ∙ cut_scanned text left two k) in
+    let next : a_token one ≡ a_token two = ap (λ (x : Taken). x.next) same in
+    (cc next, ap (λ (x : Taken). x.rest) same)
+
+pub cut_not_end : (text : List ℕ) (token : Token) (rest : List ℕ) → Cut text token rest → CutEnd text → ⊥
+cut_not_end text token rest h k =
+    let same : record { next = a_token token; rest = rest } ≡ record { next = the_end; rest = [] } = same_taken (sym (cut_scanned text rest token h) ∙ end_scanned text k) in
+    let next : a_token token ≡ the_end = ap (λ (x : Taken). x.next) same in
+    cc next
+
+pub cut_in_one_way : (text : List ℕ) → IsCutInOneWay text
+cut_in_one_way text = (cut_one_way text, cut_not_end text)
+
+-- ---- a token has a character
+
+string_shorter : (text chars rest : List ℕ) → IsString text chars rest → length rest < length text
+string_shorter text chars rest (empty split ends none) = omega (arith, ap length split)
+string_shorter text chars rest (short pieces some good split are) = omega (arith, ap length split, length-append (pieces_text pieces) (34 ∷ rest))
+string_shorter text chars rest (triple pieces good split ends are) = omega (arith, ap length split, length-append (pieces_text pieces) (34 ∷ (34 ∷ (34 ∷ rest))))
+
+word_some : (word : List ℕ) → IsWord word → 0 < length word
+word_some [] h = absurd h
+word_some (c ∷ cs) h = omega arith
+
+lexeme_shorter : (text rest : List ℕ) (token : Token) → Lexeme text token rest → length rest < length text
+lexeme_shorter text rest token (a_mark c m split) = omega (arith, ap length split)
+lexeme_shorter text rest token (a_word word w e split is) = omega (arith, ap length split, length-append word rest, word_some word w)
+lexeme_shorter text rest token (a_string chars s is) = string_shorter text chars rest s
+lexeme_shorter text rest token (a_number n) =
+    omega (arith, ap length n.split, length-append (sign_text n.sign) (body_text n.body ++ rest), length-append (body_text n.body) rest, body_some (is_minus n.sign) n.body n.good)
+
+pub cut_shorter : (text rest : List ℕ) (token : Token) → Cut text token rest → length rest < length text
+cut_shorter text rest token h = omega (arith, ap length h.split, length-append (gaps_text h.gaps) h.from, lexeme_shorter h.from rest token h.lexeme)

@@ -1,0 +1,50 @@
+-- The steps of the tokenizer, from the scan to what is cut.
+use Rattle.std.proofs.Common.{◌≡◌, ◌≢◌, ℕ, List, [], ◌∷◌, true, false, Option, Some, None, option_map, Result, Ok, Err, IfOk, IfErr, refl, ap, sym, ◌∙◌}
+use Rattle.nano_toml.specs.declared.token.TomlTok.{TomlTok}
+use Rattle.nano_toml.specs.declared.token.TokenFault.{TokenFault}
+use Rattle.nano_toml.specs.declared.token.TokenFault.TheVariants.{Memory}
+use Rattle.nano_toml.specs.Characters.{starts_word, starts_number, is_quote, is_in_word}
+use Rattle.nano_toml.specs.Span.{begins, front, behind}
+use Rattle.nano_toml.specs.Token.{Token}
+use Rattle.nano_toml.specs.Taken.{Next, a_token, token_of, Took}
+use Rattle.nano_toml.specs.Word.{word_token}
+use Rattle.nano_toml.specs.Cut.{mark_token, CutsNothing}
+use Rattle.nano_toml.specs.Scan.{Taken, behind_one_quote, number_at, next_behind_gaps, next_at}
+use Rattle.nano_toml.proofs.WordCut.{at_word}
+use Rattle.nano_toml.proofs.LexemeCut.{at_number, at_quote, at_other, string_taken, mark_taken}
+use Rattle.nano_toml.proofs.CutLaws.{scanned_cut, scanned_nothing}
+
+-- ---- what stands behind the gaps
+
+pub word_next : (text word rest : List ℕ) (next : Next) → begins starts_word text ≡ true → word ≡ front is_in_word text → rest ≡ behind is_in_word text → next ≡ a_token (word_token word)
+    → next_behind_gaps text ≡ Some (record { next = next; rest = rest })
+word_next [] word rest next h w r n = cc h
+word_next (c ∷ cs) word rest next h w r n = at_word c cs h ∙ rw (n, w, r) refl
+
+pub number_next : (text : List ℕ) → begins starts_number text ≡ true → next_behind_gaps text ≡ number_at text
+number_next [] h = cc h
+number_next (c ∷ cs) h = at_number c cs h
+
+pub string_next : (text now : List ℕ) (c : ℕ) → text ≡ c ∷ now → c ≡ 34 → next_behind_gaps text ≡ string_taken (behind_one_quote now)
+string_next text now c e q = ap next_behind_gaps e ∙ at_quote c now q
+
+pub mark_next : (text rest : List ℕ) (c : ℕ) → text ≡ c ∷ rest → starts_word c ≡ false → starts_number c ≡ false → is_quote c ≡ false → next_behind_gaps text ≡ mark_taken (mark_token c) rest
+mark_next text rest c e w n q = ap next_behind_gaps e ∙ at_other c rest w n q
+
+pub mark_none : (token : Option Token) (rest : List ℕ) → None ≡ option_map (λ t. a_token t) token → mark_taken token rest ≡ None
+mark_none None rest h = refl
+mark_none (Some t) rest h = cc h
+
+pub mark_some : (token : Option Token) (rest : List ℕ) (next : Next) → Some next ≡ option_map (λ t. a_token t) token → mark_taken token rest ≡ Some (record { next = next; rest = rest })
+mark_some None rest next h = cc h
+mark_some (Some t) rest next h = let same : next ≡ a_token t = cc h in ap (λ (n : Next). Some (record { next = n; rest = rest })) (sym same)
+
+-- ---- a result, and what it says of the cut
+
+pub found_cut : (r : Result TomlTok TokenFault) (text rest : List ℕ) (scan : Option Taken) → next_at text ≡ scan → IfOk r (λ t. scan ≡ Some (record { next = token_of t; rest = rest })) → IfOk r (λ t. Took text (token_of t) rest)
+found_cut (Ok t) text rest scan e h = scanned_cut text (record { next = token_of t; rest = rest }) (e ∙ h)
+found_cut (Err f) text rest scan e h = tt
+
+pub refused_cut : (r : Result TomlTok TokenFault) (text : List ℕ) (scan : Option Taken) → next_at text ≡ scan → IfErr r (λ f. f ≢ Memory → scan ≡ None) → IfErr r (λ f. f ≢ Memory → CutsNothing text)
+refused_cut (Ok t) text scan e h = tt
+refused_cut (Err f) text scan e h = λ n. scanned_nothing text (e ∙ h n)

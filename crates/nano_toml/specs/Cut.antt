@@ -1,0 +1,51 @@
+-- How a text is cut into tokens. A text is a list of characters, none of which is NUL.
+use Rattle.std.specs.Prelude.{◌≡◌, ℕ, ◌==◌, false, List, [], ◌∷◌, ◌++◌, Option, Some, None, encode_utf8_all, if◌then◌else◌}
+use Rattle.nano_toml.specs.Characters.{is_in_word}
+use Rattle.nano_toml.specs.Span.{begins}
+use Rattle.nano_toml.specs.Token.{Token, string, equals, open_bracket, close_bracket, comma}
+use Rattle.nano_toml.specs.Skipped.{Gap, AreGaps, gaps_text, IsLastComment, last_comment_text}
+use Rattle.nano_toml.specs.Word.{IsWord, word_token}
+use Rattle.nano_toml.specs.Quoted.{IsString}
+use Rattle.nano_toml.specs.Number.{IsNumber}
+
+-- the tokens of one character
+abbrev pub mark_token : ℕ → Option Token
+mark_token c = if c == 44 then Some comma else if c == 91 then Some open_bracket else if c == 93 then Some close_bracket else if c == 61 then Some equals else None
+
+-- the text begins with one lexeme of the token, and rest stands behind it
+pub data Lexeme (text : List ℕ) (token : Token) (rest : List ℕ) : Type 0 where
+  a_mark : (c : ℕ) → mark_token c ≡ Some token → text ≡ c ∷ rest → Lexeme text token rest
+  a_word : (word : List ℕ) → IsWord word → begins is_in_word rest ≡ false → text ≡ word ++ rest → token ≡ word_token word → Lexeme text token rest
+  a_string : (chars : List ℕ) → IsString text chars rest → token ≡ string (encode_utf8_all chars) → Lexeme text token rest
+  a_number : IsNumber text token rest → Lexeme text token rest
+
+-- the token is cut from the text: behind what is skipped stands one lexeme, and then rest
+pub record Cut (text : List ℕ) (token : Token) (rest : List ℕ) : Type 0 where
+  pub gaps : List Gap
+  pub from : List ℕ
+  pub are_gaps : AreGaps gaps
+  pub lexeme : Lexeme from token rest
+  pub split : text ≡ gaps_text gaps ++ from
+
+-- nothing but what is skipped is left, and maybe a comment that the end of the text ends
+pub record CutEnd (text : List ℕ) : Type 0 where
+  pub gaps : List Gap
+  pub last : Option (List ℕ)
+  pub are_gaps : AreGaps gaps
+  pub is_last : IsLastComment last
+  pub split : text ≡ gaps_text gaps ++ last_comment_text last
+
+-- neither a token nor the end is cut from the text
+abbrev pub CutsNothing : List ℕ → Type 0
+CutsNothing text = ((token : Token) (rest : List ℕ) → Cut text token rest → ⊥) × (CutEnd text → ⊥)
+
+-- the tokens of a text, all of them, up to its end
+abbrev pub Tokens : List ℕ → List Token → Type 0
+Tokens text [] = CutEnd text
+Tokens text (token ∷ more) = (rest : List ℕ) × Cut text token rest × Tokens rest more
+
+-- a text is cut in one way: into one token and one rest, or to its end
+abbrev pub IsCutInOneWay : List ℕ → Type 0
+IsCutInOneWay text =
+    ((one two : Token) (rest left : List ℕ) → Cut text one rest → Cut text two left → (one ≡ two) × (rest ≡ left))
+    × ((token : Token) (rest : List ℕ) → Cut text token rest → CutEnd text → ⊥)

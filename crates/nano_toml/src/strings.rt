@@ -1,0 +1,130 @@
+// Strings.
+ghost use Rattle.std.specs.Prelude.{◌≡◌, ◌≢◌, ℕ, ◌^◌, ◌-◌, min, ◌==◌, ◌++◌, ◌∷◌, [], length, true, false, Some, None, OnOk, IfOk, IfErr, string_bytes, encode_utf8, if◌then◌else◌};
+ghost use Rattle.nano_toml.specs.Characters.{is_quote};
+ghost use Rattle.nano_toml.specs.LiveText.{live};
+ghost use Rattle.nano_toml.specs.Scan.{Content, short_at, triple_at, some_quotes, behind_one_quote};
+ghost use Rattle.nano_toml.specs.Span.{front, behind};
+
+use crate::state::Cursor;
+use crate::token::TokenFault;
+use std::alloc::{AllocError, Global};
+
+impl<'a> Cursor<'a> {
+    /// Puts the current character behind the text, and takes it.
+    fn push_current(&mut self, text: &mut String) -> Result<(), AllocError>
+        requires { self.old.cur ≢ 0 }
+        ensures taken { OnOk result (live self.old ≡ self.old.cur ∷ live self.new) }
+        ensures text { OnOk result (string_bytes text.new ≡ string_bytes text.old ++ encode_utf8 self.old.cur) }
+    {
+        text.push(self.cur)?;
+        self.next();
+        Ok(())
+    }
+
+    /// Takes a backslash and the character behind it, and puts that behind the text.
+    fn escaped(&mut self, text: &mut String) -> Result<(), TokenFault>
+        requires { self.old.cur ≡ 92 }
+        ensures found { OnOk result ((c : ℕ) × (live self.old ≡ 92 ∷ (c ∷ live self.new)) × (string_bytes text.new ≡ string_bytes text.old ++ encode_utf8 c)) }
+        ensures refused { IfErr result (λ e. e ≢ TokenFault.Memory → live self.old ≡ 92 ∷ []) }
+    {
+        self.next();
+        if self.cur == '\0' {
+            return Err(TokenFault::Quoted);
+        }
+        self.push_current(text)?;
+        Ok(())
+    }
+
+    /// Takes what stands before a closing quote, and that quote, and puts the characters behind the text.
+    fn short_string(&mut self, text: &mut String) -> Result<(), TokenFault>
+        ensures found { OnOk result (short_at (string_bytes text.old) false (live self.old) ≡ Some (record { bytes = string_bytes text.new; rest = live self.new })) }
+        ensures refused { IfErr result (λ e. e ≢ TokenFault.Memory → short_at (string_bytes text.old) false (live self.old) ≡ None) }
+    {
+        'pieces: loop {
+            match self.cur {
+                '\0' => return Err(TokenFault::Quoted),
+                '"' => {
+                    self.next();
+                    return Ok(());
+                }
+                '\\' => self.escaped(text)?,
+                _ => self.push_current(text)?,
+            }
+        }
+    }
+
+    /// Takes a run of quotes, and answers how many they are.
+    fn skip_quotes(&mut self) -> usize
+        ensures count { result ≡ min (length (front is_quote (live self.old))) (2 ^ 64 - 1) }
+        ensures rest { live self.new ≡ behind is_quote (live self.old) }
+    {
+        let mut count: usize = 0;
+        'quotes: while self.cur == '"' {
+            count = count.saturating_add(1);
+            self.next();
+        }
+        count
+    }
+
+    /// Takes a run of quotes, and puts them behind the text.
+    fn push_quotes(&mut self, text: &mut String) -> Result<(), AllocError>
+        ensures { OnOk result (string_bytes text.new ≡ string_bytes text.old ++ front is_quote (live self.old)) }
+    {
+        'quotes: while self.cur == '"' {
+            text.push('"')?;
+            self.next();
+        }
+        Ok(())
+    }
+
+    /// Takes a run of quotes, and answers whether they are three. Others are put behind the text.
+    fn closing_quotes(&mut self, text: &mut String) -> Result<bool, AllocError>
+        ensures closing { IfOk result (λ closing. closing ≡ (length (front is_quote (live self.old)) == 3)) }
+        ensures rest { OnOk result (live self.new ≡ behind is_quote (live self.old)) }
+        ensures text { IfOk result (λ closing. string_bytes text.new ≡ (if closing then string_bytes text.old else string_bytes text.old ++ front is_quote (live self.old))) }
+    {
+        let mut run = self.again();
+        let closing = self.skip_quotes() == 3;
+        if !closing {
+            run.push_quotes(text)?;
+        }
+        Ok(closing)
+    }
+
+    /// Takes what stands before three closing quotes, and these, and puts the characters behind the text.
+    fn triple_string(&mut self, text: &mut String) -> Result<(), TokenFault>
+        ensures found { OnOk result (triple_at (string_bytes text.old) (some_quotes []) (live self.old) ≡ Some (record { bytes = string_bytes text.new; rest = live self.new })) }
+        ensures refused { IfErr result (λ e. e ≢ TokenFault.Memory → triple_at (string_bytes text.old) (some_quotes []) (live self.old) ≡ None) }
+    {
+        'pieces: loop {
+            match self.cur {
+                '\0' => return Err(TokenFault::Quoted),
+                '"' => {
+                    if self.closing_quotes(text)? {
+                        return Ok(());
+                    }
+                }
+                '\\' => self.escaped(text)?,
+                _ => self.push_current(text)?,
+            }
+        }
+    }
+
+    /// Reads a string, behind its first quote.
+    pub(crate) fn string(&mut self, alloc: Global) -> Result<String, TokenFault>
+        ensures found { IfOk result (λ text. behind_one_quote (live self.old) ≡ Some (record { bytes = string_bytes text; rest = live self.new })) }
+        ensures refused { IfErr result (λ e. e ≢ TokenFault.Memory → behind_one_quote (live self.old) ≡ None) }
+    {
+        let mut text = String::new(alloc);
+        if !self.take('"') {
+            self.short_string(&mut text)?;
+            return Ok(text);
+        }
+        let empty = !self.take('"');
+        if empty {
+            return Ok(text);
+        }
+        self.triple_string(&mut text)?;
+        Ok(text)
+    }
+}

@@ -1,0 +1,54 @@
+// The tokens of a text, and why none was cut.
+use std::alloc::AllocError;
+
+/// A token of a TOML text.
+#[derive(Drop, Debug, PartialEq)]
+pub enum TomlTok {
+    /// A word, with its dots.
+    Ident(String),
+    /// The characters of a string.
+    Str(String),
+    /// An integer without a minus sign.
+    U64(u64),
+    /// An integer with a minus sign.
+    I64(i64),
+    /// A decimal: its text without underscores and without `+`.
+    F64(String),
+    Bool(bool),
+    /// `nan`, true with a minus sign.
+    Nan(bool),
+    /// `inf`, true with a minus sign.
+    Inf(bool),
+    /// A date or a time: its text without underscores in its first digits and without `+`.
+    Date(String),
+    Equals,
+    BlockOpen,
+    BlockClose,
+    Comma,
+    /// Before the first token.
+    Bof,
+    /// The end of the text.
+    Eof,
+}
+
+/// Why no token was cut: want of memory, or what a text that has none there was taken for.
+#[derive(Clone, Copy, Debug)]
+pub(crate) enum TokenFault {
+    Memory,
+    Number,
+    Nan,
+    Infinity,
+    Quoted,
+    Character,
+}
+
+impl From<AllocError> for TokenFault {
+    ghost use Rattle.std.specs.Prelude.{◌≡◌};
+    ghost use Rattle.nano_toml.specs.declared.token.TokenFault.TheVariants.{Memory};
+
+    ghost from_gives = { λ _ e. e ≡ Memory };
+
+    fn from(_error: AllocError) -> TokenFault {
+        TokenFault::Memory
+    }
+}
