@@ -5,11 +5,11 @@ use Rattle.std.proofs.Math.Facts.{sfits_to_z, of_z-to_z}
 use Rattle.std.proofs.lemmas.Int.{to_z-of_z}
 use Rattle.std.specs.List.{AllByRecursion}
 use Rattle.std.proofs.lemmas.List.{append-nil, take_at}
-use Rattle.nano_value.specs.Meaning.{Meaning, number, truth, whole, text, optional, listed, paired, whole_injective}
+use Rattle.nano_value.specs.Meaning.{Meaning, number, nothing, truth, whole, text, optional, listed, paired, whole_injective}
 use Rattle.nano_value.specs.Legal.{IsImage}
 use Rattle.nano_bin.specs.Reading.{IsSpelling, Fits, NothingFits, Reads}
 use Rattle.nano_bin.specs.LittleEndian.{SpellsNumber, number_spelling, little_endian, little_value, length-little_endian, little_endian-little_value, little_value_fits}
-use Rattle.nano_bin.specs.Spellings.{SpellsUnsigned, SpellsSigned, SpellsSignedNumber, SpellsTruth, SpellsPair, SpellsOption, SpellsItems, SpellsCount, SpellsList, SpellsText, IsTextOf}
+use Rattle.nano_bin.specs.Spellings.{SpellsUnit, SpellsUnsigned, SpellsSigned, SpellsSignedNumber, SpellsTruth, SpellsPair, SpellsOption, SpellsItems, SpellsCount, SpellsList, SpellsText, IsTextOf}
 use Rattle.nano_bin.specs.SpellingLaws.{same_fronts, same_heads, truth_byte}
 
 -- ---- one reader behind another
@@ -210,3 +210,8 @@ text_bytes_refused bytes start mid n r none =
 pub text_reads : (bytes : List ℕ) (start mid end n : ℕ) (utf8 : List ℕ) → Reads (SpellsNumber 8) bytes start n mid → Reads (IsTextOf n) bytes mid utf8 end → Reads SpellsText bytes start utf8 end
 text_reads bytes start mid end n utf8 r j =
     then_reads SpellsText bytes start mid end n utf8 utf8 r j (λ a b h i. record { head = a; whole = ap (λ l. a ++ l) i.same; count = subst (λ m. SpellsNumber 8 a m) (sym i.count_is) h; is_utf8 = i.is_utf8 })
+
+-- ---- the unit
+
+pub unit_reads : (bytes : List ℕ) (start : ℕ) → Reads SpellsUnit bytes start nothing start
+unit_reads bytes start = record { front = []; whole = refl; moved = omega arith; spells = record { empty = refl; is = refl } }

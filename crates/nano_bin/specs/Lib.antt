@@ -6,3 +6,4 @@ pub mod SpellingLaws
 pub mod Writing
 pub mod Promises
 pub mod Variants
+pub mod Formats

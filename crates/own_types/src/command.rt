@@ -12,15 +12,15 @@ pub enum Command {
     /// Tag 0: stop.
     Stop,
     /// Tag 1: move by so many steps, under a name.
-    Move(i32, String),
+    Move(u32, String),
     /// Tag 2: wait for so many milliseconds.
     Wait(u64),
 }
 
 impl Value for Command {
-    ghost means = { (command_format ⟦<() as BothBin>⟧.format ⟦<(i32, String) as BothBin>⟧.format ⟦<u64 as BothBin>⟧.format).writing.means };
+    ghost means = { command_format.writing.means };
 
-    ghost legal = { (command_format ⟦<() as BothBin>⟧.format ⟦<(i32, String) as BothBin>⟧.format ⟦<u64 as BothBin>⟧.format).spelling.legal };
+    ghost legal = { command_format.spelling.legal };
 
     fn known(&self) {
         match self {
@@ -35,14 +35,17 @@ impl Value for Command {
 }
 
 impl SerBin for Command {
-    ghost writing = { (command_format ⟦<() as BothBin>⟧.format ⟦<(i32, String) as BothBin>⟧.format ⟦<u64 as BothBin>⟧.format).writing };
+    ghost writing = { command_format.writing };
 
     ghost writes_meaning = { refl };
 
     fn ser_bin(&self, alloc: Global, output: &mut Vec<u8>) -> Result<(), AllocError> {
         let start = output.len();
         match self {
-            Command::Stop => 0u16.ser_bin(alloc, output),
+            Command::Stop => {
+                0u16.ser_bin(alloc, output)?;
+                append_part(alloc, &(), output, start)
+            }
             Command::Move(steps, name) => {
                 1u16.ser_bin(alloc, output)?;
                 append_part(alloc, steps, output, start)?;
@@ -57,39 +60,44 @@ impl SerBin for Command {
 }
 
 impl DeBin for Command {
-    ghost spelling = { (command_format ⟦<() as BothBin>⟧.format ⟦<(i32, String) as BothBin>⟧.format ⟦<u64 as BothBin>⟧.format).spelling };
+    ghost spelling = { command_format.spelling };
 
     ghost spells_legal = { λ m h. h };
 
     fn de_bin(alloc: Global, offset: &mut usize, bytes: &[u8]) -> Result<Command, DeBinErr> {
         let start = *offset;
-        let read = match u16::de_bin(alloc, offset, bytes) {
+        match u16::de_bin(alloc, offset, bytes) {
             Ok(0) => Ok(Command::Stop),
-            Ok(1) => match <(i32, String)>::de_bin(alloc, offset, bytes) {
+            Ok(1) => match <(u32, String)>::de_bin(alloc, offset, bytes) {
                 Ok((steps, name)) => Ok(Command::Move(steps, name)),
-                Err(error) => Err(error),
+                Err(error) => {
+                    *offset = start;
+                    Err(error)
+                }
             },
             Ok(2) => match u64::de_bin(alloc, offset, bytes) {
                 Ok(time) => Ok(Command::Wait(time)),
-                Err(error) => Err(error),
+                Err(error) => {
+                    *offset = start;
+                    Err(error)
+                }
             },
-            Ok(_) => Err(DeBinErr {
-                o: start,
-                l: 0,
-                s: bytes.len(),
-                kind: DeBinKind::Own,
-            }),
+            Ok(_) => {
+                *offset = start;
+                Err(DeBinErr {
+                    o: start,
+                    l: 0,
+                    s: bytes.len(),
+                    kind: DeBinKind::Own,
+                })
+            }
             Err(error) => Err(error),
-        };
-        if read.is_err() {
-            *offset = start;
         }
-        read
     }
 }
 
 impl BothBin for Command {
-    ghost format = { command_format ⟦<() as BothBin>⟧.format ⟦<(i32, String) as BothBin>⟧.format ⟦<u64 as BothBin>⟧.format };
+    ghost format = { command_format };
 
-    ghost reads_back = { (command_format ⟦<() as BothBin>⟧.format ⟦<(i32, String) as BothBin>⟧.format ⟦<u64 as BothBin>⟧.format).reads_back };
+    ghost reads_back = { command_format.reads_back };
 }
