@@ -1,3 +1,6 @@
 pub mod Meaning
 pub mod Legal
 pub mod Exact
+pub mod Order
+pub mod Tables
+pub mod Sets

@@ -6,8 +6,10 @@
 
 mod boxes;
 mod lists;
+mod maps;
 mod numbers;
 mod options;
+mod sets;
 mod texts;
 mod truths;
 mod tuples;
