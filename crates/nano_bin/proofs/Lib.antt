@@ -1,3 +1,4 @@
 pub mod Readers
 pub mod RoundTrip
+pub mod Runs
 pub mod Writers

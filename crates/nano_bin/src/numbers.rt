@@ -1,5 +1,6 @@
 // Unsigned integers: fixed widths, the lowest byte first.
-ghost use Rattle.std.specs.Prelude.{◌≡◌, drop, refl, IfOk, IfErr, OnErr};
+ghost use Rattle.std.specs.Prelude.{◌≡◌, map, drop, refl, IfOk, IfErr, OnErr};
+ghost use Rattle.std.specs.Int.{w16, w32, w64, w128, from_le_bytes};
 ghost use Rattle.nano_value.specs.Meaning.{whole};
 ghost use Rattle.nano_bin.specs.Reading.{Reads, NothingFits};
 ghost use Rattle.nano_bin.specs.Spellings.{SpellsUnsigned};
@@ -9,7 +10,7 @@ ghost use Rattle.nano_bin.specs.Faults.{IsTooShort};
 
 use crate::append::append_bytes;
 use crate::error::DeBinErr;
-use crate::take::take_number;
+use crate::take::{no_memory, take_bytes, take_number, take_numbers};
 use crate::traits::{BothBin, DeBin, SerBin};
 use std::alloc::{AllocError, Global};
 
@@ -21,6 +22,10 @@ impl SerBin for u8 {
     #[tactic(auto, using(crate::specs::LittleEndian::little_byte))]
     fn ser_bin(&self, alloc: Global, output: &mut Vec<u8>) -> Result<(), AllocError> {
         append_bytes(output, &[*self])
+    }
+
+    fn ser_bin_items(alloc: Global, items: &[u8], output: &mut Vec<u8>) -> Result<(), AllocError> {
+        append_bytes(output, items)
     }
 }
 
@@ -39,6 +44,25 @@ impl DeBin for u8 {
     {
         match take_number::<1>(offset, bytes) {
             Ok(taken) => Ok(u8::from_le_bytes(taken)),
+            Err(error) => Err(error),
+        }
+    }
+
+    fn de_bin_items(
+        alloc: Global,
+        count: usize,
+        offset: &mut usize,
+        bytes: &[u8],
+    ) -> Result<Vec<u8>, DeBinErr> {
+        let start = *offset;
+        match take_bytes(count, offset, bytes) {
+            Ok(taken) => match taken.to_vec(alloc) {
+                Ok(items) => Ok(items),
+                Err(_) => {
+                    *offset = start;
+                    Err(no_memory(start, bytes))
+                }
+            },
             Err(error) => Err(error),
         }
     }
@@ -79,6 +103,36 @@ impl DeBin for u16 {
             Err(error) => Err(error),
         }
     }
+
+    #[tactic(auto, using(crate::specs::LittleEndian::from_le_bytes_16))]
+    fn de_bin_items(
+        alloc: Global,
+        count: usize,
+        offset: &mut usize,
+        bytes: &[u8],
+    ) -> Result<Vec<u16>, DeBinErr> {
+        let start = *offset;
+        match take_numbers::<2>(count, offset, bytes) {
+            Ok(taken) => match u16s(alloc, taken) {
+                Ok(items) => Ok(items),
+                Err(_) => {
+                    *offset = start;
+                    Err(no_memory(start, bytes))
+                }
+            },
+            Err(error) => Err(error),
+        }
+    }
+}
+
+/// The numbers of chunks of bytes.
+fn u16s(alloc: Global, chunks: &[[u8; 2]]) -> Result<Vec<u16>, AllocError>
+    ensures { IfOk result (λ numbers. numbers.items ≡ map (from_le_bytes w16) chunks.now) }
+{
+    chunks
+        .iter()
+        .map(|chunk| u16::from_le_bytes(*chunk))
+        .collect(alloc)
 }
 
 impl BothBin for u16 {
@@ -116,6 +170,36 @@ impl DeBin for u32 {
             Err(error) => Err(error),
         }
     }
+
+    #[tactic(auto, using(crate::specs::LittleEndian::from_le_bytes_32))]
+    fn de_bin_items(
+        alloc: Global,
+        count: usize,
+        offset: &mut usize,
+        bytes: &[u8],
+    ) -> Result<Vec<u32>, DeBinErr> {
+        let start = *offset;
+        match take_numbers::<4>(count, offset, bytes) {
+            Ok(taken) => match u32s(alloc, taken) {
+                Ok(items) => Ok(items),
+                Err(_) => {
+                    *offset = start;
+                    Err(no_memory(start, bytes))
+                }
+            },
+            Err(error) => Err(error),
+        }
+    }
+}
+
+/// The numbers of chunks of bytes.
+fn u32s(alloc: Global, chunks: &[[u8; 4]]) -> Result<Vec<u32>, AllocError>
+    ensures { IfOk result (λ numbers. numbers.items ≡ map (from_le_bytes w32) chunks.now) }
+{
+    chunks
+        .iter()
+        .map(|chunk| u32::from_le_bytes(*chunk))
+        .collect(alloc)
 }
 
 impl BothBin for u32 {
@@ -153,6 +237,36 @@ impl DeBin for u64 {
             Err(error) => Err(error),
         }
     }
+
+    #[tactic(auto, using(crate::specs::LittleEndian::from_le_bytes_64))]
+    fn de_bin_items(
+        alloc: Global,
+        count: usize,
+        offset: &mut usize,
+        bytes: &[u8],
+    ) -> Result<Vec<u64>, DeBinErr> {
+        let start = *offset;
+        match take_numbers::<8>(count, offset, bytes) {
+            Ok(taken) => match u64s(alloc, taken) {
+                Ok(items) => Ok(items),
+                Err(_) => {
+                    *offset = start;
+                    Err(no_memory(start, bytes))
+                }
+            },
+            Err(error) => Err(error),
+        }
+    }
+}
+
+/// The numbers of chunks of bytes.
+fn u64s(alloc: Global, chunks: &[[u8; 8]]) -> Result<Vec<u64>, AllocError>
+    ensures { IfOk result (λ numbers. numbers.items ≡ map (from_le_bytes w64) chunks.now) }
+{
+    chunks
+        .iter()
+        .map(|chunk| u64::from_le_bytes(*chunk))
+        .collect(alloc)
 }
 
 impl BothBin for u64 {
@@ -190,6 +304,36 @@ impl DeBin for usize {
             Err(error) => Err(error),
         }
     }
+
+    #[tactic(auto, using(crate::specs::LittleEndian::from_le_bytes_64))]
+    fn de_bin_items(
+        alloc: Global,
+        count: usize,
+        offset: &mut usize,
+        bytes: &[u8],
+    ) -> Result<Vec<usize>, DeBinErr> {
+        let start = *offset;
+        match take_numbers::<8>(count, offset, bytes) {
+            Ok(taken) => match usizes(alloc, taken) {
+                Ok(items) => Ok(items),
+                Err(_) => {
+                    *offset = start;
+                    Err(no_memory(start, bytes))
+                }
+            },
+            Err(error) => Err(error),
+        }
+    }
+}
+
+/// The numbers of chunks of bytes.
+fn usizes(alloc: Global, chunks: &[[u8; 8]]) -> Result<Vec<usize>, AllocError>
+    ensures { IfOk result (λ numbers. numbers.items ≡ map (from_le_bytes w64) chunks.now) }
+{
+    chunks
+        .iter()
+        .map(|chunk| usize::from_le_bytes(*chunk))
+        .collect(alloc)
 }
 
 impl BothBin for usize {
@@ -227,6 +371,36 @@ impl DeBin for u128 {
             Err(error) => Err(error),
         }
     }
+
+    #[tactic(auto, using(crate::specs::LittleEndian::from_le_bytes_128))]
+    fn de_bin_items(
+        alloc: Global,
+        count: usize,
+        offset: &mut usize,
+        bytes: &[u8],
+    ) -> Result<Vec<u128>, DeBinErr> {
+        let start = *offset;
+        match take_numbers::<16>(count, offset, bytes) {
+            Ok(taken) => match u128s(alloc, taken) {
+                Ok(items) => Ok(items),
+                Err(_) => {
+                    *offset = start;
+                    Err(no_memory(start, bytes))
+                }
+            },
+            Err(error) => Err(error),
+        }
+    }
+}
+
+/// The numbers of chunks of bytes.
+fn u128s(alloc: Global, chunks: &[[u8; 16]]) -> Result<Vec<u128>, AllocError>
+    ensures { IfOk result (λ numbers. numbers.items ≡ map (from_le_bytes w128) chunks.now) }
+{
+    chunks
+        .iter()
+        .map(|chunk| u128::from_le_bytes(*chunk))
+        .collect(alloc)
 }
 
 impl BothBin for u128 {

@@ -1,10 +1,11 @@
 // Taking bytes from an offset on.
-ghost use Rattle.std.specs.Prelude.{◌≡◌, ◌≢◌, ◌+◌, ◌++◌, ◌⊎◌, length, drop, string_bytes, IfOk, IfErr, OnErr};
+ghost use Rattle.std.specs.Prelude.{◌≡◌, ◌≢◌, ◌+◌, ◌*◌, ◌/◌, ◌<◌, ◌++◌, ◌⊎◌, map, length, drop, string_bytes, IfOk, IfErr, OnErr};
+ghost use Rattle.std.specs.List.{AllByRecursion};
 ghost use Rattle.nano_value.specs.Meaning.{whole};
 ghost use Rattle.nano_bin.specs.declared.error.DeBinKind.{DeBinKind};
 ghost use Rattle.nano_bin.specs.Reading.{Reads, NothingFits};
 ghost use Rattle.nano_bin.specs.LittleEndian.{little_value};
-ghost use Rattle.nano_bin.specs.Spellings.{IsTextOf, SpellsUnsigned};
+ghost use Rattle.nano_bin.specs.Spellings.{IsTextOf, SpellsCount, SpellsUnsigned};
 ghost use Rattle.nano_bin.specs.Faults.{refusal, IsTooShort, IsNotUtf8};
 
 use crate::error::{DeBinErr, DeBinKind};
@@ -121,4 +122,44 @@ pub(crate) fn take_text(
     };
     *offset += count;
     Ok(text)
+}
+
+/// Takes so many numbers of `N` bytes each. A refusal is that of the first number that is cut short.
+pub(crate) fn take_numbers<'a, const N: usize>(
+    count: usize,
+    offset: &mut usize,
+    bytes: &'a [u8],
+) -> Result<&'a [[u8; N]], DeBinErr>
+    requires { 0 < N }
+    ensures ok { IfOk result (λ taken. Reads (SpellsCount count (SpellsUnsigned N)) bytes.now offset.old (map (λ chunk. whole (little_value chunk)) taken.now) offset.new) }
+    ensures length { IfOk result (λ taken. AllByRecursion (λ chunk. length chunk ≡ N) taken.now) }
+    ensures err { IfErr result (λ e. NothingFits (SpellsCount count (SpellsUnsigned N)) (drop offset.old bytes.now)) }
+    ensures short { IfErr result (IsTooShort bytes.now (offset.old + length (drop offset.old bytes.now) / N * N) N) }
+    ensures kept { OnErr result (offset.new ≡ offset.old) }
+{
+    let (chunks, _) = rest(bytes, *offset).as_chunks::<N>();
+    if chunks.len() < count {
+        return Err(too_short(*offset + chunks.len() * N, N, bytes));
+    }
+    *offset += count * N;
+    Ok(&chunks[..count])
+}
+
+/// Takes so many bytes. A refusal is that of the first byte that is missing.
+pub(crate) fn take_bytes<'a>(
+    count: usize,
+    offset: &mut usize,
+    bytes: &'a [u8],
+) -> Result<&'a [u8], DeBinErr>
+    ensures ok { IfOk result (λ taken. Reads (SpellsCount count (SpellsUnsigned 1)) bytes.now offset.old (map whole taken.now) offset.new) }
+    ensures err { IfErr result (λ e. NothingFits (SpellsCount count (SpellsUnsigned 1)) (drop offset.old bytes.now)) }
+    ensures short { IfErr result (IsTooShort bytes.now (offset.old + length (drop offset.old bytes.now)) 1) }
+    ensures kept { OnErr result (offset.new ≡ offset.old) }
+{
+    let rest = rest(bytes, *offset);
+    if rest.len() < count {
+        return Err(too_short(*offset + rest.len(), 1, bytes));
+    }
+    *offset += count;
+    Ok(&rest[..count])
 }

@@ -1,0 +1,10 @@
+use Rattle.std.proofs.Common.{map, ap, ◌∙◌}
+use Rattle.std.specs.Int.{w128, from_le_bytes}
+use Rattle.nano_value.specs.Meaning.{whole}
+use Rattle.nano_bin.specs.LittleEndian.{from_le_bytes_128}
+use Rattle.nano_bin.proofs.Runs.{chunks_mapped}
+use Rattle.nano_bin.proofs.numbers.U128DeBin.de_bin_items.Goals as goal
+
+pub returns-in-Ok-u128s-clause-ok : goal.returns-in-Ok-u128s-clause-ok
+returns-in-Ok-u128s-clause-ok c =
+    rw (ap (map whole) c.in-Ok-u128s.ensures ∙ chunks_mapped 16 (from_le_bytes w128) from_le_bytes_128 _ c.in-Ok.ensures.length) c.in-Ok.ensures.ok

@@ -1,0 +1,10 @@
+use Rattle.std.proofs.Common.{map, ap, ◌∙◌}
+use Rattle.std.specs.Int.{w32, from_le_bytes}
+use Rattle.nano_value.specs.Meaning.{whole}
+use Rattle.nano_bin.specs.LittleEndian.{from_le_bytes_32}
+use Rattle.nano_bin.proofs.Runs.{chunks_mapped}
+use Rattle.nano_bin.proofs.numbers.U32DeBin.de_bin_items.Goals as goal
+
+pub returns-in-Ok-u32s-clause-ok : goal.returns-in-Ok-u32s-clause-ok
+returns-in-Ok-u32s-clause-ok c =
+    rw (ap (map whole) c.in-Ok-u32s.ensures ∙ chunks_mapped 4 (from_le_bytes w32) from_le_bytes_32 _ c.in-Ok.ensures.length) c.in-Ok.ensures.ok
