@@ -4,4 +4,8 @@ pub mod Faults
 pub mod Spellings
 pub mod SpellingLaws
 pub mod Writing
+pub mod Tables
+pub mod Ascending
+pub mod MapWriting
+pub mod Sets
 pub mod Promises

@@ -14,6 +14,8 @@ impl<A: SerBin, B: SerBin> SerBin for (A, B) {
 
     ghost writes_meaning = { λ i x. paired (pair_map (A.writes_meaning i) (B.writes_meaning i) x) };
 
+    ghost orders_keys = { (A.orders_keys, B.orders_keys) };
+
     fn ser_bin(&self, alloc: Global, output: &mut Vec<u8>) -> Result<(), AllocError> {
         let start = output.len();
         self.0.ser_bin(alloc, output)?;
@@ -52,6 +54,8 @@ impl<A: SerBin, B: SerBin, C: SerBin> SerBin for (A, B, C) {
 
     ghost writes_meaning = { λ i x. paired (A.writes_meaning i x.0, paired (B.writes_meaning i x.1, C.writes_meaning i x.2)) };
 
+    ghost orders_keys = { (A.orders_keys, (B.orders_keys, C.orders_keys)) };
+
     fn ser_bin(&self, alloc: Global, output: &mut Vec<u8>) -> Result<(), AllocError> {
         let start = output.len();
         self.0.ser_bin(alloc, output)?;
@@ -83,6 +87,8 @@ impl<A: SerBin, B: SerBin, C: SerBin, D: SerBin> SerBin for (A, B, C, D) {
     ghost writing = { writing_as (λ x. (x.0, (x.1, (x.2, x.3)))) ⟦<(A, (B, (C, D))) as SerBin>⟧.writing };
 
     ghost writes_meaning = { λ i x. paired (A.writes_meaning i x.0, paired (B.writes_meaning i x.1, paired (C.writes_meaning i x.2, D.writes_meaning i x.3))) };
+
+    ghost orders_keys = { (A.orders_keys, (B.orders_keys, (C.orders_keys, D.orders_keys))) };
 
     fn ser_bin(&self, alloc: Global, output: &mut Vec<u8>) -> Result<(), AllocError> {
         let start = output.len();

@@ -19,8 +19,8 @@ abbrev pub MeaningSet : Type 0
 MeaningSet = Table (Unit {0})
 
 -- the set of items, by what they stand for
-abbrev pub set_of : {K : Type 0} → (K → Meaning) → List K → MeaningSet
-set_of f ks = table_of f (λ u. u) (marked ks)
+abbrev pub item_set : {K : Type 0} → (K → Meaning) → List K → MeaningSet
+item_set f ks = table_of f (λ u. u) (marked ks)
 
 -- a set: each item once
 abbrev pub set_means : MeaningSet → Meaning
@@ -62,19 +62,19 @@ pub distinct-marked : {K : Type 0} (E : K → K → Bool) (ks : List K) → IsDi
 distinct-marked E ks = subst (IsDistinct E) (sym (keys_of-marked ks))
 
 -- a set's `insert` is the table's
-pub set_of-insert : {K : Type 0} (f : K → Meaning) (E : K → K → Bool) → Tells E f → (old new : List K) (k : K) → IsDistinct E old → IsDistinct E new → list_any (E k) new ≡ true → KeepsOthers E (E k) old new → set_of f new ≡ table.insert (set_of f old) (f k) tt
+pub item_set-insert : {K : Type 0} (f : K → Meaning) (E : K → K → Bool) → Tells E f → (old new : List K) (k : K) → IsDistinct E old → IsDistinct E new → list_any (E k) new ≡ true → KeepsOthers E (E k) old new → item_set f new ≡ table.insert (item_set f old) (f k) tt
 unfolding KeepsOthers Rattle.std.specs.Map.KeepsOthers
-set_of-insert f E exact old new k was is at others =
+item_set-insert f E exact old new k was is at others =
     table_of-insert f (λ u. u) E exact (marked old) (marked new) k tt (distinct-marked E old was) (distinct-marked E new is) (lookup-marked (E k) new ∙ ap mark at) (λ other key apart. lookup-marked other new ∙ (ap mark (others other key apart) ∙ sym (lookup-marked other old)))
 
-all-marked : {K : Type 0} (P : K → Type 0) (ks : List K) → AllByRecursion P ks → AllByRecursion (λ e. P e.0 × Unit {0}) (marked ks)
+pub all-marked : {K : Type 0} (P : K → Type 0) (ks : List K) → AllByRecursion P ks → AllByRecursion (λ e. P e.0 × Unit {0}) (marked ks)
 all-marked P [] h = tt
 all-marked P (k ∷ ks) h = ((h.0, tt), all-marked P ks h.1)
 
 -- a set of legal items is legal
-pub set_is_legal : {K : Type 0} (f : K → Meaning) (P : Meaning → Type 0) (ks : List K) → length ks < 2 ^ 63 → AllByRecursion (λ k. P (f k)) ks → LegalSet P (set_means (set_of f ks))
+pub set_is_legal : {K : Type 0} (f : K → Meaning) (P : Meaning → Type 0) (ks : List K) → length ks < 2 ^ 63 → AllByRecursion (λ k. P (f k)) ks → LegalSet P (set_means (item_set f ks))
 set_is_legal f P ks few all =
-    image_of set_means (AllOfSet P) (set_of f ks) (all_of_table_of P (λ _. Unit {0}) f (λ u. u) (marked ks) (subst (λ n. n < 2 ^ 63) (sym (length-map (λ k. (k, tt)) ks)) few) (all-marked (λ k. P (f k)) ks all))
+    image_of set_means (AllOfSet P) (item_set f ks) (all_of_table_of P (λ _. Unit {0}) f (λ u. u) (marked ks) (subst (λ n. n < 2 ^ 63) (sym (length-map (λ k. (k, tt)) ks)) few) (all-marked (λ k. P (f k)) ks all))
 
 pub set_weaker : (P Q : Meaning → Type 0) → ((m : Meaning) → P m → Q m) → (m : Meaning) → LegalSet P m → LegalSet Q m
 set_weaker P Q weaker m h = record { part = h.part; has = all_of_table_weaker P Q (λ _. Unit {0}) (λ _. Unit {0}) weaker (λ x u. u) h.part h.has; is = h.is }
