@@ -4,3 +4,5 @@ pub mod Exact
 pub mod Order
 pub mod Tables
 pub mod Sets
+pub mod Ascending
+pub mod OrderedSets
