@@ -1,3 +1,5 @@
+pub mod MapReaders
+pub mod MapSort
 pub mod Readers
 pub mod RoundTrip
 pub mod Runs

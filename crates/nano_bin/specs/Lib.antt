@@ -4,6 +4,10 @@ pub mod Faults
 pub mod Spellings
 pub mod SpellingLaws
 pub mod Writing
+pub mod Tables
+pub mod Ascending
+pub mod MapWriting
+pub mod Sets
 pub mod Promises
 pub mod Variants
 pub mod Formats

@@ -89,21 +89,25 @@ module _ (bodies : ℕ → Body) where
   abbrev pub written_tagged : Tagged bodies → List ℕ
   written_tagged v = little_endian 2 v.tag ++ (bodies v.tag).format.writing.written v.fields
 
-  same_fields : (j k : ℕ) → j ≡ k → (a : (bodies j).Fields) (b : (bodies k).Fields) → (bodies j).format.writing.means a ≡ (bodies k).format.writing.means b → (bodies j).format.writing.written a ≡ (bodies k).format.writing.written b
-  same_fields j k e a = subst (λ k. (b : (bodies k).Fields) → (bodies j).format.writing.means a ≡ (bodies k).format.writing.means b → (bodies j).format.writing.written a ≡ (bodies k).format.writing.written b) e ((bodies j).format.writing.same_written a)
+  -- the orders of the keys in the fields of each variant keep their laws
+  abbrev pub orders_fields_keys : Type 0
+  orders_fields_keys = (tag : ℕ) → (bodies tag).format.writing.orders_keys
 
-  pub tagged_same : (x y : Tagged bodies) → tagged_means x ≡ tagged_means y → written_tagged x ≡ written_tagged y
-  tagged_same x y e =
+  same_fields : orders_fields_keys → (j k : ℕ) → j ≡ k → (a : (bodies j).Fields) (b : (bodies k).Fields) → (bodies j).format.writing.means a ≡ (bodies k).format.writing.means b → (bodies j).format.writing.written a ≡ (bodies k).format.writing.written b
+  same_fields ordered j k e a = subst (λ k. (b : (bodies k).Fields) → (bodies j).format.writing.means a ≡ (bodies k).format.writing.means b → (bodies j).format.writing.written a ≡ (bodies k).format.writing.written b) e ((bodies j).format.writing.same_written (ordered j) a)
+
+  pub tagged_same : orders_fields_keys → (x y : Tagged bodies) → tagged_means x ≡ tagged_means y → written_tagged x ≡ written_tagged y
+  tagged_same ordered x y e =
     let parts = both_injective _ _ _ _ e in
     let tag = whole_injective x.tag y.tag parts.0 in
-    let fields = same_fields x.tag y.tag tag x.fields y.fields parts.1 in
+    let fields = same_fields ordered x.tag y.tag tag x.fields y.fields parts.1 in
     λ i. little_endian 2 (tag i) ++ fields i
 
   abbrev pub tagged_writing : Writing (Tagged bodies)
-  tagged_writing = record { means = tagged_means; written = written_tagged; same_written = tagged_same }
+  tagged_writing = record { means = tagged_means; written = written_tagged; orders_keys = orders_fields_keys; same_written = tagged_same }
 
-  pub tagged_reads_back : (v : Tagged bodies) → (variants_of (body_spelling bodies)).legal (tagged_means v) → (variants_of (body_spelling bodies)).spelled (written_tagged v) (tagged_means v)
-  tagged_reads_back v h =
+  pub tagged_reads_back : orders_fields_keys → (v : Tagged bodies) → (variants_of (body_spelling bodies)).legal (tagged_means v) → (variants_of (body_spelling bodies)).spelled (written_tagged v) (tagged_means v)
+  tagged_reads_back ordered v h =
     let parts = both_injective _ _ _ _ h.is in
     let tag = whole_injective v.tag h.part.tag parts.0 in
     let format = (bodies v.tag).format in
@@ -112,7 +116,7 @@ module _ (bodies : ℕ → Body) where
     let legal = subst format.spelling.legal (sym parts.1) same_tag in
     record {
       part = record { tag = v.tag; fields = format.writing.means v.fields };
-      has = record { head = little_endian 2 v.tag; tail = format.writing.written v.fields; whole = refl; tagged = record { fits = fits; whole = refl }; fields = format.reads_back v.fields legal };
+      has = record { head = little_endian 2 v.tag; tail = format.writing.written v.fields; whole = refl; tagged = record { fits = fits; whole = refl }; fields = format.reads_back (ordered v.tag) v.fields legal };
       is = refl;
     }
 
@@ -131,7 +135,7 @@ body {A} format = record { Fields = A; format = format }
 
 -- no variant
 abbrev pub no_format : Format ⊥
-no_format = record { writing = record { means = λ x. absurd x; written = λ _. []; same_written = λ x y e. refl }; spelling = no_spelling; reads_back = λ x. absurd x }
+no_format = record { writing = record { means = λ x. absurd x; written = λ _. []; orders_keys = Unit {0}; same_written = λ _ x y e. refl }; spelling = no_spelling; reads_back = λ _ x. absurd x }
 
 abbrev pub no_variants : ℕ → Body
 no_variants tag = body no_format

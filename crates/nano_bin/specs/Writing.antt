@@ -12,17 +12,19 @@ use Rattle.nano_bin.specs.LittleEndian.{SpellsNumber, little_endian}
 use Rattle.nano_bin.specs.Spellings.{SpellsPair, SpellsOption, SpellsItems, SpellsCount, SpellsList, SpellsText}
 use Rattle.nano_bin.specs.SpellingLaws.{unsigned, signed, truths, units, texts, option_of, pair_of, list_of, array_of}
 
--- what the values of a type are written as: the same for what means the same
-pub record Writing (A : Type 0) : Type 0 where
+-- what the values of a type are written as: the same for what means the same, where the orders of the keys in it keep
+-- their laws, of which only the maps and sets in it know
+pub record Writing (A : Type 0) : Type 1 where
   pub means : A → Meaning
   pub written : A → List ℕ
-  pub same_written : (x y : A) → means x ≡ means y → written x ≡ written y
+  pub orders_keys : Type 0
+  pub same_written : orders_keys → (x y : A) → means x ≡ means y → written x ≡ written y
 
 -- a writing and a spelling that fit together: what is written of a legal value spells its meaning
 pub record Format (A : Type 0) : Type 1 where
   pub writing : Writing A
   pub spelling : Spelling
-  pub reads_back : (x : A) → spelling.legal (writing.means x) → spelling.spelled (writing.written x) (writing.means x)
+  pub reads_back : writing.orders_keys → (x : A) → spelling.legal (writing.means x) → spelling.spelled (writing.written x) (writing.means x)
 
 -- ---- the written bytes
 
@@ -58,39 +60,39 @@ pub number_same : (k m n : ℕ) → whole m ≡ whole n → little_endian k m �
 number_same k m n e = ap (little_endian k) (whole_injective m n e)
 
 abbrev pub unsigned_writing : ℕ → Writing ℕ
-unsigned_writing k = record { means = whole; written = little_endian k; same_written = number_same k }
+unsigned_writing k = record { means = whole; written = little_endian k; orders_keys = Unit {0}; same_written = λ _. number_same k }
 
 pub signed_same : (w : Width) (k : ℕ) (y z : ℤ) → number y ≡ number z → written_signed w k y ≡ written_signed w k z
 signed_same w k y z e = ap (written_signed w k) (number_injective y z e)
 
 abbrev pub signed_writing : Width → ℕ → Writing ℤ
-signed_writing w k = record { means = number; written = written_signed w k; same_written = signed_same w k }
+signed_writing w k = record { means = number; written = written_signed w k; orders_keys = Unit {0}; same_written = λ _. signed_same w k }
 
 pub truth_same : (b c : Bool) → truth b ≡ truth c → written_truth b ≡ written_truth c
 truth_same b c e = ap written_truth (truth_injective b c e)
 
 abbrev pub truth_writing : Writing Bool
-truth_writing = record { means = truth; written = written_truth; same_written = truth_same }
+truth_writing = record { means = truth; written = written_truth; orders_keys = Unit {0}; same_written = λ _. truth_same }
 
 abbrev pub unit_writing : {A : Type 0} → Writing A
-unit_writing = record { means = λ _. nothing; written = λ _. []; same_written = λ x y e. refl }
+unit_writing = record { means = λ _. nothing; written = λ _. []; orders_keys = Unit {0}; same_written = λ _. λ x y e. refl }
 
 -- a type whose values are seen as those of another
 abbrev pub writing_as : {A B : Type 0} → (A → B) → Writing B → Writing A
-writing_as f w = record { means = λ x. w.means (f x); written = λ x. w.written (f x); same_written = λ x y. w.same_written (f x) (f y) }
+writing_as f w = record { means = λ x. w.means (f x); written = λ x. w.written (f x); orders_keys = w.orders_keys; same_written = λ h x y. w.same_written h (f x) (f y) }
 
 pub text_same : (xs ys : List ℕ) → text xs ≡ text ys → written_text xs ≡ written_text ys
 text_same xs ys e = ap written_text (text_injective xs ys e)
 
 abbrev pub text_writing : Writing (List ℕ)
-text_writing = record { means = text; written = written_text; same_written = text_same }
+text_writing = record { means = text; written = written_text; orders_keys = Unit {0}; same_written = λ _. text_same }
 
-module _ {A : Type 0} (w : Writing A) where
+module _ {A : Type 0} (w : Writing A) (h : w.orders_keys) where
   pub option_same : (x y : Option A) → optional (option_map w.means x) ≡ optional (option_map w.means y) → written_option w.written x ≡ written_option w.written y
   option_same None None e = refl
   option_same None (Some y) e = absurd (cc)
   option_same (Some x) None e = absurd (cc)
-  option_same (Some x) (Some y) e = ap (λ l. little_endian 1 1 ++ l) (w.same_written x y (both_injective _ _ _ _ e).0)
+  option_same (Some x) (Some y) e = ap (λ l. little_endian 1 1 ++ l) (w.same_written h x y (both_injective _ _ _ _ e).0)
 
   pub items_same : (xs ys : List A) → map w.means xs ≡ map w.means ys → (length xs ≡ length ys) × (flat_map w.written xs ≡ flat_map w.written ys)
   items_same [] [] e = (refl, refl)
@@ -100,26 +102,26 @@ module _ {A : Type 0} (w : Writing A) where
       let head : w.means x ≡ w.means y = cc in
       let tail : map w.means xs ≡ map w.means ys = cc in
       let rest = items_same xs ys tail in
-      (cc, λ i. w.same_written x y head i ++ rest.1 i)
+      (cc, λ i. w.same_written h x y head i ++ rest.1 i)
 
   pub list_same : (xs ys : List A) → listed (map w.means xs) ≡ listed (map w.means ys) → written_list w.written xs ≡ written_list w.written ys
   list_same xs ys e = let same = items_same xs ys (listed_injective _ _ e) in λ i. little_endian 8 (same.0 i) ++ same.1 i
 
-pub pair_same : {A B : Type 0} (v : Writing A) (w : Writing B) (x y : A × B) → paired (pair_map v.means w.means x) ≡ paired (pair_map v.means w.means y) → written_pair v.written w.written x ≡ written_pair v.written w.written y
-pair_same v w x y e = let same = both_injective (v.means x.0) (w.means x.1) (v.means y.0) (w.means y.1) e in λ i. v.same_written x.0 y.0 same.0 i ++ w.same_written x.1 y.1 same.1 i
+pub pair_same : {A B : Type 0} (v : Writing A) (w : Writing B) → v.orders_keys × w.orders_keys → (x y : A × B) → paired (pair_map v.means w.means x) ≡ paired (pair_map v.means w.means y) → written_pair v.written w.written x ≡ written_pair v.written w.written y
+pair_same v w h x y e = let same = both_injective (v.means x.0) (w.means x.1) (v.means y.0) (w.means y.1) e in λ i. v.same_written h.0 x.0 y.0 same.0 i ++ w.same_written h.1 x.1 y.1 same.1 i
 
 abbrev pub option_writing : {A : Type 0} → Writing A → Writing (Option A)
-option_writing w = record { means = λ x. optional (option_map w.means x); written = written_option w.written; same_written = option_same w }
+option_writing w = record { means = λ x. optional (option_map w.means x); written = written_option w.written; orders_keys = w.orders_keys; same_written = option_same w }
 
 abbrev pub pair_writing : {A B : Type 0} → Writing A → Writing B → Writing (A × B)
-pair_writing v w = record { means = λ x. paired (pair_map v.means w.means x); written = written_pair v.written w.written; same_written = pair_same v w }
+pair_writing v w = record { means = λ x. paired (pair_map v.means w.means x); written = written_pair v.written w.written; orders_keys = v.orders_keys × w.orders_keys; same_written = pair_same v w }
 
 -- the items, and no count
 abbrev pub items_writing : {A : Type 0} → Writing A → Writing (List A)
-items_writing w = record { means = λ xs. listed (map w.means xs); written = flat_map w.written; same_written = λ xs ys e. (items_same w xs ys (listed_injective _ _ e)).1 }
+items_writing w = record { means = λ xs. listed (map w.means xs); written = flat_map w.written; orders_keys = w.orders_keys; same_written = λ h xs ys e. (items_same w h xs ys (listed_injective _ _ e)).1 }
 
 abbrev pub list_writing : {A : Type 0} → Writing A → Writing (List A)
-list_writing w = record { means = λ xs. listed (map w.means xs); written = written_list w.written; same_written = list_same w }
+list_writing w = record { means = λ xs. listed (map w.means xs); written = written_list w.written; orders_keys = w.orders_keys; same_written = list_same w }
 
 -- ---- what is written is read back
 
@@ -218,37 +220,37 @@ module _ {A B C : Type 0} (f : A → Meaning) (P : Meaning → Type 0) (S : List
 -- ---- formats
 
 abbrev pub unsigned_format : ℕ → Format ℕ
-unsigned_format k = record { writing = unsigned_writing k; spelling = unsigned k; reads_back = unsigned_reads_back k }
+unsigned_format k = record { writing = unsigned_writing k; spelling = unsigned k; reads_back = λ _. unsigned_reads_back k }
 
 abbrev pub signed_format : (w : Width) (k : ℕ) → ((z : ℤ) → FitsSigned w z → cast_unsigned w z < 256 ^ k) → Format ℤ
-signed_format w k fits = record { writing = signed_writing w k; spelling = signed w k; reads_back = signed_reads_back w k fits }
+signed_format w k fits = record { writing = signed_writing w k; spelling = signed w k; reads_back = λ _. signed_reads_back w k fits }
 
 abbrev pub truth_format : Format Bool
-truth_format = record { writing = truth_writing; spelling = truths; reads_back = truth_reads_back }
+truth_format = record { writing = truth_writing; spelling = truths; reads_back = λ _. truth_reads_back }
 
 abbrev pub unit_format : {A : Type 0} → Format A
-unit_format = record { writing = unit_writing; spelling = units; reads_back = unit_reads_back }
+unit_format = record { writing = unit_writing; spelling = units; reads_back = λ _. unit_reads_back }
 
 abbrev pub text_format : Format (List ℕ)
-text_format = record { writing = text_writing; spelling = texts; reads_back = text_reads_back }
+text_format = record { writing = text_writing; spelling = texts; reads_back = λ _. text_reads_back }
 
 abbrev pub option_format : {A : Type 0} → Format A → Format (Option A)
-option_format f = record { writing = option_writing f.writing; spelling = option_of f.spelling; reads_back = option_reads_back f.writing.means f.spelling.legal f.spelling.spelled f.writing.written f.reads_back }
+option_format f = record { writing = option_writing f.writing; spelling = option_of f.spelling; reads_back = λ h. option_reads_back f.writing.means f.spelling.legal f.spelling.spelled f.writing.written (f.reads_back h) }
 
 abbrev pub pair_format : {A B : Type 0} → Format A → Format B → Format (A × B)
 pair_format f g = record {
   writing = pair_writing f.writing g.writing;
   spelling = pair_of f.spelling g.spelling;
-  reads_back = pair_reads_back f.writing.means f.spelling.legal f.spelling.spelled f.writing.written g.writing.means g.spelling.legal g.spelling.spelled g.writing.written f.reads_back g.reads_back;
+  reads_back = λ h. pair_reads_back f.writing.means f.spelling.legal f.spelling.spelled f.writing.written g.writing.means g.spelling.legal g.spelling.spelled g.writing.written (f.reads_back h.0) (g.reads_back h.1);
 }
 
 abbrev pub list_format : {A : Type 0} → Format A → Format (List A)
-list_format f = record { writing = list_writing f.writing; spelling = list_of f.spelling; reads_back = list_reads_back f.writing.means f.spelling.legal f.spelling.spelled f.writing.written f.reads_back }
+list_format f = record { writing = list_writing f.writing; spelling = list_of f.spelling; reads_back = λ h. list_reads_back f.writing.means f.spelling.legal f.spelling.spelled f.writing.written (f.reads_back h) }
 
 -- so many items, and no count
 abbrev pub array_format : {A : Type 0} → ℕ → Format A → Format (List A)
-array_format count f = record { writing = items_writing f.writing; spelling = array_of count f.spelling; reads_back = array_reads_back f.writing.means f.spelling.legal f.spelling.spelled f.writing.written f.reads_back count }
+array_format count f = record { writing = items_writing f.writing; spelling = array_of count f.spelling; reads_back = λ h. array_reads_back f.writing.means f.spelling.legal f.spelling.spelled f.writing.written (f.reads_back h) count }
 
 -- a type whose values are seen as those of another
 abbrev pub format_as : {A B : Type 0} → (A → B) → Format B → Format A
-format_as f g = record { writing = writing_as f g.writing; spelling = g.spelling; reads_back = λ x. g.reads_back (f x) }
+format_as f g = record { writing = writing_as f g.writing; spelling = g.spelling; reads_back = λ h x. g.reads_back h (f x) }

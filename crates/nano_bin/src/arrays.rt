@@ -14,6 +14,8 @@ impl<T: SerBin> SerBin for &[T] {
 
     ghost writes_meaning = { λ i x. listed (map (T.writes_meaning i) x.now) };
 
+    ghost orders_keys = { T.orders_keys };
+
     fn ser_bin(&self, alloc: Global, output: &mut Vec<u8>) -> Result<(), AllocError> {
         T::ser_bin_items(alloc, self, output)
     }
@@ -23,6 +25,8 @@ impl<T: SerBin, const N: usize> SerBin for [T; N] {
     ghost writing = { items_writing T.writing };
 
     ghost writes_meaning = { λ i x. listed (map (T.writes_meaning i) x) };
+
+    ghost orders_keys = { T.orders_keys };
 
     fn ser_bin(&self, alloc: Global, output: &mut Vec<u8>) -> Result<(), AllocError> {
         T::ser_bin_items(alloc, self.as_slice(), output)

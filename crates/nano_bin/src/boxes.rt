@@ -11,6 +11,8 @@ impl<T: SerBin> SerBin for Box<T> {
 
     ghost writes_meaning = { λ i x. T.writes_meaning i x.value };
 
+    ghost orders_keys = { T.orders_keys };
+
     fn ser_bin(&self, alloc: Global, output: &mut Vec<u8>) -> Result<(), AllocError> {
         (**self).ser_bin(alloc, output)
     }

@@ -38,6 +38,8 @@ impl<T: SerBin> SerBin for Vec<T> {
 
     ghost writes_meaning = { λ i x. listed (map (T.writes_meaning i) x.items) };
 
+    ghost orders_keys = { T.orders_keys };
+
     fn ser_bin(&self, alloc: Global, output: &mut Vec<u8>) -> Result<(), AllocError> {
         let start = output.len();
         self.len().ser_bin(alloc, output)?;
@@ -75,6 +77,8 @@ impl<T: SerBin> SerBin for LinkedList<T> {
     ghost writing = { list_writing T.writing };
 
     ghost writes_meaning = { λ i x. listed (map (T.writes_meaning i) x) };
+
+    ghost orders_keys = { T.orders_keys };
 
     fn ser_bin(&self, alloc: Global, output: &mut Vec<u8>) -> Result<(), AllocError> {
         let start = output.len();

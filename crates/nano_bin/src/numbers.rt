@@ -19,6 +19,8 @@ impl SerBin for u8 {
 
     ghost writes_meaning = { refl };
 
+    ghost orders_keys = { tt };
+
     #[tactic(auto, using(crate::specs::LittleEndian::little_byte))]
     fn ser_bin(&self, alloc: Global, output: &mut Vec<u8>) -> Result<(), AllocError> {
         append_bytes(output, &[*self])
@@ -71,13 +73,15 @@ impl DeBin for u8 {
 impl BothBin for u8 {
     ghost format = { unsigned_format 1 };
 
-    ghost reads_back = { (unsigned_format 1).reads_back };
+    ghost reads_back = { (unsigned_format 1).reads_back tt };
 }
 
 impl SerBin for u16 {
     ghost writing = { unsigned_writing 2 };
 
     ghost writes_meaning = { refl };
+
+    ghost orders_keys = { tt };
 
     #[tactic(auto, using(crate::specs::LittleEndian::to_le_bytes_16))]
     fn ser_bin(&self, alloc: Global, output: &mut Vec<u8>) -> Result<(), AllocError> {
@@ -138,13 +142,15 @@ fn u16s(alloc: Global, chunks: &[[u8; 2]]) -> Result<Vec<u16>, AllocError>
 impl BothBin for u16 {
     ghost format = { unsigned_format 2 };
 
-    ghost reads_back = { (unsigned_format 2).reads_back };
+    ghost reads_back = { (unsigned_format 2).reads_back tt };
 }
 
 impl SerBin for u32 {
     ghost writing = { unsigned_writing 4 };
 
     ghost writes_meaning = { refl };
+
+    ghost orders_keys = { tt };
 
     #[tactic(auto, using(crate::specs::LittleEndian::to_le_bytes_32))]
     fn ser_bin(&self, alloc: Global, output: &mut Vec<u8>) -> Result<(), AllocError> {
@@ -205,13 +211,15 @@ fn u32s(alloc: Global, chunks: &[[u8; 4]]) -> Result<Vec<u32>, AllocError>
 impl BothBin for u32 {
     ghost format = { unsigned_format 4 };
 
-    ghost reads_back = { (unsigned_format 4).reads_back };
+    ghost reads_back = { (unsigned_format 4).reads_back tt };
 }
 
 impl SerBin for u64 {
     ghost writing = { unsigned_writing 8 };
 
     ghost writes_meaning = { refl };
+
+    ghost orders_keys = { tt };
 
     #[tactic(auto, using(crate::specs::LittleEndian::to_le_bytes_64))]
     fn ser_bin(&self, alloc: Global, output: &mut Vec<u8>) -> Result<(), AllocError> {
@@ -272,13 +280,15 @@ fn u64s(alloc: Global, chunks: &[[u8; 8]]) -> Result<Vec<u64>, AllocError>
 impl BothBin for u64 {
     ghost format = { unsigned_format 8 };
 
-    ghost reads_back = { (unsigned_format 8).reads_back };
+    ghost reads_back = { (unsigned_format 8).reads_back tt };
 }
 
 impl SerBin for usize {
     ghost writing = { unsigned_writing 8 };
 
     ghost writes_meaning = { refl };
+
+    ghost orders_keys = { tt };
 
     #[tactic(auto, using(crate::specs::LittleEndian::to_le_bytes_64))]
     fn ser_bin(&self, alloc: Global, output: &mut Vec<u8>) -> Result<(), AllocError> {
@@ -339,13 +349,15 @@ fn usizes(alloc: Global, chunks: &[[u8; 8]]) -> Result<Vec<usize>, AllocError>
 impl BothBin for usize {
     ghost format = { unsigned_format 8 };
 
-    ghost reads_back = { (unsigned_format 8).reads_back };
+    ghost reads_back = { (unsigned_format 8).reads_back tt };
 }
 
 impl SerBin for u128 {
     ghost writing = { unsigned_writing 16 };
 
     ghost writes_meaning = { refl };
+
+    ghost orders_keys = { tt };
 
     #[tactic(auto, using(crate::specs::LittleEndian::to_le_bytes_128))]
     fn ser_bin(&self, alloc: Global, output: &mut Vec<u8>) -> Result<(), AllocError> {
@@ -406,5 +418,5 @@ fn u128s(alloc: Global, chunks: &[[u8; 16]]) -> Result<Vec<u128>, AllocError>
 impl BothBin for u128 {
     ghost format = { unsigned_format 16 };
 
-    ghost reads_back = { (unsigned_format 16).reads_back };
+    ghost reads_back = { (unsigned_format 16).reads_back tt };
 }

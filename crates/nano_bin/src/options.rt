@@ -16,6 +16,8 @@ impl<T: SerBin> SerBin for Option<T> {
 
     ghost writes_meaning = { ap (λ means x. optional (option_map means x)) T.writes_meaning };
 
+    ghost orders_keys = { T.orders_keys };
+
     fn ser_bin(&self, alloc: Global, output: &mut Vec<u8>) -> Result<(), AllocError> {
         let start = output.len();
         match self {

@@ -14,6 +14,8 @@ impl<A: SerBin, B: SerBin> SerBin for (A, B) {
 
     ghost writes_meaning = { λ i x. paired (pair_map (A.writes_meaning i) (B.writes_meaning i) x) };
 
+    ghost orders_keys = { (A.orders_keys, B.orders_keys) };
+
     fn ser_bin(&self, alloc: Global, output: &mut Vec<u8>) -> Result<(), AllocError> {
         let start = output.len();
         self.0.ser_bin(alloc, output)?;

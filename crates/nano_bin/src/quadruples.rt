@@ -14,6 +14,8 @@ impl<A: SerBin, B: SerBin, C: SerBin, D: SerBin> SerBin for (A, B, C, D) {
 
     ghost writes_meaning = { λ i x. paired (A.writes_meaning i x.0, paired (B.writes_meaning i x.1, paired (C.writes_meaning i x.2, D.writes_meaning i x.3))) };
 
+    ghost orders_keys = { (A.orders_keys, (B.orders_keys, (C.orders_keys, D.orders_keys))) };
+
     fn ser_bin(&self, alloc: Global, output: &mut Vec<u8>) -> Result<(), AllocError> {
         let start = output.len();
         self.0.ser_bin(alloc, output)?;

@@ -17,6 +17,8 @@ impl SerBin for i8 {
 
     ghost writes_meaning = { refl };
 
+    ghost orders_keys = { tt };
+
     fn ser_bin(&self, alloc: Global, output: &mut Vec<u8>) -> Result<(), AllocError> {
         u8::ser_bin(&self.cast_unsigned(), alloc, output)
     }
@@ -44,13 +46,15 @@ impl DeBin for i8 {
 impl BothBin for i8 {
     ghost format = { signed_format w8 1 bits_fit_8 };
 
-    ghost reads_back = { (signed_format w8 1 bits_fit_8).reads_back };
+    ghost reads_back = { (signed_format w8 1 bits_fit_8).reads_back tt };
 }
 
 impl SerBin for i16 {
     ghost writing = { signed_writing w16 2 };
 
     ghost writes_meaning = { refl };
+
+    ghost orders_keys = { tt };
 
     fn ser_bin(&self, alloc: Global, output: &mut Vec<u8>) -> Result<(), AllocError> {
         u16::ser_bin(&self.cast_unsigned(), alloc, output)
@@ -79,13 +83,15 @@ impl DeBin for i16 {
 impl BothBin for i16 {
     ghost format = { signed_format w16 2 bits_fit_16 };
 
-    ghost reads_back = { (signed_format w16 2 bits_fit_16).reads_back };
+    ghost reads_back = { (signed_format w16 2 bits_fit_16).reads_back tt };
 }
 
 impl SerBin for i32 {
     ghost writing = { signed_writing w32 4 };
 
     ghost writes_meaning = { refl };
+
+    ghost orders_keys = { tt };
 
     fn ser_bin(&self, alloc: Global, output: &mut Vec<u8>) -> Result<(), AllocError> {
         u32::ser_bin(&self.cast_unsigned(), alloc, output)
@@ -114,13 +120,15 @@ impl DeBin for i32 {
 impl BothBin for i32 {
     ghost format = { signed_format w32 4 bits_fit_32 };
 
-    ghost reads_back = { (signed_format w32 4 bits_fit_32).reads_back };
+    ghost reads_back = { (signed_format w32 4 bits_fit_32).reads_back tt };
 }
 
 impl SerBin for i64 {
     ghost writing = { signed_writing w64 8 };
 
     ghost writes_meaning = { refl };
+
+    ghost orders_keys = { tt };
 
     fn ser_bin(&self, alloc: Global, output: &mut Vec<u8>) -> Result<(), AllocError> {
         u64::ser_bin(&self.cast_unsigned(), alloc, output)
@@ -149,13 +157,15 @@ impl DeBin for i64 {
 impl BothBin for i64 {
     ghost format = { signed_format w64 8 bits_fit_64 };
 
-    ghost reads_back = { (signed_format w64 8 bits_fit_64).reads_back };
+    ghost reads_back = { (signed_format w64 8 bits_fit_64).reads_back tt };
 }
 
 impl SerBin for i128 {
     ghost writing = { signed_writing w128 16 };
 
     ghost writes_meaning = { refl };
+
+    ghost orders_keys = { tt };
 
     fn ser_bin(&self, alloc: Global, output: &mut Vec<u8>) -> Result<(), AllocError> {
         u128::ser_bin(&self.cast_unsigned(), alloc, output)
@@ -184,5 +194,5 @@ impl DeBin for i128 {
 impl BothBin for i128 {
     ghost format = { signed_format w128 16 bits_fit_128 };
 
-    ghost reads_back = { (signed_format w128 16 bits_fit_128).reads_back };
+    ghost reads_back = { (signed_format w128 16 bits_fit_128).reads_back tt };
 }

@@ -18,6 +18,8 @@ impl SerBin for String {
 
     ghost writes_meaning = { refl };
 
+    ghost orders_keys = { tt };
+
     fn ser_bin(&self, alloc: Global, output: &mut Vec<u8>) -> Result<(), AllocError> {
         let start = output.len();
         self.len().ser_bin(alloc, output)?;
@@ -54,5 +56,5 @@ impl DeBin for String {
 impl BothBin for String {
     ghost format = { format_as (λ x. string_bytes x) text_format };
 
-    ghost reads_back = { λ x. text_format.reads_back (string_bytes x) };
+    ghost reads_back = { λ x. text_format.reads_back tt (string_bytes x) };
 }

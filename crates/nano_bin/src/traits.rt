@@ -47,6 +47,9 @@ pub trait SerBin: Value {
 
     /// The writing is of what the values mean.
     ghost writes_meaning: { writing.means ≡ Self.means };
+
+    /// The orders of the keys in the writing are total, and tie where the keys mean the same.
+    ghost orders_keys: { writing.orders_keys };
 }
 
 /// A value that can be read from bytes.

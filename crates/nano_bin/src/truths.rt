@@ -15,6 +15,8 @@ impl SerBin for bool {
 
     ghost writes_meaning = { refl };
 
+    ghost orders_keys = { tt };
+
     fn ser_bin(&self, alloc: Global, output: &mut Vec<u8>) -> Result<(), AllocError> {
         let byte: u8 = if *self { 1 } else { 0 };
         byte.ser_bin(alloc, output)
@@ -51,6 +53,8 @@ impl SerBin for () {
     ghost writing = { unit_writing };
 
     ghost writes_meaning = { refl };
+
+    ghost orders_keys = { tt };
 
     /// Appends nothing, and takes no memory.
     fn ser_bin(&self, alloc: Global, output: &mut Vec<u8>) -> Result<(), AllocError>

@@ -1,3 +1,8 @@
 pub mod Meaning
 pub mod Legal
 pub mod Exact
+pub mod Order
+pub mod Tables
+pub mod Sets
+pub mod Ascending
+pub mod OrderedSets

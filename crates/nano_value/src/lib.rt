@@ -6,8 +6,11 @@
 
 mod boxes;
 mod lists;
+mod maps;
 mod numbers;
 mod options;
+mod ordered_sets;
+mod sets;
 mod texts;
 mod truths;
 mod tuples;

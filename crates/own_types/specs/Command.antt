@@ -1,7 +1,7 @@
 -- A command by its tag and its fields.
 use Rattle.own_types.specs.declared.command.Command.{Command}
 use Rattle.own_types.specs.declared.command.Command.TheVariants.{Stop, Move, Wait}
-use Rattle.std.specs.Prelude.{ℕ}
+use Rattle.std.specs.Prelude.{ℕ, zero, suc}
 use Rattle.nano_bin.specs.Writing.{Format, unit_format, pair_format, format_as}
 use Rattle.nano_bin.specs.Formats.{u32_format, string_format, u64_format}
 use Rattle.nano_bin.specs.Variants.{Body, Tagged, body, variant, no_variants, tagged_format}
@@ -17,3 +17,10 @@ tagged (Wait time) = record { tag = 2; fields = time }
 
 abbrev pub command_format : Format Command
 command_format = format_as tagged (tagged_format bodies)
+
+-- its fields hold no keys, whose order would have to keep laws
+pub no_keys : (tag : ℕ) → (bodies tag).format.writing.orders_keys
+no_keys zero = tt
+no_keys (suc zero) = (tt, tt)
+no_keys (suc (suc zero)) = tt
+no_keys (suc (suc (suc tag))) = tt

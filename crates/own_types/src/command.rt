@@ -1,6 +1,6 @@
 // An enum of three variants. It is written as a tag of two bytes, and the fields of the variant behind it.
 ghost use Rattle.std.specs.Prelude.{refl};
-ghost use Rattle.own_types.specs.Command.{command_format};
+ghost use Rattle.own_types.specs.Command.{command_format, no_keys};
 
 use nano_bin::{BothBin, DeBin, DeBinErr, DeBinKind, SerBin, append_part};
 use nano_value::Value;
@@ -38,6 +38,8 @@ impl SerBin for Command {
     ghost writing = { command_format.writing };
 
     ghost writes_meaning = { refl };
+
+    ghost orders_keys = { no_keys };
 
     fn ser_bin(&self, alloc: Global, output: &mut Vec<u8>) -> Result<(), AllocError> {
         let start = output.len();
@@ -99,5 +101,5 @@ impl DeBin for Command {
 impl BothBin for Command {
     ghost format = { command_format };
 
-    ghost reads_back = { command_format.reads_back };
+    ghost reads_back = { command_format.reads_back no_keys };
 }

@@ -32,6 +32,8 @@ impl SerBin for Reading {
 
     ghost writes_meaning = { refl };
 
+    ghost orders_keys = { (tt, tt) };
+
     fn ser_bin(&self, alloc: Global, output: &mut Vec<u8>) -> Result<(), AllocError> {
         let start = output.len();
         self.at.ser_bin(alloc, output)?;
@@ -55,5 +57,5 @@ impl DeBin for Reading {
 impl BothBin for Reading {
     ghost format = { format_as (λ r. (r.at, r.samples)) ⟦<(u64, Vec<u8>) as BothBin>⟧.format };
 
-    ghost reads_back = { λ r. ⟦<(u64, Vec<u8>) as BothBin>⟧.format.reads_back (r.at, r.samples) };
+    ghost reads_back = { λ r. ⟦<(u64, Vec<u8>) as BothBin>⟧.format.reads_back (tt, tt) (r.at, r.samples) };
 }

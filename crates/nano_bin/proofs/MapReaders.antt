@@ -1,0 +1,63 @@
+-- What readers of maps and sets have read.
+use Rattle.std.specs.Prelude.{false}
+use Rattle.std.specs.Result.{is_err}
+use Rattle.std.proofs.Common.{◌≡◌, ℕ, ◌+◌, Result, Ok, Err, OnOk, List, [], ◌∷◌, ◌++◌, drop, sym, ◌∙◌, subst, ap}
+use Rattle.std.specs.FinMap as table
+use Rattle.nano_value.specs.Meaning.{Meaning, paired, both_injective}
+use Rattle.nano_value.specs.Legal.{IsImage}
+use Rattle.nano_value.specs.Tables.{Table, table_means, last_values, insert_all-push}
+use Rattle.nano_value.specs.Sets.{MeaningSet, set_means, marked}
+use Rattle.nano_bin.specs.Reading.{Reads, NothingFits}
+use Rattle.nano_bin.specs.LittleEndian.{SpellsNumber}
+use Rattle.nano_bin.specs.Spellings.{SpellsPair, SpellsCount}
+use Rattle.nano_bin.specs.Tables.{ReadsTable, SpellsMap, map_means}
+use Rattle.nano_bin.specs.Sets.{ReadsSet, SpellsSet, items_mean}
+use Rattle.nano_bin.proofs.Readers.{image_reads, list_reads, count_reads_none, count_reads_push, map-push}
+
+-- what holds on success holds of what is no error
+pub was_ok : {T E P : Type 0} (r : Result T E) → is_err r ≡ false → OnOk r P → P
+was_ok (Ok x) e h = h
+was_ok (Err x) e h = absurd (cc)
+
+module _ (S R : List ℕ → Meaning → Type 0) where
+  -- what a reader of pairs answers, as a pair of meanings
+  pair_parts : (bytes : List ℕ) (start end : ℕ) (k v : Meaning) → Reads (λ a. IsImage paired (SpellsPair S R a)) bytes start (paired (k, v)) end → Reads (SpellsPair S R) bytes start (k, v) end
+  pair_parts bytes start end k v r =
+      let parts = both_injective k v r.spells.part.0 r.spells.part.1 r.spells.is in
+      record { front = r.front; whole = r.whole; moved = r.moved; spells = subst (SpellsPair S R r.front) (λ i. (sym parts.0 i, sym parts.1 i)) r.spells.has }
+
+  pub no_pair : (bytes : List ℕ) → NothingFits (λ a. IsImage paired (SpellsPair S R a)) bytes → NothingFits (SpellsPair S R) bytes
+  no_pair bytes none p f = none (paired p) (record { front = f.front; rest = f.rest; whole = f.whole; spells = record { part = p; has = f.spells; is = λ i. paired p } })
+
+  -- before the first pair
+  pub table_reads_none : (bytes : List ℕ) (start : ℕ) (t : Table Meaning) → t ≡ table.empty → ReadsTable S R 0 bytes start t start
+  table_reads_none bytes start t e = record { pairs = []; reads = count_reads_none (SpellsPair S R) bytes start; is = e }
+
+  -- one more pair
+  pub table_reads_insert : (bytes : List ℕ) (start mid end count : ℕ) (t u : Table Meaning) (k v : Meaning) → ReadsTable S R count bytes start t mid → Reads (λ a. IsImage paired (SpellsPair S R a)) bytes mid (paired (k, v)) end → u ≡ table.insert t k v → ReadsTable S R (count + 1) bytes start u end
+  table_reads_insert bytes start mid end count t u k v h r e = record {
+    pairs = h.pairs ++ (k, v) ∷ [];
+    reads = count_reads_push (SpellsPair S R) bytes start mid end count h.pairs (k, v) h.reads (pair_parts bytes mid end k v r);
+    is = e ∙ (ap (λ x. table.insert x k v) h.is ∙ sym (insert_all-push table.empty h.pairs k v));
+  }
+
+  pub map_reads : (bytes : List ℕ) (start mid end count : ℕ) (t : Table Meaning) → Reads (SpellsNumber 8) bytes start count mid → ReadsTable S R count bytes mid t end → Reads (SpellsMap S R) bytes start (table_means t) end
+  map_reads bytes start mid end count t h r =
+      subst (λ x. Reads (SpellsMap S R) bytes start (table_means x) end) (sym r.is) (image_reads map_means bytes start end r.pairs (list_reads (SpellsPair S R) bytes start mid end count r.pairs h r.reads))
+
+module _ (S : List ℕ → Meaning → Type 0) where
+  -- before the first item
+  pub set_reads_none : (bytes : List ℕ) (start : ℕ) (s : MeaningSet) → s ≡ table.empty → ReadsSet S 0 bytes start s start
+  set_reads_none bytes start s e = record { items = []; reads = count_reads_none S bytes start; is = e }
+
+  -- one more item
+  pub set_reads_insert : (bytes : List ℕ) (start mid end count : ℕ) (s t : MeaningSet) (m : Meaning) → ReadsSet S count bytes start s mid → Reads S bytes mid m end → t ≡ table.insert s m tt → ReadsSet S (count + 1) bytes start t end
+  set_reads_insert bytes start mid end count s t m h r e = record {
+    items = h.items ++ m ∷ [];
+    reads = count_reads_push S bytes start mid end count h.items m h.reads r;
+    is = e ∙ (ap (λ x. table.insert x m tt) h.is ∙ sym (ap last_values (map-push (λ k. (k, tt)) h.items m) ∙ insert_all-push table.empty (marked h.items) m tt));
+  }
+
+  pub set_reads : (bytes : List ℕ) (start mid end count : ℕ) (s : MeaningSet) → Reads (SpellsNumber 8) bytes start count mid → ReadsSet S count bytes mid s end → Reads (SpellsSet S) bytes start (set_means s) end
+  set_reads bytes start mid end count s h r =
+      subst (λ x. Reads (SpellsSet S) bytes start (set_means x) end) (sym r.is) (image_reads items_mean bytes start end r.items (list_reads S bytes start mid end count r.items h r.reads))
