@@ -5,7 +5,7 @@ pub mod Spellings
 pub mod SpellingLaws
 pub mod Writing
 pub mod Tables
-pub mod Ascending
 pub mod MapWriting
 pub mod Sets
+pub mod OrderedSets
 pub mod Promises

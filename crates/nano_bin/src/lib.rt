@@ -13,9 +13,12 @@ mod lists;
 mod maps;
 mod numbers;
 mod options;
+mod ordered_sets;
 mod sets;
 mod signed;
 mod take;
+#[cfg(test)]
+mod tests_maps;
 mod texts;
 mod traits;
 mod truths;

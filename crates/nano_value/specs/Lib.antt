@@ -4,3 +4,6 @@ pub mod Exact
 pub mod Order
 pub mod Tables
 pub mod Sets
+pub mod Ascending
+pub mod InOrder
+pub mod OrderedSets

@@ -9,6 +9,7 @@ mod lists;
 mod maps;
 mod numbers;
 mod options;
+mod ordered_sets;
 mod sets;
 mod texts;
 mod truths;

@@ -1,6 +1,6 @@
--- The entries of a map in the order of the keys, and what is written of them.
+-- The entries of a map in the order of the keys, as they are written.
 use Rattle.std.specs.Prelude.{◌≡◌, ◌≢◌, ◌+◌, ◌<◌, ℕ, Bool, true, false, cond, ◌&&◌, T, refl, List, [], ◌∷◌, ◌++◌, map, length, Option, Some, None, is_some}
-use Rattle.std.specs.List.{AllByRecursion, flat_map, IsDistinct}
+use Rattle.std.specs.List.{AllByRecursion, IsDistinct}
 use Rattle.std.specs.Option.{option_map, unwrap_or}
 use Rattle.std.specs.Bool.{Decides, one_answer}
 use Rattle.std.specs.declared.cmp.Ordering.{Ordering}
@@ -11,14 +11,13 @@ use Rattle.std.specs.FinMap as table
 use Rattle.std.specs.FinMap.{FinMap}
 use Rattle.std.specs.FinMap.Entries.{by_order, below_all, put, is_sorted}
 use Rattle.std.specs.Map.{lookup, keys_of}
-use Rattle.std.proofs.Common.{sym, ◌∙◌, subst, ap, arith}
+use Rattle.std.proofs.Common.{sym, ◌∙◌, subst, ap, arith, append_assoc}
+use Rattle.std.proofs.lemmas.List.{append-nil}
 use Rattle.nano_value.specs.Meaning.{Meaning, pair_map, usize_bound}
 use Rattle.nano_value.specs.Order.{meaning_cmp, meaning_cmp-total, meaning_cmp-antisymmetric, same_meaning, same_meaning-decides}
 use Rattle.nano_value.specs.Exact.{Tells}
 use Rattle.nano_value.specs.Legal.{BothOfPair, AllOfList, length-map, all-map}
-use Rattle.nano_value.specs.Tables.{Table, table_of, insert_all, last_values, get-table_of, AllOfTable}
-use Rattle.nano_bin.specs.LittleEndian.{little_endian}
-use Rattle.nano_bin.specs.Writing.{written_list}
+use Rattle.nano_value.specs.Tables.{Table, table_of, insert_all, last_values, no_entries, get-table_of, AllOfTable}
 
 -- the entries in the order of the keys: of each key the last value
 abbrev pub ascending : {K X : Type 0} → (K → K → Ordering) → List (K × X) → List (K × X)
@@ -109,12 +108,30 @@ module _ {K X : Type 0} {R : K → K → Ordering} (o : IsTotalOrder R) where
         ] refl)),
   )
 
-pub no_entries : {K X : Type 0} (R : K → K → Ordering) → table.entries (table.empty {X = X} {R = R}) ≡ []
-no_entries {X} R = none (table.entries table.empty) (sym (table.len-entries table.empty) ∙ table.len-empty R X)
-  where
-    none : {A : Type 0} (es : List A) → length es ≡ 0 → es ≡ []
-    none [] e = refl
-    none (x ∷ es) e = absurd (omega arith)
+-- ---- entries that stand in order stay as they are
+
+module _ {K X : Type 0} {R : K → K → Ordering} (o : IsTotalOrder R) where
+  put_last : (k : K) (v : X) (es : List (K × X)) → AllByRecursion (λ e. R k e.0 ≡ Greater) es → put R k v es ≡ es ++ (k, v) ∷ []
+  put_last k v [] h = refl
+  put_last k v (e ∷ es) h = ap (λ r. by_order r ((k, v) ∷ e ∷ es) ((e.0, v) ∷ es) (e ∷ put R k v es)) h.0 ∙ ap (λ l. e ∷ l) (put_last k v es h.1)
+
+  below_later : (x : K) (ds : List (K × X)) (e : K × X) (es : List (K × X)) → T (below_all R x (ds ++ e ∷ es)) → R x e.0 ≡ Less
+  below_later x [] e es h = less _ (first _ _ h)
+  below_later x (d ∷ ds) e es h = below_later x ds e es (second _ _ h)
+
+  above_earlier : (ds : List (K × X)) (e : K × X) (es : List (K × X)) → T (is_sorted R (ds ++ e ∷ es)) → AllByRecursion (λ d. R e.0 d.0 ≡ Greater) ds
+  above_earlier [] e es h = tt
+  above_earlier (d ∷ ds) e es h = (o.antisymm e.0 d.0 ∙ ap ordering_reverse (below_later d.0 ds e es (first _ _ h)), above_earlier ds e es (second _ _ h))
+
+  insert_all-sorted : (t : FinMap R X) (es : List (K × X)) → T (is_sorted R (table.entries t ++ es)) → table.entries (insert_all t es) ≡ table.entries t ++ es
+  insert_all-sorted t [] h = sym (append-nil (table.entries t))
+  insert_all-sorted t (e ∷ es) h =
+      let placed : table.entries (table.insert t e.0 e.1) ≡ table.entries t ++ e ∷ [] = table.entries-insert o t e.0 e.1 ∙ put_last e.0 e.1 (table.entries t) (above_earlier (table.entries t) e es h) in
+      let whole : table.entries (table.insert t e.0 e.1) ++ es ≡ table.entries t ++ e ∷ es = ap (λ l. l ++ es) placed ∙ append_assoc (table.entries t) (e ∷ []) es in
+      insert_all-sorted (table.insert t e.0 e.1) es (subst (λ l. T (is_sorted R l)) (sym whole) h) ∙ whole
+
+  pub ascending-sorted : (es : List (K × X)) → T (is_sorted R es) → ascending R es ≡ es
+  ascending-sorted es h = insert_all-sorted table.empty es (subst (λ l. T (is_sorted R (l ++ es))) (sym (no_entries R)) h) ∙ ap (λ l. l ++ es) (no_entries R)
 
 -- ---- entries that mean the same are written alike
 
@@ -174,24 +191,24 @@ module _ {K V X : Type 0} (R : K → K → Ordering) (f : K → Meaning) (order 
   unfolding Alike
   find-ascending es q = ap (option_map g) (sym (table.get-entries (last_values {R = R} es) q)) ∙ alike_insert_all table.empty table.empty es alike_empty q
 
-  module _ (W : K × V → List ℕ) (same : (x y : K × V) → f x.0 ≡ f y.0 → g x.1 ≡ g y.1 → W x ≡ W y) where
-    -- each key with what is written of its entry
-    abbrev bytes : List (K × V) → List (K × List ℕ)
-    bytes es = map (λ e. (e.0, W e)) es
+  module _ {Y : Type 0} (W : K × V → Y) (same : (x y : K × V) → f x.0 ≡ f y.0 → g x.1 ≡ g y.1 → W x ≡ W y) where
+    -- each key with what its entry gives
+    abbrev given : List (K × V) → List (K × Y)
+    given es = map (λ e. (e.0, W e)) es
 
-    below_bytes : (x : K) (es : List (K × V)) → below_all R x (bytes es) ≡ below_all R x es
-    below_bytes x [] = refl
-    below_bytes x (e ∷ es) = ap (λ c. is_lt (R x e.0) && c) (below_bytes x es)
+    below_given : (x : K) (es : List (K × V)) → below_all R x (given es) ≡ below_all R x es
+    below_given x [] = refl
+    below_given x (e ∷ es) = ap (λ c. is_lt (R x e.0) && c) (below_given x es)
 
-    sorted_bytes : (es : List (K × V)) → is_sorted R (bytes es) ≡ is_sorted R es
-    sorted_bytes [] = refl
-    sorted_bytes (e ∷ es) = λ i. below_bytes e.0 es i && sorted_bytes es i
+    sorted_given : (es : List (K × V)) → is_sorted R (given es) ≡ is_sorted R es
+    sorted_given [] = refl
+    sorted_given (e ∷ es) = λ i. below_given e.0 es i && sorted_given es i
 
-    find-bytes : (q : K) (es : List (K × V)) → table.find R q (bytes es) ≡ option_map (λ v. W (q, v)) (table.find R q es)
-    find-bytes q [] = refl
-    find-bytes q (e ∷ es) = elim (eq_by_cmp R q e.0) as (λ c. eq_by_cmp R q e.0 ≡ c → cond c (Some (W e)) (table.find R q (bytes es)) ≡ option_map (λ v. W (q, v)) (cond c (Some e.1) (table.find R q es))) [
+    find-given : (q : K) (es : List (K × V)) → table.find R q (given es) ≡ option_map (λ v. W (q, v)) (table.find R q es)
+    find-given q [] = refl
+    find-given q (e ∷ es) = elim (eq_by_cmp R q e.0) as (λ c. eq_by_cmp R q e.0 ≡ c → cond c (Some (W e)) (table.find R q (given es)) ≡ option_map (λ v. W (q, v)) (cond c (Some e.1) (table.find R q es))) [
       | true ↦ λ is. ap Some (same e (q, e.1) (sym ((order.ties q e.0).0 is)) refl)
-      | false ↦ λ is. find-bytes q es
+      | false ↦ λ is. find-given q es
     ] refl
 
     same_found : (q : K) (x y : Option V) → option_map g x ≡ option_map g y → option_map (λ v. W (q, v)) x ≡ option_map (λ v. W (q, v)) y
@@ -200,23 +217,17 @@ module _ {K V X : Type 0} (R : K → K → Ordering) (f : K → Meaning) (order 
     same_found q (Some x) None e = absurd (cc)
     same_found q (Some x) (Some y) e = let h : g x ≡ g y = cc in ap Some (same (q, x) (q, y) refl h)
 
-    joined : (es fs : List (K × V)) → map (λ e. e.1) (bytes es) ≡ map (λ e. e.1) (bytes fs) → (length es ≡ length fs) × (flat_map W es ≡ flat_map W fs)
-    joined [] [] e = (refl, refl)
-    joined [] (y ∷ ys) e = absurd (cc)
-    joined (x ∷ xs) [] e = absurd (cc)
-    joined (x ∷ xs) (y ∷ ys) e =
-        let head : W x ≡ W y = cc in
-        let tail : map (λ e. e.1) (bytes xs) ≡ map (λ e. e.1) (bytes ys) = cc in
-        let rest = joined xs ys tail in
-        (cc, λ i. head i ++ rest.1 i)
+    given_values : (es : List (K × V)) → map (λ e. e.1) (given es) ≡ map W es
+    given_values [] = refl
+    given_values (e ∷ es) = ap (λ l. W e ∷ l) (given_values es)
 
-    pub ascending_same : (es fs : List (K × V)) → table_of f g es ≡ table_of f g fs → written_list W (ascending R es) ≡ written_list W (ascending R fs)
+    -- maps that mean the same have entries in order that give the same
+    pub ascending_same : (es fs : List (K × V)) → table_of f g es ≡ table_of f g fs → map W (ascending R es) ≡ map W (ascending R fs)
     ascending_same es fs e =
-        let in_order : (xs : List (K × V)) → T (is_sorted R (bytes (ascending R xs))) = λ xs. subst T (sym (sorted_bytes (ascending R xs))) (table.entries_sorted (last_values {R = R} xs)) in
-        let values = same_values order.total (bytes (ascending R es)) (bytes (ascending R fs)) (in_order es) (in_order fs) (λ q.
-        find-bytes q (ascending R es) ∙ (same_found q _ _ (find-ascending es q ∙ (ap (λ w. table.get w (f q)) e ∙ sym (find-ascending fs q))) ∙ sym (find-bytes q (ascending R fs)))) in
-        let all = joined (ascending R es) (ascending R fs) values in
-        λ i. little_endian 8 (all.0 i) ++ all.1 i
+        let in_order : (xs : List (K × V)) → T (is_sorted R (given (ascending R xs))) = λ xs. subst T (sym (sorted_given (ascending R xs))) (table.entries_sorted (last_values {R = R} xs)) in
+        let values = same_values order.total (given (ascending R es)) (given (ascending R fs)) (in_order es) (in_order fs) (λ q.
+        find-given q (ascending R es) ∙ (same_found q _ _ (find-ascending es q ∙ (ap (λ w. table.get w (f q)) e ∙ sym (find-ascending fs q))) ∙ sym (find-given q (ascending R fs)))) in
+        sym (given_values (ascending R es)) ∙ (values ∙ given_values (ascending R fs))
 
   -- ---- the entries in order are those of the same table
 

@@ -1,0 +1,22 @@
+// Ordered sets: each means its items, as a hash set of them does.
+ghost use Rattle.nano_value.specs.Sets.{LegalSet};
+ghost use Rattle.nano_value.specs.OrderedSets.{ordered_means, ordered_tell};
+
+use crate::value::{Key, Value};
+use std::collections::BTreeSet;
+
+impl<T: Key + Ord> Value for BTreeSet<T> {
+    ghost means = { λ x. ordered_means T.cmp T.means x.keys };
+
+    ghost legal = { LegalSet T.legal };
+
+    fn known(&self) {
+        for item in self {
+            item.known();
+        }
+    }
+}
+
+impl<T: Key + Ord> Key for BTreeSet<T> {
+    ghost exact = { λ x y. ordered_tell T.cmp T.eq T.means T.total T.matches_eq T.exact x.keys y.keys };
+}
