@@ -1,5 +1,4 @@
 pub mod MapReaders
-pub mod MapSort
 pub mod Readers
 pub mod RoundTrip
 pub mod Runs

@@ -1,12 +1,15 @@
 -- What readers of maps and sets have read.
 use Rattle.std.specs.Prelude.{false}
+use Rattle.std.specs.declared.cmp.Ordering.{Ordering}
+use Rattle.std.specs.List.Sorted.{IsStrictlySortedBy}
 use Rattle.std.specs.Result.{is_err}
 use Rattle.std.proofs.Common.{◌≡◌, ℕ, ◌+◌, Result, Ok, Err, OnOk, List, [], ◌∷◌, ◌++◌, drop, sym, ◌∙◌, subst, ap}
 use Rattle.std.specs.FinMap as table
 use Rattle.nano_value.specs.Meaning.{Meaning, paired, both_injective}
 use Rattle.nano_value.specs.Legal.{IsImage}
 use Rattle.nano_value.specs.Tables.{Table, table_means, last_values, insert_all-push}
-use Rattle.nano_value.specs.Sets.{MeaningSet, set_means, marked}
+use Rattle.nano_value.specs.Sets.{MeaningSet, item_set, set_means, marked}
+use Rattle.nano_value.specs.OrderedSets.{ordered_means, ordered_means-sorted}
 use Rattle.nano_bin.specs.Reading.{Reads, NothingFits}
 use Rattle.nano_bin.specs.LittleEndian.{SpellsNumber}
 use Rattle.nano_bin.specs.Spellings.{SpellsPair, SpellsCount}
@@ -61,3 +64,7 @@ module _ (S : List ℕ → Meaning → Type 0) where
   pub set_reads : (bytes : List ℕ) (start mid end count : ℕ) (s : MeaningSet) → Reads (SpellsNumber 8) bytes start count mid → ReadsSet S count bytes mid s end → Reads (SpellsSet S) bytes start (set_means s) end
   set_reads bytes start mid end count s h r =
       subst (λ x. Reads (SpellsSet S) bytes start (set_means x) end) (sym r.is) (image_reads items_mean bytes start end r.items (list_reads S bytes start mid end count r.items h r.reads))
+
+  pub ordered_reads : {K : Type 0} (R : K → K → Ordering) (f : K → Meaning) (ks : List K) → IsStrictlySortedBy R ks → (bytes : List ℕ) (start mid end count : ℕ) → Reads (SpellsNumber 8) bytes start count mid → ReadsSet S count bytes mid (item_set f ks) end → Reads (SpellsSet S) bytes start (ordered_means R f ks) end
+  ordered_reads R f ks sorted bytes start mid end count h r =
+      subst (λ m. Reads (SpellsSet S) bytes start m end) (sym (ordered_means-sorted R f ks sorted)) (set_reads bytes start mid end count (item_set f ks) h r)

@@ -5,9 +5,9 @@ pub mod Spellings
 pub mod SpellingLaws
 pub mod Writing
 pub mod Tables
-pub mod Ascending
 pub mod MapWriting
 pub mod Sets
+pub mod OrderedSets
 pub mod Promises
 pub mod Variants
 pub mod Formats

@@ -2,7 +2,8 @@
 use Rattle.std.specs.Prelude.{◌≡◌, ℕ, refl, List, [], ◌∷◌, ◌++◌, map, length}
 use Rattle.std.specs.declared.cmp.Ordering.{Ordering}
 use Rattle.std.specs.List.{AllByRecursion, flat_map}
-use Rattle.std.proofs.Common.{sym, subst, ap}
+use Rattle.std.proofs.Common.{sym, ◌∙◌, subst, ap}
+use Rattle.std.proofs.lemmas.List.Folds.{flat_map-map}
 use Rattle.nano_value.specs.Meaning.{Meaning, pair_map}
 use Rattle.nano_value.specs.Legal.{BothOfPair, length-map}
 use Rattle.nano_value.specs.Tables.{table_of, table_means, table_means-injective, AllOfTable, LegalMap}
@@ -10,16 +11,23 @@ use Rattle.nano_bin.specs.LittleEndian.{little_endian}
 use Rattle.nano_bin.specs.Spellings.{SpellsPair, SpellsItems}
 use Rattle.nano_bin.specs.Writing.{Writing, Format, ReadsBack, written_pair, written_list}
 use Rattle.nano_bin.specs.Tables.{SpellsMap, map_of}
-use Rattle.nano_bin.specs.Ascending.{ascending, IsOrderOf, ascending_same, table_of-ascending, all-ascending}
+use Rattle.nano_value.specs.Ascending.{ascending, IsOrderOf, ascending_same, table_of-ascending, all-ascending}
 
 -- the count of the entries as a `usize`, and the keys with their values, in the order of the keys
 abbrev pub written_map : {K V : Type 0} → (K → K → Ordering) → (K → List ℕ) → (V → List ℕ) → List (K × V) → List ℕ
 written_map R A B es = written_list (written_pair A B) (ascending R es)
 
+-- items that are written alike, one by one, are written alike as lists
+pub same_list : {A : Type 0} (W : A → List ℕ) (xs ys : List A) → map W xs ≡ map W ys → written_list W xs ≡ written_list W ys
+same_list W xs ys e =
+    let lengths : length xs ≡ length ys = sym (length-map W xs) ∙ (ap length e ∙ length-map W ys) in
+    let items : flat_map W xs ≡ flat_map W ys = sym (flat_map-map (λ l. l) W xs) ∙ (ap (flat_map (λ l. l)) e ∙ flat_map-map (λ l. l) W ys) in
+    λ i. little_endian 8 (lengths i) ++ items i
+
 module _ {K V : Type 0} (R : K → K → Ordering) where
   pub map_same : (v : Writing K) (w : Writing V) → IsOrderOf v.means R × v.orders_keys × w.orders_keys → (es fs : List (K × V)) → table_means (table_of v.means w.means es) ≡ table_means (table_of v.means w.means fs) → written_map R v.written w.written es ≡ written_map R v.written w.written fs
   map_same v w h es fs e =
-      ascending_same R v.means h.0 w.means (written_pair v.written w.written) (λ x y k l i. v.same_written h.1 x.0 y.0 k i ++ w.same_written h.2 x.1 y.1 l i) es fs (table_means-injective _ _ e)
+      same_list (written_pair v.written w.written) (ascending R es) (ascending R fs) (ascending_same R v.means h.0 w.means (written_pair v.written w.written) (λ x y k l i. v.same_written h.1 x.0 y.0 k i ++ w.same_written h.2 x.1 y.1 l i) es fs (table_means-injective _ _ e))
 
   abbrev pub map_writing : Writing K → Writing V → Writing (List (K × V))
   map_writing v w = record {

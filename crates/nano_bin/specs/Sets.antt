@@ -4,17 +4,18 @@ use Rattle.std.specs.declared.cmp.Ordering.{Ordering}
 use Rattle.std.specs.List.{AllByRecursion, flat_map}
 use Rattle.std.specs.Map.{keys_of}
 use Rattle.std.proofs.Common.{sym, ◌∙◌, subst, ap}
-use Rattle.std.proofs.lemmas.List.Folds.{flat_map-map}
 use Rattle.nano_value.specs.Meaning.{Meaning, pair_map, usize_bound}
 use Rattle.nano_value.specs.Legal.{IsImage, BothOfPair, AllOfList, length-map}
 use Rattle.nano_value.specs.Tables.{last_values, table_of, all_of_last_values}
 use Rattle.nano_value.specs.Sets.{MeaningSet, marked, item_set, set_means, AllOfSet, LegalSet, set_means-injective, all-marked}
+use Rattle.nano_value.specs.InOrder.{ascending_items}
 use Rattle.nano_bin.specs.Reading.{IsSpelling, Spelling, Reads}
 use Rattle.nano_bin.specs.LittleEndian.{little_endian}
 use Rattle.nano_bin.specs.Spellings.{SpellsList, SpellsCount}
 use Rattle.nano_bin.specs.SpellingLaws.{list_spelling, image_spelling}
+use Rattle.nano_bin.specs.MapWriting.{same_list}
 use Rattle.nano_bin.specs.Writing.{Writing, Format, ReadsBack, written_list, items_read_back}
-use Rattle.nano_bin.specs.Ascending.{ascending, IsOrderOf, ascending_same, table_of-ascending, all-ascending}
+use Rattle.nano_value.specs.Ascending.{ascending, IsOrderOf, ascending_same, table_of-ascending, all-ascending}
 
 -- the set of a list of items
 abbrev pub items_mean : List Meaning → Meaning
@@ -48,22 +49,20 @@ pub record ReadsSet (S : List ℕ → Meaning → Type 0) (count : ℕ) (bytes :
 
 -- ---- writing
 
--- the items in order, each once
-abbrev pub ascending_items : {K : Type 0} → (K → K → Ordering) → List K → List K
-ascending_items R ks = keys_of (ascending R (marked ks))
-
 -- the count of the items as a `usize`, and the items, in order
 abbrev pub written_set : {K : Type 0} → (K → K → Ordering) → (K → List ℕ) → List K → List ℕ
 written_set R W ks = written_list W (ascending_items R ks)
 
 module _ {K : Type 0} (R : K → K → Ordering) where
-  written_keys : (W : K → List ℕ) (es : List (K × Unit {0})) → written_list W (keys_of es) ≡ written_list (λ e. W e.0) es
-  written_keys W es i = little_endian 8 (length-map (λ e. e.0) es i) ++ flat_map-map W (λ e. e.0) es i
+  written_items : (W : K → List ℕ) (es : List (K × Unit {0})) → map W (keys_of es) ≡ map (λ e. W e.0) es
+  written_items W [] = refl
+  written_items W (e ∷ es) = ap (λ l. W e.0 ∷ l) (written_items W es)
 
   pub set_same : (w : Writing K) → IsOrderOf w.means R × w.orders_keys → (xs ys : List K) → set_means (item_set w.means xs) ≡ set_means (item_set w.means ys) → written_set R w.written xs ≡ written_set R w.written ys
   set_same w h xs ys e =
       let entries = ascending_same R w.means h.0 (λ u. u) (λ x. w.written x.0) (λ x y k l. w.same_written h.1 x.0 y.0 k) (marked xs) (marked ys) (set_means-injective _ _ e) in
-      written_keys w.written (ascending R (marked xs)) ∙ (entries ∙ sym (written_keys w.written (ascending R (marked ys))))
+      let items = written_items w.written (ascending R (marked xs)) ∙ (entries ∙ sym (written_items w.written (ascending R (marked ys)))) in
+      same_list w.written (ascending_items R xs) (ascending_items R ys) items
 
   abbrev pub set_writing : Writing K → Writing (List K)
   set_writing w = record {

@@ -15,9 +15,12 @@ mod numbers;
 mod options;
 mod pairs;
 mod quadruples;
+mod ordered_sets;
 mod sets;
 mod signed;
 mod take;
+#[cfg(test)]
+mod tests_maps;
 mod texts;
 mod traits;
 mod triples;

@@ -2,12 +2,13 @@
 ghost use Rattle.std.specs.Prelude.{◌≡◌, ◌≢◌, ◌≤◌, ◌++◌, map, take, drop, length, IfOk, IfErr, OnOk, OnErr, refl};
 ghost use Rattle.std.specs.List.{flat_map};
 ghost use Rattle.std.specs.Map.Iter.{deref};
+ghost use Rattle.nano_value.specs.InOrder.{ascending_items};
 ghost use Rattle.nano_value.specs.Sets.{item_set, set_means, set_weaker};
 ghost use Rattle.nano_bin.specs.declared.error.DeBinKind.{DeBinKind};
 ghost use Rattle.nano_bin.specs.Reading.{NothingFits};
 ghost use Rattle.nano_bin.specs.Spellings.{SpellsCount};
-ghost use Rattle.nano_bin.specs.Ascending.{key_order};
-ghost use Rattle.nano_bin.specs.Sets.{ReadsSet, ascending_items, set_of, set_writing, set_format, set_reads_back};
+ghost use Rattle.nano_value.specs.Ascending.{key_order};
+ghost use Rattle.nano_bin.specs.Sets.{ReadsSet, set_of, set_writing, set_format, set_reads_back};
 ghost use Rattle.nano_bin.specs.Writing.{writing_as, format_as};
 
 use crate::append::append_part;

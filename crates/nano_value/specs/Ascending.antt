@@ -17,7 +17,7 @@ use Rattle.nano_value.specs.Meaning.{Meaning, pair_map, usize_bound}
 use Rattle.nano_value.specs.Order.{meaning_cmp, meaning_cmp-total, meaning_cmp-antisymmetric, same_meaning, same_meaning-decides}
 use Rattle.nano_value.specs.Exact.{Tells}
 use Rattle.nano_value.specs.Legal.{BothOfPair, AllOfList, length-map, all-map}
-use Rattle.nano_value.specs.Tables.{Table, table_of, insert_all, last_values, get-table_of, AllOfTable}
+use Rattle.nano_value.specs.Tables.{Table, table_of, insert_all, last_values, no_entries, get-table_of, AllOfTable}
 
 -- the entries in the order of the keys: of each key the last value
 abbrev pub ascending : {K X : Type 0} → (K → K → Ordering) → List (K × X) → List (K × X)
@@ -90,27 +90,23 @@ module _ {K X : Type 0} {R : K → K → Ordering} (o : IsTotalOrder R) where
         | Less ↦ λ p. absurd (missed e f es fs p (first _ _ h) (is e.0))
         | Greater ↦ λ p. absurd (missed f e fs es (o.antisymm f.0 e.0 ∙ ap ordering_reverse p) (first _ _ g) (sym (is f.0)))
         | Equal ↦ λ p.
-          let at = sym (found_first e es) ∙ (is e.0 ∙ ap (λ r. cond (is_eq r) (Some f.1) (table.find R e.0 fs)) p) in
-          let value : e.1 ≡ f.1 = ap (λ x. unwrap_or x e.1) at in
-          let rest = same_values es fs (second _ _ g) (second _ _ h) (λ q. tails e f es fs q p (first _ _ g) (first _ _ h) (is q)) in
-          λ i. value i ∷ rest i
+            let at = sym (found_first e es) ∙ (is e.0 ∙ ap (λ r. cond (is_eq r) (Some f.1) (table.find R e.0 fs)) p) in
+            let value : e.1 ≡ f.1 = ap (λ x. unwrap_or x e.1) at in
+            let rest = same_values es fs (second _ _ g) (second _ _ h) (λ q. tails e f es fs q p (first _ _ g) (first _ _ h) (is q)) in
+            λ i. value i ∷ rest i
       ] refl
 
   -- what holds of all that is found holds of each entry
   all_found : (L : K → X → Type 0) (es : List (K × X)) → T (is_sorted R es) → ((q : K) (v : X) → table.find R q es ≡ Some v → L q v) → AllByRecursion (λ e. L e.0 e.1) es
   all_found L [] g h = tt
-  all_found L (e ∷ es) g h = (h e.0 e.1 (found_first e es), all_found L es (second _ _ g) (λ q v is. h q v (
-      elim (eq_by_cmp R q e.0) as (λ b. eq_by_cmp R q e.0 ≡ b → cond b (Some e.1) (table.find R q es) ≡ Some v) [
-        | true ↦ λ t. absurd (let none = below_tied q e.0 es (equal _ t) (first _ _ g) in cc)
-        | false ↦ λ t. is
-      ] refl)))
-
-pub no_entries : {K X : Type 0} (R : K → K → Ordering) → table.entries (table.empty {X = X} {R = R}) ≡ []
-no_entries {X} R = none (table.entries table.empty) (sym (table.len-entries table.empty) ∙ table.len-empty R X)
-  where
-    none : {A : Type 0} (es : List A) → length es ≡ 0 → es ≡ []
-    none [] e = refl
-    none (x ∷ es) e = absurd (omega arith)
+  all_found L (e ∷ es) g h = (
+    h e.0 e.1 (found_first e es),
+    all_found L es (second _ _ g) (λ q v is. h q v (
+        elim (eq_by_cmp R q e.0) as (λ b. eq_by_cmp R q e.0 ≡ b → cond b (Some e.1) (table.find R q es) ≡ Some v) [
+          | true ↦ λ t. absurd (let none = below_tied q e.0 es (equal _ t) (first _ _ g) in cc)
+          | false ↦ λ t. is
+        ] refl)),
+  )
 
 -- ---- entries that stand in order stay as they are
 
@@ -184,7 +180,7 @@ module _ {K V X : Type 0} (R : K → K → Ordering) (f : K → Meaning) (order 
   len_alike u w (x ∷ es) h e =
       let there : table.contains_key u x.0 ≡ table.contains_key w (f x.0) = some_same (table.get u x.0) ∙ ap is_some (h x.0) in
       len_alike (table.insert u x.0 x.1) (table.insert w (f x.0) (g x.1)) es (alike_insert u w x.0 x.1 h)
-        (table.len-insert order.total u x.0 x.1 ∙ ((λ i. cond (there i) (e i) (e i + 1)) ∙ sym (table.len-insert meaning_cmp-total w (f x.0) (g x.1))))
+      (table.len-insert order.total u x.0 x.1 ∙ ((λ i. cond (there i) (e i) (e i + 1)) ∙ sym (table.len-insert meaning_cmp-total w (f x.0) (g x.1))))
 
   -- the entries in order are as many as the table's
   length-ascending : (es : List (K × V)) → length (ascending R es) ≡ table.len (table_of f g es)
@@ -211,9 +207,9 @@ module _ {K V X : Type 0} (R : K → K → Ordering) (f : K → Meaning) (order 
     find-given : (q : K) (es : List (K × V)) → table.find R q (given es) ≡ option_map (λ v. W (q, v)) (table.find R q es)
     find-given q [] = refl
     find-given q (e ∷ es) = elim (eq_by_cmp R q e.0) as (λ c. eq_by_cmp R q e.0 ≡ c → cond c (Some (W e)) (table.find R q (given es)) ≡ option_map (λ v. W (q, v)) (cond c (Some e.1) (table.find R q es))) [
-        | true ↦ λ is. ap Some (same e (q, e.1) (sym ((order.ties q e.0).0 is)) refl)
-        | false ↦ λ is. find-given q es
-      ] refl
+      | true ↦ λ is. ap Some (same e (q, e.1) (sym ((order.ties q e.0).0 is)) refl)
+      | false ↦ λ is. find-given q es
+    ] refl
 
     same_found : (q : K) (x y : Option V) → option_map g x ≡ option_map g y → option_map (λ v. W (q, v)) x ≡ option_map (λ v. W (q, v)) y
     same_found q None None e = refl
@@ -230,7 +226,7 @@ module _ {K V X : Type 0} (R : K → K → Ordering) (f : K → Meaning) (order 
     ascending_same es fs e =
         let in_order : (xs : List (K × V)) → T (is_sorted R (given (ascending R xs))) = λ xs. subst T (sym (sorted_given (ascending R xs))) (table.entries_sorted (last_values {R = R} xs)) in
         let values = same_values order.total (given (ascending R es)) (given (ascending R fs)) (in_order es) (in_order fs) (λ q.
-          find-given q (ascending R es) ∙ (same_found q _ _ (find-ascending es q ∙ (ap (λ w. table.get w (f q)) e ∙ sym (find-ascending fs q))) ∙ sym (find-given q (ascending R fs)))) in
+        find-given q (ascending R es) ∙ (same_found q _ _ (find-ascending es q ∙ (ap (λ w. table.get w (f q)) e ∙ sym (find-ascending fs q))) ∙ sym (find-given q (ascending R fs)))) in
         sym (given_values (ascending R es)) ∙ (values ∙ given_values (ascending R fs))
 
   -- ---- the entries in order are those of the same table
@@ -266,12 +262,12 @@ module _ {K V X : Type 0} (R : K → K → Ordering) (f : K → Meaning) (order 
   table_of-entries u k v =
       let es = table.entries u in
       table.same_map meaning_cmp-total meaning_cmp-antisymmetric _ _ (λ q.
-        get-entries (table.insert u k v) q
-        ∙ (ap (λ l. option_map g (lookup (λ x. same_meaning q (f x)) l)) (table.entries-insert order.total u k v)
-        ∙ (ap (option_map g) (lookup-put q k v es)
-        ∙ (some_map g (same_meaning q (f k)) v (lookup (λ x. same_meaning q (f x)) es)
-        ∙ (ap (cond (same_meaning q (f k)) (Some (g v))) (sym (get-entries u q))
-        ∙ sym (table.get-insert meaning_cmp-total (table_of f g es) (f k) (g v) q))))))
+      get-entries (table.insert u k v) q
+      ∙ (ap (λ l. option_map g (lookup (λ x. same_meaning q (f x)) l)) (table.entries-insert order.total u k v)
+      ∙ (ap (option_map g) (lookup-put q k v es)
+      ∙ (some_map g (same_meaning q (f k)) v (lookup (λ x. same_meaning q (f x)) es)
+      ∙ (ap (cond (same_meaning q (f k)) (Some (g v))) (sym (get-entries u q))
+      ∙ sym (table.get-insert meaning_cmp-total (table_of f g es) (f k) (g v) q))))))
 
   all_entries : (u : FinMap R V) (es : List (K × V)) → table_of f g (table.entries (insert_all u es)) ≡ insert_all (table_of f g (table.entries u)) (map (pair_map f g) es)
   all_entries u [] = refl
@@ -286,13 +282,13 @@ module _ {K V X : Type 0} (R : K → K → Ordering) (f : K → Meaning) (order 
     found_legal : (q : Meaning) (x : X) (ps : List (Meaning × X)) → AllByRecursion (BothOfPair P Q) ps → table.find meaning_cmp q ps ≡ Some x → P q × Q x
     found_legal q x [] h e = absurd (cc)
     found_legal q x (p ∷ ps) h e = elim (same_meaning q p.0) as (λ b. same_meaning q p.0 ≡ b → cond b (Some p.1) (table.find meaning_cmp q ps) ≡ Some x → P q × Q x) [
-        | true ↦ λ s is. (subst P (sym ((same_meaning-decides q p.0).0 s)) h.0.0, subst Q (ap (λ o. unwrap_or o x) is) h.0.1)
-        | false ↦ λ s is. found_legal q x ps h.1 is
-      ] refl e
+      | true ↦ λ s is. (subst P (sym ((same_meaning-decides q p.0).0 s)) h.0.0, subst Q (ap (λ o. unwrap_or o x) is) h.0.1)
+      | false ↦ λ s is. found_legal q x ps h.1 is
+    ] refl e
 
     pub all-ascending : (es : List (K × V)) → AllOfTable P Q (table_of f g es) → AllOfList (BothOfPair P Q) (map (pair_map f g) (ascending R es))
     all-ascending es h = record {
       count = subst (λ n. n < usize_bound) (sym (length-map (pair_map f g) (ascending R es) ∙ length-ascending es)) h.count;
       items = all-map (BothOfPair P Q) (pair_map f g) (ascending R es) (all_found order.total (λ k v. P (f k) × Q (g v)) (ascending R es) (table.entries_sorted (last_values {R = R} es)) (λ q v is.
-        found_legal (f q) (g v) (table.entries (table_of f g es)) h.entries (sym (table.get-entries (table_of f g es) (f q)) ∙ (sym (find-ascending es q) ∙ ap (option_map g) is))));
+          found_legal (f q) (g v) (table.entries (table_of f g es)) h.entries (sym (table.get-entries (table_of f g es) (f q)) ∙ (sym (find-ascending es q) ∙ ap (option_map g) is))));
     }

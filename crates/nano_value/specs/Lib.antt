@@ -5,4 +5,5 @@ pub mod Order
 pub mod Tables
 pub mod Sets
 pub mod Ascending
+pub mod InOrder
 pub mod OrderedSets

@@ -132,8 +132,7 @@ module _ {K : Type 0} (R : K → K → Ordering) where
 pub ordered_tell : {K : Type 0} (R : K → K → Ordering) (E : K → K → Bool) (f : K → Meaning) → IsTotalOrder R → ((x y : K) → E x y ≡ is_eq (R x y)) → Tells E f → Tells (pointwise E) (ordered_means R f)
 ordered_tell R E f total matches exact xs ys =
     let order = key_order R E f f total matches exact refl in
-    let lists = lists_tell f E exact xs ys in
-    (
+    let lists = lists_tell f E exact xs ys in (
       λ e. from_meanings R f order xs ys (listed_injective _ _ (lists.0 e)),
       λ e. lists.1 (ap listed (ordered_means-meanings R f order xs ys e)),
     )

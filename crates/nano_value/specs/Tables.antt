@@ -121,10 +121,10 @@ module _ {K V X : Type 0} (f : K → Meaning) (g : V → X) where
 
 -- ---- which tables are legal
 
-entries_empty : {X : Type 0} → table.entries (table.empty {X = X} {R = meaning_cmp}) ≡ []
-entries_empty {X} = none_left (table.entries table.empty) (sym (table.len-entries table.empty) ∙ table.len-empty meaning_cmp X)
+pub no_entries : {K X : Type 0} (R : K → K → Ordering) → table.entries (table.empty {X = X} {R = R}) ≡ []
+no_entries {K} {X} R = none_left (table.entries table.empty) (sym (table.len-entries table.empty) ∙ table.len-empty R X)
   where
-    none_left : (es : List (Meaning × X)) → length es ≡ 0 → es ≡ []
+    none_left : (es : List (K × X)) → length es ≡ 0 → es ≡ []
     none_left [] e = refl
     none_left (x ∷ es) e = absurd (omega arith)
 
@@ -159,7 +159,7 @@ module _ {X : Type 0} (P : Meaning → Type 0) (Q : X → Type 0) where
   all_of_last_values es h =
       let less = h.count in
       let short = len-insert_all table.empty es 0 (subst (λ n. n ≤ 0) (sym (table.len-empty meaning_cmp X)) (omega arith)) in
-      record { count = omega (arith, less, short); entries = all_inserted table.empty es (subst (AllByRecursion (BothOfPair P Q)) (sym entries_empty) tt) h.items }
+      record { count = omega (arith, less, short); entries = all_inserted table.empty es (subst (AllByRecursion (BothOfPair P Q)) (sym (no_entries meaning_cmp)) tt) h.items }
 
   pub all_of_table_of : {K V : Type 0} (f : K → Meaning) (g : V → X) (es : List (K × V)) → length es < 2 ^ 63 → AllByRecursion (λ e. P (f e.0) × Q (g e.1)) es → AllOfTable P Q (table_of f g es)
   all_of_table_of f g es few all =

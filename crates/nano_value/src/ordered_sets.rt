@@ -2,9 +2,8 @@
 ghost use Rattle.nano_value.specs.Sets.{LegalSet};
 ghost use Rattle.nano_value.specs.OrderedSets.{ordered_means, ordered_tell};
 
-use std::collections::BTreeSet;
-
 use crate::value::{Key, Value};
+use std::collections::BTreeSet;
 
 impl<T: Key + Ord> Value for BTreeSet<T> {
     ghost means = { λ x. ordered_means T.cmp T.means x.keys };
