@@ -12,18 +12,23 @@ use crate::place::Place;
 use std::alloc::AllocError;
 use std::str::Chars;
 
-/// What a number run is. The text of a decimal stands elsewhere.
+/// Which number a lexeme is.
 #[derive(Clone, Copy, Debug, PartialEq)]
 pub enum Number {
+    /// An integer without a minus.
     U64(u64),
+    /// An integer with a minus, which 0 may have too.
     I64(i64),
+    /// A number with a point or an exponent. Its text stands in the buffer that was passed.
     Dec,
 }
 
 /// Why no lexeme was read.
 #[derive(Clone, Copy, Debug, PartialEq)]
 pub enum Fault {
+    /// None begins there.
     Malformed,
+    /// A buffer could not grow for its text.
     Memory,
 }
 
