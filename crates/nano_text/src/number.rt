@@ -106,7 +106,11 @@ fn with_digit(value: Option<u64>, digit: u64) -> Option<u64>
     ensures { (all : ℕ) → SomeIff value (all < 2 ^ 64) all → SomeIff result (all * 10 + digit < 2 ^ 64) (all * 10 + digit) }
 {
     let value = value?;
-    if value < u64::MAX / 10 || value == u64::MAX / 10 && digit <= u64::MAX % 10 {
+    // Nearly every digit passes this one test.
+    if value < u64::MAX / 10 {
+        return Some(value * 10 + digit);
+    }
+    if value == u64::MAX / 10 && digit <= u64::MAX % 10 {
         Some(value * 10 + digit)
     } else {
         None
@@ -134,7 +138,9 @@ fn digits_behind(first: u64, bytes: &[u8]) -> Digits
 /// Takes the longest front of digits.
 ///
 /// The first is the current character, which may never have been in `i`. The others are taken at
-/// once, and the number that they write is built as they are taken.
+/// once, and the number that they write is built as they are taken. Inlined, so that what it
+/// answers stays in registers.
+#[inline(always)]
 fn take_digits(p: &mut Place, i: &mut Chars<'_>) -> Digits
     ensures len { result.len ≡ length (front is_ascii_digit (text_at p.old i.old)) }
     ensures value { let all = digits_value 10 (front is_ascii_digit (text_at p.old i.old)) in SomeIff result.value (all < 2 ^ 64) all }
