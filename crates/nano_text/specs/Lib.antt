@@ -1,5 +1,7 @@
 pub mod Front
 pub mod Laws
+pub mod ListLaws
+pub mod Lists
 pub mod Number
 pub mod Place
 pub mod Scan

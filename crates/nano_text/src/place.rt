@@ -46,9 +46,16 @@ impl Place {
         ensures { self.new.cur ≡ self.old.cur }
     {
         let bytes = text.as_bytes();
-        match bytes.iter().rposition(|byte| *byte == b'\n') {
+        let feeds = line_feeds(bytes);
+        // Most fronts stand on one line, and counting is faster than looking for the last.
+        let last = if feeds == 0 {
+            None
+        } else {
+            bytes.iter().rposition(|byte| *byte == b'\n')
+        };
+        match last {
             Some(last) => {
-                self.line = self.line.saturating_add(line_feeds(bytes));
+                self.line = self.line.saturating_add(feeds);
                 self.col = characters(&bytes[last + 1..]);
             }
             None => self.col = self.col.saturating_add(characters(bytes)),
