@@ -34,20 +34,20 @@ pub record SpellsVariant (bodies : ℕ → Spelling) (bytes : List ℕ) (v : Var
 module _ (bodies : ℕ → Spelling) where
   variant_value : (a : List ℕ) (x y : Variant) → SpellsVariant bodies a x → SpellsVariant bodies a y → x ≡ y
   variant_value a x y h j =
-    let e = same_fronts (number_spelling 2) h.head j.head h.tail j.tail x.tag y.tag h.tagged j.tagged (sym h.whole ∙ j.whole) in
-    let tag = (number_spelling 2).one_value h.head x.tag y.tag h.tagged (subst (λ l. SpellsNumber 2 l y.tag) (sym e.0) j.tagged) in
-    let other = subst (λ k. (bodies k).spelled j.tail y.fields) (sym tag) j.fields in
-    let fields = (bodies x.tag).laws.one_value h.tail x.fields y.fields h.fields (subst (λ l. (bodies x.tag).spelled l y.fields) (sym e.1) other) in
-    λ i. record { tag = tag i; fields = fields i }
+      let e = same_fronts (number_spelling 2) h.head j.head h.tail j.tail x.tag y.tag h.tagged j.tagged (sym h.whole ∙ j.whole) in
+      let tag = (number_spelling 2).one_value h.head x.tag y.tag h.tagged (subst (λ l. SpellsNumber 2 l y.tag) (sym e.0) j.tagged) in
+      let other = subst (λ k. (bodies k).spelled j.tail y.fields) (sym tag) j.fields in
+      let fields = (bodies x.tag).laws.one_value h.tail x.fields y.fields h.fields (subst (λ l. (bodies x.tag).spelled l y.fields) (sym e.1) other) in
+      λ i. record { tag = tag i; fields = fields i }
 
   variant_front : (a b m n : List ℕ) (x y : Variant) → SpellsVariant bodies a x → SpellsVariant bodies b y → a ++ m ≡ b ++ n → a ≡ b
   variant_front a b m n x y h j e =
-    let w = ap (λ l. l ++ m) (sym h.whole) ∙ (e ∙ ap (λ l. l ++ n) j.whole) in
-    let p = same_heads (number_spelling 2) h.head j.head h.tail j.tail m n x.tag y.tag h.tagged j.tagged w in
-    let tag = (number_spelling 2).one_value h.head x.tag y.tag h.tagged (subst (λ l. SpellsNumber 2 l y.tag) (sym p.0) j.tagged) in
-    let other = subst (λ k. (bodies k).spelled j.tail y.fields) (sym tag) j.fields in
-    let q = (bodies x.tag).laws.one_front h.tail j.tail m n x.fields y.fields h.fields other p.1 in
-    h.whole ∙ (ap (λ l. l ++ h.tail) p.0 ∙ (ap (λ l. j.head ++ l) q ∙ sym j.whole))
+      let w = ap (λ l. l ++ m) (sym h.whole) ∙ (e ∙ ap (λ l. l ++ n) j.whole) in
+      let p = same_heads (number_spelling 2) h.head j.head h.tail j.tail m n x.tag y.tag h.tagged j.tagged w in
+      let tag = (number_spelling 2).one_value h.head x.tag y.tag h.tagged (subst (λ l. SpellsNumber 2 l y.tag) (sym p.0) j.tagged) in
+      let other = subst (λ k. (bodies k).spelled j.tail y.fields) (sym tag) j.fields in
+      let q = (bodies x.tag).laws.one_front h.tail j.tail m n x.fields y.fields h.fields other p.1 in
+      h.whole ∙ (ap (λ l. l ++ h.tail) p.0 ∙ (ap (λ l. j.head ++ l) q ∙ sym j.whole))
 
   pub variant_spelling : IsSpelling (IsVariant bodies) (SpellsVariant bodies)
   variant_spelling = record {
@@ -98,27 +98,27 @@ module _ (bodies : ℕ → Body) where
 
   pub tagged_same : orders_fields_keys → (x y : Tagged bodies) → tagged_means x ≡ tagged_means y → written_tagged x ≡ written_tagged y
   tagged_same ordered x y e =
-    let parts = both_injective _ _ _ _ e in
-    let tag = whole_injective x.tag y.tag parts.0 in
-    let fields = same_fields ordered x.tag y.tag tag x.fields y.fields parts.1 in
-    λ i. little_endian 2 (tag i) ++ fields i
+      let parts = both_injective _ _ _ _ e in
+      let tag = whole_injective x.tag y.tag parts.0 in
+      let fields = same_fields ordered x.tag y.tag tag x.fields y.fields parts.1 in
+      λ i. little_endian 2 (tag i) ++ fields i
 
   abbrev pub tagged_writing : Writing (Tagged bodies)
   tagged_writing = record { means = tagged_means; written = written_tagged; orders_keys = orders_fields_keys; same_written = tagged_same }
 
   pub tagged_reads_back : orders_fields_keys → (v : Tagged bodies) → (variants_of (body_spelling bodies)).legal (tagged_means v) → (variants_of (body_spelling bodies)).spelled (written_tagged v) (tagged_means v)
   tagged_reads_back ordered v h =
-    let parts = both_injective _ _ _ _ h.is in
-    let tag = whole_injective v.tag h.part.tag parts.0 in
-    let format = (bodies v.tag).format in
-    let fits = subst (λ k. k < 256 ^ 2) (sym tag) h.has.tag_fits in
-    let same_tag = subst (λ k. (bodies k).format.spelling.legal h.part.fields) (sym tag) h.has.fields_legal in
-    let legal = subst format.spelling.legal (sym parts.1) same_tag in
-    record {
-      part = record { tag = v.tag; fields = format.writing.means v.fields };
-      has = record { head = little_endian 2 v.tag; tail = format.writing.written v.fields; whole = refl; tagged = record { fits = fits; whole = refl }; fields = format.reads_back (ordered v.tag) v.fields legal };
-      is = refl;
-    }
+      let parts = both_injective _ _ _ _ h.is in
+      let tag = whole_injective v.tag h.part.tag parts.0 in
+      let format = (bodies v.tag).format in
+      let fits = subst (λ k. k < 256 ^ 2) (sym tag) h.has.tag_fits in
+      let same_tag = subst (λ k. (bodies k).format.spelling.legal h.part.fields) (sym tag) h.has.fields_legal in
+      let legal = subst format.spelling.legal (sym parts.1) same_tag in
+      record {
+        part = record { tag = v.tag; fields = format.writing.means v.fields };
+        has = record { head = little_endian 2 v.tag; tail = format.writing.written v.fields; whole = refl; tagged = record { fits = fits; whole = refl }; fields = format.reads_back (ordered v.tag) v.fields legal };
+        is = refl;
+      }
 
   -- the format of values that are seen by their tag and fields
   abbrev pub tagged_format : Format (Tagged bodies)

@@ -70,13 +70,13 @@ pub triples_tell : {A B C : Type 0} (f : A → Meaning) (a : A → A → Bool) (
     → Tells (λ x y. (a x.0 y.0 && b x.1 y.1) && c x.2 y.2) (λ (x : A × B × C). paired (f x.0, paired (g x.1, h x.2)))
 triples_tell f a g b h c t u v x y =
     decides_same (and_assoc (a x.0 y.0) (b x.1 y.1) (c x.2 y.2))
-      (pairs_tell f a (λ z. paired (pair_map g h z)) (λ z w. b z.0 w.0 && c z.1 w.1) t (pairs_tell g b h c u v) (x.0, (x.1, x.2)) (y.0, (y.1, y.2)))
+    (pairs_tell f a (λ z. paired (pair_map g h z)) (λ z w. b z.0 w.0 && c z.1 w.1) t (pairs_tell g b h c u v) (x.0, (x.1, x.2)) (y.0, (y.1, y.2)))
 
 pub quadruples_tell : {A B C D : Type 0} (f : A → Meaning) (a : A → A → Bool) (g : B → Meaning) (b : B → B → Bool) (h : C → Meaning) (c : C → C → Bool) (k : D → Meaning) (d : D → D → Bool) → Tells a f → Tells b g → Tells c h → Tells d k
     → Tells (λ x y. ((a x.0 y.0 && b x.1 y.1) && c x.2 y.2) && d x.3 y.3) (λ (x : A × B × C × D). paired (f x.0, paired (g x.1, paired (h x.2, k x.3))))
 quadruples_tell f a g b h c k d t u v w x y =
     let both_ends = a x.0 y.0 && b x.1 y.1 in
     decides_same (and_assoc both_ends (c x.2 y.2) (d x.3 y.3) ∙ and_assoc (a x.0 y.0) (b x.1 y.1) (c x.2 y.2 && d x.3 y.3))
-      (pairs_tell f a (λ z. paired (pair_map g (λ p. paired (pair_map h k p)) z)) (λ z z'. b z.0 z'.0 && (c z.1.0 z'.1.0 && d z.1.1 z'.1.1)) t
-        (pairs_tell g b (λ p. paired (pair_map h k p)) (λ p p'. c p.0 p'.0 && d p.1 p'.1) u (pairs_tell h c k d v w))
-        (x.0, (x.1, (x.2, x.3))) (y.0, (y.1, (y.2, y.3))))
+    (pairs_tell f a (λ z. paired (pair_map g (λ p. paired (pair_map h k p)) z)) (λ z z'. b z.0 z'.0 && (c z.1.0 z'.1.0 && d z.1.1 z'.1.1)) t
+    (pairs_tell g b (λ p. paired (pair_map h k p)) (λ p p'. c p.0 p'.0 && d p.1 p'.1) u (pairs_tell h c k d v w))
+    (x.0, (x.1, (x.2, x.3))) (y.0, (y.1, (y.2, y.3))))

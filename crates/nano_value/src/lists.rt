@@ -4,9 +4,8 @@ ghost use Rattle.nano_value.specs.Meaning.{listed, usize_bound};
 ghost use Rattle.nano_value.specs.Legal.{LegalArray, LegalList};
 ghost use Rattle.nano_value.specs.Exact.{lists_tell};
 
-use std::collections::LinkedList;
-
 use crate::value::{Key, Value};
+use std::collections::LinkedList;
 
 impl<T: Value> Value for Vec<T> {
     ghost means = { λ x. listed (map T.means x.items) };

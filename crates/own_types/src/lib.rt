@@ -3,6 +3,8 @@
 
 mod command;
 mod reading;
+#[cfg(test)]
+mod tests;
 
 pub use command::Command;
 pub use reading::Reading;

@@ -29,7 +29,9 @@ no_other (suc (suc zero)) a b c bytes m h = c refl
 no_other (suc (suc (suc tag))) a b c bytes m h = h
 
 pub returns-in-Ok-clause-err : goal.returns-in-Ok-clause-err
-returns-in-Ok-clause-err c h = let k = c.in-Ok in ?
+returns-in-Ok-clause-err c h =
+    let t = c.in-Ok.field-0-test in
+    fields_refused (body_spelling bodies) _ _ _ c.in-Ok.field-0 c.in-Ok.ensures.ok (λ m f. no_other c.in-Ok.field-0 t.0.0.1 t.0.1 t.1 f.front m f.spells)
 
 pub returns-in-Err-clause-err : goal.returns-in-Err-clause-err
 returns-in-Err-clause-err c h = tag_refused (body_spelling bodies) c.args.bytes.now c.args.offset.now c.in-Err.ensures.err

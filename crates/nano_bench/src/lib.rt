@@ -1,0 +1,79 @@
+//! The formats behind one function of C's calling convention, so that they run beside other programs in one process.
+#![tactic(auto)]
+
+mod item;
+
+use item::Item;
+use nano_bin::{BothBin, DeBinKind};
+use std::alloc::Global;
+use std::collections::HashMap;
+
+/// The input is refused.
+pub const REFUSED: i64 = -1;
+/// A growth was refused.
+pub const NO_MEMORY: i64 = -2;
+/// The output is too short for what is written.
+pub const TOO_SHORT: i64 = -3;
+/// There is no such case.
+pub const NO_SUCH_CASE: i64 = -4;
+
+/// The format number of the binary format.
+const BINARY: u32 = 0;
+
+/// Reads a value of a kind in a format, and drops it (`op` 0) or writes it again into `output` (`op` 1).
+///
+/// Formats: 0 is the binary one; others are not there yet. Kinds: 0 `Vec<u8>`, 1 `Vec<u64>`, 2 `Vec<String>`, 3
+/// `HashMap<String, i32>`, 4 a list of records `{ value: i32, note: Option<String> }`. Answers 0 or the number of bytes
+/// written, or one of the negative constants of this crate.
+#[unsafe(no_mangle)]
+pub extern "C" fn nano_op(
+    alloc: Global,
+    format: u32,
+    kind: u32,
+    op: u32,
+    input: &[u8],
+    output: &mut [u8],
+) -> i64 {
+    if format != BINARY || op > 1 {
+        return NO_SUCH_CASE;
+    }
+    let write = op == 1;
+    match kind {
+        0 => again::<Vec<u8>>(alloc, write, input, output),
+        1 => again::<Vec<u64>>(alloc, write, input, output),
+        2 => again::<Vec<String>>(alloc, write, input, output),
+        3 => again::<HashMap<String, i32>>(alloc, write, input, output),
+        4 => again::<Vec<Item>>(alloc, write, input, output),
+        _ => NO_SUCH_CASE,
+    }
+}
+
+/// Reads a value and, where asked, writes it into `output`.
+fn again<T: BothBin>(alloc: Global, write: bool, input: &[u8], output: &mut [u8]) -> i64 {
+    let value = match T::deserialize_bin(alloc, input) {
+        Ok(value) => value,
+        Err(error) => {
+            return if error.kind == DeBinKind::Memory {
+                NO_MEMORY
+            } else {
+                REFUSED
+            };
+        }
+    };
+    if !write {
+        return 0;
+    }
+    match value.serialize_bin(alloc) {
+        Ok(bytes) => put(&bytes, output),
+        Err(_) => NO_MEMORY,
+    }
+}
+
+/// Copies bytes to the front of `output`, and answers how many.
+fn put(bytes: &[u8], output: &mut [u8]) -> i64 {
+    match output.get_mut(..bytes.len()) {
+        Some(front) => front.copy_from_slice(bytes),
+        None => return TOO_SHORT,
+    }
+    i64::try_from(bytes.len()).unwrap_or(TOO_SHORT)
+}
