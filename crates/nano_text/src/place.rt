@@ -46,16 +46,9 @@ impl Place {
         ensures { self.new.cur ≡ self.old.cur }
     {
         let bytes = text.as_bytes();
-        let feeds = line_feeds(bytes);
-        // Most fronts stand on one line, and counting is faster than looking for the last.
-        let last = if feeds == 0 {
-            None
-        } else {
-            bytes.iter().rposition(|byte| *byte == b'\n')
-        };
-        match last {
+        match bytes.iter().rposition(|byte| *byte == b'\n') {
             Some(last) => {
-                self.line = self.line.saturating_add(feeds);
+                self.line = self.line.saturating_add(line_feeds(bytes));
                 self.col = characters(&bytes[last + 1..]);
             }
             None => self.col = self.col.saturating_add(characters(bytes)),
