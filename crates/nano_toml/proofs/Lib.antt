@@ -11,3 +11,5 @@ pub mod NumberCut
 pub mod LexemeCut
 pub mod CutLaws
 pub mod NextSteps
+pub mod Utf8Fronts
+pub mod PlainFronts

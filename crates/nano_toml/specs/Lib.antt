@@ -2,6 +2,7 @@ pub mod Characters
 pub mod Cut
 pub mod LiveText
 pub mod Number
+pub mod Plain
 pub mod Quoted
 pub mod Scan
 pub mod Skipped

@@ -109,6 +109,11 @@ fn strings(rt: HostRuntime) -> Result<(), Fail> {
             ("\"\\", "Quoted 0:2"),
             ("\"a\nbc", "Quoted 1:2"),
             ("\"x\0\"", "Quoted 0:3"),
+            ("\"aa\nb\u{e9}\" @", "Str(\"aa\\nb\u{e9}\") Character 1:5"),
+            (
+                "\"\"\"a\n\nb\"c\"\"\"@",
+                "Str(\"a\\n\\nb\\\"c\") Character 2:7",
+            ),
         ],
     )
 }
