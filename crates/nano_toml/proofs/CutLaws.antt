@@ -1,8 +1,8 @@
 -- The cut and the scan are one; so a text is cut in one way.
-use Rattle.std.proofs.Common.{◌≡◌, ℕ, ◌<◌, List, [], ◌∷◌, ◌++◌, length, length-append, Bool, true, false, Option, Some, None, refl, ap, sym, ◌∙◌, subst, append-nil, arith}
+use Rattle.std.proofs.Common.{◌≡◌, ℕ, ◌<◌, List, [], ◌∷◌, ◌++◌, length, length-append, false, Option, Some, None, refl, ap, sym, ◌∙◌, subst, arith}
 use Rattle.nano_toml.specs.Token.{Token}
 use Rattle.nano_toml.specs.Taken.{Next, a_token, the_end, Took}
-use Rattle.nano_toml.specs.Skipped.{Gap, gaps_text, last_comment_text, IsLastComment}
+use Rattle.nano_toml.specs.Skipped.{gaps_text, last_comment_text, IsLastComment}
 use Rattle.nano_toml.specs.Word.{IsWord}
 use Rattle.nano_toml.specs.Quoted.{pieces_text, IsString, empty, short, triple}
 use Rattle.nano_toml.specs.Number.{sign_text, is_minus, body_text}

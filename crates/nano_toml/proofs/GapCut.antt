@@ -1,8 +1,8 @@
 -- What is skipped, and how it is scanned: one is the other.
-use Rattle.std.proofs.Common.{◌≡◌, ◌≢◌, ℕ, List, [], ◌∷◌, ◌++◌, Bool, true, false, cond, eqb, ◌==◌, refl, ap, sym, ◌∙◌, inl, inr, append_assoc, append-nil, true≢false, flat_map}
+use Rattle.std.proofs.Common.{◌≡◌, ℕ, List, [], ◌∷◌, ◌++◌, Bool, true, false, cond, eqb, refl, ap, sym, ◌∙◌, inl, inr, append_assoc, true≢false}
 use Rattle.std.proofs.lemmas.Bool.Decides.{eqb_tells}
 use Rattle.nano_toml.specs.Characters.{is_space, is_line_feed, NoneOf}
-use Rattle.nano_toml.specs.Skipped.{Gap, space, comment, gap_text, gaps_text, IsGap, AreGaps}
+use Rattle.nano_toml.specs.Skipped.{Gap, space, comment, gaps_text, AreGaps}
 use Rattle.nano_toml.specs.Scan.{behind_gaps}
 
 -- ---- what is skipped is scanned

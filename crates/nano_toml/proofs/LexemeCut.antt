@@ -1,13 +1,12 @@
 -- One lexeme, and how it is scanned: one is the other.
-use Rattle.std.proofs.Common.{◌≡◌, ◌≢◌, ℕ, ◌<◌, ◌≤◌, List, [], ◌∷◌, ◌++◌, length, Bool, true, false, cond, eqb, ◌==◌, ◌||◌, ◌&&◌, nat_le, Option, Some, None, option_map, refl, ap, sym, ◌∙◌, subst, inl, inr, ◌⊎◌, eqb-true, ne_eqb, true≢false, arith, encode_utf8_all}
+use Rattle.std.proofs.Common.{◌≡◌, ℕ, ◌≤◌, List, [], ◌∷◌, Bool, true, false, ◌==◌, Option, Some, None, option_map, refl, ap, sym, ◌∙◌, subst, inl, inr, ◌⊎◌, arith}
 use Rattle.std.proofs.lemmas.Bool.Decides.{eqb_tells, nat_tests}
-use Rattle.nano_toml.specs.Characters.{is_space, is_quote, is_digit, is_letter, is_sign, starts_word, starts_number, is_in_word}
+use Rattle.nano_toml.specs.Characters.{is_space, is_quote, is_sign, starts_word, starts_number, is_in_word}
 use Rattle.nano_toml.specs.Span.{begins, front, behind}
-use Rattle.nano_toml.specs.Token.{Token, string, equals, open_bracket, close_bracket, comma}
-use Rattle.nano_toml.specs.Taken.{Next, a_token, the_end}
-use Rattle.nano_toml.specs.Word.{IsWord, word_token}
+use Rattle.nano_toml.specs.Token.{Token, string}
+use Rattle.nano_toml.specs.Taken.{a_token}
+use Rattle.nano_toml.specs.Word.{word_token}
 use Rattle.nano_toml.specs.Quoted.{IsString, empty, short, triple}
-use Rattle.nano_toml.specs.Number.{IsNumber}
 use Rattle.nano_toml.specs.Cut.{mark_token, Lexeme, a_mark, a_word, a_string, a_number}
 use Rattle.nano_toml.specs.Scan.{Taken, taken, Content, behind_one_quote, number_at, lexeme_at}
 use Rattle.nano_toml.proofs.WordCut.{word_scanned, scanned_word, at_word}

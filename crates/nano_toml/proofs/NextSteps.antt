@@ -1,15 +1,15 @@
 -- The steps of the tokenizer, from the scan to what is cut.
-use Rattle.std.proofs.Common.{◌≡◌, ◌≢◌, ℕ, List, [], ◌∷◌, Bool, true, false, ◌==◌, Option, Some, None, option_map, Result, Ok, Err, IfOk, IfErr, refl, ap, sym, ◌∙◌, eqb-true}
+use Rattle.std.proofs.Common.{◌≡◌, ◌≢◌, ℕ, List, [], ◌∷◌, true, false, Option, Some, None, option_map, Result, Ok, Err, IfOk, IfErr, refl, ap, sym, ◌∙◌}
 use Rattle.nano_toml.specs.declared.token.TomlTok.{TomlTok}
 use Rattle.nano_toml.specs.declared.token.TokenFault.{TokenFault}
 use Rattle.nano_toml.specs.declared.token.TokenFault.TheVariants.{Memory}
 use Rattle.nano_toml.specs.Characters.{starts_word, starts_number, is_quote, is_in_word}
 use Rattle.nano_toml.specs.Span.{begins, front, behind}
-use Rattle.nano_toml.specs.Token.{Token, string}
+use Rattle.nano_toml.specs.Token.{Token}
 use Rattle.nano_toml.specs.Taken.{Next, a_token, token_of, Took}
 use Rattle.nano_toml.specs.Word.{word_token}
 use Rattle.nano_toml.specs.Cut.{mark_token, CutsNothing}
-use Rattle.nano_toml.specs.Scan.{Taken, Content, tail, behind_one_quote, number_at, next_behind_gaps, next_at}
+use Rattle.nano_toml.specs.Scan.{Taken, behind_one_quote, number_at, next_behind_gaps, next_at}
 use Rattle.nano_toml.proofs.WordCut.{at_word}
 use Rattle.nano_toml.proofs.LexemeCut.{at_number, at_quote, at_other, string_taken, mark_taken}
 use Rattle.nano_toml.proofs.CutLaws.{scanned_cut, scanned_nothing}

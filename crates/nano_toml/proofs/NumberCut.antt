@@ -1,12 +1,12 @@
 -- Numbers, and how they are scanned: one is the other.
-use Rattle.std.proofs.Common.{◌≡◌, ◌≢◌, ℕ, ◌+◌, ◌<◌, ◌≤◌, ◌^◌, List, [], ◌∷◌, ◌++◌, length, length-append, filter, Bool, true, false, cond, eqb, ◌==◌, ◌||◌, ◌&&◌, nat_le, nat_lt, Option, Some, None, option_map, refl, ap, sym, ◌∙◌, subst, inl, inr, append_assoc, append-nil, ne_eqb, eqb-true, true≢false, arith, ℤ, pos, neg_ℤ}
+use Rattle.std.proofs.Common.{◌≡◌, ℕ, ◌<◌, ◌≤◌, ◌^◌, List, [], ◌∷◌, ◌++◌, length, length-append, Bool, true, false, cond, ◌==◌, ◌||◌, nat_le, nat_lt, Option, Some, None, option_map, refl, ap, sym, ◌∙◌, subst, inl, inr, append_assoc, true≢false, arith, pos, neg_ℤ}
 use Rattle.std.proofs.lemmas.Bool.Decides.{eqb_tells, nat_tests}
 use Rattle.nano_toml.specs.Characters.{is_sign, is_digit, starts_number, is_in_digits, is_in_date, goes_on_integer, Each}
 use Rattle.nano_toml.specs.Span.{begins, front, behind}
-use Rattle.nano_toml.specs.Token.{Token, unsigned, signed, decimal, nan, infinity, date}
+use Rattle.nano_toml.specs.Token.{Token, signed, decimal, nan, infinity, date}
 use Rattle.nano_toml.specs.Taken.{Next, a_token}
 use Rattle.nano_toml.specs.Number.{Body, is_nan, is_infinity, is_decimal, is_date, is_integer, body_text, digits, value, IsInRange, IsBody, goes_on, kept_sign, integer_token, body_token, sign_text, is_minus, SignFits, IsNumber}
-use Rattle.nano_toml.specs.Scan.{Taken, taken, tail, any_digit, fitting, integer_from, integer_at, decimal_at, date_at, behind_digits, behind_word, word_at, behind_sign, number_at}
+use Rattle.nano_toml.specs.Scan.{Taken, taken, any_digit, fitting, integer_from, integer_at, decimal_at, date_at, behind_digits, behind_word, behind_sign, number_at}
 use Rattle.nano_toml.proofs.Spans.{front_again, behind_again, span_split, behind_stops, front_passes}
 use Rattle.nano_toml.proofs.Signs.{at_digits, at_nan, at_infinity, past_sign}
 

@@ -1,14 +1,13 @@
 -- The longest front of plain characters: the current one, and a front of the bytes behind it.
-use Rattle.std.proofs.Common.{◌≡◌, ◌≢◌, ℕ, ◌<◌, ◌≤◌, List, [], ◌∷◌, ◌++◌, Bool, true, false, cond, drop, take, length, chars, encode_utf8, encode_utf8_all, IsUtf8, refl, ap, sym, ◌∙◌, subst, ne_eqb, arith, eqb, append_assoc, append-nil, Option}
+use Rattle.std.proofs.Common.{◌≡◌, ◌≢◌, ℕ, ◌≤◌, List, [], ◌∷◌, ◌++◌, Bool, true, false, cond, drop, take, length, chars, encode_utf8, encode_utf8_all, IsUtf8, refl, ap, sym, ◌∙◌, subst, ne_eqb, arith, eqb, append_assoc, append-nil}
 use Rattle.std.proofs.Math.Seq.{drop-append_seam}
 use Rattle.std.proofs.lemmas.List.{take_at}
-use Rattle.std.proofs.lemmas.Bool.Decides.{eqb_tells}
 use Rattle.std.specs.Str.{IsCharBoundary}
 use Rattle.std.specs.Str.Iter.{chars_rest}
 use Rattle.std.specs.declared.str.Chars.{Chars}
 use Rattle.nano_toml.specs.LiveText.{held, live_from, before_nul}
 use Rattle.nano_toml.specs.Plain.{is_plain}
-use Rattle.nano_toml.specs.Scan.{Content, short_at, triple_at, some_quotes}
+use Rattle.nano_toml.specs.Scan.{short_at, triple_at, some_quotes}
 use Rattle.nano_toml.specs.Span.{front, behind}
 use Rattle.nano_toml.proofs.LiveText.{live_more}
 use Rattle.nano_toml.proofs.Spans.{span_split}

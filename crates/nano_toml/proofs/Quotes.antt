@@ -1,8 +1,8 @@
 -- Runs of quotes in a string between triple quotes.
-use Rattle.std.proofs.Common.{◌≡◌, ℕ, ◌<◌, ◌≤◌, List, [], ◌∷◌, ◌++◌, length, Bool, true, false, cond, eqb, ◌==◌, Option, Some, None, refl, ap, sym, ◌∙◌, append_assoc, append-nil, arith}
+use Rattle.std.proofs.Common.{◌≡◌, ℕ, List, [], ◌∷◌, ◌++◌, length, Bool, true, false, cond, ◌==◌, Option, Some, refl, ap, sym, ◌∙◌, append_assoc, append-nil}
 use Rattle.nano_toml.specs.Characters.{is_quote}
 use Rattle.nano_toml.specs.Span.{begins, front, behind}
-use Rattle.nano_toml.specs.Scan.{Content, Behind, a_backslash, some_quotes, triple_at, tail, behind_one_quote}
+use Rattle.nano_toml.specs.Scan.{Content, some_quotes, triple_at, tail, behind_one_quote}
 use Rattle.nano_toml.proofs.Spans.{behind_stops}
 
 -- a run is taken whole

@@ -1,5 +1,5 @@
 -- The steps of a number, one after another.
-use Rattle.std.proofs.Common.{◌≡◌, ℕ, List, [], ◌∷◌, Bool, true, false, ◌==◌, if◌then◌else◌, refl, ap, sym, ◌∙◌}
+use Rattle.std.proofs.Common.{◌≡◌, ℕ, List, [], ◌∷◌, Bool, true, false, ◌==◌, if◌then◌else◌, refl}
 use Rattle.nano_toml.specs.Characters.{is_sign, is_in_digits}
 use Rattle.nano_toml.specs.Span.{begins, front, behind}
 use Rattle.nano_toml.specs.Token.{nan, infinity}

@@ -1,5 +1,5 @@
 -- The front of a text that passes a test, and what is behind it.
-use Rattle.std.proofs.Common.{◌≡◌, ℕ, ◌<◌, ◌≤◌, List, [], ◌∷◌, ◌++◌, length, Bool, true, false, cond, refl, ap, sym, ◌∙◌, arith, true≢false}
+use Rattle.std.proofs.Common.{◌≡◌, ℕ, ◌<◌, ◌≤◌, List, [], ◌∷◌, ◌++◌, length, Bool, true, false, cond, refl, ap, sym, arith, true≢false}
 use Rattle.nano_toml.specs.Characters.{Each}
 use Rattle.nano_toml.specs.Span.{begins, front, behind}
 

@@ -1,11 +1,11 @@
 -- Strings, and how they are scanned: one is the other.
-use Rattle.std.proofs.Common.{◌≡◌, ◌≢◌, ℕ, ◌<◌, List, [], ◌∷◌, ◌++◌, length, Bool, true, false, cond, eqb, ◌==◌, Option, Some, None, refl, ap, sym, ◌∙◌, inl, inr, append_assoc, append-nil, ne_eqb, eqb-true, true≢false, subst, encode_utf8, encode_utf8_all, arith, lit<}
+use Rattle.std.proofs.Common.{◌≡◌, ◌≢◌, ℕ, ◌<◌, List, [], ◌∷◌, ◌++◌, length, true, false, Some, refl, ap, sym, ◌∙◌, inl, inr, append_assoc, append-nil, ne_eqb, eqb-true, true≢false, subst, encode_utf8, encode_utf8_all, arith, lit<}
 use Rattle.std.proofs.lemmas.Str.{encode_ascii}
 use Rattle.std.proofs.lemmas.Bool.Decides.{eqb_tells}
 use Rattle.nano_toml.specs.Characters.{is_quote, Each}
-use Rattle.nano_toml.specs.Span.{begins, front, behind}
-use Rattle.nano_toml.specs.Quoted.{Piece, plain, escaped, quotes, piece_text, piece_chars, pieces_text, pieces_chars, IsShortPiece, AreShortPieces, StopsQuotes, AreTriplePieces, IsString, empty, short, triple}
-use Rattle.nano_toml.specs.Scan.{Content, Behind, a_backslash, some_quotes, short_at, triple_at, tail, behind_one_quote, behind_two_quotes}
+use Rattle.nano_toml.specs.Span.{begins}
+use Rattle.nano_toml.specs.Quoted.{Piece, plain, escaped, quotes, pieces_text, pieces_chars, AreShortPieces, StopsQuotes, AreTriplePieces, IsString, empty, short, triple}
+use Rattle.nano_toml.specs.Scan.{Content, a_backslash, some_quotes, short_at, triple_at, behind_one_quote, behind_two_quotes}
 use Rattle.nano_toml.proofs.Spans.{front_again, behind_again}
 use Rattle.nano_toml.proofs.Quotes.{run_gathered, run_settled, run_ended}
 

@@ -1,5 +1,5 @@
 -- The front of a text and the front of its bytes, for a test that every number from 128 on passes.
-use Rattle.std.proofs.Common.{◌≡◌, ℕ, ◌+◌, ◌/◌, ◌≤◌, List, [], ◌∷◌, ◌++◌, Bool, true, false, cond, ltb, ◌&&◌, chars, encode_utf8_all, IsUtf8, nat_eq, eqb-true, refl, ap, sym, ◌∙◌, arith, length}
+use Rattle.std.proofs.Common.{◌≡◌, ℕ, ◌≤◌, List, [], ◌∷◌, ◌++◌, Bool, true, false, cond, ltb, ◌&&◌, chars, encode_utf8_all, IsUtf8, nat_eq, eqb-true, refl, ap, sym, ◌∙◌, arith, length}
 use Rattle.std.proofs.Math.Utf8.{encode, scalars, scalar}
 use Rattle.std.specs.Str.{IsCharBoundary}
 use Rattle.std.proofs.lemmas.Bool.{ltb-false, ltb-true, le-ltb}

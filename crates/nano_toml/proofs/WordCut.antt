@@ -1,5 +1,5 @@
 -- Words, and how they are scanned: one is the other.
-use Rattle.std.proofs.Common.{◌≡◌, ℕ, List, [], ◌∷◌, ◌++◌, Bool, true, false, cond, ◌||◌, refl, ap, sym, ◌∙◌}
+use Rattle.std.proofs.Common.{◌≡◌, ℕ, List, [], ◌∷◌, ◌++◌, Bool, true, false, cond, ◌||◌, refl, ap, ◌∙◌}
 use Rattle.nano_toml.specs.Characters.{starts_word, is_in_word, Each}
 use Rattle.nano_toml.specs.Span.{begins, front, behind}
 use Rattle.nano_toml.specs.Word.{IsWord, word_token}

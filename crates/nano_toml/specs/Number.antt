@@ -1,5 +1,5 @@
 -- Numbers: a sign, and what stands behind it. What that may be, which token it is, and what may not follow.
-use Rattle.std.specs.Prelude.{◌≡◌, ℕ, ℤ, pos, neg_ℤ, ◌+◌, ◌-◌, ◌*◌, ◌^◌, ◌<◌, ◌≤◌, ◌==◌, Bool, true, false, cond, List, [], ◌∷◌, ◌++◌, length, codes, filter, Option, Some, None, IfSome}
+use Rattle.std.specs.Prelude.{◌≡◌, ℕ, pos, neg_ℤ, ◌+◌, ◌-◌, ◌*◌, ◌^◌, ◌<◌, ◌≤◌, ◌==◌, Bool, true, false, cond, List, [], ◌∷◌, ◌++◌, length, codes, filter, Option, Some, None}
 use Rattle.nano_toml.specs.Characters.{is_sign, is_digit, is_in_digits, is_in_date, goes_on_integer, Each}
 use Rattle.nano_toml.specs.Span.{begins}
 use Rattle.nano_toml.specs.Token.{Token, unsigned, signed, decimal, nan, infinity, date}

@@ -1,5 +1,5 @@
 -- The tokenizer as a function of the text, character by character. Contracts of private functions alone name it; lemmas tie it to the cut.
-use Rattle.std.specs.Prelude.{◌≡◌, ℕ, ◌+◌, ◌-◌, ◌*◌, ◌^◌, ◌==◌, ◌&&◌, ◌||◌, nat_lt, nat_le, ℤ, pos, neg_ℤ, Bool, true, false, cond, List, [], ◌∷◌, ◌++◌, length, encode_utf8, Option, Some, None, option_map, if◌then◌else◌}
+use Rattle.std.specs.Prelude.{ℕ, ◌+◌, ◌-◌, ◌*◌, ◌^◌, ◌==◌, ◌||◌, nat_lt, nat_le, pos, neg_ℤ, Bool, true, false, List, [], ◌∷◌, ◌++◌, length, encode_utf8, Option, Some, None, option_map, if◌then◌else◌}
 use Rattle.nano_toml.specs.Characters.{is_space, is_line_feed, is_quote, is_digit, is_sign, starts_word, is_in_word, starts_number, is_in_digits, is_in_date}
 use Rattle.nano_toml.specs.Span.{front, behind, begins}
 use Rattle.nano_toml.specs.Token.{Token, string, unsigned, signed, decimal, nan, infinity, date}

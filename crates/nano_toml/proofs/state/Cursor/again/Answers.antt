@@ -1,4 +1,4 @@
-use Rattle.std.proofs.Common.{◌≡◌, ap, sym, ◌∙◌}
+use Rattle.std.proofs.Common.{◌∙◌}
 use Rattle.nano_toml.proofs.LiveText.{live_same}
 use Rattle.nano_toml.proofs.state.Cursor.again.Goals as goal
 

@@ -1,4 +1,4 @@
-use Rattle.std.proofs.Common.{◌≡◌, ◌++◌, sym, ◌∙◌, refl}
+use Rattle.std.proofs.Common.{sym, ◌∙◌, refl}
 use Rattle.std.proofs.Math.Bool.{or-false}
 use Rattle.nano_toml.specs.Characters.{is_in_digits}
 use Rattle.nano_toml.proofs.LiveText.{begins_live}

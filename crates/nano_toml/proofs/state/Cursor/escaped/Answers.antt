@@ -1,4 +1,4 @@
-use Rattle.std.proofs.Common.{◌≡◌, ◌≢◌, ◌∷◌, ap, sym, ◌∙◌, refl, List, ℕ, arith}
+use Rattle.std.proofs.Common.{◌≢◌, ◌∙◌, refl, arith}
 use Rattle.nano_toml.proofs.LiveText.{live_at_nul}
 use Rattle.nano_toml.proofs.state.Cursor.escaped.Goals as goal
 

@@ -1,5 +1,4 @@
-use Rattle.std.proofs.Common.{◌≡◌, subst, IsUtf8, ap, ◌∙◌}
-use Rattle.std.specs.Str.Iter.{chars_rest}
+use Rattle.std.proofs.Common.{subst, IsUtf8}
 use Rattle.nano_toml.proofs.LiveText.{held_next, held_none, live_next, live_last, live_taken, live_none}
 use Rattle.nano_toml.proofs.state.Cursor.next.Goals as goal
 

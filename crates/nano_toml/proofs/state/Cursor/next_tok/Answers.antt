@@ -1,4 +1,4 @@
-use Rattle.std.proofs.Common.{◌≡◌, ◌≢◌, ◌∷◌, [], List, ℕ, Option, Some, None, ap, sym, ◌∙◌, refl, arith, ne_eqb}
+use Rattle.std.proofs.Common.{◌≢◌, [], ap, sym, ◌∙◌, refl, arith, ne_eqb}
 use Rattle.std.proofs.lemmas.Result.{err_from_is_err_and}
 use Rattle.nano_toml.specs.Characters.{starts_word, starts_number}
 use Rattle.nano_toml.specs.LiveText.{live, held, before_nul}

@@ -1,4 +1,4 @@
-use Rattle.std.proofs.Common.{◌≡◌, ◌==◌, ℕ, sym, ◌∙◌, refl, eq-eqb, ne_eqb}
+use Rattle.std.proofs.Common.{◌==◌, ℕ, ◌∙◌, refl, eq-eqb, ne_eqb}
 use Rattle.nano_toml.specs.LiveText.{live}
 use Rattle.nano_toml.proofs.LiveText.{begins_live}
 use Rattle.nano_toml.proofs.Signs.{past_sign, at_nan, at_infinity, at_digits}

@@ -1,4 +1,4 @@
-use Rattle.std.proofs.Common.{◌≡◌, List, ℕ, ◌∙◌, ap, refl, append_assoc, length, arith}
+use Rattle.std.proofs.Common.{List, ℕ, ◌∙◌, ap, refl, append_assoc, length, arith}
 use Rattle.nano_toml.specs.Plain.{is_plain}
 use Rattle.nano_toml.specs.Span.{front}
 use Rattle.nano_toml.specs.LiveText.{live}

@@ -1,4 +1,4 @@
-use Rattle.std.proofs.Common.{◌≡◌, ◌++◌, sym, ◌∙◌, refl, append-nil, ne_eqb}
+use Rattle.std.proofs.Common.{sym, ◌∙◌, refl, append-nil, ne_eqb}
 use Rattle.nano_toml.specs.Characters.{is_quote}
 use Rattle.nano_toml.proofs.LiveText.{begins_live}
 use Rattle.nano_toml.proofs.Spans.{front_stop}

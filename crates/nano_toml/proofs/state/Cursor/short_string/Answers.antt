@@ -1,4 +1,4 @@
-use Rattle.std.proofs.Common.{◌≡◌, sym, ◌∙◌, refl, string_bytes}
+use Rattle.std.proofs.Common.{sym, ◌∙◌, refl, string_bytes}
 use Rattle.nano_toml.specs.LiveText.{live}
 use Rattle.nano_toml.proofs.LiveText.{live_at_nul}
 use Rattle.nano_toml.proofs.PlainFronts.{short_run}

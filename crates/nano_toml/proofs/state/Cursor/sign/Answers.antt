@@ -1,4 +1,4 @@
-use Rattle.std.proofs.Common.{◌≡◌, ◌==◌, ℕ, sym, ◌∙◌, refl}
+use Rattle.std.proofs.Common.{◌==◌, ℕ, sym, ◌∙◌, refl}
 use Rattle.nano_toml.specs.Characters.{is_sign}
 use Rattle.nano_toml.proofs.LiveText.{begins_live}
 use Rattle.nano_toml.proofs.state.Cursor.sign.Goals as goal

@@ -1,4 +1,4 @@
-use Rattle.std.proofs.Common.{◌≡◌, ◌≢◌, ap, sym, ◌∙◌, refl, length, arith, ne_eqb, not, eqb, ℕ, false}
+use Rattle.std.proofs.Common.{◌≢◌, ap, sym, ◌∙◌, refl, length, arith, ne_eqb, not, eqb, ℕ, false}
 use Rattle.nano_toml.specs.Characters.{is_space, is_line_feed}
 use Rattle.nano_toml.specs.LiveText.{live}
 use Rattle.nano_toml.proofs.LiveText.{begins_live}

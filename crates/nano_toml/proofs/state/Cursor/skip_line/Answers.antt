@@ -1,4 +1,4 @@
-use Rattle.std.proofs.Common.{◌≡◌, ap, sym, ◌∙◌, refl}
+use Rattle.std.proofs.Common.{sym, ◌∙◌}
 use Rattle.nano_toml.proofs.LiveText.{line_at_end, line_at_feed}
 use Rattle.nano_toml.proofs.state.Cursor.skip_line.Goals as goal
 

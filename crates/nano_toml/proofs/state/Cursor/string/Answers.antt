@@ -1,4 +1,3 @@
-use Rattle.std.proofs.Common.{◌≡◌}
 use Rattle.nano_toml.specs.LiveText.{live}
 use Rattle.nano_toml.proofs.Quotes.{behind_three_quotes}
 use Rattle.nano_toml.proofs.state.Cursor.string.Goals as goal

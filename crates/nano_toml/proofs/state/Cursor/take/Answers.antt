@@ -1,4 +1,4 @@
-use Rattle.std.proofs.Common.{◌≡◌, ◌==◌, ℕ, sym, ◌∙◌, refl, ne_eqb}
+use Rattle.std.proofs.Common.{◌==◌, ℕ, sym, ne_eqb}
 use Rattle.nano_toml.proofs.LiveText.{begins_live}
 use Rattle.nano_toml.proofs.state.Cursor.take.Goals as goal
 

@@ -1,8 +1,6 @@
-use Rattle.std.proofs.Common.{◌≡◌, ◌≢◌, ap, sym, ◌∙◌, refl, length, arith, string_bytes, ◌==◌, List, ℕ, false, eq-eqb}
+use Rattle.std.proofs.Common.{ap, sym, ◌∙◌, refl, length, arith, string_bytes, eq-eqb}
 use Rattle.nano_toml.specs.Characters.{is_quote}
 use Rattle.nano_toml.specs.LiveText.{live}
-use Rattle.nano_toml.specs.Scan.{triple_at, some_quotes}
-use Rattle.nano_toml.specs.Span.{front, behind}
 use Rattle.nano_toml.proofs.LiveText.{live_at_nul, begins_live}
 use Rattle.nano_toml.proofs.PlainFronts.{triple_run}
 use Rattle.nano_toml.proofs.Quotes.{run_is_content, run_closes}

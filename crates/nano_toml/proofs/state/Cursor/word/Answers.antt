@@ -1,4 +1,4 @@
-use Rattle.std.proofs.Common.{◌≡◌, ◌++◌, sym, ◌∙◌, refl, append-nil}
+use Rattle.std.proofs.Common.{sym, ◌∙◌, refl, append-nil}
 use Rattle.nano_toml.specs.Characters.{is_in_word}
 use Rattle.nano_toml.proofs.LiveText.{begins_live}
 use Rattle.nano_toml.proofs.Spans.{front_stop, behind_stop}
