@@ -1,8 +1,31 @@
-//! Laws of the definitions, each as the contract of a function that does nothing.
+//! Laws of the values and of the definitions. The functions do nothing: what counts is what they ensure.
+
 ghost use Rattle.std.specs.Prelude.{ℕ, List};
 ghost use Rattle.nano_toml.specs.Cut.{IsCutInOneWay};
+ghost use Rattle.nano_toml.specs.SameData.{EqIsReflexive, EqIsSymmetric, EqIsTransitive};
+ghost use Rattle.nano_toml.specs.StatementTable.{SpellsOneList};
+
+/// Each value equals itself by `==`, `Nan` included.
+pub fn eq_is_reflexive()
+    ensures { EqIsReflexive }
+{}
+
+/// Where one value equals another by `==`, the other equals the one.
+pub fn eq_is_symmetric()
+    ensures { EqIsSymmetric }
+{}
+
+/// Where one value equals a second by `==`, and the second a third, the first equals the third.
+pub fn eq_is_transitive()
+    ensures { EqIsTransitive }
+{}
 
 /// A text is cut in one way: into one token and one rest, or to its end.
 pub fn text_is_cut_in_one_way()
     ensures { (text : List ℕ) → IsCutInOneWay text }
+{}
+
+/// A text spells one list of statements at most.
+pub fn text_spells_one_list()
+    ensures { (text : List ℕ) → SpellsOneList text }
 {}

@@ -1,14 +1,24 @@
-//! A reader of small TOML.
+//! Reads TOML: a small dialect, whose values are texts, truth values, whole numbers, decimals, dates and arrays of these, and tables in arrays.
 #![tactic(auto)]
 
+pub mod error;
+mod fault;
 pub mod laws;
 mod numbers;
+mod parser;
+mod same;
 mod state;
+mod statements;
 mod strings;
+mod table;
 mod token;
+pub mod value;
 mod words;
 
+pub use error::TomlErr;
+pub use parser::TomlParser;
 pub use token::TomlTok;
+pub use value::Toml;
 
 #[cfg(test)]
 mod tests;

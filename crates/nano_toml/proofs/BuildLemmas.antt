@@ -1,0 +1,372 @@
+-- The table of statements, one statement further.
+use Rattle.std.proofs.Common.{◌≡◌, ℕ, List, [], ◌∷◌, ◌++◌, Bool, true, false, cond, Option, Some, None, bytes_eq, sym, refl, ap, ◌∙◌, subst, unwrap_or, append_assoc, append-nil}
+use Rattle.std.proofs.lemmas.Slice.Eq.{bytes_eq-Decides}
+use Rattle.nano_toml.specs.Built.{Puts, push, pushed, IsTables, CanPush, NoElement, NoneNamed, IsPlain, ArePlain, Stands}
+use Rattle.nano_toml.specs.Data.{Data, tables, Tables, no_tables, more_tables, Table, no_pairs, at}
+use Rattle.nano_toml.specs.Statements.{Statement, scope, element, pair}
+use Rattle.nano_toml.specs.StatementTable.{Pair, or_else, last_value, HasLast, last_scope, scope_of, full_key, pairs, until_element, root_pairs, element_pairs, HaveLast, IsFound, IsTableOf, IsLawful}
+
+-- ---- places in a list of statements
+
+pairs-append : (before xs ys : List Statement) → pairs before (xs ++ ys) ≡ pairs before xs ++ pairs (before ++ xs) ys
+pairs-append before [] ys = ap (λ b. pairs b ys) (sym (append-nil before))
+pairs-append before (pair name d ∷ xs) ys =
+    ap (λ ps. (full_key (scope_of before) name, d) ∷ ps)
+    (pairs-append (before ++ pair name d ∷ []) xs ys ∙ ap (λ b. pairs (before ++ pair name d ∷ []) xs ++ pairs b ys) (append_assoc before (pair name d ∷ []) xs))
+pairs-append before (scope name ∷ xs) ys =
+    pairs-append (before ++ scope name ∷ []) xs ys ∙ ap (λ b. pairs (before ++ scope name ∷ []) xs ++ pairs b ys) (append_assoc before (scope name ∷ []) xs)
+pairs-append before (element key ∷ xs) ys =
+    pairs-append (before ++ element key ∷ []) xs ys ∙ ap (λ b. pairs (before ++ element key ∷ []) xs ++ pairs b ys) (append_assoc before (element key ∷ []) xs)
+
+until_element-none : (xs : List Statement) → NoElement xs → until_element xs ≡ xs
+until_element-none [] n = refl
+until_element-none (pair name d ∷ xs) n = ap (λ ys. pair name d ∷ ys) (until_element-none xs n)
+until_element-none (scope name ∷ xs) n = ap (λ ys. scope name ∷ ys) (until_element-none xs n)
+until_element-none (element key ∷ xs) n = absurd n
+
+until_element-stops : (xs behind : List Statement) (key : List ℕ) → until_element (xs ++ element key ∷ behind) ≡ until_element xs
+until_element-stops [] behind key = refl
+until_element-stops (pair name d ∷ xs) behind key = ap (λ ys. pair name d ∷ ys) (until_element-stops xs behind key)
+until_element-stops (scope name ∷ xs) behind key = ap (λ ys. scope name ∷ ys) (until_element-stops xs behind key)
+until_element-stops (element other ∷ xs) behind key = refl
+
+-- what stands from a header on is not in the root
+pub root_pairs-element : (before behind : List Statement) (key : List ℕ) → root_pairs (before ++ element key ∷ behind) ≡ root_pairs before
+root_pairs-element before behind key = ap (pairs []) (until_element-stops before behind key)
+
+NoElement-append : (xs ys : List Statement) → NoElement xs → NoElement ys → NoElement (xs ++ ys)
+NoElement-append [] ys n m = m
+NoElement-append (pair name d ∷ xs) ys n m = NoElement-append xs ys n m
+NoElement-append (scope name ∷ xs) ys n m = NoElement-append xs ys n m
+NoElement-append (element key ∷ xs) ys n m = absurd n
+
+element_pairs-none : (key : List ℕ) (before xs : List Statement) → NoElement xs → element_pairs key before xs ≡ []
+element_pairs-none key before [] n = refl
+element_pairs-none key before (pair name d ∷ xs) n = element_pairs-none key (before ++ pair name d ∷ []) xs n
+element_pairs-none key before (scope name ∷ xs) n = element_pairs-none key (before ++ scope name ∷ []) xs n
+element_pairs-none key before (element other ∷ xs) n = absurd n
+
+cond-append : {A : Type 0} (b : Bool) (x : A) (xs ys : List A) → cond b (x ∷ (xs ++ ys)) (xs ++ ys) ≡ cond b (x ∷ xs) xs ++ ys
+cond-append true x xs ys = refl
+cond-append false x xs ys = refl
+
+element_pairs-append : (key : List ℕ) (before xs behind : List Statement) (name : List ℕ)
+    → element_pairs key before (xs ++ element name ∷ behind) ≡ element_pairs key before xs ++ element_pairs key (before ++ xs) (element name ∷ behind)
+element_pairs-append key before [] behind name = ap (λ b. element_pairs key b (element name ∷ behind)) (sym (append-nil before))
+element_pairs-append key before (pair n d ∷ xs) behind name =
+    element_pairs-append key (before ++ pair n d ∷ []) xs behind name
+    ∙ ap (λ b. element_pairs key (before ++ pair n d ∷ []) xs ++ element_pairs key b (element name ∷ behind)) (append_assoc before (pair n d ∷ []) xs)
+element_pairs-append key before (scope n ∷ xs) behind name =
+    element_pairs-append key (before ++ scope n ∷ []) xs behind name
+    ∙ ap (λ b. element_pairs key (before ++ scope n ∷ []) xs ++ element_pairs key b (element name ∷ behind)) (append_assoc before (scope n ∷ []) xs)
+element_pairs-append key before (element n ∷ xs) behind name =
+    let now = before ++ element n ∷ [] in
+    let more =
+    element_pairs-append key now xs behind name
+    ∙ ap (λ b. element_pairs key now xs ++ element_pairs key b (element name ∷ behind)) (append_assoc before (element n ∷ []) xs) in
+    ap (λ ss. cond (bytes_eq key n) (pairs now ss ∷ element_pairs key now (xs ++ element name ∷ behind)) (element_pairs key now (xs ++ element name ∷ behind))) (until_element-stops xs behind name)
+    ∙ (ap (λ es. cond (bytes_eq key n) (pairs now (until_element xs) ∷ es) es) more
+    ∙ cond-append (bytes_eq key n) (pairs now (until_element xs)) (element_pairs key now xs) (element_pairs key (before ++ element n ∷ xs) (element name ∷ behind)))
+
+-- ---- scopes
+
+or_else-assoc : {A : Type 0} (x y z : Option A) → or_else x (or_else y z) ≡ or_else (or_else x y) z
+or_else-assoc None y z = refl
+or_else-assoc (Some x) y z = refl
+
+or_else-none : {A : Type 0} (o : Option A) → or_else o None ≡ o
+or_else-none None = refl
+or_else-none (Some x) = refl
+
+last_scope-append : (xs ys : List Statement) → last_scope (xs ++ ys) ≡ or_else (last_scope ys) (last_scope xs)
+last_scope-append [] ys = sym (or_else-none (last_scope ys))
+last_scope-append (scope name ∷ xs) ys = ap (λ o. or_else o (Some name)) (last_scope-append xs ys) ∙ sym (or_else-assoc (last_scope ys) (last_scope xs) (Some name))
+last_scope-append (pair name d ∷ xs) ys = last_scope-append xs ys
+last_scope-append (element key ∷ xs) ys = last_scope-append xs ys
+
+pub scope_of-scope : (done : List Statement) (name : List ℕ) → scope_of (done ++ scope name ∷ []) ≡ name
+scope_of-scope done name = ap (λ o. unwrap_or o []) (last_scope-append done (scope name ∷ []))
+
+pub scope_of-element : (done : List Statement) (key : List ℕ) → scope_of (done ++ element key ∷ []) ≡ scope_of done
+scope_of-element done key = ap (λ o. unwrap_or o []) (last_scope-append done (element key ∷ []))
+
+pub scope_of-pair : (done : List Statement) (name : List ℕ) (d : Data) → scope_of (done ++ pair name d ∷ []) ≡ scope_of done
+scope_of-pair done name d = ap (λ o. unwrap_or o []) (last_scope-append done (pair name d ∷ []))
+
+-- ---- last values
+
+last_value-append : (key : List ℕ) (ps qs : List Pair) → last_value key (ps ++ qs) ≡ or_else (last_value key qs) (last_value key ps)
+last_value-append key [] qs = sym (or_else-none (last_value key qs))
+last_value-append key (p ∷ ps) qs =
+    ap (λ o. or_else o (cond (bytes_eq key p.0) (Some p.1) None)) (last_value-append key ps qs)
+    ∙ sym (or_else-assoc (last_value key qs) (last_value key ps) (cond (bytes_eq key p.0) (Some p.1) None))
+
+picks : {A : Type 0} (b : Bool) (x : A) (o : Option A) → or_else (or_else None (cond b (Some x) None)) o ≡ cond b (Some x) o
+picks true x o = refl
+picks false x o = refl
+
+-- one more pair
+HasLast-push : (ps : List Pair) (old new : Table) (key : List ℕ) (d : Data) → HasLast ps old → Puts old key d new → HasLast (ps ++ (key, d) ∷ []) new
+HasLast-push ps old new key d has puts other =
+    puts other ∙ (ap (cond (bytes_eq other key) (Some d)) (has other) ∙ (sym (picks (bytes_eq other key) d (last_value other ps)) ∙ sym (last_value-append other ps ((key, d) ∷ []))))
+
+HaveLast-push : (pss : List (List Pair)) (ts : Tables) (ps : List Pair) (table : Table) → HaveLast pss ts → HasLast ps table → HaveLast (pss ++ ps ∷ []) (push ts table)
+HaveLast-push [] no_tables ps table a h = (h, tt)
+HaveLast-push [] (more_tables first ts) ps table a h = absurd a
+HaveLast-push (qs ∷ pss) no_tables ps table a h = absurd a
+HaveLast-push (qs ∷ pss) (more_tables first ts) ps table a h = (a.0, HaveLast-push pss ts ps table a.1 h)
+
+-- ---- lawful statements
+
+NoneNamed-append : (xs ys : List Statement) (ps : List Pair) → NoneNamed xs ps → NoneNamed ys ps → NoneNamed (xs ++ ys) ps
+NoneNamed-append [] ys ps n m = m
+NoneNamed-append (element key ∷ xs) ys ps n m = (n.0, NoneNamed-append xs ys ps n.1 m)
+NoneNamed-append (scope name ∷ xs) ys ps n m = NoneNamed-append xs ys ps n m
+NoneNamed-append (pair name d ∷ xs) ys ps n m = NoneNamed-append xs ys ps n m
+
+NoneNamed-none : (xs : List Statement) (ps : List Pair) → NoElement xs → NoneNamed xs ps
+NoneNamed-none [] ps n = tt
+NoneNamed-none (pair name d ∷ xs) ps n = NoneNamed-none xs ps n
+NoneNamed-none (scope name ∷ xs) ps n = NoneNamed-none xs ps n
+NoneNamed-none (element key ∷ xs) ps n = absurd n
+
+NoneNamed-at : (xs behind : List Statement) (key : List ℕ) (ps : List Pair) → NoneNamed (xs ++ element key ∷ behind) ps → last_value key ps ≡ None
+NoneNamed-at [] behind key ps n = n.0
+NoneNamed-at (element name ∷ xs) behind key ps n = NoneNamed-at xs behind key ps n.1
+NoneNamed-at (scope name ∷ xs) behind key ps n = NoneNamed-at xs behind key ps n
+NoneNamed-at (pair name d ∷ xs) behind key ps n = NoneNamed-at xs behind key ps n
+
+pub IsLawful-from : (ss : List Statement) → NoneNamed ss (root_pairs ss) → IsLawful ss
+IsLawful-from ss n before behind key e =
+    NoneNamed-at before behind key (root_pairs ss) (subst (λ (us : List Statement). NoneNamed us (root_pairs ss)) e n)
+
+-- ---- one statement further
+
+ArePlain-push : (done : List Statement) (s : Statement) → ArePlain done → IsPlain s → ArePlain (done ++ s ∷ [])
+ArePlain-push [] s a p = (p, tt)
+ArePlain-push (u ∷ done) s a p = (a.0, ArePlain-push done s a.1 p)
+
+pub plain_push : (done : List Statement) (s : Statement) → ArePlain done → IsPlain s → ArePlain (done ++ s ∷ [])
+plain_push done s a p = ArePlain-push done s a p
+
+-- where no element stands, the table has the last values
+IsFound-none : (pss : List (List Pair)) (last found : Option Data) → pss ≡ [] → IsFound pss last found → found ≡ last
+IsFound-none [] last found e h = h
+IsFound-none (ps ∷ pss) last found e h = absurd (cc)
+
+root_pairs-none : (done : List Statement) → NoElement done → root_pairs done ≡ pairs [] done
+root_pairs-none done n = ap (pairs []) (until_element-none done n)
+
+-- one more pair before the first header `[[key]]`
+pub IsTableOf-pair : (done : List Statement) (name : List ℕ) (d : Data) (old new : Table) → NoElement done → IsTableOf done old → Puts old (full_key (scope_of done) name) d new
+    → IsTableOf (done ++ pair name d ∷ []) new
+IsTableOf-pair done name d old new none is puts key =
+    let more : NoElement (done ++ pair name d ∷ []) = NoElement-append done (pair name d ∷ []) none tt in
+    let was : HasLast (root_pairs done) old = λ k. IsFound-none (element_pairs k [] done) (last_value k (root_pairs done)) (at k old) (element_pairs-none k [] done none) (is k) in
+    let now = HasLast-push (root_pairs done) old new (full_key (scope_of done) name) d was puts key in
+    let roots : root_pairs done ++ (full_key (scope_of done) name, d) ∷ [] ≡ root_pairs (done ++ pair name d ∷ []) =
+    ap (λ ps. ps ++ (full_key (scope_of done) name, d) ∷ []) (root_pairs-none done none)
+    ∙ (sym (pairs-append [] done (pair name d ∷ [])) ∙ sym (root_pairs-none (done ++ pair name d ∷ []) more)) in
+    subst (λ (pss : List (List Pair)). IsFound pss (last_value key (root_pairs (done ++ pair name d ∷ []))) (at key new)) (sym (element_pairs-none key [] (done ++ pair name d ∷ []) more))
+    (now ∙ ap (last_value key) roots)
+
+pushed_there : (pss : List (List Pair)) (last found : Option Data) (ps : List Pair) (table : Table) → last ≡ None → IsFound pss last found → HasLast ps table
+    → IsFound (pss ++ ps ∷ []) last (Some (pushed found table))
+pushed_there [] last found ps table none is has = (more_tables table no_tables, (has, tt), ap (λ o. Some (pushed o table)) (is ∙ none))
+pushed_there (qs ∷ pss) last found ps table none (ts, have, e) has = (push ts table, HaveLast-push (qs ∷ pss) ts ps table have has, ap (λ o. Some (pushed o table)) e)
+
+-- what one element adds at a key
+one_element : (key name : List ℕ) (before behind : List Statement) → NoElement behind
+    → element_pairs key before (element name ∷ behind) ≡ cond (bytes_eq key name) (pairs (before ++ element name ∷ []) behind ∷ []) []
+one_element key name before behind none =
+    let now = before ++ element name ∷ [] in
+    ap (λ ss. cond (bytes_eq key name) (pairs now ss ∷ element_pairs key now behind) (element_pairs key now behind)) (until_element-none behind none)
+    ∙ ap (λ es. cond (bytes_eq key name) (pairs now behind ∷ es) es) (element_pairs-none key now behind none)
+
+at_element : (b : Bool) (key name : List ℕ) (pss : List (List Pair)) (ps : List Pair) (last : Option Data) (old new table : Table) → bytes_eq key name ≡ b → (bytes_eq key name ≡ true → last ≡ None)
+    → IsFound pss last (at key old) → HasLast ps table → at key new ≡ cond b (Some (pushed (at name old) table)) (at key old) → IsFound (pss ++ cond b (ps ∷ []) []) last (at key new)
+at_element true key name pss ps last old new table is none found has puts =
+    let same = (bytes_eq-Decides key name).0 is in
+    subst (λ (o : Option Data). IsFound (pss ++ ps ∷ []) last o) (ap (λ (k : List ℕ). Some (pushed (at k old) table)) same ∙ sym puts) (pushed_there pss last (at key old) ps table (none is) found has)
+at_element false key name pss ps last old new table is none found has puts =
+    subst (λ (o : Option Data). IsFound (pss ++ []) last o) (sym puts) (subst (λ (xs : List (List Pair)). IsFound xs last (at key old)) (sym (append-nil pss)) found)
+
+-- the table of an element, at the end of its Array
+pub IsTableOf-element : (before behind : List Statement) (name : List ℕ) (old new table : Table) → NoElement behind → IsTableOf before old → HasLast (pairs (before ++ element name ∷ []) behind) table
+    → last_value name (root_pairs before) ≡ None → Puts old name (pushed (at name old) table) new → IsTableOf (before ++ element name ∷ behind) new
+IsTableOf-element before behind name old new table none is has free puts key =
+    let ps = pairs (before ++ element name ∷ []) behind in
+    let elements : element_pairs key [] (before ++ element name ∷ behind) ≡ element_pairs key [] before ++ cond (bytes_eq key name) (ps ∷ []) [] =
+    element_pairs-append key [] before behind name ∙ ap (λ es. element_pairs key [] before ++ es) (one_element key name before behind none) in
+    rw (elements, root_pairs-element before behind name)
+    (at_element (bytes_eq key name) key name (element_pairs key [] before) ps (last_value key (root_pairs before)) old new table refl
+    (λ b. ap (λ (k : List ℕ). last_value k (root_pairs before)) ((bytes_eq-Decides key name).0 b) ∙ free) (is key) has (puts key))
+
+-- ---- a key that a header names
+
+named_at : (b : Bool) (key name : List ℕ) (first : List Pair) (es : List (List Pair)) (qs : List Pair) (qss : List (List Pair)) (ps : List Pair) → bytes_eq key name ≡ b
+    → cond b (first ∷ es) es ≡ qs ∷ qss → last_value name ps ≡ None → (es ≡ qs ∷ qss → last_value key ps ≡ None) → last_value key ps ≡ None
+named_at true key name first es qs qss ps is e free more = ap (λ (k : List ℕ). last_value k ps) ((bytes_eq-Decides key name).0 is) ∙ free
+named_at false key name first es qs qss ps is e free more = more e
+
+-- a key with elements is named by a header
+found_named : (key : List ℕ) (before ss : List Statement) (qs : List Pair) (qss : List (List Pair)) (ps : List Pair) → element_pairs key before ss ≡ qs ∷ qss → NoneNamed ss ps → last_value key ps ≡ None
+found_named key before [] qs qss ps e n = absurd (cc)
+found_named key before (pair name d ∷ ss) qs qss ps e n = found_named key (before ++ pair name d ∷ []) ss qs qss ps e n
+found_named key before (scope name ∷ ss) qs qss ps e n = found_named key (before ++ scope name ∷ []) ss qs qss ps e n
+found_named key before (element name ∷ ss) qs qss ps e n =
+    let now = before ++ element name ∷ [] in
+    named_at (bytes_eq key name) key name (pairs now (until_element ss)) (element_pairs key now ss) qs qss ps refl e n.0 (λ f. found_named key now ss qs qss ps f n.1)
+
+-- ---- values of pairs are no Arrays
+
+abbrev NotTables : Option Data → Type 0
+NotTables None = Unit {0}
+NotTables (Some d) = IsTables d → ⊥
+
+NotTables-or_else : (x y : Option Data) → NotTables x → NotTables y → NotTables (or_else x y)
+NotTables-or_else None y a b = b
+NotTables-or_else (Some d) y a b = a
+
+plain_value : (name : List ℕ) (d : Data) → IsPlain (pair name d) → IsTables d → ⊥
+plain_value name (tables ts) p t = p
+plain_value name _ p t = t
+
+NotTables-cond : (b : Bool) (d : Data) → (IsTables d → ⊥) → NotTables (cond b (Some d) None)
+NotTables-cond true d h = h
+NotTables-cond false d h = tt
+
+plain_last : (key : List ℕ) (before ss : List Statement) → ArePlain ss → NotTables (last_value key (pairs before ss))
+plain_last key before [] a = tt
+plain_last key before (pair name d ∷ ss) a =
+    NotTables-or_else (last_value key (pairs (before ++ pair name d ∷ []) ss)) (cond (bytes_eq key (full_key (scope_of before) name)) (Some d) None)
+    (plain_last key (before ++ pair name d ∷ []) ss a.1) (NotTables-cond (bytes_eq key (full_key (scope_of before) name)) d (plain_value name d a.0))
+plain_last key before (scope name ∷ ss) a = plain_last key (before ++ scope name ∷ []) ss a.1
+plain_last key before (element name ∷ ss) a = plain_last key (before ++ element name ∷ []) ss a.1
+
+plain_until : (ss : List Statement) → ArePlain ss → ArePlain (until_element ss)
+plain_until [] a = tt
+plain_until (pair name d ∷ ss) a = (a.0, plain_until ss a.1)
+plain_until (scope name ∷ ss) a = (a.0, plain_until ss a.1)
+plain_until (element key ∷ ss) a = tt
+
+-- ---- whether a header may name a key
+
+free_last : (last : Option Data) → NotTables last → CanPush last → last ≡ None
+free_last None n c = refl
+free_last (Some d) n c = absurd (n c)
+
+free_at : (pss : List (List Pair)) (key : List ℕ) (done : List Statement) (found : Option Data) → element_pairs key [] done ≡ pss → NoneNamed done (root_pairs done) → ArePlain done
+    → IsFound pss (last_value key (root_pairs done)) found → CanPush found → last_value key (root_pairs done) ≡ None
+free_at [] key done found e n a is c =
+    free_last (last_value key (root_pairs done)) (plain_last key [] (until_element done) (plain_until done a)) (subst CanPush is c)
+free_at (qs ∷ qss) key done found e n a is c = found_named key [] done qs qss (root_pairs done) e n
+
+-- where the root has an Array or nothing at the key, no pair gave it
+pub key_free : (done : List Statement) (key : List ℕ) (root : Table) → IsTableOf done root → NoneNamed done (root_pairs done) → ArePlain done → CanPush (at key root) → last_value key (root_pairs done) ≡ None
+key_free done key root is n a c = free_at (element_pairs key [] done) key done (at key root) refl n a (is key) c
+
+other_at : (pss : List (List Pair)) (last found : Option Data) → IsFound pss last found → last ≡ None → CanPush found
+other_at [] last found is none = subst CanPush (sym (is ∙ none)) tt
+other_at (ps ∷ pss) last found (ts, have, e) none = subst CanPush (sym e) tt
+
+-- where no pair gave the key, the root has an Array or nothing there
+pub can_push : (done : List Statement) (key : List ℕ) (root : Table) → IsTableOf done root → last_value key (root_pairs done) ≡ None → CanPush (at key root)
+can_push done key root is none = other_at (element_pairs key [] done) (last_value key (root_pairs done)) (at key root) (is key) none
+
+-- where the root has something else there, the header is not lawful
+pub key_taken : (done : List Statement) (key : List ℕ) (root : Table) → IsTableOf done root → (CanPush (at key root) → ⊥) → (more : List Statement) → IsLawful (done ++ element key ∷ more) → ⊥
+key_taken done key root is other more lawful =
+    other (can_push done key root is (ap (last_value key) (sym (root_pairs-element done more key)) ∙ lawful done more key refl))
+
+-- ---- one statement further
+
+root_pairs-scope_at : (before xs : List Statement) (name : List ℕ) → pairs before (until_element (xs ++ scope name ∷ [])) ≡ pairs before (until_element xs)
+root_pairs-scope_at before [] name = refl
+root_pairs-scope_at before (pair n d ∷ xs) name = ap (λ ps. (full_key (scope_of before) n, d) ∷ ps) (root_pairs-scope_at (before ++ pair n d ∷ []) xs name)
+root_pairs-scope_at before (scope n ∷ xs) name = root_pairs-scope_at (before ++ scope n ∷ []) xs name
+root_pairs-scope_at before (element n ∷ xs) name = refl
+
+root_pairs-scope : (done : List Statement) (name : List ℕ) → root_pairs (done ++ scope name ∷ []) ≡ root_pairs done
+root_pairs-scope done name = root_pairs-scope_at [] done name
+
+pub NoneNamed-scope : (done : List Statement) (name : List ℕ) → NoneNamed done (root_pairs done) → NoneNamed (done ++ scope name ∷ []) (root_pairs (done ++ scope name ∷ []))
+NoneNamed-scope done name n = rw (root_pairs-scope done name) (NoneNamed-append done (scope name ∷ []) (root_pairs done) n tt)
+
+pub NoneNamed-element : (done : List Statement) (key : List ℕ) → NoneNamed done (root_pairs done) → last_value key (root_pairs done) ≡ None → NoneNamed (done ++ element key ∷ []) (root_pairs (done ++ element key ∷ []))
+NoneNamed-element done key n free = rw (root_pairs-element done [] key) (NoneNamed-append done (element key ∷ []) (root_pairs done) n (free, tt))
+
+-- the statements, where one more stands behind the last header
+behind_header : (done before behind : List Statement) (key : List ℕ) (s : Statement) → done ≡ before ++ element key ∷ behind → done ++ s ∷ [] ≡ before ++ element key ∷ (behind ++ s ∷ [])
+behind_header done before behind key s e = ap (λ ss. ss ++ s ∷ []) e ∙ append_assoc before (element key ∷ behind) (s ∷ [])
+
+root_pairs-behind : (done before behind : List Statement) (key : List ℕ) (s : Statement) → done ≡ before ++ element key ∷ behind → root_pairs (done ++ s ∷ []) ≡ root_pairs done
+root_pairs-behind done before behind key s e =
+    ap root_pairs (behind_header done before behind key s e)
+    ∙ (root_pairs-element before (behind ++ s ∷ []) key ∙ (sym (root_pairs-element before behind key) ∙ ap root_pairs (sym e)))
+
+pub NoneNamed-pair : (done : List Statement) (root : Table) (key : Option (List ℕ)) (table : Table) (name : List ℕ) (d : Data) → Stands done root key table → NoneNamed done (root_pairs done)
+    → NoneNamed (done ++ pair name d ∷ []) (root_pairs (done ++ pair name d ∷ []))
+NoneNamed-pair done root None table name d (none, is, empty) n =
+    NoneNamed-none (done ++ pair name d ∷ []) (root_pairs (done ++ pair name d ∷ [])) (NoElement-append done (pair name d ∷ []) none tt)
+NoneNamed-pair done root (Some key) table name d (before, behind, e, none, is, has) n =
+    rw (root_pairs-behind done before behind key (pair name d) e) (NoneNamed-append done (pair name d ∷ []) (root_pairs done) n tt)
+
+scope_table : (done : List Statement) (root : Table) (name : List ℕ) → NoElement done → IsTableOf done root → IsTableOf (done ++ scope name ∷ []) root
+scope_table done root name none is key =
+    let more : element_pairs key [] (done ++ scope name ∷ []) ≡ element_pairs key [] done =
+    element_pairs-none key [] (done ++ scope name ∷ []) (NoElement-append done (scope name ∷ []) none tt) ∙ sym (element_pairs-none key [] done none) in
+    rw (more, root_pairs-scope done name) (is key)
+
+pub Stands-scope : (done : List Statement) (root : Table) (key : Option (List ℕ)) (table : Table) (name : List ℕ) → Stands done root key table → Stands (done ++ scope name ∷ []) root key table
+Stands-scope done root None table name (none, is, empty) =
+    (NoElement-append done (scope name ∷ []) none tt, scope_table done root name none is, empty)
+Stands-scope done root (Some key) table name (before, behind, e, none, is, has) = (
+  before,
+  behind ++ scope name ∷ [],
+  behind_header done before behind key (scope name) e,
+  NoElement-append behind (scope name ∷ []) none tt,
+  is,
+  subst (λ (ps : List Pair). HasLast ps table)
+      (sym (pairs-append (before ++ element key ∷ []) behind (scope name ∷ []) ∙ append-nil (pairs (before ++ element key ∷ []) behind))) has,
+)
+
+-- a pair of the root
+pub Stands-root_pair : (done : List Statement) (old new table : Table) (name : List ℕ) (d : Data) → Stands done old None table → Puts old (full_key (scope_of done) name) d new
+    → Stands (done ++ pair name d ∷ []) new None table
+Stands-root_pair done old new table name d (none, is, empty) puts =
+    (NoElement-append done (pair name d ∷ []) none tt, IsTableOf-pair done name d old new none is puts, empty)
+
+-- a pair of an element
+pub Stands-element_pair : (done : List Statement) (root old new : Table) (key name : List ℕ) (d : Data) → Stands done root (Some key) old → Puts old (full_key (scope_of done) name) d new
+    → Stands (done ++ pair name d ∷ []) root (Some key) new
+Stands-element_pair done root old new key name d (before, behind, e, none, is, has) puts =
+    let now = before ++ element key ∷ [] in
+    let whole : now ++ behind ≡ done = append_assoc before (element key ∷ []) behind ∙ sym e in
+    let last = HasLast-push (pairs now behind) old new (full_key (scope_of done) name) d has puts in (
+      before,
+      behind ++ pair name d ∷ [],
+      behind_header done before behind key (pair name d) e,
+      NoElement-append behind (pair name d ∷ []) none tt,
+      is,
+      subst (λ (ps : List Pair). HasLast ps new)
+          (ap (λ (ss : List Statement). pairs now behind ++ (full_key (scope_of ss) name, d) ∷ []) (sym whole) ∙ sym (pairs-append now behind (pair name d ∷ []))) last,
+    )
+
+-- a new element
+pub Stands-element : (done : List Statement) (root table : Table) (key : List ℕ) → IsTableOf done root → table ≡ no_pairs → Stands (done ++ element key ∷ []) root (Some key) table
+Stands-element done root table key is empty = (done, [], refl, tt, is, λ k. ap (at k) empty)
+
+free_before : (done before behind : List Statement) (key : List ℕ) → done ≡ before ++ element key ∷ behind → NoneNamed done (root_pairs done) → last_value key (root_pairs before) ≡ None
+free_before done before behind key e n =
+    ap (last_value key) (sym (ap root_pairs e ∙ root_pairs-element before behind key))
+    ∙ NoneNamed-at before behind key (root_pairs done) (subst (λ (ss : List Statement). NoneNamed ss (root_pairs done)) e n)
+
+-- the last element's table can be pushed
+pub Stands-can_push : (done : List Statement) (root table : Table) (key : List ℕ) → Stands done root (Some key) table → NoneNamed done (root_pairs done) → CanPush (at key root)
+Stands-can_push done root table key (before, behind, e, none, is, has) n = can_push before key root is (free_before done before behind key e n)
+
+-- and then the root is the table of all the statements
+pub Stands-whole : (done : List Statement) (old new table : Table) (key : List ℕ) → Stands done old (Some key) table → NoneNamed done (root_pairs done) → Puts old key (pushed (at key old) table) new → IsTableOf done new
+Stands-whole done old new table key (before, behind, e, none, is, has) n puts =
+    subst (λ (ss : List Statement). IsTableOf ss new) (sym e) (IsTableOf-element before behind key old new table none is has (free_before done before behind key e n) puts)

@@ -1,0 +1,174 @@
+-- Tokens are the statements of one list at most.
+use Rattle.std.proofs.Common.{◌≡◌, ℕ, Some, List, [], ◌∷◌, ◌++◌, sym, refl, ap, ◌∙◌, subst, inl, inr, ◌⊎◌}
+use Rattle.nano_toml.specs.Built.{IsPlain}
+use Rattle.nano_toml.specs.Data.{Data, Tables, tables}
+use Rattle.nano_toml.specs.Fronts.{Front, closed, is_open, nothing, value_front, pair_of, pair_front, scope_front, element_front, header_front, statement_front}
+use Rattle.nano_toml.specs.Statements.{scalar_of, IsClosed, IsOpen, Statement, scope, element, pair, IsName, IsStatement, AreStatements}
+use Rattle.nano_toml.specs.Token.{Token, ident, string, unsigned, signed, decimal, boolean, nan, infinity, date, equals, open_bracket, close_bracket}
+use Rattle.nano_toml.proofs.FrontLemmas.{value_front-closed, value_front-open, value_front_found, IsFront}
+
+-- ---- tokens of statements have them at their front
+
+scope_first : (t : Token) (name : List ℕ) (more : List Token) → IsName t name → statement_front (open_bracket ∷ t ∷ close_bracket ∷ more) ≡ closed (scope name) more
+scope_first t name more (inl e) = ap (λ u. header_front (u ∷ close_bracket ∷ more)) e
+scope_first t name more (inr e) = ap (λ u. header_front (u ∷ close_bracket ∷ more)) e
+
+pair_first : (t : Token) (name : List ℕ) (more : List Token) → IsName t name → statement_front (t ∷ equals ∷ more) ≡ pair_of name (value_front more)
+pair_first t name more (inl e) = ap (λ u. statement_front (u ∷ equals ∷ more)) e
+pair_first t name more (inr e) = ap (λ u. statement_front (u ∷ equals ∷ more)) e
+
+statement_front-closed : (s : Statement) (here more : List Token) → IsStatement IsClosed here s → statement_front (here ++ more) ≡ closed s more
+statement_front-closed (scope name) here more (t, n, e) = ap (λ ts. statement_front (ts ++ more)) e ∙ scope_first t name more n
+statement_front-closed (element name) here more e = ap (λ ts. statement_front (ts ++ more)) e
+statement_front-closed (pair name d) here more (t, value, n, k, e) =
+    ap (λ ts. statement_front (ts ++ more)) e ∙ (pair_first t name (value ++ more) n ∙ ap (pair_of name) (value_front-closed d value more k))
+
+statement_front-open : (s : Statement) (ts : List Token) → IsStatement IsOpen ts s → (statement_front ts ≡ is_open s) ⊎ (statement_front ts ≡ closed s [])
+statement_front-open (scope name) ts (t, n, e) = inr (ap statement_front e ∙ scope_first t name [] n)
+statement_front-open (element name) ts e = inr (ap statement_front e)
+statement_front-open (pair name d) ts (t, value, n, k, e) = inl (ap statement_front e ∙ (pair_first t name value n ∙ ap (pair_of name) (value_front-open d value k)))
+
+-- ---- what stands at the front is a statement
+
+-- the front of ts is a part of it, or all of it
+abbrev IsStatementFront : Front Statement → List Token → Type 0
+IsStatementFront (closed s rest) ts = (used : List Token) × (ts ≡ used ++ rest) × IsStatement IsClosed used s
+IsStatementFront (is_open s) ts = IsStatement IsOpen ts s
+IsStatementFront nothing ts = Unit {0}
+
+scope_front_found : (t : Token) (name : List ℕ) (ts : List Token) → IsName t name → IsStatementFront (scope_front name ts) (open_bracket ∷ t ∷ ts)
+scope_front_found t name (close_bracket ∷ ts) n = (open_bracket ∷ t ∷ close_bracket ∷ [], refl, (t, n, refl))
+scope_front_found t name _ n = tt
+
+element_front_found : (ts : List Token) → IsStatementFront (element_front ts) (open_bracket ∷ open_bracket ∷ ts)
+element_front_found (ident name ∷ close_bracket ∷ close_bracket ∷ ts) = (open_bracket ∷ open_bracket ∷ ident name ∷ close_bracket ∷ close_bracket ∷ [], refl, refl)
+element_front_found _ = tt
+
+header_front_found : (ts : List Token) → IsStatementFront (header_front ts) (open_bracket ∷ ts)
+header_front_found (ident name ∷ ts) = scope_front_found (ident name) name ts (inl refl)
+header_front_found (string name ∷ ts) = scope_front_found (string name) name ts (inr refl)
+header_front_found (open_bracket ∷ ts) = element_front_found ts
+header_front_found _ = tt
+
+pair_of_found : (t : Token) (name : List ℕ) (front : Front Data) (ts : List Token) → IsName t name → IsFront [] front ts → IsStatementFront (pair_of name front) (t ∷ equals ∷ ts)
+pair_of_found t name (closed d rest) ts n (used, e, k) = (t ∷ equals ∷ used, ap (λ us. t ∷ equals ∷ us) e, (t, used, n, k, refl))
+pair_of_found t name (is_open d) ts n k = (t, ts, n, k, refl)
+pair_of_found t name nothing ts n k = tt
+
+pair_front_found : (t : Token) (name : List ℕ) (ts : List Token) → IsName t name → IsStatementFront (pair_front name ts) (t ∷ ts)
+pair_front_found t name (equals ∷ ts) n = pair_of_found t name (value_front ts) ts n (value_front_found ts)
+pair_front_found t name _ n = tt
+
+statement_front_found : (ts : List Token) → IsStatementFront (statement_front ts) ts
+statement_front_found (open_bracket ∷ ts) = header_front_found ts
+statement_front_found (ident name ∷ ts) = pair_front_found (ident name) name ts (inl refl)
+statement_front_found (string name ∷ ts) = pair_front_found (string name) name ts (inr refl)
+statement_front_found _ = tt
+
+-- ---- lists of statements, by their front
+
+found_closed : (front : Front Statement) (ts : List Token) (s : Statement) (rest : List Token) → front ≡ closed s rest → IsStatementFront front ts → (used : List Token) × (ts ≡ used ++ rest) × IsStatement IsClosed used s
+found_closed front ts s rest e found = subst (λ (f : Front Statement). IsStatementFront f ts) e found
+
+found_open : (front : Front Statement) (ts : List Token) (s : Statement) → front ≡ is_open s → IsStatementFront front ts → IsStatement IsOpen ts s
+found_open front ts s e found = subst (λ (f : Front Statement). IsStatementFront f ts) e found
+
+-- a closed statement, and then others
+pub AreStatements-cons : (ts rest : List Token) (s : Statement) (ss : List Statement) → statement_front ts ≡ closed s rest → AreStatements rest ss → AreStatements ts (s ∷ ss)
+AreStatements-cons ts rest s ss e are =
+    let f = found_closed (statement_front ts) ts s rest e (statement_front_found ts) in
+    inl (f.0, rest, f.2, are, f.1)
+
+-- an open statement is the last
+pub AreStatements-open : (ts : List Token) (s : Statement) → statement_front ts ≡ is_open s → AreStatements ts (s ∷ [])
+AreStatements-open ts s e = inr (found_open (statement_front ts) ts s e (statement_front_found ts), refl)
+
+-- what begins with a closed statement is that statement and others
+abbrev pub GoesOn : List Statement → Statement → List Token → Type 0
+GoesOn ss s rest = (more : List Statement) × (ss ≡ s ∷ more) × AreStatements rest more
+
+closed_one : (s u : Statement) (rest more : List Token) (ss : List Statement) → closed u more ≡ closed s rest → AreStatements more ss → GoesOn (u ∷ ss) s rest
+closed_one s u rest more ss e are =
+    let same : u ≡ s = cc in
+    let left : more ≡ rest = cc in
+    (ss, ap (λ v. v ∷ ss) same, subst (λ (ts : List Token). AreStatements ts ss) left are)
+
+last_one : (s u : Statement) (rest : List Token) (ss : List Statement) (front : Front Statement) → front ≡ closed s rest → (front ≡ is_open u) ⊎ (front ≡ closed u []) → ss ≡ [] → GoesOn (u ∷ ss) s rest
+last_one s u rest ss front e (inl o) none = absurd (let clash : is_open u ≡ closed s rest = sym o ∙ e in cc)
+last_one s u rest ss front e (inr c) none = closed_one s u rest [] ss (sym c ∙ e) (subst (λ (us : List Statement). AreStatements [] us) (sym none) refl)
+
+pub AreStatements-closed : (ts rest : List Token) (s : Statement) (ss : List Statement) → statement_front ts ≡ closed s rest → AreStatements ts ss → GoesOn ss s rest
+AreStatements-closed ts rest s [] e are = absurd (let clash : nothing ≡ closed s rest = sym (ap statement_front are) ∙ e in cc)
+AreStatements-closed ts rest s (u ∷ ss) e (inl (here, more, k, are, split)) =
+    closed_one s u rest more ss (sym (ap statement_front split ∙ statement_front-closed u here more k) ∙ e) are
+AreStatements-closed ts rest s (u ∷ ss) e (inr (k, none)) =
+    last_one s u rest ss (statement_front ts) e (statement_front-open u ts k) none
+
+open_one : (s u : Statement) (ss : List Statement) (front : Front Statement) → front ≡ is_open s → (front ≡ is_open u) ⊎ (front ≡ closed u []) → ss ≡ [] → u ∷ ss ≡ s ∷ []
+open_one s u ss front e (inl o) none = let same : is_open u ≡ is_open s = sym o ∙ e in cc
+open_one s u ss front e (inr c) none = absurd (let clash : closed u [] ≡ is_open s = sym c ∙ e in cc)
+
+pub AreStatements-is_open : (ts : List Token) (s : Statement) (ss : List Statement) → statement_front ts ≡ is_open s → AreStatements ts ss → ss ≡ s ∷ []
+AreStatements-is_open ts s [] e are = absurd (let clash : nothing ≡ is_open s = sym (ap statement_front are) ∙ e in cc)
+AreStatements-is_open ts s (u ∷ ss) e (inl (here, more, k, are, split)) =
+    absurd (let clash : closed u more ≡ is_open s = sym (ap statement_front split ∙ statement_front-closed u here more k) ∙ e in cc)
+AreStatements-is_open ts s (u ∷ ss) e (inr (k, none)) = open_one s u ss (statement_front ts) e (statement_front-open u ts k) none
+
+not_nothing : (u : Statement) (front : Front Statement) → (front ≡ is_open u) ⊎ (front ≡ closed u []) → front ≡ nothing → ⊥
+not_nothing u front (inl o) e = let clash : is_open u ≡ nothing = sym o ∙ e in cc
+not_nothing u front (inr c) e = let clash : closed u [] ≡ nothing = sym c ∙ e in cc
+
+-- where no statement stands at the front, the tokens are no statements
+pub AreStatements-nothing : (ts : List Token) (ss : List Statement) → statement_front ts ≡ nothing → AreStatements ts ss → (ts ≡ []) × (ss ≡ [])
+AreStatements-nothing ts [] e are = (are, refl)
+AreStatements-nothing ts (u ∷ ss) e (inl (here, more, k, are, split)) =
+    absurd (let clash : closed u more ≡ nothing = sym (ap statement_front split ∙ statement_front-closed u here more k) ∙ e in cc)
+AreStatements-nothing ts (u ∷ ss) e (inr (k, none)) = absurd (not_nothing u (statement_front ts) (statement_front-open u ts k) e)
+
+pub AreStatements-nil : (ss : List Statement) → AreStatements [] ss → ss ≡ []
+AreStatements-nil ss are = (AreStatements-nothing [] ss refl are).1
+
+last_list : (s : Statement) (ss other : List Statement) (ts : List Token) → (statement_front ts ≡ is_open s) ⊎ (statement_front ts ≡ closed s []) → ss ≡ [] → AreStatements ts other → s ∷ ss ≡ other
+last_list s ss other ts (inl o) none b = ap (λ us. s ∷ us) none ∙ sym (AreStatements-is_open ts s other o b)
+last_list s ss other ts (inr c) none b =
+    let g = AreStatements-closed ts [] s other c b in
+    ap (λ us. s ∷ us) (none ∙ sym (AreStatements-nil g.0 g.2)) ∙ sym g.1
+
+-- tokens are one list of statements at most
+pub one_list : (one other : List Statement) (ts : List Token) → AreStatements ts one → AreStatements ts other → one ≡ other
+one_list [] other ts a b = sym (AreStatements-nil other (subst (λ (us : List Token). AreStatements us other) a b))
+one_list (s ∷ ss) other ts (inl (here, more, k, are, split)) b =
+    let g = AreStatements-closed ts more s other (ap statement_front split ∙ statement_front-closed s here more k) b in
+    ap (λ us. s ∷ us) (one_list ss g.0 more are g.2) ∙ sym g.1
+one_list (s ∷ ss) other ts (inr (k, none)) b = last_list s ss other ts (statement_front-open s ts k) none b
+
+-- ---- the value of a pair is no Array
+
+scalar_plain : (t : Token) (ts : Tables) → scalar_of t ≡ Some (tables ts) → ⊥
+scalar_plain (string s) ts e = cc
+scalar_plain (unsigned n) ts e = cc
+scalar_plain (signed n) ts e = cc
+scalar_plain (decimal s) ts e = cc
+scalar_plain (boolean b) ts e = cc
+scalar_plain (nan b) ts e = cc
+scalar_plain (infinity b) ts e = cc
+scalar_plain (date s) ts e = cc
+scalar_plain _ ts e = cc
+
+closed_plain : (us : List Token) (s : Statement) → IsStatement IsClosed us s → IsPlain s
+closed_plain us (scope name) k = tt
+closed_plain us (element key) k = tt
+closed_plain us (pair name (tables ts)) (t, more, n, (u, e, one), split) = scalar_plain u ts e
+closed_plain us (pair name _) k = tt
+
+open_plain : (us : List Token) (s : Statement) → IsStatement IsOpen us s → IsPlain s
+open_plain us (scope name) k = tt
+open_plain us (element key) k = tt
+open_plain us (pair name (tables ts)) (t, more, n, k, split) = k
+open_plain us (pair name _) k = tt
+
+pub front_plain : (ts rest : List Token) (s : Statement) → statement_front ts ≡ closed s rest → IsPlain s
+front_plain ts rest s e = let f = found_closed (statement_front ts) ts s rest e (statement_front_found ts) in closed_plain f.0 s f.2
+
+pub front_open_plain : (ts : List Token) (s : Statement) → statement_front ts ≡ is_open s → IsPlain s
+front_open_plain ts s e = open_plain ts s (found_open (statement_front ts) ts s e (statement_front_found ts))

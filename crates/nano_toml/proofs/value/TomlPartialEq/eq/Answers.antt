@@ -1,0 +1,7 @@
+use Rattle.std.proofs.lemmas.Bool.Decides.{same_from_decides}
+use Rattle.nano_toml.specs.View.{view}
+use Rattle.nano_toml.specs.SameData.{data_eq, data_eq-Decides}
+use Rattle.nano_toml.proofs.value.TomlPartialEq.eq.Goals as goal
+
+pub returns-clause-value : goal.returns-clause-value
+returns-clause-value c = same_from_decides c.same_value.result (data_eq (view c.args.self.now) (view c.args.other.now)) c.same_value.ensures (data_eq-Decides (view c.args.self.now) (view c.args.other.now))

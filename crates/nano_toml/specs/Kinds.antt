@@ -1,0 +1,37 @@
+-- The content of a value, where it is of the kind.
+use Rattle.std.specs.Prelude.{ℕ, zero, suc, ℤ, List, Bool, Option, Some, None}
+use Rattle.nano_toml.specs.Data.{Data, text, boolean, number, date, tables, values, Values, Tables, no_tables, more_tables, Table}
+
+abbrev pub as_text : Data → Option (List ℕ)
+as_text (text s) = Some s
+as_text _ = None
+
+abbrev pub as_boolean : Data → Option Bool
+as_boolean (boolean b) = Some b
+as_boolean _ = None
+
+abbrev pub as_number : Data → Option ℤ
+as_number (number n) = Some n
+as_number _ = None
+
+abbrev pub as_date : Data → Option (List ℕ)
+as_date (date s) = Some s
+as_date _ = None
+
+abbrev pub as_tables : Data → Option Tables
+as_tables (tables ts) = Some ts
+as_tables _ = None
+
+abbrev pub as_values : Data → Option Values
+as_values (values vs) = Some vs
+as_values _ = None
+
+-- the table at a place
+abbrev pub table_at : Tables → ℕ → Option Table
+table_at no_tables i = None
+table_at (more_tables t ts) zero = Some t
+table_at (more_tables t ts) (suc i) = table_at ts i
+
+abbrev pub index_of : Data → ℕ → Option Table
+index_of (tables ts) i = table_at ts i
+index_of _ i = None

@@ -1,0 +1,184 @@
+//! The table of statements, built one statement after another.
+
+ghost use Rattle.std.specs.Prelude.{◌≡◌, ◌≢◌, ◌↔◌, List, [], ◌∷◌, ◌++◌, IsTrue, Some, None, OnOk, IfOk, IfErr, string_bytes};
+ghost use Rattle.nano_toml.specs.Built.{IsBuilt, IsWhole, IsPlain, IsTables, CanPush, Puts, pushed};
+ghost use Rattle.nano_toml.specs.Data.{at};
+ghost use Rattle.nano_toml.specs.Reading.{statement_view};
+ghost use Rattle.nano_toml.specs.StatementTable.{IsLawful, IsTableOf, full_key as key_in};
+ghost use Rattle.nano_toml.specs.Statements.{Statement as Stated, element, pair};
+ghost use Rattle.nano_toml.specs.View.{view, table_view};
+
+use crate::fault::Fault;
+use crate::statements::Statement;
+use crate::value::Toml;
+use std::alloc::{AllocError, Global};
+use std::collections::HashMap;
+use std::mem;
+
+/// Keys and their values.
+pub(crate) type Table = HashMap<String, Toml>;
+
+/// The table of the statements so far.
+#[derive(Drop)]
+pub(crate) struct Builder {
+    pub(crate) root: Table,
+    /// The key of the last header `[[key]]`, whose table is not in the root yet.
+    pub(crate) key: Option<String>,
+    /// That table.
+    pub(crate) table: Table,
+    /// The name of the last header `[name]`.
+    pub(crate) scope: String,
+}
+
+// Whether the value is an Array.
+fn is_array(value: &Toml) -> bool
+    ensures { IsTrue result ↔ IsTables (view value.now) }
+{
+    match value {
+        Toml::Array(_) => true,
+        _ => false,
+    }
+}
+
+// Whether the table has an Array or nothing at the key.
+fn is_free(table: &Table, key: &String) -> bool
+    ensures { IsTrue result ↔ CanPush (at (string_bytes key.now) (table_view table.now.entries)) }
+{
+    match table.get(key) {
+        Some(value) => is_array(value),
+        None => true,
+    }
+}
+
+// Puts the value at the key.
+fn put(table: &mut Table, key: String, value: Toml) -> Result<(), AllocError>
+    ensures { OnOk result (Puts (table_view table.old.entries) (string_bytes key) (view value) (table_view table.new.entries)) }
+{
+    table.insert(key, value)?;
+    Ok(())
+}
+
+// Adds a table at the end of an Array.
+fn push_into(value: &mut Toml, table: Table) -> Result<(), AllocError>
+    requires { IsTables (view value.old) }
+    ensures { OnOk result (view value.new ≡ pushed (Some (view value.old)) (table_view table.entries)) }
+{
+    match mem::replace(value, Toml::Bool(false)) {
+        Toml::Array(mut tables) => {
+            tables.push(table)?;
+            *value = Toml::Array(tables);
+            Ok(())
+        }
+        _ => unreachable!(),
+    }
+}
+
+// Adds a table at the end of the Array at a key.
+fn push_table(alloc: Global, root: &mut Table, key: String, table: Table) -> Result<(), AllocError>
+    requires { CanPush (at (string_bytes key) (table_view root.old.entries)) }
+    ensures { OnOk result (Puts (table_view root.old.entries) (string_bytes key) (pushed (at (string_bytes key) (table_view root.old.entries)) (table_view table.entries)) (table_view root.new.entries)) }
+{
+    match root.get_mut(&key) {
+        Some(value) => push_into(value, table),
+        None => {
+            let mut tables = Vec::new(alloc);
+            tables.push(table)?;
+            put(root, key, Toml::Array(tables))
+        }
+    }
+}
+
+// The key of a name in a scope. In the empty scope it is the name itself.
+fn full_key(alloc: Global, scope: &str, name: String) -> Result<String, AllocError>
+    ensures { IfOk result (λ key. string_bytes key ≡ key_in scope.now (string_bytes name)) }
+{
+    if scope.is_empty() {
+        return Ok(name);
+    }
+    let mut key = String::from_str(alloc, scope)?;
+    key.push('.')?;
+    key.push_str(name.as_str())?;
+    Ok(key)
+}
+
+impl Builder {
+    /// Nothing yet.
+    pub(crate) fn new(alloc: Global) -> Builder
+        ensures { IsBuilt [] result }
+    {
+        Builder {
+            root: HashMap::new(alloc),
+            key: None,
+            table: HashMap::new(alloc),
+            scope: String::new(alloc),
+        }
+    }
+
+    // Moves the table of the last element into the root.
+    fn end_element(&mut self, alloc: Global) -> Result<(), AllocError>
+        requires { (done : List Stated) × IsBuilt done self.old }
+        ensures { (done : List Stated) → IsBuilt done self.old → OnOk result (IsWhole done self.new) }
+    {
+        if let Some(key) = self.key.take() {
+            let table = mem::replace(&mut self.table, HashMap::new(alloc));
+            push_table(alloc, &mut self.root, key, table)?;
+        }
+        Ok(())
+    }
+
+    // Begins a new element. Where the key has a value of another kind, the builder keeps the key.
+    fn start_element(&mut self, alloc: Global, key: String) -> Result<(), Fault>
+        requires { (done : List Stated) × IsBuilt done self.old }
+        ensures built { (done : List Stated) → IsBuilt done self.old → OnOk result (IsBuilt (done ++ element (string_bytes key) ∷ []) self.new) }
+        ensures refused { (done : List Stated) → IsBuilt done self.old → IfErr result (λ e. e ≢ Fault.Memory → (more : List Stated) → IsLawful (done ++ element (string_bytes key) ∷ more) → ⊥) }
+    {
+        self.end_element(alloc)?;
+        let is_free = is_free(&self.root, &key);
+        self.key = Some(key);
+        if !is_free {
+            return Err(Fault::OtherKind);
+        }
+        Ok(())
+    }
+
+    // Adds a pair to the element, or to the root where there is none.
+    fn add_pair(&mut self, alloc: Global, name: String, value: Toml) -> Result<(), AllocError>
+        requires { (done : List Stated) × IsBuilt done self.old }
+        ensures { (done : List Stated) → IsBuilt done self.old → IsPlain (pair (string_bytes name) (view value)) → OnOk result (IsBuilt (done ++ pair (string_bytes name) (view value) ∷ []) self.new) }
+    {
+        let key = full_key(alloc, self.scope.as_str(), name)?;
+        if self.key.is_some() {
+            put(&mut self.table, key, value)
+        } else {
+            put(&mut self.root, key, value)
+        }
+    }
+
+    /// Adds a statement. A fault but want of memory is a header that names a key which a pair gave: the builder then keeps that key.
+    pub(crate) fn add(&mut self, alloc: Global, statement: Statement) -> Result<(), Fault>
+        requires { (done : List Stated) × IsBuilt done self.old }
+        ensures built { (done : List Stated) → IsBuilt done self.old → IsPlain (statement_view statement) → OnOk result (IsBuilt (done ++ statement_view statement ∷ []) self.new) }
+        ensures refused { (done : List Stated) → IsBuilt done self.old → IfErr result (λ e. e ≢ Fault.Memory → (more : List Stated) → IsLawful (done ++ statement_view statement ∷ more) → ⊥) }
+    {
+        match statement {
+            Statement::Scope(name) => {
+                self.scope = name;
+                Ok(())
+            }
+            Statement::Element(key) => self.start_element(alloc, key),
+            Statement::Pair(name, value) => {
+                self.add_pair(alloc, name, value)?;
+                Ok(())
+            }
+        }
+    }
+
+    /// The table of the statements that were added.
+    pub(crate) fn finish(mut self, alloc: Global) -> Result<Table, AllocError>
+        requires { (done : List Stated) × IsBuilt done self }
+        ensures { (done : List Stated) → IsBuilt done self → IfOk result (λ table. IsTableOf done (table_view table.entries)) }
+    {
+        self.end_element(alloc)?;
+        Ok(self.root)
+    }
+}
