@@ -19,5 +19,6 @@ pub mod StringCut
 pub mod TableChanges
 pub mod TableViews
 pub mod Unexpected
+pub mod ValueCount
 pub mod Values
 pub mod WordCut
