@@ -21,5 +21,6 @@ pub mod TableChanges
 pub mod TableViews
 pub mod Unexpected
 pub mod Utf8Fronts
+pub mod ValueCount
 pub mod Values
 pub mod WordCut
