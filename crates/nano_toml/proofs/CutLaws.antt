@@ -1,17 +1,14 @@
 -- The cut and the scan are one; so a text is cut in one way.
-use Rattle.std.proofs.Common.{◌≡◌, ℕ, ◌<◌, List, [], ◌∷◌, ◌++◌, length, length-append, false, Option, Some, None, refl, ap, sym, ◌∙◌, subst, arith}
+use Rattle.std.proofs.Common.{◌≡◌, ℕ, List, [], ◌∷◌, false, Option, Some, None, refl, ap, sym, ◌∙◌, subst}
 use Rattle.nano_toml.specs.Token.{Token}
 use Rattle.nano_toml.specs.Taken.{Next, a_token, the_end, Took}
-use Rattle.nano_toml.specs.Skipped.{gaps_text, last_comment_text, IsLastComment}
-use Rattle.nano_toml.specs.Word.{IsWord}
-use Rattle.nano_toml.specs.Quoted.{pieces_text, IsString, empty, short, triple}
-use Rattle.nano_toml.specs.Number.{sign_text, is_minus, body_text}
-use Rattle.nano_toml.specs.Cut.{Lexeme, a_mark, a_word, a_string, a_number, Cut, CutEnd, CutsNothing, IsCutInOneWay}
+use Rattle.nano_toml.specs.Skipped.{last_comment_text, IsLastComment}
+use Rattle.nano_toml.specs.Cut.{Cut, CutEnd, CutsNothing, IsCutInOneWay}
 use Rattle.nano_toml.specs.Scan.{Taken, taken, behind_gaps, lexeme_at, next_behind_gaps, next_at}
 use Rattle.nano_toml.proofs.Gaps.{gaps_stop}
 use Rattle.nano_toml.proofs.GapCut.{gaps_scanned, last_comment_scanned, Skips, to_rest, to_end, skips}
 use Rattle.nano_toml.proofs.LexemeCut.{lexeme_scanned, scanned_lexeme, lexeme_no_gap}
-use Rattle.nano_toml.proofs.NumberCut.{same_taken, body_some}
+use Rattle.nano_toml.proofs.NumberCut.{same_taken}
 
 -- ---- what is cut is scanned
 
@@ -69,24 +66,3 @@ cut_not_end text token rest h k =
 
 pub cut_in_one_way : (text : List ℕ) → IsCutInOneWay text
 cut_in_one_way text = (cut_one_way text, cut_not_end text)
-
--- ---- a token has a character
-
-string_shorter : (text chars rest : List ℕ) → IsString text chars rest → length rest < length text
-string_shorter text chars rest (empty split ends none) = omega (arith, ap length split)
-string_shorter text chars rest (short pieces some good split are) = omega (arith, ap length split, length-append (pieces_text pieces) (34 ∷ rest))
-string_shorter text chars rest (triple pieces good split ends are) = omega (arith, ap length split, length-append (pieces_text pieces) (34 ∷ (34 ∷ (34 ∷ rest))))
-
-word_some : (word : List ℕ) → IsWord word → 0 < length word
-word_some [] h = absurd h
-word_some (c ∷ cs) h = omega arith
-
-lexeme_shorter : (text rest : List ℕ) (token : Token) → Lexeme text token rest → length rest < length text
-lexeme_shorter text rest token (a_mark c m split) = omega (arith, ap length split)
-lexeme_shorter text rest token (a_word word w e split is) = omega (arith, ap length split, length-append word rest, word_some word w)
-lexeme_shorter text rest token (a_string chars s is) = string_shorter text chars rest s
-lexeme_shorter text rest token (a_number n) =
-    omega (arith, ap length n.split, length-append (sign_text n.sign) (body_text n.body ++ rest), length-append (body_text n.body) rest, body_some (is_minus n.sign) n.body n.good)
-
-pub cut_shorter : (text rest : List ℕ) (token : Token) → Cut text token rest → length rest < length text
-cut_shorter text rest token h = omega (arith, ap length h.split, length-append (gaps_text h.gaps) h.from, lexeme_shorter h.from rest token h.lexeme)

@@ -1,27 +1,16 @@
 -- A cut takes at least one character.
 use Rattle.std.proofs.Common.{ℕ, ◌<◌, List, [], ◌∷◌, ◌++◌, length, ap, arith, length-append}
 use Rattle.nano_toml.specs.Cut.{Cut, Lexeme, a_mark, a_word, a_string, a_number}
-use Rattle.nano_toml.specs.Number.{Body, is_nan, is_infinity, is_decimal, is_date, is_integer, body_text, IsBody, digits, IsNumber, sign_text}
+use Rattle.nano_toml.specs.Number.{body_text, is_minus, IsNumber, sign_text}
+use Rattle.nano_toml.proofs.NumberCut.{body_some}
 use Rattle.nano_toml.specs.Quoted.{IsString, empty, short, triple, pieces_text}
 use Rattle.nano_toml.specs.Skipped.{gaps_text}
 use Rattle.nano_toml.specs.Token.{Token}
 use Rattle.nano_toml.specs.Word.{IsWord}
-use Rattle.std.specs.Prelude.{Bool}
 
 IsWord-length : (word : List ℕ) → IsWord word → 0 < length word
 IsWord-length [] h = absurd h
 IsWord-length (c ∷ cs) h = omega arith
-
-digits-length : (whole : List ℕ) → 0 < length (digits whole) → 0 < length whole
-digits-length [] h = absurd (omega arith)
-digits-length (c ∷ cs) h = omega arith
-
-IsBody-length : (minus : Bool) (body : Body) → IsBody minus body → 0 < length (body_text body)
-IsBody-length minus is_nan b = omega arith
-IsBody-length minus is_infinity b = omega arith
-IsBody-length minus (is_decimal whole part) b = omega (arith, length-append whole (46 ∷ part))
-IsBody-length minus (is_date first more) b = omega (arith, length-append first (45 ∷ more))
-IsBody-length minus (is_integer whole) b = digits-length whole b.1
 
 IsString-shorter : (text chars rest : List ℕ) → IsString text chars rest → length rest < length text
 IsString-shorter text chars rest (empty e n m) = omega (arith, ap length e)
@@ -30,7 +19,7 @@ IsString-shorter text chars rest (triple pieces are e n m) = omega (arith, ap le
 
 IsNumber-shorter : (text : List ℕ) (token : Token) (rest : List ℕ) → IsNumber text token rest → length rest < length text
 IsNumber-shorter text token rest n =
-    omega (arith, ap length n.split, length-append (sign_text n.sign) (body_text n.body ++ rest), length-append (body_text n.body) rest, IsBody-length _ n.body n.good)
+    omega (arith, ap length n.split, length-append (sign_text n.sign) (body_text n.body ++ rest), length-append (body_text n.body) rest, body_some (is_minus n.sign) n.body n.good)
 
 Lexeme-shorter : (text : List ℕ) (token : Token) (rest : List ℕ) → Lexeme text token rest → length rest < length text
 Lexeme-shorter text token rest (a_mark c m e) = omega (arith, ap length e)

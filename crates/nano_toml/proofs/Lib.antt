@@ -10,6 +10,7 @@ pub mod LexemeCut
 pub mod LiveText
 pub mod NextSteps
 pub mod NumberCut
+pub mod PlainFronts
 pub mod Quotes
 pub mod ReadLemmas
 pub mod Signs
@@ -19,5 +20,7 @@ pub mod StringCut
 pub mod TableChanges
 pub mod TableViews
 pub mod Unexpected
+pub mod Utf8Fronts
+pub mod ValueCount
 pub mod Values
 pub mod WordCut

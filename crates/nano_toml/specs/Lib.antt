@@ -7,6 +7,7 @@ pub mod Fronts
 pub mod Kinds
 pub mod LiveText
 pub mod Number
+pub mod Plain
 pub mod Quoted
 pub mod Reading
 pub mod SameData

@@ -124,3 +124,6 @@ impl TomlParser {
         }
     }
 }
+
+#[cfg(test)]
+mod tests;

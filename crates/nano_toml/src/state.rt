@@ -28,6 +28,18 @@ fn is_space(c: char) -> bool
     c == '\n' || c == '\r' || c == '\t' || c == ' '
 }
 
+fn line_feeds(bytes: &[u8]) -> usize {
+    bytes.iter().filter(|byte| **byte == b'\n').count()
+}
+
+/// How many characters these bytes of UTF-8 begin.
+fn characters(bytes: &[u8]) -> usize {
+    bytes
+        .iter()
+        .filter(|byte| **byte < 0x80 || 0xC0 <= **byte)
+        .count()
+}
+
 /// The token of one character, if it is one.
 fn mark(c: char) -> Option<TomlTok>
     ensures { option_map (λ t. token_of t) result ≡ option_map (λ t. a_token t) (mark_token c) }
@@ -85,6 +97,21 @@ impl<'a> Cursor<'a> {
                 }
             }
             None => self.cur = '\0',
+        }
+    }
+
+    /// Counts these characters as if they were taken one by one.
+    pub(crate) fn pass(&mut self, text: &str)
+        ensures cur { self.new.cur ≡ self.old.cur }
+        ensures behind { self.new.behind ≡ self.old.behind }
+    {
+        let bytes = text.as_bytes();
+        match bytes.iter().rposition(|byte| *byte == b'\n') {
+            Some(last) => {
+                self.line = self.line.saturating_add(line_feeds(bytes));
+                self.col = characters(&bytes[last + 1..]);
+            }
+            None => self.col = self.col.saturating_add(characters(bytes)),
         }
     }
 

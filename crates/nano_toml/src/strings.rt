@@ -1,7 +1,8 @@
 // Strings.
-ghost use Rattle.std.specs.Prelude.{◌≡◌, ◌≢◌, ℕ, ◌^◌, ◌-◌, min, ◌==◌, ◌++◌, ◌∷◌, [], length, true, false, Some, None, OnOk, IfOk, IfErr, string_bytes, encode_utf8, if◌then◌else◌};
+ghost use Rattle.std.specs.Prelude.{◌≡◌, ◌≢◌, ℕ, ◌<◌, ◌^◌, ◌-◌, min, ◌==◌, ◌++◌, ◌∷◌, [], length, true, false, Some, None, OnOk, IfOk, IfErr, string_bytes, encode_utf8, encode_utf8_all, if◌then◌else◌};
 ghost use Rattle.nano_toml.specs.Characters.{is_quote};
 ghost use Rattle.nano_toml.specs.LiveText.{live};
+ghost use Rattle.nano_toml.specs.Plain.{is_plain};
 ghost use Rattle.nano_toml.specs.Scan.{Content, short_at, triple_at, some_quotes, behind_one_quote};
 ghost use Rattle.nano_toml.specs.Span.{front, behind};
 
@@ -9,7 +10,44 @@ use crate::state::Cursor;
 use crate::token::TokenFault;
 use std::alloc::{AllocError, Global};
 
+/// Whether a character, or a byte of UTF-8, stands for itself in a string.
+fn is_plain(c: u32) -> bool
+    ensures { result ≡ is_plain c }
+{
+    c != u32::from('"') && c != u32::from('\\') && c != 0
+}
+
+/// How many bytes stand for themselves before the first that doesn't.
+fn plain_len(bytes: &[u8]) -> usize
+    ensures { result ≡ length (front is_plain bytes.now) }
+{
+    for (len, byte) in bytes.iter().enumerate() {
+        if !is_plain(u32::from(*byte)) {
+            return len;
+        }
+    }
+    bytes.len()
+}
+
 impl<'a> Cursor<'a> {
+    /// Takes the longest front of characters that stand for themselves, and puts it behind the text:
+    /// the current character, which may be none of those that the text still holds, and then the others at once.
+    fn push_plain(&mut self, text: &mut String) -> Result<(), AllocError>
+        requires { is_plain self.old.cur ≡ true }
+        ensures shorter { OnOk result (length (live self.new) < length (live self.old)) }
+        ensures rest { OnOk result (live self.new ≡ behind is_plain (live self.old)) }
+        ensures text { OnOk result (string_bytes text.new ≡ string_bytes text.old ++ encode_utf8_all (front is_plain (live self.old))) }
+    {
+        text.push(self.cur)?;
+        let held = self.behind.as_str();
+        let (plain, rest) = held.split_at(plain_len(held.as_bytes()));
+        text.push_str(plain)?;
+        self.pass(plain);
+        self.behind = rest.chars();
+        self.next();
+        Ok(())
+    }
+
     /// Puts the current character behind the text, and takes it.
     fn push_current(&mut self, text: &mut String) -> Result<(), AllocError>
         requires { self.old.cur ≢ 0 }
@@ -48,7 +86,7 @@ impl<'a> Cursor<'a> {
                     return Ok(());
                 }
                 '\\' => self.escaped(text)?,
-                _ => self.push_current(text)?,
+                _ => self.push_plain(text)?,
             }
         }
     }
@@ -105,7 +143,7 @@ impl<'a> Cursor<'a> {
                     }
                 }
                 '\\' => self.escaped(text)?,
-                _ => self.push_current(text)?,
+                _ => self.push_plain(text)?,
             }
         }
     }

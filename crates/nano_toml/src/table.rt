@@ -63,14 +63,9 @@ fn push_into(value: &mut Toml, table: Table) -> Result<(), AllocError>
     requires { IsTables (view value.old) }
     ensures { OnOk result (view value.new ≡ pushed (Some (view value.old)) (table_view table.entries)) }
 {
-    match mem::replace(value, Toml::Bool(false)) {
-        Toml::Array(mut tables) => {
-            tables.push(table)?;
-            *value = Toml::Array(tables);
-            Ok(())
-        }
-        _ => unreachable!(),
-    }
+    let array = mem::replace(value, Toml::Bool(false)).with_table(table)?;
+    *value = array;
+    Ok(())
 }
 
 // Adds a table at the end of the Array at a key.

@@ -1,11 +1,12 @@
 // What the tokenizer cuts from worked texts.
 use crate::state::Cursor;
-use crate::token::TomlTok;
-use std::alloc::Global;
+use crate::token::{TokenFault, TomlTok};
+use std::alloc::{AllocError, Global};
 use std::process::Abort;
 use std::test::Fail;
 
-/// The tokens of a text in their debug form, and then `end`, or the fault and its line and column.
+/// The tokens of a text in their debug form, and then `end`, or the fault and its line and column. Want of memory
+/// is an error of the test: so with an allocation refused a test may fail by that, and by no other answer.
 fn cuts(alloc: Global, text: &str) -> Result<String, Fail> {
     let mut cursor = Cursor::new(text);
     let mut all = String::new(alloc);
@@ -19,6 +20,7 @@ fn cuts(alloc: Global, text: &str) -> Result<String, Fail> {
                 let shown = format!(in alloc; "{token:?} ")?;
                 all.push_str(shown.as_str())?;
             }
+            Err(TokenFault::Memory) => Err(AllocError)?,
             Err(fault) => {
                 let shown = format!(in alloc; "{fault:?} {}:{}", cursor.line, cursor.col)?;
                 all.push_str(shown.as_str())?;
@@ -109,6 +111,11 @@ fn strings(rt: HostRuntime) -> Result<(), Fail> {
             ("\"\\", "Quoted 0:2"),
             ("\"a\nbc", "Quoted 1:2"),
             ("\"x\0\"", "Quoted 0:3"),
+            ("\"aa\nb\u{e9}\" @", "Str(\"aa\\nb\u{e9}\") Character 1:5"),
+            (
+                "\"\"\"a\n\nb\"c\"\"\"@",
+                "Str(\"a\\n\\nb\\\"c\") Character 2:7",
+            ),
         ],
     )
 }

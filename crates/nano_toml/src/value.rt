@@ -1,6 +1,7 @@
 //! A value of a TOML text.
 
-ghost use Rattle.std.specs.Prelude.{◌≡◌, ◌↔◌, IsTrue, IsSome, Some, IfOk, string_bytes};
+ghost use Rattle.std.specs.Prelude.{◌≡◌, ◌↔◌, IsTrue, IsSome, IfSome, Some, IfOk, string_bytes};
+ghost use Rattle.nano_toml.specs.Built.{IsTables, pushed};
 ghost use Rattle.nano_toml.specs.Kinds.{as_text, as_boolean, as_number, as_date, as_tables, as_values, index_of};
 ghost use Rattle.nano_toml.specs.View.{view, values_view, tables_view, table_view};
 
@@ -13,7 +14,8 @@ use std::collections::HashMap;
 /// Two values are equal by `==` if they are of the same kind and have the same content: lists in order,
 /// tables with the same pairs, decimals with the same text. So `Nan(true) == Nan(true)`, and a `Num` never
 /// equals a `Dec`.
-#[derive(Drop)]
+///
+/// Dropping a value takes no stack for lists in lists, however deep they are; while no memory can be had it may.
 pub enum Toml {
     /// A text.
     Str(String),
@@ -58,7 +60,66 @@ impl Eq for Toml {
     ghost laws = { view_eq_equiv };
 }
 
+impl Drop for Toml {
+    #[cycle(release)]
+    fn drop(self) {
+        match self {
+            Toml::SimpleArray(values) => Toml::release(values),
+            Toml::Str(_) => {}
+            Toml::Bool(_) => {}
+            Toml::Num(_) => {}
+            Toml::Dec(_) => {}
+            Toml::Nan(_) => {}
+            Toml::Inf(_) => {}
+            Toml::Date(_) => {}
+            Toml::Array(_) => {}
+        }
+    }
+}
+
 impl Toml {
+    // The values of a SimpleArray; any other value is dropped.
+    #[cycle(release)]
+    fn into_values(self) -> Option<Vec<Toml>>
+        ensures { IfSome result (λ values. self ≡ Toml.SimpleArray values) }
+    {
+        match self {
+            Toml::SimpleArray(values) => Some(values),
+            Toml::Str(_) => None,
+            Toml::Bool(_) => None,
+            Toml::Num(_) => None,
+            Toml::Dec(_) => None,
+            Toml::Nan(_) => None,
+            Toml::Inf(_) => None,
+            Toml::Date(_) => None,
+            Toml::Array(_) => None,
+        }
+    }
+
+    // Drops the values one after another: those of a list come behind those that are left. Where there is no room for them, the list is dropped by itself.
+    #[cycle(release)]
+    fn release(mut left: Vec<Toml>) {
+        'values: while let Some(value) = left.pop() {
+            if let Some(mut values) = value.into_values() {
+                let _ = left.append(&mut values);
+            }
+        }
+    }
+
+    // The Array with one more table at its end.
+    pub(crate) fn with_table(self, table: HashMap<String, Toml>) -> Result<Toml, AllocError>
+        requires { IsTables (view self) }
+        ensures { IfOk result (λ array. view array ≡ pushed (Some (view self)) (table_view table.entries)) }
+    {
+        match self {
+            Toml::Array(mut tables) => {
+                tables.push(table)?;
+                Ok(Toml::Array(tables))
+            }
+            _ => unreachable!(),
+        }
+    }
+
     /// The number of a `Num`; the caller knows that it is one.
     pub fn num(&self) -> i128
         requires { IsSome (as_number (view self.now)) }

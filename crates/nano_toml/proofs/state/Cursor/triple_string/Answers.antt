@@ -2,6 +2,7 @@ use Rattle.std.proofs.Common.{ap, sym, ◌∙◌, refl, length, arith, string_by
 use Rattle.nano_toml.specs.Characters.{is_quote}
 use Rattle.nano_toml.specs.LiveText.{live}
 use Rattle.nano_toml.proofs.LiveText.{live_at_nul, begins_live}
+use Rattle.nano_toml.proofs.PlainFronts.{triple_run}
 use Rattle.nano_toml.proofs.Quotes.{run_is_content, run_closes}
 use Rattle.nano_toml.proofs.Spans.{behind_shorter}
 use Rattle.nano_toml.proofs.state.Cursor.triple_string.Goals as goal
@@ -27,3 +28,8 @@ returns-then-branch-clause-found c =
     let three = sym c.in_ok-closing_quotes-in-34.ensures.closing ∙ c.if-branch.true in
     rw (c.in_ok-closing_quotes-in-34.ensures.text, c.in_ok-closing_quotes-in-34.ensures.rest, c.if-branch.true)
     (sym c.pieces.invariant.same ∙ run_closes (string_bytes c.pieces.text) (live c.pieces.self) three)
+
+pub pieces-preserved : goal.pieces-preserved
+pieces-preserved c = record {
+  same = rw (c.in_ok-push_plain-in_default.ensures.text, c.in_ok-push_plain-in_default.ensures.rest) (sym (triple_run (string_bytes c.pieces.text) (live c.pieces.self)) ∙ c.pieces.invariant.same);
+}

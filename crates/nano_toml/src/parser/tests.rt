@@ -1,0 +1,448 @@
+//! What worked texts give: their tables, and the texts of faults.
+
+use crate::{Toml, TomlErr, TomlParser};
+use std::alloc::Global;
+use std::collections::HashMap;
+use std::process::Abort;
+use std::test::Fail;
+
+// A value on one line.
+#[cycle(show)]
+fn show_value(alloc: Global, out: &mut String, value: &Toml) -> Result<(), Fail> {
+    match value {
+        Toml::Str(text) => out.push_str(format!(in alloc; "{text:?}")?.as_str())?,
+        Toml::Bool(value) => out.push_str(format!(in alloc; "{value}")?.as_str())?,
+        Toml::Num(number) => out.push_str(format!(in alloc; "{number}")?.as_str())?,
+        Toml::Dec(text) => out.push_str(format!(in alloc; "dec {text}")?.as_str())?,
+        Toml::Nan(minus) => out.push_str(if *minus { "-nan" } else { "nan" })?,
+        Toml::Inf(minus) => out.push_str(if *minus { "-inf" } else { "inf" })?,
+        Toml::Date(text) => out.push_str(format!(in alloc; "date {text}")?.as_str())?,
+        Toml::Array(tables) => {
+            out.push_str("tables")?;
+            for table in tables {
+                out.push_str(" {")?;
+                show_table(alloc, out, table)?;
+                out.push_str("}")?;
+            }
+        }
+        Toml::SimpleArray(values) => {
+            out.push_str("[")?;
+            for (i, value) in values.iter().enumerate() {
+                if i > 0 {
+                    out.push_str(", ")?;
+                }
+                show_value(alloc, out, value)?;
+            }
+            out.push_str("]")?;
+        }
+    }
+    Ok(())
+}
+
+// The pairs of a table, in the order of their keys.
+#[cycle(show)]
+fn show_table(alloc: Global, out: &mut String, table: &HashMap<String, Toml>) -> Result<(), Fail> {
+    let mut keys = Vec::new(alloc);
+    for (key, _) in table {
+        keys.push(key.as_str())?;
+    }
+    keys.sort_unstable();
+    for (i, key) in keys.iter().enumerate() {
+        if i > 0 {
+            out.push_str("; ")?;
+        }
+        out.push_str(format!(in alloc; "{key} = ")?.as_str())?;
+        if let Some(value) = table.get(*key) {
+            show_value(alloc, out, value)?;
+        }
+    }
+    Ok(())
+}
+
+// What a text gives: its table, or the fault.
+fn show(alloc: Global, text: &str) -> Result<String, Fail> {
+    let mut out = String::new(alloc);
+    match TomlParser::parse(alloc, text) {
+        Ok(table) => show_table(alloc, &mut out, &table)?,
+        Err(error) if error.memory => return Err(Fail::from(error)),
+        Err(error) => out.push_str(format!(in alloc; "{error}")?.as_str())?,
+    }
+    Ok(out)
+}
+
+// Each text gives what stands beside it.
+fn check(rt: &impl Abort, alloc: Global, rows: &[(&str, &str)]) -> Result<(), Fail> {
+    for (text, want) in rows {
+        let shown = show(alloc, text)?;
+        assert_eq!(rt; shown.as_str(), *want, "of {text}");
+    }
+    Ok(())
+}
+
+#[test]
+fn tables(rt: HostRuntime) -> Result<(), Fail> {
+    check(
+        &rt,
+        rt.alloc(),
+        &[
+            ("a = [1, \"x\"", "a = [1, \"x\"]"),
+            ("\"k k\" = true", "k k = true"),
+            ("x = -inf y = nan", "x = -inf; y = nan"),
+            ("x = inf y = -nan z = +nan", "x = inf; y = -nan; z = nan"),
+            ("[s] a = 1 [\"\"] b = 2", "b = 2; s.a = 1"),
+            ("[[a]] [[a]]", "a = tables {} {}"),
+            ("n = 1 n = \"z\"", "n = \"z\""),
+            ("a = +-1", "a = date -1"),
+            (
+                "[[a]]\n# a\nn = \"a\" #x\n[[a]] n = \"b#s\" d = 123 [[o]] h = \"a\"",
+                "a = tables {n = \"a\"} {d = 123; n = \"b#s\"}; o = tables {h = \"a\"}",
+            ),
+            (
+                "k = \"v\"  # c\na = \" # not\"",
+                "a = \" # not\"; k = \"v\"",
+            ),
+            (
+                "s = \"q\" l = [1, 2] b = false",
+                "b = false; l = [1, 2]; s = \"q\"",
+            ),
+            ("[Section]\nvalue=1", "Section.value = 1"),
+            ("a = \"\"", "a = \"\""),
+            ("a = \"\"\"x\"\"y\"\"\"b = 1", "a = \"x\\\"\\\"y\"; b = 1"),
+            ("a.b = 1", "a.b = 1"),
+            ("a = [1 2,,[3", "a = [1, 2, [3]]"),
+            ("[s] [[a]] x = 1 [t] y = 2", "a = tables {s.x = 1; t.y = 2}"),
+            ("date = 1979-05-27", "date = date 1979-05-27"),
+            ("n = 3.14", "n = dec 3.14"),
+            ("n = -1_000", "n = -1000"),
+            ("", ""),
+            ("# nothing", ""),
+            ("n = 1_8446744073709551615", "n = 18446744073709551615"),
+            ("n = -9223372036854775808", "n = -9223372036854775808"),
+            (
+                "n = 99999999999999999999-01",
+                "n = date 99999999999999999999-01",
+            ),
+            (
+                "n = 99999999999999999999.5",
+                "n = dec 99999999999999999999.5",
+            ),
+            ("n = 00000000000000000000007", "n = 7"),
+            ("a = \"\"\"\"x\"\"\"", "a = \"\\\"x\""),
+            ("a = \"\"\"\"\"\"", "a = \"\""),
+            ("a = [", "a = []"),
+            ("a = []", "a = []"),
+            ("a = [,]", "a = []"),
+            ("a = [[[[", "a = [[[[]]]]"),
+            ("a = [[1][2", "a = [[1], [2]]"),
+            ("a = [[1], 2] b = 3", "a = [[1], 2]; b = 3"),
+            ("a = [1, 2\n] b = [3", "a = [1, 2]; b = [3]"),
+            ("a = 1\0]", "a = 1"),
+            ("a = [1\0]", "a = [1]"),
+            ("[s]", ""),
+            ("[\"s\"] a = 1", "s.a = 1"),
+            ("[s] [t] a = 1", "t.a = 1"),
+            ("[s] a = 1 a = 2 [s] b = 3", "s.a = 2; s.b = 3"),
+            ("[s] [[s.x]] y = 1", "s.x = tables {s.y = 1}"),
+            ("[[a]] x = 1 x = 2", "a = tables {x = 2}"),
+            (
+                "[[a]] [[b]] [[a]] x = 1",
+                "a = tables {} {x = 1}; b = tables {}",
+            ),
+            ("[[a]] a = 1", "a = tables {a = 1}"),
+            ("[[a]] b = 1 [[b]]", "a = tables {b = 1}; b = tables {}"),
+            ("b = 1 [[a]] c = 2", "a = tables {c = 2}; b = 1"),
+        ],
+    )
+}
+
+#[test]
+fn faults(rt: HostRuntime) -> Result<(), Fail> {
+    check(
+        &rt,
+        rt.alloc(),
+        &[
+            (
+                "a = 1 [[a]]",
+                "Toml error: Array header on another kind a , line:1 col:12",
+            ),
+            (
+                "[s] x = 1 [[s.x]]",
+                "Toml error: Array header on another kind s.x , line:1 col:18",
+            ),
+            (
+                "key = # INVALID",
+                "Toml error: Unexpected token Eof , line:1 col:16",
+            ),
+            (
+                "n = 1e5",
+                "Toml error: Unexpected token U64(5) , line:1 col:8",
+            ),
+            (
+                "a = [[b]]",
+                "Toml error: Unexpected token Ident(\"b\") , line:1 col:9",
+            ),
+            (
+                "a = [1] b",
+                "Toml error: Unexpected token Eof , line:1 col:10",
+            ),
+            ("[a", "Toml error: Unexpected token Eof , line:1 col:3"),
+            (
+                "[a]]",
+                "Toml error: Unexpected token BlockClose , line:1 col:5",
+            ),
+            (
+                "[[\"a\"]]",
+                "Toml error: Unexpected token Str(\"a\") , line:1 col:7",
+            ),
+            (
+                "d = 1979-05-27T07:32:00Z",
+                "Toml error: Unexpected token Eof , line:1 col:25",
+            ),
+            (
+                "n = 1_8446744073709551616",
+                "Toml error: Cannot parse toml number , line:1 col:26",
+            ),
+            (
+                "n = 18446744073709551616",
+                "Toml error: Cannot parse toml number , line:1 col:25",
+            ),
+            (
+                "n = -9223372036854775809",
+                "Toml error: Cannot parse toml number , line:1 col:25",
+            ),
+            (
+                "n = 99999999999999999999",
+                "Toml error: Cannot parse toml number , line:1 col:25",
+            ),
+            (
+                "a = \"\"\"x\"\"\"\"",
+                "Toml error: Cannot parse toml string , line:1 col:13",
+            ),
+            (
+                "a = \"\\",
+                "Toml error: Cannot parse toml string , line:1 col:7",
+            ),
+            (
+                "a = \"x\0\"",
+                "Toml error: Cannot parse toml string , line:1 col:8",
+            ),
+            ("a", "Toml error: Unexpected token Eof , line:1 col:2"),
+            ("a =", "Toml error: Unexpected token Eof , line:1 col:4"),
+            ("= 1", "Toml error: Unexpected token Equals , line:1 col:3"),
+            (
+                "1 = 1",
+                "Toml error: Unexpected token U64(1) , line:1 col:3",
+            ),
+            (
+                "a = b",
+                "Toml error: Unexpected token Ident(\"b\") , line:1 col:6",
+            ),
+            (
+                "a = =",
+                "Toml error: Unexpected token Equals , line:1 col:6",
+            ),
+            (
+                "a = ]",
+                "Toml error: Unexpected token BlockClose , line:1 col:6",
+            ),
+            ("a = ,", "Toml error: Unexpected token Comma , line:1 col:6"),
+            (
+                "a = [=",
+                "Toml error: Unexpected token Equals , line:1 col:7",
+            ),
+            (
+                "a = [b]",
+                "Toml error: Unexpected token Ident(\"b\") , line:1 col:8",
+            ),
+            ("[", "Toml error: Unexpected token Eof , line:1 col:2"),
+            ("[[", "Toml error: Unexpected token Eof , line:1 col:3"),
+            ("[[a", "Toml error: Unexpected token Eof , line:1 col:4"),
+            ("[[a]", "Toml error: Unexpected token Eof , line:1 col:5"),
+            (
+                "[[a]b]",
+                "Toml error: Unexpected token Ident(\"b\") , line:1 col:7",
+            ),
+            ("[1]", "Toml error: Unexpected token U64(1) , line:1 col:4"),
+            (
+                "[]",
+                "Toml error: Unexpected token BlockClose , line:1 col:3",
+            ),
+            ("[=]", "Toml error: Unexpected token Equals , line:1 col:4"),
+            (
+                "true = 1",
+                "Toml error: Unexpected token Bool(true) , line:1 col:6",
+            ),
+            (
+                "a = 1 2",
+                "Toml error: Unexpected token U64(2) , line:1 col:8",
+            ),
+            (
+                "a = 1,",
+                "Toml error: Unexpected token Comma , line:1 col:7",
+            ),
+            (
+                "a = 1 ]",
+                "Toml error: Unexpected token BlockClose , line:1 col:8",
+            ),
+            (
+                ", a = 1",
+                "Toml error: Unexpected token Comma , line:1 col:3",
+            ),
+            (
+                "a = [1] [",
+                "Toml error: Unexpected token Eof , line:1 col:10",
+            ),
+            (
+                "a = 1 [[a]] [[a]]",
+                "Toml error: Array header on another kind a , line:1 col:13",
+            ),
+            (
+                "a = [] [[a]]",
+                "Toml error: Array header on another kind a , line:1 col:13",
+            ),
+            ("a = -n", "Toml error: Cannot parse toml nan , line:1 col:7"),
+            (
+                "a = -ix",
+                "Toml error: Cannot parse toml nan , line:1 col:8",
+            ),
+            (
+                "a = -inx",
+                "Toml error: Cannot parse toml inf , line:1 col:9",
+            ),
+            (
+                "a = _",
+                "Toml error: Unexpected token Ident(\"_\") , line:1 col:6",
+            ),
+            (
+                "a = -",
+                "Toml error: Cannot parse toml number , line:1 col:6",
+            ),
+            (
+                "a = .5",
+                "Toml error: Cannot parse toml tokenizer , line:1 col:6",
+            ),
+            (
+                "@",
+                "Toml error: Cannot parse toml tokenizer , line:1 col:2",
+            ),
+            (
+                "a = 1\n\nb = @",
+                "Toml error: Cannot parse toml tokenizer , line:3 col:6",
+            ),
+        ],
+    )
+}
+
+#[test]
+fn accessors(rt: HostRuntime) -> Result<(), Fail> {
+    let text = "n = 5 s = \"x\" b = true d = 1979-05-27 l = [1, 2] [[t]] [[t]] k = 1";
+    let alloc = rt.alloc();
+    let table = match TomlParser::parse(alloc, text) {
+        Ok(table) => table,
+        Err(error) => return Err(Fail::from(error)),
+    };
+    for (key, value) in &table {
+        match value {
+            Toml::Num(_) => assert_eq!(rt; value.num(), 5, "{key}"),
+            Toml::Str(_) => assert_eq!(rt; value.str(), "x", "{key}"),
+            Toml::Bool(_) => assert!(rt; value.boolean(), "{key}"),
+            Toml::Date(_) => assert_eq!(rt; value.date(alloc)?.as_str(), "1979-05-27", "{key}"),
+            Toml::SimpleArray(_) => assert_eq!(rt; value.simple_arr().len(), 2, "{key}"),
+            Toml::Array(tables) => {
+                assert_eq!(rt; value.arr().len(), 2, "{key}");
+                if tables.len() > 1 {
+                    assert_eq!(rt; value.index(1).len(), 1, "{key}");
+                }
+            }
+            _ => assert!(rt; false, "{key}"),
+        }
+    }
+    assert_eq!(rt; table.len(), 6);
+    Ok(())
+}
+
+// Whether two texts give the same table.
+fn same(alloc: Global, one: &str, other: &str) -> Result<bool, Fail> {
+    let one = Toml::Array(vec![in alloc; TomlParser::parse(alloc, one)?]?);
+    let other = Toml::Array(vec![in alloc; TomlParser::parse(alloc, other)?]?);
+    Ok(one == other)
+}
+
+#[test]
+fn equality(rt: HostRuntime) -> Result<(), Fail> {
+    for (one, other, want) in [
+        ("a = 1 b = 2", "b = 2 a = 1", true),
+        ("a = nan", "a = nan", true),
+        ("a = nan", "a = -nan", false),
+        ("a = 1", "a = 1.0", false),
+        ("a = 1.0", "a = 1.00", false),
+        ("a = [1, 2]", "a = [1 2]", true),
+        ("a = [1, 2]", "a = [2, 1]", false),
+        ("a = [1]", "a = 1", false),
+        ("a = 1", "a = 1 b = 1", false),
+        ("a = 1 b = 1", "a = 1", false),
+        ("[[a]] b = 1 [[a]]", "[[a]] b = 1 [[a]]", true),
+        ("[[a]] b = 1 [[a]]", "[[a]] [[a]] b = 1", false),
+        ("a = inf", "a = nan", false),
+        ("a = 1979-05-27", "a = \"1979-05-27\"", false),
+    ] {
+        let found = same(rt.alloc(), one, other)?;
+        assert_eq!(rt; found, want, "{one} and {other}");
+    }
+    Ok(())
+}
+
+#[test]
+fn errors(rt: HostRuntime) -> Result<(), Fail> {
+    let alloc = rt.alloc();
+    match TomlParser::parse(alloc, "a = @") {
+        Ok(_) => assert!(rt; false),
+        Err(error) => {
+            let copy = error.clone()?;
+            assert!(rt; !copy.memory);
+            assert_eq!(rt; copy.msg.as_str(), "Cannot parse toml tokenizer ");
+            assert_eq!(rt; copy.line, 0);
+            assert_eq!(rt; copy.col, 5);
+            let shown = format!(in alloc; "{copy:?}")?;
+            assert_eq!(rt;
+                shown.as_str(),
+                "Toml error: Cannot parse toml tokenizer , line:1 col:6"
+            );
+        }
+    }
+    let last = TomlErr {
+        msg: String::new(alloc),
+        line: usize::MAX,
+        col: 0,
+        memory: true,
+    };
+    let shown = format!(in alloc; "{last}")?;
+    assert_eq!(rt;
+        shown.as_str(),
+        "Toml error: , line:18446744073709551615 col:1"
+    );
+    Ok(())
+}
+
+// Brackets, so many times.
+fn brackets(alloc: Global, open: &str, depth: usize, close: &str) -> Result<String, Fail> {
+    let mut text = String::from_str(alloc, "a = ")?;
+    for _ in 0..depth {
+        text.push_str(open)?;
+    }
+    for _ in 0..depth {
+        text.push_str(close)?;
+    }
+    Ok(text)
+}
+
+#[test]
+fn deep_lists(rt: HostRuntime) -> Result<(), Fail> {
+    let alloc = rt.alloc();
+    for (open, close) in [("[", ""), ("[", "]"), ("[1,", "1]"), ("[[],", "[]]")] {
+        let text = brackets(alloc, open, 100_000, close)?;
+        let table = TomlParser::parse(alloc, text.as_str())?;
+        assert_eq!(rt; table.len(), 1, "of {open}");
+    }
+    Ok(())
+}
