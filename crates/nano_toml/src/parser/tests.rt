@@ -446,3 +446,27 @@ fn deep_lists(rt: HostRuntime) -> Result<(), Fail> {
     }
     Ok(())
 }
+
+// An answer in spite of a refused allocation: the same table or fault, or want of memory, which is marked and has no message.
+#[test]
+fn want_of_memory(rt: HostRuntime) -> Result<(), Fail> {
+    let alloc = rt.alloc();
+    let text = "a = [1, \"x\", [2.5, -1]] [s] k = 1 [[b]] c = \"y\" [[b]] d = 1979-05-27";
+    match TomlParser::parse(alloc, text) {
+        Ok(table) => {
+            assert_eq!(rt; table.len(), 3);
+            assert!(rt; table.contains_key("s.k"));
+        }
+        Err(error) => {
+            assert!(rt; error.memory);
+            assert!(rt; error.msg.is_empty());
+        }
+    }
+    for text in ["a = 1 [[a]]", "a = @", "[s] = 1"] {
+        match TomlParser::parse(alloc, text) {
+            Ok(_) => assert!(rt; false, "of {text}"),
+            Err(error) => assert_eq!(rt; error.memory, error.msg.is_empty(), "of {text}"),
+        }
+    }
+    Ok(())
+}
