@@ -29,7 +29,7 @@ impl<T: SerBin, const N: usize> SerBin for [T; N] {
     ghost orders_keys = { T.orders_keys };
 
     fn ser_bin(&self, alloc: Global, output: &mut Vec<u8>) -> Result<(), AllocError> {
-        T::ser_bin_items(alloc, self, output)
+        T::ser_bin_items(alloc, self.as_slice(), output)
     }
 }
 

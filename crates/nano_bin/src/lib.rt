@@ -14,16 +14,21 @@ mod maps;
 mod numbers;
 mod options;
 mod ordered_sets;
+mod pairs;
+mod quadruples;
 mod sets;
 mod signed;
 mod take;
-#[cfg(test)]
-mod tests_maps;
 mod texts;
 mod traits;
+mod triples;
 mod truths;
-mod tuples;
 
 pub use append::append_part;
 pub use error::{DeBinErr, DeBinKind};
 pub use traits::{BothBin, DeBin, SerBin};
+
+#[cfg(test)]
+mod tests;
+#[cfg(test)]
+mod tests_maps;

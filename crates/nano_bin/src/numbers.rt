@@ -85,7 +85,7 @@ impl SerBin for u16 {
 
     #[tactic(auto, using(crate::specs::LittleEndian::to_le_bytes_16))]
     fn ser_bin(&self, alloc: Global, output: &mut Vec<u8>) -> Result<(), AllocError> {
-        append_bytes(output, &self.to_le_bytes())
+        append_bytes(output, &u16::to_le_bytes(*self))
     }
 }
 
@@ -154,7 +154,7 @@ impl SerBin for u32 {
 
     #[tactic(auto, using(crate::specs::LittleEndian::to_le_bytes_32))]
     fn ser_bin(&self, alloc: Global, output: &mut Vec<u8>) -> Result<(), AllocError> {
-        append_bytes(output, &self.to_le_bytes())
+        append_bytes(output, &u32::to_le_bytes(*self))
     }
 }
 
@@ -223,7 +223,7 @@ impl SerBin for u64 {
 
     #[tactic(auto, using(crate::specs::LittleEndian::to_le_bytes_64))]
     fn ser_bin(&self, alloc: Global, output: &mut Vec<u8>) -> Result<(), AllocError> {
-        append_bytes(output, &self.to_le_bytes())
+        append_bytes(output, &u64::to_le_bytes(*self))
     }
 }
 
@@ -292,7 +292,7 @@ impl SerBin for usize {
 
     #[tactic(auto, using(crate::specs::LittleEndian::to_le_bytes_64))]
     fn ser_bin(&self, alloc: Global, output: &mut Vec<u8>) -> Result<(), AllocError> {
-        append_bytes(output, &self.to_le_bytes())
+        append_bytes(output, &usize::to_le_bytes(*self))
     }
 }
 
@@ -361,7 +361,7 @@ impl SerBin for u128 {
 
     #[tactic(auto, using(crate::specs::LittleEndian::to_le_bytes_128))]
     fn ser_bin(&self, alloc: Global, output: &mut Vec<u8>) -> Result<(), AllocError> {
-        append_bytes(output, &self.to_le_bytes())
+        append_bytes(output, &u128::to_le_bytes(*self))
     }
 }
 

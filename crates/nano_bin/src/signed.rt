@@ -20,7 +20,7 @@ impl SerBin for i8 {
     ghost orders_keys = { tt };
 
     fn ser_bin(&self, alloc: Global, output: &mut Vec<u8>) -> Result<(), AllocError> {
-        self.cast_unsigned().ser_bin(alloc, output)
+        u8::ser_bin(&self.cast_unsigned(), alloc, output)
     }
 }
 
@@ -37,7 +37,7 @@ impl DeBin for i8 {
         ensures kept { OnErr result (offset.new ≡ offset.old) }
     {
         match u8::de_bin(alloc, offset, bytes) {
-            Ok(bits) => Ok(bits.cast_signed()),
+            Ok(bits) => Ok(u8::cast_signed(bits)),
             Err(error) => Err(error),
         }
     }
@@ -57,7 +57,7 @@ impl SerBin for i16 {
     ghost orders_keys = { tt };
 
     fn ser_bin(&self, alloc: Global, output: &mut Vec<u8>) -> Result<(), AllocError> {
-        self.cast_unsigned().ser_bin(alloc, output)
+        u16::ser_bin(&self.cast_unsigned(), alloc, output)
     }
 }
 
@@ -74,7 +74,7 @@ impl DeBin for i16 {
         ensures kept { OnErr result (offset.new ≡ offset.old) }
     {
         match u16::de_bin(alloc, offset, bytes) {
-            Ok(bits) => Ok(bits.cast_signed()),
+            Ok(bits) => Ok(u16::cast_signed(bits)),
             Err(error) => Err(error),
         }
     }
@@ -94,7 +94,7 @@ impl SerBin for i32 {
     ghost orders_keys = { tt };
 
     fn ser_bin(&self, alloc: Global, output: &mut Vec<u8>) -> Result<(), AllocError> {
-        self.cast_unsigned().ser_bin(alloc, output)
+        u32::ser_bin(&self.cast_unsigned(), alloc, output)
     }
 }
 
@@ -111,7 +111,7 @@ impl DeBin for i32 {
         ensures kept { OnErr result (offset.new ≡ offset.old) }
     {
         match u32::de_bin(alloc, offset, bytes) {
-            Ok(bits) => Ok(bits.cast_signed()),
+            Ok(bits) => Ok(u32::cast_signed(bits)),
             Err(error) => Err(error),
         }
     }
@@ -131,7 +131,7 @@ impl SerBin for i64 {
     ghost orders_keys = { tt };
 
     fn ser_bin(&self, alloc: Global, output: &mut Vec<u8>) -> Result<(), AllocError> {
-        self.cast_unsigned().ser_bin(alloc, output)
+        u64::ser_bin(&self.cast_unsigned(), alloc, output)
     }
 }
 
@@ -148,7 +148,7 @@ impl DeBin for i64 {
         ensures kept { OnErr result (offset.new ≡ offset.old) }
     {
         match u64::de_bin(alloc, offset, bytes) {
-            Ok(bits) => Ok(bits.cast_signed()),
+            Ok(bits) => Ok(u64::cast_signed(bits)),
             Err(error) => Err(error),
         }
     }
@@ -168,7 +168,7 @@ impl SerBin for i128 {
     ghost orders_keys = { tt };
 
     fn ser_bin(&self, alloc: Global, output: &mut Vec<u8>) -> Result<(), AllocError> {
-        self.cast_unsigned().ser_bin(alloc, output)
+        u128::ser_bin(&self.cast_unsigned(), alloc, output)
     }
 }
 
@@ -185,7 +185,7 @@ impl DeBin for i128 {
         ensures kept { OnErr result (offset.new ≡ offset.old) }
     {
         match u128::de_bin(alloc, offset, bytes) {
-            Ok(bits) => Ok(bits.cast_signed()),
+            Ok(bits) => Ok(u128::cast_signed(bits)),
             Err(error) => Err(error),
         }
     }

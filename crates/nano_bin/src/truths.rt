@@ -61,6 +61,7 @@ impl SerBin for () {
         ensures ok { IsOk result }
         ensures same { output.new.items ≡ output.old.items }
     {
+        // No byte is written.
         Ok(())
     }
 }
@@ -76,6 +77,7 @@ impl DeBin for () {
         ensures read { Reads units.spelled bytes.now offset.old nothing offset.new }
         ensures same { offset.new ≡ offset.old }
     {
+        // No byte is read.
         Ok(())
     }
 }

@@ -1,7 +1,7 @@
 use Rattle.nano_value.specs.Meaning.{paired}
 use Rattle.nano_bin.specs.Spellings.{SpellsPair}
 use Rattle.nano_bin.proofs.Readers.{pair_reads, pair_refused, second_refused, image_reads, image_refused}
-use Rattle.nano_bin.proofs.tuples.Tuple2DeBin.de_bin.Goals as goal
+use Rattle.nano_bin.proofs.pairs.Tuple2DeBin.de_bin.Goals as goal
 
 pub returns-in-Ok-de_bin-clause-ok : goal.returns-in-Ok-de_bin-clause-ok
 returns-in-Ok-de_bin-clause-ok g c =
