@@ -3,7 +3,7 @@ use Rattle.std.specs.Prelude.{false}
 use Rattle.std.specs.declared.cmp.Ordering.{Ordering}
 use Rattle.std.specs.List.Sorted.{IsStrictlySortedBy}
 use Rattle.std.specs.Result.{is_err}
-use Rattle.std.proofs.Common.{◌≡◌, ℕ, ◌+◌, Result, Ok, Err, OnOk, List, [], ◌∷◌, ◌++◌, drop, sym, ◌∙◌, subst, ap}
+use Rattle.std.proofs.Common.{◌≡◌, ℕ, ◌+◌, Result, Ok, Err, OnOk, List, [], ◌∷◌, ◌++◌, sym, ◌∙◌, subst, ap}
 use Rattle.std.specs.FinMap as table
 use Rattle.nano_value.specs.Meaning.{Meaning, paired, both_injective}
 use Rattle.nano_value.specs.Legal.{IsImage}
@@ -12,7 +12,7 @@ use Rattle.nano_value.specs.Sets.{MeaningSet, item_set, set_means, marked}
 use Rattle.nano_value.specs.OrderedSets.{ordered_means, ordered_means-sorted}
 use Rattle.nano_bin.specs.Reading.{Reads, NothingFits}
 use Rattle.nano_bin.specs.LittleEndian.{SpellsNumber}
-use Rattle.nano_bin.specs.Spellings.{SpellsPair, SpellsCount}
+use Rattle.nano_bin.specs.Spellings.{SpellsPair}
 use Rattle.nano_bin.specs.Tables.{ReadsTable, SpellsMap, map_means}
 use Rattle.nano_bin.specs.Sets.{ReadsSet, SpellsSet, items_mean}
 use Rattle.nano_bin.proofs.Readers.{image_reads, list_reads, count_reads_none, count_reads_push, map-push}

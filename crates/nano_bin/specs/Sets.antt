@@ -1,12 +1,12 @@
 -- The spellings of sets, what is written of them, and that it is read back.
-use Rattle.std.specs.Prelude.{◌≡◌, ◌<◌, ℕ, refl, List, [], ◌∷◌, ◌++◌, map, length}
+use Rattle.std.specs.Prelude.{◌≡◌, ◌<◌, ℕ, refl, List, [], ◌∷◌, map, length}
 use Rattle.std.specs.declared.cmp.Ordering.{Ordering}
 use Rattle.std.specs.List.{AllByRecursion, flat_map}
 use Rattle.std.specs.Map.{keys_of}
 use Rattle.std.proofs.Common.{sym, ◌∙◌, subst, ap}
 use Rattle.nano_value.specs.Meaning.{Meaning, pair_map, usize_bound}
 use Rattle.nano_value.specs.Legal.{IsImage, BothOfPair, AllOfList, length-map}
-use Rattle.nano_value.specs.Tables.{last_values, table_of, all_of_last_values}
+use Rattle.nano_value.specs.Tables.{last_values, all_of_last_values}
 use Rattle.nano_value.specs.Sets.{MeaningSet, marked, item_set, set_means, AllOfSet, LegalSet, set_means-injective, all-marked}
 use Rattle.nano_value.specs.InOrder.{ascending_items}
 use Rattle.nano_bin.specs.Reading.{IsSpelling, Spelling, Reads}

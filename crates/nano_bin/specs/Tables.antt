@@ -1,8 +1,8 @@
 -- The spellings of maps.
 use Rattle.std.specs.Prelude.{◌≡◌, ℕ, List}
 use Rattle.nano_value.specs.Meaning.{Meaning}
-use Rattle.nano_value.specs.Legal.{IsImage, AllOfList, BothOfPair}
-use Rattle.nano_value.specs.Tables.{Table, table_means, last_values, AllOfTable, LegalMap, all_of_last_values}
+use Rattle.nano_value.specs.Legal.{IsImage}
+use Rattle.nano_value.specs.Tables.{Table, table_means, last_values, LegalMap, all_of_last_values}
 use Rattle.nano_bin.specs.Reading.{IsSpelling, Spelling, Reads}
 use Rattle.nano_bin.specs.Spellings.{SpellsPair, SpellsList, SpellsCount}
 use Rattle.nano_bin.specs.SpellingLaws.{pair_spelling, list_spelling, image_spelling}

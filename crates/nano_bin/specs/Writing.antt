@@ -12,8 +12,8 @@ use Rattle.nano_bin.specs.LittleEndian.{SpellsNumber, little_endian}
 use Rattle.nano_bin.specs.Spellings.{SpellsPair, SpellsOption, SpellsItems, SpellsCount, SpellsList, SpellsText}
 use Rattle.nano_bin.specs.SpellingLaws.{unsigned, signed, truths, units, texts, option_of, pair_of, list_of, array_of}
 
--- what the values of a type are written as: the same for what means the same, where the orders of the keys in it keep
--- their laws, of which only the maps and sets in it know
+-- what the values of a type are written as: the same for what means the same, where the orders that keys and items are
+-- written in are total and tell them apart. Only maps and sets ask that: for other types it is nothing, or their parts'
 pub record Writing (A : Type 0) : Type 1 where
   pub means : A → Meaning
   pub written : A → List ℕ

@@ -19,8 +19,6 @@ mod quadruples;
 mod sets;
 mod signed;
 mod take;
-#[cfg(test)]
-mod tests_maps;
 mod texts;
 mod traits;
 mod triples;
@@ -32,3 +30,5 @@ pub use traits::{BothBin, DeBin, SerBin};
 
 #[cfg(test)]
 mod tests;
+#[cfg(test)]
+mod tests_maps;

@@ -48,7 +48,7 @@ pub trait SerBin: Value {
     /// The writing is of what the values mean.
     ghost writes_meaning: { writing.means ≡ Self.means };
 
-    /// The orders of the keys in the writing are total, and tie where the keys mean the same.
+    /// The orders that keys of maps and items of sets are written in are total, and tie where these mean the same.
     ghost orders_keys: { writing.orders_keys };
 }
 

@@ -6,7 +6,7 @@ use Rattle.std.specs.Set.{KeepsOthers}
 use Rattle.std.specs.FinMap as table
 use Rattle.std.proofs.Common.{ap, sym, ◌∙◌, subst}
 use Rattle.nano_value.specs.Meaning.{Meaning, listed, listed_injective}
-use Rattle.nano_value.specs.Legal.{IsImage, image_of, length-map, all-map}
+use Rattle.nano_value.specs.Legal.{IsImage, image_of, length-map}
 use Rattle.nano_value.specs.Exact.{Tells}
 use Rattle.nano_value.specs.Tables.{Table, table_of, AllOfTable, all_of_table_of, all_of_table_weaker, table_of-insert}
 

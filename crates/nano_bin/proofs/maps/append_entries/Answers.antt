@@ -2,7 +2,7 @@ use Rattle.std.proofs.Common.{◌++◌, ap, sym, ◌∙◌, append_assoc}
 use Rattle.std.proofs.lemmas.List.Folds.{flat_map-map}
 use Rattle.std.specs.Map.Iter.{deref_pair}
 use Rattle.nano_bin.specs.Writing.{written_pair}
-use Rattle.nano_bin.proofs.Writers.{write_start, write_step, write_end, cut_back, on_err_always}
+use Rattle.nano_bin.proofs.Writers.{write_start, write_step, write_end}
 use Rattle.nano_bin.proofs.maps.append_entries.Goals as goal
 
 pub loop-key-init : goal.loop-key-init
