@@ -1,0 +1,4 @@
+pub mod LexemeKinds
+pub mod Cuts
+pub mod Shorter
+pub mod BracketCounts

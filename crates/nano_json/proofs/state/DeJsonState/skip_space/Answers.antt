@@ -1,0 +1,10 @@
+use Rattle.std.proofs.Common.{sym, ◌∙◌, refl}
+use Rattle.nano_text.proofs.LiveText.{first_is-live}
+use Rattle.nano_text.proofs.Fronts.{behind_stop}
+use Rattle.nano_json.specs.Cut.{is_space}
+use Rattle.nano_json.proofs.state.DeJsonState.skip_space.Goals as goal
+
+pub returns-clause-live : goal.returns-clause-live
+returns-clause-live c =
+    let stop = first_is-live is_space c.space.self.cur c.space.i refl ∙ sym c.space-test.ensures in
+    sym (behind_stop is_space _ stop) ∙ c.space.invariant.rest

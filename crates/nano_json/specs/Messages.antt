@@ -1,0 +1,19 @@
+-- The texts of errors.
+use Rattle.std.specs.Prelude.{◌≡◌, List, ℕ, ◌++◌, codes, decimal, string_bytes}
+use Rattle.nano_text.specs.Place.{counted}
+use Rattle.nano_json.specs.declared.error.DeJsonErr.{DeJsonErr}
+
+-- a value and the bound that it is beyond, with a sign between
+abbrev pub out_of_range : List ℕ → List ℕ → List ℕ → List ℕ
+out_of_range value sign bound = codes "Value out of range " ++ (value ++ (sign ++ (bound ++ codes " ")))
+
+-- what an error prints: lines and columns are counted from 1 there
+abbrev pub error_text : DeJsonErr → List ℕ
+error_text e = codes "Json Deserialize error: " ++ (string_bytes e.msg ++ (codes ", line:" ++ (decimal (counted e.line) ++ (codes " col:" ++ decimal (counted e.col)))))
+
+-- the same message, place and mark
+pub record IsSameError (a b : DeJsonErr) : Type 0 where
+  pub msg : string_bytes b.msg ≡ string_bytes a.msg
+  pub line : b.line ≡ a.line
+  pub col : b.col ≡ a.col
+  pub memory : b.memory ≡ a.memory

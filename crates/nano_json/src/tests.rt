@@ -1,0 +1,620 @@
+// What no clause says: that the definitions are the format's, the texts and places of faults, and
+// that calls succeed.
+use crate::{DeJsonErr, DeJsonState, DeJsonTok, SerJsonState};
+use std::alloc::{AllocError, Global};
+use std::str::Chars;
+use std::test::Fail;
+
+/// A state over a text, with its first character current.
+fn state_of(alloc: Global, input: &mut Chars<'_>) -> DeJsonState {
+    let mut state = DeJsonState::new(alloc);
+    state.next(input);
+    state
+}
+
+/// The pending token in its debug form, and the text that it carries.
+fn pending(alloc: Global, state: &DeJsonState) -> Result<String, AllocError> {
+    let tok = &state.tok;
+    match tok {
+        DeJsonTok::Str => {
+            let text = state.strbuf.as_str();
+            format!(in alloc; "{tok:?} {text}")
+        }
+        DeJsonTok::F64 => {
+            let text = state.numbuf.as_str();
+            format!(in alloc; "{tok:?} {text}")
+        }
+        _ => format!(in alloc; "{tok:?}"),
+    }
+}
+
+/// The first tokens of a text, one behind the other.
+fn tokens_of(alloc: Global, text: &str, count: usize) -> Result<String, AllocError> {
+    let mut out = String::new(alloc);
+    let mut input = text.chars();
+    let mut state = state_of(alloc, &mut input);
+    for place in 0..count {
+        if place > 0 {
+            out.push_str(" | ")?;
+        }
+        match state.next_tok(alloc, &mut input) {
+            Ok(()) => out.push_str(pending(alloc, &state)?.as_str())?,
+            Err(_refused) => out.push_str("refused")?,
+        }
+    }
+    Ok(out)
+}
+
+#[test]
+fn texts_are_cut_into_tokens(rt: HostRuntime) -> Result<(), Fail> {
+    let alloc = rt.alloc();
+    let rows = [
+        ("42]", 3, "U64(42) | BlockClose | Eof"),
+        ("1..2", 3, "F64 1. | refused | Eof"),
+        ("1-2", 4, "U64(1) | I64(-2) | Eof | Eof"),
+        ("--1", 2, "refused | Eof"),
+        ("nul", 2, "refused | Eof"),
+        ("Null", 2, "refused | Eof"),
+        ("nulls", 2, "refused | Eof"),
+        ("'", 2, "refused | Eof"),
+        (".5", 2, "refused | Eof"),
+        ("", 2, "Eof | Eof"),
+        (" \n\r\t", 2, "Eof | Eof"),
+        ("\u{b}1", 2, "refused | Eof"),
+        (
+            " { } [ ] : , ",
+            7,
+            "CurlyOpen | CurlyClose | BlockOpen | BlockClose | Colon | Comma | Eof",
+        ),
+        (
+            "true false null",
+            4,
+            "Bool(true) | Bool(false) | Null | Eof",
+        ),
+        ("true1", 2, "Bool(true) | U64(1)"),
+        ("-0", 2, "I64(0) | Eof"),
+        ("+5", 2, "U64(5) | Eof"),
+        ("007", 2, "U64(7) | Eof"),
+        ("-", 2, "refused | Eof"),
+        ("+", 2, "refused | Eof"),
+        ("00000000000000000000007", 2, "U64(7) | Eof"),
+        ("18446744073709551615", 2, "U64(18446744073709551615) | Eof"),
+        ("18446744073709551616", 2, "refused | Eof"),
+        ("-9223372036854775808", 2, "I64(-9223372036854775808) | Eof"),
+        ("-9223372036854775809", 2, "refused | Eof"),
+        ("99999999999999999999", 2, "refused | Eof"),
+        (
+            "99999999999999999999.5",
+            2,
+            "F64 99999999999999999999.5 | Eof",
+        ),
+        (
+            "99999999999999999999e0",
+            2,
+            "F64 99999999999999999999e0 | Eof",
+        ),
+        ("1.", 2, "F64 1. | Eof"),
+        ("-.5", 2, "F64 -.5 | Eof"),
+        ("1.e5", 2, "F64 1.e5 | Eof"),
+        ("1e-2", 2, "F64 1e-2 | Eof"),
+        ("1e+2", 2, "refused | Eof"),
+        ("1e", 2, "refused | Eof"),
+        ("42 43", 2, "U64(42) | U64(43)"),
+        ("42\0@", 3, "U64(42) | Eof | Eof"),
+        ("42 @", 3, "U64(42) | refused | Eof"),
+        ("\"\\x\\u00e9\"", 2, "Str xé | Eof"),
+        (
+            "\"\\n\\t\\u0020\\f\\b\\\\\\\"\\/\\ud83d\\uDE0B\\r\"",
+            2,
+            "Str \n\t \u{c}\u{8}\\\"/😋\r | Eof",
+        ),
+        ("\"\\0\"\"\"", 3, "Str \0 | Str  | Eof"),
+        ("\"\\ud83d\"", 2, "refused | Eof"),
+        ("\"\\udc00\"", 2, "refused | Eof"),
+        ("\"\\ud83d\\n\"", 2, "refused | Eof"),
+        ("\"\\ud83d\\ud83d\"", 2, "refused | Eof"),
+        ("\"\\uD800x\"", 2, "refused | Eof"),
+        ("\"\\u12\"", 2, "refused | Eof"),
+        ("\"\\u+123\"", 2, "refused | Eof"),
+        ("\"ab", 2, "refused | Eof"),
+        ("\"a\0\"", 2, "refused | Eof"),
+    ];
+    for (text, count, expected) in rows {
+        assert_eq!(rt;
+            tokens_of(alloc, text, count)?.as_str(),
+            expected,
+            "at {text}"
+        );
+    }
+    Ok(())
+}
+
+#[test]
+fn no_front_of_a_string_is_one(rt: HostRuntime) -> Result<(), Fail> {
+    let alloc = rt.alloc();
+    let whole = "\"\\n\\t\\u0020\\f\\b\\\\\\\"\\/\\ud83d\\uDE0B\\r\"";
+    let mut front = String::new(alloc);
+    for c in whole.chars() {
+        if !front.is_empty() {
+            assert_eq!(rt;
+                tokens_of(alloc, front.as_str(), 2)?.as_str(),
+                "refused | Eof"
+            );
+        }
+        front.push(c)?;
+    }
+    Ok(())
+}
+
+#[test]
+fn long_strings_and_any_current_character(rt: HostRuntime) -> Result<(), Fail> {
+    let alloc = rt.alloc();
+    let mut text = String::new(alloc);
+    text.push('"')?;
+    for _ in 0..1000 {
+        text.push('a')?;
+    }
+    text.push('\n')?;
+    for _ in 0..1000 {
+        text.push('b')?;
+    }
+    text.push_str("\\nc\"")?;
+    let mut input = text.chars();
+    let mut state = state_of(alloc, &mut input);
+    state.next_tok(alloc, &mut input)?;
+    assert_eq!(rt; state.tok, DeJsonTok::Str);
+    assert_eq!(rt; state.strbuf.as_str().chars().count(), 2003);
+    assert_eq!(rt; (state.line, state.col, state.cur), (1, 1004, '\0'));
+
+    // The current character may never have been in the text.
+    let mut state = DeJsonState::new(alloc);
+    let mut input = "xy\"".chars();
+    state.cur = '"';
+    state.next_tok(alloc, &mut input)?;
+    assert_eq!(rt; pending(alloc, &state)?.as_str(), "Str xy");
+
+    // It counts before what the characters hold, and NUL is the end whatever they hold.
+    let mut state = DeJsonState::new(alloc);
+    state.tok = DeJsonTok::U64(7);
+    state.cur = '@';
+    assert!(rt; state.next_tok(alloc, &mut "1".chars()).is_err());
+    assert_eq!(rt; (state.tok, state.cur), (DeJsonTok::Eof, '\0'));
+    let mut state = DeJsonState::new(alloc);
+    state.tok = DeJsonTok::U64(7);
+    state.next_tok(alloc, &mut "9".chars())?;
+    assert_eq!(rt; state.tok, DeJsonTok::Eof);
+    Ok(())
+}
+
+#[test]
+fn places_are_counted(rt: HostRuntime) -> Result<(), Fail> {
+    let alloc = rt.alloc();
+    let mut input = "a\nb".chars();
+    let mut state = DeJsonState::new(alloc);
+    for expected in [('a', 0, 1), ('\n', 1, 0), ('b', 1, 1), ('\0', 1, 1)] {
+        state.next(&mut input);
+        assert_eq!(rt; (state.cur, state.line, state.col), expected);
+    }
+
+    let mut input = "42]".chars();
+    let mut state = state_of(alloc, &mut input);
+    state.next_tok(alloc, &mut input)?;
+    assert_eq!(rt; (state.cur, state.line, state.col), (']', 0, 3));
+    assert_eq!(rt; input.as_str(), "");
+
+    let mut input = "a\n".chars();
+    let mut state = DeJsonState::new(alloc);
+    state.line = usize::MAX;
+    state.col = usize::MAX;
+    state.next(&mut input);
+    assert_eq!(rt; (state.line, state.col), (usize::MAX, usize::MAX));
+    state.next(&mut input);
+    assert_eq!(rt; (state.line, state.col), (usize::MAX, 0));
+    Ok(())
+}
+
+/// The call of this name.
+fn call(
+    alloc: Global,
+    state: &mut DeJsonState,
+    input: &mut Chars<'_>,
+    name: &str,
+) -> Result<(), DeJsonErr> {
+    match name {
+        "next_tok" => state.next_tok(alloc, input),
+        "colon" => state.colon(alloc, input),
+        "next_colon" => state.next_colon(alloc, input),
+        "string" => state.string(alloc, input),
+        "block_open" => state.block_open(alloc, input),
+        "block_close" => state.block_close(alloc, input),
+        "curly_open" => state.curly_open(alloc, input),
+        "curly_close" => state.curly_close(alloc, input),
+        "eat_comma_block" => state.eat_comma_block(alloc, input),
+        "eat_comma_curly" => state.eat_comma_curly(alloc, input),
+        "u64_range" => match state.u64_range(alloc, 5) {
+            Ok(_value) => Ok(()),
+            Err(e) => Err(e),
+        },
+        "i64_range" => match state.i64_range(alloc, -5, 5) {
+            Ok(_value) => Ok(()),
+            Err(e) => Err(e),
+        },
+        "as_bool" => match state.as_bool(alloc) {
+            Ok(_value) => Ok(()),
+            Err(e) => Err(e),
+        },
+        "as_string" => match state.as_string(alloc) {
+            Ok(_text) => Ok(()),
+            Err(e) => Err(e),
+        },
+        _ => state.whole_field(alloc, input),
+    }
+}
+
+/// What a call answers once some tokens of a text are taken: the pending token, or the error.
+fn answer(alloc: Global, text: &str, taken: usize, name: &str) -> Result<String, AllocError> {
+    let mut input = text.chars();
+    let mut state = state_of(alloc, &mut input);
+    for _ in 0..taken {
+        if let Err(e) = state.next_tok(alloc, &mut input) {
+            return format!(in alloc; "{e}");
+        }
+    }
+    match call(alloc, &mut state, &mut input, name) {
+        Ok(()) => pending(alloc, &state),
+        Err(e) => format!(in alloc; "{e}"),
+    }
+}
+
+#[test]
+fn helpers_take_tokens(rt: HostRuntime) -> Result<(), Fail> {
+    let alloc = rt.alloc();
+    let rows = [
+        (": 1", 1, "colon", "U64(1)"),
+        (": 1", 0, "next_colon", "U64(1)"),
+        ("\"a\" \"b\"", 1, "string", "Str b"),
+        ("[1.5", 1, "block_open", "F64 1.5"),
+        ("]", 1, "block_close", "Eof"),
+        ("{{", 1, "curly_open", "CurlyOpen"),
+        ("}true", 1, "curly_close", "Bool(true)"),
+        (", -1", 1, "eat_comma_block", "I64(-1)"),
+        ("] 1", 1, "eat_comma_block", "BlockClose"),
+        (", null", 1, "eat_comma_curly", "Null"),
+        ("} 1", 1, "eat_comma_curly", "CurlyClose"),
+        ("[},", 1, "whole_field", "Comma"),
+        ("{\"a\":[1,{}],\"b\":2}]", 1, "whole_field", "BlockClose"),
+        ("1 2", 1, "whole_field", "U64(2)"),
+        ("\"\"", 1, "whole_field", "Eof"),
+        ("-1,", 1, "whole_field", "Comma"),
+        ("5.,", 1, "whole_field", "Comma"),
+        ("false}", 1, "whole_field", "CurlyClose"),
+        ("null:", 1, "whole_field", "Colon"),
+        ("5", 1, "u64_range", "U64(5)"),
+        ("-5", 1, "i64_range", "I64(-5)"),
+        ("5", 1, "i64_range", "U64(5)"),
+        ("true", 1, "as_bool", "Bool(true)"),
+        ("\"ab\"", 1, "as_string", "Str "),
+    ];
+    for (text, taken, name, expected) in rows {
+        assert_eq!(rt;
+            answer(alloc, text, taken, name)?.as_str(),
+            expected,
+            "{name} at {text}"
+        );
+    }
+    Ok(())
+}
+
+#[test]
+fn faults_are_told_in_words(rt: HostRuntime) -> Result<(), Fail> {
+    let alloc = rt.alloc();
+    let rows = [
+        (
+            "@",
+            0,
+            "next_tok",
+            "Unexpected token Bof expected tokenizer , line:1 col:2",
+        ),
+        (
+            "42 @",
+            1,
+            "next_tok",
+            "Unexpected token U64(42) expected tokenizer , line:1 col:5",
+        ),
+        (
+            "-1\n\t'",
+            1,
+            "next_tok",
+            "Unexpected token I64(-1) expected tokenizer , line:2 col:3",
+        ),
+        (
+            "true@",
+            1,
+            "next_tok",
+            "Unexpected token Bool(true) expected tokenizer , line:1 col:6",
+        ),
+        (
+            "nul",
+            0,
+            "next_tok",
+            "Unexpected token BareIdent expected Got ##nul## needed true, false, null , line:1 col:4",
+        ),
+        ("--1", 0, "next_tok", "Cannot parse number , line:1 col:3"),
+        ("1e+2", 0, "next_tok", "Cannot parse number , line:1 col:4"),
+        (
+            "18446744073709551616",
+            0,
+            "next_tok",
+            "Cannot parse number , line:1 col:21",
+        ),
+        ("\"ab", 0, "next_tok", "Cannot parse string , line:1 col:4"),
+        (
+            "\"\\ud83d\"",
+            0,
+            "next_tok",
+            "Cannot parse string , line:1 col:9",
+        ),
+        (
+            "\"a\\u12\"",
+            0,
+            "next_tok",
+            "Cannot parse string , line:1 col:8",
+        ),
+        (
+            ",",
+            1,
+            "colon",
+            "Unexpected token Comma expected : , line:1 col:2",
+        ),
+        (
+            "1",
+            0,
+            "next_colon",
+            "Unexpected token U64(1) expected : , line:1 col:2",
+        ),
+        (
+            ",",
+            1,
+            "string",
+            "Unexpected token Comma expected String , line:1 col:2",
+        ),
+        (
+            ",",
+            1,
+            "block_open",
+            "Unexpected token Comma expected [ , line:1 col:2",
+        ),
+        (
+            ",",
+            1,
+            "block_close",
+            "Unexpected token Comma expected ] , line:1 col:2",
+        ),
+        (
+            ",",
+            1,
+            "curly_open",
+            "Unexpected token Comma expected { , line:1 col:2",
+        ),
+        (
+            ",",
+            1,
+            "curly_close",
+            "Unexpected token Comma expected } , line:1 col:2",
+        ),
+        (
+            ":",
+            1,
+            "eat_comma_block",
+            "Unexpected token Colon expected , or ] , line:1 col:2",
+        ),
+        (
+            ":",
+            1,
+            "eat_comma_curly",
+            "Unexpected token Colon expected , or } , line:1 col:2",
+        ),
+        (
+            "[@",
+            1,
+            "block_open",
+            "Unexpected token BlockOpen expected tokenizer , line:1 col:3",
+        ),
+        (
+            ",",
+            1,
+            "u64_range",
+            "Unexpected token Comma expected unsigned integer , line:1 col:2",
+        ),
+        (
+            "-1",
+            1,
+            "u64_range",
+            "Unexpected token I64(-1) expected unsigned integer , line:1 col:3",
+        ),
+        ("6", 1, "u64_range", "Value out of range 6>5 , line:1 col:2"),
+        (
+            "1.5",
+            1,
+            "i64_range",
+            "Unexpected token F64 expected signed integer , line:1 col:4",
+        ),
+        (
+            "-6",
+            1,
+            "i64_range",
+            "Value out of range -6<-5 , line:1 col:3",
+        ),
+        ("6", 1, "i64_range", "Value out of range 6>5 , line:1 col:2"),
+        (
+            "18446744073709551615",
+            1,
+            "i64_range",
+            "Value out of range 18446744073709551615>5 , line:1 col:21",
+        ),
+        (
+            "1",
+            1,
+            "as_bool",
+            "Unexpected token U64(1) expected boolean , line:1 col:2",
+        ),
+        (
+            "null",
+            1,
+            "as_string",
+            "Unexpected token Null expected string , line:1 col:5",
+        ),
+        (
+            ",",
+            1,
+            "whole_field",
+            "Unexpected token Comma expected field , line:1 col:2",
+        ),
+        (
+            "",
+            1,
+            "whole_field",
+            "Unexpected token Eof expected field , line:1 col:1",
+        ),
+        ("[1", 1, "whole_field", "Cannot parse field , line:1 col:3"),
+        (
+            "[1,@",
+            1,
+            "whole_field",
+            "Unexpected token Comma expected tokenizer , line:1 col:5",
+        ),
+    ];
+    for (text, taken, name, expected) in rows {
+        let expected = format!(in alloc; "Json Deserialize error: {expected}")?;
+        assert_eq!(rt;
+            answer(alloc, text, taken, name)?.as_str(),
+            expected.as_str(),
+            "{name} at {text}"
+        );
+    }
+    Ok(())
+}
+
+#[test]
+fn values_stay_in_their_range(rt: HostRuntime) -> Result<(), Fail> {
+    let alloc = rt.alloc();
+    let mut state = DeJsonState::new(alloc);
+    let rows = [
+        (DeJsonTok::I64(-6), -5, 5, "Value out of range -6<-5 "),
+        (DeJsonTok::U64(6), -5, 5, "Value out of range 6>5 "),
+        (DeJsonTok::U64(0), 5, -5, "Value out of range 0<5 "),
+        (DeJsonTok::I64(6), -5, 5, "Value out of range 6>5 "),
+        (
+            DeJsonTok::U64(u64::MAX),
+            i64::MIN,
+            i64::MAX,
+            "Value out of range 18446744073709551615>9223372036854775807 ",
+        ),
+    ];
+    for (tok, min, max, expected) in rows {
+        state.tok = tok;
+        match state.i64_range(alloc, min, max) {
+            Ok(_value) => assert!(rt; false, "{expected}"),
+            Err(e) => assert_eq!(rt; e.msg.as_str(), expected),
+        }
+    }
+    state.tok = DeJsonTok::U64(4);
+    match state.u64_range(alloc, 3) {
+        Ok(_value) => assert!(rt; false),
+        Err(e) => assert_eq!(rt; e.msg.as_str(), "Value out of range 4>3 "),
+    }
+    assert_eq!(rt; state.u64_range(alloc, 4)?, 4);
+    state.tok = DeJsonTok::I64(i64::MIN);
+    assert_eq!(rt; state.i64_range(alloc, i64::MIN, i64::MAX)?, i64::MIN);
+    Ok(())
+}
+
+#[test]
+fn strings_are_moved_out(rt: HostRuntime) -> Result<(), Fail> {
+    let alloc = rt.alloc();
+    let mut input = "\"ab\"".chars();
+    let mut state = state_of(alloc, &mut input);
+    assert_eq!(rt; state.next_str(), None);
+    state.next_tok(alloc, &mut input)?;
+    assert_eq!(rt; state.next_str(), Some(()));
+    assert_eq!(rt; state.as_string(alloc)?.as_str(), "ab");
+    assert_eq!(rt; state.as_string(alloc)?.as_str(), "");
+    assert_eq!(rt; state.tok, DeJsonTok::Str);
+    assert!(rt; state.as_bool(alloc).is_err());
+    Ok(())
+}
+
+#[test]
+fn errors_say_where(rt: HostRuntime) -> Result<(), Fail> {
+    let alloc = rt.alloc();
+    let mut state = DeJsonState::new(alloc);
+    state.tok = DeJsonTok::Char('\'');
+    state.line = 2;
+    state.col = usize::MAX;
+    let rows = [
+        (state.err_exp(alloc, "k"), "Unexpected key k"),
+        (state.err_nf(alloc, "k"), "Key not found k"),
+        (state.err_enum(alloc, "V"), "Enum not defined V"),
+        (
+            state.err_token(alloc, "x"),
+            "Unexpected token Char('\\'') expected x ",
+        ),
+        (state.err_range(alloc, "1>0"), "Value out of range 1>0 "),
+        (state.err_type(alloc, "x"), "Token wrong type x "),
+        (state.err_parse(alloc, "x"), "Cannot parse x "),
+    ];
+    for (e, expected) in rows {
+        assert_eq!(rt;
+            (e.msg.as_str(), e.line, e.col, e.memory),
+            (expected, 2, usize::MAX, false)
+        );
+        let shown = format!(in alloc; "{e}")?;
+        let expected = format!(in alloc;
+            "Json Deserialize error: {expected}, line:3 col:18446744073709551615"
+        )?;
+        assert_eq!(rt; shown.as_str(), expected.as_str());
+        let again = e.clone(alloc)?;
+        assert_eq!(rt; format!(in alloc; "{again:?}")?.as_str(), expected.as_str());
+        assert_eq!(rt; again.memory, false);
+    }
+    Ok(())
+}
+
+#[test]
+fn deep_brackets_are_counted(rt: HostRuntime) -> Result<(), Fail> {
+    let alloc = rt.alloc();
+    let mut text = String::new(alloc);
+    for _ in 0..10000 {
+        text.push('[')?;
+    }
+    assert_eq!(rt;
+        answer(alloc, text.as_str(), 1, "whole_field")?.as_str(),
+        "Json Deserialize error: Cannot parse field , line:1 col:10001"
+    );
+    for _ in 0..10000 {
+        text.push('}')?;
+    }
+    text.push_str("null")?;
+    assert_eq!(rt;
+        answer(alloc, text.as_str(), 1, "whole_field")?.as_str(),
+        "Null"
+    );
+    Ok(())
+}
+
+#[test]
+fn a_writer_appends(rt: HostRuntime) -> Result<(), Fail> {
+    let alloc = rt.alloc();
+    let mut writer = SerJsonState {
+        out: String::new(alloc),
+    };
+    writer.st_pre()?;
+    writer.indent(1)?;
+    writer.field(1, "a")?;
+    writer.label("b")?;
+    writer.conl()?;
+    writer.st_post(1)?;
+    assert_eq!(rt; writer.out.as_str(), "{\"a\":\"b\",}");
+    assert_eq!(rt; DeJsonTok::default(), DeJsonTok::Bof);
+    Ok(())
+}

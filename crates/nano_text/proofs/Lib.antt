@@ -1,0 +1,12 @@
+pub mod LiveText
+pub mod Digits
+pub mod Escapes
+pub mod Fronts
+pub mod Stops
+pub mod Tokens
+pub mod Utf8Fronts
+pub mod TakenFront
+pub mod RunBytes
+pub mod Runs
+pub mod Numbers
+pub mod Strings

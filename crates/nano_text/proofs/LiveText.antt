@@ -1,0 +1,65 @@
+-- What `next` does to the text that is still to be read.
+use Rattle.std.proofs.Common.{◌≡◌, ◌≢◌, ℕ, List, [], ◌∷◌, ◌++◌, Bool, true, false, cond, length, encode_utf8, IsUtf8, refl, ap, sym, ◌∙◌, ne_eqb, eqb-true, nat_eq}
+use Rattle.std.proofs.lemmas.Str.{chars_past_char}
+use Rattle.std.proofs.StrCases.{chars_of_empty}
+use Rattle.std.specs.Str.Iter.{chars_rest}
+use Rattle.std.specs.declared.str.Chars.{Chars}
+use Rattle.nano_text.specs.Place.{held, live, before_nul}
+use Rattle.nano_text.specs.Front.{first_is}
+
+-- one character comes off the front
+pub held_next : (s t : Chars) (c : ℕ) → IsUtf8 (chars_rest s) → chars_rest s ≡ encode_utf8 c ++ chars_rest t → held s ≡ c ∷ held t
+held_next s t c text taken = chars_past_char (chars_rest s) (chars_rest t) c text taken
+
+pub held_none : (s : Chars) → length (chars_rest s) ≡ 0 → held s ≡ []
+held_none s none = chars_of_empty (chars_rest s) none
+
+-- the current character comes off the live text
+pub live_next : (cur c : ℕ) (s t : Chars) → held s ≡ c ∷ held t → cur ≢ 0 → live cur s ≡ cur ∷ live c t
+unfolding live
+live_next cur c s t e h = rw (ne_eqb cur 0 h, e) refl
+
+pub live_last : (cur : ℕ) (s t : Chars) → held s ≡ [] → cur ≢ 0 → live cur s ≡ cur ∷ live 0 t
+unfolding live
+live_last cur s t e h = rw (ne_eqb cur 0 h, e) refl
+
+-- at a NUL nothing is left
+pub live_end : (s : Chars) → live 0 s ≡ []
+unfolding live
+live_end s = refl
+
+-- elsewhere the current character is the first
+pub live_more : (cur : ℕ) (s : Chars) → cur ≢ 0 → live cur s ≡ cur ∷ before_nul (held s)
+unfolding live
+live_more cur s h = rw (ne_eqb cur 0 h) refl
+
+-- a test that a NUL doesn't pass is a test of the current character
+pub first_is-live : (p : ℕ → Bool) (cur : ℕ) (s : Chars) → p 0 ≡ false → first_is p (live cur s) ≡ p cur
+unfolding live
+first_is-live p cur s none = elim (nat_eq cur 0) as (λ b. nat_eq cur 0 ≡ b → first_is p (cond b [] (cur ∷ before_nul (held s))) ≡ p cur) [
+  | true ↦ λ e. sym (ap p (eqb-true cur 0 e) ∙ none)
+  | false ↦ λ e. refl
+] refl
+
+-- what is live once a character is taken
+pub live_taken : (c : ℕ) (s t : Chars) → held s ≡ c ∷ held t → live c t ≡ before_nul (held s)
+unfolding live
+live_taken c s t e = ap before_nul (sym e)
+
+pub live_none : (s t : Chars) → held s ≡ [] → live 0 t ≡ before_nul (held s)
+unfolding live
+live_none s t e = ap before_nul (sym e)
+
+-- the first live character is the current one
+pub live-first : (cur c : ℕ) (s : Chars) (rest : List ℕ) → live cur s ≡ c ∷ rest → cur ≡ c
+unfolding live
+live-first cur c s rest e = elim (nat_eq cur 0) as (λ b. cond b [] (cur ∷ before_nul (held s)) ≡ c ∷ rest → cur ≡ c) [ true ↦ λ h. cc h | false ↦ λ h. cc h ] e
+
+-- a test that the current character doesn't pass, nor NUL, stops before the live text
+pub live_stop : (test : ℕ → Bool) (cur : ℕ) (s : Chars) → test 0 ≡ false → test cur ≡ false → first_is test (live cur s) ≡ false
+live_stop test cur s none fails = first_is-live test cur s none ∙ fails
+
+-- what is behind the first live character
+pub live-tail : (cur c : ℕ) (s : Chars) (rest : List ℕ) → live cur s ≡ c ∷ rest → before_nul (held s) ≡ rest
+unfolding live
+live-tail cur c s rest e = elim (nat_eq cur 0) as (λ b. cond b [] (cur ∷ before_nul (held s)) ≡ c ∷ rest → before_nul (held s) ≡ rest) [ true ↦ λ h. cc h | false ↦ λ h. cc h ] e

@@ -1,0 +1,68 @@
+use Rattle.std.proofs.Common.{◌≢◌, ◌<◌, ◌≤◌, ◌⊎◌, inl, inr, refl, arith}
+use Rattle.nano_text.specs.String.{scalar, pair, unit_value}
+use Rattle.nano_text.proofs.LiveText.{live-first}
+use Rattle.nano_text.proofs.Escapes.{IfSome-from_SomeIff, unit_of_piece, paired, same_behind_first}
+use Rattle.nano_text.proofs.string.take_unicode.Goals as goal
+use Rattle.nano_text.proofs.string.take_unicode.Goals.{then-lead-lt55296-via-then-lead-lt55296, then-lead-lt55296-via-else-lead-lt55296+then-lead-gt57343, then-lead-gt56319-via-then-lead-gt56319, then-lead-gt56319-via-else-lead-gt56319+then-p-ne92}
+
+pub returns-in_err-lead-clause-none : goal.returns-in_err-lead-clause-none
+returns-in_err-lead-clause-none c none piece rest good text =
+    let unit = unit_of_piece piece _ rest good text in
+    c.in_err-lead.ensures.none refl unit.0 unit.2 unit.1 unit.3
+
+pub returns-then-lead-lt55296-clause-taken : goal.returns-then-lead-lt55296-clause-taken
+returns-then-lead-lt55296-clause-taken c =
+    let unit = c.in_ok-lead.ensures.taken in
+    let alone : (unit_value unit.0 < 0xD800) ⊎ (0xE000 ≤ unit_value unit.0) = elim c.then-lead-lt55296.branch [
+      | then-lead-lt55296-via-then-lead-lt55296 w ↦ inl (omega (arith, unit.2, w.if-lead-lt55296.true))
+      | then-lead-lt55296-via-else-lead-lt55296+then-lead-gt57343 w ↦ inr (omega (arith, unit.2, w.if-lead-gt57343.true))
+    ] in
+    IfSome-from_SomeIff c.from_u32.result _ _ _ c.from_u32.ensures.value (scalar unit.0, (unit.1, alone), unit.2, rw unit.3 refl)
+
+pub returns-then-lead-gt56319-clause-none : goal.returns-then-lead-gt56319-clause-none
+returns-then-lead-gt56319-clause-none c none piece rest good text =
+    let unit = c.in_ok-lead.ensures.taken in
+    let low : 0xD800 ≤ unit_value unit.0 = omega (arith, unit.2, c.if-lead-lt55296.false) in
+    let high : unit_value unit.0 < 0xE000 = omega (arith, unit.2, c.if-lead-gt57343.false) in
+    let pair = paired piece unit.0 _ _ rest good text unit.3 low high in
+    elim c.then-lead-gt56319.branch [
+      | then-lead-gt56319-via-then-lead-gt56319 w ↦ omega (arith, unit.2, pair.leads, w.if-lead-gt56319.true)
+      | then-lead-gt56319-via-else-lead-gt56319+then-p-ne92 w ↦ w.if-p-ne92.true (live-first c.take_code_unit.new.p.cur 92 c.take_code_unit.new.i _ pair.split)
+    ]
+
+pub returns-then-p-ne117-clause-none : goal.returns-then-p-ne117-clause-none
+returns-then-p-ne117-clause-none c none piece rest good text =
+    let unit = c.in_ok-lead.ensures.taken in
+    let low : 0xD800 ≤ unit_value unit.0 = omega (arith, unit.2, c.if-lead-lt55296.false) in
+    let high : unit_value unit.0 < 0xE000 = omega (arith, unit.2, c.if-lead-gt57343.false) in
+    let pair = paired piece unit.0 _ _ rest good text unit.3 low high in
+    let some : c.take_code_unit.new.p.cur ≢ 0 = λ e. omega (arith, e, c.if-p-ne92.false) in
+    let behind = same_behind_first _ _ _ _ _ (c.next.ensures.taken some) pair.split in
+    c.if-p-ne117.true (live-first c.next.new.self.cur 117 c.next.new.i _ behind)
+
+pub returns-in_err-trail-clause-none : goal.returns-in_err-trail-clause-none
+returns-in_err-trail-clause-none c none piece rest good text =
+    let unit = c.in_ok-lead.ensures.taken in
+    let low : 0xD800 ≤ unit_value unit.0 = omega (arith, unit.2, c.if-lead-lt55296.false) in
+    let high : unit_value unit.0 < 0xE000 = omega (arith, unit.2, c.if-lead-gt57343.false) in
+    let pair = paired piece unit.0 _ _ rest good text unit.3 low high in
+    let some : c.take_code_unit.new.p.cur ≢ 0 = λ e. omega (arith, e, c.if-p-ne92.false) in
+    let behind = same_behind_first _ _ _ _ _ (c.next.ensures.taken some) pair.split in
+    let more : c.next.new.self.cur ≢ 0 = λ e. omega (arith, e, c.if-p-ne117.false) in
+    let digits = same_behind_first _ _ _ _ _ (c.next-2.ensures.taken more) behind in
+    c.in_err-trail.ensures.none refl pair.trail rest pair.trail_hex digits
+
+pub returns-clause-taken : goal.returns-clause-taken
+returns-clause-taken c =
+    let lead = c.in_ok-lead.ensures.taken in
+    let trail = c.in_ok-trail.ensures.taken in
+    let some : c.take_code_unit.new.p.cur ≢ 0 = λ e. omega (arith, e, c.if-p-ne92.false) in
+    let more : c.next.new.self.cur ≢ 0 = λ e. omega (arith, e, c.if-p-ne117.false) in
+    let bounds : (0xD800 ≤ unit_value lead.0) × (unit_value lead.0 < 0xDC00) × (0xDC00 ≤ unit_value trail.0) × (unit_value trail.0 < 0xE000) =
+    (omega (arith, lead.2, c.if-lead-lt55296.false), omega (arith, lead.2, c.if-lead-gt56319.false), omega (arith, trail.2, c.if-trail-lt56320.false), omega (arith, trail.2, c.if-trail-gt57343.false)) in
+    IfSome-from_SomeIff c.from_u32-2.result _ _ _ c.from_u32-2.ensures.value (
+      pair lead.0 trail.0,
+      (lead.1, trail.1, bounds.0, bounds.1, bounds.2, bounds.3),
+      rw (lead.2, trail.2) refl,
+      rw (lead.3, c.next.ensures.taken some, c.next-2.ensures.taken more, c.if-p-ne92.false, c.if-p-ne117.false, trail.3) refl,
+    )

@@ -1,0 +1,69 @@
+// The place in a text, and the step to the next character.
+ghost use Rattle.std.specs.Prelude.{◌≡◌, ◌≢◌, ◌∷◌};
+ghost use Rattle.nano_text.specs.Place.{held, tail, place_after, text_at, before_nul};
+
+use std::str::Chars;
+
+/// The current character, and where it stands. Lines and columns count from 0.
+#[derive(Clone, Copy, Debug, PartialEq)]
+pub struct Place {
+    pub cur: char,
+    pub line: usize,
+    pub col: usize,
+}
+
+impl Place {
+    /// Takes one character, which becomes the current one.
+    ///
+    /// A line feed adds one to `line` and sets `col` to 0; any other character, NUL too, adds one
+    /// to `col`. At `usize::MAX` they stand still. At the end of `i` the current character becomes
+    /// NUL, and `line` and `col` stay.
+    pub fn next(&mut self, i: &mut Chars<'_>)
+        ensures place { self.new ≡ place_after self.old (held i.old) }
+        ensures held { held i.new ≡ tail (held i.old) }
+
+        // What is live afterwards, and that the current character came off its front.
+        ensures rest { text_at self.new i.new ≡ before_nul (held i.old) }
+        ensures taken { self.old.cur ≢ 0 → text_at self.old i.old ≡ self.old.cur ∷ text_at self.new i.new }
+    {
+        let _text = i.as_str();
+        match i.next() {
+            Some(c) => {
+                self.cur = c;
+                if c == '\n' {
+                    self.line = self.line.saturating_add(1);
+                    self.col = 0;
+                } else {
+                    self.col = self.col.saturating_add(1);
+                }
+            }
+            None => self.cur = '\0',
+        }
+    }
+
+    /// Counts these characters as if they were taken one by one.
+    pub(crate) fn pass(&mut self, text: &str)
+        ensures { self.new.cur ≡ self.old.cur }
+    {
+        let bytes = text.as_bytes();
+        match bytes.iter().rposition(|byte| *byte == b'\n') {
+            Some(last) => {
+                self.line = self.line.saturating_add(line_feeds(bytes));
+                self.col = characters(&bytes[last + 1..]);
+            }
+            None => self.col = self.col.saturating_add(characters(bytes)),
+        }
+    }
+}
+
+fn line_feeds(bytes: &[u8]) -> usize {
+    bytes.iter().filter(|byte| **byte == b'\n').count()
+}
+
+/// How many characters these bytes of UTF-8 begin.
+fn characters(bytes: &[u8]) -> usize {
+    bytes
+        .iter()
+        .filter(|byte| **byte < 0x80 || 0xC0 <= **byte)
+        .count()
+}

@@ -1,0 +1,177 @@
+// String lexemes.
+ghost use Rattle.std.specs.Prelude.{◌≡◌, ◌≢◌, ◌++◌, ◌∷◌, ◌<◌, ◌≤◌, true, false, OnErr, OnOk, IfOk, IfSome, List, ℕ, string_bytes, string_capacity, encode_utf8_all, length};
+ghost use Rattle.std.specs.Char.{digit_value, is_ascii_hexdigit};
+ghost use Rattle.nano_text.specs.Front.{front, behind};
+ghost use Rattle.nano_text.specs.Place.{text_at};
+ghost use Rattle.nano_text.specs.String.{CodeUnit, IsHex, IsPiece, IsString, Piece, escaped_char, is_plain, piece_char, piece_text, unit_text, unit_value};
+
+use crate::number::Fault;
+use crate::place::Place;
+use std::alloc::AllocError;
+use std::str::Chars;
+
+const BACKSPACE: char = '\u{8}';
+
+const FORM_FEED: char = '\u{c}';
+
+/// Whether a character, or a byte of UTF-8, stands for itself in a string.
+fn is_plain(c: u32) -> bool
+    ensures { result ≡ is_plain c }
+{
+    c != u32::from('"') && c != u32::from('\\') && c != 0
+}
+
+/// How many bytes stand for themselves before the first that doesn't.
+fn plain_len(bytes: &[u8]) -> usize
+    ensures { result ≡ length (front is_plain bytes.now) }
+{
+    for (len, byte) in bytes.iter().enumerate() {
+        if !is_plain(u32::from(*byte)) {
+            return len;
+        }
+    }
+    bytes.len()
+}
+
+/// Appends the longest front of the live text that stands for itself.
+///
+/// Its first character is the current one, which may never have been in `i`. The others are
+/// appended at once.
+fn take_plain(p: &mut Place, i: &mut Chars<'_>, strbuf: &mut String) -> Result<(), AllocError>
+    requires { is_plain p.old.cur ≡ true }
+    ensures capacity { string_capacity strbuf.old ≤ string_capacity strbuf.new }
+    ensures full { OnErr result (string_capacity strbuf.old < length (string_bytes strbuf.old ++ encode_utf8_all (front is_plain (text_at p.old i.old)))) }
+    ensures rest { OnOk result (text_at p.new i.new ≡ behind is_plain (text_at p.old i.old)) }
+    ensures taken { OnOk result (string_bytes strbuf.new ≡ string_bytes strbuf.old ++ encode_utf8_all (front is_plain (text_at p.old i.old))) }
+{
+    strbuf.push(p.cur)?;
+    let text = i.as_str();
+    let (plain, rest) = text.split_at(plain_len(text.as_bytes()));
+    strbuf.push_str(plain)?;
+    p.pass(plain);
+    *i = rest.chars();
+    p.next(i);
+    Ok(())
+}
+
+/// Takes a hexadecimal digit, and answers its value.
+fn take_hex_digit(p: &mut Place, i: &mut Chars<'_>) -> Option<u32>
+    ensures digit { IfSome result (λ value. (is_ascii_hexdigit p.old.cur ≡ true) × (value ≡ digit_value p.old.cur) × (value < 16)) }
+    ensures taken { IfSome result (λ value. text_at p.old i.old ≡ p.old.cur ∷ text_at p.new i.new) }
+    ensures none { result ≡ None → (c : ℕ) (rest : List ℕ) → is_ascii_hexdigit c ≡ true → text_at p.old i.old ≡ c ∷ rest → ⊥ }
+{
+    let value = p.cur.to_digit(16)?;
+    p.next(i);
+    Some(value)
+}
+
+/// Takes four hexadecimal digits, and answers the code unit that they write.
+fn take_code_unit(p: &mut Place, i: &mut Chars<'_>) -> Option<u32>
+    ensures taken { IfSome result (λ value. (unit : CodeUnit) × IsHex unit × (value ≡ unit_value unit) × (text_at p.old i.old ≡ unit_text unit ++ text_at p.new i.new)) }
+    ensures small { IfSome result (λ value. value < 0x10000) }
+    ensures none { result ≡ None → (unit : CodeUnit) (rest : List ℕ) → IsHex unit → text_at p.old i.old ≡ unit_text unit ++ rest → ⊥ }
+{
+    let first = take_hex_digit(p, i)?;
+    let second = take_hex_digit(p, i)?;
+    let third = take_hex_digit(p, i)?;
+    let fourth = take_hex_digit(p, i)?;
+    Some(((first * 16 + second) * 16 + third) * 16 + fourth)
+}
+
+/// Takes what stands behind `\u`: a code unit, or a leading surrogate, `\u` and a trailing one.
+fn take_unicode(p: &mut Place, i: &mut Chars<'_>) -> Option<char>
+    ensures taken { IfSome result (λ c. (piece : Piece) × IsPiece piece × (c ≡ piece_char piece) × (92 ∷ (117 ∷ text_at p.old i.old) ≡ piece_text piece ++ text_at p.new i.new)) }
+    ensures none { result ≡ None → (piece : Piece) (rest : List ℕ) → IsPiece piece → 92 ∷ (117 ∷ text_at p.old i.old) ≡ piece_text piece ++ rest → ⊥ }
+{
+    let lead = take_code_unit(p, i)?;
+    if lead < 0xD800 || 0xDFFF < lead {
+        return char::from_u32(lead);
+    }
+    if 0xDBFF < lead || p.cur != '\\' {
+        return None;
+    }
+    p.next(i);
+    if p.cur != 'u' {
+        return None;
+    }
+    p.next(i);
+    let trail = take_code_unit(p, i)?;
+    if trail < 0xDC00 || 0xDFFF < trail {
+        return None;
+    }
+    char::from_u32(0x10000 + (lead - 0xD800) * 0x400 + (trail - 0xDC00))
+}
+
+/// The character that a backslash and this character stand for.
+fn escaped_char(c: char) -> char
+    ensures { result ≡ escaped_char c }
+{
+    match c {
+        'n' => '\n',
+        'r' => '\r',
+        't' => '\t',
+        'b' => BACKSPACE,
+        'f' => FORM_FEED,
+        '0' => '\0',
+        _ => c,
+    }
+}
+
+/// Takes an escape, of which the backslash is current, and answers the character that it stands for.
+fn take_escape(p: &mut Place, i: &mut Chars<'_>) -> Option<char>
+    requires { p.old.cur ≡ 92 }
+    ensures taken { IfSome result (λ c. (piece : Piece) × IsPiece piece × (c ≡ piece_char piece) × (text_at p.old i.old ≡ piece_text piece ++ text_at p.new i.new)) }
+    ensures none { result ≡ None → (piece : Piece) (rest : List ℕ) → IsPiece piece → text_at p.old i.old ≡ piece_text piece ++ rest → ⊥ }
+{
+    p.next(i);
+    if p.cur == 'u' {
+        p.next(i);
+        return take_unicode(p, i);
+    }
+    if p.cur == '\0' {
+        return None;
+    }
+    let c = escaped_char(p.cur);
+    p.next(i);
+    Some(c)
+}
+
+/// Reads the string lexeme that begins at the current character. Its text is left in `strbuf`.
+///
+/// A string is a quote, pieces and a quote. A piece is a character but a quote, a backslash and
+/// NUL; or `\n`, `\r`, `\t`, `\b`, `\f` or `\0`; or `\u` and the four hexadecimal digits of a scalar
+/// value; or two of these for a leading and a trailing surrogate; or a backslash and any other
+/// character but NUL, which stands for that character.
+///
+/// # Errors
+///
+/// `Fault::Malformed` where no string lexeme begins here, `Fault::Memory` where `strbuf` could not
+/// grow. Afterwards the place stands where the fault was found, and `strbuf` holds a front of the text.
+pub fn read_string(p: &mut Place, i: &mut Chars<'_>, strbuf: &mut String) -> Result<(), Fault>
+    ensures found { OnOk result ((characters : List ℕ) × IsString (text_at p.old i.old) characters (text_at p.new i.new) × (string_bytes strbuf.new ≡ encode_utf8_all characters)) }
+
+    // Memory is asked for only where the buffer has no room for the text.
+    ensures memory { result ≡ Err Fault.Memory → (characters rest : List ℕ) → IsString (text_at p.old i.old) characters rest → string_capacity strbuf.old < length (encode_utf8_all characters) }
+    ensures malformed { result ≡ Err Fault.Malformed → (characters rest : List ℕ) → IsString (text_at p.old i.old) characters rest → ⊥ }
+{
+    strbuf.clear();
+    if p.cur != '"' {
+        return Err(Fault::Malformed);
+    }
+    p.next(i);
+    'pieces: while p.cur != '"' {
+        if p.cur == '\0' {
+            return Err(Fault::Malformed);
+        }
+        if p.cur != '\\' {
+            take_plain(p, i, strbuf)?;
+            continue;
+        }
+        let Some(c) = take_escape(p, i) else {
+            return Err(Fault::Malformed);
+        };
+        strbuf.push(c)?;
+    }
+    p.next(i);
+    Ok(())
+}
