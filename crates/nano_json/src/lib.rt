@@ -2,16 +2,24 @@
 //! helpers and errors, and a writer's state.
 #![tactic(auto)]
 
+mod boxes;
 mod error;
 mod helpers;
 pub mod laws;
+mod lists;
+mod marks;
+mod numbers;
 mod state;
 #[cfg(test)]
 mod tests;
+mod texts;
 mod token;
+mod traits;
+mod words;
 mod write_state;
 
 pub use error::DeJsonErr;
 pub use state::DeJsonState;
 pub use token::DeJsonTok;
+pub use traits::DeJson;
 pub use write_state::SerJsonState;

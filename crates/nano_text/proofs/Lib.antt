@@ -10,3 +10,4 @@ pub mod RunBytes
 pub mod Runs
 pub mod Numbers
 pub mod Strings
+pub mod ListReading

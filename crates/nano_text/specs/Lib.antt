@@ -5,3 +5,5 @@ pub mod Place
 pub mod Scan
 pub mod String
 pub mod Tokens
+pub mod Lists
+pub mod ListLaws
