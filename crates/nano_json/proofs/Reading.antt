@@ -1,14 +1,17 @@
 -- What a reader of one value knows of the tokens that it takes.
-use Rattle.std.proofs.Common.{◌≡◌, ◌≢◌, ℕ, ◌<◌, ◌≤◌, List, [], ◌∷◌, ◌++◌, map, length, refl, ap, sym, ◌∙◌, subst, Option, Some, None, arith, true, false}
+use Rattle.std.proofs.Common.{◌≡◌, ◌≢◌, ℕ, ◌<◌, ◌≤◌, List, [], ◌∷◌, ◌++◌, map, length, refl, ap, sym, ◌∙◌, subst, Option, Some, None, arith, true, false, ◌⊎◌, inl, inr}
 use Rattle.nano_value.specs.Meaning.{Meaning, usize_bound}
 use Rattle.nano_value.specs.Legal.{IsImage}
 use Rattle.nano_text.specs.Tokens.{At, Leaves, Fits, Spans}
-use Rattle.nano_text.specs.Lists.{StartsOtherwise, SpellsBetween}
+use Rattle.nano_text.specs.Lists.{StartsOtherwise, SpelledList}
 use Rattle.nano_json.specs.Token.{Token, null, block_close, comma, end}
 use Rattle.nano_json.specs.Cut.{Cut}
 use Rattle.nano_json.specs.Marks.{is_null, is_block_close}
-use Rattle.nano_json.specs.Spelling.{MayBegin, BeginsValue, NothingFits}
-use Rattle.nano_json.specs.Spellings.{SpellsOption, SpellsList, blocks}
+use Rattle.nano_json.specs.Spelling.{MayBegin, BeginsValue, NothingFits, IsSpelling}
+use Rattle.nano_json.specs.Spellings.{SpellsOption, SpellsList, SpellsCount, blocks}
+use Rattle.nano_json.specs.SpellingLaws.{between_one, between_apart}
+use Rattle.nano_text.proofs.Tokens.{same_end}
+use Rattle.nano_json.proofs.Cuts.{cut_one_way}
 use Rattle.nano_json.proofs.Shorter.{left, cut_shorter, left_more, left_token, leaves_shorter}
 
 -- ---- values that mean what their parts are mapped to
@@ -82,8 +85,27 @@ pub map_push : {A B : Type 0} (f : A → B) (xs : List A) (x : A) → map f (xs 
 map_push f [] x = refl
 map_push f (y ∷ ys) x = ap (λ zs. f y ∷ zs) (map_push f ys x)
 
-pub list_spans : {A : Type 0} (S : List Token → A → Type 0) (start behind : At Token) (xs : List A) → length xs < usize_bound → Spans Cut (SpellsBetween blocks S) start behind xs → Spans Cut (SpellsList S) start behind xs
+pub list_spans : {A : Type 0} (S : List Token → A → Type 0) (start behind : At Token) (xs : List A) → length xs < usize_bound → Spans Cut (SpelledList blocks S) start behind xs → Spans Cut (SpellsList S) start behind xs
 list_spans S start behind xs count s = (s.0, record { count = count; items = s.1 }, s.2)
 
-pub list_refused : {A : Type 0} (S : List Token → A → Type 0) (start : At Token) → NothingFits (SpellsBetween blocks S) start → NothingFits (SpellsList S) start
+pub list_refused : {A : Type 0} (S : List Token → A → Type 0) (start : At Token) → NothingFits (SpelledList blocks S) start → NothingFits (SpellsList S) start
 list_refused S start none xs h = none xs (h.0, h.1, h.2.items, h.3)
+
+pub either_way : {A B : Type 0} → A ⊎ B → B ⊎ A
+either_way (inl a) = inr a
+either_way (inr b) = inl b
+
+-- ---- arrays
+
+pub count_spans : {A : Type 0} (S : List Token → A → Type 0) (count : ℕ) (start behind : At Token) (xs : List A) → length xs ≡ count → Spans Cut (SpelledList blocks S) start behind xs → Spans Cut (SpellsCount count S) start behind xs
+count_spans S count start behind xs long s = (s.0, record { count_is = long; items = s.1 }, s.2)
+
+pub count_refused : {A : Type 0} (S : List Token → A → Type 0) (count : ℕ) (start : At Token) → NothingFits (SpelledList blocks S) start → NothingFits (SpellsCount count S) start
+count_refused S count start none xs h = none xs (h.0, h.1, h.2.items, h.3)
+
+-- where a list of another count stands, none of this count does
+pub other_count_refused : {A : Type 0} {P : A → Type 0} {S : List Token → A → Type 0} (s : IsSpelling P S) (count : ℕ) (start behind : At Token) (xs : List A) → Spans Cut (SpelledList blocks S) start behind xs → length xs ≢ count → NothingFits (SpellsCount count S) start
+other_count_refused {S = S} s count start behind xs r other ys h =
+    let same = same_end Cut cut_one_way (SpelledList blocks S) (between_apart s) h.0 r.0 ys xs start h.1 behind h.2.items r.1 h.3 r.2 in
+    let items = between_one s r.0 ys xs (subst (λ (ts : List Token). SpelledList blocks S ts ys) same.0 h.2.items) r.1 in
+    other (ap length (sym items) ∙ h.2.count_is)

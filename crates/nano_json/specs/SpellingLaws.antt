@@ -6,14 +6,24 @@ use Rattle.std.proofs.Common.{sym, ◌∙◌, subst, ap, inl, inr}
 use Rattle.nano_value.specs.Meaning.{Meaning, number, truth, whole, text, nothing, optional, listed}
 use Rattle.nano_value.specs.Legal.{IsImage, IsText, AllOfOption, AllOfList, AllOfCount, LegalUnit}
 use Rattle.nano_text.specs.Tokens.{NoneBeginsAnother}
-use Rattle.nano_text.specs.Lists.{StartsOtherwise, SpellsItems, SpellsBetween, OneValue}
-use Rattle.nano_text.specs.ListLaws.{same_heads, same_tails, starts_append, between_one_value, between_none_begins}
-use Rattle.nano_json.specs.Token.{Token, str, u64, i64, f64, bool, null, block_open, block_close, integer_of}
+use Rattle.nano_text.specs.Lists.{StartsOtherwise, SpelledItems, SpelledList, OneValue, NeverStartsWith}
+use Rattle.nano_text.specs.ListLaws.{list_one_value, list_none_begins}
+use Rattle.nano_json.specs.Token.{Token, str, u64, i64, f64, bool, null, block_open, block_close, comma, integer_of}
 use Rattle.nano_json.specs.Skipped.{IsScalar}
 use Rattle.nano_json.specs.Spelling.{MayBegin, BeginsValue, IsSpelling, Spelling}
 use Rattle.nano_json.specs.Spellings.{SpellsUnsigned, SpellsSigned, SpellsTruth, SpellsText, SpellsUnit, SpellsOption, SpellsList, SpellsCount, blocks}
 
 -- ---- one token
+
+same_heads : (t u : Token) (ts us : List Token) → t ∷ ts ≡ u ∷ us → t ≡ u
+same_heads t u ts us e = cc e
+
+same_tails : (t u : Token) (ts us : List Token) → t ∷ ts ≡ u ∷ us → ts ≡ us
+same_tails t u ts us e = cc e
+
+starts_append : (t : Token) (ts more : List Token) → StartsOtherwise t ts → StartsOtherwise t (ts ++ more)
+starts_append t [] more h = absurd h
+starts_append t (u ∷ us) more h = h
 
 scalar_begins : (t : Token) → IsScalar t → MayBegin t
 scalar_begins (str bytes) h = tt
@@ -64,35 +74,38 @@ integer_is_scalar _ z e = cc e
 
 pub unsigned_spelling : (bits : ℕ) → IsSpelling (λ n. n < 2 ^ bits) (SpellsUnsigned bits)
 unsigned_spelling bits = token_spelling
-  (λ ts n h. h.in_range)
-  (λ ts m n h k. u64_injective m n (same_token ts (u64 m) (u64 n) h.one k.one))
-  (λ ts n h. record { token = u64 n; is = h.one; scalar = tt })
+    (λ ts n h. h.in_range)
+    (λ ts m n h k. u64_injective m n (same_token ts (u64 m) (u64 n) h.one k.one))
+    (λ ts n h. record { token = u64 n; is = h.one; scalar = tt })
 
 pub signed_spelling : (w : Width) → IsSpelling (FitsSigned w) (SpellsSigned w)
 signed_spelling w = token_spelling
-  (λ ts z h. h.in_range)
-  (λ ts y z h k. some_injective y z (sym h.integer ∙ (ap integer_of (same_token ts h.token k.token h.one k.one) ∙ k.integer)))
-  (λ ts z h. record { token = h.token; is = h.one; scalar = integer_is_scalar h.token z h.integer })
+    (λ ts z h. h.in_range)
+    (λ ts y z h k. some_injective y z (sym h.integer ∙ (ap integer_of (same_token ts h.token k.token h.one k.one) ∙ k.integer)))
+    (λ ts z h. record { token = h.token; is = h.one; scalar = integer_is_scalar h.token z h.integer })
 
 pub truth_spelling : IsSpelling (λ _. Unit {0}) SpellsTruth
 truth_spelling = token_spelling
-  (λ ts b h. tt)
-  (λ ts b c h k. bool_injective b c (same_token ts (bool b) (bool c) h k))
-  (λ ts b h. record { token = bool b; is = h; scalar = tt })
+    (λ ts b h. tt)
+    (λ ts b c h k. bool_injective b c (same_token ts (bool b) (bool c) h k))
+    (λ ts b h. record { token = bool b; is = h; scalar = tt })
 
 pub text_spelling : IsSpelling IsText SpellsText
 text_spelling = token_spelling
-  (λ ts bytes h. h.is_text)
-  (λ ts xs ys h k. str_injective xs ys (same_token ts (str xs) (str ys) h.one k.one))
-  (λ ts bytes h. record { token = str bytes; is = h.one; scalar = tt })
+    (λ ts bytes h. h.is_text)
+    (λ ts xs ys h k. str_injective xs ys (same_token ts (str xs) (str ys) h.one k.one))
+    (λ ts bytes h. record { token = str bytes; is = h.one; scalar = tt })
 
 pub unit_spelling : IsSpelling LegalUnit SpellsUnit
 unit_spelling = token_spelling
-  (λ ts m h. h.is)
-  (λ ts m n h k. h.is ∙ sym k.is)
-  (λ ts m h. record { token = null; is = h.one; scalar = tt })
+    (λ ts m h. h.is)
+    (λ ts m n h k. h.is ∙ sym k.is)
+    (λ ts m h. record { token = null; is = h.one; scalar = tt })
 
 -- ---- options and lists
+
+pub closing_is_apart : block_close ≢ comma
+closing_is_apart e = cc e
 
 module _ {A : Type 0} {P : A → Type 0} {S : List Token → A → Type 0} (s : IsSpelling P S) where
   option_is_legal : (ts : List Token) (x : Option A) → SpellsOption S ts x → AllOfOption P x
@@ -123,21 +136,24 @@ module _ {A : Type 0} {P : A → Type 0} {S : List Token → A → Type 0} (s : 
   other_than_closing (t ∷ ts) h = λ e. subst MayBegin e h
 
   -- no item begins with a closing bracket
-  pub no_item_closes : (ts : List Token) (x : A) → S ts x → StartsOtherwise block_close ts
+  pub no_item_closes : NeverStartsWith block_close S
   no_item_closes ts x h = other_than_closing ts (s.begins ts x h)
 
-  items_are_legal : (xs : List A) (ts : List Token) → SpellsItems blocks S ts xs → AllByRecursion P xs
+  items_are_legal : (xs : List A) (ts : List Token) → SpelledItems blocks S ts xs → AllByRecursion P xs
   items_are_legal [] ts h = tt
-  items_are_legal (x ∷ xs) ts h = (s.is_legal h.0 x h.3, elim h.4 [
-    | inl r ↦ subst (AllByRecursion P) (sym r.1) tt
-    | inr r ↦ items_are_legal xs r.0 r.2
-  ])
+  items_are_legal (x ∷ xs) ts h = (
+    s.is_legal h.0 x h.3,
+    elim h.4 [
+      | inl r ↦ subst (AllByRecursion P) (sym r.1) tt
+      | inr r ↦ items_are_legal xs r.0 r.2
+    ],
+  )
 
-  between_one : OneValue (SpellsBetween blocks S)
-  between_one = between_one_value blocks S s.one_value s.none_begins no_item_closes
+  pub between_one : OneValue (SpelledList blocks S)
+  between_one = list_one_value blocks closing_is_apart S s.one_value s.none_begins no_item_closes
 
-  between_apart : NoneBeginsAnother (SpellsBetween blocks S)
-  between_apart = between_none_begins blocks S s.one_value s.none_begins no_item_closes
+  pub between_apart : NoneBeginsAnother (SpelledList blocks S)
+  between_apart = list_none_begins blocks closing_is_apart S s.one_value s.none_begins no_item_closes
 
   pub list_spelling : IsSpelling (AllOfList P) (SpellsList S)
   list_spelling = record {

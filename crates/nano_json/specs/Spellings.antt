@@ -3,7 +3,7 @@ use Rattle.std.specs.Prelude.{◌≡◌, ℕ, ◌<◌, ◌^◌, ℤ, FitsSigned,
 use Rattle.std.specs.Int.{Width}
 use Rattle.nano_value.specs.Meaning.{Meaning, nothing, usize_bound}
 use Rattle.nano_value.specs.Legal.{IsText}
-use Rattle.nano_text.specs.Lists.{Marks, StartsOtherwise, SpellsBetween}
+use Rattle.nano_text.specs.Lists.{ListMarks, StartsOtherwise, SpelledList}
 use Rattle.nano_json.specs.Token.{Token, str, u64, bool, null, comma, block_open, block_close, integer_of}
 
 -- a whole number without a minus sign, of so many bits
@@ -37,19 +37,16 @@ abbrev pub SpellsOption : {A : Type 0} → (List Token → A → Type 0) → Lis
 SpellsOption S ts None = ts ≡ null ∷ []
 SpellsOption S ts (Some x) = S ts x × StartsOtherwise null ts
 
-pub comma_is_apart : comma ≡ block_close → ⊥
-comma_is_apart e = cc e
-
 -- square brackets
-abbrev pub blocks : Marks Token
-blocks = record { opening = block_open; closing = block_close; comma = comma; apart = comma_is_apart }
+abbrev pub blocks : ListMarks Token
+blocks = record { opening = block_open; closing = block_close; comma = comma }
 
 -- any number of items that a `usize` counts
 pub record SpellsList {A : Type 0} (S : List Token → A → Type 0) (ts : List Token) (xs : List A) : Type 0 where
   pub count : length xs < usize_bound
-  pub items : SpellsBetween blocks S ts xs
+  pub items : SpelledList blocks S ts xs
 
 -- so many items
 pub record SpellsCount {A : Type 0} (count : ℕ) (S : List Token → A → Type 0) (ts : List Token) (xs : List A) : Type 0 where
   pub count_is : length xs ≡ count
-  pub items : SpellsBetween blocks S ts xs
+  pub items : SpelledList blocks S ts xs

@@ -1,6 +1,7 @@
 // Errors of a reader, and the calls of a state that make them.
 ghost use Rattle.std.specs.Prelude.{◌≡◌, ◌++◌, [], true, false, IfOk, IsOk, string_bytes, codes};
-ghost use Rattle.nano_json.specs.Messages.{IsSameError};
+ghost use Rattle.std.specs.Fmt.{signed_decimal};
+ghost use Rattle.nano_json.specs.Messages.{IsSameError, out_of_range};
 
 use crate::state::DeJsonState;
 use std::alloc::{AllocError, Global};
@@ -151,6 +152,36 @@ impl DeJsonState {
         ensures col { result.col ≡ self.now.col }
     {
         self.err(alloc, format!(in alloc; "Cannot parse {what} "))
+    }
+
+    /// A value below the least that is allowed: `Value out of range {value}<{min} `.
+    #[cold]
+    #[inline(never)]
+    pub(crate) fn err_below(&self, alloc: Global, value: i128, min: i128) -> DeJsonErr
+        ensures msg { result.memory ≡ false → string_bytes result.msg ≡ out_of_range (signed_decimal value) (codes "<") (signed_decimal min) }
+        ensures memory { result.memory ≡ true → string_bytes result.msg ≡ [] }
+        ensures line { result.line ≡ self.now.line }
+        ensures col { result.col ≡ self.now.col }
+    {
+        self.err(
+            alloc,
+            format!(in alloc; "Value out of range {value}<{min} "),
+        )
+    }
+
+    /// A value above the greatest that is allowed: `Value out of range {value}>{max} `.
+    #[cold]
+    #[inline(never)]
+    pub(crate) fn err_above(&self, alloc: Global, value: i128, max: i128) -> DeJsonErr
+        ensures msg { result.memory ≡ false → string_bytes result.msg ≡ out_of_range (signed_decimal value) (codes ">") (signed_decimal max) }
+        ensures memory { result.memory ≡ true → string_bytes result.msg ≡ [] }
+        ensures line { result.line ≡ self.now.line }
+        ensures col { result.col ≡ self.now.col }
+    {
+        self.err(
+            alloc,
+            format!(in alloc; "Value out of range {value}>{max} "),
+        )
     }
 
     /// An error for want of memory.

@@ -304,7 +304,7 @@ impl DeJsonState {
         match self.tok {
             DeJsonTok::U64(value) => {
                 if value > max {
-                    return Err(self.err_u64_above(alloc, value, max));
+                    return Err(self.err_above(alloc, i128::from(value), i128::from(max)));
                 }
                 Ok(value)
             }
@@ -326,16 +326,17 @@ impl DeJsonState {
         ensures place { IfErr result (λ e. (e.line ≡ self.now.line) × (e.col ≡ self.now.col)) }
         ensures memory { IfErr result (λ e. e.memory ≡ true → string_bytes e.msg ≡ []) }
     {
-        match self.tok {
-            DeJsonTok::I64(value) => self.within(alloc, value, min, max),
-            DeJsonTok::U64(value) => {
-                if value <= I64_MAX {
-                    return self.within(alloc, value as i64, min, max);
-                }
-                Err(self.err_u64_above_i64(alloc, value, max))
-            }
-            _ => Err(self.err_token(alloc, "signed integer")),
+        let Some(value) = self.integer() else {
+            return Err(self.err_token(alloc, "signed integer"));
+        };
+        let (least, greatest) = (i128::from(min), i128::from(max));
+        if value < least {
+            return Err(self.err_below(alloc, value, least));
         }
+        if value > greatest {
+            return Err(self.err_above(alloc, value, greatest));
+        }
+        Ok(value as i64)
     }
 
     /// The pending truth value.
@@ -367,85 +368,18 @@ impl DeJsonState {
         }
     }
 
-    /// The value, if it is from `min` to `max`.
-    fn within(&self, alloc: Global, value: i64, min: i64, max: i64) -> Result<i64, DeJsonErr>
-        ensures ok { IfOk result (λ v. (v ≡ value) × (min ≤ℤ value) × (value ≤ℤ max)) }
-        ensures succeeds { min ≤ℤ value → value ≤ℤ max → IsOk result }
-        ensures below { IfErr result (λ e. e.memory ≡ false → value <ℤ min
-            → string_bytes e.msg ≡ out_of_range (signed_decimal value) (codes "<") (signed_decimal min)) }
-        ensures above { IfErr result (λ e. e.memory ≡ false → min ≤ℤ value
-            → string_bytes e.msg ≡ out_of_range (signed_decimal value) (codes ">") (signed_decimal max)) }
-        ensures place { IfErr result (λ e. (e.line ≡ self.now.line) × (e.col ≡ self.now.col)) }
-        ensures memory { IfErr result (λ e. e.memory ≡ true → string_bytes e.msg ≡ []) }
+    /// The pending whole number.
+    #[inline]
+    fn integer(&self) -> Option<i128>
+        ensures { result ≡ integer_of (pending self.now) }
     {
-        if value < min {
-            return Err(self.err_below(alloc, value, min));
+        match self.tok {
+            DeJsonTok::U64(value) => Some(i128::from(value)),
+            DeJsonTok::I64(value) => Some(i128::from(value)),
+            _ => None,
         }
-        if value > max {
-            return Err(self.err_above(alloc, value, max));
-        }
-        Ok(value)
-    }
-
-    #[cold]
-    #[inline(never)]
-    fn err_below(&self, alloc: Global, value: i64, min: i64) -> DeJsonErr
-        ensures msg { result.memory ≡ false → string_bytes result.msg ≡ out_of_range (signed_decimal value) (codes "<") (signed_decimal min) }
-        ensures memory { result.memory ≡ true → string_bytes result.msg ≡ [] }
-        ensures line { result.line ≡ self.now.line }
-        ensures col { result.col ≡ self.now.col }
-    {
-        self.err(
-            alloc,
-            format!(in alloc; "Value out of range {value}<{min} "),
-        )
-    }
-
-    #[cold]
-    #[inline(never)]
-    fn err_above(&self, alloc: Global, value: i64, max: i64) -> DeJsonErr
-        ensures msg { result.memory ≡ false → string_bytes result.msg ≡ out_of_range (signed_decimal value) (codes ">") (signed_decimal max) }
-        ensures memory { result.memory ≡ true → string_bytes result.msg ≡ [] }
-        ensures line { result.line ≡ self.now.line }
-        ensures col { result.col ≡ self.now.col }
-    {
-        self.err(
-            alloc,
-            format!(in alloc; "Value out of range {value}>{max} "),
-        )
-    }
-
-    #[cold]
-    #[inline(never)]
-    fn err_u64_above(&self, alloc: Global, value: u64, max: u64) -> DeJsonErr
-        ensures msg { result.memory ≡ false → string_bytes result.msg ≡ out_of_range (decimal value) (codes ">") (decimal max) }
-        ensures memory { result.memory ≡ true → string_bytes result.msg ≡ [] }
-        ensures line { result.line ≡ self.now.line }
-        ensures col { result.col ≡ self.now.col }
-    {
-        self.err(
-            alloc,
-            format!(in alloc; "Value out of range {value}>{max} "),
-        )
-    }
-
-    #[cold]
-    #[inline(never)]
-    fn err_u64_above_i64(&self, alloc: Global, value: u64, max: i64) -> DeJsonErr
-        ensures msg { result.memory ≡ false → string_bytes result.msg ≡ out_of_range (decimal value) (codes ">") (signed_decimal max) }
-        ensures memory { result.memory ≡ true → string_bytes result.msg ≡ [] }
-        ensures line { result.line ≡ self.now.line }
-        ensures col { result.col ≡ self.now.col }
-    {
-        self.err(
-            alloc,
-            format!(in alloc; "Value out of range {value}>{max} "),
-        )
     }
 }
-
-/// The greatest `i64`, among the numbers without a sign.
-const I64_MAX: u64 = i64::MAX as u64;
 
 /// How many bytes the characters still hold.
 #[inline]

@@ -2,10 +2,12 @@
 //! helpers and errors, and a writer's state.
 #![tactic(auto)]
 
+mod arrays;
 mod boxes;
 mod error;
 mod helpers;
 pub mod laws;
+mod linked_lists;
 mod lists;
 mod marks;
 mod numbers;
@@ -15,6 +17,8 @@ mod tests;
 mod texts;
 mod token;
 mod traits;
+#[cfg(test)]
+mod type_tests;
 mod words;
 mod write_state;
 

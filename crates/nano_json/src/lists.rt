@@ -1,7 +1,7 @@
 // Vectors: items between square brackets.
 ghost use Rattle.std.specs.Prelude.{◌≡◌, [], true, false, map, IfOk, IfErr, string_bytes};
 ghost use Rattle.nano_value.specs.Legal.{list_weaker};
-ghost use Rattle.nano_text.specs.Lists.{SpellsBetween};
+ghost use Rattle.nano_text.specs.Lists.{SpelledList};
 ghost use Rattle.nano_text.specs.Tokens.{Spans};
 ghost use Rattle.nano_json.specs.Cut.{Cut};
 ghost use Rattle.nano_json.specs.State.{at};
@@ -16,13 +16,13 @@ use std::alloc::Global;
 use std::str::Chars;
 
 /// Reads items between square brackets. Where it is refused, the state stands anywhere.
-fn read_items<T: DeJson>(
+pub(crate) fn read_items<T: DeJson>(
     alloc: Global,
     state: &mut DeJsonState,
     input: &mut Chars<'_>,
 ) -> Result<Vec<T>, DeJsonErr>
-    ensures fits { IfOk result (λ items. Spans Cut (SpellsBetween blocks T.spelling.spelled) (at state.old input.old) (at state.new input.new) (map T.means items.items)) }
-    ensures refused { IfErr result (λ e. e.memory ≡ false → NothingFits (SpellsBetween blocks T.spelling.spelled) (at state.old input.old)) }
+    ensures fits { IfOk result (λ items. Spans Cut (SpelledList blocks T.spelling.spelled) (at state.old input.old) (at state.new input.new) (map T.means items.items)) }
+    ensures refused { IfErr result (λ e. e.memory ≡ false → NothingFits (SpelledList blocks T.spelling.spelled) (at state.old input.old)) }
     ensures memory { IfErr result (λ e. e.memory ≡ true → string_bytes e.msg ≡ []) }
 {
     let mut items = Vec::new(alloc);

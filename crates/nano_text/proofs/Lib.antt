@@ -1,13 +1,14 @@
+pub mod ListReading
 pub mod LiveText
 pub mod Digits
 pub mod Escapes
 pub mod Fronts
 pub mod Stops
 pub mod Tokens
+pub mod TokensLeft
 pub mod Utf8Fronts
 pub mod TakenFront
 pub mod RunBytes
 pub mod Runs
 pub mod Numbers
 pub mod Strings
-pub mod ListReading

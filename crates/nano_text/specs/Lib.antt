@@ -1,9 +1,9 @@
 pub mod Front
 pub mod Laws
+pub mod ListLaws
+pub mod Lists
 pub mod Number
 pub mod Place
 pub mod Scan
 pub mod String
 pub mod Tokens
-pub mod Lists
-pub mod ListLaws

@@ -12,18 +12,23 @@ use crate::place::Place;
 use std::alloc::AllocError;
 use std::str::Chars;
 
-/// What a number run is. The text of a decimal stands elsewhere.
+/// Which number a lexeme is.
 #[derive(Clone, Copy, Debug, PartialEq)]
 pub enum Number {
+    /// An integer without a minus.
     U64(u64),
+    /// An integer with a minus, which 0 may have too.
     I64(i64),
+    /// A number with a point or an exponent. Its text stands in the buffer that was passed.
     Dec,
 }
 
 /// Why no lexeme was read.
 #[derive(Clone, Copy, Debug, PartialEq)]
 pub enum Fault {
+    /// None begins there.
     Malformed,
+    /// A buffer could not grow for its text.
     Memory,
 }
 
@@ -101,7 +106,11 @@ fn with_digit(value: Option<u64>, digit: u64) -> Option<u64>
     ensures { (all : ℕ) → SomeIff value (all < 2 ^ 64) all → SomeIff result (all * 10 + digit < 2 ^ 64) (all * 10 + digit) }
 {
     let value = value?;
-    if value < u64::MAX / 10 || value == u64::MAX / 10 && digit <= u64::MAX % 10 {
+    // Nearly every digit passes this one test.
+    if value < u64::MAX / 10 {
+        return Some(value * 10 + digit);
+    }
+    if value == u64::MAX / 10 && digit <= u64::MAX % 10 {
         Some(value * 10 + digit)
     } else {
         None
@@ -129,7 +138,9 @@ fn digits_behind(first: u64, bytes: &[u8]) -> Digits
 /// Takes the longest front of digits.
 ///
 /// The first is the current character, which may never have been in `i`. The others are taken at
-/// once, and the number that they write is built as they are taken.
+/// once, and the number that they write is built as they are taken. Inlined, so that what it
+/// answers stays in registers.
+#[inline(always)]
 fn take_digits(p: &mut Place, i: &mut Chars<'_>) -> Digits
     ensures len { result.len ≡ length (front is_ascii_digit (text_at p.old i.old)) }
     ensures value { let all = digits_value 10 (front is_ascii_digit (text_at p.old i.old)) in SomeIff result.value (all < 2 ^ 64) all }

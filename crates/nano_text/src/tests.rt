@@ -390,3 +390,31 @@ fn clones(rt: HostRuntime) -> Result<(), Fail> {
     assert_eq!(rt; before().clone()?, before());
     Ok(())
 }
+
+/// Where a growth is refused, the answer is want of memory and no other; an integer asks for none.
+#[test]
+fn want_of_memory(rt: HostRuntime) -> Result<(), Fail> {
+    let mut text = String::new(rt.alloc());
+    let mut i = "2 ".chars();
+    assert_eq!(rt;
+        read_number(&mut at('4'), &mut i, &mut text),
+        Ok(Number::U64(42))
+    );
+
+    let mut i = "1.25e-10]".chars();
+    match read_number(&mut at('-'), &mut i, &mut text) {
+        Ok(number) => {
+            assert_eq!(rt; number, Number::Dec);
+            assert_eq!(rt; text.as_str(), "-1.25e-10");
+        }
+        Err(fault) => assert_eq!(rt; fault, Fault::Memory),
+    }
+
+    let mut text = String::new(rt.alloc());
+    let mut i = "a longer text\\n\\u00e9 than one growth holds\"".chars();
+    match read_string(&mut at('"'), &mut i, &mut text) {
+        Ok(()) => assert_eq!(rt; text.as_str(), "a longer text\né than one growth holds"),
+        Err(fault) => assert_eq!(rt; fault, Fault::Memory),
+    }
+    Ok(())
+}
