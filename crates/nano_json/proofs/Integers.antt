@@ -8,7 +8,6 @@ use Rattle.nano_text.specs.Tokens.{At, Leaves, Spans}
 use Rattle.nano_json.specs.Token.{Token, u64, integer_of}
 use Rattle.nano_json.specs.Cut.{Cut}
 use Rattle.nano_json.specs.Spelling.{NothingFits}
-use Rattle.nano_json.specs.Spellings.{SpellsUnsigned, SpellsSigned}
 use Rattle.nano_json.specs.SpellingLaws.{unsigned, signed}
 use Rattle.nano_json.proofs.Reading.{image_spans, image_refused}
 

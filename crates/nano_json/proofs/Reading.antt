@@ -1,10 +1,10 @@
 -- What a reader of one value knows of the tokens that it takes.
-use Rattle.std.proofs.Common.{◌≡◌, ◌≢◌, ℕ, ◌<◌, ◌≤◌, List, [], ◌∷◌, ◌++◌, map, length, refl, ap, sym, ◌∙◌, subst, Option, Some, None, arith, true, false, ◌⊎◌, inl, inr}
+use Rattle.std.proofs.Common.{◌≡◌, ◌≢◌, ℕ, ◌<◌, List, [], ◌∷◌, ◌++◌, map, length, refl, ap, sym, ◌∙◌, subst, Some, None, arith, true, false, ◌⊎◌, inl, inr}
 use Rattle.nano_value.specs.Meaning.{Meaning, usize_bound}
 use Rattle.nano_value.specs.Legal.{IsImage}
-use Rattle.nano_text.specs.Tokens.{At, Leaves, Fits, Spans}
+use Rattle.nano_text.specs.Tokens.{At, Leaves, Spans}
 use Rattle.nano_text.specs.Lists.{StartsOtherwise, SpelledList}
-use Rattle.nano_json.specs.Token.{Token, null, block_close, comma, end}
+use Rattle.nano_json.specs.Token.{Token, null, block_close, end}
 use Rattle.nano_json.specs.Cut.{Cut}
 use Rattle.nano_json.specs.Marks.{is_null, is_block_close}
 use Rattle.nano_json.specs.Spelling.{MayBegin, BeginsValue, NothingFits, IsSpelling}
@@ -12,7 +12,7 @@ use Rattle.nano_json.specs.Spellings.{SpellsOption, SpellsList, SpellsCount, blo
 use Rattle.nano_json.specs.SpellingLaws.{between_one, between_apart}
 use Rattle.nano_text.proofs.Tokens.{same_end}
 use Rattle.nano_json.proofs.Cuts.{cut_one_way}
-use Rattle.nano_json.proofs.Shorter.{left, cut_shorter, left_more, left_token, leaves_shorter}
+use Rattle.nano_json.proofs.Shorter.{left, cut_shorter, left_token, leaves_shorter}
 
 -- ---- values that mean what their parts are mapped to
 

@@ -1,5 +1,5 @@
 -- Which tokens spell the values of a type, with the laws of that.
-use Rattle.std.specs.Prelude.{◌≡◌, ℕ, List, [], ◌∷◌}
+use Rattle.std.specs.Prelude.{ℕ, List, [], ◌∷◌}
 use Rattle.nano_value.specs.Meaning.{Meaning}
 use Rattle.nano_text.specs.Tokens.{At, Fits, FitsText, NoneBeginsAnother}
 use Rattle.nano_text.specs.Lists.{OneValue}

@@ -3,12 +3,12 @@ use Rattle.std.specs.Prelude.{◌≡◌, ◌≢◌, ℕ, ◌<◌, ◌^◌, ℤ, 
 use Rattle.std.specs.Int.{Width}
 use Rattle.std.specs.List.{AllByRecursion}
 use Rattle.std.proofs.Common.{sym, ◌∙◌, subst, ap, inl, inr}
-use Rattle.nano_value.specs.Meaning.{Meaning, number, truth, whole, text, nothing, optional, listed}
+use Rattle.nano_value.specs.Meaning.{Meaning, number, truth, whole, text, optional, listed}
 use Rattle.nano_value.specs.Legal.{IsImage, IsText, AllOfOption, AllOfList, AllOfCount, LegalUnit}
 use Rattle.nano_text.specs.Tokens.{NoneBeginsAnother}
 use Rattle.nano_text.specs.Lists.{StartsOtherwise, SpelledItems, SpelledList, OneValue, NeverStartsWith}
 use Rattle.nano_text.specs.ListLaws.{list_one_value, list_none_begins}
-use Rattle.nano_json.specs.Token.{Token, str, u64, i64, f64, bool, null, block_open, block_close, comma, integer_of}
+use Rattle.nano_json.specs.Token.{Token, str, u64, i64, f64, bool, null, block_close, comma, integer_of}
 use Rattle.nano_json.specs.Skipped.{IsScalar}
 use Rattle.nano_json.specs.Spelling.{MayBegin, BeginsValue, IsSpelling, Spelling}
 use Rattle.nano_json.specs.Spellings.{SpellsUnsigned, SpellsSigned, SpellsTruth, SpellsText, SpellsUnit, SpellsOption, SpellsList, SpellsCount, blocks}

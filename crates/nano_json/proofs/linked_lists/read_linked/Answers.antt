@@ -1,11 +1,11 @@
-use Rattle.std.proofs.Common.{◌≡◌, ◌≢◌, ◌⊎◌, inl, inr, sym, ◌∙◌, ap, refl, subst, arith, ◌<◌, List, ◌∷◌, [], ◌++◌, map}
+use Rattle.std.proofs.Common.{◌≡◌, inl, inr, sym, ap, subst, arith, List, ◌∷◌, [], ◌++◌, map}
 use Rattle.std.proofs.lemmas.Grind.{common_steps}
 use Rattle.std.proofs.lemmas.Result.{err_from_is_err_and}
 use Rattle.nano_value.specs.Meaning.{Meaning}
 use Rattle.nano_text.proofs.ListReading.{SoFar, start_so_far, start_left, item_left, next_so_far, next_left, open_refused, item_refused, comma_refused, close_refused, close_found}
 use Rattle.nano_json.specs.Cut.{Cut}
 use Rattle.nano_json.specs.State.{at, pending}
-use Rattle.nano_json.specs.Token.{block_close, comma}
+use Rattle.nano_json.specs.Token.{comma}
 use Rattle.nano_json.specs.Spellings.{blocks}
 use Rattle.nano_json.specs.SpellingLaws.{no_item_closes, closing_is_apart}
 use Rattle.nano_json.proofs.Cuts.{cut_one_way}

@@ -1,6 +1,6 @@
-use Rattle.std.proofs.Common.{◌≡◌, ◌≢◌, map, sym, ◌∙◌, ap, subst, length, List, arith}
+use Rattle.std.proofs.Common.{◌≡◌, ◌≢◌, map, sym, ◌∙◌, subst, length, List, arith}
 use Rattle.std.proofs.lemmas.Grind.{common_steps}
-use Rattle.nano_value.specs.Meaning.{Meaning, listed}
+use Rattle.nano_value.specs.Meaning.{listed}
 use Rattle.nano_value.specs.Legal.{length-map}
 use Rattle.nano_text.specs.Tokens.{Spans}
 use Rattle.nano_json.specs.Cut.{Cut}

@@ -1,4 +1,4 @@
-use Rattle.std.proofs.Common.{refl, sym, ◌∙◌, ap, subst, rules, arith, ℕ, ◌<◌, [], ◌∷◌, length, string_bytes}
+use Rattle.std.proofs.Common.{refl, sym, subst, rules, ◌<◌, [], ◌∷◌, length, string_bytes}
 use Rattle.std.proofs.lemmas.Str.{IsUtf8-string_bytes}
 use Rattle.nano_value.specs.Meaning.{text, usize_bound}
 use Rattle.nano_text.specs.Place.{live}

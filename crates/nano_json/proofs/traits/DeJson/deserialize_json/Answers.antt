@@ -1,4 +1,4 @@
-use Rattle.std.proofs.Common.{◌≡◌, sym, ◌∙◌, ap, subst, List, ℕ, chars}
+use Rattle.std.proofs.Common.{sym, ◌∙◌, ap, subst, List, ℕ, chars}
 use Rattle.std.proofs.lemmas.Result.{IfErr-weaker, IfOk-weaker}
 use Rattle.nano_text.specs.Tokens.{At, Fits}
 use Rattle.nano_text.specs.Place.{before_nul, live_text}
