@@ -54,10 +54,15 @@ lexeme_shorter t text rest (number s h) = run_shorter t text rest h
 lexeme_shorter t text rest (quoted h) = quoted_shorter t text rest h
 lexeme_shorter t text rest (nothing h) = end_shorter t text rest h
 
+-- a cut takes a character for each token but the end
+pub cut_takes : (text : List ℕ) (t : Token) (rest : List ℕ) → Cut text t rest → length rest + cond (is_end t) 0 1 ≤ length text
+cut_takes text t rest h =
+    omega (arith, lexeme_shorter t h.body rest h.lexeme, ap length h.split, length-append h.space h.body)
+
 -- what is left behind a token was left before it, with the token
 pub cut_shorter : (s m : At Token) → Cut s.text m.token m.text → left m ≤ length s.text
 unfolding left
-cut_shorter s m h = omega (arith, lexeme_shorter m.token h.body m.text h.lexeme, ap length h.split, length-append h.space h.body)
+cut_shorter s m h = cut_takes s.text m.token m.text h
 
 pub left_more : (s : At Token) → length s.text ≤ left s
 unfolding left

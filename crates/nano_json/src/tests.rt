@@ -2,6 +2,7 @@
 // that calls succeed.
 use crate::{DeJsonErr, DeJsonState, DeJsonTok, SerJsonState};
 use std::alloc::{AllocError, Global};
+use std::process::Abort;
 use std::str::Chars;
 use std::test::Fail;
 
@@ -617,4 +618,118 @@ fn a_writer_appends(rt: HostRuntime) -> Result<(), Fail> {
     assert_eq!(rt; writer.out.as_str(), "{\"a\":\"b\",}");
     assert_eq!(rt; DeJsonTok::default(), DeJsonTok::Bof);
     Ok(())
+}
+
+/// Whether an error is one for want of memory. Such an error has no message.
+fn wants_memory(rt: &impl Abort, e: &DeJsonErr) -> bool {
+    if e.memory {
+        assert_eq!(rt; e.msg.as_str(), "");
+    }
+    e.memory
+}
+
+// With each allocation refused in turn, a call answers want of memory, or as it does with ample memory.
+#[test]
+fn no_refused_growth_is_told_as_another_fault(rt: HostRuntime) {
+    let alloc = rt.alloc();
+    let taken = [
+        (": \"abc\"", "colon"),
+        ("null : 1.25e2", "next_colon"),
+        ("\"a\" \"bcd\"", "string"),
+        ("[ true", "block_open"),
+        ("] null", "block_close"),
+        ("{ false", "curly_open"),
+        ("} 1.5", "curly_close"),
+        (", \"\\u00e9\"", "eat_comma_block"),
+        (", -1.5", "eat_comma_curly"),
+        ("{\"a\":[1.5,null],\"b\":{}} true", "whole_field"),
+        ("5", "u64_range"),
+        ("-5", "i64_range"),
+        ("true", "as_bool"),
+        ("\"ab\"", "as_string"),
+        ("1 \"abc\"", "next_tok"),
+    ];
+    for (text, name) in taken {
+        let mut input = text.chars();
+        let mut state = state_of(alloc, &mut input);
+        match state.next_tok(alloc, &mut input) {
+            Ok(()) => {
+                if let Err(e) = call(alloc, &mut state, &mut input, name) {
+                    assert!(rt; wants_memory(&rt, &e), "{name} at {text}");
+                    assert_eq!(rt; (state.tok, state.cur), (DeJsonTok::Eof, '\0'));
+                }
+            }
+            Err(e) => assert!(rt; wants_memory(&rt, &e), "{text}"),
+        }
+    }
+    let refused = [
+        (",", "colon", "Unexpected token Comma expected : "),
+        (", 1", "next_colon", "Unexpected token U64(1) expected : "),
+        (",", "string", "Unexpected token Comma expected String "),
+        (",", "block_open", "Unexpected token Comma expected [ "),
+        (",", "block_close", "Unexpected token Comma expected ] "),
+        (",", "curly_open", "Unexpected token Comma expected { "),
+        (",", "curly_close", "Unexpected token Comma expected } "),
+        (
+            "1",
+            "eat_comma_block",
+            "Unexpected token U64(1) expected , or ] ",
+        ),
+        (
+            "1",
+            "eat_comma_curly",
+            "Unexpected token U64(1) expected , or } ",
+        ),
+        (",", "whole_field", "Unexpected token Comma expected field "),
+        ("6", "u64_range", "Value out of range 6>5 "),
+        ("-6", "i64_range", "Value out of range -6<-5 "),
+        ("1", "as_bool", "Unexpected token U64(1) expected boolean "),
+        ("1", "as_string", "Unexpected token U64(1) expected string "),
+        (
+            "1 @",
+            "next_tok",
+            "Unexpected token U64(1) expected tokenizer ",
+        ),
+        (
+            "1 a",
+            "next_tok",
+            "Unexpected token BareIdent expected Got ##a## needed true, false, null ",
+        ),
+        ("1 -", "next_tok", "Cannot parse number "),
+        ("1 \"a", "next_tok", "Cannot parse string "),
+    ];
+    for (text, name, expected) in refused {
+        let mut input = text.chars();
+        let mut state = state_of(alloc, &mut input);
+        match state.next_tok(alloc, &mut input) {
+            Ok(()) => match call(alloc, &mut state, &mut input, name) {
+                Ok(()) => assert!(rt; false, "{name} at {text}"),
+                Err(e) => assert!(rt;
+                    wants_memory(&rt, &e) || e.msg.as_str() == expected,
+                    "{name} at {text}"
+                ),
+            },
+            Err(e) => assert!(rt; wants_memory(&rt, &e), "{text}"),
+        }
+    }
+    let state = DeJsonState::new(alloc);
+    let made = [
+        (state.err_exp(alloc, "k"), "Unexpected key k"),
+        (state.err_nf(alloc, "k"), "Key not found k"),
+        (state.err_enum(alloc, "V"), "Enum not defined V"),
+        (
+            state.err_token(alloc, "x"),
+            "Unexpected token Bof expected x ",
+        ),
+        (state.err_range(alloc, "1>0"), "Value out of range 1>0 "),
+        (state.err_type(alloc, "x"), "Token wrong type x "),
+        (state.err_parse(alloc, "x"), "Cannot parse x "),
+    ];
+    for (e, expected) in made {
+        assert!(rt; wants_memory(&rt, &e) || e.msg.as_str() == expected);
+        if let Ok(again) = e.clone(alloc) {
+            assert_eq!(rt; again.memory, e.memory);
+            assert!(rt; again.msg.as_str() == e.msg.as_str());
+        }
+    }
 }

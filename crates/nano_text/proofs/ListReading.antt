@@ -1,5 +1,5 @@
 -- Reading a list, whatever the tokens are: what is known at the head of the loop, and at its exits.
-use Rattle.std.proofs.Common.{◌≡◌, ◌≢◌, ℕ, ◌+◌, ◌<◌, ◌≤◌, List, [], ◌∷◌, ◌++◌, ◌⊎◌, inl, inr, Bool, true, false, cond, length, refl, ap, sym, ◌∙◌, subst, append_assoc, arith}
+use Rattle.std.proofs.Common.{◌≡◌, ◌≢◌, ℕ, List, [], ◌∷◌, ◌++◌, ◌⊎◌, inl, inr, refl, ap, sym, ◌∙◌, subst, append_assoc}
 use Rattle.nano_text.specs.Tokens.{At, Leaves, Fits, Spans, IsOneWay, NoneBeginsAnother}
 use Rattle.nano_text.specs.Lists.{ListMarks, StartsOtherwise, SpelledItems, SpelledBehind, SpelledList, NeverStartsWith}
 use Rattle.nano_text.proofs.Tokens.{leaves_append, leaves_split, same_at, same_end}

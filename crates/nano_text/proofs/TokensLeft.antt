@@ -1,5 +1,5 @@
 -- How many tokens may be left: the measure of every loop that takes some.
-use Rattle.std.proofs.Common.{◌≡◌, ℕ, ◌+◌, ◌<◌, ◌≤◌, List, [], ◌∷◌, Bool, true, false, cond, length, ap, sym, ◌∙◌, arith}
+use Rattle.std.proofs.Common.{◌≡◌, ℕ, ◌+◌, ◌<◌, ◌≤◌, List, [], ◌∷◌, Bool, false, cond, length, ap, sym, ◌∙◌, arith}
 use Rattle.nano_text.specs.Tokens.{At, Leaves}
 
 -- at most one for each character, and the pending one unless it is the end
