@@ -2,3 +2,5 @@ pub mod LexemeKinds
 pub mod Cuts
 pub mod Shorter
 pub mod BracketCounts
+pub mod Reading
+pub mod Integers

@@ -5,3 +5,7 @@ pub mod Skipped
 pub mod Messages
 pub mod Scan
 pub mod Laws
+pub mod Spelling
+pub mod Spellings
+pub mod SpellingLaws
+pub mod Marks

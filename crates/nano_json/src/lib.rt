@@ -2,16 +2,28 @@
 //! helpers and errors, and a writer's state.
 #![tactic(auto)]
 
+mod arrays;
+mod boxes;
 mod error;
 mod helpers;
 pub mod laws;
+mod linked_lists;
+mod lists;
+mod marks;
+mod numbers;
 mod state;
 #[cfg(test)]
 mod tests;
+mod texts;
 mod token;
+mod traits;
+#[cfg(test)]
+mod type_tests;
+mod words;
 mod write_state;
 
 pub use error::DeJsonErr;
 pub use state::DeJsonState;
 pub use token::DeJsonTok;
+pub use traits::DeJson;
 pub use write_state::SerJsonState;

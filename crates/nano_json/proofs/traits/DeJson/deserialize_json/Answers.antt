@@ -1,0 +1,30 @@
+use Rattle.std.proofs.Common.{sym, ◌∙◌, ap, subst, List, ℕ, chars}
+use Rattle.std.proofs.lemmas.Result.{IfErr-weaker, IfOk-weaker}
+use Rattle.nano_text.specs.Tokens.{At, Fits}
+use Rattle.nano_text.specs.Place.{before_nul, live_text}
+use Rattle.nano_text.proofs.Tokens.{same_at}
+use Rattle.nano_json.specs.State.{at}
+use Rattle.nano_json.specs.Cut.{Cut}
+use Rattle.nano_json.specs.Token.{Token}
+use Rattle.nano_json.proofs.Cuts.{cut_one_way}
+use Rattle.nano_json.proofs.traits.DeJson.deserialize_json.Goals as goal
+
+pub returns-in-Ok-clause-fits : goal.returns-in-Ok-clause-fits
+returns-in-Ok-clause-fits g c =
+    let text = c.next.ensures.rest ∙ ap (λ (b : List ℕ). before_nul (chars b)) c.chars-chars.ensures.rest in
+    let now = at c.next_tok.new.self c.next_tok.new.i in
+    let cut = subst (λ (t : List ℕ). Cut t now.token now.text) text c.in-Ok.ensures.taken in
+    IfOk-weaker c.de_json.result _ _ (λ value s. (now, cut, (s.0, at c.de_json.new.state c.de_json.new.input, s.1, s.2))) c.de_json.ensures.fits
+
+pub returns-in-Ok-clause-refused : goal.returns-in-Ok-clause-refused
+returns-in-Ok-clause-refused g c =
+    let text = c.next.ensures.rest ∙ ap (λ (b : List ℕ). before_nul (chars b)) c.chars-chars.ensures.rest in
+    let now = at c.next_tok.new.self c.next_tok.new.i in
+    let cut = subst (λ (t : List ℕ). Cut t now.token now.text) text c.in-Ok.ensures.taken in
+    IfErr-weaker c.de_json.result _ _ (λ e none known m f.
+    none known m (subst (λ (s : At Token). Fits Cut g.Self.DeJson.spelling.spelled s m) (same_at Cut cut_one_way (live_text c.args.input.now) f.0 now f.1 cut) f.2)) c.de_json.ensures.refused
+
+pub returns-clause-refused : goal.returns-clause-refused
+returns-clause-refused g c known m f =
+    let text = c.next.ensures.rest ∙ ap (λ (b : List ℕ). before_nul (chars b)) c.chars-chars.ensures.rest in
+    c.in-Err.ensures.refused known f.0.token f.0.text (subst (λ (t : List ℕ). Cut t f.0.token f.0.text) (sym text) f.1)

@@ -1,0 +1,218 @@
+// Integers: a whole number in the type's range, for signed types with or without a minus sign.
+ghost use Rattle.std.specs.Prelude.{◌≡◌, ◌≤◌, ◌≤ℤ◌, ℕ, ℤ, [], ◌∷◌, true, false, Some, IfOk, IfErr, OnErr, string_bytes};
+ghost use Rattle.std.specs.Int.{w8, w16, w32, w64};
+ghost use Rattle.nano_text.specs.Tokens.{At, Leaves};
+ghost use Rattle.nano_json.specs.Cut.{Cut};
+ghost use Rattle.nano_json.specs.State.{at, ended};
+ghost use Rattle.nano_json.specs.Token.{Token, u64, integer_of};
+ghost use Rattle.nano_json.specs.SpellingLaws.{unsigned, signed};
+
+use crate::error::DeJsonErr;
+use crate::state::DeJsonState;
+use crate::traits::DeJson;
+use std::alloc::Global;
+use std::str::Chars;
+
+/// Reads a whole number without a minus sign that is at most `max`.
+fn read_unsigned(
+    alloc: Global,
+    state: &mut DeJsonState,
+    input: &mut Chars<'_>,
+    max: u64,
+) -> Result<u64, DeJsonErr>
+    ensures taken { IfOk result (λ value. Leaves Cut (u64 value ∷ []) (at state.old input.old) (at state.new input.new)) }
+    ensures range { IfOk result (λ value. value ≤ max) }
+    ensures refused { IfErr result (λ e. e.memory ≡ false → (value : ℕ) (after : At Token) → value ≤ max → Leaves Cut (u64 value ∷ []) (at state.old input.old) after → ⊥) }
+    ensures ended { OnErr result (at state.new input.new ≡ ended) }
+    ensures memory { IfErr result (λ e. e.memory ≡ true → string_bytes e.msg ≡ []) }
+{
+    match state.u64_range(alloc, max) {
+        Ok(value) => match state.next_tok(alloc, input) {
+            Ok(()) => Ok(value),
+            Err(error) => Err(error),
+        },
+        Err(error) => {
+            state.fail();
+            Err(error)
+        }
+    }
+}
+
+/// Reads a whole number, with or without a minus sign, from `min` to `max`.
+fn read_signed(
+    alloc: Global,
+    state: &mut DeJsonState,
+    input: &mut Chars<'_>,
+    min: i64,
+    max: i64,
+) -> Result<i64, DeJsonErr>
+    ensures taken { IfOk result (λ value. (token : Token) × (integer_of token ≡ Some value) × Leaves Cut (token ∷ []) (at state.old input.old) (at state.new input.new)) }
+    ensures range { IfOk result (λ value. (min ≤ℤ value) × (value ≤ℤ max)) }
+    ensures refused { IfErr result (λ e. e.memory ≡ false → (token : Token) (value : ℤ) (after : At Token) → integer_of token ≡ Some value → min ≤ℤ value → value ≤ℤ max → Leaves Cut (token ∷ []) (at state.old input.old) after → ⊥) }
+    ensures ended { OnErr result (at state.new input.new ≡ ended) }
+    ensures memory { IfErr result (λ e. e.memory ≡ true → string_bytes e.msg ≡ []) }
+{
+    match state.i64_range(alloc, min, max) {
+        Ok(value) => match state.next_tok(alloc, input) {
+            Ok(()) => Ok(value),
+            Err(error) => Err(error),
+        },
+        Err(error) => {
+            state.fail();
+            Err(error)
+        }
+    }
+}
+
+impl DeJson for u8 {
+    ghost spelling = { unsigned 8 };
+
+    ghost spells_legal = { λ m h. h };
+
+    fn de_json(
+        alloc: Global,
+        state: &mut DeJsonState,
+        input: &mut Chars<'_>,
+    ) -> Result<u8, DeJsonErr> {
+        match read_unsigned(alloc, state, input, u8::MAX as u64) {
+            Ok(value) => Ok(value as u8),
+            Err(error) => Err(error),
+        }
+    }
+}
+
+impl DeJson for u16 {
+    ghost spelling = { unsigned 16 };
+
+    ghost spells_legal = { λ m h. h };
+
+    fn de_json(
+        alloc: Global,
+        state: &mut DeJsonState,
+        input: &mut Chars<'_>,
+    ) -> Result<u16, DeJsonErr> {
+        match read_unsigned(alloc, state, input, u16::MAX as u64) {
+            Ok(value) => Ok(value as u16),
+            Err(error) => Err(error),
+        }
+    }
+}
+
+impl DeJson for u32 {
+    ghost spelling = { unsigned 32 };
+
+    ghost spells_legal = { λ m h. h };
+
+    fn de_json(
+        alloc: Global,
+        state: &mut DeJsonState,
+        input: &mut Chars<'_>,
+    ) -> Result<u32, DeJsonErr> {
+        match read_unsigned(alloc, state, input, u32::MAX as u64) {
+            Ok(value) => Ok(value as u32),
+            Err(error) => Err(error),
+        }
+    }
+}
+
+impl DeJson for u64 {
+    ghost spelling = { unsigned 64 };
+
+    ghost spells_legal = { λ m h. h };
+
+    fn de_json(
+        alloc: Global,
+        state: &mut DeJsonState,
+        input: &mut Chars<'_>,
+    ) -> Result<u64, DeJsonErr> {
+        match read_unsigned(alloc, state, input, u64::MAX) {
+            Ok(value) => Ok(value),
+            Err(error) => Err(error),
+        }
+    }
+}
+
+impl DeJson for usize {
+    ghost spelling = { unsigned 64 };
+
+    ghost spells_legal = { λ m h. h };
+
+    fn de_json(
+        alloc: Global,
+        state: &mut DeJsonState,
+        input: &mut Chars<'_>,
+    ) -> Result<usize, DeJsonErr> {
+        match read_unsigned(alloc, state, input, usize::MAX as u64) {
+            Ok(value) => Ok(value as usize),
+            Err(error) => Err(error),
+        }
+    }
+}
+
+impl DeJson for i8 {
+    ghost spelling = { signed w8 };
+
+    ghost spells_legal = { λ m h. h };
+
+    fn de_json(
+        alloc: Global,
+        state: &mut DeJsonState,
+        input: &mut Chars<'_>,
+    ) -> Result<i8, DeJsonErr> {
+        match read_signed(alloc, state, input, i8::MIN as i64, i8::MAX as i64) {
+            Ok(value) => Ok(value as i8),
+            Err(error) => Err(error),
+        }
+    }
+}
+
+impl DeJson for i16 {
+    ghost spelling = { signed w16 };
+
+    ghost spells_legal = { λ m h. h };
+
+    fn de_json(
+        alloc: Global,
+        state: &mut DeJsonState,
+        input: &mut Chars<'_>,
+    ) -> Result<i16, DeJsonErr> {
+        match read_signed(alloc, state, input, i16::MIN as i64, i16::MAX as i64) {
+            Ok(value) => Ok(value as i16),
+            Err(error) => Err(error),
+        }
+    }
+}
+
+impl DeJson for i32 {
+    ghost spelling = { signed w32 };
+
+    ghost spells_legal = { λ m h. h };
+
+    fn de_json(
+        alloc: Global,
+        state: &mut DeJsonState,
+        input: &mut Chars<'_>,
+    ) -> Result<i32, DeJsonErr> {
+        match read_signed(alloc, state, input, i32::MIN as i64, i32::MAX as i64) {
+            Ok(value) => Ok(value as i32),
+            Err(error) => Err(error),
+        }
+    }
+}
+
+impl DeJson for i64 {
+    ghost spelling = { signed w64 };
+
+    ghost spells_legal = { λ m h. h };
+
+    fn de_json(
+        alloc: Global,
+        state: &mut DeJsonState,
+        input: &mut Chars<'_>,
+    ) -> Result<i64, DeJsonErr> {
+        match read_signed(alloc, state, input, i64::MIN, i64::MAX) {
+            Ok(value) => Ok(value),
+            Err(error) => Err(error),
+        }
+    }
+}
