@@ -32,3 +32,5 @@ pub use traits::{BothBin, DeBin, SerBin};
 mod tests;
 #[cfg(test)]
 mod tests_maps;
+#[cfg(test)]
+mod tests_memory;
