@@ -8,4 +8,5 @@ pub mod Laws
 pub mod Spelling
 pub mod Spellings
 pub mod SpellingLaws
+pub mod Sets
 pub mod Marks

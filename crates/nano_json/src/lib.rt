@@ -11,6 +11,8 @@ mod linked_lists;
 mod lists;
 mod marks;
 mod numbers;
+mod ordered_sets;
+mod sets;
 mod state;
 #[cfg(test)]
 mod tests;
