@@ -41,7 +41,7 @@ pub record ReadSoFar {V : Type 0} (marks : ListMarks Token) (spelled : List Toke
   pub count : length out + left here ≤ left start
 
 -- what stands behind an item: a comma, which is taken, or the closing bracket
-abbrev CommaTaken : ListMarks Token → At Token → At Token → Type 0
+abbrev pub CommaTaken : ListMarks Token → At Token → At Token → Type 0
 CommaTaken marks behind next = Leaves Cut (marks.comma ∷ []) behind next ⊎ ((behind.token ≡ marks.closing) × (next ≡ behind))
 
 module _ {V : Type 0} {P : V → Type 0} {S : List Token → V → Type 0} (s : IsSpelling P S) (marks : ListMarks Token) (apart : marks.closing ≢ marks.comma) (never : NeverStartsWith marks.closing S) where

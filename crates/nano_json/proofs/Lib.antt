@@ -4,4 +4,6 @@ pub mod Shorter
 pub mod BracketCounts
 pub mod Reading
 pub mod Containers
+pub mod MapReading
+pub mod TupleParts
 pub mod Integers

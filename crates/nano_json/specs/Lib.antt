@@ -9,4 +9,6 @@ pub mod Spelling
 pub mod Spellings
 pub mod SpellingLaws
 pub mod Sets
+pub mod Tuples
+pub mod Maps
 pub mod Marks

@@ -9,9 +9,13 @@ mod helpers;
 pub mod laws;
 mod linked_lists;
 mod lists;
+mod maps;
 mod marks;
 mod numbers;
 mod ordered_sets;
+mod pairs;
+mod parts;
+mod quadruples;
 mod sets;
 mod state;
 #[cfg(test)]
@@ -19,6 +23,7 @@ mod tests;
 mod texts;
 mod token;
 mod traits;
+mod triples;
 #[cfg(test)]
 mod type_tests;
 mod words;
