@@ -4,6 +4,8 @@
 
 mod arrays;
 mod boxes;
+#[cfg(test)]
+mod container_tests;
 mod error;
 mod helpers;
 pub mod laws;
