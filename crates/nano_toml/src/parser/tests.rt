@@ -447,6 +447,20 @@ fn deep_lists(rt: HostRuntime) -> Result<(), Fail> {
     Ok(())
 }
 
+#[test]
+fn deep_lists_compared(rt: HostRuntime) -> Result<(), Fail> {
+    let alloc = rt.alloc();
+    for (open, close) in [("[", ""), ("[", "]"), ("[[],1,", "]")] {
+        let text = brackets(alloc, open, 100_000, close)?;
+        let other = brackets(alloc, open, 99_999, close)?;
+        let is_same = same(alloc, text.as_str(), text.as_str())?;
+        assert!(rt; is_same, "of {open}");
+        let is_other = !same(alloc, text.as_str(), other.as_str())?;
+        assert!(rt; is_other, "of {open}");
+    }
+    Ok(())
+}
+
 // An answer in spite of a refused allocation: the same table or fault, or want of memory, which is marked and has no message.
 #[test]
 fn want_of_memory(rt: HostRuntime) -> Result<(), Fail> {
