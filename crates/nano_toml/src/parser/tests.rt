@@ -1,6 +1,6 @@
 //! What worked texts give: their tables, and the texts of faults.
 
-use crate::{Toml, TomlErr, TomlParser};
+use crate::{Toml, TomlErr, TomlParser, TomlTok};
 use std::alloc::{AllocError, Global};
 use std::collections::HashMap;
 use std::process::Abort;
@@ -389,6 +389,15 @@ fn equality(rt: HostRuntime) -> Result<(), Fail> {
         let found = same(rt.alloc(), one, other)?;
         assert_eq!(rt; found, want, "{one} and {other}");
     }
+    Ok(())
+}
+
+#[test]
+fn derived(rt: HostRuntime) -> Result<(), Fail> {
+    let _parser = TomlParser::default();
+    assert!(rt; TomlTok::U64(1) == TomlTok::U64(1));
+    assert!(rt; TomlTok::U64(1) != TomlTok::I64(1));
+    assert!(rt; TomlTok::Comma != TomlTok::Equals);
     Ok(())
 }
 
