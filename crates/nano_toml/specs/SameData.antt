@@ -11,6 +11,7 @@ use Rattle.nano_toml.specs.Data.{Data, text, boolean, number, decimal, nan, infi
 use Rattle.nano_toml.specs.View.{view}
 use Rattle.nano_toml.specs.declared.value.Toml.{Toml}
 
+-- whether two values are of one kind with one content; lists in order, tables key by key
 abbrev mutual
   pub data_eq : Data → Data → Bool
   data_eq (text a) (text b) = bytes_eq a b
@@ -39,10 +40,12 @@ abbrev mutual
   table_eq (more_pairs k a xs) (more_pairs l b ys) = bytes_eq k l && (data_eq a b && table_eq xs ys)
   table_eq _ _ = false
 
+-- each part of a test that holds in both holds
 both : (x y : Bool) → (x && y) ≡ true → (x ≡ true) × (y ≡ true)
 both true y h = (refl, h)
 both false y h = absurd (true≢false (sym h))
 
+-- what passes the test is the same
 mutual
   pub data_eq_same : (a b : Data) → data_eq a b ≡ true → a ≡ b
   data_eq_same (text a) (text b) h = ap text ((bytes_eq-Decides a b).0 h)
@@ -78,9 +81,11 @@ mutual
       ap (λ c. more_pairs c a xs) ((bytes_eq-Decides k l).0 p.0) ∙ (ap (λ c. more_pairs l c xs) (data_eq_same a b q.0) ∙ ap (more_pairs l b) (table_eq_same xs ys q.1))
   table_eq_same _ _ h = absurd (true≢false (sym h))
 
+-- a test holds in both where each part does
 both_true : (x y : Bool) → x ≡ true → y ≡ true → (x && y) ≡ true
 both_true x y h k = ap (λ z. z && y) h ∙ k
 
+-- what is the same passes the test
 mutual
   pub data_eq_refl : (a : Data) → data_eq a a ≡ true
   data_eq_refl (text a) = (bytes_eq-Decides a a).1 refl
@@ -105,17 +110,21 @@ mutual
   table_eq_refl no_pairs = refl
   table_eq_refl (more_pairs k a xs) = both_true _ _ ((bytes_eq-Decides k k).1 refl) (both_true _ _ (data_eq_refl a) (table_eq_refl xs))
 
+-- the test tells exactly whether two values are the same
 pub data_eq-Decides : (a b : Data) → Decides (data_eq a b) (a ≡ b)
 data_eq-Decides a b = (data_eq_same a b, λ e. ap (data_eq a) (sym e) ∙ data_eq_refl a)
 
+-- whether two values of a program mean the same
 abbrev pub view_eq : Toml → Toml → Bool
 view_eq a b = data_eq (view a) (view b)
 
+-- it is symmetric and transitive
 pub view_eq_laws : IsPartialEquivalence view_eq
 view_eq_laws =
     let e = decided data_eq data_eq-Decides in
     record { symm = λ x y. e.symm (view x) (view y); trans = λ x y z p q. e.congr (view x) (view y) (view z) p ∙ q }
 
+-- and reflexive: an equivalence
 pub view_eq_equiv : IsEquivalence view_eq
 view_eq_equiv =
     let e = decided data_eq data_eq-Decides in

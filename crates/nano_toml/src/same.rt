@@ -6,29 +6,46 @@ ghost use Rattle.nano_toml.specs.View.{view, values_view, tables_view, table_vie
 use crate::value::Toml;
 use std::collections::HashMap;
 
-// Whether the values are of the same kind with the same content.
+// Whether the values are of the same kind with the same content. Of two lists the last values are compared by the loop, so
+// that a list in the last place of a list takes no stack.
 #[cycle(same)]
 pub fn same_value(one: &Toml, other: &Toml) -> bool
     ensures { IsTrue result ↔ (view one.now ≡ view other.now) }
 {
-    match (one, other) {
-        (Toml::Str(a), Toml::Str(b)) => a == b,
-        (Toml::Bool(a), Toml::Bool(b)) => a == b,
-        (Toml::Num(a), Toml::Num(b)) => a == b,
-        (Toml::Dec(a), Toml::Dec(b)) => a == b,
-        (Toml::Nan(a), Toml::Nan(b)) => a == b,
-        (Toml::Inf(a), Toml::Inf(b)) => a == b,
-        (Toml::Date(a), Toml::Date(b)) => a == b,
-        (Toml::Array(a), Toml::Array(b)) => same_tables(a, b),
-        (Toml::SimpleArray(a), Toml::SimpleArray(b)) => same_values(a, b),
-        _ => false,
+    let mut a = one;
+    let mut b = other;
+    'lists: loop {
+        match (a, b) {
+            (Toml::SimpleArray(x), Toml::SimpleArray(y)) => {
+                let Some((last_x, front_x)) = x.as_slice().split_last() else {
+                    return y.is_empty();
+                };
+                let Some((last_y, front_y)) = y.as_slice().split_last() else {
+                    return false;
+                };
+                if !same_values(front_x, front_y) {
+                    return false;
+                }
+                a = last_x;
+                b = last_y;
+            }
+            (Toml::Str(x), Toml::Str(y)) => return x == y,
+            (Toml::Bool(x), Toml::Bool(y)) => return x == y,
+            (Toml::Num(x), Toml::Num(y)) => return x == y,
+            (Toml::Dec(x), Toml::Dec(y)) => return x == y,
+            (Toml::Nan(x), Toml::Nan(y)) => return x == y,
+            (Toml::Inf(x), Toml::Inf(y)) => return x == y,
+            (Toml::Date(x), Toml::Date(y)) => return x == y,
+            (Toml::Array(x), Toml::Array(y)) => return same_tables(x, y),
+            _ => return false,
+        }
     }
 }
 
 // Whether the values are the same, in order.
 #[cycle(same)]
-fn same_values(a: &Vec<Toml>, b: &Vec<Toml>) -> bool
-    ensures { IsTrue result ↔ (values_view a.now.items ≡ values_view b.now.items) }
+fn same_values(a: &[Toml], b: &[Toml]) -> bool
+    ensures { IsTrue result ↔ (values_view a.now ≡ values_view b.now) }
 {
     if a.len() != b.len() {
         return false;

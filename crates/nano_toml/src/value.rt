@@ -15,7 +15,8 @@ use std::collections::HashMap;
 /// tables with the same pairs, decimals with the same text. So `Nan(true) == Nan(true)`, and a `Num` never
 /// equals a `Dec`.
 ///
-/// Dropping a value takes no stack for lists in lists, however deep they are; while no memory can be had it may.
+/// Comparing two values takes no stack for a list in the last place of a list, however deep they are, and some for a
+/// list in another place. Dropping a value takes none for lists in lists; while no memory can be had it may.
 pub enum Toml {
     /// A text.
     Str(String),

@@ -1,7 +1,7 @@
 //! What worked texts give: their tables, and the texts of faults.
 
-use crate::{Toml, TomlErr, TomlParser};
-use std::alloc::Global;
+use crate::{Toml, TomlErr, TomlParser, TomlTok};
+use std::alloc::{AllocError, Global};
 use std::collections::HashMap;
 use std::process::Abort;
 use std::test::Fail;
@@ -393,11 +393,23 @@ fn equality(rt: HostRuntime) -> Result<(), Fail> {
 }
 
 #[test]
+fn derived(rt: HostRuntime) -> Result<(), Fail> {
+    let _parser = TomlParser::default();
+    assert!(rt; TomlTok::U64(1) == TomlTok::U64(1));
+    assert!(rt; TomlTok::U64(1) != TomlTok::I64(1));
+    assert!(rt; TomlTok::Comma != TomlTok::Equals);
+    Ok(())
+}
+
+#[test]
 fn errors(rt: HostRuntime) -> Result<(), Fail> {
     let alloc = rt.alloc();
     match TomlParser::parse(alloc, "a = @") {
         Ok(_) => assert!(rt; false),
         Err(error) => {
+            if error.memory {
+                return Err(Fail::from(AllocError));
+            }
             let copy = error.clone()?;
             assert!(rt; !copy.memory);
             assert_eq!(rt; copy.msg.as_str(), "Cannot parse toml tokenizer ");
@@ -443,6 +455,20 @@ fn deep_lists(rt: HostRuntime) -> Result<(), Fail> {
         let text = brackets(alloc, open, 100_000, close)?;
         let table = TomlParser::parse(alloc, text.as_str())?;
         assert_eq!(rt; table.len(), 1, "of {open}");
+    }
+    Ok(())
+}
+
+#[test]
+fn deep_lists_compared(rt: HostRuntime) -> Result<(), Fail> {
+    let alloc = rt.alloc();
+    for (open, close) in [("[", ""), ("[", "]"), ("[[],1,", "]")] {
+        let text = brackets(alloc, open, 100_000, close)?;
+        let other = brackets(alloc, open, 99_999, close)?;
+        let is_same = same(alloc, text.as_str(), text.as_str())?;
+        assert!(rt; is_same, "of {open}");
+        let is_other = !same(alloc, text.as_str(), other.as_str())?;
+        assert!(rt; is_other, "of {open}");
     }
     Ok(())
 }

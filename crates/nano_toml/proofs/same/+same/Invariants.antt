@@ -1,6 +1,7 @@
-use Rattle.std.proofs.Common.{◌≡◌, ℕ, ◌<◌, get_or}
+use Rattle.std.proofs.Common.{◌≡◌, ◌↔◌, ℕ, ◌<◌, ◌≤◌, get_or}
 use Rattle.nano_toml.specs.View.{table_view, view}
 use Rattle.nano_toml.specs.declared.value.Toml.{Toml}
+use Rattle.nano_toml.proofs.value.Toml.TheLaws.{the_size}
 use Rattle.nano_toml.proofs.TableViews.{Agree, Present, Map}
 use Rattle.nano_toml.proofs.same.+same.Given as goal
 
@@ -21,4 +22,7 @@ abbrev pub invariant-same_tables-loop-i : goal.invariant-same_tables-loop-i
 invariant-same_tables-loop-i l = (k : ℕ) (d : Map) → k < l.i → table_view (get_or l.a.items k d).entries ≡ table_view (get_or l.b.items k d).entries
 
 abbrev pub invariant-same_values-loop-i : goal.invariant-same_values-loop-i
-invariant-same_values-loop-i l = (k : ℕ) (d : Toml) → k < l.i → view (get_or l.a.items k d) ≡ view (get_or l.b.items k d)
+invariant-same_values-loop-i l = (k : ℕ) (d : Toml) → k < l.i → view (get_or l.a k d) ≡ view (get_or l.b k d)
+
+abbrev pub invariant-same_value-lists : goal.invariant-same_value-lists
+invariant-same_value-lists l = (the_size l.a ≤ the_size l.fn.one) × ((view l.a ≡ view l.b) ↔ (view l.fn.one ≡ view l.fn.other))

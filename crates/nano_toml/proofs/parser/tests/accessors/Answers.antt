@@ -1,4 +1,4 @@
-use Rattle.std.proofs.Common.{◌≡◌, ℕ, ◌<◌, zero, suc, List, [], ◌∷◌, length, Some, Option, IsSome, ap, ◌∙◌, subst, sym, arith, rules}
+use Rattle.std.proofs.Common.{◌≡◌, ℕ, ◌<◌, zero, suc, List, [], ◌∷◌, length, IsSome, ap, ◌∙◌, subst, sym, arith, rules}
 use Rattle.nano_toml.specs.Data.{Data, tables}
 use Rattle.nano_toml.specs.Kinds.{index_of, table_at}
 use Rattle.nano_toml.specs.View.{view, tables_view}
