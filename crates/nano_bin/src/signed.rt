@@ -10,6 +10,7 @@ ghost use Rattle.nano_bin.specs.Faults.{IsTooShort};
 
 use crate::error::DeBinErr;
 use crate::traits::{BothBin, DeBin, SerBin};
+use crate::widths::append_run;
 use std::alloc::{AllocError, Global};
 
 impl SerBin for i8 {
@@ -21,6 +22,10 @@ impl SerBin for i8 {
 
     fn ser_bin(&self, alloc: Global, output: &mut Vec<u8>) -> Result<(), AllocError> {
         u8::ser_bin(&self.cast_unsigned(), alloc, output)
+    }
+
+    fn ser_bin_items(alloc: Global, items: &[i8], output: &mut Vec<u8>) -> Result<(), AllocError> {
+        append_run(items, output)
     }
 }
 
@@ -59,6 +64,10 @@ impl SerBin for i16 {
     fn ser_bin(&self, alloc: Global, output: &mut Vec<u8>) -> Result<(), AllocError> {
         u16::ser_bin(&self.cast_unsigned(), alloc, output)
     }
+
+    fn ser_bin_items(alloc: Global, items: &[i16], output: &mut Vec<u8>) -> Result<(), AllocError> {
+        append_run(items, output)
+    }
 }
 
 impl DeBin for i16 {
@@ -95,6 +104,10 @@ impl SerBin for i32 {
 
     fn ser_bin(&self, alloc: Global, output: &mut Vec<u8>) -> Result<(), AllocError> {
         u32::ser_bin(&self.cast_unsigned(), alloc, output)
+    }
+
+    fn ser_bin_items(alloc: Global, items: &[i32], output: &mut Vec<u8>) -> Result<(), AllocError> {
+        append_run(items, output)
     }
 }
 
@@ -133,6 +146,10 @@ impl SerBin for i64 {
     fn ser_bin(&self, alloc: Global, output: &mut Vec<u8>) -> Result<(), AllocError> {
         u64::ser_bin(&self.cast_unsigned(), alloc, output)
     }
+
+    fn ser_bin_items(alloc: Global, items: &[i64], output: &mut Vec<u8>) -> Result<(), AllocError> {
+        append_run(items, output)
+    }
 }
 
 impl DeBin for i64 {
@@ -169,6 +186,14 @@ impl SerBin for i128 {
 
     fn ser_bin(&self, alloc: Global, output: &mut Vec<u8>) -> Result<(), AllocError> {
         u128::ser_bin(&self.cast_unsigned(), alloc, output)
+    }
+
+    fn ser_bin_items(
+        alloc: Global,
+        items: &[i128],
+        output: &mut Vec<u8>,
+    ) -> Result<(), AllocError> {
+        append_run(items, output)
     }
 }
 
