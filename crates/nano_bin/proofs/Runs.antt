@@ -6,7 +6,7 @@ use Rattle.std.proofs.Math.Nat.{le-div_iff_mul-le}
 use Rattle.std.proofs.Math.Seq.{take-add}
 use Rattle.std.proofs.lemmas.List.{append-nil, drop-drop, take-append-drop, length-take-le}
 use Rattle.nano_value.specs.Meaning.{Meaning, whole, number}
-use Rattle.nano_value.specs.Legal.{IsImage}
+use Rattle.nano_value.specs.Legal.{length-map}
 use Rattle.nano_bin.specs.Reading.{Fits, NothingFits, Reads}
 use Rattle.nano_bin.specs.LittleEndian.{SpellsNumber, little_endian, little_value, little_byte, length-little_endian, little_endian-little_value, little_value_fits}
 use Rattle.nano_bin.specs.Spellings.{SpellsUnsigned, SpellsItems, SpellsCount}
@@ -84,10 +84,6 @@ chunk_items k (suc count) bytes room h =
 pub length-first_chunks : (k count : ℕ) (bytes : List ℕ) → length (first_chunks k count bytes) ≡ count
 length-first_chunks k zero bytes = refl
 length-first_chunks k (suc count) bytes = ap (λ n. suc n) (length-first_chunks k count (drop k bytes))
-
-pub length-map : {A B : Type 0} (f : A → B) (xs : List A) → length (map f xs) ≡ length xs
-length-map f [] = refl
-length-map f (x ∷ xs) = ap (λ n. suc n) (length-map f xs)
 
 -- fewer chunks are a front of more
 pub take-first_chunks : (k count more : ℕ) (bytes : List ℕ) → count ≤ more → take count (first_chunks k more bytes) ≡ first_chunks k count bytes

@@ -1,7 +1,10 @@
 -- What a loop over items has written.
-use Rattle.std.proofs.Common.{◌≡◌, ◌≤◌, ℕ, refl, List, [], ◌∷◌, ◌++◌, map, length, take, sym, ◌∙◌, ap, append_assoc, Result, Ok, Err, OnErr}
+use Rattle.std.proofs.Common.{◌≡◌, ◌≤◌, ◌<◌, ◌+◌, ℕ, List, [], ◌∷◌, ◌++◌, map, length, take, set, get_or, sym, ◌∙◌, ap, append_assoc, Result, Ok, Err, OnErr}
 use Rattle.std.specs.List.{flat_map}
-use Rattle.std.proofs.lemmas.List.{append-nil, take-append-le}
+use Rattle.std.proofs.lemmas.Grind.{flat_map-append}
+use Rattle.std.proofs.Math.Numerals.{add-one}
+use Rattle.std.proofs.Math.Seq.{take-suc}
+use Rattle.std.proofs.lemmas.List.{append-nil, take-append-le, take_more_set, map-append}
 
 -- what is written behind the bytes that were there, and the items that are left, make all items
 pub record WritesSoFar {A : Type 0} (W : A → List ℕ) (before now : List ℕ) (left all : List A) : Type 0 where
@@ -20,6 +23,14 @@ module _ {A : Type 0} (W : A → List ℕ) where
     rest = append_assoc h.done (W x) (flat_map W rest) ∙ (ap (λ l. h.done ++ flat_map W l) (sym i) ∙ h.rest);
   }
 
+  -- more items at once
+  pub write_block : (before now more : List ℕ) (left block rest all : List A) → WritesSoFar W before now left all → left ≡ block ++ rest → more ≡ now ++ flat_map W block → WritesSoFar W before more rest all
+  write_block before now more left block rest all h i e = record {
+    done = h.done ++ flat_map W block;
+    is = e ∙ (ap (λ l. l ++ flat_map W block) h.is ∙ append_assoc before h.done (flat_map W block));
+    rest = append_assoc h.done (flat_map W block) (flat_map W rest) ∙ (ap (λ l. h.done ++ l) (sym (flat_map-append W block rest)) ∙ (ap (λ l. h.done ++ flat_map W l) (sym i) ∙ h.rest));
+  }
+
   pub write_end : (before now : List ℕ) (left all : List A) → WritesSoFar W before now left all → left ≡ [] → now ≡ before ++ flat_map W all
   write_end before now left all h i = h.is ∙ ap (λ l. before ++ l) (sym (append-nil h.done) ∙ (ap (λ l. h.done ++ flat_map W l) (sym i) ∙ h.rest))
 
@@ -27,9 +38,11 @@ module _ {A : Type 0} (W : A → List ℕ) where
   pub cut_back : (start : ℕ) (before now : List ℕ) (left all : List A) → start ≤ length before → WritesSoFar W before now left all → take start now ≡ take start before
   cut_back start before now left all h so_far = ap (take start) so_far.is ∙ take-append-le start before so_far.done h
 
-pub flat_map-map : {A B : Type 0} (W : B → List ℕ) (f : A → B) (xs : List A) → flat_map W (map f xs) ≡ flat_map (λ x. W (f x)) xs
-flat_map-map W f [] = refl
-flat_map-map W f (x ∷ xs) = ap (λ l. W (f x) ++ l) (flat_map-map W f xs)
+-- one more item in its place
+pub gather_step : {A B : Type 0} (f : A → B) (xs : List A) (ys : List B) (i : ℕ) (x : A) (y : B) → i < length xs → i < length ys → take i ys ≡ map f (take i xs) → x ≡ get_or xs i x → y ≡ f x → take (i + 1) (set ys i y) ≡ map f (take (i + 1) xs)
+gather_step f xs ys i x y inside room so_far here is =
+    let front : take (i + 1) xs ≡ take i xs ++ x ∷ [] = ap (λ n. take n xs) (add-one i) ∙ (take-suc xs i x inside ∙ ap (λ z. take i xs ++ z ∷ []) (sym here)) in
+    take_more_set ys i y room ∙ ((λ j. so_far j ++ is j ∷ []) ∙ sym (ap (map f) front ∙ map-append f (take i xs) (x ∷ [])))
 
 -- what holds anyway holds on an error
 pub on_err_always : {T E P : Type 0} (r : Result T E) → P → OnErr r P

@@ -23,6 +23,7 @@ mod texts;
 mod traits;
 mod triples;
 mod truths;
+mod widths;
 
 pub use append::append_part;
 pub use error::{DeBinErr, DeBinKind};

@@ -12,6 +12,7 @@ use crate::append::append_bytes;
 use crate::error::DeBinErr;
 use crate::take::{no_memory, take_bytes, take_number, take_numbers};
 use crate::traits::{BothBin, DeBin, SerBin};
+use crate::widths::append_run;
 use std::alloc::{AllocError, Global};
 
 impl SerBin for u8 {
@@ -87,6 +88,10 @@ impl SerBin for u16 {
     fn ser_bin(&self, alloc: Global, output: &mut Vec<u8>) -> Result<(), AllocError> {
         append_bytes(output, &u16::to_le_bytes(*self))
     }
+
+    fn ser_bin_items(alloc: Global, items: &[u16], output: &mut Vec<u8>) -> Result<(), AllocError> {
+        append_run(items, output)
+    }
 }
 
 impl DeBin for u16 {
@@ -155,6 +160,10 @@ impl SerBin for u32 {
     #[tactic(auto, using(crate::specs::LittleEndian::to_le_bytes_32))]
     fn ser_bin(&self, alloc: Global, output: &mut Vec<u8>) -> Result<(), AllocError> {
         append_bytes(output, &u32::to_le_bytes(*self))
+    }
+
+    fn ser_bin_items(alloc: Global, items: &[u32], output: &mut Vec<u8>) -> Result<(), AllocError> {
+        append_run(items, output)
     }
 }
 
@@ -225,6 +234,10 @@ impl SerBin for u64 {
     fn ser_bin(&self, alloc: Global, output: &mut Vec<u8>) -> Result<(), AllocError> {
         append_bytes(output, &u64::to_le_bytes(*self))
     }
+
+    fn ser_bin_items(alloc: Global, items: &[u64], output: &mut Vec<u8>) -> Result<(), AllocError> {
+        append_run(items, output)
+    }
 }
 
 impl DeBin for u64 {
@@ -294,6 +307,14 @@ impl SerBin for usize {
     fn ser_bin(&self, alloc: Global, output: &mut Vec<u8>) -> Result<(), AllocError> {
         append_bytes(output, &usize::to_le_bytes(*self))
     }
+
+    fn ser_bin_items(
+        alloc: Global,
+        items: &[usize],
+        output: &mut Vec<u8>,
+    ) -> Result<(), AllocError> {
+        append_run(items, output)
+    }
 }
 
 impl DeBin for usize {
@@ -362,6 +383,14 @@ impl SerBin for u128 {
     #[tactic(auto, using(crate::specs::LittleEndian::to_le_bytes_128))]
     fn ser_bin(&self, alloc: Global, output: &mut Vec<u8>) -> Result<(), AllocError> {
         append_bytes(output, &u128::to_le_bytes(*self))
+    }
+
+    fn ser_bin_items(
+        alloc: Global,
+        items: &[u128],
+        output: &mut Vec<u8>,
+    ) -> Result<(), AllocError> {
+        append_run(items, output)
     }
 }
 

@@ -1,6 +1,6 @@
 // Signed integers: two's complement at fixed widths, the lowest byte first.
-ghost use Rattle.std.specs.Prelude.{◌≡◌, drop, refl, IfOk, IfErr, OnErr};
-ghost use Rattle.std.specs.Int.{w8, w16, w32, w64, w128};
+ghost use Rattle.std.specs.Prelude.{◌≡◌, map, drop, refl, IfOk, IfErr, OnErr};
+ghost use Rattle.std.specs.Int.{w8, w16, w32, w64, w128, cast_signed, from_le_bytes};
 ghost use Rattle.nano_value.specs.Meaning.{number};
 ghost use Rattle.nano_bin.specs.Reading.{Reads, NothingFits};
 ghost use Rattle.nano_bin.specs.Spellings.{SpellsSigned};
@@ -9,7 +9,9 @@ ghost use Rattle.nano_bin.specs.Writing.{signed_writing, signed_format, bits_fit
 ghost use Rattle.nano_bin.specs.Faults.{IsTooShort};
 
 use crate::error::DeBinErr;
+use crate::take::{no_memory, take_numbers};
 use crate::traits::{BothBin, DeBin, SerBin};
+use crate::widths::append_run;
 use std::alloc::{AllocError, Global};
 
 impl SerBin for i8 {
@@ -21,6 +23,10 @@ impl SerBin for i8 {
 
     fn ser_bin(&self, alloc: Global, output: &mut Vec<u8>) -> Result<(), AllocError> {
         u8::ser_bin(&self.cast_unsigned(), alloc, output)
+    }
+
+    fn ser_bin_items(alloc: Global, items: &[i8], output: &mut Vec<u8>) -> Result<(), AllocError> {
+        append_run(items, output)
     }
 }
 
@@ -41,6 +47,35 @@ impl DeBin for i8 {
             Err(error) => Err(error),
         }
     }
+
+    fn de_bin_items(
+        alloc: Global,
+        count: usize,
+        offset: &mut usize,
+        bytes: &[u8],
+    ) -> Result<Vec<i8>, DeBinErr> {
+        let start = *offset;
+        match take_numbers::<1>(count, offset, bytes) {
+            Ok(taken) => match i8s(alloc, taken) {
+                Ok(items) => Ok(items),
+                Err(_) => {
+                    *offset = start;
+                    Err(no_memory(start, bytes))
+                }
+            },
+            Err(error) => Err(error),
+        }
+    }
+}
+
+/// The numbers of chunks of bytes.
+fn i8s(alloc: Global, chunks: &[[u8; 1]]) -> Result<Vec<i8>, AllocError>
+    ensures { IfOk result (λ numbers. numbers.items ≡ map (λ chunk. cast_signed w8 (from_le_bytes w8 chunk)) chunks.now) }
+{
+    chunks
+        .iter()
+        .map(|chunk| i8::from_le_bytes(*chunk))
+        .collect(alloc)
 }
 
 impl BothBin for i8 {
@@ -58,6 +93,10 @@ impl SerBin for i16 {
 
     fn ser_bin(&self, alloc: Global, output: &mut Vec<u8>) -> Result<(), AllocError> {
         u16::ser_bin(&self.cast_unsigned(), alloc, output)
+    }
+
+    fn ser_bin_items(alloc: Global, items: &[i16], output: &mut Vec<u8>) -> Result<(), AllocError> {
+        append_run(items, output)
     }
 }
 
@@ -78,6 +117,35 @@ impl DeBin for i16 {
             Err(error) => Err(error),
         }
     }
+
+    fn de_bin_items(
+        alloc: Global,
+        count: usize,
+        offset: &mut usize,
+        bytes: &[u8],
+    ) -> Result<Vec<i16>, DeBinErr> {
+        let start = *offset;
+        match take_numbers::<2>(count, offset, bytes) {
+            Ok(taken) => match i16s(alloc, taken) {
+                Ok(items) => Ok(items),
+                Err(_) => {
+                    *offset = start;
+                    Err(no_memory(start, bytes))
+                }
+            },
+            Err(error) => Err(error),
+        }
+    }
+}
+
+/// The numbers of chunks of bytes.
+fn i16s(alloc: Global, chunks: &[[u8; 2]]) -> Result<Vec<i16>, AllocError>
+    ensures { IfOk result (λ numbers. numbers.items ≡ map (λ chunk. cast_signed w16 (from_le_bytes w16 chunk)) chunks.now) }
+{
+    chunks
+        .iter()
+        .map(|chunk| i16::from_le_bytes(*chunk))
+        .collect(alloc)
 }
 
 impl BothBin for i16 {
@@ -95,6 +163,10 @@ impl SerBin for i32 {
 
     fn ser_bin(&self, alloc: Global, output: &mut Vec<u8>) -> Result<(), AllocError> {
         u32::ser_bin(&self.cast_unsigned(), alloc, output)
+    }
+
+    fn ser_bin_items(alloc: Global, items: &[i32], output: &mut Vec<u8>) -> Result<(), AllocError> {
+        append_run(items, output)
     }
 }
 
@@ -115,6 +187,35 @@ impl DeBin for i32 {
             Err(error) => Err(error),
         }
     }
+
+    fn de_bin_items(
+        alloc: Global,
+        count: usize,
+        offset: &mut usize,
+        bytes: &[u8],
+    ) -> Result<Vec<i32>, DeBinErr> {
+        let start = *offset;
+        match take_numbers::<4>(count, offset, bytes) {
+            Ok(taken) => match i32s(alloc, taken) {
+                Ok(items) => Ok(items),
+                Err(_) => {
+                    *offset = start;
+                    Err(no_memory(start, bytes))
+                }
+            },
+            Err(error) => Err(error),
+        }
+    }
+}
+
+/// The numbers of chunks of bytes.
+fn i32s(alloc: Global, chunks: &[[u8; 4]]) -> Result<Vec<i32>, AllocError>
+    ensures { IfOk result (λ numbers. numbers.items ≡ map (λ chunk. cast_signed w32 (from_le_bytes w32 chunk)) chunks.now) }
+{
+    chunks
+        .iter()
+        .map(|chunk| i32::from_le_bytes(*chunk))
+        .collect(alloc)
 }
 
 impl BothBin for i32 {
@@ -132,6 +233,10 @@ impl SerBin for i64 {
 
     fn ser_bin(&self, alloc: Global, output: &mut Vec<u8>) -> Result<(), AllocError> {
         u64::ser_bin(&self.cast_unsigned(), alloc, output)
+    }
+
+    fn ser_bin_items(alloc: Global, items: &[i64], output: &mut Vec<u8>) -> Result<(), AllocError> {
+        append_run(items, output)
     }
 }
 
@@ -152,6 +257,35 @@ impl DeBin for i64 {
             Err(error) => Err(error),
         }
     }
+
+    fn de_bin_items(
+        alloc: Global,
+        count: usize,
+        offset: &mut usize,
+        bytes: &[u8],
+    ) -> Result<Vec<i64>, DeBinErr> {
+        let start = *offset;
+        match take_numbers::<8>(count, offset, bytes) {
+            Ok(taken) => match i64s(alloc, taken) {
+                Ok(items) => Ok(items),
+                Err(_) => {
+                    *offset = start;
+                    Err(no_memory(start, bytes))
+                }
+            },
+            Err(error) => Err(error),
+        }
+    }
+}
+
+/// The numbers of chunks of bytes.
+fn i64s(alloc: Global, chunks: &[[u8; 8]]) -> Result<Vec<i64>, AllocError>
+    ensures { IfOk result (λ numbers. numbers.items ≡ map (λ chunk. cast_signed w64 (from_le_bytes w64 chunk)) chunks.now) }
+{
+    chunks
+        .iter()
+        .map(|chunk| i64::from_le_bytes(*chunk))
+        .collect(alloc)
 }
 
 impl BothBin for i64 {
@@ -169,6 +303,14 @@ impl SerBin for i128 {
 
     fn ser_bin(&self, alloc: Global, output: &mut Vec<u8>) -> Result<(), AllocError> {
         u128::ser_bin(&self.cast_unsigned(), alloc, output)
+    }
+
+    fn ser_bin_items(
+        alloc: Global,
+        items: &[i128],
+        output: &mut Vec<u8>,
+    ) -> Result<(), AllocError> {
+        append_run(items, output)
     }
 }
 
@@ -189,6 +331,35 @@ impl DeBin for i128 {
             Err(error) => Err(error),
         }
     }
+
+    fn de_bin_items(
+        alloc: Global,
+        count: usize,
+        offset: &mut usize,
+        bytes: &[u8],
+    ) -> Result<Vec<i128>, DeBinErr> {
+        let start = *offset;
+        match take_numbers::<16>(count, offset, bytes) {
+            Ok(taken) => match i128s(alloc, taken) {
+                Ok(items) => Ok(items),
+                Err(_) => {
+                    *offset = start;
+                    Err(no_memory(start, bytes))
+                }
+            },
+            Err(error) => Err(error),
+        }
+    }
+}
+
+/// The numbers of chunks of bytes.
+fn i128s(alloc: Global, chunks: &[[u8; 16]]) -> Result<Vec<i128>, AllocError>
+    ensures { IfOk result (λ numbers. numbers.items ≡ map (λ chunk. cast_signed w128 (from_le_bytes w128 chunk)) chunks.now) }
+{
+    chunks
+        .iter()
+        .map(|chunk| i128::from_le_bytes(*chunk))
+        .collect(alloc)
 }
 
 impl BothBin for i128 {

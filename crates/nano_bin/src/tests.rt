@@ -132,8 +132,9 @@ fn containers(rt: HostRuntime) -> Result<(), Fail> {
     )?;
     let slice: &[u16] = &[1, 2];
     assert_eq!(rt; slice.serialize_bin(alloc)?.as_slice(), &two[8..]);
-    let units = Vec::<()>::deserialize_bin(alloc, &[5, 0, 0, 0, 0, 0, 0, 0])?;
-    assert_eq!(rt; units.len(), 5);
+    let mut offset = 0;
+    let units = Vec::<()>::de_bin(alloc, &mut offset, &[5, 0, 0, 0, 0, 0, 0, 0])?;
+    assert_eq!(rt; (units.len(), offset), (5, 8));
     Ok(())
 }
 

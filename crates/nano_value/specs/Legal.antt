@@ -110,11 +110,11 @@ none_is_legal P = image_of optional (AllOfOption P) None tt
 image_weaker : {A : Type 0} (f : A → Meaning) (P Q : A → Type 0) → ((x : A) → P x → Q x) → (m : Meaning) → IsImage f P m → IsImage f Q m
 image_weaker f P Q weaker m h = record { part = h.part; has = weaker h.part h.has; is = h.is }
 
-module _ (P Q : Meaning → Type 0) (weaker : (m : Meaning) → P m → Q m) where
-  pub all_weaker : (ms : List Meaning) → AllByRecursion P ms → AllByRecursion Q ms
-  all_weaker [] h = tt
-  all_weaker (m ∷ ms) h = (weaker m h.0, all_weaker ms h.1)
+pub all_weaker : {A : Type 0} (P Q : A → Type 0) → ((x : A) → P x → Q x) → (xs : List A) → AllByRecursion P xs → AllByRecursion Q xs
+all_weaker P Q weaker [] h = tt
+all_weaker P Q weaker (x ∷ xs) h = (weaker x h.0, all_weaker P Q weaker xs h.1)
 
+module _ (P Q : Meaning → Type 0) (weaker : (m : Meaning) → P m → Q m) where
   all_of_option_weaker : (m : Option Meaning) → AllOfOption P m → AllOfOption Q m
   all_of_option_weaker None h = tt
   all_of_option_weaker (Some m) h = weaker m h
@@ -123,10 +123,10 @@ module _ (P Q : Meaning → Type 0) (weaker : (m : Meaning) → P m → Q m) whe
   option_weaker = image_weaker optional (AllOfOption P) (AllOfOption Q) all_of_option_weaker
 
   pub list_weaker : (m : Meaning) → LegalList P m → LegalList Q m
-  list_weaker = image_weaker listed (AllOfList P) (AllOfList Q) (λ ms h. record { count = h.count; items = all_weaker ms h.items })
+  list_weaker = image_weaker listed (AllOfList P) (AllOfList Q) (λ ms h. record { count = h.count; items = all_weaker P Q weaker ms h.items })
 
   pub array_weaker : (count : ℕ) (m : Meaning) → LegalArray count P m → LegalArray count Q m
-  array_weaker count = image_weaker listed (AllOfCount count P) (AllOfCount count Q) (λ ms h. record { count_is = h.count_is; items = all_weaker ms h.items })
+  array_weaker count = image_weaker listed (AllOfCount count P) (AllOfCount count Q) (λ ms h. record { count_is = h.count_is; items = all_weaker P Q weaker ms h.items })
 
 pub pair_weaker : (P P' Q Q' : Meaning → Type 0) → ((m : Meaning) → P m → P' m) → ((m : Meaning) → Q m → Q' m) → (m : Meaning) → LegalPair P Q m → LegalPair P' Q' m
 pair_weaker P P' Q Q' first second = image_weaker paired (BothOfPair P Q) (BothOfPair P' Q') (λ p h. (first p.0 h.0, second p.1 h.1))

@@ -13,7 +13,7 @@ use Rattle.std.proofs.lemmas.Map.Keys.{IsDistinct-head, IsDistinct-tail}
 use Rattle.std.proofs.Common.{ap, sym, ◌∙◌, subst, arith}
 use Rattle.nano_value.specs.Meaning.{Meaning, listed, paired, pair_map, both_injective, listed_injective, usize_bound}
 use Rattle.nano_value.specs.Order.{meaning_cmp, meaning_cmp-total, meaning_cmp-antisymmetric, same_meaning, same_meaning-decides}
-use Rattle.nano_value.specs.Legal.{IsImage, BothOfPair, AllOfList, image_of, length-map, all-map}
+use Rattle.nano_value.specs.Legal.{IsImage, BothOfPair, AllOfList, image_of, length-map, all-map, all_weaker}
 use Rattle.nano_value.specs.Exact.{Tells}
 
 -- entries put into a table, one behind the other
@@ -75,10 +75,6 @@ pub insert_all-push : {K X : Type 0} {R : K → K → Ordering} (t : FinMap R X)
 insert_all-push t [] k v = refl
 insert_all-push t (e ∷ es) k v = insert_all-push (table.insert t e.0 e.1) es k v
 
-weaken : {A : Type 0} (P Q : A → Type 0) → ((x : A) → P x → Q x) → (xs : List A) → AllByRecursion P xs → AllByRecursion Q xs
-weaken P Q f [] h = tt
-weaken P Q f (x ∷ xs) h = (f x h.0, weaken P Q f xs h.1)
-
 module _ {K V X : Type 0} (f : K → Meaning) (g : V → X) where
   none_last : (q : Meaning) (es : List (K × V)) (o : Option X) → AllByRecursion (λ k. same_meaning q (f k) ≡ false) (keys_of es) → last q (map (pair_map f g) es) o ≡ o
   none_last q [] o h = refl
@@ -98,7 +94,7 @@ module _ {K V X : Type 0} (f : K → Meaning) (g : V → X) where
     found_last : (q : Meaning) (es : List (K × V)) → IsDistinct E (keys_of es) → last q (map (pair_map f g) es) None ≡ option_map g (lookup (λ k. same_meaning q (f k)) es)
     found_last q [] h = refl
     found_last q (e ∷ es) h = elim (same_meaning q (f e.0)) as (λ b. same_meaning q (f e.0) ≡ b → last q (map (pair_map f g) es) (cond b (Some (g e.1)) None) ≡ option_map g (cond b (Some e.1) (lookup (λ k. same_meaning q (f k)) es))) [
-      | true ↦ λ s. none_last q es (Some (g e.1)) (weaken (λ y. E e.0 y ≡ false) (λ y. same_meaning q (f y) ≡ false) (λ y n. key_test q e.0 y s ∙ n) (keys_of es) (IsDistinct-head E e.0 (keys_of es) h))
+      | true ↦ λ s. none_last q es (Some (g e.1)) (all_weaker (λ y. E e.0 y ≡ false) (λ y. same_meaning q (f y) ≡ false) (λ y n. key_test q e.0 y s ∙ n) (keys_of es) (IsDistinct-head E e.0 (keys_of es) h))
       | false ↦ λ s. found_last q es (IsDistinct-tail E e.0 (keys_of es) h)
     ] refl
 
@@ -171,7 +167,7 @@ pub map_is_legal : {K V : Type 0} (f : K → Meaning) (P : Meaning → Type 0) (
 map_is_legal f P g Q es few all = image_of table_means (AllOfTable P Q) (table_of f g es) (all_of_table_of P Q f g es few all)
 
 pub all_of_table_weaker : {X : Type 0} (P P' : Meaning → Type 0) (Q Q' : X → Type 0) → ((m : Meaning) → P m → P' m) → ((x : X) → Q x → Q' x) → (t : Table X) → AllOfTable P Q t → AllOfTable P' Q' t
-all_of_table_weaker P P' Q Q' keys values t h = record { count = h.count; entries = weaken (BothOfPair P Q) (BothOfPair P' Q') (λ e k. (keys e.0 k.0, values e.1 k.1)) (table.entries t) h.entries }
+all_of_table_weaker P P' Q Q' keys values t h = record { count = h.count; entries = all_weaker (BothOfPair P Q) (BothOfPair P' Q') (λ e k. (keys e.0 k.0, values e.1 k.1)) (table.entries t) h.entries }
 
 pub map_weaker : (P P' Q Q' : Meaning → Type 0) → ((m : Meaning) → P m → P' m) → ((m : Meaning) → Q m → Q' m) → (m : Meaning) → LegalMap P Q m → LegalMap P' Q' m
 map_weaker P P' Q Q' keys values m h = record { part = h.part; has = all_of_table_weaker P P' Q Q' keys values h.part h.has; is = h.is }
