@@ -9,3 +9,7 @@ pub mod Spelling
 pub mod Spellings
 pub mod SpellingLaws
 pub mod Marks
+pub mod CutAgain
+pub mod Written
+pub mod Writing
+pub mod Format

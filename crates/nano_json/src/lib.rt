@@ -4,14 +4,17 @@
 
 mod arrays;
 mod boxes;
+mod digits;
 mod error;
 mod helpers;
+mod items;
 pub mod laws;
 mod linked_lists;
 mod lists;
 mod marks;
 mod numbers;
 mod state;
+mod strings;
 #[cfg(test)]
 mod tests;
 mod texts;

@@ -7,3 +7,4 @@ pub mod Place
 pub mod Scan
 pub mod String
 pub mod Tokens
+pub mod Written
