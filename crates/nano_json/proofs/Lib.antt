@@ -7,4 +7,7 @@ pub mod Cuts
 pub mod Shorter
 pub mod BracketCounts
 pub mod Reading
+pub mod Containers
+pub mod MapReading
+pub mod TupleParts
 pub mod Integers

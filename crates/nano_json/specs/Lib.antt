@@ -8,6 +8,9 @@ pub mod Laws
 pub mod Spelling
 pub mod Spellings
 pub mod SpellingLaws
+pub mod Sets
+pub mod Tuples
+pub mod Maps
 pub mod Marks
 pub mod CutAgain
 pub mod Written

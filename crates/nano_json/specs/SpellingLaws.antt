@@ -6,7 +6,7 @@ use Rattle.std.proofs.Common.{sym, ◌∙◌, subst, ap, inl, inr}
 use Rattle.nano_value.specs.Meaning.{Meaning, number, truth, whole, text, optional, listed}
 use Rattle.nano_value.specs.Legal.{IsImage, IsText, AllOfOption, AllOfList, AllOfCount, LegalUnit}
 use Rattle.nano_text.specs.Tokens.{NoneBeginsAnother}
-use Rattle.nano_text.specs.Lists.{StartsOtherwise, SpelledItems, SpelledList, OneValue, NeverStartsWith}
+use Rattle.nano_text.specs.Lists.{ListMarks, StartsOtherwise, SpelledItems, SpelledList, OneValue, NeverStartsWith}
 use Rattle.nano_text.specs.ListLaws.{list_one_value, list_none_begins}
 use Rattle.nano_json.specs.Token.{Token, str, u64, i64, f64, bool, null, block_close, comma, integer_of}
 use Rattle.nano_json.specs.Skipped.{IsScalar}
@@ -139,13 +139,13 @@ module _ {A : Type 0} {P : A → Type 0} {S : List Token → A → Type 0} (s : 
   pub no_item_closes : NeverStartsWith block_close S
   no_item_closes ts x h = other_than_closing ts (s.begins ts x h)
 
-  items_are_legal : (xs : List A) (ts : List Token) → SpelledItems blocks S ts xs → AllByRecursion P xs
-  items_are_legal [] ts h = tt
-  items_are_legal (x ∷ xs) ts h = (
+  pub items_are_legal : (marks : ListMarks Token) (xs : List A) (ts : List Token) → SpelledItems marks S ts xs → AllByRecursion P xs
+  items_are_legal marks [] ts h = tt
+  items_are_legal marks (x ∷ xs) ts h = (
     s.is_legal h.0 x h.3,
     elim h.4 [
       | inl r ↦ subst (AllByRecursion P) (sym r.1) tt
-      | inr r ↦ items_are_legal xs r.0 r.2
+      | inr r ↦ items_are_legal marks xs r.0 r.2
     ],
   )
 
@@ -157,7 +157,7 @@ module _ {A : Type 0} {P : A → Type 0} {S : List Token → A → Type 0} (s : 
 
   pub list_spelling : IsSpelling (AllOfList P) (SpellsList S)
   list_spelling = record {
-    is_legal = λ ts xs h. record { count = h.count; items = items_are_legal xs h.items.0 h.items.2 };
+    is_legal = λ ts xs h. record { count = h.count; items = items_are_legal blocks xs h.items.0 h.items.2 };
     one_value = λ ts xs ys h k. between_one ts xs ys h.items k.items;
     none_begins = λ ts more xs ys h k. between_apart ts more xs ys h.items k.items;
     begins = λ ts xs h. subst BeginsValue (sym h.items.1) tt;
@@ -165,7 +165,7 @@ module _ {A : Type 0} {P : A → Type 0} {S : List Token → A → Type 0} (s : 
 
   pub count_spelling : (count : ℕ) → IsSpelling (AllOfCount count P) (SpellsCount count S)
   count_spelling count = record {
-    is_legal = λ ts xs h. record { count_is = h.count_is; items = items_are_legal xs h.items.0 h.items.2 };
+    is_legal = λ ts xs h. record { count_is = h.count_is; items = items_are_legal blocks xs h.items.0 h.items.2 };
     one_value = λ ts xs ys h k. between_one ts xs ys h.items k.items;
     none_begins = λ ts more xs ys h k. between_apart ts more xs ys h.items k.items;
     begins = λ ts xs h. subst BeginsValue (sym h.items.1) tt;

@@ -383,7 +383,7 @@ impl DeJsonState {
 
 /// How many bytes the characters still hold.
 #[inline]
-fn bytes_left(i: &Chars<'_>) -> usize
+pub(crate) fn bytes_left(i: &Chars<'_>) -> usize
     ensures value { result ≡ length (chars_rest i.now) }
     ensures small { result < 2 ^ 63 }
 {

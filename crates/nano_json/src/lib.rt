@@ -11,8 +11,14 @@ mod items;
 pub mod laws;
 mod linked_lists;
 mod lists;
+mod maps;
 mod marks;
 mod numbers;
+mod ordered_sets;
+mod pairs;
+mod parts;
+mod quadruples;
+mod sets;
 mod state;
 mod strings;
 #[cfg(test)]
@@ -20,6 +26,7 @@ mod tests;
 mod texts;
 mod token;
 mod traits;
+mod triples;
 #[cfg(test)]
 mod type_tests;
 mod words;

@@ -1,7 +1,7 @@
-// Tests of the pending token, for the readers of options and lists.
+// Tests of the pending token, for the readers of options, lists and maps.
 ghost use Rattle.std.specs.Prelude.{◌≡◌};
 ghost use Rattle.nano_json.specs.State.{pending};
-ghost use Rattle.nano_json.specs.Marks.{is_null, is_block_close};
+ghost use Rattle.nano_json.specs.Marks.{is_null, is_block_close, is_curly_close};
 
 use crate::state::DeJsonState;
 use crate::token::DeJsonTok;
@@ -23,6 +23,16 @@ impl DeJsonState {
     {
         match self.tok {
             DeJsonTok::BlockClose => true,
+            _ => false,
+        }
+    }
+
+    #[inline]
+    pub(crate) fn is_curly_close(&self) -> bool
+        ensures { result ≡ is_curly_close (pending self.now) }
+    {
+        match self.tok {
+            DeJsonTok::CurlyClose => true,
             _ => false,
         }
     }

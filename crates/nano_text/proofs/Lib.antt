@@ -1,4 +1,5 @@
 pub mod ListReading
+pub mod PartReading
 pub mod LiveText
 pub mod Digits
 pub mod Escapes

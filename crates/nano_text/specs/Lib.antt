@@ -3,6 +3,8 @@ pub mod Laws
 pub mod ListLaws
 pub mod Lists
 pub mod Number
+pub mod PartLaws
+pub mod Parts
 pub mod Place
 pub mod Scan
 pub mod String

@@ -36,7 +36,7 @@ module _ {T : Type 0} where
     not_closing (t ∷ a) x y v h e = never_closing (t ∷ a) v h (let first : t ≡ marks.closing = cc e in first)
 
     -- where items are a front of items, both are the same
-    items_meet : (vs ws : List V) (ts us more : List T) → SpelledItems marks spelled ts vs → SpelledItems marks spelled us ws → ts ++ more ≡ us → (more ≡ []) × (vs ≡ ws)
+    pub items_meet : (vs ws : List V) (ts us more : List T) → SpelledItems marks spelled ts vs → SpelledItems marks spelled us ws → ts ++ more ≡ us → (more ≡ []) × (vs ≡ ws)
     items_meet [] [] ts us more h k e = let x : more ≡ [] = let both = sym (ap (λ (xs : List T). xs ++ more) h) ∙ (e ∙ k) in cc both in (x, refl)
     items_meet [] (w ∷ ws) ts us more h k e =
         absurd (not_closing k.0 k.1 more w k.3 (sym k.2 ∙ (sym e ∙ ap (λ (xs : List T). xs ++ more) h)))

@@ -1,0 +1,14 @@
+use Rattle.nano_value.specs.Meaning.{paired}
+use Rattle.nano_json.specs.State.{at}
+use Rattle.nano_json.specs.Tuples.{and_then, last_part}
+use Rattle.nano_json.proofs.TupleParts.{tuple_found, bracket_refused, parts_refused}
+use Rattle.nano_json.proofs.pairs.Tuple2DeJson.de_json.Goals as goal
+
+pub returns-in-Ok-read_two-clause-fits : goal.returns-in-Ok-read_two-clause-fits
+returns-in-Ok-read_two-clause-fits g c = tuple_found (and_then g.A.DeJson.spelling (last_part g.B.DeJson.spelling)) (at c.args.state.now c.args.input.now) (at c.block_open.new.self c.block_open.new.i) (at c.read_two.new.state c.read_two.new.input) (paired (g.A.Value.means c.in-Ok-read_two.parts.0, g.B.Value.means c.in-Ok-read_two.parts.1)) c.in-Ok.ensures.taken c.in-Ok-read_two.ensures.fits
+
+pub returns-in-Err-read_two-clause-refused : goal.returns-in-Err-read_two-clause-refused
+returns-in-Err-read_two-clause-refused g c known = parts_refused (and_then g.A.DeJson.spelling (last_part g.B.DeJson.spelling)) (at c.args.state.now c.args.input.now) (at c.block_open.new.self c.block_open.new.i) c.in-Ok.ensures.taken (c.in-Err-read_two.ensures.refused known)
+
+pub returns-in-Err-clause-refused : goal.returns-in-Err-clause-refused
+returns-in-Err-clause-refused g c known = bracket_refused (and_then g.A.DeJson.spelling (last_part g.B.DeJson.spelling)) (at c.args.state.now c.args.input.now) (c.in-Err.ensures.refused known)
