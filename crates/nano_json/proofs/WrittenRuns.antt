@@ -73,8 +73,7 @@ module _ (text plain tail : List ℕ) (n : ℕ) (utf8 : IsUtf8 text) (count : n 
   pub run_more : (before middle after rest : List ℕ) (c : ℕ) → middle ≡ before ++ plain → tail ≡ encode_utf8 c ++ rest → after ≡ middle ++ encode_utf8_all (piece_text (written_piece c)) → (run : List ℕ) × (after ≡ before ++ run) × (Written text ≡ run ++ Written rest)
   run_more before middle after rest c e taken f =
       let piece = encode_utf8_all (piece_text (written_piece c)) in
-      let tail_utf8 = subst IsUtf8 (sym tail_is) (cut_run text utf8).behind_utf8 in
-      (
+      let tail_utf8 = subst IsUtf8 (sym tail_is) (cut_run text utf8).behind_utf8 in (
         plain ++ piece,
         f ∙ (ap (λ l. l ++ piece) e ∙ append_assoc before plain piece),
         run_split ∙ (ap (λ l. plain ++ l) (character_written tail rest c tail_utf8 taken) ∙ sym (append_assoc plain piece (Written rest))),

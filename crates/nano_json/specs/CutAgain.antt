@@ -22,7 +22,8 @@ use Rattle.nano_text.specs.declared.number.Number.TheVariants.{U64, I64}
 use Rattle.nano_json.specs.Token.{Token, str, u64, i64, bool, null, colon}
 use Rattle.nano_json.specs.Cut.{is_word, IsLexeme, mark, word, number, quoted, IsQuoted, starts_number, Cut}
 use Rattle.nano_json.specs.Spellings.{blocks}
-use Rattle.nano_json.specs.Written.{block_marks, curly_marks, curlies, MayFollow, may_follow, written_truth, signed_token, written_piece, written_text, is_control, four_digits}
+use Rattle.nano_json.specs.Maps.{curlies}
+use Rattle.nano_json.specs.Written.{block_marks, curly_marks, MayFollow, may_follow, written_truth, signed_token, written_piece, written_text, is_control, four_digits}
 
 -- both tests pass
 pub and_true : (a b : Bool) → a && b ≡ true → (a ≡ true) × (b ≡ true)
@@ -77,14 +78,14 @@ follower P p10 p13 p9 p32 p44 p58 p93 p125 c h =
     elim (one_of _ _ h) [
       | inl s ↦ elim (one_of _ _ s) [
         | inl s ↦ elim (one_of _ _ s) [
-          | inl s ↦ elim (one_of _ _ s) [ | inl e ↦ is 10 p10 e | inr e ↦ is 13 p13 e ]
+          | inl s ↦ elim (one_of _ _ s) [ inl e ↦ is 10 p10 e | inr e ↦ is 13 p13 e ]
           | inr e ↦ is 9 p9 e
         ]
         | inr e ↦ is 32 p32 e
       ]
       | inr s ↦ elim (one_of _ _ s) [
-        | inl s ↦ elim (one_of _ _ s) [ | inl e ↦ is 44 p44 e | inr e ↦ is 58 p58 e ]
-        | inr s ↦ elim (one_of _ _ s) [ | inl e ↦ is 93 p93 e | inr e ↦ is 125 p125 e ]
+        | inl s ↦ elim (one_of _ _ s) [ inl e ↦ is 44 p44 e | inr e ↦ is 58 p58 e ]
+        | inr s ↦ elim (one_of _ _ s) [ inl e ↦ is 93 p93 e | inr e ↦ is 125 p125 e ]
       ]
     ]
 
@@ -126,9 +127,9 @@ decimal_digits : (n : ℕ) → n < 2 ^ 64 → AreDigitsOf n (decimal n)
 decimal_digits = decimal_by_steps AreDigitsOf
     (λ n small. record { all = both_are (is_ascii_digit (48 + n)) true (digit_is n small) refl; some = omega arith })
     (λ n ds large h. record {
-        all = digits_append ds ((48 + n % 10) ∷ []) h.all (both_are (is_ascii_digit (48 + n % 10)) true (digit_is (n % 10) (omega arith)) refl);
-        some = let long = length-append ds ((48 + n % 10) ∷ []) in omega (arith, long);
-      })
+      all = digits_append ds ((48 + n % 10) ∷ []) h.all (both_are (is_ascii_digit (48 + n % 10)) true (digit_is (n % 10) (omega arith)) refl);
+      some = let long = length-append ds ((48 + n % 10) ∷ []) in omega (arith, long);
+    })
 
 -- digits begin with one
 starts_with_digit : (ds rest : List ℕ) → all_ascii_digits ds ≡ true → 0 < length ds → first_is starts_number (ds ++ rest) ≡ true
@@ -246,8 +247,7 @@ pieces_stand [] h = (tt, refl, refl, tt)
 pieces_stand (c ∷ cs) h =
     let parts = and_true (scalar c) (scalars cs) h in
     let first = piece_stands c parts.0 in
-    let others = pieces_stand cs parts.1 in
-    (
+    let others = pieces_stand cs parts.1 in (
       (first.good, others.0),
       (λ i. first.character i ∷ others.1 i),
       ap (λ l. piece_text (written_piece c) ++ l) others.2,

@@ -198,7 +198,7 @@ module _ {A : Type 0} (f : Format A) where
     pub items_read_back : (xs : List A) → AllByRecursion f.spelling.legal (map f.writing.means xs) → AllSound xs → SpelledList blocks f.spelling.spelled (list_tokens f.writing.tokens xs) (map f.writing.means xs)
     items_read_back xs h s = list_spelled blocks f.spelling.spelled f.writing.tokens f.writing.means xs (each_reads_back xs h s)
 
-    each_is_sound : (xs : List A) → AllByRecursion (λ m. (ts : List Token) × f.spelling.spelled ts m) (map f.writing.means xs) → AllSound xs
+    pub each_is_sound : (xs : List A) → AllByRecursion (λ m. (ts : List Token) × f.spelling.spelled ts m) (map f.writing.means xs) → AllSound xs
     each_is_sound [] h = tt
     each_is_sound (x ∷ xs) h = (f.spelled_is_sound ordered x h.0.0 h.0.1, each_is_sound xs h.1)
 

@@ -16,3 +16,5 @@ pub mod CutAgain
 pub mod Written
 pub mod Writing
 pub mod Format
+pub mod MapWriting
+pub mod MapFormat

@@ -1,21 +1,21 @@
 -- How the values of a type are written, with the laws of it.
 use Rattle.std.specs.Prelude.{◌≡◌, ◌⊎◌, ℕ, ◌+◌, ◌<◌, ◌≤◌, ◌^◌, ℤ, FitsSigned, Bool, true, List, [], ◌∷◌, ◌++◌, map, length, Option, Some, None, codes, refl}
 use Rattle.std.specs.Fmt.{decimal, signed_decimal}
-use Rattle.std.specs.Int.{Width, w64}
+use Rattle.std.specs.Int.{Width, w8, w16, w32, w64}
 use Rattle.std.specs.List.{AllByRecursion, flat_map}
 use Rattle.std.specs.Option.{option_map}
-use Rattle.std.proofs.Common.{sym, ◌∙◌, subst, ap, append_assoc}
+use Rattle.std.proofs.Common.{sym, ◌∙◌, subst, ap, append_assoc, arith}
 use Rattle.nano_value.specs.Meaning.{Meaning, number, truth, nothing, whole, text, optional, listed, paired, pair_map, number_injective, truth_injective, whole_injective, text_injective, both_injective, listed_injective}
 use Rattle.nano_value.specs.Legal.{IsImage, IsText, LegalUnit, LegalOption, LegalList, LegalArray, LegalPair, AllOfOption, AllOfList, AllOfCount, BothOfPair}
 use Rattle.nano_text.specs.Lists.{ListMarks}
 use Rattle.nano_text.specs.Place.{counted}
 use Rattle.nano_text.specs.Tokens.{Cuts}
-use Rattle.nano_text.specs.Written.{IsCutInto, MarksAreCut, cuts_append, divided, enclosed, keyed, enclosed_same, enclosed_cut}
+use Rattle.nano_text.specs.Written.{IsCutInto, MarksAreCut, cuts_append, divided, enclosed, with_mark, with_closing, with_opening, enclosed_same, enclosed_cut}
 use Rattle.nano_json.specs.Token.{Token, str, u64, bool, null, colon, comma}
 use Rattle.nano_json.specs.Cut.{Cut}
 use Rattle.nano_json.specs.Spellings.{blocks}
-use Rattle.nano_json.specs.Written.{MayFollow, block_marks, written_truth, signed_token, written_text, written_option, option_tokens, written_list, list_tokens, last_part, next_part, bracketed}
-use Rattle.nano_json.specs.CutAgain.{is_textual, AllTextual, textual_append, blocks_are_cut, truth_is_cut, null_is_cut, unsigned_is_cut, signed_is_cut, text_is_cut, truth_textual, null_textual, unsigned_textual, signed_textual, text_textual}
+use Rattle.nano_json.specs.Written.{MayFollow, may_follow, block_marks, written_truth, signed_token, written_text, written_option, option_tokens, written_list, list_tokens}
+use Rattle.nano_json.specs.CutAgain.{is_textual, AllTextual, textual_append, blocks_are_cut, colon_is_cut, truth_is_cut, null_is_cut, unsigned_is_cut, signed_is_cut, text_is_cut, truth_textual, null_textual, unsigned_textual, signed_textual, text_textual}
 
 -- the text, with anything behind it that may follow a written value, is cut into the tokens; and it holds characters
 -- that a text may hold
@@ -51,6 +51,31 @@ null_is_written = record { cut_again = null_is_cut; textual = null_textual }
 
 pub text_is_written : (bytes : List ℕ) → IsText bytes → IsWrittenAs (str bytes ∷ []) (written_text bytes)
 text_is_written bytes is = record { cut_again = text_is_cut bytes is; textual = text_textual bytes is }
+
+-- numbers of each width are numbers of 64 bits
+pub below_8 : (n : ℕ) → n < 2 ^ 8 → n < 2 ^ 64
+below_8 n h = omega (arith, h)
+
+pub below_16 : (n : ℕ) → n < 2 ^ 16 → n < 2 ^ 64
+below_16 n h = omega (arith, h)
+
+pub below_32 : (n : ℕ) → n < 2 ^ 32 → n < 2 ^ 64
+below_32 n h = omega (arith, h)
+
+pub below_64 : (n : ℕ) → n < 2 ^ 64 → n < 2 ^ 64
+below_64 n h = h
+
+pub within_8 : (z : ℤ) → FitsSigned w8 z → FitsSigned w64 z
+within_8 z h = let small = h.sfits in record { sfits = omega (arith, small) }
+
+pub within_16 : (z : ℤ) → FitsSigned w16 z → FitsSigned w64 z
+within_16 z h = let small = h.sfits in record { sfits = omega (arith, small) }
+
+pub within_32 : (z : ℤ) → FitsSigned w32 z → FitsSigned w64 z
+within_32 z h = let small = h.sfits in record { sfits = omega (arith, small) }
+
+pub within_64 : (z : ℤ) → FitsSigned w64 z → FitsSigned w64 z
+within_64 z h = h
 
 abbrev pub unsigned_writing : (bits : ℕ) → ((n : ℕ) → n < 2 ^ bits → n < 2 ^ 64) → Writing ℕ
 unsigned_writing bits small = record {
@@ -162,7 +187,7 @@ module _ {A : Type 0} (w : Writing A) (h : w.orders_keys) where
     present None all e = absurd (cc)
     present (Some m) all e = subst w.legal (sym (both_injective _ _ _ _ e).0) all
 
-  same_each : (d : ℕ) (xs ys : List A) → map w.means xs ≡ map w.means ys → map (w.text d) xs ≡ map (w.text d) ys
+  pub same_each : (d : ℕ) (xs ys : List A) → map w.means xs ≡ map w.means ys → map (w.text d) xs ≡ map (w.text d) ys
   same_each d [] [] e = refl
   same_each d [] (y ∷ ys) e = absurd (cc)
   same_each d (x ∷ xs) [] e = absurd (cc)
@@ -224,23 +249,23 @@ array_writing count w = record {
 -- ---- the parts of a tuple
 
 module _ {A : Type 0} (w : Writing A) (h : w.orders_keys) where
-  pub last_same : (x y : A) → w.means x ≡ w.means y → (d : ℕ) → last_part block_marks (w.text d) x ≡ last_part block_marks (w.text d) y
+  pub last_same : (x y : A) → w.means x ≡ w.means y → (d : ℕ) → with_closing block_marks (w.text d) x ≡ with_closing block_marks (w.text d) y
   last_same x y e d = ap (λ l. l ++ 93 ∷ []) (w.same_text h x y e d)
 
-  pub last_is_written : (x : A) → w.legal (w.means x) → (d : ℕ) → IsWrittenAs (last_part blocks w.tokens x) (last_part block_marks (w.text d) x)
+  pub last_is_written : (x : A) → w.legal (w.means x) → (d : ℕ) → IsWrittenAs (with_closing blocks w.tokens x) (with_closing block_marks (w.text d) x)
   last_is_written x legal d =
       let part = w.is_written h x legal d in
       record {
         cut_again = λ rest follows.
-            subst (λ l. Cuts Cut (last_part blocks w.tokens x) l rest) (sym (append_assoc (w.text d x) (93 ∷ []) rest))
+            subst (λ l. Cuts Cut (with_closing blocks w.tokens x) l rest) (sym (append_assoc (w.text d x) (93 ∷ []) rest))
             (cuts_append Cut (w.tokens x) (blocks.closing ∷ []) (w.text d x ++ 93 ∷ rest) (93 ∷ rest) rest (part.cut_again (93 ∷ rest) (blocks_are_cut.closing_follows rest)) (rest, blocks_are_cut.closing rest, refl));
         textual = textual_append (w.text d x) (93 ∷ []) part.textual (refl, tt);
       }
 
-  pub bracketed_same : (x y : A) → w.means x ≡ w.means y → (d : ℕ) → bracketed block_marks (w.text d) x ≡ bracketed block_marks (w.text d) y
+  pub bracketed_same : (x y : A) → w.means x ≡ w.means y → (d : ℕ) → with_opening block_marks (w.text d) x ≡ with_opening block_marks (w.text d) y
   bracketed_same x y e d = ap (λ l. 91 ∷ l) (w.same_text h x y e d)
 
-  pub bracketed_is_written : (x : A) → w.legal (w.means x) → (d : ℕ) → IsWrittenAs (bracketed blocks w.tokens x) (bracketed block_marks (w.text d) x)
+  pub bracketed_is_written : (x : A) → w.legal (w.means x) → (d : ℕ) → IsWrittenAs (with_opening blocks w.tokens x) (with_opening block_marks (w.text d) x)
   bracketed_is_written x legal d =
       let parts = w.is_written h x legal d in
       record {
@@ -248,30 +273,49 @@ module _ {A : Type 0} (w : Writing A) (h : w.orders_keys) where
         textual = (refl, parts.textual);
       }
 
-module _ {A B : Type 0} (v : Writing A) (w : Writing B) (h : v.orders_keys × w.orders_keys) where
-  pub next_same : (x y : A × B) → paired (pair_map v.means w.means x) ≡ paired (pair_map v.means w.means y) → (d : ℕ) → next_part block_marks (v.text d) (w.text d) x ≡ next_part block_marks (v.text d) (w.text d) y
-  next_same x y e d = let same = both_injective (v.means x.0) (w.means x.1) (v.means y.0) (w.means y.1) e in λ i. v.same_text h.0 x.0 y.0 same.0 d i ++ 44 ∷ w.same_text h.1 x.1 y.1 same.1 d i
+-- a mark between two parts is cut into its token, whatever follows; and it may follow a value
+pub record IsMarkOf (token : Token) (c : ℕ) : Type 0 where
+  pub cut : (rest : List ℕ) → Cut (c ∷ rest) token rest
+  pub follows : may_follow c ≡ true
+  pub textual : is_textual c ≡ true
 
-  pub next_is_written : (x : A × B) → LegalPair v.legal w.legal (paired (pair_map v.means w.means x)) → (d : ℕ) → IsWrittenAs (next_part blocks v.tokens w.tokens x) (next_part block_marks (v.text d) (w.text d) x)
-  next_is_written x legal d =
-      let same = both_injective (v.means x.0) (w.means x.1) legal.part.0 legal.part.1 legal.is in
-      let part = v.is_written h.0 x.0 (subst v.legal (sym same.0) legal.has.0) d in
-      let others = w.is_written h.1 x.1 (subst w.legal (sym same.1) legal.has.1) d in
+pub comma_is_mark : IsMarkOf comma 44
+comma_is_mark = record { cut = blocks_are_cut.comma; follows = refl; textual = refl }
+
+pub colon_is_mark : IsMarkOf colon 58
+colon_is_mark = record { cut = colon_is_cut; follows = refl; textual = refl }
+
+module _ {A B : Type 0} (v : Writing A) (w : Writing B) (h : v.orders_keys × w.orders_keys) where
+  pub both_same : (c : ℕ) (x y : A × B) → v.means x.0 ≡ v.means y.0 → w.means x.1 ≡ w.means y.1 → (d : ℕ) → with_mark c (v.text d) (w.text d) x ≡ with_mark c (v.text d) (w.text d) y
+  both_same c x y e k d i = v.same_text h.0 x.0 y.0 e d i ++ c ∷ w.same_text h.1 x.1 y.1 k d i
+
+  pub next_same : (x y : A × B) → paired (pair_map v.means w.means x) ≡ paired (pair_map v.means w.means y) → (d : ℕ) → with_mark 44 (v.text d) (w.text d) x ≡ with_mark 44 (v.text d) (w.text d) y
+  next_same x y e d = let same = both_injective (v.means x.0) (w.means x.1) (v.means y.0) (w.means y.1) e in both_same 44 x y same.0 same.1 d
+
+  pub both_are_written : (token : Token) (c : ℕ) → IsMarkOf token c → (x : A × B) → v.legal (v.means x.0) → w.legal (w.means x.1) → (d : ℕ) → IsWrittenAs (with_mark token v.tokens w.tokens x) (with_mark c (v.text d) (w.text d) x)
+  both_are_written token c mark x first second d =
+      let part = v.is_written h.0 x.0 first d in
+      let others = w.is_written h.1 x.1 second d in
       record {
         cut_again = λ rest follows.
             let behind = w.text d x.1 ++ rest in
-            subst (λ l. Cuts Cut (next_part blocks v.tokens w.tokens x) l rest) (sym (append_assoc (v.text d x.0) (44 ∷ w.text d x.1) rest))
-            (cuts_append Cut (v.tokens x.0) (comma ∷ w.tokens x.1) (v.text d x.0 ++ 44 ∷ behind) (44 ∷ behind) rest (part.cut_again (44 ∷ behind) (blocks_are_cut.comma_follows behind)) (behind, blocks_are_cut.comma behind, others.cut_again rest follows));
-        textual = textual_append (v.text d x.0) (44 ∷ w.text d x.1) part.textual (refl, others.textual);
+            subst (λ l. Cuts Cut (with_mark token v.tokens w.tokens x) l rest) (sym (append_assoc (v.text d x.0) (c ∷ w.text d x.1) rest))
+            (cuts_append Cut (v.tokens x.0) (token ∷ w.tokens x.1) (v.text d x.0 ++ c ∷ behind) (c ∷ behind) rest (part.cut_again (c ∷ behind) mark.follows) (behind, mark.cut behind, others.cut_again rest follows));
+        textual = textual_append (v.text d x.0) (c ∷ w.text d x.1) part.textual (mark.textual, others.textual);
       }
+
+  pub next_is_written : (x : A × B) → LegalPair v.legal w.legal (paired (pair_map v.means w.means x)) → (d : ℕ) → IsWrittenAs (with_mark comma v.tokens w.tokens x) (with_mark 44 (v.text d) (w.text d) x)
+  next_is_written x legal d =
+      let same = both_injective (v.means x.0) (w.means x.1) legal.part.0 legal.part.1 legal.is in
+      both_are_written comma 44 comma_is_mark x (subst v.legal (sym same.0) legal.has.0) (subst w.legal (sym same.1) legal.has.1) d
 
 -- the last part of a tuple, with the closing bracket
 abbrev pub last_writing : {A : Type 0} → Writing A → Writing A
 last_writing w = record {
   means = w.means;
   legal = w.legal;
-  text = λ d. last_part block_marks (w.text d);
-  tokens = last_part blocks w.tokens;
+  text = λ d. with_closing block_marks (w.text d);
+  tokens = with_closing blocks w.tokens;
   orders_keys = w.orders_keys;
   same_text = last_same w;
   is_written = last_is_written w;
@@ -282,8 +326,8 @@ abbrev pub next_writing : {A B : Type 0} → Writing A → Writing B → Writing
 next_writing v w = record {
   means = λ x. paired (pair_map v.means w.means x);
   legal = LegalPair v.legal w.legal;
-  text = λ d. next_part block_marks (v.text d) (w.text d);
-  tokens = next_part blocks v.tokens w.tokens;
+  text = λ d. with_mark 44 (v.text d) (w.text d);
+  tokens = with_mark comma v.tokens w.tokens;
   orders_keys = v.orders_keys × w.orders_keys;
   same_text = next_same v w;
   is_written = next_is_written v w;
@@ -294,8 +338,8 @@ abbrev pub tuple_writing : {A : Type 0} → Writing A → Writing A
 tuple_writing w = record {
   means = w.means;
   legal = w.legal;
-  text = λ d. bracketed block_marks (w.text d);
-  tokens = bracketed blocks w.tokens;
+  text = λ d. with_opening block_marks (w.text d);
+  tokens = with_opening blocks w.tokens;
   orders_keys = w.orders_keys;
   same_text = bracketed_same w;
   is_written = bracketed_is_written w;

@@ -5,8 +5,9 @@ use Rattle.std.specs.Fmt.{decimal, signed_decimal}
 use Rattle.std.specs.List.{flat_map}
 use Rattle.nano_text.specs.Lists.{ListMarks}
 use Rattle.nano_text.specs.String.{Piece, CodeUnit, plain, escaped, scalar, piece_text}
-use Rattle.nano_text.specs.Written.{enclosed, keyed}
-use Rattle.nano_json.specs.Token.{Token, str, u64, i64, bool, null, colon, comma, block_open, block_close, curly_open, curly_close}
+use Rattle.nano_text.specs.Written.{enclosed, with_mark}
+use Rattle.nano_json.specs.Maps.{curlies}
+use Rattle.nano_json.specs.Token.{Token, str, u64, i64, bool, null, colon}
 use Rattle.nano_json.specs.Cut.{is_space}
 use Rattle.nano_json.specs.Spellings.{blocks}
 
@@ -20,10 +21,7 @@ block_marks = record { opening = 91; closing = 93; comma = 44 }
 abbrev pub curly_marks : ListMarks ℕ
 curly_marks = record { opening = 123; closing = 125; comma = 44 }
 
-abbrev pub curlies : ListMarks Token
-curlies = record { opening = curly_open; closing = curly_close; comma = comma }
-
--- : and what may follow a written value: white space , : ] }
+-- what may follow a written value: white space , : ] }
 abbrev pub may_follow : ℕ → Bool
 may_follow c = is_space c || (((c == 44) || (c == 58)) || ((c == 93) || (c == 125)))
 
@@ -85,21 +83,14 @@ list_tokens T xs = enclosed blocks T xs
 
 -- a key, a colon and its value
 abbrev pub written_entry : {K V : Type 0} → (K → List ℕ) → (V → List ℕ) → K × V → List ℕ
-written_entry A B = keyed 58 A B
+written_entry A B = with_mark 58 A B
 
 abbrev pub entry_tokens : {K V : Type 0} → (K → List Token) → (V → List Token) → K × V → List Token
-entry_tokens A B = keyed colon A B
+entry_tokens A B = with_mark colon A B
 
--- ---- tuples, over what is written of their parts
+-- the entries of a map
+abbrev pub written_entries : {K V : Type 0} → (K → List ℕ) → (V → List ℕ) → List (K × V) → List ℕ
+written_entries A B es = enclosed curly_marks (written_entry A B) es
 
--- the last part, and the closing bracket
-abbrev pub last_part : {A T : Type 0} → ListMarks T → (A → List T) → A → List T
-last_part marks f x = f x ++ marks.closing ∷ []
-
--- a part, a comma, and the parts behind it
-abbrev pub next_part : {A B T : Type 0} → ListMarks T → (A → List T) → (B → List T) → A × B → List T
-next_part marks f g x = f x.0 ++ marks.comma ∷ g x.1
-
--- the opening bracket, and the parts behind it
-abbrev pub bracketed : {A T : Type 0} → ListMarks T → (A → List T) → A → List T
-bracketed marks f x = marks.opening ∷ f x
+abbrev pub entries_tokens : {K V : Type 0} → (K → List Token) → (V → List Token) → List (K × V) → List Token
+entries_tokens A B es = enclosed curlies (entry_tokens A B) es

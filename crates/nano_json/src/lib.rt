@@ -1,5 +1,5 @@
-//! JSON as the crate nanoserde reads and writes it: the tokens of a text, a reader's state with its
-//! helpers and errors, and a writer's state.
+//! JSON as the crate nanoserde reads and writes it: typed values to text and back, the tokens of a
+//! text, a reader's state with its helpers and errors, and a writer's state.
 #![tactic(auto)]
 
 mod arrays;
@@ -30,10 +30,11 @@ mod triples;
 #[cfg(test)]
 mod type_tests;
 mod words;
+mod write_parts;
 mod write_state;
 
 pub use error::DeJsonErr;
 pub use state::DeJsonState;
 pub use token::DeJsonTok;
-pub use traits::DeJson;
+pub use traits::{BothJson, DeJson, SerJson};
 pub use write_state::SerJsonState;

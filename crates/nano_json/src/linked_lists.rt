@@ -1,5 +1,5 @@
 // Linked lists: items between square brackets.
-ghost use Rattle.std.specs.Prelude.{◌≡◌, [], true, false, map, IfOk, IfErr, string_bytes};
+ghost use Rattle.std.specs.Prelude.{◌≡◌, [], true, false, map, IfOk, IfErr, string_bytes, ◌++◌, ℕ, List, OnOk, OnErr, encode_utf8_all};
 ghost use Rattle.nano_value.specs.Legal.{list_weaker};
 ghost use Rattle.nano_text.specs.Lists.{SpelledList};
 ghost use Rattle.nano_text.specs.Tokens.{Spans};
@@ -8,11 +8,18 @@ ghost use Rattle.nano_json.specs.State.{at};
 ghost use Rattle.nano_json.specs.Spelling.{NothingFits};
 ghost use Rattle.nano_json.specs.Spellings.{blocks};
 ghost use Rattle.nano_json.specs.SpellingLaws.{list_of};
+ghost use Rattle.std.proofs.Common.{ap};
+ghost use Rattle.nano_value.specs.Meaning.{listed};
+ghost use Rattle.nano_json.specs.Written.{written_list};
+ghost use Rattle.nano_json.specs.Writing.{list_writing};
+ghost use Rattle.nano_json.specs.Format.{list_format};
 
 use crate::error::DeJsonErr;
+use crate::items::append_item;
 use crate::state::DeJsonState;
-use crate::traits::DeJson;
-use std::alloc::Global;
+use crate::traits::{BothJson, DeJson, SerJson};
+use crate::write_state::{SerJsonState, keep_written};
+use std::alloc::{AllocError, Global};
 use std::collections::LinkedList;
 use std::str::Chars;
 
@@ -60,4 +67,49 @@ impl<T: DeJson> DeJson for LinkedList<T> {
             }
         }
     }
+}
+
+/// Appends items between square brackets. A refused growth leaves what was written so far.
+fn append_linked<T: SerJson>(
+    alloc: Global,
+    items: &LinkedList<T>,
+    d: usize,
+    s: &mut SerJsonState,
+) -> Result<(), AllocError>
+    ensures ok { OnOk result (string_bytes s.new.out ≡ string_bytes s.old.out ++ encode_utf8_all (written_list (T.writing.text d) items.now)) }
+    ensures err { OnErr result ((more : List ℕ) × (string_bytes s.new.out ≡ string_bytes s.old.out ++ more)) }
+{
+    s.out.push('[')?;
+    let mut first = true;
+    for item in items {
+        append_item(alloc, item, first, d, s)?;
+        first = false;
+    }
+    s.out.push(']')
+}
+
+impl<T: SerJson> SerJson for LinkedList<T> {
+    ghost writing = { list_writing T.writing };
+
+    ghost writes_meaning = { λ i x. listed (map (T.writes_meaning i) x) };
+
+    ghost writes_legal = { list_weaker T.legal T.writing.legal T.writes_legal };
+
+    ghost orders_keys = { T.orders_keys };
+
+    fn ser_json(&self, alloc: Global, d: usize, s: &mut SerJsonState) -> Result<(), AllocError> {
+        let start = s.out.len();
+        let written = append_linked(alloc, self, d.saturating_add(1), s);
+        keep_written(&mut s.out, start, written)
+    }
+}
+
+impl<T: BothJson> BothJson for LinkedList<T> {
+    ghost format = { list_format T.format };
+
+    ghost format_writing = { ap (λ w. list_writing w) T.format_writing };
+
+    ghost format_spelling = { ap (λ s. list_of s) T.format_spelling };
+
+    ghost legal_spells = { list_weaker T.legal T.spelling.legal T.legal_spells };
 }

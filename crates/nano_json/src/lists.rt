@@ -14,8 +14,8 @@ ghost use Rattle.nano_json.specs.Writing.{list_writing, writing_as};
 ghost use Rattle.nano_json.specs.Format.{list_format, format_as};
 
 use crate::error::DeJsonErr;
-use crate::state::DeJsonState;
 use crate::items::append_list;
+use crate::state::DeJsonState;
 use crate::traits::{BothJson, DeJson, SerJson};
 use crate::write_state::{SerJsonState, keep_written};
 use std::alloc::{AllocError, Global};
@@ -76,12 +76,7 @@ impl<T: SerJson> SerJson for Vec<T> {
 
     ghost orders_keys = { T.orders_keys };
 
-    fn ser_json(
-        &self,
-        alloc: Global,
-        d: usize,
-        s: &mut SerJsonState,
-    ) -> Result<(), AllocError> {
+    fn ser_json(&self, alloc: Global, d: usize, s: &mut SerJsonState) -> Result<(), AllocError> {
         let start = s.out.len();
         let written = append_list(alloc, self, d.saturating_add(1), s);
         keep_written(&mut s.out, start, written)

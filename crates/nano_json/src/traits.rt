@@ -17,12 +17,7 @@ pub trait SerJson: Value {
     ghost writing: { Writing Self };
 
     /// Appends the text of the value at level `d`. A refused write leaves `s.out` as it was.
-    fn ser_json(
-        &self,
-        alloc: Global,
-        d: usize,
-        s: &mut SerJsonState,
-    ) -> Result<(), AllocError>
+    fn ser_json(&self, alloc: Global, d: usize, s: &mut SerJsonState) -> Result<(), AllocError>
         ensures ok { OnOk result (string_bytes s.new.out ≡ string_bytes s.old.out ++ encode_utf8_all (writing.text d self.now)) }
         ensures err { OnErr result (string_bytes s.new.out ≡ string_bytes s.old.out) };
 

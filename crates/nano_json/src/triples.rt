@@ -1,13 +1,35 @@
 // Triples: three parts between square brackets.
+ghost use Rattle.nano_value.specs.Meaning.{paired};
 ghost use Rattle.nano_value.specs.Legal.{pair_weaker, LegalPair};
 ghost use Rattle.nano_json.specs.Tuples.{and_then, last_part, tuple_of};
+ghost use Rattle.nano_json.specs.Writing.{last_writing, next_writing, tuple_writing, writing_as};
+ghost use Rattle.nano_json.specs.MapFormat.{last_format, next_format, tuple_format};
+ghost use Rattle.nano_json.specs.Format.{format_as};
 
 use crate::error::DeJsonErr;
 use crate::parts::read_three;
 use crate::state::DeJsonState;
-use crate::traits::DeJson;
-use std::alloc::Global;
+use crate::traits::{BothJson, DeJson, SerJson};
+use crate::write_parts::append_three;
+use crate::write_state::{SerJsonState, keep_written};
+use std::alloc::{AllocError, Global};
 use std::str::Chars;
+
+impl<A: SerJson, B: SerJson, C: SerJson> SerJson for (A, B, C) {
+    ghost writing = { writing_as (λ x. (x.0, (x.1, x.2))) (tuple_writing (next_writing A.writing (next_writing B.writing (last_writing C.writing)))) };
+
+    ghost writes_meaning = { λ i x. paired (A.writes_meaning i x.0, paired (B.writes_meaning i x.1, C.writes_meaning i x.2)) };
+
+    ghost writes_legal = { pair_weaker A.legal A.writing.legal (LegalPair B.legal C.legal) (LegalPair B.writing.legal C.writing.legal) A.writes_legal (pair_weaker B.legal B.writing.legal C.legal C.writing.legal B.writes_legal C.writes_legal) };
+
+    ghost orders_keys = { (A.orders_keys, (B.orders_keys, C.orders_keys)) };
+
+    fn ser_json(&self, alloc: Global, d: usize, s: &mut SerJsonState) -> Result<(), AllocError> {
+        let start = s.out.len();
+        let written = append_three(alloc, self, d, s);
+        keep_written(&mut s.out, start, written)
+    }
+}
 
 impl<A: DeJson, B: DeJson, C: DeJson> DeJson for (A, B, C) {
     ghost spelling = { tuple_of (and_then A.spelling (and_then B.spelling (last_part C.spelling))) };
@@ -33,4 +55,14 @@ impl<A: DeJson, B: DeJson, C: DeJson> DeJson for (A, B, C) {
             }
         }
     }
+}
+
+impl<A: BothJson, B: BothJson, C: BothJson> BothJson for (A, B, C) {
+    ghost format = { format_as (λ x. (x.0, (x.1, x.2))) (tuple_format (next_format A.format (next_format B.format (last_format C.format)))) };
+
+    ghost format_writing = { λ i. writing_as (λ x. (x.0, (x.1, x.2))) (tuple_writing (next_writing (A.format_writing i) (next_writing (B.format_writing i) (last_writing (C.format_writing i))))) };
+
+    ghost format_spelling = { λ i. tuple_of (and_then (A.format_spelling i) (and_then (B.format_spelling i) (last_part (C.format_spelling i)))) };
+
+    ghost legal_spells = { pair_weaker A.legal A.spelling.legal (LegalPair B.legal C.legal) (LegalPair B.spelling.legal C.spelling.legal) A.legal_spells (pair_weaker B.legal B.spelling.legal C.legal C.spelling.legal B.legal_spells C.legal_spells) };
 }

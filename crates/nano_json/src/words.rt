@@ -1,12 +1,36 @@
 // Truth values, the unit and options.
+ghost use Rattle.std.specs.Prelude.{refl};
+ghost use Rattle.std.specs.Option.{option_map};
+ghost use Rattle.std.proofs.Common.{ap};
+ghost use Rattle.nano_value.specs.Meaning.{optional};
 ghost use Rattle.nano_value.specs.Legal.{option_weaker};
 ghost use Rattle.nano_json.specs.SpellingLaws.{truths, units, option_of};
+ghost use Rattle.nano_json.specs.Writing.{truth_writing, unit_writing, option_writing};
+ghost use Rattle.nano_json.specs.Format.{truth_format, unit_format, option_format};
 
 use crate::error::DeJsonErr;
 use crate::state::DeJsonState;
-use crate::traits::DeJson;
-use std::alloc::Global;
+use crate::traits::{BothJson, DeJson, SerJson};
+use crate::write_state::SerJsonState;
+use std::alloc::{AllocError, Global};
 use std::str::Chars;
+
+impl SerJson for bool {
+    ghost writing = { truth_writing };
+
+    ghost writes_meaning = { refl };
+
+    ghost writes_legal = { λ m h. h };
+
+    ghost orders_keys = { tt };
+
+    fn ser_json(&self, _alloc: Global, _d: usize, s: &mut SerJsonState) -> Result<(), AllocError> {
+        if *self {
+            return s.out.push_str("true");
+        }
+        s.out.push_str("false")
+    }
+}
 
 impl DeJson for bool {
     ghost spelling = { truths };
@@ -31,6 +55,30 @@ impl DeJson for bool {
     }
 }
 
+impl BothJson for bool {
+    ghost format = { truth_format };
+
+    ghost format_writing = { refl };
+
+    ghost format_spelling = { refl };
+
+    ghost legal_spells = { λ m h. h };
+}
+
+impl SerJson for () {
+    ghost writing = { unit_writing };
+
+    ghost writes_meaning = { refl };
+
+    ghost writes_legal = { λ m h. h };
+
+    ghost orders_keys = { tt };
+
+    fn ser_json(&self, _alloc: Global, _d: usize, s: &mut SerJsonState) -> Result<(), AllocError> {
+        s.out.push_str("null")
+    }
+}
+
 impl DeJson for () {
     ghost spelling = { units };
 
@@ -47,6 +95,33 @@ impl DeJson for () {
         let error = state.err_token(alloc, "null");
         state.fail();
         Err(error)
+    }
+}
+
+impl BothJson for () {
+    ghost format = { unit_format };
+
+    ghost format_writing = { refl };
+
+    ghost format_spelling = { refl };
+
+    ghost legal_spells = { λ m h. h };
+}
+
+impl<T: SerJson> SerJson for Option<T> {
+    ghost writing = { option_writing T.writing };
+
+    ghost writes_meaning = { ap (λ means x. optional (option_map means x)) T.writes_meaning };
+
+    ghost writes_legal = { option_weaker T.legal T.writing.legal T.writes_legal };
+
+    ghost orders_keys = { T.orders_keys };
+
+    fn ser_json(&self, alloc: Global, d: usize, s: &mut SerJsonState) -> Result<(), AllocError> {
+        match self {
+            None => s.out.push_str("null"),
+            Some(value) => value.ser_json(alloc, d, s),
+        }
     }
 }
 
@@ -71,4 +146,14 @@ impl<T: DeJson> DeJson for Option<T> {
             Err(error) => Err(error),
         }
     }
+}
+
+impl<T: BothJson> BothJson for Option<T> {
+    ghost format = { option_format T.format };
+
+    ghost format_writing = { ap (λ w. option_writing w) T.format_writing };
+
+    ghost format_spelling = { ap (λ s. option_of s) T.format_spelling };
+
+    ghost legal_spells = { option_weaker T.legal T.spelling.legal T.legal_spells };
 }

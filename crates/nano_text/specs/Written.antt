@@ -18,9 +18,17 @@ in_list comma first ts = cond first ts (comma ∷ ts)
 abbrev pub enclosed : {A T : Type 0} → ListMarks T → (A → List T) → List A → List T
 enclosed marks f xs = marks.opening ∷ (divided marks.comma f xs ++ marks.closing ∷ [])
 
--- a key, a colon and a value
-abbrev pub keyed : {K V T : Type 0} → T → (K → List T) → (V → List T) → K × V → List T
-keyed colon f g e = f e.0 ++ colon ∷ g e.1
+-- two parts, and a mark between them
+abbrev pub with_mark : {A B T : Type 0} → T → (A → List T) → (B → List T) → A × B → List T
+with_mark mark f g p = f p.0 ++ mark ∷ g p.1
+
+-- the last part of a tuple, and the closing bracket
+abbrev pub with_closing : {A T : Type 0} → ListMarks T → (A → List T) → A → List T
+with_closing marks f x = f x ++ marks.closing ∷ []
+
+-- the opening bracket, and the parts of a tuple
+abbrev pub with_opening : {A T : Type 0} → ListMarks T → (A → List T) → A → List T
+with_opening marks f x = marks.opening ∷ f x
 
 -- ---- items that are written alike
 
