@@ -16,3 +16,7 @@ boundary_kept before after start at more =
     let front : take start (string_bytes after) ≡ string_bytes before = ap (take start) more.1 ∙ take_at (string_bytes before) more.0 start (omega (arith, at, before.bytes.ok.0)) in
     let fits : start ≤ length (string_bytes after) = omega (arith, at, before.bytes.ok.0, ap length more.1, length-append (string_bytes before) more.0) in
     IsCharBoundary-from_take (string_bytes after) start (IsUtf8-string_bytes after) fits (subst IsUtf8 (sym front) (IsUtf8-string_bytes before))
+
+-- so it may be after a write, however that ended
+pub kept_by : {T E Y Z : Type 0} (r : Result T E) (before : String Y) (after : String Z) (start : ℕ) (written : List ℕ) → start ≡ string_len before → OnOk r (string_bytes after ≡ string_bytes before ++ written) → OnErr r ((more : List ℕ) × (string_bytes after ≡ string_bytes before ++ more)) → IsCharBoundary (string_bytes after) start
+kept_by r before after start written at ok err = boundary_kept before after start at (goes_on r (string_bytes before) (string_bytes after) written ok err)

@@ -18,3 +18,4 @@ pub mod Writing
 pub mod Format
 pub mod MapWriting
 pub mod MapFormat
+pub mod Weaker

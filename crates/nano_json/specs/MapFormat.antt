@@ -191,7 +191,7 @@ module _ {K : Type 0} (R : K → K → Ordering) (f : Format K) (h : IsOrderOf f
 
   pub set_is_sound : (ks : List K) (ts : List Token) → SpellsSet f.spelling.spelled ts (set_means (item_set f.writing.means ks)) → AllSound f (ascending_items R ks)
   set_is_sound ks ts s =
-      let Spelled = λ m. (us : List Token) × f.spelling.spelled us m in
+      let Spelled = λ (m : Meaning). (us : List Token) × f.spelling.spelled us m in
       let each = each_is_spelled blocks f.spelling.spelled s.part ts s.has.items in
       let marks : AllOfList (BothOfPair Spelled (λ _. Unit {0})) (marked s.part) = record { count = subst (λ n. n < usize_bound) (sym (length-map (λ x. (x, tt)) s.part)) s.has.count; items = all-marked Spelled s.part each } in
       let set = all_of_last_values Spelled (λ _. Unit {0}) (marked s.part) marks in

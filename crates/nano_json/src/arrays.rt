@@ -6,6 +6,8 @@ ghost use Rattle.nano_value.specs.Legal.{array_weaker, list_weaker};
 ghost use Rattle.nano_json.specs.SpellingLaws.{array_of};
 ghost use Rattle.nano_json.specs.Writing.{list_writing, array_writing, writing_as};
 ghost use Rattle.nano_json.specs.Format.{array_format};
+ghost use Rattle.nano_json.specs.Written.{list_tokens};
+ghost use Rattle.nano_json.specs.Weaker.{count_spells};
 
 use crate::error::DeJsonErr;
 use crate::items::append_list;
@@ -79,9 +81,15 @@ impl<T: DeJson, const N: usize> DeJson for [T; N] {
 impl<T: BothJson, const N: usize> BothJson for [T; N] {
     ghost format = { array_format N T.format };
 
-    ghost format_writing = { ap (λ w. array_writing N w) T.format_writing };
+    ghost format_means = { λ i x. listed (map (T.format_means i) x) };
 
-    ghost format_spelling = { ap (λ s. array_of N s) T.format_spelling };
+    ghost format_tokens = { λ i x. list_tokens (T.format_tokens i) x };
 
-    ghost legal_spells = { array_weaker T.legal T.spelling.legal T.legal_spells N };
+    ghost format_orders = { T.format_orders };
+
+    ghost format_legal = { array_weaker T.legal T.format.spelling.legal T.format_legal N };
+
+    ghost format_spells = { count_spells N T.format.spelling.spelled T.spelling.spelled T.format_spells };
+
+    ghost spells_format = { count_spells N T.spelling.spelled T.format.spelling.spelled T.spells_format };
 }

@@ -51,9 +51,15 @@ impl<T: DeJson> DeJson for Box<T> {
 impl<T: BothJson> BothJson for Box<T> {
     ghost format = { format_as (λ x. x.value) T.format };
 
-    ghost format_writing = { ap (λ w. writing_as (λ x. x.value) w) T.format_writing };
+    ghost format_means = { λ i x. T.format_means i x.value };
 
-    ghost format_spelling = { T.format_spelling };
+    ghost format_tokens = { λ i x. T.format_tokens i x.value };
 
-    ghost legal_spells = { T.legal_spells };
+    ghost format_orders = { T.format_orders };
+
+    ghost format_legal = { T.format_legal };
+
+    ghost format_spells = { T.format_spells };
+
+    ghost spells_format = { T.spells_format };
 }

@@ -5,6 +5,8 @@
 mod arrays;
 mod boxes;
 mod digits;
+#[cfg(test)]
+mod container_tests;
 mod error;
 mod helpers;
 mod items;

@@ -10,9 +10,10 @@ ghost use Rattle.nano_json.specs.Spellings.{blocks};
 ghost use Rattle.nano_json.specs.SpellingLaws.{list_of};
 ghost use Rattle.std.proofs.Common.{ap};
 ghost use Rattle.nano_value.specs.Meaning.{listed};
-ghost use Rattle.nano_json.specs.Written.{written_list};
+ghost use Rattle.nano_json.specs.Written.{list_tokens, written_list};
 ghost use Rattle.nano_json.specs.Writing.{list_writing};
 ghost use Rattle.nano_json.specs.Format.{list_format};
+ghost use Rattle.nano_json.specs.Weaker.{list_spells};
 
 use crate::error::DeJsonErr;
 use crate::items::append_item;
@@ -107,9 +108,15 @@ impl<T: SerJson> SerJson for LinkedList<T> {
 impl<T: BothJson> BothJson for LinkedList<T> {
     ghost format = { list_format T.format };
 
-    ghost format_writing = { ap (λ w. list_writing w) T.format_writing };
+    ghost format_means = { λ i x. listed (map (T.format_means i) x) };
 
-    ghost format_spelling = { ap (λ s. list_of s) T.format_spelling };
+    ghost format_tokens = { λ i x. list_tokens (T.format_tokens i) x };
 
-    ghost legal_spells = { list_weaker T.legal T.spelling.legal T.legal_spells };
+    ghost format_orders = { T.format_orders };
+
+    ghost format_legal = { list_weaker T.legal T.format.spelling.legal T.format_legal };
+
+    ghost format_spells = { list_spells T.format.spelling.spelled T.spelling.spelled T.format_spells };
+
+    ghost spells_format = { list_spells T.spelling.spelled T.format.spelling.spelled T.spells_format };
 }

@@ -12,6 +12,8 @@ ghost use Rattle.nano_json.specs.Spellings.{blocks};
 ghost use Rattle.nano_json.specs.SpellingLaws.{list_of};
 ghost use Rattle.nano_json.specs.Writing.{list_writing, writing_as};
 ghost use Rattle.nano_json.specs.Format.{list_format, format_as};
+ghost use Rattle.nano_json.specs.Written.{list_tokens};
+ghost use Rattle.nano_json.specs.Weaker.{list_spells};
 
 use crate::error::DeJsonErr;
 use crate::items::append_list;
@@ -86,9 +88,15 @@ impl<T: SerJson> SerJson for Vec<T> {
 impl<T: BothJson> BothJson for Vec<T> {
     ghost format = { format_as (λ x. x.items) (list_format T.format) };
 
-    ghost format_writing = { ap (λ w. writing_as (λ x. x.items) (list_writing w)) T.format_writing };
+    ghost format_means = { λ i x. listed (map (T.format_means i) x.items) };
 
-    ghost format_spelling = { ap list_of T.format_spelling };
+    ghost format_tokens = { λ i x. list_tokens (T.format_tokens i) x.items };
 
-    ghost legal_spells = { list_weaker T.legal T.spelling.legal T.legal_spells };
+    ghost format_orders = { T.format_orders };
+
+    ghost format_legal = { list_weaker T.legal T.format.spelling.legal T.format_legal };
+
+    ghost format_spells = { list_spells T.format.spelling.spelled T.spelling.spelled T.format_spells };
+
+    ghost spells_format = { list_spells T.spelling.spelled T.format.spelling.spelled T.spells_format };
 }

@@ -7,13 +7,14 @@ ghost use Rattle.nano_json.specs.State.{at};
 ghost use Rattle.nano_json.specs.Spelling.{NothingFits};
 ghost use Rattle.nano_json.specs.Maps.{SpellsEntry, SpellsMap, map_of};
 ghost use Rattle.std.specs.Map.Iter.{deref_pair};
-ghost use Rattle.nano_value.specs.Ascending.{key_order};
+ghost use Rattle.nano_value.specs.Ascending.{ascending, key_order};
 ghost use Rattle.nano_text.specs.Written.{in_list};
-ghost use Rattle.nano_json.specs.Written.{written_entry, written_entries};
+ghost use Rattle.nano_json.specs.Written.{entries_tokens, written_entry, written_entries};
 ghost use Rattle.nano_json.specs.Writing.{writing_as};
 ghost use Rattle.nano_json.specs.MapWriting.{map_writing};
 ghost use Rattle.nano_json.specs.Format.{format_as};
 ghost use Rattle.nano_json.specs.MapFormat.{map_format};
+ghost use Rattle.nano_json.specs.Weaker.{map_spells};
 
 use crate::error::DeJsonErr;
 use crate::helpers::bytes_left;
@@ -146,9 +147,15 @@ impl<K: SerJson + Key + Hash + Ord, V: SerJson> SerJson for HashMap<K, V> {
 impl<K: BothJson + Key + Hash + Ord, V: BothJson> BothJson for HashMap<K, V> {
     ghost format = { format_as (λ x. x.entries) (map_format K.cmp K.format V.format) };
 
-    ghost format_writing = { λ i. writing_as (λ x. x.entries) (map_writing K.cmp (K.format_writing i) (V.format_writing i)) };
+    ghost format_means = { λ i x. table_means (table_of (K.format_means i) (V.format_means i) x.entries) };
 
-    ghost format_spelling = { λ i. map_of (K.format_spelling i) (V.format_spelling i) };
+    ghost format_tokens = { λ i x. entries_tokens (K.format_tokens i) (V.format_tokens i) (ascending K.cmp x.entries) };
 
-    ghost legal_spells = { map_weaker K.legal K.spelling.legal V.legal V.spelling.legal K.legal_spells V.legal_spells };
+    ghost format_orders = { (key_order K.cmp K.eq K.means K.format.writing.means K.total K.matches_eq K.exact K.format_means, K.format_orders, V.format_orders) };
+
+    ghost format_legal = { map_weaker K.legal K.format.spelling.legal V.legal V.format.spelling.legal K.format_legal V.format_legal };
+
+    ghost format_spells = { map_spells K.format.spelling.spelled K.spelling.spelled V.format.spelling.spelled V.spelling.spelled K.format_spells V.format_spells };
+
+    ghost spells_format = { map_spells K.spelling.spelled K.format.spelling.spelled V.spelling.spelled V.format.spelling.spelled K.spells_format V.spells_format };
 }

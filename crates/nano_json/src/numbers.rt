@@ -102,11 +102,17 @@ impl DeJson for u8 {
 impl BothJson for u8 {
     ghost format = { unsigned_format 8 below_8 };
 
-    ghost format_writing = { refl };
+    ghost format_means = { refl };
 
-    ghost format_spelling = { refl };
+    ghost format_tokens = { refl };
 
-    ghost legal_spells = { λ m h. h };
+    ghost format_orders = { tt };
+
+    ghost format_legal = { λ m h. h };
+
+    ghost format_spells = { λ ts m h. h };
+
+    ghost spells_format = { λ ts m h. h };
 }
 
 impl SerJson for u16 {
@@ -143,11 +149,17 @@ impl DeJson for u16 {
 impl BothJson for u16 {
     ghost format = { unsigned_format 16 below_16 };
 
-    ghost format_writing = { refl };
+    ghost format_means = { refl };
 
-    ghost format_spelling = { refl };
+    ghost format_tokens = { refl };
 
-    ghost legal_spells = { λ m h. h };
+    ghost format_orders = { tt };
+
+    ghost format_legal = { λ m h. h };
+
+    ghost format_spells = { λ ts m h. h };
+
+    ghost spells_format = { λ ts m h. h };
 }
 
 impl SerJson for u32 {
@@ -184,11 +196,17 @@ impl DeJson for u32 {
 impl BothJson for u32 {
     ghost format = { unsigned_format 32 below_32 };
 
-    ghost format_writing = { refl };
+    ghost format_means = { refl };
 
-    ghost format_spelling = { refl };
+    ghost format_tokens = { refl };
 
-    ghost legal_spells = { λ m h. h };
+    ghost format_orders = { tt };
+
+    ghost format_legal = { λ m h. h };
+
+    ghost format_spells = { λ ts m h. h };
+
+    ghost spells_format = { λ ts m h. h };
 }
 
 impl SerJson for u64 {
@@ -225,11 +243,17 @@ impl DeJson for u64 {
 impl BothJson for u64 {
     ghost format = { unsigned_format 64 below_64 };
 
-    ghost format_writing = { refl };
+    ghost format_means = { refl };
 
-    ghost format_spelling = { refl };
+    ghost format_tokens = { refl };
 
-    ghost legal_spells = { λ m h. h };
+    ghost format_orders = { tt };
+
+    ghost format_legal = { λ m h. h };
+
+    ghost format_spells = { λ ts m h. h };
+
+    ghost spells_format = { λ ts m h. h };
 }
 
 impl SerJson for usize {
@@ -266,11 +290,17 @@ impl DeJson for usize {
 impl BothJson for usize {
     ghost format = { unsigned_format 64 below_64 };
 
-    ghost format_writing = { refl };
+    ghost format_means = { refl };
 
-    ghost format_spelling = { refl };
+    ghost format_tokens = { refl };
 
-    ghost legal_spells = { λ m h. h };
+    ghost format_orders = { tt };
+
+    ghost format_legal = { λ m h. h };
+
+    ghost format_spells = { λ ts m h. h };
+
+    ghost spells_format = { λ ts m h. h };
 }
 
 impl SerJson for i8 {
@@ -307,11 +337,17 @@ impl DeJson for i8 {
 impl BothJson for i8 {
     ghost format = { signed_format w8 within_8 };
 
-    ghost format_writing = { refl };
+    ghost format_means = { refl };
 
-    ghost format_spelling = { refl };
+    ghost format_tokens = { refl };
 
-    ghost legal_spells = { λ m h. h };
+    ghost format_orders = { tt };
+
+    ghost format_legal = { λ m h. h };
+
+    ghost format_spells = { λ ts m h. h };
+
+    ghost spells_format = { λ ts m h. h };
 }
 
 impl SerJson for i16 {
@@ -348,11 +384,17 @@ impl DeJson for i16 {
 impl BothJson for i16 {
     ghost format = { signed_format w16 within_16 };
 
-    ghost format_writing = { refl };
+    ghost format_means = { refl };
 
-    ghost format_spelling = { refl };
+    ghost format_tokens = { refl };
 
-    ghost legal_spells = { λ m h. h };
+    ghost format_orders = { tt };
+
+    ghost format_legal = { λ m h. h };
+
+    ghost format_spells = { λ ts m h. h };
+
+    ghost spells_format = { λ ts m h. h };
 }
 
 impl SerJson for i32 {
@@ -389,11 +431,17 @@ impl DeJson for i32 {
 impl BothJson for i32 {
     ghost format = { signed_format w32 within_32 };
 
-    ghost format_writing = { refl };
+    ghost format_means = { refl };
 
-    ghost format_spelling = { refl };
+    ghost format_tokens = { refl };
 
-    ghost legal_spells = { λ m h. h };
+    ghost format_orders = { tt };
+
+    ghost format_legal = { λ m h. h };
+
+    ghost format_spells = { λ ts m h. h };
+
+    ghost spells_format = { λ ts m h. h };
 }
 
 impl SerJson for i64 {
@@ -430,9 +478,15 @@ impl DeJson for i64 {
 impl BothJson for i64 {
     ghost format = { signed_format w64 within_64 };
 
-    ghost format_writing = { refl };
+    ghost format_means = { refl };
 
-    ghost format_spelling = { refl };
+    ghost format_tokens = { refl };
 
-    ghost legal_spells = { λ m h. h };
+    ghost format_orders = { tt };
+
+    ghost format_legal = { λ m h. h };
+
+    ghost format_spells = { λ ts m h. h };
+
+    ghost spells_format = { λ ts m h. h };
 }

@@ -9,11 +9,12 @@ ghost use Rattle.nano_json.specs.Spelling.{NothingFits};
 ghost use Rattle.nano_json.specs.Sets.{SpellsSet, set_of};
 ghost use Rattle.std.proofs.Common.{ap};
 ghost use Rattle.nano_value.specs.Ascending.{key_order};
-ghost use Rattle.nano_json.specs.Written.{written_list};
+ghost use Rattle.nano_json.specs.Written.{list_tokens, written_list};
 ghost use Rattle.nano_json.specs.Writing.{writing_as};
 ghost use Rattle.nano_json.specs.MapWriting.{ordered_writing};
 ghost use Rattle.nano_json.specs.Format.{format_as};
 ghost use Rattle.nano_json.specs.MapFormat.{ordered_format};
+ghost use Rattle.nano_json.specs.Weaker.{set_spells};
 
 use crate::error::DeJsonErr;
 use crate::helpers::bytes_left;
@@ -109,9 +110,15 @@ impl<T: SerJson + Key + Ord> SerJson for BTreeSet<T> {
 impl<T: BothJson + Key + Ord> BothJson for BTreeSet<T> {
     ghost format = { format_as (λ x. x.keys) (ordered_format T.cmp T.format) };
 
-    ghost format_writing = { ap (λ w. writing_as (λ x. x.keys) (ordered_writing T.cmp w)) T.format_writing };
+    ghost format_means = { λ i x. ordered_means T.cmp (T.format_means i) x.keys };
 
-    ghost format_spelling = { ap (λ s. set_of s) T.format_spelling };
+    ghost format_tokens = { λ i x. list_tokens (T.format_tokens i) x.keys };
 
-    ghost legal_spells = { set_weaker T.legal T.spelling.legal T.legal_spells };
+    ghost format_orders = { (key_order T.cmp T.eq T.means T.format.writing.means T.total T.matches_eq T.exact T.format_means, T.format_orders) };
+
+    ghost format_legal = { set_weaker T.legal T.format.spelling.legal T.format_legal };
+
+    ghost format_spells = { set_spells T.format.spelling.spelled T.spelling.spelled T.format_spells };
+
+    ghost spells_format = { set_spells T.spelling.spelled T.format.spelling.spelled T.spells_format };
 }

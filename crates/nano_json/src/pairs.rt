@@ -4,6 +4,10 @@ ghost use Rattle.nano_value.specs.Legal.{pair_weaker};
 ghost use Rattle.nano_json.specs.Tuples.{and_then, last_part, tuple_of};
 ghost use Rattle.nano_json.specs.Writing.{last_writing, next_writing, tuple_writing};
 ghost use Rattle.nano_json.specs.MapFormat.{last_format, next_format, tuple_format};
+ghost use Rattle.nano_text.specs.Written.{with_opening, with_mark, with_closing};
+ghost use Rattle.nano_json.specs.Token.{comma};
+ghost use Rattle.nano_json.specs.Spellings.{blocks};
+ghost use Rattle.nano_json.specs.Weaker.{last_spells, next_spells, tuple_spells};
 
 use crate::error::DeJsonErr;
 use crate::parts::read_two;
@@ -59,9 +63,15 @@ impl<A: DeJson, B: DeJson> DeJson for (A, B) {
 impl<A: BothJson, B: BothJson> BothJson for (A, B) {
     ghost format = { tuple_format (next_format A.format (last_format B.format)) };
 
-    ghost format_writing = { λ i. tuple_writing (next_writing (A.format_writing i) (last_writing (B.format_writing i))) };
+    ghost format_means = { λ i x. paired (pair_map (A.format_means i) (B.format_means i) x) };
 
-    ghost format_spelling = { λ i. tuple_of (and_then (A.format_spelling i) (last_part (B.format_spelling i))) };
+    ghost format_tokens = { λ i x. with_opening blocks (with_mark comma (A.format_tokens i) (with_closing blocks (B.format_tokens i))) x };
 
-    ghost legal_spells = { pair_weaker A.legal A.spelling.legal B.legal B.spelling.legal A.legal_spells B.legal_spells };
+    ghost format_orders = { (A.format_orders, B.format_orders) };
+
+    ghost format_legal = { pair_weaker A.legal A.format.spelling.legal B.legal B.format.spelling.legal A.format_legal B.format_legal };
+
+    ghost format_spells = { tuple_spells (and_then A.format.spelling (last_part B.format.spelling)).spelled (and_then A.spelling (last_part B.spelling)).spelled (next_spells A.format.spelling.spelled A.spelling.spelled (last_part B.format.spelling).spelled (last_part B.spelling).spelled A.format_spells (last_spells B.format.spelling.spelled B.spelling.spelled B.format_spells)) };
+
+    ghost spells_format = { tuple_spells (and_then A.spelling (last_part B.spelling)).spelled (and_then A.format.spelling (last_part B.format.spelling)).spelled (next_spells A.spelling.spelled A.format.spelling.spelled (last_part B.spelling).spelled (last_part B.format.spelling).spelled A.spells_format (last_spells B.spelling.spelled B.format.spelling.spelled B.spells_format)) };
 }

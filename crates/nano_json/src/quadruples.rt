@@ -5,6 +5,10 @@ ghost use Rattle.nano_json.specs.Tuples.{and_then, last_part, tuple_of};
 ghost use Rattle.nano_json.specs.Writing.{last_writing, next_writing, tuple_writing, writing_as};
 ghost use Rattle.nano_json.specs.MapFormat.{last_format, next_format, tuple_format};
 ghost use Rattle.nano_json.specs.Format.{format_as};
+ghost use Rattle.nano_text.specs.Written.{with_opening, with_mark, with_closing};
+ghost use Rattle.nano_json.specs.Token.{comma};
+ghost use Rattle.nano_json.specs.Spellings.{blocks};
+ghost use Rattle.nano_json.specs.Weaker.{last_spells, next_spells, tuple_spells};
 
 use crate::error::DeJsonErr;
 use crate::parts::read_four;
@@ -60,9 +64,15 @@ impl<A: DeJson, B: DeJson, C: DeJson, D: DeJson> DeJson for (A, B, C, D) {
 impl<A: BothJson, B: BothJson, C: BothJson, D: BothJson> BothJson for (A, B, C, D) {
     ghost format = { format_as (λ x. (x.0, (x.1, (x.2, x.3)))) (tuple_format (next_format A.format (next_format B.format (next_format C.format (last_format D.format))))) };
 
-    ghost format_writing = { λ i. writing_as (λ x. (x.0, (x.1, (x.2, x.3)))) (tuple_writing (next_writing (A.format_writing i) (next_writing (B.format_writing i) (next_writing (C.format_writing i) (last_writing (D.format_writing i)))))) };
+    ghost format_means = { λ i x. paired (A.format_means i x.0, paired (B.format_means i x.1, paired (C.format_means i x.2, D.format_means i x.3))) };
 
-    ghost format_spelling = { λ i. tuple_of (and_then (A.format_spelling i) (and_then (B.format_spelling i) (and_then (C.format_spelling i) (last_part (D.format_spelling i))))) };
+    ghost format_tokens = { λ i x. with_opening blocks (with_mark comma (A.format_tokens i) (with_mark comma (B.format_tokens i) (with_mark comma (C.format_tokens i) (with_closing blocks (D.format_tokens i))))) (x.0, (x.1, (x.2, x.3))) };
 
-    ghost legal_spells = { pair_weaker A.legal A.spelling.legal (LegalPair B.legal (LegalPair C.legal D.legal)) (LegalPair B.spelling.legal (LegalPair C.spelling.legal D.spelling.legal)) A.legal_spells (pair_weaker B.legal B.spelling.legal (LegalPair C.legal D.legal) (LegalPair C.spelling.legal D.spelling.legal) B.legal_spells (pair_weaker C.legal C.spelling.legal D.legal D.spelling.legal C.legal_spells D.legal_spells)) };
+    ghost format_orders = { (A.format_orders, (B.format_orders, (C.format_orders, D.format_orders))) };
+
+    ghost format_legal = { pair_weaker A.legal A.format.spelling.legal (LegalPair B.legal (LegalPair C.legal D.legal)) (LegalPair B.format.spelling.legal (LegalPair C.format.spelling.legal D.format.spelling.legal)) A.format_legal (pair_weaker B.legal B.format.spelling.legal (LegalPair C.legal D.legal) (LegalPair C.format.spelling.legal D.format.spelling.legal) B.format_legal (pair_weaker C.legal C.format.spelling.legal D.legal D.format.spelling.legal C.format_legal D.format_legal)) };
+
+    ghost format_spells = { tuple_spells (and_then A.format.spelling (and_then B.format.spelling (and_then C.format.spelling (last_part D.format.spelling)))).spelled (and_then A.spelling (and_then B.spelling (and_then C.spelling (last_part D.spelling)))).spelled (next_spells A.format.spelling.spelled A.spelling.spelled (and_then B.format.spelling (and_then C.format.spelling (last_part D.format.spelling))).spelled (and_then B.spelling (and_then C.spelling (last_part D.spelling))).spelled A.format_spells (next_spells B.format.spelling.spelled B.spelling.spelled (and_then C.format.spelling (last_part D.format.spelling)).spelled (and_then C.spelling (last_part D.spelling)).spelled B.format_spells (next_spells C.format.spelling.spelled C.spelling.spelled (last_part D.format.spelling).spelled (last_part D.spelling).spelled C.format_spells (last_spells D.format.spelling.spelled D.spelling.spelled D.format_spells)))) };
+
+    ghost spells_format = { tuple_spells (and_then A.spelling (and_then B.spelling (and_then C.spelling (last_part D.spelling)))).spelled (and_then A.format.spelling (and_then B.format.spelling (and_then C.format.spelling (last_part D.format.spelling)))).spelled (next_spells A.spelling.spelled A.format.spelling.spelled (and_then B.spelling (and_then C.spelling (last_part D.spelling))).spelled (and_then B.format.spelling (and_then C.format.spelling (last_part D.format.spelling))).spelled A.spells_format (next_spells B.spelling.spelled B.format.spelling.spelled (and_then C.spelling (last_part D.spelling)).spelled (and_then C.format.spelling (last_part D.format.spelling)).spelled B.spells_format (next_spells C.spelling.spelled C.format.spelling.spelled (last_part D.spelling).spelled (last_part D.format.spelling).spelled C.spells_format (last_spells D.spelling.spelled D.format.spelling.spelled D.spells_format)))) };
 }

@@ -69,9 +69,15 @@ impl DeJson for String {
 impl BothJson for String {
     ghost format = { format_as (λ x. string_bytes x) text_format };
 
-    ghost format_writing = { refl };
+    ghost format_means = { refl };
 
-    ghost format_spelling = { refl };
+    ghost format_tokens = { refl };
 
-    ghost legal_spells = { λ m h. h };
+    ghost format_orders = { tt };
+
+    ghost format_legal = { λ m h. h };
+
+    ghost format_spells = { λ ts m h. h };
+
+    ghost spells_format = { λ ts m h. h };
 }

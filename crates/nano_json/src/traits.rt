@@ -96,19 +96,29 @@ pub trait DeJson: Value + Drop {
 /// A value that is read back from what is written, where it is sound: nowhere inside it a `Some`
 /// stands around what is written as `null`.
 pub trait BothJson: SerJson + DeJson {
-    ghost use Rattle.std.specs.Prelude.{◌≡◌};
+    ghost use Rattle.std.specs.Prelude.{◌≡◌, List};
     ghost use Rattle.nano_value.specs.Meaning.{Meaning};
     ghost use Rattle.nano_json.specs.Format.{Format};
+    ghost use Rattle.nano_json.specs.Token.{Token};
 
     /// The writing and the spelling together, for types that are made of this one.
     ghost format: { Format Self };
 
-    /// The format's writing is the type's.
-    ghost format_writing: { format.writing ≡ Self.writing };
+    /// The format is of what the values mean.
+    ghost format_means: { format.writing.means ≡ Self.means };
 
-    /// The format's spelling is the type's.
-    ghost format_spelling: { format.spelling ≡ Self.spelling };
+    /// The format's tokens are those that the values are written as.
+    ghost format_tokens: { format.writing.tokens ≡ Self.writing.tokens };
 
-    /// Legal meanings of the type are what the spelling calls legal.
-    ghost legal_spells: { (m : Meaning) → Self.legal m → Self.spelling.legal m };
+    /// The orders of keys and items in the format are total, and tie where these mean the same.
+    ghost format_orders: { format.writing.orders_keys };
+
+    /// Legal meanings of the type are what the format calls legal.
+    ghost format_legal: { (m : Meaning) → Self.legal m → format.spelling.legal m };
+
+    /// What the format spells is spelled by the type.
+    ghost format_spells: { (ts : List Token) (m : Meaning) → format.spelling.spelled ts m → Self.spelling.spelled ts m };
+
+    /// What the type spells is spelled by the format.
+    ghost spells_format: { (ts : List Token) (m : Meaning) → Self.spelling.spelled ts m → format.spelling.spelled ts m };
 }

@@ -7,6 +7,8 @@ ghost use Rattle.nano_value.specs.Legal.{option_weaker};
 ghost use Rattle.nano_json.specs.SpellingLaws.{truths, units, option_of};
 ghost use Rattle.nano_json.specs.Writing.{truth_writing, unit_writing, option_writing};
 ghost use Rattle.nano_json.specs.Format.{truth_format, unit_format, option_format};
+ghost use Rattle.nano_json.specs.Written.{option_tokens};
+ghost use Rattle.nano_json.specs.Weaker.{option_spells};
 
 use crate::error::DeJsonErr;
 use crate::state::DeJsonState;
@@ -58,11 +60,17 @@ impl DeJson for bool {
 impl BothJson for bool {
     ghost format = { truth_format };
 
-    ghost format_writing = { refl };
+    ghost format_means = { refl };
 
-    ghost format_spelling = { refl };
+    ghost format_tokens = { refl };
 
-    ghost legal_spells = { λ m h. h };
+    ghost format_orders = { tt };
+
+    ghost format_legal = { λ m h. h };
+
+    ghost format_spells = { λ ts m h. h };
+
+    ghost spells_format = { λ ts m h. h };
 }
 
 impl SerJson for () {
@@ -101,11 +109,17 @@ impl DeJson for () {
 impl BothJson for () {
     ghost format = { unit_format };
 
-    ghost format_writing = { refl };
+    ghost format_means = { refl };
 
-    ghost format_spelling = { refl };
+    ghost format_tokens = { refl };
 
-    ghost legal_spells = { λ m h. h };
+    ghost format_orders = { tt };
+
+    ghost format_legal = { λ m h. h };
+
+    ghost format_spells = { λ ts m h. h };
+
+    ghost spells_format = { λ ts m h. h };
 }
 
 impl<T: SerJson> SerJson for Option<T> {
@@ -151,9 +165,15 @@ impl<T: DeJson> DeJson for Option<T> {
 impl<T: BothJson> BothJson for Option<T> {
     ghost format = { option_format T.format };
 
-    ghost format_writing = { ap (λ w. option_writing w) T.format_writing };
+    ghost format_means = { ap (λ means x. optional (option_map means x)) T.format_means };
 
-    ghost format_spelling = { ap (λ s. option_of s) T.format_spelling };
+    ghost format_tokens = { λ i x. option_tokens (T.format_tokens i) x };
 
-    ghost legal_spells = { option_weaker T.legal T.spelling.legal T.legal_spells };
+    ghost format_orders = { T.format_orders };
+
+    ghost format_legal = { option_weaker T.legal T.format.spelling.legal T.format_legal };
+
+    ghost format_spells = { option_spells T.format.spelling.spelled T.spelling.spelled T.format_spells };
+
+    ghost spells_format = { option_spells T.spelling.spelled T.format.spelling.spelled T.spells_format };
 }

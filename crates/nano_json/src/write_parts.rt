@@ -1,11 +1,26 @@
 // The parts of tuples, as they are written.
-ghost use Rattle.std.specs.Prelude.{◌≡◌, ◌++◌, ℕ, List, OnOk, OnErr, string_bytes, encode_utf8_all};
+ghost use Rattle.std.specs.Prelude.{◌≡◌, ◌++◌, ◌∷◌, [], ℕ, List, OnOk, OnErr, string_bytes, encode_utf8_all};
 ghost use Rattle.nano_text.specs.Written.{with_opening, with_mark, with_closing};
 ghost use Rattle.nano_json.specs.Written.{block_marks};
 
 use crate::traits::SerJson;
 use crate::write_state::SerJsonState;
 use std::alloc::{AllocError, Global};
+
+/// Appends a part of a tuple and the mark behind it. A refused growth leaves what was written so far.
+fn append_part<T: SerJson>(
+    alloc: Global,
+    part: &T,
+    mark: char,
+    d: usize,
+    s: &mut SerJsonState,
+) -> Result<(), AllocError>
+    ensures ok { OnOk result (string_bytes s.new.out ≡ string_bytes s.old.out ++ encode_utf8_all (T.writing.text d part.now ++ mark ∷ [])) }
+    ensures err { OnErr result ((more : List ℕ) × (string_bytes s.new.out ≡ string_bytes s.old.out ++ more)) }
+{
+    part.ser_json(alloc, d, s)?;
+    s.out.push(mark)
+}
 
 /// Appends the two parts of a tuple between square brackets. A refused growth leaves what was
 /// written so far.
@@ -19,10 +34,8 @@ pub(crate) fn append_two<A: SerJson, B: SerJson>(
     ensures err { OnErr result ((more : List ℕ) × (string_bytes s.new.out ≡ string_bytes s.old.out ++ more)) }
 {
     s.out.push('[')?;
-    parts.0.ser_json(alloc, d, s)?;
-    s.out.push(',')?;
-    parts.1.ser_json(alloc, d, s)?;
-    s.out.push(']')
+    append_part(alloc, &parts.0, ',', d, s)?;
+    append_part(alloc, &parts.1, ']', d, s)
 }
 
 /// Appends the three parts of a tuple between square brackets. A refused growth leaves what was
@@ -37,12 +50,9 @@ pub(crate) fn append_three<A: SerJson, B: SerJson, C: SerJson>(
     ensures err { OnErr result ((more : List ℕ) × (string_bytes s.new.out ≡ string_bytes s.old.out ++ more)) }
 {
     s.out.push('[')?;
-    parts.0.ser_json(alloc, d, s)?;
-    s.out.push(',')?;
-    parts.1.ser_json(alloc, d, s)?;
-    s.out.push(',')?;
-    parts.2.ser_json(alloc, d, s)?;
-    s.out.push(']')
+    append_part(alloc, &parts.0, ',', d, s)?;
+    append_part(alloc, &parts.1, ',', d, s)?;
+    append_part(alloc, &parts.2, ']', d, s)
 }
 
 /// Appends the four parts of a tuple between square brackets. A refused growth leaves what was
@@ -57,12 +67,8 @@ pub(crate) fn append_four<A: SerJson, B: SerJson, C: SerJson, D: SerJson>(
     ensures err { OnErr result ((more : List ℕ) × (string_bytes s.new.out ≡ string_bytes s.old.out ++ more)) }
 {
     s.out.push('[')?;
-    parts.0.ser_json(alloc, d, s)?;
-    s.out.push(',')?;
-    parts.1.ser_json(alloc, d, s)?;
-    s.out.push(',')?;
-    parts.2.ser_json(alloc, d, s)?;
-    s.out.push(',')?;
-    parts.3.ser_json(alloc, d, s)?;
-    s.out.push(']')
+    append_part(alloc, &parts.0, ',', d, s)?;
+    append_part(alloc, &parts.1, ',', d, s)?;
+    append_part(alloc, &parts.2, ',', d, s)?;
+    append_part(alloc, &parts.3, ']', d, s)
 }
