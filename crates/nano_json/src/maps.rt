@@ -151,7 +151,7 @@ impl<K: BothJson + Key + Hash + Ord, V: BothJson> BothJson for HashMap<K, V> {
 
     ghost format_tokens = { λ i x. entries_tokens (K.format_tokens i) (V.format_tokens i) (ascending K.cmp x.entries) };
 
-    ghost format_orders = { (key_order K.cmp K.eq K.means K.format.writing.means K.total K.matches_eq K.exact K.format_means, K.format_orders, V.format_orders) };
+    ghost format_orders = { λ _. (key_order K.cmp K.eq K.means K.format.writing.means K.total K.matches_eq K.exact K.format_means, K.format_orders K.orders_keys, V.format_orders V.orders_keys) };
 
     ghost format_legal = { map_weaker K.legal K.format.spelling.legal V.legal V.format.spelling.legal K.format_legal V.format_legal };
 

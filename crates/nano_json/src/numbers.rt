@@ -106,7 +106,7 @@ impl BothJson for u8 {
 
     ghost format_tokens = { refl };
 
-    ghost format_orders = { tt };
+    ghost format_orders = { λ h. h };
 
     ghost format_legal = { λ m h. h };
 
@@ -153,7 +153,7 @@ impl BothJson for u16 {
 
     ghost format_tokens = { refl };
 
-    ghost format_orders = { tt };
+    ghost format_orders = { λ h. h };
 
     ghost format_legal = { λ m h. h };
 
@@ -200,7 +200,7 @@ impl BothJson for u32 {
 
     ghost format_tokens = { refl };
 
-    ghost format_orders = { tt };
+    ghost format_orders = { λ h. h };
 
     ghost format_legal = { λ m h. h };
 
@@ -247,7 +247,7 @@ impl BothJson for u64 {
 
     ghost format_tokens = { refl };
 
-    ghost format_orders = { tt };
+    ghost format_orders = { λ h. h };
 
     ghost format_legal = { λ m h. h };
 
@@ -294,7 +294,7 @@ impl BothJson for usize {
 
     ghost format_tokens = { refl };
 
-    ghost format_orders = { tt };
+    ghost format_orders = { λ h. h };
 
     ghost format_legal = { λ m h. h };
 
@@ -341,7 +341,7 @@ impl BothJson for i8 {
 
     ghost format_tokens = { refl };
 
-    ghost format_orders = { tt };
+    ghost format_orders = { λ h. h };
 
     ghost format_legal = { λ m h. h };
 
@@ -388,7 +388,7 @@ impl BothJson for i16 {
 
     ghost format_tokens = { refl };
 
-    ghost format_orders = { tt };
+    ghost format_orders = { λ h. h };
 
     ghost format_legal = { λ m h. h };
 
@@ -435,7 +435,7 @@ impl BothJson for i32 {
 
     ghost format_tokens = { refl };
 
-    ghost format_orders = { tt };
+    ghost format_orders = { λ h. h };
 
     ghost format_legal = { λ m h. h };
 
@@ -482,7 +482,7 @@ impl BothJson for i64 {
 
     ghost format_tokens = { refl };
 
-    ghost format_orders = { tt };
+    ghost format_orders = { λ h. h };
 
     ghost format_legal = { λ m h. h };
 

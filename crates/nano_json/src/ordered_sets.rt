@@ -114,7 +114,7 @@ impl<T: BothJson + Key + Ord> BothJson for BTreeSet<T> {
 
     ghost format_tokens = { λ i x. list_tokens (T.format_tokens i) x.keys };
 
-    ghost format_orders = { (key_order T.cmp T.eq T.means T.format.writing.means T.total T.matches_eq T.exact T.format_means, T.format_orders) };
+    ghost format_orders = { λ _. (key_order T.cmp T.eq T.means T.format.writing.means T.total T.matches_eq T.exact T.format_means, T.format_orders T.orders_keys) };
 
     ghost format_legal = { set_weaker T.legal T.format.spelling.legal T.format_legal };
 

@@ -67,7 +67,7 @@ impl<A: BothJson, B: BothJson> BothJson for (A, B) {
 
     ghost format_tokens = { λ i x. with_opening blocks (with_mark comma (A.format_tokens i) (with_closing blocks (B.format_tokens i))) x };
 
-    ghost format_orders = { (A.format_orders, B.format_orders) };
+    ghost format_orders = { λ _. (A.format_orders A.orders_keys, B.format_orders B.orders_keys) };
 
     ghost format_legal = { pair_weaker A.legal A.format.spelling.legal B.legal B.format.spelling.legal A.format_legal B.format_legal };
 

@@ -68,7 +68,7 @@ impl<A: BothJson, B: BothJson, C: BothJson, D: BothJson> BothJson for (A, B, C, 
 
     ghost format_tokens = { λ i x. with_opening blocks (with_mark comma (A.format_tokens i) (with_mark comma (B.format_tokens i) (with_mark comma (C.format_tokens i) (with_closing blocks (D.format_tokens i))))) (x.0, (x.1, (x.2, x.3))) };
 
-    ghost format_orders = { (A.format_orders, (B.format_orders, (C.format_orders, D.format_orders))) };
+    ghost format_orders = { λ _. (A.format_orders A.orders_keys, (B.format_orders B.orders_keys, (C.format_orders C.orders_keys, D.format_orders D.orders_keys))) };
 
     ghost format_legal = { pair_weaker A.legal A.format.spelling.legal (LegalPair B.legal (LegalPair C.legal D.legal)) (LegalPair B.format.spelling.legal (LegalPair C.format.spelling.legal D.format.spelling.legal)) A.format_legal (pair_weaker B.legal B.format.spelling.legal (LegalPair C.legal D.legal) (LegalPair C.format.spelling.legal D.format.spelling.legal) B.format_legal (pair_weaker C.legal C.format.spelling.legal D.legal D.format.spelling.legal C.format_legal D.format_legal)) };
 

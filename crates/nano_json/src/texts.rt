@@ -73,7 +73,7 @@ impl BothJson for String {
 
     ghost format_tokens = { refl };
 
-    ghost format_orders = { tt };
+    ghost format_orders = { λ h. h };
 
     ghost format_legal = { λ m h. h };
 

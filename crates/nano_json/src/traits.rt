@@ -110,8 +110,8 @@ pub trait BothJson: SerJson + DeJson {
     /// The format's tokens are those that the values are written as.
     ghost format_tokens: { format.writing.tokens ≡ Self.writing.tokens };
 
-    /// The orders of keys and items in the format are total, and tie where these mean the same.
-    ghost format_orders: { format.writing.orders_keys };
+    /// The orders of keys and items keep their laws in the format where they do in the writing.
+    ghost format_orders: { Self.writing.orders_keys → format.writing.orders_keys };
 
     /// Legal meanings of the type are what the format calls legal.
     ghost format_legal: { (m : Meaning) → Self.legal m → format.spelling.legal m };

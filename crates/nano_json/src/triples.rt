@@ -68,7 +68,7 @@ impl<A: BothJson, B: BothJson, C: BothJson> BothJson for (A, B, C) {
 
     ghost format_tokens = { λ i x. with_opening blocks (with_mark comma (A.format_tokens i) (with_mark comma (B.format_tokens i) (with_closing blocks (C.format_tokens i)))) (x.0, (x.1, x.2)) };
 
-    ghost format_orders = { (A.format_orders, (B.format_orders, C.format_orders)) };
+    ghost format_orders = { λ _. (A.format_orders A.orders_keys, (B.format_orders B.orders_keys, C.format_orders C.orders_keys)) };
 
     ghost format_legal = { pair_weaker A.legal A.format.spelling.legal (LegalPair B.legal C.legal) (LegalPair B.format.spelling.legal C.format.spelling.legal) A.format_legal (pair_weaker B.legal B.format.spelling.legal C.legal C.format.spelling.legal B.format_legal C.format_legal) };
 

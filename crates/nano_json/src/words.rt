@@ -64,7 +64,7 @@ impl BothJson for bool {
 
     ghost format_tokens = { refl };
 
-    ghost format_orders = { tt };
+    ghost format_orders = { λ h. h };
 
     ghost format_legal = { λ m h. h };
 
@@ -113,7 +113,7 @@ impl BothJson for () {
 
     ghost format_tokens = { refl };
 
-    ghost format_orders = { tt };
+    ghost format_orders = { λ h. h };
 
     ghost format_legal = { λ m h. h };
 
