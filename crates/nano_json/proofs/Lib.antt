@@ -1,4 +1,5 @@
 pub mod PutDigits
+pub mod RoundTrip
 pub mod WrittenItems
 pub mod KeptWriting
 pub mod WrittenRuns

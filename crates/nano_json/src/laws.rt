@@ -100,6 +100,7 @@ pub fn read_back<T: BothJson>(alloc: Global, written: &T) -> Result<T, DeJsonErr
     ensures memory { IfErr result (λ e. T.format.sound written.now → e.memory ≡ true) }
 {
     written.known();
+    written_tokens_spell_a_sound_value(written);
     match written.serialize_json(alloc) {
         Ok(text) => match T::deserialize_json(alloc, text.as_str()) {
             Ok(read) => Ok(read),
