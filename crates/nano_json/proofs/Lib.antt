@@ -1,3 +1,8 @@
+pub mod PutDigits
+pub mod RoundTrip
+pub mod WrittenItems
+pub mod KeptWriting
+pub mod WrittenRuns
 pub mod LexemeKinds
 pub mod Cuts
 pub mod Shorter

@@ -12,3 +12,10 @@ pub mod Sets
 pub mod Tuples
 pub mod Maps
 pub mod Marks
+pub mod CutAgain
+pub mod Written
+pub mod Writing
+pub mod Format
+pub mod MapWriting
+pub mod MapFormat
+pub mod Weaker

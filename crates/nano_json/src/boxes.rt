@@ -1,9 +1,28 @@
 // Boxes: each is spelled as its content.
+ghost use Rattle.std.proofs.Common.{ap};
+ghost use Rattle.nano_json.specs.Writing.{writing_as};
+ghost use Rattle.nano_json.specs.Format.{format_as};
+
 use crate::error::DeJsonErr;
 use crate::state::DeJsonState;
-use crate::traits::DeJson;
-use std::alloc::Global;
+use crate::traits::{BothJson, DeJson, SerJson};
+use crate::write_state::SerJsonState;
+use std::alloc::{AllocError, Global};
 use std::str::Chars;
+
+impl<T: SerJson> SerJson for Box<T> {
+    ghost writing = { writing_as (λ x. x.value) T.writing };
+
+    ghost writes_meaning = { λ i x. T.writes_meaning i x.value };
+
+    ghost writes_legal = { T.writes_legal };
+
+    ghost orders_keys = { T.orders_keys };
+
+    fn ser_json(&self, alloc: Global, d: usize, s: &mut SerJsonState) -> Result<(), AllocError> {
+        (**self).ser_json(alloc, d, s)
+    }
+}
 
 impl<T: DeJson> DeJson for Box<T> {
     ghost spelling = { T.spelling };
@@ -27,4 +46,20 @@ impl<T: DeJson> DeJson for Box<T> {
             Err(error) => Err(error),
         }
     }
+}
+
+impl<T: BothJson> BothJson for Box<T> {
+    ghost format = { format_as (λ x. x.value) T.format };
+
+    ghost format_means = { λ i x. T.format_means i x.value };
+
+    ghost format_tokens = { λ i x. T.format_tokens i x.value };
+
+    ghost format_orders = { T.format_orders };
+
+    ghost format_legal = { T.format_legal };
+
+    ghost format_spells = { T.format_spells };
+
+    ghost spells_format = { T.spells_format };
 }

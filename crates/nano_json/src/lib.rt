@@ -1,13 +1,15 @@
-//! JSON as the crate nanoserde reads and writes it: the tokens of a text, a reader's state with its
-//! helpers and errors, and a writer's state.
+//! JSON as the crate nanoserde reads and writes it: typed values to text and back, the tokens of a
+//! text, a reader's state with its helpers and errors, and a writer's state.
 #![tactic(auto)]
 
 mod arrays;
 mod boxes;
+mod digits;
 #[cfg(test)]
 mod container_tests;
 mod error;
 mod helpers;
+mod items;
 pub mod laws;
 mod linked_lists;
 mod lists;
@@ -20,6 +22,7 @@ mod parts;
 mod quadruples;
 mod sets;
 mod state;
+mod strings;
 #[cfg(test)]
 mod tests;
 mod texts;
@@ -29,10 +32,11 @@ mod triples;
 #[cfg(test)]
 mod type_tests;
 mod words;
+mod write_parts;
 mod write_state;
 
 pub use error::DeJsonErr;
 pub use state::DeJsonState;
 pub use token::DeJsonTok;
-pub use traits::DeJson;
+pub use traits::{BothJson, DeJson, SerJson};
 pub use write_state::SerJsonState;

@@ -1,5 +1,7 @@
 // Vectors: items between square brackets.
 ghost use Rattle.std.specs.Prelude.{◌≡◌, [], true, false, map, IfOk, IfErr, string_bytes};
+ghost use Rattle.std.proofs.Common.{ap};
+ghost use Rattle.nano_value.specs.Meaning.{listed};
 ghost use Rattle.nano_value.specs.Legal.{list_weaker};
 ghost use Rattle.nano_text.specs.Lists.{SpelledList};
 ghost use Rattle.nano_text.specs.Tokens.{Spans};
@@ -8,11 +10,17 @@ ghost use Rattle.nano_json.specs.State.{at};
 ghost use Rattle.nano_json.specs.Spelling.{NothingFits};
 ghost use Rattle.nano_json.specs.Spellings.{blocks};
 ghost use Rattle.nano_json.specs.SpellingLaws.{list_of};
+ghost use Rattle.nano_json.specs.Writing.{list_writing, writing_as};
+ghost use Rattle.nano_json.specs.Format.{list_format, format_as};
+ghost use Rattle.nano_json.specs.Written.{list_tokens};
+ghost use Rattle.nano_json.specs.Weaker.{list_spells};
 
 use crate::error::DeJsonErr;
+use crate::items::append_list;
 use crate::state::DeJsonState;
-use crate::traits::DeJson;
-use std::alloc::Global;
+use crate::traits::{BothJson, DeJson, SerJson};
+use crate::write_state::{SerJsonState, keep_written};
+use std::alloc::{AllocError, Global};
 use std::str::Chars;
 
 /// Reads items between square brackets. Where it is refused, the state stands anywhere.
@@ -59,4 +67,36 @@ impl<T: DeJson> DeJson for Vec<T> {
             }
         }
     }
+}
+
+impl<T: SerJson> SerJson for Vec<T> {
+    ghost writing = { writing_as (λ x. x.items) (list_writing T.writing) };
+
+    ghost writes_meaning = { λ i x. listed (map (T.writes_meaning i) x.items) };
+
+    ghost writes_legal = { list_weaker T.legal T.writing.legal T.writes_legal };
+
+    ghost orders_keys = { T.orders_keys };
+
+    fn ser_json(&self, alloc: Global, d: usize, s: &mut SerJsonState) -> Result<(), AllocError> {
+        let start = s.out.len();
+        let written = append_list(alloc, self, d.saturating_add(1), s);
+        keep_written(&mut s.out, start, written)
+    }
+}
+
+impl<T: BothJson> BothJson for Vec<T> {
+    ghost format = { format_as (λ x. x.items) (list_format T.format) };
+
+    ghost format_means = { λ i x. listed (map (T.format_means i) x.items) };
+
+    ghost format_tokens = { λ i x. list_tokens (T.format_tokens i) x.items };
+
+    ghost format_orders = { T.format_orders };
+
+    ghost format_legal = { list_weaker T.legal T.format.spelling.legal T.format_legal };
+
+    ghost format_spells = { list_spells T.format.spelling.spelled T.spelling.spelled T.format_spells };
+
+    ghost spells_format = { list_spells T.spelling.spelled T.format.spelling.spelled T.spells_format };
 }

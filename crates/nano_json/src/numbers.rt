@@ -1,16 +1,20 @@
 // Integers: a whole number in the type's range, for signed types with or without a minus sign.
-ghost use Rattle.std.specs.Prelude.{◌≡◌, ◌≤◌, ◌≤ℤ◌, ℕ, ℤ, [], ◌∷◌, true, false, Some, IfOk, IfErr, OnErr, string_bytes};
+ghost use Rattle.std.specs.Prelude.{refl, ◌≡◌, ◌≤◌, ◌≤ℤ◌, ℕ, ℤ, [], ◌∷◌, true, false, Some, IfOk, IfErr, OnErr, string_bytes};
 ghost use Rattle.std.specs.Int.{w8, w16, w32, w64};
 ghost use Rattle.nano_text.specs.Tokens.{At, Leaves};
 ghost use Rattle.nano_json.specs.Cut.{Cut};
 ghost use Rattle.nano_json.specs.State.{at, ended};
 ghost use Rattle.nano_json.specs.Token.{Token, u64, integer_of};
 ghost use Rattle.nano_json.specs.SpellingLaws.{unsigned, signed};
+ghost use Rattle.nano_json.specs.Writing.{unsigned_writing, signed_writing, below_8, below_16, below_32, below_64, within_8, within_16, within_32, within_64};
+ghost use Rattle.nano_json.specs.Format.{unsigned_format, signed_format};
 
+use crate::digits::{append_signed, append_unsigned};
 use crate::error::DeJsonErr;
 use crate::state::DeJsonState;
-use crate::traits::DeJson;
-use std::alloc::Global;
+use crate::traits::{BothJson, DeJson, SerJson};
+use crate::write_state::SerJsonState;
+use std::alloc::{AllocError, Global};
 use std::str::Chars;
 
 /// Reads a whole number without a minus sign that is at most `max`.
@@ -64,6 +68,20 @@ fn read_signed(
     }
 }
 
+impl SerJson for u8 {
+    ghost writing = { unsigned_writing 8 below_8 };
+
+    ghost writes_meaning = { refl };
+
+    ghost writes_legal = { λ m h. h };
+
+    ghost orders_keys = { tt };
+
+    fn ser_json(&self, _alloc: Global, _d: usize, s: &mut SerJsonState) -> Result<(), AllocError> {
+        append_unsigned(&mut s.out, u64::from(*self))
+    }
+}
+
 impl DeJson for u8 {
     ghost spelling = { unsigned 8 };
 
@@ -78,6 +96,36 @@ impl DeJson for u8 {
             Ok(value) => Ok(value as u8),
             Err(error) => Err(error),
         }
+    }
+}
+
+impl BothJson for u8 {
+    ghost format = { unsigned_format 8 below_8 };
+
+    ghost format_means = { refl };
+
+    ghost format_tokens = { refl };
+
+    ghost format_orders = { λ h. h };
+
+    ghost format_legal = { λ m h. h };
+
+    ghost format_spells = { λ ts m h. h };
+
+    ghost spells_format = { λ ts m h. h };
+}
+
+impl SerJson for u16 {
+    ghost writing = { unsigned_writing 16 below_16 };
+
+    ghost writes_meaning = { refl };
+
+    ghost writes_legal = { λ m h. h };
+
+    ghost orders_keys = { tt };
+
+    fn ser_json(&self, _alloc: Global, _d: usize, s: &mut SerJsonState) -> Result<(), AllocError> {
+        append_unsigned(&mut s.out, u64::from(*self))
     }
 }
 
@@ -98,6 +146,36 @@ impl DeJson for u16 {
     }
 }
 
+impl BothJson for u16 {
+    ghost format = { unsigned_format 16 below_16 };
+
+    ghost format_means = { refl };
+
+    ghost format_tokens = { refl };
+
+    ghost format_orders = { λ h. h };
+
+    ghost format_legal = { λ m h. h };
+
+    ghost format_spells = { λ ts m h. h };
+
+    ghost spells_format = { λ ts m h. h };
+}
+
+impl SerJson for u32 {
+    ghost writing = { unsigned_writing 32 below_32 };
+
+    ghost writes_meaning = { refl };
+
+    ghost writes_legal = { λ m h. h };
+
+    ghost orders_keys = { tt };
+
+    fn ser_json(&self, _alloc: Global, _d: usize, s: &mut SerJsonState) -> Result<(), AllocError> {
+        append_unsigned(&mut s.out, u64::from(*self))
+    }
+}
+
 impl DeJson for u32 {
     ghost spelling = { unsigned 32 };
 
@@ -112,6 +190,36 @@ impl DeJson for u32 {
             Ok(value) => Ok(value as u32),
             Err(error) => Err(error),
         }
+    }
+}
+
+impl BothJson for u32 {
+    ghost format = { unsigned_format 32 below_32 };
+
+    ghost format_means = { refl };
+
+    ghost format_tokens = { refl };
+
+    ghost format_orders = { λ h. h };
+
+    ghost format_legal = { λ m h. h };
+
+    ghost format_spells = { λ ts m h. h };
+
+    ghost spells_format = { λ ts m h. h };
+}
+
+impl SerJson for u64 {
+    ghost writing = { unsigned_writing 64 below_64 };
+
+    ghost writes_meaning = { refl };
+
+    ghost writes_legal = { λ m h. h };
+
+    ghost orders_keys = { tt };
+
+    fn ser_json(&self, _alloc: Global, _d: usize, s: &mut SerJsonState) -> Result<(), AllocError> {
+        append_unsigned(&mut s.out, *self)
     }
 }
 
@@ -132,6 +240,36 @@ impl DeJson for u64 {
     }
 }
 
+impl BothJson for u64 {
+    ghost format = { unsigned_format 64 below_64 };
+
+    ghost format_means = { refl };
+
+    ghost format_tokens = { refl };
+
+    ghost format_orders = { λ h. h };
+
+    ghost format_legal = { λ m h. h };
+
+    ghost format_spells = { λ ts m h. h };
+
+    ghost spells_format = { λ ts m h. h };
+}
+
+impl SerJson for usize {
+    ghost writing = { unsigned_writing 64 below_64 };
+
+    ghost writes_meaning = { refl };
+
+    ghost writes_legal = { λ m h. h };
+
+    ghost orders_keys = { tt };
+
+    fn ser_json(&self, _alloc: Global, _d: usize, s: &mut SerJsonState) -> Result<(), AllocError> {
+        append_unsigned(&mut s.out, *self as u64)
+    }
+}
+
 impl DeJson for usize {
     ghost spelling = { unsigned 64 };
 
@@ -146,6 +284,36 @@ impl DeJson for usize {
             Ok(value) => Ok(value as usize),
             Err(error) => Err(error),
         }
+    }
+}
+
+impl BothJson for usize {
+    ghost format = { unsigned_format 64 below_64 };
+
+    ghost format_means = { refl };
+
+    ghost format_tokens = { refl };
+
+    ghost format_orders = { λ h. h };
+
+    ghost format_legal = { λ m h. h };
+
+    ghost format_spells = { λ ts m h. h };
+
+    ghost spells_format = { λ ts m h. h };
+}
+
+impl SerJson for i8 {
+    ghost writing = { signed_writing w8 within_8 };
+
+    ghost writes_meaning = { refl };
+
+    ghost writes_legal = { λ m h. h };
+
+    ghost orders_keys = { tt };
+
+    fn ser_json(&self, _alloc: Global, _d: usize, s: &mut SerJsonState) -> Result<(), AllocError> {
+        append_signed(&mut s.out, i64::from(*self))
     }
 }
 
@@ -166,6 +334,36 @@ impl DeJson for i8 {
     }
 }
 
+impl BothJson for i8 {
+    ghost format = { signed_format w8 within_8 };
+
+    ghost format_means = { refl };
+
+    ghost format_tokens = { refl };
+
+    ghost format_orders = { λ h. h };
+
+    ghost format_legal = { λ m h. h };
+
+    ghost format_spells = { λ ts m h. h };
+
+    ghost spells_format = { λ ts m h. h };
+}
+
+impl SerJson for i16 {
+    ghost writing = { signed_writing w16 within_16 };
+
+    ghost writes_meaning = { refl };
+
+    ghost writes_legal = { λ m h. h };
+
+    ghost orders_keys = { tt };
+
+    fn ser_json(&self, _alloc: Global, _d: usize, s: &mut SerJsonState) -> Result<(), AllocError> {
+        append_signed(&mut s.out, i64::from(*self))
+    }
+}
+
 impl DeJson for i16 {
     ghost spelling = { signed w16 };
 
@@ -180,6 +378,36 @@ impl DeJson for i16 {
             Ok(value) => Ok(value as i16),
             Err(error) => Err(error),
         }
+    }
+}
+
+impl BothJson for i16 {
+    ghost format = { signed_format w16 within_16 };
+
+    ghost format_means = { refl };
+
+    ghost format_tokens = { refl };
+
+    ghost format_orders = { λ h. h };
+
+    ghost format_legal = { λ m h. h };
+
+    ghost format_spells = { λ ts m h. h };
+
+    ghost spells_format = { λ ts m h. h };
+}
+
+impl SerJson for i32 {
+    ghost writing = { signed_writing w32 within_32 };
+
+    ghost writes_meaning = { refl };
+
+    ghost writes_legal = { λ m h. h };
+
+    ghost orders_keys = { tt };
+
+    fn ser_json(&self, _alloc: Global, _d: usize, s: &mut SerJsonState) -> Result<(), AllocError> {
+        append_signed(&mut s.out, i64::from(*self))
     }
 }
 
@@ -200,6 +428,36 @@ impl DeJson for i32 {
     }
 }
 
+impl BothJson for i32 {
+    ghost format = { signed_format w32 within_32 };
+
+    ghost format_means = { refl };
+
+    ghost format_tokens = { refl };
+
+    ghost format_orders = { λ h. h };
+
+    ghost format_legal = { λ m h. h };
+
+    ghost format_spells = { λ ts m h. h };
+
+    ghost spells_format = { λ ts m h. h };
+}
+
+impl SerJson for i64 {
+    ghost writing = { signed_writing w64 within_64 };
+
+    ghost writes_meaning = { refl };
+
+    ghost writes_legal = { λ m h. h };
+
+    ghost orders_keys = { tt };
+
+    fn ser_json(&self, _alloc: Global, _d: usize, s: &mut SerJsonState) -> Result<(), AllocError> {
+        append_signed(&mut s.out, *self)
+    }
+}
+
 impl DeJson for i64 {
     ghost spelling = { signed w64 };
 
@@ -215,4 +473,20 @@ impl DeJson for i64 {
             Err(error) => Err(error),
         }
     }
+}
+
+impl BothJson for i64 {
+    ghost format = { signed_format w64 within_64 };
+
+    ghost format_means = { refl };
+
+    ghost format_tokens = { refl };
+
+    ghost format_orders = { λ h. h };
+
+    ghost format_legal = { λ m h. h };
+
+    ghost format_spells = { λ ts m h. h };
+
+    ghost spells_format = { λ ts m h. h };
 }

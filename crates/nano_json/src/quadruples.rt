@@ -1,13 +1,39 @@
 // Quadruples: four parts between square brackets.
+ghost use Rattle.nano_value.specs.Meaning.{paired};
 ghost use Rattle.nano_value.specs.Legal.{pair_weaker, LegalPair};
 ghost use Rattle.nano_json.specs.Tuples.{and_then, last_part, tuple_of};
+ghost use Rattle.nano_json.specs.Writing.{last_writing, next_writing, tuple_writing, writing_as};
+ghost use Rattle.nano_json.specs.MapFormat.{last_format, next_format, tuple_format};
+ghost use Rattle.nano_json.specs.Format.{format_as};
+ghost use Rattle.nano_text.specs.Written.{with_opening, with_mark, with_closing};
+ghost use Rattle.nano_json.specs.Token.{comma};
+ghost use Rattle.nano_json.specs.Spellings.{blocks};
+ghost use Rattle.nano_json.specs.Weaker.{last_spells, next_spells, tuple_spells};
 
 use crate::error::DeJsonErr;
 use crate::parts::read_four;
 use crate::state::DeJsonState;
-use crate::traits::DeJson;
-use std::alloc::Global;
+use crate::traits::{BothJson, DeJson, SerJson};
+use crate::write_parts::append_four;
+use crate::write_state::{SerJsonState, keep_written};
+use std::alloc::{AllocError, Global};
 use std::str::Chars;
+
+impl<A: SerJson, B: SerJson, C: SerJson, D: SerJson> SerJson for (A, B, C, D) {
+    ghost writing = { writing_as (λ x. (x.0, (x.1, (x.2, x.3)))) (tuple_writing (next_writing A.writing (next_writing B.writing (next_writing C.writing (last_writing D.writing))))) };
+
+    ghost writes_meaning = { λ i x. paired (A.writes_meaning i x.0, paired (B.writes_meaning i x.1, paired (C.writes_meaning i x.2, D.writes_meaning i x.3))) };
+
+    ghost writes_legal = { pair_weaker A.legal A.writing.legal (LegalPair B.legal (LegalPair C.legal D.legal)) (LegalPair B.writing.legal (LegalPair C.writing.legal D.writing.legal)) A.writes_legal (pair_weaker B.legal B.writing.legal (LegalPair C.legal D.legal) (LegalPair C.writing.legal D.writing.legal) B.writes_legal (pair_weaker C.legal C.writing.legal D.legal D.writing.legal C.writes_legal D.writes_legal)) };
+
+    ghost orders_keys = { (A.orders_keys, (B.orders_keys, (C.orders_keys, D.orders_keys))) };
+
+    fn ser_json(&self, alloc: Global, d: usize, s: &mut SerJsonState) -> Result<(), AllocError> {
+        let start = s.out.len();
+        let written = append_four(alloc, self, d, s);
+        keep_written(&mut s.out, start, written)
+    }
+}
 
 impl<A: DeJson, B: DeJson, C: DeJson, D: DeJson> DeJson for (A, B, C, D) {
     ghost spelling = { tuple_of (and_then A.spelling (and_then B.spelling (and_then C.spelling (last_part D.spelling)))) };
@@ -33,4 +59,20 @@ impl<A: DeJson, B: DeJson, C: DeJson, D: DeJson> DeJson for (A, B, C, D) {
             }
         }
     }
+}
+
+impl<A: BothJson, B: BothJson, C: BothJson, D: BothJson> BothJson for (A, B, C, D) {
+    ghost format = { format_as (λ x. (x.0, (x.1, (x.2, x.3)))) (tuple_format (next_format A.format (next_format B.format (next_format C.format (last_format D.format))))) };
+
+    ghost format_means = { λ i x. paired (A.format_means i x.0, paired (B.format_means i x.1, paired (C.format_means i x.2, D.format_means i x.3))) };
+
+    ghost format_tokens = { λ i x. with_opening blocks (with_mark comma (A.format_tokens i) (with_mark comma (B.format_tokens i) (with_mark comma (C.format_tokens i) (with_closing blocks (D.format_tokens i))))) (x.0, (x.1, (x.2, x.3))) };
+
+    ghost format_orders = { λ _. (A.format_orders A.orders_keys, (B.format_orders B.orders_keys, (C.format_orders C.orders_keys, D.format_orders D.orders_keys))) };
+
+    ghost format_legal = { pair_weaker A.legal A.format.spelling.legal (LegalPair B.legal (LegalPair C.legal D.legal)) (LegalPair B.format.spelling.legal (LegalPair C.format.spelling.legal D.format.spelling.legal)) A.format_legal (pair_weaker B.legal B.format.spelling.legal (LegalPair C.legal D.legal) (LegalPair C.format.spelling.legal D.format.spelling.legal) B.format_legal (pair_weaker C.legal C.format.spelling.legal D.legal D.format.spelling.legal C.format_legal D.format_legal)) };
+
+    ghost format_spells = { tuple_spells (and_then A.format.spelling (and_then B.format.spelling (and_then C.format.spelling (last_part D.format.spelling)))).spelled (and_then A.spelling (and_then B.spelling (and_then C.spelling (last_part D.spelling)))).spelled (next_spells A.format.spelling.spelled A.spelling.spelled (and_then B.format.spelling (and_then C.format.spelling (last_part D.format.spelling))).spelled (and_then B.spelling (and_then C.spelling (last_part D.spelling))).spelled A.format_spells (next_spells B.format.spelling.spelled B.spelling.spelled (and_then C.format.spelling (last_part D.format.spelling)).spelled (and_then C.spelling (last_part D.spelling)).spelled B.format_spells (next_spells C.format.spelling.spelled C.spelling.spelled (last_part D.format.spelling).spelled (last_part D.spelling).spelled C.format_spells (last_spells D.format.spelling.spelled D.spelling.spelled D.format_spells)))) };
+
+    ghost spells_format = { tuple_spells (and_then A.spelling (and_then B.spelling (and_then C.spelling (last_part D.spelling)))).spelled (and_then A.format.spelling (and_then B.format.spelling (and_then C.format.spelling (last_part D.format.spelling)))).spelled (next_spells A.spelling.spelled A.format.spelling.spelled (and_then B.spelling (and_then C.spelling (last_part D.spelling))).spelled (and_then B.format.spelling (and_then C.format.spelling (last_part D.format.spelling))).spelled A.spells_format (next_spells B.spelling.spelled B.format.spelling.spelled (and_then C.spelling (last_part D.spelling)).spelled (and_then C.format.spelling (last_part D.format.spelling)).spelled B.spells_format (next_spells C.spelling.spelled C.format.spelling.spelled (last_part D.spelling).spelled (last_part D.format.spelling).spelled C.spells_format (last_spells D.spelling.spelled D.format.spelling.spelled D.spells_format)))) };
 }

@@ -1,5 +1,6 @@
 // The state of a writer.
-ghost use Rattle.std.specs.Prelude.{◌≡◌, ◌++◌, OnOk, OnErr, IsOk, string_bytes, codes};
+ghost use Rattle.std.specs.Prelude.{◌≡◌, ◌++◌, ℕ, List, OnOk, OnErr, IsOk, length, take, string_bytes, codes};
+ghost use Rattle.std.specs.Str.{IsCharBoundary};
 
 use std::alloc::AllocError;
 
@@ -66,4 +67,24 @@ impl SerJsonState {
         self.indent(d)?;
         self.out.push('}')
     }
+}
+
+/// Hands on how a write ended, and cuts the text back to its first `start` bytes where it was
+/// refused: so a writer of several parts undoes those that it has written.
+///
+/// `start` is the length that the text had before.
+pub(crate) fn keep_written(
+    out: &mut String,
+    start: usize,
+    written: Result<(), AllocError>,
+) -> Result<(), AllocError>
+    requires { IsCharBoundary (string_bytes out.old) start }
+    ensures same { result ≡ written }
+    ensures ok { OnOk result (string_bytes out.new ≡ string_bytes out.old) }
+    ensures err { OnErr result (string_bytes out.new ≡ take start (string_bytes out.old)) }
+{
+    if written.is_err() {
+        out.truncate(start);
+    }
+    written
 }

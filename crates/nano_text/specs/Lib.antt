@@ -9,3 +9,4 @@ pub mod Place
 pub mod Scan
 pub mod String
 pub mod Tokens
+pub mod Written

@@ -7,3 +7,4 @@ pub mod Sets
 pub mod Ascending
 pub mod InOrder
 pub mod OrderedSets
+pub mod SetItems

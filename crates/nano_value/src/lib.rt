@@ -9,6 +9,7 @@ mod lists;
 mod maps;
 mod numbers;
 mod options;
+mod ordered;
 mod ordered_sets;
 mod sets;
 mod texts;
@@ -16,4 +17,5 @@ mod truths;
 mod tuples;
 mod value;
 
+pub use ordered::{entries_in_order, items_in_order};
 pub use value::{Key, Value};

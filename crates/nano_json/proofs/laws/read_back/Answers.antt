@@ -1,0 +1,24 @@
+use Rattle.std.proofs.Common.{◌≡◌, Bool, true, false, refl, sym, ◌∙◌, ap, subst}
+use Rattle.nano_text.specs.Place.{live_text}
+use Rattle.nano_text.specs.Tokens.{FitsText}
+use Rattle.nano_json.specs.Cut.{Cut}
+use Rattle.nano_json.proofs.RoundTrip.{written_fits, one_fits_text, by_contradiction}
+use Rattle.nano_json.proofs.laws.read_back.Goals as goal
+
+pub returns-in-Ok-deserialize_json-clause-same : goal.returns-in-Ok-deserialize_json-clause-same
+returns-in-Ok-deserialize_json-clause-same g c sound =
+    let w = g.T.SerJson.writing in
+    let x = c.args.written.now in
+    let legal = subst (λ m. w.legal m) (λ i. sym g.met.T.SerJson.writes_meaning i x) (g.met.T.SerJson.writes_legal (g.T.Value.means x) c.known.ensures) in
+    let written = w.is_written g.met.T.SerJson.orders_keys x legal 0 in
+    let fits = written_fits g.T.DeJson.spelling.spelled (w.tokens x) (w.text 0 x) c.as_str.result.now (g.T.Value.means x) written (c.as_str.ensures.value ∙ c.in-Ok.ensures) (c.written_tokens_spell_a_sound_value.ensures sound) in
+    one_fits_text g.T.DeJson.spelling.laws _ _ _ c.in-Ok-deserialize_json.ensures.fits fits
+
+pub returns-in-Ok-clause-memory : goal.returns-in-Ok-clause-memory
+returns-in-Ok-clause-memory g c sound =
+    let w = g.T.SerJson.writing in
+    let x = c.args.written.now in
+    let legal = subst (λ m. w.legal m) (λ i. sym g.met.T.SerJson.writes_meaning i x) (g.met.T.SerJson.writes_legal (g.T.Value.means x) c.known.ensures) in
+    let written = w.is_written g.met.T.SerJson.orders_keys x legal 0 in
+    let fits = written_fits g.T.DeJson.spelling.spelled (w.tokens x) (w.text 0 x) c.as_str.result.now (g.T.Value.means x) written (c.as_str.ensures.value ∙ c.in-Ok.ensures) (c.written_tokens_spell_a_sound_value.ensures sound) in
+    by_contradiction c.in-Err-deserialize_json.error.memory (λ e. c.in-Err-deserialize_json.ensures.refused e _ fits)

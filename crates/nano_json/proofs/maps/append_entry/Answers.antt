@@ -1,0 +1,7 @@
+use Rattle.std.proofs.Common.{rules, append_assoc}
+use Rattle.std.proofs.lemmas.Str.{encodes-append}
+use Rattle.nano_json.proofs.WrittenItems.{entry_in_list}
+use Rattle.nano_json.proofs.maps.append_entry.Goals as goal
+
+pub returns-clause-ok : goal.returns-clause-ok
+returns-clause-ok g c = search (rules, append_assoc, encodes-append, entry_in_list)
