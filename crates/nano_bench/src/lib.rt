@@ -7,6 +7,7 @@ mod item;
 
 use item::Item;
 use nano_bin::{BothBin, DeBinKind};
+use nano_json::BothJson;
 use std::alloc::Global;
 use std::collections::HashMap;
 
@@ -21,14 +22,16 @@ pub const NO_SUCH_CASE: i64 = -4;
 
 /// The format number of the binary format.
 const BINARY: u32 = 0;
+/// The format number of JSON.
+const JSON: u32 = 1;
 /// So many bytes are copied at once.
 const BLOCK: usize = 1024;
 
 /// Reads a value of a kind in a format, and drops it (`op` 0) or writes it again into `output` (`op` 1).
 ///
-/// Formats: 0 is the binary one; others are not there yet. Kinds: 0 `Vec<u8>`, 1 `Vec<u64>`, 2 `Vec<String>`, 3
-/// `HashMap<String, i32>`, 4 a list of records `{ value: i32, note: Option<String> }`. Answers 0 or the number of bytes
-/// written, or one of the negative constants of this crate.
+/// Formats: 0 is the binary one, 1 is JSON; others are not there yet. Kinds: 0 `Vec<u8>`, 1 `Vec<u64>`, 2 `Vec<String>`,
+/// 3 `HashMap<String, i32>`, in the binary format 4 a list of records `{ value: i32, note: Option<String> }`. Answers 0
+/// or the number of bytes written, or one of the negative constants of this crate.
 #[unsafe(no_mangle)]
 pub extern "C" fn nano_op(
     alloc: Global,
@@ -38,24 +41,51 @@ pub extern "C" fn nano_op(
     input: &[u8],
     output: &mut [u8],
 ) -> i64
-    ensures { (BINARY < format ⊎ 4 < kind) ⊎ 1 < op → result ≡ NO_SUCH_CASE }
+    ensures { (JSON < format ⊎ 4 < kind) ⊎ 1 < op → result ≡ NO_SUCH_CASE }
 {
-    if format != BINARY || op > 1 {
+    if op > 1 {
         return NO_SUCH_CASE;
     }
     let write = op == 1;
-    match kind {
-        0 => again::<Vec<u8>>(alloc, write, input, output),
-        1 => again::<Vec<u64>>(alloc, write, input, output),
-        2 => again::<Vec<String>>(alloc, write, input, output),
-        3 => again::<HashMap<String, i32>>(alloc, write, input, output),
-        4 => again::<Vec<Item>>(alloc, write, input, output),
+    match format {
+        BINARY => binary(alloc, kind, write, input, output),
+        JSON => json(alloc, kind, write, input, output),
         _ => NO_SUCH_CASE,
     }
 }
 
-/// Reads a value and, where asked, writes it into `output`.
-fn again<T: BothBin>(alloc: Global, write: bool, input: &[u8], output: &mut [u8]) -> i64 {
+/// One case of the binary format.
+fn binary(alloc: Global, kind: u32, write: bool, input: &[u8], output: &mut [u8]) -> i64
+    ensures { 4 < kind → result ≡ NO_SUCH_CASE }
+{
+    match kind {
+        0 => binary_again::<Vec<u8>>(alloc, write, input, output),
+        1 => binary_again::<Vec<u64>>(alloc, write, input, output),
+        2 => binary_again::<Vec<String>>(alloc, write, input, output),
+        3 => binary_again::<HashMap<String, i32>>(alloc, write, input, output),
+        4 => binary_again::<Vec<Item>>(alloc, write, input, output),
+        _ => NO_SUCH_CASE,
+    }
+}
+
+/// One case of JSON.
+fn json(alloc: Global, kind: u32, write: bool, input: &[u8], output: &mut [u8]) -> i64
+    ensures { 3 < kind → result ≡ NO_SUCH_CASE }
+{
+    let Ok(text) = str::from_utf8(input) else {
+        return if kind > 3 { NO_SUCH_CASE } else { REFUSED };
+    };
+    match kind {
+        0 => json_again::<Vec<u8>>(alloc, write, text, output),
+        1 => json_again::<Vec<u64>>(alloc, write, text, output),
+        2 => json_again::<Vec<String>>(alloc, write, text, output),
+        3 => json_again::<HashMap<String, i32>>(alloc, write, text, output),
+        _ => NO_SUCH_CASE,
+    }
+}
+
+/// Reads a value from bytes and, where asked, writes it into `output`.
+fn binary_again<T: BothBin>(alloc: Global, write: bool, input: &[u8], output: &mut [u8]) -> i64 {
     let value = match T::deserialize_bin(alloc, input) {
         Ok(value) => value,
         Err(error) => {
@@ -71,6 +101,21 @@ fn again<T: BothBin>(alloc: Global, write: bool, input: &[u8], output: &mut [u8]
     }
     match value.serialize_bin(alloc) {
         Ok(bytes) => put(&bytes, output),
+        Err(_) => NO_MEMORY,
+    }
+}
+
+/// Reads a value from a text and, where asked, writes it into `output`.
+fn json_again<T: BothJson>(alloc: Global, write: bool, input: &str, output: &mut [u8]) -> i64 {
+    let value = match T::deserialize_json(alloc, input) {
+        Ok(value) => value,
+        Err(error) => return if error.memory { NO_MEMORY } else { REFUSED },
+    };
+    if !write {
+        return 0;
+    }
+    match value.serialize_json(alloc) {
+        Ok(text) => put(text.as_bytes(), output),
         Err(_) => NO_MEMORY,
     }
 }

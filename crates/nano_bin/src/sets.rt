@@ -2,7 +2,6 @@
 ghost use Rattle.std.specs.Prelude.{◌≡◌, ◌≢◌, ◌≤◌, ◌++◌, map, take, drop, length, IfOk, IfErr, OnOk, OnErr, refl};
 ghost use Rattle.std.specs.List.{flat_map};
 ghost use Rattle.std.specs.Map.Iter.{deref};
-ghost use Rattle.nano_value.specs.InOrder.{ascending_items};
 ghost use Rattle.nano_value.specs.Sets.{item_set, set_means, set_weaker};
 ghost use Rattle.nano_bin.specs.declared.error.DeBinKind.{DeBinKind};
 ghost use Rattle.nano_bin.specs.Reading.{NothingFits};
@@ -15,7 +14,7 @@ use crate::append::append_part;
 use crate::error::{DeBinErr, DeBinKind};
 use crate::take::no_memory;
 use crate::traits::{BothBin, DeBin, SerBin};
-use nano_value::Key;
+use nano_value::{Key, items_in_order};
 use std::alloc::{AllocError, Global};
 use std::collections::{BTreeSet, HashSet};
 use std::hash::Hash;
@@ -29,24 +28,10 @@ impl<T: SerBin + Key + Hash + Ord> SerBin for HashSet<T> {
 
     fn ser_bin(&self, alloc: Global, output: &mut Vec<u8>) -> Result<(), AllocError> {
         let start = output.len();
-        let items = in_order(alloc, self)?;
+        let items = items_in_order(alloc, self)?;
         items.len().ser_bin(alloc, output)?;
         append_ordered(alloc, &items, output, start)
     }
-}
-
-/// The items of a set in order.
-fn in_order<'a, T: Eq + Hash + Ord>(
-    alloc: Global,
-    set: &'a HashSet<T>,
-) -> Result<BTreeSet<&'a T>, AllocError>
-    ensures { IfOk result (λ items. map deref items.keys ≡ ascending_items T.cmp set.now.keys) }
-{
-    let mut items = BTreeSet::new(alloc);
-    for item in set {
-        items.insert(item)?;
-    }
-    Ok(items)
 }
 
 /// Appends items, or cuts `output` back to its first `start` bytes where that is refused.

@@ -50,7 +50,7 @@ items_enclosed W before opened now closed opening closing o c first left all e i
     let items = divided 44 W all in
     let written = write_end W opened now first left all h none in
     let whole : encode_utf8_all (enclosed (record { opening = o; closing = c; comma = 44 }) W all) ≡ opening ++ (encode_utf8_all items ++ closing) =
-        encodes-append (o ∷ []) (items ++ c ∷ []) ∙ (λ i. sym is_opening i ++ (encodes-append items (c ∷ []) ∙ ap (λ l. encode_utf8_all items ++ l) (sym is_closing)) i) in
+    encodes-append (o ∷ []) (items ++ c ∷ []) ∙ (λ i. sym is_opening i ++ (encodes-append items (c ∷ []) ∙ ap (λ l. encode_utf8_all items ++ l) (sym is_closing)) i) in
     k ∙ (ap (λ l. l ++ closing) (written ∙ ap (λ l. l ++ encode_utf8_all items) e)
     ∙ (append_assoc (before ++ opening) (encode_utf8_all items) closing ∙ (append_assoc before opening (encode_utf8_all items ++ closing) ∙ ap (λ l. before ++ l) (sym whole))))
 

@@ -45,7 +45,7 @@ impl<T: SerJson, const N: usize> SerJson for [T; N] {
 
     fn ser_json(&self, alloc: Global, d: usize, s: &mut SerJsonState) -> Result<(), AllocError> {
         let start = s.out.len();
-        let written = append_list(alloc, self, d.saturating_add(1), s);
+        let written = append_list(alloc, self.as_slice(), d.saturating_add(1), s);
         keep_written(&mut s.out, start, written)
     }
 }

@@ -4,9 +4,9 @@
 
 mod arrays;
 mod boxes;
-mod digits;
 #[cfg(test)]
 mod container_tests;
+mod digits;
 mod error;
 mod helpers;
 mod items;
@@ -34,6 +34,8 @@ mod type_tests;
 mod words;
 mod write_parts;
 mod write_state;
+#[cfg(test)]
+mod write_tests;
 
 pub use error::DeJsonErr;
 pub use state::DeJsonState;

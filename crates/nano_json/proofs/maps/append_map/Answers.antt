@@ -17,5 +17,5 @@ pub returns-clause-ok : goal.returns-clause-ok
 returns-clause-ok g c =
     let W = written_entry (g.K.SerJson.writing.text c.args.d) (g.V.SerJson.writing.text c.args.d) in
     on_ok_weaker c.push-2.result (λ closed.
-        mapped_enclosed curly_marks W deref_pair c.args.entries.now.entries (string_bytes c.args.s.now.out) (string_bytes c.push-2.new.self)
-        (items_enclosed (λ e. W (deref_pair e)) (string_bytes c.args.s.now.out) _ (string_bytes c.loop-key.s.out) (string_bytes c.push-2.new.self) _ _ 123 125 c.loop-key.first c.loop-key.key-iterator c.args.entries.now.entries c.in_ok-push.ensures.bytes (sym (append-nil _)) c.loop-key.invariant c.in-None.ensures.steps.0 closed (sym (append-nil _)))) (pushed c.push-2.result (string_bytes c.loop-key.s.out) (string_bytes c.push-2.new.self) (encode_utf8 125) c.push-2.ensures.bytes)
+    mapped_enclosed curly_marks W deref_pair c.args.entries.now.entries (string_bytes c.args.s.now.out) (string_bytes c.push-2.new.self)
+    (items_enclosed (λ e. W (deref_pair e)) (string_bytes c.args.s.now.out) _ (string_bytes c.loop-key.s.out) (string_bytes c.push-2.new.self) _ _ 123 125 c.loop-key.first c.loop-key.key-iterator c.args.entries.now.entries c.in_ok-push.ensures.bytes (sym (append-nil _)) c.loop-key.invariant c.in-None.ensures.steps.0 closed (sym (append-nil _)))) (pushed c.push-2.result (string_bytes c.loop-key.s.out) (string_bytes c.push-2.new.self) (encode_utf8 125) c.push-2.ensures.bytes)

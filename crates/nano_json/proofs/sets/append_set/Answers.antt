@@ -12,5 +12,5 @@ pub returns-clause-ok : goal.returns-clause-ok
 returns-clause-ok g c =
     let W = g.T.SerJson.writing.text c.args.d in
     on_ok_weaker c.push-2.result (λ closed.
-        mapped_enclosed block_marks W deref c.args.items.now.keys (string_bytes c.args.s.now.out) (string_bytes c.push-2.new.self)
-        (items_enclosed (λ x. W x.now) (string_bytes c.args.s.now.out) _ (string_bytes c.loop-item.s.out) (string_bytes c.push-2.new.self) _ _ 91 93 c.loop-item.first c.loop-item.item-iterator c.args.items.now.keys c.in_ok-push.ensures.bytes (sym (append-nil _)) c.loop-item.invariant c.in-None.ensures.steps.0 closed (sym (append-nil _)))) (pushed c.push-2.result (string_bytes c.loop-item.s.out) (string_bytes c.push-2.new.self) (encode_utf8 93) c.push-2.ensures.bytes)
+    mapped_enclosed block_marks W deref c.args.items.now.keys (string_bytes c.args.s.now.out) (string_bytes c.push-2.new.self)
+    (items_enclosed (λ x. W x.now) (string_bytes c.args.s.now.out) _ (string_bytes c.loop-item.s.out) (string_bytes c.push-2.new.self) _ _ 91 93 c.loop-item.first c.loop-item.item-iterator c.args.items.now.keys c.in_ok-push.ensures.bytes (sym (append-nil _)) c.loop-item.invariant c.in-None.ensures.steps.0 closed (sym (append-nil _)))) (pushed c.push-2.result (string_bytes c.loop-item.s.out) (string_bytes c.push-2.new.self) (encode_utf8 93) c.push-2.ensures.bytes)
