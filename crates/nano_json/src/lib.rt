@@ -27,6 +27,8 @@ mod strings;
 mod tests;
 mod texts;
 mod token;
+#[cfg(test)]
+mod token_tests;
 mod traits;
 mod triples;
 #[cfg(test)]

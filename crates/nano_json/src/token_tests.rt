@@ -1,0 +1,213 @@
+// Tokens and places: that the definitions are the format's.
+use crate::{DeJsonState, DeJsonTok};
+use std::alloc::{AllocError, Global};
+use std::str::Chars;
+use std::test::Fail;
+
+/// A state over a text, with its first character current.
+pub(crate) fn state_of(alloc: Global, input: &mut Chars<'_>) -> DeJsonState {
+    let mut state = DeJsonState::new(alloc);
+    state.next(input);
+    state
+}
+
+/// The pending token in its debug form, and the text that it carries.
+pub(crate) fn pending(alloc: Global, state: &DeJsonState) -> Result<String, AllocError> {
+    let tok = &state.tok;
+    match tok {
+        DeJsonTok::Str => {
+            let text = state.strbuf.as_str();
+            format!(in alloc; "{tok:?} {text}")
+        }
+        DeJsonTok::F64 => {
+            let text = state.numbuf.as_str();
+            format!(in alloc; "{tok:?} {text}")
+        }
+        _ => format!(in alloc; "{tok:?}"),
+    }
+}
+
+/// The first tokens of a text, one behind the other.
+fn tokens_of(alloc: Global, text: &str, count: usize) -> Result<String, AllocError> {
+    let mut out = String::new(alloc);
+    let mut input = text.chars();
+    let mut state = state_of(alloc, &mut input);
+    for place in 0..count {
+        if place > 0 {
+            out.push_str(" | ")?;
+        }
+        match state.next_tok(alloc, &mut input) {
+            Ok(()) => out.push_str(pending(alloc, &state)?.as_str())?,
+            Err(_refused) => out.push_str("refused")?,
+        }
+    }
+    Ok(out)
+}
+
+#[test]
+fn texts_are_cut_into_tokens(rt: HostRuntime) -> Result<(), Fail> {
+    let alloc = rt.alloc();
+    let rows = [
+        ("42]", 3, "U64(42) | BlockClose | Eof"),
+        ("1..2", 3, "F64 1. | refused | Eof"),
+        ("1-2", 4, "U64(1) | I64(-2) | Eof | Eof"),
+        ("--1", 2, "refused | Eof"),
+        ("nul", 2, "refused | Eof"),
+        ("Null", 2, "refused | Eof"),
+        ("nulls", 2, "refused | Eof"),
+        ("'", 2, "refused | Eof"),
+        (".5", 2, "refused | Eof"),
+        ("", 2, "Eof | Eof"),
+        (" \n\r\t", 2, "Eof | Eof"),
+        ("\u{b}1", 2, "refused | Eof"),
+        (
+            " { } [ ] : , ",
+            7,
+            "CurlyOpen | CurlyClose | BlockOpen | BlockClose | Colon | Comma | Eof",
+        ),
+        (
+            "true false null",
+            4,
+            "Bool(true) | Bool(false) | Null | Eof",
+        ),
+        ("true1", 2, "Bool(true) | U64(1)"),
+        ("-0", 2, "I64(0) | Eof"),
+        ("+5", 2, "U64(5) | Eof"),
+        ("007", 2, "U64(7) | Eof"),
+        ("-", 2, "refused | Eof"),
+        ("+", 2, "refused | Eof"),
+        ("00000000000000000000007", 2, "U64(7) | Eof"),
+        ("18446744073709551615", 2, "U64(18446744073709551615) | Eof"),
+        ("18446744073709551616", 2, "refused | Eof"),
+        ("-9223372036854775808", 2, "I64(-9223372036854775808) | Eof"),
+        ("-9223372036854775809", 2, "refused | Eof"),
+        ("99999999999999999999", 2, "refused | Eof"),
+        (
+            "99999999999999999999.5",
+            2,
+            "F64 99999999999999999999.5 | Eof",
+        ),
+        (
+            "99999999999999999999e0",
+            2,
+            "F64 99999999999999999999e0 | Eof",
+        ),
+        ("1.", 2, "F64 1. | Eof"),
+        ("-.5", 2, "F64 -.5 | Eof"),
+        ("1.e5", 2, "F64 1.e5 | Eof"),
+        ("1e-2", 2, "F64 1e-2 | Eof"),
+        ("1e+2", 2, "refused | Eof"),
+        ("1e", 2, "refused | Eof"),
+        ("42 43", 2, "U64(42) | U64(43)"),
+        ("42\0@", 3, "U64(42) | Eof | Eof"),
+        ("42 @", 3, "U64(42) | refused | Eof"),
+        ("\"\\x\\u00e9\"", 2, "Str xé | Eof"),
+        (
+            "\"\\n\\t\\u0020\\f\\b\\\\\\\"\\/\\ud83d\\uDE0B\\r\"",
+            2,
+            "Str \n\t \u{c}\u{8}\\\"/😋\r | Eof",
+        ),
+        ("\"\\0\"\"\"", 3, "Str \0 | Str  | Eof"),
+        ("\"\\ud83d\"", 2, "refused | Eof"),
+        ("\"\\udc00\"", 2, "refused | Eof"),
+        ("\"\\ud83d\\n\"", 2, "refused | Eof"),
+        ("\"\\ud83d\\ud83d\"", 2, "refused | Eof"),
+        ("\"\\uD800x\"", 2, "refused | Eof"),
+        ("\"\\u12\"", 2, "refused | Eof"),
+        ("\"\\u+123\"", 2, "refused | Eof"),
+        ("\"ab", 2, "refused | Eof"),
+        ("\"a\0\"", 2, "refused | Eof"),
+    ];
+    for (text, count, expected) in rows {
+        assert_eq!(rt;
+            tokens_of(alloc, text, count)?.as_str(),
+            expected,
+            "at {text}"
+        );
+    }
+    Ok(())
+}
+
+#[test]
+fn no_front_of_a_string_is_one(rt: HostRuntime) -> Result<(), Fail> {
+    let alloc = rt.alloc();
+    let whole = "\"\\n\\t\\u0020\\f\\b\\\\\\\"\\/\\ud83d\\uDE0B\\r\"";
+    let mut front = String::new(alloc);
+    for c in whole.chars() {
+        if !front.is_empty() {
+            assert_eq!(rt;
+                tokens_of(alloc, front.as_str(), 2)?.as_str(),
+                "refused | Eof"
+            );
+        }
+        front.push(c)?;
+    }
+    Ok(())
+}
+
+#[test]
+fn long_strings_and_any_current_character(rt: HostRuntime) -> Result<(), Fail> {
+    let alloc = rt.alloc();
+    let mut text = String::new(alloc);
+    text.push('"')?;
+    for _ in 0..1000 {
+        text.push('a')?;
+    }
+    text.push('\n')?;
+    for _ in 0..1000 {
+        text.push('b')?;
+    }
+    text.push_str("\\nc\"")?;
+    let mut input = text.chars();
+    let mut state = state_of(alloc, &mut input);
+    state.next_tok(alloc, &mut input)?;
+    assert_eq!(rt; state.tok, DeJsonTok::Str);
+    assert_eq!(rt; state.strbuf.as_str().chars().count(), 2003);
+    assert_eq!(rt; (state.line, state.col, state.cur), (1, 1004, '\0'));
+
+    // The current character may never have been in the text.
+    let mut state = DeJsonState::new(alloc);
+    let mut input = "xy\"".chars();
+    state.cur = '"';
+    state.next_tok(alloc, &mut input)?;
+    assert_eq!(rt; pending(alloc, &state)?.as_str(), "Str xy");
+
+    // It counts before what the characters hold, and NUL is the end whatever they hold.
+    let mut state = DeJsonState::new(alloc);
+    state.tok = DeJsonTok::U64(7);
+    state.cur = '@';
+    assert!(rt; state.next_tok(alloc, &mut "1".chars()).is_err());
+    assert_eq!(rt; (state.tok, state.cur), (DeJsonTok::Eof, '\0'));
+    let mut state = DeJsonState::new(alloc);
+    state.tok = DeJsonTok::U64(7);
+    state.next_tok(alloc, &mut "9".chars())?;
+    assert_eq!(rt; state.tok, DeJsonTok::Eof);
+    Ok(())
+}
+
+#[test]
+fn places_are_counted(rt: HostRuntime) -> Result<(), Fail> {
+    let alloc = rt.alloc();
+    let mut input = "a\nb".chars();
+    let mut state = DeJsonState::new(alloc);
+    for expected in [('a', 0, 1), ('\n', 1, 0), ('b', 1, 1), ('\0', 1, 1)] {
+        state.next(&mut input);
+        assert_eq!(rt; (state.cur, state.line, state.col), expected);
+    }
+
+    let mut input = "42]".chars();
+    let mut state = state_of(alloc, &mut input);
+    state.next_tok(alloc, &mut input)?;
+    assert_eq!(rt; (state.cur, state.line, state.col), (']', 0, 3));
+    assert_eq!(rt; input.as_str(), "");
+
+    let mut input = "a\n".chars();
+    let mut state = DeJsonState::new(alloc);
+    state.line = usize::MAX;
+    state.col = usize::MAX;
+    state.next(&mut input);
+    assert_eq!(rt; (state.line, state.col), (usize::MAX, usize::MAX));
+    state.next(&mut input);
+    assert_eq!(rt; (state.line, state.col), (usize::MAX, 0));
+    Ok(())
+}
