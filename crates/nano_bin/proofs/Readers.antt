@@ -1,13 +1,13 @@
 -- What the readers of containers answer, from what the readers of their parts answer.
-use Rattle.std.proofs.Common.{◌≡◌, ◌≢◌, ℕ, suc, ◌+◌, ◌^◌, ◌<◌, ◌≤◌, refl, List, [], ◌∷◌, ◌++◌, map, length, take, drop, Option, Some, None, sym, ◌∙◌, subst, ap, arith, append_assoc, length-append, slice_index, IsUtf8, get_or-drop, Bool, true, false, ℤ, FitsSigned, Fits as FitsWidth}
+use Rattle.std.proofs.Common.{◌≡◌, ◌≢◌, ℕ, suc, ◌+◌, ◌^◌, ◌<◌, refl, List, [], ◌∷◌, ◌++◌, map, length, drop, Option, Some, None, sym, ◌∙◌, subst, ap, arith, append_assoc, length-append, slice_index, get_or-drop, true, false, ℤ, Fits as FitsWidth}
 use Rattle.std.specs.Int.{Width, cast_signed, cast_unsigned}
 use Rattle.std.proofs.Math.Facts.{sfits_to_z, of_z-to_z}
 use Rattle.std.proofs.lemmas.Int.{to_z-of_z}
 use Rattle.std.specs.List.{AllByRecursion}
-use Rattle.std.proofs.lemmas.List.{append-nil, take_at}
-use Rattle.nano_value.specs.Meaning.{Meaning, number, nothing, truth, whole, text, optional, listed, paired, whole_injective}
+use Rattle.std.proofs.lemmas.List.{append-nil}
+use Rattle.nano_value.specs.Meaning.{Meaning, number, nothing, truth, whole, whole_injective}
 use Rattle.nano_value.specs.Legal.{IsImage}
-use Rattle.nano_bin.specs.Reading.{IsSpelling, Fits, NothingFits, Reads}
+use Rattle.nano_bin.specs.Reading.{IsSpelling, NothingFits, Reads}
 use Rattle.nano_bin.specs.LittleEndian.{SpellsNumber, number_spelling, little_endian, little_value, length-little_endian, little_endian-little_value, little_value_fits}
 use Rattle.nano_bin.specs.Spellings.{SpellsUnit, SpellsUnsigned, SpellsSigned, SpellsSignedNumber, SpellsTruth, SpellsPair, SpellsOption, SpellsItems, SpellsCount, SpellsList, SpellsText, IsTextOf}
 use Rattle.nano_bin.specs.SpellingLaws.{same_fronts, same_heads, truth_byte}

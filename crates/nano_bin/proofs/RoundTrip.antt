@@ -1,10 +1,10 @@
 -- What is read where a code stands.
-use Rattle.std.proofs.Common.{◌≡◌, ◌≢◌, ℕ, ◌+◌, List, [], ◌++◌, length, drop, sym, ◌∙◌, subst, ap, arith, append_assoc, refl}
+use Rattle.std.proofs.Common.{◌≡◌, ◌≢◌, ℕ, ◌+◌, List, ◌++◌, length, drop, sym, ◌∙◌, subst, ap, append_assoc, refl}
 use Rattle.std.proofs.lemmas.List.{drop-drop}
 use Rattle.std.proofs.Math.Seq.{drop-append_seam}
 use Rattle.nano_bin.specs.declared.error.DeBinKind.{DeBinKind}
 use Rattle.nano_bin.specs.declared.error.DeBinKind.TheVariants.{TooShort, NotUtf8, TooLong, Memory, Own}
-use Rattle.nano_bin.specs.Reading.{IsSpelling, Fits, NothingFits, Reads}
+use Rattle.nano_bin.specs.Reading.{IsSpelling, NothingFits, Reads}
 use Rattle.nano_bin.specs.SpellingLaws.{same_fronts}
 use Rattle.nano_bin.specs.Promises.{StandsAt}
 

@@ -1,14 +1,14 @@
 -- Numbers of a fixed width that stand one behind the other, read at once.
-use Rattle.std.proofs.Common.{◌≡◌, ℕ, zero, suc, ◌+◌, ◌*◌, ◌/◌, ◌%◌, ◌^◌, ◌<◌, ◌≤◌, refl, List, [], ◌∷◌, ◌++◌, map, length, take, drop, sym, ◌∙◌, subst, ap, arith, append_assoc, length-append, length-drop, slice_index, get_or-drop}
+use Rattle.std.proofs.Common.{◌≡◌, ℕ, zero, suc, ◌+◌, ◌*◌, ◌/◌, ◌%◌, ◌^◌, ◌<◌, ◌≤◌, refl, List, [], ◌∷◌, ◌++◌, map, length, take, drop, sym, ◌∙◌, subst, ap, arith, length-append, length-drop, slice_index, get_or-drop}
 use Rattle.std.specs.List.{AllByRecursion, flat_map}
 use Rattle.std.specs.Simd.{first_chunks}
 use Rattle.std.proofs.Math.Nat.{le-div_iff_mul-le}
 use Rattle.std.proofs.Math.Seq.{take-add}
-use Rattle.std.proofs.lemmas.List.{append-nil, drop-drop, take-append-drop, length-take-le}
-use Rattle.nano_value.specs.Meaning.{Meaning, whole, number}
+use Rattle.std.proofs.lemmas.List.{drop-drop, take-append-drop, length-take-le}
+use Rattle.nano_value.specs.Meaning.{Meaning, whole}
 use Rattle.nano_value.specs.Legal.{length-map}
-use Rattle.nano_bin.specs.Reading.{Fits, NothingFits, Reads}
-use Rattle.nano_bin.specs.LittleEndian.{SpellsNumber, little_endian, little_value, little_byte, length-little_endian, little_endian-little_value, little_value_fits}
+use Rattle.nano_bin.specs.Reading.{NothingFits, Reads}
+use Rattle.nano_bin.specs.LittleEndian.{little_endian, little_value, little_byte, length-little_endian, little_endian-little_value, little_value_fits}
 use Rattle.nano_bin.specs.Spellings.{SpellsUnsigned, SpellsItems, SpellsCount}
 
 -- each is a byte

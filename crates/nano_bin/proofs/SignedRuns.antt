@@ -5,7 +5,7 @@ use Rattle.std.specs.List.{AllByRecursion}
 use Rattle.std.proofs.Math.Facts.{sfits_to_z, of_z-to_z}
 use Rattle.nano_value.specs.Meaning.{Meaning, whole, number, whole_injective}
 use Rattle.nano_value.specs.Legal.{length-map}
-use Rattle.nano_bin.specs.Reading.{Fits, NothingFits, Reads}
+use Rattle.nano_bin.specs.Reading.{NothingFits, Reads}
 use Rattle.nano_bin.specs.LittleEndian.{SpellsNumber, little_value}
 use Rattle.nano_bin.specs.Spellings.{SpellsUnsigned, SpellsSigned, SpellsItems, SpellsCount}
 use Rattle.nano_bin.proofs.Runs.{chunk_means}

@@ -1,10 +1,10 @@
 -- What a reader of an enum answers, from what the readers of the tag and of the fields answer.
-use Rattle.std.proofs.Common.{◌≡◌, ℕ, refl, List, [], ◌++◌, drop, subst}
+use Rattle.std.proofs.Common.{ℕ, refl, List, drop, subst}
 use Rattle.nano_value.specs.Meaning.{Meaning, whole, paired}
 use Rattle.nano_bin.specs.Reading.{Spelling, Reads, NothingFits}
 use Rattle.nano_bin.specs.LittleEndian.{SpellsNumber, number_spelling}
 use Rattle.nano_bin.specs.Spellings.{SpellsUnsigned}
-use Rattle.nano_bin.specs.Variants.{Variant, SpellsVariant, variant_means, variants_of}
+use Rattle.nano_bin.specs.Variants.{SpellsVariant, variant_means, variants_of}
 use Rattle.nano_bin.proofs.Readers.{then_reads, then_refused, first_refused, image_reads, image_refused, unsigned_reads, unsigned_refused}
 
 module _ (bodies : ℕ → Spelling) (bytes : List ℕ) where

@@ -1,5 +1,5 @@
 -- The formats of the types by the types' names, for own types that are made of them.
-use Rattle.std.specs.Prelude.{ℕ, ℤ, Bool, List, String, string_bytes}
+use Rattle.std.specs.Prelude.{ℕ, ℤ, String, string_bytes}
 use Rattle.std.specs.Global.{Global}
 use Rattle.std.specs.Int.{w8, w16, w32, w64, w128}
 use Rattle.nano_bin.specs.Writing.{Format, format_as, unsigned_format, signed_format, text_format, bits_fit_8, bits_fit_16, bits_fit_32, bits_fit_64, bits_fit_128}

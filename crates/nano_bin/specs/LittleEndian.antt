@@ -1,8 +1,8 @@
 -- Numbers as bytes, the lowest first, at each width.
-use Rattle.std.specs.Prelude.{◌≡◌, ℕ, zero, suc, ◌+◌, ◌*◌, ◌/◌, ◌%◌, ◌^◌, ◌<◌, refl, List, [], ◌∷◌, ◌++◌, length, drop, slice_index}
+use Rattle.std.specs.Prelude.{◌≡◌, ℕ, zero, suc, ◌+◌, ◌*◌, ◌/◌, ◌%◌, ◌^◌, ◌<◌, refl, List, [], ◌∷◌, length, slice_index}
 use Rattle.std.specs.List.{AllByRecursion}
-use Rattle.std.specs.Int.{bytes_low_first, byte_worth, sum_through, byte_at, w8, w16, w32, w64, w128, to_le_bytes, from_le_bytes}
-use Rattle.std.proofs.Common.{sym, ◌∙◌, subst, ap, arith, take, length-append, get_or-drop}
+use Rattle.std.specs.Int.{bytes_low_first, byte_worth, sum_through, w8, w16, w32, w64, w128, to_le_bytes, from_le_bytes}
+use Rattle.std.proofs.Common.{sym, ◌∙◌, subst, ap, arith, take}
 use Rattle.std.proofs.Math.Nat.{div-div-eq-div-mul, div-one, pow-suc, mod-add-div}
 use Rattle.std.proofs.lemmas.Nat.{div_below}
 use Rattle.std.proofs.lemmas.List.{take_at}

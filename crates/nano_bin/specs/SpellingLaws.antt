@@ -1,15 +1,15 @@
 -- The laws of the spellings: those of containers from those of their parts.
-use Rattle.std.specs.Prelude.{◌≡◌, ◌≢◌, ℕ, suc, ◌+◌, ◌^◌, ◌<◌, refl, List, [], ◌∷◌, ◌++◌, map, length, Option, Some, None, Bool, true, false, FitsSigned}
+use Rattle.std.specs.Prelude.{◌≡◌, ℕ, ◌^◌, ◌<◌, refl, List, [], ◌∷◌, ◌++◌, length, Option, Some, None, Bool, true, false, FitsSigned}
 use Rattle.std.specs.Int.{Width, cast_signed}
 use Rattle.std.specs.List.{AllByRecursion}
-use Rattle.std.proofs.Common.{sym, ◌∙◌, subst, ap, arith, append_assoc, length-append, take}
-use Rattle.std.proofs.lemmas.List.{append_cancel_left, append-nil, take_at}
+use Rattle.std.proofs.Common.{sym, ◌∙◌, subst, ap, arith, append_assoc, take}
+use Rattle.std.proofs.lemmas.List.{append_cancel_left, take_at}
 use Rattle.std.proofs.lemmas.Int.{to_z-of_z}
 use Rattle.nano_value.specs.Meaning.{Meaning, number, truth, whole, text, optional, listed, paired}
 use Rattle.nano_value.specs.Legal.{IsImage, AllOfOption, BothOfPair, AllOfList, AllOfCount, LegalUnit, IsText}
-use Rattle.nano_bin.specs.Reading.{IsSpelling, Spelling, NothingFits}
+use Rattle.nano_bin.specs.Reading.{IsSpelling, Spelling}
 use Rattle.nano_bin.specs.LittleEndian.{SpellsNumber, number_spelling}
-use Rattle.nano_bin.specs.Spellings.{SpellsUnsigned, SpellsSignedNumber, SpellsTruth, SpellsUnit, SpellsPair, SpellsOption, SpellsItems, SpellsCount, SpellsList, SpellsText}
+use Rattle.nano_bin.specs.Spellings.{SpellsSignedNumber, SpellsTruth, SpellsUnit, SpellsPair, SpellsOption, SpellsItems, SpellsCount, SpellsList, SpellsText}
 
 -- where two lists begin with spellings, these are one, and so is what is behind them
 pub same_fronts : {A : Type 0} {P : A → Type 0} {S : List ℕ → A → Type 0} → IsSpelling P S → (a b m n : List ℕ) (x y : A) → S a x → S b y → a ++ m ≡ b ++ n → (a ≡ b) × (m ≡ n)

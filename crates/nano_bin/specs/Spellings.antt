@@ -1,7 +1,7 @@
 -- The spellings of the types, those of containers from those of their parts.
 use Rattle.std.specs.Prelude.{◌≡◌, ◌≢◌, ℕ, List, [], ◌∷◌, ◌++◌, length, Option, Some, None, IsUtf8, Bool, true, false, ℤ, FitsSigned}
 use Rattle.std.specs.Int.{Width, cast_unsigned}
-use Rattle.nano_value.specs.Meaning.{Meaning, number, nothing, whole, text, optional, listed, paired}
+use Rattle.nano_value.specs.Meaning.{Meaning, number, nothing, whole}
 use Rattle.nano_value.specs.Legal.{IsImage}
 use Rattle.nano_bin.specs.LittleEndian.{SpellsNumber}
 

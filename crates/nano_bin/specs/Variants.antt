@@ -2,7 +2,7 @@
 use Rattle.std.specs.Prelude.{◌≡◌, ℕ, zero, suc, ◌<◌, ◌^◌, refl, List, [], ◌++◌}
 use Rattle.std.proofs.Common.{sym, ◌∙◌, subst, ap}
 use Rattle.nano_value.specs.Meaning.{Meaning, whole, paired, whole_injective, both_injective}
-use Rattle.nano_value.specs.Legal.{IsImage, image_of}
+use Rattle.nano_value.specs.Legal.{image_of}
 use Rattle.nano_bin.specs.Reading.{IsSpelling, Spelling}
 use Rattle.nano_bin.specs.LittleEndian.{SpellsNumber, number_spelling, little_endian}
 use Rattle.nano_bin.specs.SpellingLaws.{same_fronts, same_heads, spelling_of}

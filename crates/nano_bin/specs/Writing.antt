@@ -3,13 +3,13 @@ use Rattle.std.specs.Prelude.{◌≡◌, ◌<◌, ◌^◌, ℕ, refl, List, [], 
 use Rattle.std.specs.Int.{Width, w8, w16, w32, w64, w128, cast_unsigned}
 use Rattle.std.specs.Option.{option_map}
 use Rattle.std.specs.List.{AllByRecursion, flat_map}
-use Rattle.std.proofs.Common.{sym, ◌∙◌, subst, ap, lit<}
+use Rattle.std.proofs.Common.{sym, subst, ap, lit<}
 use Rattle.std.proofs.Math.Facts.{Fits-of_z}
-use Rattle.nano_value.specs.Meaning.{Meaning, number, truth, nothing, whole, text, optional, listed, paired, pair_map, usize_bound, number_injective, truth_injective, whole_injective, text_injective, both_injective, listed_injective}
+use Rattle.nano_value.specs.Meaning.{Meaning, number, truth, nothing, whole, text, optional, listed, paired, pair_map, number_injective, truth_injective, whole_injective, text_injective, both_injective, listed_injective}
 use Rattle.nano_value.specs.Legal.{IsImage, LegalPair, AllOfOption, BothOfPair, AllOfList, AllOfCount, IsText, length-map}
-use Rattle.nano_bin.specs.Reading.{IsSpelling, Spelling}
-use Rattle.nano_bin.specs.LittleEndian.{SpellsNumber, little_endian}
-use Rattle.nano_bin.specs.Spellings.{SpellsPair, SpellsOption, SpellsItems, SpellsCount, SpellsList, SpellsText}
+use Rattle.nano_bin.specs.Reading.{Spelling}
+use Rattle.nano_bin.specs.LittleEndian.{little_endian}
+use Rattle.nano_bin.specs.Spellings.{SpellsPair, SpellsOption, SpellsItems, SpellsCount, SpellsList}
 use Rattle.nano_bin.specs.SpellingLaws.{unsigned, signed, truths, units, texts, option_of, pair_of, list_of, array_of}
 
 -- what the values of a type are written as: the same for what means the same, where the orders that keys and items are

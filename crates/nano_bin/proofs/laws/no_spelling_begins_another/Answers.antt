@@ -1,5 +1,5 @@
-use Rattle.std.proofs.Common.{◌≡◌, List, [], ◌++◌, sym, ◌∙◌, subst, ap}
-use Rattle.std.proofs.lemmas.List.{append-nil, append_cancel_left}
+use Rattle.std.proofs.Common.{[], ◌++◌, sym}
+use Rattle.std.proofs.lemmas.List.{append-nil}
 use Rattle.nano_bin.specs.SpellingLaws.{same_fronts}
 use Rattle.nano_bin.proofs.laws.no_spelling_begins_another.Goals as goal
 

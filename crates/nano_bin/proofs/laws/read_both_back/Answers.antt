@@ -1,4 +1,4 @@
-use Rattle.std.proofs.Common.{◌++◌, ◌+◌, arith, length-append}
+use Rattle.std.proofs.Common.{arith, length-append}
 use Rattle.nano_bin.proofs.RoundTrip.{first_stands, next_stands}
 use Rattle.nano_bin.proofs.laws.read_both_back.Goals as goal
 

@@ -1,4 +1,4 @@
-use Rattle.std.proofs.Common.{◌<◌, ◌≤◌, length, arith, subst, sym, ap}
+use Rattle.std.proofs.Common.{◌<◌, ◌≤◌, length, arith, subst}
 use Rattle.nano_bin.proofs.Runs.{bytes_read, bytes_refused}
 use Rattle.nano_bin.proofs.take.take_bytes.Goals as goal
 

@@ -1,6 +1,6 @@
 use Rattle.nano_value.specs.Meaning.{optional}
 use Rattle.nano_bin.specs.Spellings.{SpellsOption}
-use Rattle.nano_bin.proofs.Readers.{option_refused, some_refused, some_reads, none_reads, unsigned_reads, unsigned_refused, image_reads, image_refused}
+use Rattle.nano_bin.proofs.Readers.{option_refused, some_refused, some_reads, unsigned_reads, unsigned_refused, image_reads, image_refused}
 use Rattle.nano_bin.proofs.options.OptionDeBin.de_bin.Goals as goal
 
 pub returns-in-Ok-de_bin-clause-ok : goal.returns-in-Ok-de_bin-clause-ok
