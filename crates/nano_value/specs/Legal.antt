@@ -1,11 +1,10 @@
 -- Which meanings the values of a type have.
 use Rattle.std.specs.Prelude.{◌≡◌, ℕ, suc, ◌<◌, ◌≤◌, drop, ◌^◌, refl, List, [], ◌∷◌, map, length, Option, Some, None, IsUtf8, FitsSigned}
 use Rattle.std.specs.List.{AllByRecursion}
-use Rattle.std.specs.Option.{option_map}
-use Rattle.std.specs.Int.{Width, w8, w16, w32, w64, w128}
+use Rattle.std.specs.Int.{Width}
 use Rattle.std.proofs.Common.{ap, sym, subst, ◌∙◌}
 use Rattle.std.proofs.lemmas.List.{drop_all}
-use Rattle.nano_value.specs.Meaning.{Meaning, number, whole, truth, nothing, text, optional, listed, paired, pair_map, usize_bound}
+use Rattle.nano_value.specs.Meaning.{Meaning, number, whole, truth, nothing, text, optional, listed, paired, usize_bound}
 
 -- the meaning is what a part that has the property is mapped to
 pub record IsImage {A : Type 0} (f : A → Meaning) (P : A → Type 0) (m : Meaning) : Type 0 where

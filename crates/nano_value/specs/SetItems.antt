@@ -1,5 +1,5 @@
 -- The items of a set in order: that sets which mean the same have the same, and what holds of them.
-use Rattle.std.specs.Prelude.{◌≡◌, ◌<◌, refl, List, [], ◌∷◌, map, length}
+use Rattle.std.specs.Prelude.{◌≡◌, ◌<◌, refl, List, [], ◌∷◌, map}
 use Rattle.std.specs.declared.cmp.Ordering.{Ordering}
 use Rattle.std.specs.List.{AllByRecursion}
 use Rattle.std.specs.Map.{keys_of}

@@ -1,4 +1,4 @@
-use Rattle.std.proofs.Common.{◌≤◌, length, sym, subst}
+use Rattle.std.proofs.Common.{◌≤◌, sym, subst}
 use Rattle.nano_value.specs.Legal.{array_is_legal, all_walked}
 use Rattle.nano_value.proofs.lists.ArrayValue.known.Goals as goal
 
