@@ -142,12 +142,11 @@ module _ {T : Type 0} (cut : List ℕ → T → List ℕ → Type 0) where
         let item = h.0 others (behind_follows xs rest) in
         let all = cuts_append (f x) (flat_map (λ y. tokens.comma ∷ f y) xs ++ tokens.closing ∷ []) (g x ++ others) others rest item (behind_cut xs h.1 rest) in
         let same_tokens = append_assoc (f x) (flat_map (λ y. tokens.comma ∷ f y) xs) (tokens.closing ∷ []) in
-        let same_text = append_assoc (g x) (flat_map (λ y. marks.comma ∷ g y) xs) (marks.closing ∷ rest) in
-        (
+        let same_text = append_assoc (g x) (flat_map (λ y. marks.comma ∷ g y) xs) (marks.closing ∷ rest) in (
           (g x ++ flat_map (λ y. marks.comma ∷ g y) xs) ++ marks.closing ∷ rest,
           cuts.comma _,
           subst (λ (ts : List T). Cuts cut ts ((g x ++ flat_map (λ y. marks.comma ∷ g y) xs) ++ marks.closing ∷ rest) rest) (sym same_tokens)
-          (subst (λ (l : List ℕ). Cuts cut (f x ++ (flat_map (λ y. tokens.comma ∷ f y) xs ++ tokens.closing ∷ [])) l rest) (sym same_text) all),
+              (subst (λ (l : List ℕ). Cuts cut (f x ++ (flat_map (λ y. tokens.comma ∷ f y) xs ++ tokens.closing ∷ [])) l rest) (sym same_text) all),
         )
 
     items_cut : (xs : List A) → AllByRecursion (λ x. IsCutInto may_follow (f x) (g x)) xs → (rest : List ℕ) → Cuts cut (divided tokens.comma f xs ++ tokens.closing ∷ []) (divided marks.comma g xs ++ marks.closing ∷ rest) rest
@@ -163,8 +162,7 @@ module _ {T : Type 0} (cut : List ℕ → T → List ℕ → Type 0) where
 
     pub enclosed_cut : (xs : List A) → AllByRecursion (λ x. IsCutInto may_follow (f x) (g x)) xs → IsCutInto may_follow (enclosed tokens f xs) (enclosed marks g xs)
     enclosed_cut xs h rest follows =
-        let same = append_assoc (divided marks.comma g xs) (marks.closing ∷ []) rest in
-        (
+        let same = append_assoc (divided marks.comma g xs) (marks.closing ∷ []) rest in (
           (divided marks.comma g xs ++ marks.closing ∷ []) ++ rest,
           cuts.opening _,
           subst (λ (l : List ℕ). Cuts cut (divided tokens.comma f xs ++ tokens.closing ∷ []) l rest) (sym same) (items_cut xs h rest),
