@@ -1,5 +1,5 @@
-//! Laws of the definitions that the contracts cite: each function does nothing, and its contract is
-//! the law.
+//! Laws of the definitions that the contracts cite: each function but `read_back` does nothing, and
+//! its contract is the law.
 ghost use Rattle.std.specs.Prelude.{◌≡◌, ◌++◌, ℕ, List, true, IfOk, IfErr};
 ghost use Rattle.nano_value.specs.Meaning.{Meaning};
 ghost use Rattle.nano_text.specs.Lists.{OneValue};
