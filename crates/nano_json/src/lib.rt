@@ -4,8 +4,6 @@
 
 mod arrays;
 mod boxes;
-#[cfg(test)]
-mod container_tests;
 mod digits;
 mod error;
 mod helpers;
@@ -23,21 +21,13 @@ mod quadruples;
 mod sets;
 mod state;
 mod strings;
-#[cfg(test)]
-mod tests;
 mod texts;
 mod token;
-#[cfg(test)]
-mod token_tests;
 mod traits;
 mod triples;
-#[cfg(test)]
-mod type_tests;
 mod words;
 mod write_parts;
 mod write_state;
-#[cfg(test)]
-mod write_tests;
 
 pub use error::DeJsonErr;
 pub use state::DeJsonState;

@@ -1,7 +1,7 @@
 // What no clause says: that the definitions are the format's, the texts and places of faults, and
 // that calls succeed.
 use crate::token_tests::{pending, state_of};
-use crate::{DeJsonErr, DeJsonState, DeJsonTok, SerJsonState};
+use nano_json::{DeJsonErr, DeJsonState, DeJsonTok, SerJsonState};
 use std::alloc::{AllocError, Global};
 use std::process::Abort;
 use std::str::Chars;

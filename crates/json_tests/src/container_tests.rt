@@ -1,6 +1,6 @@
 // What no clause of the readers of sets, maps and tuples says: that they succeed, that the definitions
 // are the format's, and the texts of faults.
-use crate::{DeJson, DeJsonState, DeJsonTok};
+use nano_json::{DeJson, DeJsonState, DeJsonTok};
 use std::alloc::Global;
 use std::collections::{BTreeSet, HashMap, HashSet, LinkedList};
 use std::process::Abort;

@@ -1,6 +1,6 @@
 // What no clause of the readers says: that they succeed, that the definitions are the format's, and
 // the texts of faults.
-use crate::{DeJson, DeJsonErr, DeJsonState, DeJsonTok};
+use nano_json::{DeJson, DeJsonErr, DeJsonState, DeJsonTok};
 use std::alloc::{AllocError, Global};
 use std::test::Fail;
 

@@ -1,5 +1,5 @@
 // What no clause of the writers says: that they succeed, and that the definitions are the format's.
-use crate::{BothJson, DeJson, SerJson, SerJsonState, laws};
+use nano_json::{BothJson, DeJson, SerJson, SerJsonState, laws};
 use std::alloc::Global;
 use std::collections::{BTreeSet, HashMap, HashSet, LinkedList};
 use std::process::Abort;

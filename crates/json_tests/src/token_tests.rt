@@ -1,5 +1,5 @@
 // Tokens and places: that the definitions are the format's.
-use crate::{DeJsonState, DeJsonTok};
+use nano_json::{DeJsonState, DeJsonTok};
 use std::alloc::{AllocError, Global};
 use std::str::Chars;
 use std::test::Fail;

@@ -1,0 +1,14 @@
+//! Tests of `nano_json` over its public surface. They stand in a crate of their own, so that they are
+//! proved beside it and not with it.
+#![tactic(auto)]
+
+#[cfg(test)]
+mod container_tests;
+#[cfg(test)]
+mod helper_tests;
+#[cfg(test)]
+mod token_tests;
+#[cfg(test)]
+mod type_tests;
+#[cfg(test)]
+mod write_tests;
