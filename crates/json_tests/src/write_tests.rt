@@ -33,7 +33,7 @@ fn normal<T: BothJson>(rt: &impl Abort, alloc: Global, rows: &[(&str, &str)]) ->
 }
 
 #[test]
-fn scalars_are_written(rt: HostRuntime) -> Result<(), Fail> {
+fn unsigned_numbers_are_written(rt: HostRuntime) -> Result<(), Fail> {
     let alloc = rt.alloc();
     written(
         &rt,
@@ -47,18 +47,25 @@ fn scalars_are_written(rt: HostRuntime) -> Result<(), Fail> {
         alloc,
         &[(1u64, "1"), (u64::MAX, "18446744073709551615")],
     )?;
-    written(&rt, alloc, &[(12usize, "12")])?;
+    written(&rt, alloc, &[(12usize, "12")])
+}
+
+#[test]
+fn signed_numbers_are_written(rt: HostRuntime) -> Result<(), Fail> {
+    let alloc = rt.alloc();
+    let wide = [
+        (i64::MIN, "-9223372036854775808"),
+        (i64::MAX, "9223372036854775807"),
+    ];
+    written(&rt, alloc, &wide)?;
     written(&rt, alloc, &[(i8::MIN, "-128"), (0, "0"), (127, "127")])?;
     written(&rt, alloc, &[(i16::MIN, "-32768")])?;
-    written(&rt, alloc, &[(i32::MIN, "-2147483648"), (-1, "-1")])?;
-    written(
-        &rt,
-        alloc,
-        &[
-            (i64::MIN, "-9223372036854775808"),
-            (i64::MAX, "9223372036854775807"),
-        ],
-    )?;
+    written(&rt, alloc, &[(i32::MIN, "-2147483648"), (-1, "-1")])
+}
+
+#[test]
+fn words_and_options_are_written(rt: HostRuntime) -> Result<(), Fail> {
+    let alloc = rt.alloc();
     written(&rt, alloc, &[(true, "true"), (false, "false")])?;
     written(&rt, alloc, &[((), "null")])?;
     written(&rt, alloc, &[(Some(3u8), "3"), (None, "null")])?;
@@ -99,41 +106,60 @@ fn strings_are_written_with_escapes(rt: HostRuntime) -> Result<(), Fail> {
 }
 
 #[test]
-fn containers_are_read_and_written(rt: HostRuntime) -> Result<(), Fail> {
+fn lists_are_read_and_written(rt: HostRuntime) -> Result<(), Fail> {
     let alloc = rt.alloc();
     normal::<Vec<Option<u8>>>(&rt, alloc, &[("[null,3,]", "[null,3]"), ("[]", "[]")])?;
     normal::<Vec<Vec<u8>>>(&rt, alloc, &[("[[],[1],]", "[[],[1]]")])?;
-    normal::<LinkedList<i8>>(&rt, alloc, &[("[ 1, -2 ,+3]", "[1,-2,3]")])?;
-    normal::<HashMap<u8, bool>>(
-        &rt,
-        alloc,
-        &[("{2:true,1:false}", "{1:false,2:true}"), ("{}", "{}")],
-    )?;
-    normal::<HashMap<String, i32>>(
-        &rt,
-        alloc,
-        &[("{\"b\":1,\"a\":2,\"b\":3,}", "{\"a\":2,\"b\":3}")],
-    )?;
-    normal::<HashSet<i32>>(&rt, alloc, &[("[3,1,3]", "[1,3]")])?;
-    normal::<BTreeSet<i32>>(&rt, alloc, &[("[3,1,3]", "[1,3]")])?;
-    normal::<(u8, u8)>(&rt, alloc, &[("[1,2,]", "[1,2]")])?;
-    normal::<(u8, String, bool)>(&rt, alloc, &[("[1,\"a\\n\",true]", "[1,\"a\\n\",true]")])?;
-    normal::<(u8, i8, (), Option<u8>)>(&rt, alloc, &[("[1,-0,null,null]", "[1,0,null,null]")])?;
+    normal::<LinkedList<i8>>(&rt, alloc, &[("[ 1, -2 ,+3]", "[1,-2,3]")])
+}
+
+#[test]
+fn arrays_and_boxes_are_read_and_written(rt: HostRuntime) -> Result<(), Fail> {
+    let alloc = rt.alloc();
     normal::<[u8; 0]>(&rt, alloc, &[("[]", "[]")])?;
     normal::<[u8; 2]>(&rt, alloc, &[("[1,2]", "[1,2]")])?;
-    normal::<Box<Option<Option<u8>>>>(&rt, alloc, &[("5", "5"), ("null", "null")])?;
-    normal::<HashMap<(u8, bool), Vec<HashSet<String>>>>(
+    normal::<Box<Option<Option<u8>>>>(&rt, alloc, &[("5", "5"), ("null", "null")])
+}
+
+#[test]
+fn slices_are_written(rt: HostRuntime) -> Result<(), Fail> {
+    let alloc = rt.alloc();
+    let numbers = [1u16, 2, 3];
+    written(
         &rt,
         alloc,
-        &[(
-            "{[2,true]:[[\"b\",\"a\"]],[1,false]:[]}",
-            "{[1,false]:[],[2,true]:[[\"a\",\"b\"]]}",
-        )],
-    )?;
-    let numbers = [1u16, 2, 3];
-    assert_eq!(rt; (&numbers[..]).serialize_json(alloc)?.as_str(), "[1,2,3]");
-    assert_eq!(rt; (&numbers[..0]).serialize_json(alloc)?.as_str(), "[]");
-    Ok(())
+        &[(&numbers[..], "[1,2,3]"), (&numbers[..0], "[]")],
+    )
+}
+
+#[test]
+fn maps_and_sets_are_read_and_written(rt: HostRuntime) -> Result<(), Fail> {
+    let alloc = rt.alloc();
+    let truths = [("{2:true,1:false}", "{1:false,2:true}"), ("{}", "{}")];
+    normal::<HashMap<u8, bool>>(&rt, alloc, &truths)?;
+    let named = [("{\"b\":1,\"a\":2,\"b\":3,}", "{\"a\":2,\"b\":3}")];
+    normal::<HashMap<String, i32>>(&rt, alloc, &named)?;
+    normal::<HashSet<i32>>(&rt, alloc, &[("[3,1,3]", "[1,3]")])?;
+    normal::<BTreeSet<i32>>(&rt, alloc, &[("[3,1,3]", "[1,3]")])
+}
+
+#[test]
+fn tuples_are_read_and_written(rt: HostRuntime) -> Result<(), Fail> {
+    let alloc = rt.alloc();
+    normal::<(u8, u8)>(&rt, alloc, &[("[1,2,]", "[1,2]")])?;
+    let three = [("[1,\"a\\n\",true]", "[1,\"a\\n\",true]")];
+    normal::<(u8, String, bool)>(&rt, alloc, &three)?;
+    normal::<(u8, i8, (), Option<u8>)>(&rt, alloc, &[("[1,-0,null,null]", "[1,0,null,null]")])
+}
+
+#[test]
+fn nested_types_are_read_and_written(rt: HostRuntime) -> Result<(), Fail> {
+    let alloc = rt.alloc();
+    let rows = [(
+        "{[2,true]:[[\"b\",\"a\"]],[1,false]:[]}",
+        "{[1,false]:[],[2,true]:[[\"a\",\"b\"]]}",
+    )];
+    normal::<HashMap<(u8, bool), Vec<HashSet<String>>>>(&rt, alloc, &rows)
 }
 
 #[test]
