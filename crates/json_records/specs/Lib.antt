@@ -1,0 +1,4 @@
+pub mod FieldNames
+pub mod FieldWriting
+pub mod FieldFormat
+pub mod FieldWeaker
