@@ -1,0 +1,2 @@
+//! The records layer of JSON: own types with named fields.
+#![tactic(auto)]
