@@ -1,3 +1,6 @@
+pub mod Fields
+pub mod FieldLaws
+pub mod Struct
 pub mod FieldNames
 pub mod FieldWriting
 pub mod FieldFormat

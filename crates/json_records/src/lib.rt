@@ -1,4 +1,4 @@
-//! Structs with named fields, read from JSON and written to it.
+//! The records layer of JSON: own types with named fields, read and written.
 #![tactic(auto)]
 
 mod field_writing;
