@@ -1,3 +1,5 @@
 pub mod Fields
 pub mod FieldLaws
 pub mod Struct
+pub mod Slots
+pub mod Marks

@@ -1,2 +1,13 @@
-//! The records layer of JSON: own types with named fields.
+//! Own types in JSON. A struct with named fields is one term over the spellings of its fields, and
+//! one call reads it.
 #![tactic(auto)]
+
+mod fields;
+mod named;
+mod optional;
+mod pairs;
+mod read;
+mod required;
+
+pub use fields::{Fields, Optional, Required};
+pub use read::read_fields;
