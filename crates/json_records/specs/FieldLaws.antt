@@ -1,5 +1,5 @@
 -- The laws of named fields, from those of the spellings behind them.
-use Rattle.std.specs.Prelude.{◌≡◌, ◌≢◌, ℕ, Bool, true, false, List, [], ◌∷◌, ◌++◌, refl}
+use Rattle.std.specs.Prelude.{◌≡◌, ◌≢◌, ℕ, Bool, true, false, List, [], ◌++◌}
 use Rattle.std.proofs.Common.{sym, ◌∙◌, ap, subst, inl, inr}
 use Rattle.nano_value.specs.Meaning.{Meaning, paired}
 use Rattle.nano_value.specs.Legal.{none_is_legal, pair_weaker}
