@@ -5,6 +5,8 @@ mod account;
 #[cfg(test)]
 mod account_tests;
 mod command;
+#[cfg(test)]
+mod field_writing_tests;
 mod holder;
 mod reading;
 #[cfg(test)]
