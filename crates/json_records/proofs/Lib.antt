@@ -1,0 +1,4 @@
+pub mod Choices
+pub mod FieldReading
+pub mod StructReading
+pub mod WrittenFields
