@@ -1,8 +1,9 @@
 // String lexemes.
 ghost use Rattle.std.specs.Prelude.{◌≡◌, ◌≢◌, ◌++◌, ◌∷◌, ◌<◌, ◌≤◌, true, false, OnErr, OnOk, IfOk, IfSome, List, ℕ, string_bytes, string_capacity, encode_utf8_all, length};
 ghost use Rattle.std.specs.Char.{digit_value, is_ascii_hexdigit};
-ghost use Rattle.nano_text.specs.Front.{front, behind};
+ghost use Rattle.nano_text.specs.Front.{front};
 ghost use Rattle.nano_text.specs.Place.{text_at};
+ghost use Rattle.nano_text.specs.Scan.{PlainFront, is_simple};
 ghost use Rattle.nano_text.specs.String.{CodeUnit, IsHex, IsPiece, IsString, Piece, escaped_char, is_plain, piece_char, piece_text, unit_text, unit_value};
 
 use crate::number::Fault;
@@ -14,41 +15,42 @@ const BACKSPACE: char = '\u{8}';
 
 const FORM_FEED: char = '\u{c}';
 
-/// Whether a character, or a byte of UTF-8, stands for itself in a string.
-fn is_plain(c: u32) -> bool
-    ensures { result ≡ is_plain c }
+/// Whether a byte of UTF-8 is a printable ASCII character that stands for itself in a string.
+fn is_simple(c: u8) -> bool
+    ensures { result ≡ is_simple c }
 {
-    c != u32::from('"') && c != u32::from('\\') && c != 0
+    b' ' <= c && c < 0x80 && c != b'"' && c != b'\\'
 }
 
-/// How many bytes stand for themselves before the first that doesn't.
-fn plain_len(bytes: &[u8]) -> usize
-    ensures { result ≡ length (front is_plain bytes.now) }
+/// How many bytes are printable ASCII characters that stand for themselves, before the first that
+/// isn't.
+fn simple_len(bytes: &[u8]) -> usize
+    ensures { result ≡ length (front is_simple bytes.now) }
 {
     for (len, byte) in bytes.iter().enumerate() {
-        if !is_plain(u32::from(*byte)) {
+        if !is_simple(*byte) {
             return len;
         }
     }
     bytes.len()
 }
 
-/// Appends the longest front of the live text that stands for itself.
+/// Appends a front of the live text that stands for itself.
 ///
-/// Its first character is the current one, which may never have been in `i`. The others are
-/// appended at once.
+/// Its first character is the current one, which may never have been in `i`. The others are the
+/// printable ASCII ones behind it. They are appended at once: each is one byte, and takes one column.
 fn take_plain(p: &mut Place, i: &mut Chars<'_>, strbuf: &mut String) -> Result<(), AllocError>
     requires { is_plain p.old.cur ≡ true }
     ensures capacity { string_capacity strbuf.old ≤ string_capacity strbuf.new }
-    ensures full { OnErr result (string_capacity strbuf.old < length (string_bytes strbuf.old ++ encode_utf8_all (front is_plain (text_at p.old i.old)))) }
-    ensures rest { OnOk result (text_at p.new i.new ≡ behind is_plain (text_at p.old i.old)) }
-    ensures taken { OnOk result (string_bytes strbuf.new ≡ string_bytes strbuf.old ++ encode_utf8_all (front is_plain (text_at p.old i.old))) }
+    ensures full { OnErr result ((run rest : List ℕ) × PlainFront (text_at p.old i.old) run rest × (string_capacity strbuf.old < length (string_bytes strbuf.old ++ encode_utf8_all run))) }
+    ensures taken { OnOk result ((run : List ℕ) × PlainFront (text_at p.old i.old) run (text_at p.new i.new) × (string_bytes strbuf.new ≡ string_bytes strbuf.old ++ encode_utf8_all run)) }
+    ensures shorter { OnOk result (length (text_at p.new i.new) < length (text_at p.old i.old)) }
 {
     strbuf.push(p.cur)?;
     let text = i.as_str();
-    let (plain, rest) = text.split_at(plain_len(text.as_bytes()));
-    strbuf.push_str(plain)?;
-    p.pass(plain);
+    let (run, rest) = text.split_at(simple_len(text.as_bytes()));
+    strbuf.push_str(run)?;
+    p.col = p.col.saturating_add(run.len());
     *i = rest.chars();
     p.next(i);
     Ok(())
