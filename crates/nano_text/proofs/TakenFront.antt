@@ -13,7 +13,7 @@ use Rattle.nano_text.specs.Place.{held, live, before_nul}
 use Rattle.nano_text.specs.Scan.{PlainFront, is_simple}
 use Rattle.nano_text.specs.String.{is_plain}
 use Rattle.nano_text.proofs.LiveText.{live_more}
-use Rattle.nano_text.proofs.Utf8Fronts.{CutBehindFront, cut_narrow, front-append-behind, front-before_nul, behind-before_nul}
+use Rattle.nano_text.proofs.Utf8Fronts.{CutBehindFront, cut_wide, cut_narrow, front-append-behind, front-before_nul, behind-before_nul}
 
 module _ (test : ℕ → Bool) (stops : test 0 ≡ false) (cut : (bytes : List ℕ) → IsUtf8 bytes → CutBehindFront test bytes) where
   no_nul : (c : ℕ) → test c ≡ true → c ≢ 0
@@ -56,12 +56,12 @@ module _ (test : ℕ → Bool) (stops : test 0 ≡ false) (cut : (bytes : List �
   pub front_split : (cs : List ℕ) → before_nul cs ≡ front test cs ++ behind test (before_nul cs)
   front_split cs = sym (front-append-behind test (before_nul cs)) ∙ ap (λ (l : List ℕ). l ++ behind test (before_nul cs)) (front-before_nul test stops cs)
 
--- printable ASCII characters that stand for themselves in a string
-simple_narrow : (n : ℕ) → 128 ≤ n → is_simple n ≡ false
-simple_narrow n h = grind (arith, nat_tests)
+-- characters that stand for themselves in a string and are no control characters, as all beyond ASCII
+simple_wide : (n : ℕ) → 128 ≤ n → is_simple n ≡ true
+simple_wide n h = grind (arith, nat_tests)
 
 pub simple_cut : (bytes : List ℕ) → IsUtf8 bytes → CutBehindFront is_simple bytes
-simple_cut bytes utf8 = cut_narrow is_simple simple_narrow bytes utf8
+simple_cut bytes utf8 = cut_wide is_simple simple_wide bytes utf8
 
 simple_is_plain : (c : ℕ) → is_simple c ≡ true → is_plain c ≡ true
 simple_is_plain c h = grind (arith, nat_tests)

@@ -80,9 +80,9 @@ decimal_len whole (Some digits) (Some e) = if (nat_lt 0 whole || nat_lt 0 digits
 
 -- ---- strings
 
--- a printable ASCII character that stands for itself in a string
+-- a character that stands for itself in a string, and no control character
 abbrev pub is_simple : ℕ → Bool
-is_simple c = not (nat_lt c 32) && (nat_lt c 128 && (not (c == 34) && not (c == 92)))
+is_simple c = not (nat_lt c 32) && (not (c == 34) && not (c == 92))
 
 -- the text begins with a run that stands for itself, and that is the rest
 pub record PlainFront (text run rest : List ℕ) : Type 0 where

@@ -15,15 +15,15 @@ const BACKSPACE: char = '\u{8}';
 
 const FORM_FEED: char = '\u{c}';
 
-/// Whether a byte of UTF-8 is a printable ASCII character that stands for itself in a string.
+/// Whether a byte of UTF-8 is of a character that stands for itself in a string and is no control
+/// character.
 fn is_simple(c: u8) -> bool
     ensures { result ≡ is_simple c }
 {
-    b' ' <= c && c < 0x80 && c != b'"' && c != b'\\'
+    b' ' <= c && c != b'"' && c != b'\\'
 }
 
-/// How many bytes are printable ASCII characters that stand for themselves, before the first that
-/// isn't.
+/// How many bytes are of such characters, before the first that isn't.
 fn simple_len(bytes: &[u8]) -> usize
     ensures { result ≡ length (front is_simple bytes.now) }
 {
@@ -37,8 +37,8 @@ fn simple_len(bytes: &[u8]) -> usize
 
 /// Appends a front of the live text that stands for itself.
 ///
-/// Its first character is the current one, which may never have been in `i`. The others are the
-/// printable ASCII ones behind it. They are appended at once: each is one byte, and takes one column.
+/// Its first character is the current one, which may never have been in `i`. The others, among them
+/// no control character, are appended at once.
 fn take_plain(p: &mut Place, i: &mut Chars<'_>, strbuf: &mut String) -> Result<(), AllocError>
     requires { is_plain p.old.cur ≡ true }
     ensures capacity { string_capacity strbuf.old ≤ string_capacity strbuf.new }
@@ -50,7 +50,7 @@ fn take_plain(p: &mut Place, i: &mut Chars<'_>, strbuf: &mut String) -> Result<(
     let text = i.as_str();
     let (run, rest) = text.split_at(simple_len(text.as_bytes()));
     strbuf.push_str(run)?;
-    p.col = p.col.saturating_add(run.len());
+    p.pass(run);
     *i = rest.chars();
     p.next(i);
     Ok(())
