@@ -40,24 +40,4 @@ impl Place {
             None => self.cur = '\0',
         }
     }
-
-    /// Counts these characters, no line feed among them, as if they were taken one by one.
-    pub(crate) fn pass(&mut self, run: &str)
-        ensures { self.new.cur ≡ self.old.cur }
-    {
-        let columns = if run.is_ascii() {
-            run.len()
-        } else {
-            characters(run.as_bytes())
-        };
-        self.col = self.col.saturating_add(columns);
-    }
-}
-
-/// How many characters these bytes of UTF-8 begin.
-fn characters(bytes: &[u8]) -> usize {
-    bytes
-        .iter()
-        .filter(|byte| **byte < 0x80 || 0xC0 <= **byte)
-        .count()
 }

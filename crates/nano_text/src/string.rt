@@ -23,16 +23,41 @@ fn is_simple(c: u8) -> bool
     b' ' <= c && c != b'"' && c != b'\\'
 }
 
-/// How many bytes are of such characters, before the first that isn't.
-fn simple_len(bytes: &[u8]) -> usize
-    ensures { result ≡ length (front is_simple bytes.now) }
+/// A run of such characters.
+#[derive(Clone, Copy)]
+struct SimpleRun {
+    /// How many bytes it has.
+    len: usize,
+    /// The bits that any of its bytes has.
+    bits: u8,
+}
+
+/// The longest run of such characters that these bytes begin with.
+fn simple_run(bytes: &[u8]) -> SimpleRun
+    ensures { result.len ≡ length (front is_simple bytes.now) }
 {
+    let mut bits = 0;
     for (len, byte) in bytes.iter().enumerate() {
         if !is_simple(*byte) {
-            return len;
+            return SimpleRun { len, bits };
         }
+        bits |= *byte;
     }
-    bytes.len()
+    SimpleRun {
+        len: bytes.len(),
+        bits,
+    }
+}
+
+/// How many characters a run is, of which these are the bytes.
+fn columns(run: SimpleRun, bytes: &[u8]) -> usize {
+    if run.bits < 0x80 {
+        return run.len;
+    }
+    bytes
+        .iter()
+        .filter(|byte| **byte < 0x80 || 0xC0 <= **byte)
+        .count()
 }
 
 /// Appends a front of the live text that stands for itself.
@@ -48,9 +73,10 @@ fn take_plain(p: &mut Place, i: &mut Chars<'_>, strbuf: &mut String) -> Result<(
 {
     strbuf.push(p.cur)?;
     let text = i.as_str();
-    let (run, rest) = text.split_at(simple_len(text.as_bytes()));
-    strbuf.push_str(run)?;
-    p.pass(run);
+    let run = simple_run(text.as_bytes());
+    let (plain, rest) = text.split_at(run.len);
+    strbuf.push_str(plain)?;
+    p.col = p.col.saturating_add(columns(run, plain.as_bytes()));
     *i = rest.chars();
     p.next(i);
     Ok(())
