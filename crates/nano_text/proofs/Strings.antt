@@ -4,9 +4,10 @@ use Rattle.std.specs.List.{AllByRecursion}
 use Rattle.std.proofs.lemmas.Grind.{flat_map-append}
 use Rattle.std.proofs.lemmas.List.{map-append}
 use Rattle.std.proofs.lemmas.Str.{encodes-append}
-use Rattle.nano_text.specs.Scan.{PlainFront}
+use Rattle.nano_text.specs.Front.{front, behind}
 use Rattle.nano_text.specs.String.{Piece, plain, escaped, scalar, pair, unit_text, unit_value, piece_text, piece_char, is_plain, IsPiece, IsString}
 use Rattle.nano_text.proofs.Escapes.{same_unit}
+use Rattle.nano_text.proofs.Utf8Fronts.{front-append-behind}
 
 head_same : (c d : ℕ) (xs ys : List ℕ) → c ∷ xs ≡ d ∷ ys → c ≡ d
 head_same c d xs ys e = cc e
@@ -114,18 +115,22 @@ plain_is_piece c h = (
   λ e. let x : is_plain 0 ≡ true = subst (λ (n : ℕ). is_plain n ≡ true) e h in cc x,
 )
 
--- characters that stand for themselves, as pieces
-plain_pieces : (run : List ℕ) → AllByRecursion (λ c. is_plain c ≡ true) run → AllByRecursion IsPiece (map plain run) × (flat_map piece_text (map plain run) ≡ run) × (map piece_char (map plain run) ≡ run)
-plain_pieces [] h = (tt, refl, refl)
-plain_pieces (c ∷ cs) h =
-    let r = plain_pieces cs h.1 in
-    ((plain_is_piece c h.0, r.0), ap (λ (l : List ℕ). c ∷ l) r.1, ap (λ (l : List ℕ). c ∷ l) r.2)
+-- the front that stands for itself, as pieces
+plain_pieces : (text : List ℕ) → AllByRecursion IsPiece (map plain (front is_plain text)) × (flat_map piece_text (map plain (front is_plain text)) ≡ front is_plain text) × (map piece_char (map plain (front is_plain text)) ≡ front is_plain text)
+plain_pieces [] = (tt, refl, refl)
+plain_pieces (c ∷ cs) =
+    let r = plain_pieces cs in
+    elim (is_plain c) as (λ (b : Bool). is_plain c ≡ b → AllByRecursion IsPiece (map plain (cond b (c ∷ front is_plain cs) [])) × (flat_map piece_text (map plain (cond b (c ∷ front is_plain cs) [])) ≡ cond b (c ∷ front is_plain cs) []) × (map piece_char (map plain (cond b (c ∷ front is_plain cs) [])) ≡ cond b (c ∷ front is_plain cs) [])) [
+      | true ↦ λ e. ((plain_is_piece c e, r.0), ap (λ (l : List ℕ). c ∷ l) r.1, ap (λ (l : List ℕ). c ∷ l) r.2)
+      | false ↦ λ e. (tt, refl, refl)
+    ] refl
 
--- a front that stands for itself
-pub reads_plain : (text written left more rest run : List ℕ) → HasRead text written left → PlainFront left run rest → more ≡ written ++ encode_utf8_all run → HasRead text more rest
-reads_plain text written left more rest run h front is =
-    let pieces = plain_pieces run front.plain in
-    reads_more text written left more rest (map plain run) h pieces.0 (front.split ∙ ap (λ (l : List ℕ). l ++ rest) (sym pieces.1)) (is ∙ ap (λ (l : List ℕ). written ++ encode_utf8_all l) (sym pieces.2))
+-- the front that stands for itself
+pub reads_plain : (text written left more rest : List ℕ) → HasRead text written left → rest ≡ behind is_plain left → more ≡ written ++ encode_utf8_all (front is_plain left) → HasRead text more rest
+reads_plain text written left more rest h behind_is is =
+    let plain_front = plain_pieces left in
+    let split : left ≡ flat_map piece_text (map plain (front is_plain left)) ++ rest = rw (plain_front.1, behind_is, front-append-behind is_plain left) refl in
+    reads_more text written left more rest (map plain (front is_plain left)) h plain_front.0 split (is ∙ rw plain_front.2 refl)
 
 -- what was read begins whatever string stands there
 pub record GoesOn (written left characters rest : List ℕ) : Type 0 where

@@ -1,11 +1,9 @@
 -- The run that a text begins with, taken as long as it goes: good or not.
-use Rattle.std.specs.Prelude.{◌≡◌, ℕ, ◌+◌, ◌==◌, ◌||◌, ◌&&◌, not, nat_lt, Bool, true, List, [], ◌∷◌, ◌++◌, length, Option, Some, None, if◌then◌else◌}
-use Rattle.std.specs.List.{AllByRecursion}
+use Rattle.std.specs.Prelude.{ℕ, ◌+◌, ◌==◌, ◌||◌, ◌&&◌, nat_lt, Bool, List, [], ◌∷◌, length, Option, Some, None, if◌then◌else◌}
 use Rattle.std.specs.Char.{is_ascii_digit}
 use Rattle.nano_text.specs.declared.number.ExponentLen.{ExponentLen}
 use Rattle.nano_text.specs.Front.{first_is, front, behind}
 use Rattle.nano_text.specs.Number.{Run, Exponent, is_sign, is_point, is_letter_e}
-use Rattle.nano_text.specs.String.{is_plain}
 
 abbrev pub is_minus_char : ℕ → Bool
 is_minus_char c = c == 45
@@ -77,14 +75,3 @@ decimal_len whole None None = None
 decimal_len whole (Some digits) None = if nat_lt 0 whole || nat_lt 0 digits then Some digits else None
 decimal_len whole None (Some e) = if nat_lt 0 whole && nat_lt 0 e.digits then Some (minus_room e.minus + e.digits) else None
 decimal_len whole (Some digits) (Some e) = if (nat_lt 0 whole || nat_lt 0 digits) && nat_lt 0 e.digits then Some (digits + 1 + minus_room e.minus + e.digits) else None
-
--- ---- strings
-
--- a character that stands for itself in a string, and no control character
-abbrev pub is_simple : ℕ → Bool
-is_simple c = not (nat_lt c 32) && (not (c == 34) && not (c == 92))
-
--- the text begins with a run that stands for itself, and that is the rest
-pub record PlainFront (text run rest : List ℕ) : Type 0 where
-  pub plain : AllByRecursion (λ c. is_plain c ≡ true) run
-  pub split : text ≡ run ++ rest

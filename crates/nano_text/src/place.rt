@@ -40,4 +40,30 @@ impl Place {
             None => self.cur = '\0',
         }
     }
+
+    /// Counts these characters as if they were taken one by one.
+    pub(crate) fn pass(&mut self, text: &str)
+        ensures { self.new.cur ≡ self.old.cur }
+    {
+        let bytes = text.as_bytes();
+        match bytes.iter().rposition(|byte| *byte == b'\n') {
+            Some(last) => {
+                self.line = self.line.saturating_add(line_feeds(bytes));
+                self.col = characters(&bytes[last + 1..]);
+            }
+            None => self.col = self.col.saturating_add(characters(bytes)),
+        }
+    }
+}
+
+fn line_feeds(bytes: &[u8]) -> usize {
+    bytes.iter().filter(|byte| **byte == b'\n').count()
+}
+
+/// How many characters these bytes of UTF-8 begin.
+fn characters(bytes: &[u8]) -> usize {
+    bytes
+        .iter()
+        .filter(|byte| **byte < 0x80 || 0xC0 <= **byte)
+        .count()
 }

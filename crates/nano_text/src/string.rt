@@ -1,9 +1,8 @@
 // String lexemes.
 ghost use Rattle.std.specs.Prelude.{◌≡◌, ◌≢◌, ◌++◌, ◌∷◌, ◌<◌, ◌≤◌, true, false, OnErr, OnOk, IfOk, IfSome, List, ℕ, string_bytes, string_capacity, encode_utf8_all, length};
 ghost use Rattle.std.specs.Char.{digit_value, is_ascii_hexdigit};
-ghost use Rattle.nano_text.specs.Front.{front};
+ghost use Rattle.nano_text.specs.Front.{front, behind};
 ghost use Rattle.nano_text.specs.Place.{text_at};
-ghost use Rattle.nano_text.specs.Scan.{PlainFront, is_simple};
 ghost use Rattle.nano_text.specs.String.{CodeUnit, IsHex, IsPiece, IsString, Piece, escaped_char, is_plain, piece_char, piece_text, unit_text, unit_value};
 
 use crate::number::Fault;
@@ -15,68 +14,61 @@ const BACKSPACE: char = '\u{8}';
 
 const FORM_FEED: char = '\u{c}';
 
-/// Whether a byte of UTF-8 is of a character that stands for itself in a string and is no control
-/// character.
-fn is_simple(c: u8) -> bool
-    ensures { result ≡ is_simple c }
+/// Whether a character, or a byte of UTF-8, stands for itself in a string.
+fn is_plain(c: u32) -> bool
+    ensures { result ≡ is_plain c }
 {
-    b' ' <= c && c != b'"' && c != b'\\'
+    c != u32::from('"') && c != u32::from('\\') && c != 0
 }
 
-/// A run of such characters.
+/// The longest front of some bytes that stands for itself.
 #[derive(Clone, Copy)]
-struct SimpleRun {
+struct PlainRun {
     /// How many bytes it has.
     len: usize,
-    /// The bits that any of its bytes has.
+    /// The bits that any of its bytes has, less the space. Without the highest one, the front holds
+    /// no control character and none beyond ASCII, which each begin with a byte from 0xC2 on.
     bits: u8,
 }
 
-/// The longest run of such characters that these bytes begin with.
-fn simple_run(bytes: &[u8]) -> SimpleRun
-    ensures { result.len ≡ length (front is_simple bytes.now) }
+/// How many bytes stand for themselves before the first that doesn't.
+fn plain_run(bytes: &[u8]) -> PlainRun
+    ensures { result.len ≡ length (front is_plain bytes.now) }
 {
     let mut bits = 0;
     for (len, byte) in bytes.iter().enumerate() {
-        if !is_simple(*byte) {
-            return SimpleRun { len, bits };
+        if !is_plain(u32::from(*byte)) {
+            return PlainRun { len, bits };
         }
-        bits |= *byte;
+        bits |= byte.wrapping_sub(b' ');
     }
-    SimpleRun {
+    PlainRun {
         len: bytes.len(),
         bits,
     }
 }
 
-/// How many characters a run is, of which these are the bytes.
-fn columns(run: SimpleRun, bytes: &[u8]) -> usize {
-    if run.bits < 0x80 {
-        return run.len;
-    }
-    bytes
-        .iter()
-        .filter(|byte| **byte < 0x80 || 0xC0 <= **byte)
-        .count()
-}
-
-/// Appends a front of the live text that stands for itself.
+/// Appends the longest front of the live text that stands for itself.
 ///
-/// Its first character is the current one, which may never have been in `i`. The others, among them
-/// no control character, are appended at once.
+/// Its first character is the current one, which may never have been in `i`. The others are
+/// appended at once.
 fn take_plain(p: &mut Place, i: &mut Chars<'_>, strbuf: &mut String) -> Result<(), AllocError>
     requires { is_plain p.old.cur ≡ true }
     ensures capacity { string_capacity strbuf.old ≤ string_capacity strbuf.new }
-    ensures full { OnErr result ((run rest : List ℕ) × PlainFront (text_at p.old i.old) run rest × (string_capacity strbuf.old < length (string_bytes strbuf.old ++ encode_utf8_all run))) }
-    ensures taken { OnOk result ((run : List ℕ) × PlainFront (text_at p.old i.old) run (text_at p.new i.new) × (string_bytes strbuf.new ≡ string_bytes strbuf.old ++ encode_utf8_all run)) }
-    ensures shorter { OnOk result (length (text_at p.new i.new) < length (text_at p.old i.old)) }
+    ensures full { OnErr result (string_capacity strbuf.old < length (string_bytes strbuf.old ++ encode_utf8_all (front is_plain (text_at p.old i.old)))) }
+    ensures rest { OnOk result (text_at p.new i.new ≡ behind is_plain (text_at p.old i.old)) }
+    ensures taken { OnOk result (string_bytes strbuf.new ≡ string_bytes strbuf.old ++ encode_utf8_all (front is_plain (text_at p.old i.old))) }
 {
     strbuf.push(p.cur)?;
     let text = i.as_str();
-    let run = simple_run(text.as_bytes());
+    let run = plain_run(text.as_bytes());
     let (plain, rest) = text.split_at(run.len);
     strbuf.push_str(plain)?;
-    p.col = p.col.saturating_add(columns(run, plain.as_bytes()));
+    if run.bits < 0x80 {
+        p.col = p.col.saturating_add(run.len);
+    } else {
+        p.pass(plain);
+    }
     *i = rest.chars();
     p.next(i);
     Ok(())

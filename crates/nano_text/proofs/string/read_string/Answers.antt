@@ -1,7 +1,9 @@
-use Rattle.std.proofs.Common.{◌≡◌, ◌≢◌, ◌∷◌, ◌++◌, ℕ, [], refl, sym, ◌∙◌, ap, arith, length, length-append, string_bytes, encode_utf8, encode_utf8_all}
+use Rattle.std.proofs.Common.{◌≡◌, ◌≢◌, ◌∷◌, ◌++◌, ℕ, [], refl, sym, ◌∙◌, ap, arith, length, length-append, string_bytes, encode_utf8, true, ne_eqb}
 use Rattle.nano_text.specs.Place.{text_at}
+use Rattle.nano_text.specs.String.{is_plain}
 use Rattle.nano_text.proofs.LiveText.{live_end, live-first}
 use Rattle.nano_text.proofs.Escapes.{piece_some}
+use Rattle.nano_text.proofs.TakenFront.{behind_shorter, plain_cut}
 use Rattle.nano_text.proofs.Strings.{reads_piece, reads_plain, no_string, written_le}
 use Rattle.nano_text.proofs.string.read_string.Goals as goal
 
@@ -41,17 +43,19 @@ returns-in_default-clause-malformed c error characters rest string =
     (λ y e. let n : c.pieces.p.cur ≡ 34 = live-first c.pieces.p.cur 34 c.pieces.i y e in omega (arith, n, c.if-p-ne92.false))
     (λ p y good e. c.in_default.ensures.none refl p y good e) string
 
+pub pieces-smaller-then-p-ne92 : goal.pieces-smaller-then-p-ne92
+pieces-smaller-then-p-ne92 c =
+    let plain : is_plain c.pieces.p.cur ≡ true = rw (ne_eqb _ 34 c.pieces-test.true, ne_eqb _ 92 c.if-p-ne92.true, ne_eqb _ 0 c.if-p-eq0.false) refl in
+    omega (arith, ap length c.in_ok-take_plain.ensures.rest, behind_shorter is_plain refl plain_cut c.pieces.p.cur c.pieces.i plain)
+
 pub pieces-preserved-then-p-ne92 : goal.pieces-preserved-then-p-ne92
-pieces-preserved-then-p-ne92 c =
-    let taken = c.in_ok-take_plain.ensures.taken in
-    record {
-      read = reads_plain _ _ _ _ _ taken.0 c.pieces.invariant.read taken.1 taken.2;
-      capacity = omega (arith, c.pieces.invariant.capacity, c.in_ok-take_plain.ensures.capacity);
-    }
+pieces-preserved-then-p-ne92 c = record {
+  read = reads_plain _ _ _ _ _ c.pieces.invariant.read c.in_ok-take_plain.ensures.rest c.in_ok-take_plain.ensures.taken;
+  capacity = omega (arith, c.pieces.invariant.capacity, c.in_ok-take_plain.ensures.capacity);
+}
 
 pub returns-in_err-take_plain-clause-memory : goal.returns-in_err-take_plain-clause-memory
 returns-in_err-take_plain-clause-memory c error characters rest string =
     let quote = c.next.ensures.taken (quote_some _ c.if-p-ne34.false) ∙ ap (λ (n : ℕ). n ∷ text_at c.next.new.self c.next.new.i) c.if-p-ne34.false in
-    let full = c.in_err-take_plain.ensures.full in
-    let more = reads_plain _ _ _ (string_bytes c.pieces.strbuf ++ encode_utf8_all full.0) full.1 full.0 c.pieces.invariant.read full.2 refl in
-    omega (arith, written_le _ _ _ _ characters rest quote more string, c.pieces.invariant.capacity, full.3)
+    let more = reads_plain _ _ _ _ _ c.pieces.invariant.read refl refl in
+    omega (arith, written_le _ _ _ _ characters rest quote more string, c.pieces.invariant.capacity, c.in_err-take_plain.ensures.full)
