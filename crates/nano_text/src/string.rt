@@ -14,11 +14,12 @@ const BACKSPACE: char = '\u{8}';
 
 const FORM_FEED: char = '\u{c}';
 
-/// Whether a character, or a byte of UTF-8, stands for itself in a string.
+/// Whether a character, or a byte of UTF-8, stands for itself in a string. Most come behind the
+/// backslash, so that is asked first.
 fn is_plain(c: u32) -> bool
     ensures { result ≡ is_plain c }
 {
-    c != u32::from('"') && c != u32::from('\\') && c != 0
+    c > u32::from('\\') || c != u32::from('"') && c != u32::from('\\') && c != 0
 }
 
 /// The longest front of some bytes that stands for itself.
@@ -26,12 +27,12 @@ fn is_plain(c: u32) -> bool
 struct PlainRun {
     /// How many bytes it has.
     len: usize,
-    /// The bits that any of its bytes has, less the space. Without the highest one, the front holds
-    /// no control character and none beyond ASCII, which each begin with a byte from 0xC2 on.
+    /// Its bytes, each less the space, taken together by `|`. Without the highest bit there is no
+    /// control character, which wraps, and none beyond ASCII, which begins with a byte above 0xC1.
     bits: u8,
 }
 
-/// How many bytes stand for themselves before the first that doesn't.
+/// Measures the bytes that stand for themselves before the first that doesn't.
 fn plain_run(bytes: &[u8]) -> PlainRun
     ensures { result.len ≡ length (front is_plain bytes.now) }
 {
