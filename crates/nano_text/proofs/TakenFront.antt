@@ -56,7 +56,7 @@ module _ (test : ℕ → Bool) (stops : test 0 ≡ false) (cut : (bytes : List �
   pub front_split : (cs : List ℕ) → before_nul cs ≡ front test cs ++ behind test (before_nul cs)
   front_split cs = sym (front-append-behind test (before_nul cs)) ∙ ap (λ (l : List ℕ). l ++ behind test (before_nul cs)) (front-before_nul test stops cs)
 
--- characters that stand for themselves in a string and are no control characters, as all beyond ASCII
+-- characters that stand for themselves in a string and are not below the space, as all beyond ASCII
 simple_wide : (n : ℕ) → 128 ≤ n → is_simple n ≡ true
 simple_wide n h = grind (arith, nat_tests)
 

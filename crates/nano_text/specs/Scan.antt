@@ -80,7 +80,7 @@ decimal_len whole (Some digits) (Some e) = if (nat_lt 0 whole || nat_lt 0 digits
 
 -- ---- strings
 
--- a character that stands for itself in a string, and no control character
+-- a character that stands for itself in a string, and is not below the space
 abbrev pub is_simple : ℕ → Bool
 is_simple c = not (nat_lt c 32) && (not (c == 34) && not (c == 92))
 

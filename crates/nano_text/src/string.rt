@@ -15,8 +15,8 @@ const BACKSPACE: char = '\u{8}';
 
 const FORM_FEED: char = '\u{c}';
 
-/// Whether a byte of UTF-8 is of a character that stands for itself in a string and is no control
-/// character.
+/// Whether a byte of UTF-8 is of a character that stands for itself in a string, and not below the
+/// space.
 fn is_simple(c: u8) -> bool
     ensures { result ≡ is_simple c }
 {
@@ -62,8 +62,8 @@ fn columns(run: SimpleRun, bytes: &[u8]) -> usize {
 
 /// Appends a front of the live text that stands for itself.
 ///
-/// Its first character is the current one, which may never have been in `i`. The others, among them
-/// no control character, are appended at once.
+/// Its first character is the current one, which may never have been in `i`. The others, none of
+/// them below the space, and so no line feed, are appended at once.
 fn take_plain(p: &mut Place, i: &mut Chars<'_>, strbuf: &mut String) -> Result<(), AllocError>
     requires { is_plain p.old.cur ≡ true }
     ensures capacity { string_capacity strbuf.old ≤ string_capacity strbuf.new }
