@@ -352,7 +352,7 @@ impl DeJsonState {
         }
     }
 
-    /// The text of the pending string. It is moved out of `strbuf`, which is empty then, and the
+    /// The text of the pending string. It is taken out of `strbuf`, which is empty then, and the
     /// token stays.
     pub fn as_string(&mut self, alloc: Global) -> Result<String, DeJsonErr>
         ensures ok { IfOk result (λ text. pending self.old ≡ str (string_bytes text)) }
@@ -363,8 +363,25 @@ impl DeJsonState {
         ensures memory { IfErr result (λ e. e.memory ≡ true → string_bytes e.msg ≡ []) }
     {
         match self.tok {
-            DeJsonTok::Str => Ok(mem::replace(&mut self.strbuf, String::new(alloc))),
+            DeJsonTok::Str => Ok(self.take_text(alloc)),
             _ => Err(self.err_token(alloc, "string")),
+        }
+    }
+
+    /// Takes the text out of `strbuf`, which is empty then.
+    ///
+    /// The text is copied, so that `strbuf` keeps its room for the next string. Where memory for the
+    /// copy is refused, the text is moved.
+    fn take_text(&mut self, alloc: Global) -> String
+        ensures text { string_bytes result ≡ string_bytes self.old.strbuf }
+        ensures emptied { (string_bytes self.new.strbuf ≡ []) × (self.new ≡ record self.old { strbuf = self.new.strbuf }) }
+    {
+        match String::from_str(alloc, self.strbuf.as_str()) {
+            Ok(text) => {
+                self.strbuf.clear();
+                text
+            }
+            Err(_refused) => mem::replace(&mut self.strbuf, String::new(alloc)),
         }
     }
 

@@ -18,6 +18,7 @@ use std::alloc::{AllocError, Global};
 use std::str::Chars;
 
 /// Reads a whole number without a minus sign that is at most `max`.
+#[inline(always)]
 fn read_unsigned(
     alloc: Global,
     state: &mut DeJsonState,
@@ -43,6 +44,7 @@ fn read_unsigned(
 }
 
 /// Reads a whole number, with or without a minus sign, from `min` to `max`.
+#[inline(always)]
 fn read_signed(
     alloc: Global,
     state: &mut DeJsonState,

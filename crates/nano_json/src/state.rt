@@ -101,7 +101,7 @@ impl DeJsonState {
     ///
     /// It is refused where no token can be cut from the live text, or memory was refused. The state
     /// is at the end of the text then, as `fail` leaves it.
-    #[inline]
+    #[inline(always)]
     pub fn next_tok(&mut self, alloc: Global, i: &mut Chars<'_>) -> Result<(), DeJsonErr>
         ensures taken { OnOk result (Cut (live self.old.cur i.old) (pending self.new) (live self.new.cur i.new)) }
         ensures buffers { OnOk result (KeepsOtherBuffers self.old self.new) }
@@ -161,6 +161,10 @@ impl DeJsonState {
     }
 
     /// Takes the next token. A refusal leaves the pending token, and the place where it was found.
+    ///
+    /// It is one function apart, and what makes errors of its answer is inlined in its callers: so no
+    /// error is written where a token is taken.
+    #[inline(never)]
     pub(crate) fn advance(&mut self, i: &mut Chars<'_>) -> Result<(), Refusal>
         ensures taken { OnOk result (Cut (live self.old.cur i.old) (pending self.new) (live self.new.cur i.new)) }
         ensures buffers { OnOk result (KeepsOtherBuffers self.old self.new) }

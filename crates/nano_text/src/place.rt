@@ -42,22 +42,34 @@ impl Place {
     }
 
     /// Counts these characters as if they were taken one by one.
+    #[cold]
+    #[inline(never)]
     pub(crate) fn pass(&mut self, text: &str)
         ensures { self.new.cur ≡ self.old.cur }
     {
         let bytes = text.as_bytes();
-        match bytes.iter().rposition(|byte| *byte == b'\n') {
-            Some(last) => {
-                self.line = self.line.saturating_add(line_feeds(bytes));
-                self.col = characters(&bytes[last + 1..]);
-            }
-            None => self.col = self.col.saturating_add(characters(bytes)),
+        let feeds = line_feeds(bytes);
+        if feeds == 0 {
+            self.col = self.col.saturating_add(characters(bytes));
+            return;
         }
+        self.line = self.line.saturating_add(feeds);
+        self.col = characters(last_line(bytes));
     }
 }
 
+/// How many of the bytes are line feeds. The whole run is looked at, without a way out of the loop
+/// before its end, so that the compiler makes it vector code.
 fn line_feeds(bytes: &[u8]) -> usize {
     bytes.iter().filter(|byte| **byte == b'\n').count()
+}
+
+/// The bytes behind the last line feed, or all of them.
+fn last_line(bytes: &[u8]) -> &[u8] {
+    match bytes.iter().rposition(|byte| *byte == b'\n') {
+        Some(last) => &bytes[last + 1..],
+        None => bytes,
+    }
 }
 
 /// How many characters these bytes of UTF-8 begin.

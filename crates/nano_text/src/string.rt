@@ -14,23 +14,39 @@ const BACKSPACE: char = '\u{8}';
 
 const FORM_FEED: char = '\u{c}';
 
-/// Whether a character, or a byte of UTF-8, stands for itself in a string.
+/// Whether a character, or a byte of UTF-8, stands for itself in a string. Most come behind the
+/// backslash, so that is asked first.
 fn is_plain(c: u32) -> bool
     ensures { result ≡ is_plain c }
 {
-    c != u32::from('"') && c != u32::from('\\') && c != 0
+    c > u32::from('\\') || c != u32::from('"') && c != u32::from('\\') && c != 0
 }
 
-/// How many bytes stand for themselves before the first that doesn't.
-fn plain_len(bytes: &[u8]) -> usize
-    ensures { result ≡ length (front is_plain bytes.now) }
+/// The longest front of some bytes that stands for itself.
+#[derive(Clone, Copy)]
+struct PlainRun {
+    /// How many bytes it has.
+    len: usize,
+    /// Its bytes, each less the space, taken together by `|`. Without the highest bit there is no
+    /// control character, which wraps, and none beyond ASCII, which begins with a byte above 0xC1.
+    bits: u8,
+}
+
+/// Measures the bytes that stand for themselves before the first that doesn't.
+fn plain_run(bytes: &[u8]) -> PlainRun
+    ensures { result.len ≡ length (front is_plain bytes.now) }
 {
+    let mut bits = 0;
     for (len, byte) in bytes.iter().enumerate() {
         if !is_plain(u32::from(*byte)) {
-            return len;
+            return PlainRun { len, bits };
         }
+        bits |= byte.wrapping_sub(b' ');
     }
-    bytes.len()
+    PlainRun {
+        len: bytes.len(),
+        bits,
+    }
 }
 
 /// Appends the longest front of the live text that stands for itself.
@@ -46,9 +62,14 @@ fn take_plain(p: &mut Place, i: &mut Chars<'_>, strbuf: &mut String) -> Result<(
 {
     strbuf.push(p.cur)?;
     let text = i.as_str();
-    let (plain, rest) = text.split_at(plain_len(text.as_bytes()));
+    let run = plain_run(text.as_bytes());
+    let (plain, rest) = text.split_at(run.len);
     strbuf.push_str(plain)?;
-    p.pass(plain);
+    if run.bits < 0x80 {
+        p.col = p.col.saturating_add(run.len);
+    } else {
+        p.pass(plain);
+    }
     *i = rest.chars();
     p.next(i);
     Ok(())

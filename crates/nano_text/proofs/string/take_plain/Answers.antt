@@ -8,17 +8,17 @@ use Rattle.nano_text.proofs.string.take_plain.Goals as goal
 
 pub split_at-requires : goal.split_at-requires
 split_at-requires c =
-    front_boundary is_plain refl plain_cut c.as_str-text.result.now c.plain_len.result c.as_str-text.utf8 (c.plain_len.ensures ∙ ap (λ (bs : List ℕ). length (front is_plain bs)) c.as_bytes.ensures.value)
+    front_boundary is_plain refl plain_cut c.as_str-text.result.now c.plain_run-run.result.len c.as_str-text.utf8 (c.plain_run-run.ensures ∙ ap (λ (bs : List ℕ). length (front is_plain bs)) c.as_bytes.ensures.value)
 
 pub returns-clause-rest : goal.returns-clause-rest
 returns-clause-rest c =
-    let count = c.plain_len.ensures ∙ ap (λ (bs : List ℕ). length (front is_plain bs)) c.as_bytes.ensures.value in
-    c.next.ensures.rest ∙ live_behind is_plain refl plain_cut c.args.p.now.cur c.plain_len.result c.args.i.now c.chars.result c.as_str-text.result.now c.requires c.as_str-text.utf8 c.as_str-text.ensures count (c.chars.ensures.rest ∙ c.split_at.ensures.back)
+    let count = c.plain_run-run.ensures ∙ ap (λ (bs : List ℕ). length (front is_plain bs)) c.as_bytes.ensures.value in
+    c.next.ensures.rest ∙ live_behind is_plain refl plain_cut c.args.p.now.cur c.plain_run-run.result.len c.args.i.now c.chars.result c.as_str-text.result.now c.requires c.as_str-text.utf8 c.as_str-text.ensures count (c.chars.ensures.rest ∙ c.split_at.ensures.back)
 
 pub returns-clause-taken : goal.returns-clause-taken
 returns-clause-taken c =
-    let count = c.plain_len.ensures ∙ ap (λ (bs : List ℕ). length (front is_plain bs)) c.as_bytes.ensures.value in
-    let front_is = front_bytes is_plain refl plain_cut c.args.p.now.cur c.plain_len.result c.args.i.now c.as_str-text.result.now c.requires c.as_str-text.utf8 c.as_str-text.ensures count in
+    let count = c.plain_run-run.ensures ∙ ap (λ (bs : List ℕ). length (front is_plain bs)) c.as_bytes.ensures.value in
+    let front_is = front_bytes is_plain refl plain_cut c.args.p.now.cur c.plain_run-run.result.len c.args.i.now c.as_str-text.result.now c.requires c.as_str-text.utf8 c.as_str-text.ensures count in
     rw (c.in_ok-push_str.ensures.bytes, c.in_ok-push.ensures.bytes, c.split_at.ensures.front, append_assoc, front_is) refl
 
 pub returns-in_err-push-clause-full : goal.returns-in_err-push-clause-full
@@ -30,7 +30,7 @@ returns-in_err-push-clause-full c =
 pub returns-in_err-push_str-clause-full : goal.returns-in_err-push_str-clause-full
 returns-in_err-push_str-clause-full c =
     let error = err_from_is_err_and c.from_residual-in_err-push_str.result c.from_residual-in_err-push_str.ensures.1 in
-    let count = c.plain_len.ensures ∙ ap (λ (bs : List ℕ). length (front is_plain bs)) c.as_bytes.ensures.value in
-    let front_is = front_bytes is_plain refl plain_cut c.args.p.now.cur c.plain_len.result c.args.i.now c.as_str-text.result.now c.requires c.as_str-text.utf8 c.as_str-text.ensures count in
+    let count = c.plain_run-run.ensures ∙ ap (λ (bs : List ℕ). length (front is_plain bs)) c.as_bytes.ensures.value in
+    let front_is = front_bytes is_plain refl plain_cut c.args.p.now.cur c.plain_run-run.result.len c.args.i.now c.as_str-text.result.now c.requires c.as_str-text.utf8 c.as_str-text.ensures count in
     let all : string_bytes c.push.new.self ++ c.split_at.result.0.now ≡ string_bytes c.args.strbuf.now ++ encode_utf8_all (front is_plain (text_at c.args.p.now c.args.i.now)) = rw (c.in_ok-push.ensures.bytes, c.split_at.ensures.front, append_assoc, front_is) refl in
     rw error.1 (omega (arith, c.in_err-push_str.ensures.full, c.in_ok-push.ensures.capacity, c.push.new.self.bytes.ok.0, ap length all, length-append (string_bytes c.push.new.self) c.split_at.result.0.now))
