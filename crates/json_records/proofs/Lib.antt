@@ -1,3 +1,4 @@
-pub mod Choices
 pub mod FieldReading
 pub mod StructReading
+pub mod LastFields
+pub mod KnownNames

@@ -3,3 +3,4 @@ pub mod FieldLaws
 pub mod Struct
 pub mod Slots
 pub mod Marks
+pub mod Laws

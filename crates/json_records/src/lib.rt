@@ -3,6 +3,7 @@
 #![tactic(auto)]
 
 mod fields;
+pub mod laws;
 mod named;
 mod optional;
 mod pairs;
