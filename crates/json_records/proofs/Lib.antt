@@ -1,4 +1,5 @@
-pub mod Choices
 pub mod FieldReading
 pub mod StructReading
+pub mod LastFields
+pub mod KnownNames
 pub mod WrittenFields

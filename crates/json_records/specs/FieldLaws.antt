@@ -36,7 +36,7 @@ allowed_apart shape law name = choose_apart (shape.knows name) (shape.takes name
 
 -- ---- one field
 
-same_field : (f g : Field) → f.name ≡ g.name → f.value ≡ g.value → f ≡ g
+pub same_field : (f g : Field) → f.name ≡ g.name → f.value ≡ g.value → f ≡ g
 same_field f g n v = ap (λ (x : List ℕ). record { name = x; value = f.value }) n ∙ ap (λ (x : List Token). record { name = g.name; value = x }) v
 
 field_one_value : (takes : List ℕ → List Token → Type 0) → OneValue (SpelledField takes)

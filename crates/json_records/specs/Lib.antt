@@ -3,6 +3,7 @@ pub mod FieldLaws
 pub mod Struct
 pub mod Slots
 pub mod Marks
+pub mod Laws
 pub mod FieldNames
 pub mod FieldWriting
 pub mod FieldFormat

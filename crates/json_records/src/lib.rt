@@ -4,6 +4,7 @@
 
 mod field_writing;
 mod fields;
+pub mod laws;
 mod named;
 mod optional;
 mod pairs;

@@ -4,29 +4,27 @@ use Rattle.nano_json.specs.State.{at}
 use Rattle.nano_json.specs.Skipped.{SkippedField}
 use Rattle.nano_json.specs.Token.{Token}
 use Rattle.json_records.specs.Fields.{Allowed}
-use Rattle.json_records.proofs.Choices.{to_first, first_of, second_of}
-use Rattle.json_records.proofs.FieldReading.{pending_name, spans_too, refused_too, skipped_found, skipped_refused, colon_refused, value_refused, field_refused}
+use Rattle.json_records.proofs.FieldReading.{pending_name, skipped_found, skipped_refused, colon_refused, value_refused, field_refused}
+use Rattle.json_records.proofs.KnownNames.{second_of, known_field, known_refused}
 use Rattle.json_records.proofs.read.read_any.Goals as goal
 
 pub returns-then-knows-clause-fits : goal.returns-then-knows-clause-fits
 returns-then-knows-clause-fits g c =
     let sh = (g.F.Fields.named c.args.fields.now).shape in
-    let n = string_bytes c.args.state.now.strbuf in
     let name = pending_name c.args.state.now c.requires in
     let known = ap sh.knows (sym c.as_str.ensures.value) ∙ sym c.if-knows.ensures in
     on_ok_weaker c.read_field.result (λ h. (
       h.0,
-      spans_too sh.takes (Allowed sh) n (at c.args.state.now c.args.input.now) name (at c.read_field.new.state c.read_field.new.input) h.0 (λ us t. to_first (sh.knows n) (sh.takes n us) (SkippedField us) known t) h.1,
+      known_field sh (string_bytes c.args.state.now.strbuf) (at c.args.state.now c.args.input.now) name known (at c.read_field.new.state c.read_field.new.input) h.0 h.1,
       h.2,
     )) c.read_field.ensures.fits
 
 pub returns-then-knows-clause-refused : goal.returns-then-knows-clause-refused
 returns-then-knows-clause-refused g c =
     let sh = (g.F.Fields.named c.args.fields.now).shape in
-    let n = string_bytes c.args.state.now.strbuf in
     let name = pending_name c.args.state.now c.requires in
     let known = ap sh.knows (sym c.as_str.ensures.value) ∙ sym c.if-knows.ensures in
-    IfErr-weaker c.read_field.result _ _ (λ e none memory. refused_too sh.takes (Allowed sh) n (at c.args.state.now c.args.input.now) name (λ us t. first_of (sh.knows n) (sh.takes n us) (SkippedField us) known t) (none memory)) c.read_field.ensures.refused
+    IfErr-weaker c.read_field.result _ _ (λ e none memory. known_refused sh (string_bytes c.args.state.now.strbuf) (at c.args.state.now c.args.input.now) name known (none memory)) c.read_field.ensures.refused
 
 pub returns-in_err-next_colon-clause-refused : goal.returns-in_err-next_colon-clause-refused
 returns-in_err-next_colon-clause-refused g c =

@@ -1,0 +1,87 @@
+-- The last field of a name, in the words of lists.
+use Rattle.std.proofs.Common.{◌≡◌, ◌≢◌, ℕ, Bool, true, false, List, [], ◌∷◌, ◌++◌, Option, Some, None, bytes_eq, if◌then◌else◌, refl, ap, sym, ◌∙◌}
+use Rattle.std.proofs.lemmas.Slice.Eq.{bytes_eq-Decides}
+use Rattle.nano_json.specs.Token.{Token}
+use Rattle.json_records.specs.Fields.{Field, later, last, unless_known, others}
+use Rattle.json_records.specs.FieldLaws.{same_field}
+use Rattle.json_records.specs.Laws.{NoneNamed, LastFieldCounts, MissingNameHasNoField, OtherNamesAreSeen}
+
+-- the value of a field, if it has the name
+abbrev of_name : List ℕ → Field → Option (List Token)
+of_name name f = if bytes_eq f.name name then Some f.value else None
+
+same_name : (n name : List ℕ) → bytes_eq n name ≡ true → n ≡ name
+same_name n name e = (bytes_eq-Decides n name).0 e
+
+equal_name : (n name : List ℕ) → n ≡ name → bytes_eq n name ≡ true
+equal_name n name e = (bytes_eq-Decides n name).1 e
+
+other_name : (n name : List ℕ) → bytes_eq n name ≡ false → n ≢ name
+other_name n name e same = let x = sym e ∙ equal_name n name same in cc x
+
+unequal_name : (n name : List ℕ) → n ≢ name → bytes_eq n name ≡ false
+unequal_name n name other = elim (bytes_eq n name) as (λ b. bytes_eq n name ≡ b → b ≡ false) [ true ↦ λ e. absurd (other (same_name n name e)) | false ↦ λ e. refl ] refl
+
+neither_there : (x y : Option (List Token)) → later x y ≡ None → (x ≡ None) × (y ≡ None)
+neither_there None y e = (refl, e)
+neither_there (Some us) y e = absurd (cc e)
+
+not_there : (b : Bool) (us : List Token) → (if b then Some us else None) ≡ None → b ≡ false
+not_there true us e = absurd (cc e)
+not_there false us e = refl
+
+there : (b : Bool) (us vs : List Token) → (if b then Some us else None) ≡ Some vs → (b ≡ true) × (us ≡ vs)
+there true us vs e = (refl, cc e)
+there false us vs e = absurd (cc e)
+
+missing : (name : List ℕ) (fs : List Field) → last name fs ≡ None → NoneNamed name fs
+missing name [] e = tt
+missing name (f ∷ fs) e =
+    let r = neither_there (last name fs) (of_name name f) e in
+    (other_name f.name name (not_there (bytes_eq f.name name) f.value r.1), missing name fs r.0)
+
+none_named : (name : List ℕ) (fs : List Field) → NoneNamed name fs → last name fs ≡ None
+none_named name [] h = refl
+none_named name (f ∷ fs) h =
+    ap (λ o. later o (of_name name f)) (none_named name fs h.1) ∙ ap (λ b. if b then Some f.value else None) (unequal_name f.name name h.0)
+
+pub missing_name : MissingNameHasNoField
+missing_name name fs = (missing name fs, none_named name fs)
+
+-- the fields before and behind the last one of a name
+abbrev Around : List ℕ → List Token → List Field → Type 0
+Around name us fs = (front : List Field) × (back : List Field) × (fs ≡ front ++ record { name = name; value = us } ∷ back) × NoneNamed name back
+
+around_last : (name : List ℕ) (us : List Token) (fs : List Field) → last name fs ≡ Some us → Around name us fs
+around_last name us [] e = absurd (cc e)
+around_last name us (f ∷ fs) e =
+    elim (last name fs) as (λ o. last name fs ≡ o → Around name us (f ∷ fs)) [
+      | None ↦ λ k.
+          let r = there (bytes_eq f.name name) f.value us (sym (ap (λ o. later o (of_name name f)) k) ∙ e) in
+          ([], fs, ap (λ (g : Field). g ∷ fs) (same_field f (record { name = name; value = us }) (same_name f.name name r.0) r.1), missing name fs k)
+      | Some vs ↦ λ k.
+          let r = around_last name us fs (k ∙ (sym (ap (λ o. later o (of_name name f)) k) ∙ e)) in
+          (f ∷ r.0, r.1, ap (λ (gs : List Field). f ∷ gs) r.2, r.3)
+    ] refl
+
+last_between : (name : List ℕ) (us : List Token) (front back : List Field) → NoneNamed name back → last name (front ++ record { name = name; value = us } ∷ back) ≡ Some us
+last_between name us [] back h =
+    ap (λ o. later o (if bytes_eq name name then Some us else None)) (none_named name back h) ∙ ap (λ b. if b then Some us else None) (equal_name name name refl)
+last_between name us (f ∷ front) back h = ap (λ o. later o (of_name name f)) (last_between name us front back h)
+
+pub last_field : LastFieldCounts
+last_field name us fs = (around_last name us fs, λ r. ap (last name) r.2 ∙ last_between name us r.0 r.1 r.3)
+
+later_none : (x : Option (List Token)) → later x None ≡ x
+later_none None = refl
+later_none (Some us) = refl
+
+pub seen_by_others : OtherNamesAreSeen
+seen_by_others knows name [] unknown = refl
+seen_by_others knows name (f ∷ fs) unknown =
+    elim (knows f.name) as (λ b. knows f.name ≡ b → last name (unless_known b f (others knows fs)) ≡ last name (f ∷ fs)) [
+      | true ↦ λ k.
+          let other = unequal_name f.name name (λ same. let x = sym unknown ∙ (ap knows (sym same) ∙ k) in cc x) in
+          seen_by_others knows name fs unknown ∙ (sym (later_none (last name fs)) ∙ ap (λ b. later (last name fs) (if b then Some f.value else None)) (sym other))
+      | false ↦ λ k. ap (λ o. later o (of_name name f)) (seen_by_others knows name fs unknown)
+    ] refl

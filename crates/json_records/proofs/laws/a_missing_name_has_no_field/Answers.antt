@@ -1,0 +1,5 @@
+use Rattle.json_records.proofs.LastFields.{missing_name}
+use Rattle.json_records.proofs.laws.a_missing_name_has_no_field.Goals as goal
+
+pub returns : goal.returns
+returns c = missing_name

@@ -1,0 +1,5 @@
+use Rattle.json_records.proofs.LastFields.{seen_by_others}
+use Rattle.json_records.proofs.laws.other_names_are_seen.Goals as goal
+
+pub returns : goal.returns
+returns c = seen_by_others

@@ -1,0 +1,5 @@
+use Rattle.json_records.proofs.LastFields.{last_field}
+use Rattle.json_records.proofs.laws.the_last_field_counts.Goals as goal
+
+pub returns : goal.returns
+returns c = last_field
