@@ -1,4 +1,4 @@
-use Rattle.std.proofs.Common.{◌≡◌, ◌≢◌, ℕ, zero, suc, refl, List}
+use Rattle.std.proofs.Common.{◌≢◌, ℕ, zero, suc, refl, List}
 use Rattle.nano_value.specs.Meaning.{Meaning}
 use Rattle.nano_bin.specs.Variants.{body_spelling}
 use Rattle.nano_bin.proofs.Readers.{unit_reads}
