@@ -1,0 +1,2 @@
+//! Own types in JSON: enums of named variants.
+#![tactic(auto)]
