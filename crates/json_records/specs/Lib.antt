@@ -1,1 +1,3 @@
 pub mod Variants
+pub mod VariantWriting
+pub mod VariantFormat

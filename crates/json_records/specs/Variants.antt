@@ -2,9 +2,9 @@
 --
 -- A variant without content is spelled by its name, a variant with content by its name and the content between curly
 -- brackets. Of two variants of one kind and name the first has the name.
-use Rattle.std.specs.Prelude.{◌≡◌, ◌⊎◌, ℕ, suc, Bool, true, false, List, [], ◌∷◌, ◌++◌, Option, Some, None, bytes_eq, cond, refl}
-use Rattle.std.proofs.Common.{sym, ◌∙◌, subst, ap, inl, inr, append_assoc, append-nil}
-use Rattle.nano_value.specs.Meaning.{Meaning, nothing, whole, paired}
+use Rattle.std.specs.Prelude.{◌≡◌, ◌⊎◌, ℕ, suc, ◌≤◌, Bool, true, false, List, [], ◌∷◌, ◌++◌, Option, Some, None, bytes_eq, cond, refl}
+use Rattle.std.proofs.Common.{sym, ◌∙◌, subst, ap, inl, inr, append_assoc, append-nil, arith}
+use Rattle.nano_value.specs.Meaning.{Meaning, nothing, whole, paired, whole_injective, both_injective}
 use Rattle.nano_value.specs.Legal.{IsImage}
 use Rattle.nano_text.specs.ListLaws.{same_front}
 use Rattle.nano_json.specs.Token.{Token, str, colon, curly_open, curly_close}
@@ -57,11 +57,11 @@ LegalFrom legal tag (variant name content others) m = IsImage (tagged tag) (lega
 abbrev pub Closed : (List Token → Meaning → Type 0) → List Token → Meaning → Type 0
 Closed spelled ts m = (inside : List Token) × (ts ≡ inside ++ curly_close ∷ []) × spelled inside m
 
--- the name of a variant without content
-pub record NameAlone (vs : Variants Spelling) (ts : List Token) (m : Meaning) : Type 0 where
+-- the name of a variant without content, where places are counted from this one on
+pub record NameAlone (from : ℕ) (vs : Variants Spelling) (ts : List Token) (m : Meaning) : Type 0 where
   pub name : List ℕ
   pub tag : ℕ
-  pub has : unit_named 0 vs name ≡ Some tag
+  pub has : unit_named from vs name ≡ Some tag
   pub one : ts ≡ str name ∷ []
   pub is : m ≡ tagged tag nothing
 
@@ -71,14 +71,18 @@ SpellsFound nobody ts m = ⊥
 SpellsFound (found tag content) ts m = IsImage (tagged tag) (Closed content.spelled ts) m
 
 -- between curly brackets the name of a variant with content, a colon and the content
-pub record NameAndContent (vs : Variants Spelling) (ts : List Token) (m : Meaning) : Type 0 where
+pub record NameAndContent (from : ℕ) (vs : Variants Spelling) (ts : List Token) (m : Meaning) : Type 0 where
   pub name : List ℕ
   pub back : List Token
   pub are : ts ≡ curly_open ∷ str name ∷ colon ∷ back
-  pub content : SpellsFound (content_named 0 vs name) back m
+  pub content : SpellsFound (content_named from vs name) back m
 
+abbrev pub SpellsFrom : ℕ → Variants Spelling → List Token → Meaning → Type 0
+SpellsFrom from vs ts m = NameAlone from vs ts m ⊎ NameAndContent from vs ts m
+
+-- the name of a variant, and its content if it has one
 abbrev pub SpellsVariant : Variants Spelling → List Token → Meaning → Type 0
-SpellsVariant vs ts m = NameAlone vs ts m ⊎ NameAndContent vs ts m
+SpellsVariant = SpellsFrom 0
 
 -- ---- the laws of it
 
@@ -91,7 +95,7 @@ same_rest t u ts us e = cc e
 str_injective : (xs ys : List ℕ) → str xs ≡ str ys → xs ≡ ys
 str_injective xs ys e = cc e
 
-some_injective : (j k : ℕ) → Some j ≡ Some k → j ≡ k
+pub some_injective : (j k : ℕ) → Some j ≡ Some k → j ≡ k
 some_injective j k e = cc e
 
 string_is_no_bracket : (name : List ℕ) → str name ≡ curly_open → ⊥
@@ -113,14 +117,14 @@ found_same (found tag s) a b more m n h k e =
     (same.0, h.is ∙ (ap (tagged tag) same.1 ∙ sym k.is))
 
 module _ (vs : Variants Spelling) where
-  alone_same : (a b more : List Token) (m n : Meaning) → NameAlone vs a m → NameAlone vs b n → a ++ more ≡ b → (more ≡ []) × (m ≡ n)
+  alone_same : (a b more : List Token) (m n : Meaning) → NameAlone 0 vs a m → NameAlone 0 vs b n → a ++ more ≡ b → (more ≡ []) × (m ≡ n)
   alone_same a b more m n h k e =
       let whole : str h.name ∷ more ≡ str k.name ∷ [] = ap (λ (l : List Token). l ++ more) (sym h.one) ∙ (e ∙ k.one) in
       let name = str_injective h.name k.name (same_first (str h.name) (str k.name) more [] whole) in
       let tag = some_injective h.tag k.tag (sym h.has ∙ (ap (unit_named 0 vs) name ∙ k.has)) in
       (same_rest (str h.name) (str k.name) more [] whole, h.is ∙ (ap (λ j. tagged j nothing) tag ∙ sym k.is))
 
-  content_same : (a b more : List Token) (m n : Meaning) → NameAndContent vs a m → NameAndContent vs b n → a ++ more ≡ b → (more ≡ []) × (m ≡ n)
+  content_same : (a b more : List Token) (m n : Meaning) → NameAndContent 0 vs a m → NameAndContent 0 vs b n → a ++ more ≡ b → (more ≡ []) × (m ≡ n)
   content_same a b more m n h k e =
       let whole : curly_open ∷ str h.name ∷ colon ∷ (h.back ++ more) ≡ curly_open ∷ str k.name ∷ colon ∷ k.back = ap (λ (l : List Token). l ++ more) (sym h.are) ∙ (e ∙ k.are) in
       let behind = same_rest curly_open curly_open _ _ whole in
@@ -128,10 +132,10 @@ module _ (vs : Variants Spelling) where
       let back = same_rest colon colon _ _ (same_rest (str h.name) (str k.name) _ _ behind) in
       found_same (content_named 0 vs k.name) h.back k.back more m n (subst (λ x. SpellsFound (content_named 0 vs x) h.back m) name h.content) k.content back
 
-  apart : (a b more : List Token) (m n : Meaning) → NameAlone vs a m → NameAndContent vs b n → a ++ more ≡ b → ⊥
+  apart : (a b more : List Token) (m n : Meaning) → NameAlone 0 vs a m → NameAndContent 0 vs b n → a ++ more ≡ b → ⊥
   apart a b more m n h k e = string_is_no_bracket h.name (same_first (str h.name) curly_open _ _ (ap (λ (l : List Token). l ++ more) (sym h.one) ∙ (e ∙ k.are)))
 
-  apart_too : (a b more : List Token) (m n : Meaning) → NameAndContent vs a m → NameAlone vs b n → a ++ more ≡ b → ⊥
+  apart_too : (a b more : List Token) (m n : Meaning) → NameAndContent 0 vs a m → NameAlone 0 vs b n → a ++ more ≡ b → ⊥
   apart_too a b more m n h k e = string_is_no_bracket k.name (sym (same_first curly_open (str k.name) _ _ (ap (λ (l : List Token). l ++ more) (sym h.are) ∙ (e ∙ k.one))))
 
   -- of two spellings of which one goes on from the other, both are the same and mean the same
@@ -149,7 +153,7 @@ abbrev pub LegalVariant : Variants Spelling → Meaning → Type 0
 LegalVariant vs = LegalFrom (λ s. s.legal) 0 vs
 
 -- the variant that has a name is one of them
-unit_is_legal : (from : ℕ) (vs : Variants Spelling) (name : List ℕ) (tag : ℕ) → unit_named from vs name ≡ Some tag → LegalFrom (λ s. s.legal) from vs (tagged tag nothing)
+pub unit_is_legal : (from : ℕ) (vs : Variants Spelling) (name : List ℕ) (tag : ℕ) → unit_named from vs name ≡ Some tag → LegalFrom (λ s. s.legal) from vs (tagged tag nothing)
 unit_is_legal from no_variants name tag e = absurd (cc e)
 unit_is_legal from (variant first content others) name tag e = inr (unit_is_legal (suc from) others name tag e)
 unit_is_legal from (unit_variant first others) name tag e =
@@ -158,7 +162,7 @@ unit_is_legal from (unit_variant first others) name tag e =
       | false ↦ λ e. inr (unit_is_legal (suc from) others name tag e)
     ] e
 
-found_is_legal : (from : ℕ) (vs : Variants Spelling) (name : List ℕ) (ts : List Token) (m : Meaning) → SpellsFound (content_named from vs name) ts m → LegalFrom (λ s. s.legal) from vs m
+pub found_is_legal : (from : ℕ) (vs : Variants Spelling) (name : List ℕ) (ts : List Token) (m : Meaning) → SpellsFound (content_named from vs name) ts m → LegalFrom (λ s. s.legal) from vs m
 found_is_legal from no_variants name ts m h = absurd h
 found_is_legal from (unit_variant first others) name ts m h = inr (found_is_legal (suc from) others name ts m h)
 found_is_legal from (variant first content others) name ts m h =
@@ -166,6 +170,14 @@ found_is_legal from (variant first content others) name ts m h =
       | true ↦ λ h. inl (record { part = h.part; has = content.laws.is_legal h.has.0 h.part h.has.2; is = h.is })
       | false ↦ λ h. inr (found_is_legal (suc from) others name ts m h)
     ] h
+
+-- a legal meaning has a place of these
+pub legal_from : {C : Type 1} (legal : C → Meaning → Type 0) (from : ℕ) (vs : Variants C) (tag : ℕ) (m : Meaning) → LegalFrom legal from vs (tagged tag m) → from ≤ tag
+legal_from legal from no_variants tag m h = absurd h
+legal_from legal from (unit_variant name others) tag m (inl h) = let e = whole_injective tag from (both_injective _ _ _ _ h).0 in omega (arith, e)
+legal_from legal from (unit_variant name others) tag m (inr h) = let b = legal_from legal (suc from) others tag m h in omega (arith, b)
+legal_from legal from (variant name content others) tag m (inl h) = let e = whole_injective tag from (both_injective _ _ _ _ h.is).0 in omega (arith, e)
+legal_from legal from (variant name content others) tag m (inr h) = let b = legal_from legal (suc from) others tag m h in omega (arith, b)
 
 variant_is_legal : (vs : Variants Spelling) (ts : List Token) (m : Meaning) → SpellsVariant vs ts m → LegalVariant vs m
 variant_is_legal vs ts m (inl h) = subst (LegalVariant vs) (sym h.is) (unit_is_legal 0 vs h.name h.tag h.has)
