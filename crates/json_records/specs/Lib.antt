@@ -1,3 +1,4 @@
 pub mod Variants
 pub mod VariantWriting
 pub mod VariantFormat
+pub mod VariantReading
