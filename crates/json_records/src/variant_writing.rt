@@ -1,0 +1,74 @@
+// The variants of enums, written: a name, and between curly brackets a name with its content.
+ghost use Rattle.std.specs.Prelude.{◌≡◌, ◌++◌, ◌∷◌, [], ℕ, List, OnOk, OnErr, length, take, string_bytes, encode_utf8_all};
+ghost use Rattle.std.specs.Str.{IsCharBoundary};
+ghost use Rattle.nano_json.specs.Written.{written_text};
+ghost use Rattle.json_records.specs.VariantWriting.{content_text};
+
+use nano_json::{SerJson, SerJsonState};
+use std::alloc::{AllocError, Global};
+
+/// Appends the name of a variant without content, between quotes and with escapes where it has
+/// such: `"Name"`. A refused write leaves `s.out` as it was.
+pub fn write_unit_variant(
+    alloc: Global,
+    name: &str,
+    s: &mut SerJsonState,
+) -> Result<(), AllocError>
+    ensures ok { OnOk result (string_bytes s.new.out ≡ string_bytes s.old.out ++ encode_utf8_all (written_text name.now)) }
+    ensures err { OnErr result (string_bytes s.new.out ≡ string_bytes s.old.out) }
+{
+    name.ser_json(alloc, 0, s)
+}
+
+/// Appends a variant with content: `{`, its name, a colon, the content at level `d`, and `}`. A
+/// refused write leaves `s.out` as it was.
+pub fn write_variant<T: SerJson>(
+    alloc: Global,
+    name: &str,
+    content: &T,
+    d: usize,
+    s: &mut SerJsonState,
+) -> Result<(), AllocError>
+    ensures ok { OnOk result (string_bytes s.new.out ≡ string_bytes s.old.out ++ encode_utf8_all (content_text name.now (T.writing.text d content.now))) }
+    ensures err { OnErr result (string_bytes s.new.out ≡ string_bytes s.old.out) }
+{
+    let start = s.out.len();
+    let written = append_variant(alloc, name, content, d, s);
+    keep_written(&mut s.out, start, written)
+}
+
+/// Appends a variant with content. A refused growth leaves what was written so far.
+fn append_variant<T: SerJson>(
+    alloc: Global,
+    name: &str,
+    content: &T,
+    d: usize,
+    s: &mut SerJsonState,
+) -> Result<(), AllocError>
+    ensures ok { OnOk result (string_bytes s.new.out ≡ string_bytes s.old.out ++ encode_utf8_all (content_text name.now (T.writing.text d content.now))) }
+    ensures err { OnErr result ((more : List ℕ) × (string_bytes s.new.out ≡ string_bytes s.old.out ++ more)) }
+{
+    s.out.push('{')?;
+    name.ser_json(alloc, d, s)?;
+    s.out.push(':')?;
+    content.ser_json(alloc, d, s)?;
+    s.out.push('}')
+}
+
+/// Hands on how a write ended, and cuts the text back to its first `start` bytes where it was
+/// refused.
+fn keep_written(
+    out: &mut String,
+    start: usize,
+    written: Result<(), AllocError>,
+) -> Result<(), AllocError>
+    requires { IsCharBoundary (string_bytes out.old) start }
+    ensures same { result ≡ written }
+    ensures ok { OnOk result (string_bytes out.new ≡ string_bytes out.old) }
+    ensures err { OnErr result (string_bytes out.new ≡ take start (string_bytes out.old)) }
+{
+    if written.is_err() {
+        out.truncate(start);
+    }
+    written
+}
