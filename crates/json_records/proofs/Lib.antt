@@ -1,1 +1,5 @@
+pub mod Choices
+pub mod FieldReading
+pub mod StructReading
+pub mod WrittenFields
 pub mod VariantReaders

@@ -1,3 +1,12 @@
+pub mod Fields
+pub mod FieldLaws
+pub mod Struct
+pub mod Slots
+pub mod Marks
+pub mod FieldNames
+pub mod FieldWriting
+pub mod FieldFormat
+pub mod FieldWeaker
 pub mod Variants
 pub mod VariantWriting
 pub mod VariantFormat

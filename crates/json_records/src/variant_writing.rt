@@ -1,10 +1,9 @@
 // The variants of enums, written: a name, and between curly brackets a name with its content.
-ghost use Rattle.std.specs.Prelude.{◌≡◌, ◌++◌, ◌∷◌, [], ℕ, List, OnOk, OnErr, length, take, string_bytes, encode_utf8_all};
-ghost use Rattle.std.specs.Str.{IsCharBoundary};
+ghost use Rattle.std.specs.Prelude.{◌≡◌, ◌++◌, ◌∷◌, [], ℕ, List, OnOk, OnErr, string_bytes, encode_utf8_all};
 ghost use Rattle.nano_json.specs.Written.{written_text};
 ghost use Rattle.json_records.specs.VariantWriting.{content_text};
 
-use nano_json::{SerJson, SerJsonState};
+use nano_json::{SerJson, SerJsonState, keep_written};
 use std::alloc::{AllocError, Global};
 
 /// Appends the name of a variant without content, between quotes and with escapes where it has
@@ -53,22 +52,4 @@ fn append_variant<T: SerJson>(
     s.out.push(':')?;
     content.ser_json(alloc, d, s)?;
     s.out.push('}')
-}
-
-/// Hands on how a write ended, and cuts the text back to its first `start` bytes where it was
-/// refused.
-fn keep_written(
-    out: &mut String,
-    start: usize,
-    written: Result<(), AllocError>,
-) -> Result<(), AllocError>
-    requires { IsCharBoundary (string_bytes out.old) start }
-    ensures same { result ≡ written }
-    ensures ok { OnOk result (string_bytes out.new ≡ string_bytes out.old) }
-    ensures err { OnErr result (string_bytes out.new ≡ take start (string_bytes out.old)) }
-{
-    if written.is_err() {
-        out.truncate(start);
-    }
-    written
 }

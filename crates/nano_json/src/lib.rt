@@ -43,4 +43,4 @@ pub use error::DeJsonErr;
 pub use state::DeJsonState;
 pub use token::DeJsonTok;
 pub use traits::{BothJson, DeJson, SerJson};
-pub use write_state::SerJsonState;
+pub use write_state::{SerJsonState, keep_written};

@@ -70,10 +70,10 @@ impl SerJsonState {
 }
 
 /// Hands on how a write ended, and cuts the text back to its first `start` bytes where it was
-/// refused: so a writer of several parts undoes those that it has written.
+/// refused: so a writer of several parts undoes those that it has written. It takes no memory.
 ///
-/// `start` is the length that the text had before.
-pub(crate) fn keep_written(
+/// `start` is the length that the text had before; it may not stand inside a character.
+pub fn keep_written(
     out: &mut String,
     start: usize,
     written: Result<(), AllocError>,

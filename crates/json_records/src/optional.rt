@@ -1,0 +1,54 @@
+// A field that may be missing.
+ghost use Rattle.std.specs.Option.{option_map};
+ghost use Rattle.nano_value.specs.Meaning.{optional};
+ghost use Rattle.json_records.specs.Struct.{may};
+ghost use Rattle.json_records.specs.Slots.{optional_skips};
+
+use crate::fields::{Fields, Optional};
+use crate::named::read_named;
+use nano_json::{DeJson, DeJsonErr, DeJsonState};
+use std::alloc::Global;
+use std::str::Chars;
+
+impl<T: DeJson> Fields for Optional<T> {
+    type Slots = Option<T>;
+
+    type Values = Option<T>;
+
+    ghost named = { λ f. may f.name.now T.spelling };
+
+    ghost means = { λ value. optional (option_map T.means value) };
+
+    ghost holds = { λ f slot fs. (may f.name.now T.spelling).shape.means fs (optional (option_map T.means slot)) };
+
+    ghost skips = { λ f slot. optional_skips f.name.now T.spelling (optional (option_map T.means slot)) };
+
+    fn empty(&self) -> Option<T> {
+        None
+    }
+
+    fn knows(&self, name: &str) -> bool {
+        name == self.name
+    }
+
+    fn read_field(
+        &self,
+        slots: &mut Option<T>,
+        alloc: Global,
+        state: &mut DeJsonState,
+        input: &mut Chars<'_>,
+    ) -> Result<(), DeJsonErr> {
+        let value = read_named(alloc, state, input)?;
+        *slots = value;
+        Ok(())
+    }
+
+    fn values(
+        &self,
+        slots: Option<T>,
+        _alloc: Global,
+        _state: &DeJsonState,
+    ) -> Result<Option<T>, DeJsonErr> {
+        Ok(slots)
+    }
+}

@@ -1,0 +1,51 @@
+// A field that must be there.
+ghost use Rattle.std.specs.Option.{option_map};
+ghost use Rattle.json_records.specs.Struct.{must};
+ghost use Rattle.json_records.specs.Slots.{Holds, holds_skips};
+
+use crate::fields::{Fields, Required};
+use crate::named::read_named;
+use nano_json::{DeJson, DeJsonErr, DeJsonState};
+use std::alloc::Global;
+use std::str::Chars;
+
+impl<T: DeJson> Fields for Required<T> {
+    type Slots = Option<T>;
+
+    type Values = T;
+
+    ghost named = { λ f. must f.name.now T.spelling };
+
+    ghost means = { T.means };
+
+    ghost holds = { λ f slot. Holds f.name.now T.spelling.spelled (option_map T.means slot) };
+
+    ghost skips = { λ f slot. holds_skips f.name.now T.spelling.spelled (option_map T.means slot) };
+
+    fn empty(&self) -> Option<T> {
+        None
+    }
+
+    fn knows(&self, name: &str) -> bool {
+        name == self.name
+    }
+
+    fn read_field(
+        &self,
+        slots: &mut Option<T>,
+        alloc: Global,
+        state: &mut DeJsonState,
+        input: &mut Chars<'_>,
+    ) -> Result<(), DeJsonErr> {
+        let value = read_named(alloc, state, input)?;
+        *slots = Some(value);
+        Ok(())
+    }
+
+    fn values(&self, slots: Option<T>, alloc: Global, state: &DeJsonState) -> Result<T, DeJsonErr> {
+        match slots {
+            Some(value) => Ok(value),
+            None => Err(state.err_nf(alloc, self.name)),
+        }
+    }
+}
