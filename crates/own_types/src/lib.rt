@@ -1,10 +1,18 @@
-//! An example: own types that join the formats by hand.
+//! Examples: own types that join the formats by hand.
 #![tactic(auto)]
 
+mod account;
+#[cfg(test)]
+mod account_tests;
 mod command;
+#[cfg(test)]
+mod field_writing_tests;
+mod holder;
 mod reading;
 #[cfg(test)]
 mod tests;
 
+pub use account::Account;
 pub use command::Command;
+pub use holder::Holder;
 pub use reading::Reading;
