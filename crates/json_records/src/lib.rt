@@ -18,5 +18,7 @@ pub use field_writing::{OptionalPart, RequiredPart, WriteFields, write_fields};
 pub use fields::{Fields, Optional, Required};
 pub use part::Part;
 pub use read::read_fields;
-pub use variant_writing::{write_unit_variant, write_variant};
-pub use variants::{VariantName, close_content, read_content, read_variant_name, unknown_variant};
+pub use variant_writing::{write_fields_variant, write_unit_variant, write_variant};
+pub use variants::{
+    VariantName, read_content, read_fields_content, read_variant_name, unknown_variant,
+};

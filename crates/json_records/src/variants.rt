@@ -6,9 +6,12 @@ ghost use Rattle.nano_json.specs.Token.{Token, str, colon, curly_close};
 ghost use Rattle.nano_json.specs.Cut.{Cut};
 ghost use Rattle.nano_json.specs.State.{at, ended};
 ghost use Rattle.nano_json.specs.Spelling.{NothingFits};
+ghost use Rattle.json_records.specs.Struct.{fields_of};
 ghost use Rattle.json_records.specs.Variants.{Closed};
 ghost use Rattle.json_records.specs.VariantReading.{alone, opened, name_tokens, NoVariantBegins};
 
+use crate::fields::Fields;
+use crate::read::read_fields;
 use nano_json::{DeJson, DeJsonErr, DeJsonState, DeJsonTok};
 use std::alloc::Global;
 use std::str::Chars;
@@ -137,9 +140,34 @@ pub fn read_content<T: DeJson>(
     }
 }
 
+/// Reads named fields, as the content of a variant whose name is taken, and the `}` behind them.
+///
+/// An error that is not for want of memory says that no such fields with a `}` behind them stand
+/// there, with one more token or the end behind that. Every refusal leaves the state at the end of
+/// the text.
+pub fn read_fields_content<F: Fields>(
+    fields: &F,
+    alloc: Global,
+    state: &mut DeJsonState,
+    input: &mut Chars<'_>,
+) -> Result<F::Values, DeJsonErr>
+    ensures fits { IfOk result (λ values. Spans Cut (Closed (fields_of (F.named fields.now)).spelled) (at state.old input.old) (at state.new input.new) (F.means values)) }
+    ensures refused { IfErr result (λ e. e.memory ≡ false → NothingFits (Closed (fields_of (F.named fields.now)).spelled) (at state.old input.old)) }
+    ensures ended { OnErr result (at state.new input.new ≡ ended) }
+    ensures memory { IfErr result (λ e. e.memory ≡ true → string_bytes e.msg ≡ []) }
+{
+    match read_fields(fields, alloc, state, input) {
+        Ok(values) => match close_content(alloc, state, input) {
+            Ok(()) => Ok(values),
+            Err(error) => Err(error),
+        },
+        Err(error) => Err(error),
+    }
+}
+
 /// Takes the `}` behind the content of a variant. Every refusal leaves the state at the end of the
 /// text.
-pub fn close_content(
+pub(crate) fn close_content(
     alloc: Global,
     state: &mut DeJsonState,
     input: &mut Chars<'_>,
