@@ -1,5 +1,5 @@
 -- What a reader of an enum answers, from what the readers of the name and of the content answer.
-use Rattle.std.proofs.Common.{◌≡◌, ℕ, List, [], ◌∷◌, ◌++◌, ◌⊎◌, inl, inr, Some, None, Result, Ok, Err, IfErr, refl, sym, ◌∙◌, ap, subst}
+use Rattle.std.proofs.Common.{◌≡◌, ℕ, List, [], ◌∷◌, ◌++◌, ◌⊎◌, inl, inr, Some, None, Result, Ok, Err, IfErr, Bool, bytes_eq, refl, sym, ◌∙◌, ap, subst}
 use Rattle.nano_value.specs.Meaning.{Meaning, nothing}
 use Rattle.nano_text.specs.Tokens.{At, Leaves, Spans, Fits}
 use Rattle.nano_text.proofs.Tokens.{leaves_append, leaves_split, meets, same_at, same_end}
@@ -17,6 +17,10 @@ same_name a b e = cc e
 
 opened_names : (a b : List ℕ) (more : List Token) → opened a ≡ opened b ++ more → (a ≡ b) × (more ≡ [])
 opened_names a b more e = (cc e, cc e)
+
+-- what a test of a text says of its bytes
+pub told : (answer : Bool) (shown bytes name : List ℕ) (b : Bool) → answer ≡ bytes_eq shown name → shown ≡ bytes → answer ≡ b → bytes_eq bytes name ≡ b
+told answer shown bytes name b e k is = ap (λ l. bytes_eq l name) (sym k) ∙ (sym e ∙ is)
 
 -- what each refusal of the one kind is of the other
 pub each_refusal : {T E : Type 0} (P Q : E → Type 0) (r : Result T E) → ((e : E) → P e → Q e) → IfErr r P → IfErr r Q

@@ -11,3 +11,4 @@ pub mod Variants
 pub mod VariantWriting
 pub mod VariantFormat
 pub mod VariantReading
+pub mod Formats

@@ -1,10 +1,9 @@
 -- How enums are written: a variant without content as its name, a variant with content as its name and the content between
 -- curly brackets.
-use Rattle.std.specs.Prelude.{◌≡◌, ◌⊎◌, ℕ, suc, ◌≤◌, ◌<◌, Bool, true, false, ◌&&◌, nat_lt, List, [], ◌∷◌, ◌++◌, length, IsUtf8, bytes_eq, chars, encode_utf8_all, refl}
-use Rattle.std.proofs.Common.{sym, ◌∙◌, subst, ap, inl, inr, append_assoc, arith, eqb-true}
-use Rattle.std.proofs.Math.Utf8.{scalars}
+use Rattle.std.specs.Prelude.{◌≡◌, ◌⊎◌, ℕ, suc, ◌≤◌, ◌<◌, Bool, true, false, ◌&&◌, nat_lt, List, [], ◌∷◌, ◌++◌, length, refl}
+use Rattle.std.specs.List.{list_all}
+use Rattle.std.proofs.Common.{sym, ◌∙◌, subst, ap, inl, inr, append_assoc, arith}
 use Rattle.std.proofs.lemmas.Bool.Decides.{nat_tests}
-use Rattle.std.proofs.lemmas.Slice.Eq.{bytes_eq-Decides}
 use Rattle.nano_value.specs.Meaning.{Meaning, nothing, whole, usize_bound, whole_injective, both_injective}
 use Rattle.nano_value.specs.Legal.{IsImage, IsText}
 use Rattle.nano_text.specs.Tokens.{Cuts}
@@ -14,6 +13,7 @@ use Rattle.nano_json.specs.Cut.{Cut}
 use Rattle.nano_json.specs.Written.{written_text}
 use Rattle.nano_json.specs.CutAgain.{colon_is_cut, curlies_are_cut, textual_append, and_true}
 use Rattle.nano_json.specs.Writing.{IsWrittenAs, Writing, text_is_written}
+use Rattle.json_records.specs.FieldNames.{is_plain_ascii, are_ascii_names, ascii_names}
 use Rattle.json_records.specs.Variants.{Variants, no_variants, unit_variant, variant, tagged, LegalFrom, legal_from}
 
 -- ---- what is written
@@ -77,9 +77,9 @@ OrderKeys (variant name content others) = content.writing.orders_keys × OrderKe
 
 -- ---- names
 
--- bytes of UTF-8 whose number is a `usize`
+-- bytes of ASCII that need no escape, so many that a `usize` counts them
 abbrev pub is_text : List ℕ → Bool
-is_text bytes = (scalars (chars bytes) && bytes_eq (encode_utf8_all (chars bytes)) bytes) && nat_lt (length bytes) usize_bound
+is_text bytes = list_all is_plain_ascii bytes && nat_lt (length bytes) usize_bound
 
 -- each name is a text
 abbrev pub names_are_texts : {C : Type 1} → Variants C → Bool
@@ -89,9 +89,11 @@ names_are_texts (variant name content others) = is_text name && names_are_texts 
 
 is_text_is : (bytes : List ℕ) → is_text bytes ≡ true → IsText bytes
 is_text_is bytes e =
-    let parts = and_true (scalars (chars bytes) && bytes_eq (encode_utf8_all (chars bytes)) bytes) (nat_lt (length bytes) usize_bound) e in
-    let utf8 = and_true (scalars (chars bytes)) (bytes_eq (encode_utf8_all (chars bytes)) bytes) parts.0 in
-    record { count = let small = parts.1 in grind (arith, nat_tests, small); utf8 = (chars bytes, (utf8.0, (bytes_eq-Decides (encode_utf8_all (chars bytes)) bytes).0 utf8.1)) }
+    let parts = and_true (list_all is_plain_ascii bytes) (nat_lt (length bytes) usize_bound) e in
+    let alone : are_ascii_names (bytes ∷ []) ≡ true = rw parts.0 refl in
+    let plain = ascii_names {names = bytes ∷ []} alone in
+    let small = parts.1 in
+    record { count = grind (arith, nat_tests, small); utf8 = plain.each.0.utf8 }
 
 -- ---- the laws of it
 

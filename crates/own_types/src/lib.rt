@@ -8,6 +8,7 @@ mod command;
 #[cfg(test)]
 mod field_writing_tests;
 mod holder;
+mod message;
 mod reading;
 #[cfg(test)]
 mod tests;
@@ -15,4 +16,5 @@ mod tests;
 pub use account::Account;
 pub use command::Command;
 pub use holder::Holder;
+pub use message::Message;
 pub use reading::Reading;
