@@ -11,11 +11,7 @@ use std::alloc::{AllocError, Global};
 
 /// Appends the name of a variant without content, between quotes and with escapes where it has
 /// such: `"Name"`. A refused write leaves `s.out` as it was.
-pub fn write_unit_variant(
-    alloc: Global,
-    name: &str,
-    s: &mut SerJsonState,
-) -> Result<(), AllocError>
+pub fn write_unit_variant(alloc: Global, name: &str, s: &mut SerJsonState) -> Result<(), AllocError>
     ensures ok { OnOk result (string_bytes s.new.out ≡ string_bytes s.old.out ++ encode_utf8_all (written_text name.now)) }
     ensures err { OnErr result (string_bytes s.new.out ≡ string_bytes s.old.out) }
 {
@@ -96,6 +92,6 @@ fn append_opening(alloc: Global, name: &str, s: &mut SerJsonState) -> Result<(),
     ensures err { OnErr result ((more : List ℕ) × (string_bytes s.new.out ≡ string_bytes s.old.out ++ more)) }
 {
     s.out.push('{')?;
-    name.ser_json(alloc, 0, s)?;
+    write_unit_variant(alloc, name, s)?;
     s.out.push(':')
 }

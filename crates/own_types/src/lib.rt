@@ -9,6 +9,8 @@ mod command;
 mod field_writing_tests;
 mod holder;
 mod message;
+#[cfg(test)]
+mod message_tests;
 mod reading;
 #[cfg(test)]
 mod tests;
