@@ -1,19 +1,19 @@
-use Rattle.std.proofs.Common.{refl, string_bytes, subst, ap, rules}
-use Rattle.nano_value.specs.Meaning.{Meaning, paired, number, text}
-use Rattle.nano_text.specs.Tokens.{Spans}
-use Rattle.nano_json.specs.Cut.{Cut}
-use Rattle.json_records.specs.Variants.{variants_of, tagged}
+use Rattle.std.proofs.Common.{refl, string_bytes, rules}
+use Rattle.std.proofs.lemmas.Int.{to_z-of_z}
+use Rattle.std.specs.Int.{w32}
 use Rattle.std.specs.Prelude.{codes}
 use Rattle.nano_json.specs.State.{at}
 use Rattle.json_records.specs.VariantFormat.{spellings}
-use Rattle.json_records.proofs.VariantReaders.{told, name_refused, unit_unknown, content_reads, content_unknown, content_missing}
+use Rattle.json_records.proofs.VariantReaders.{told, name_refused, content_reads, content_unknown, content_missing}
 use Rattle.own_types.specs.Message.{variants, moved, said}
 use Rattle.own_types.proofs.message.MessageDeJson.de_json.Goals as goal
 
 pub returns-in-Ok-read_content-clause-fits : goal.returns-in-Ok-read_content-clause-fits
 returns-in-Ok-read_content-clause-fits c =
+    let parts = c.in-Ok-read_content.parts in
     let move = told _ _ _ (codes "Move") _ c.eq-in-Content.ensures c.as_str-in-Content.ensures.value c.if-eq-2.true in
-    let start = at c.args.state.now c.args.input.now in let end = at c.read_content.new.state c.read_content.new.input in let r = content_reads (at c.args.state.now c.args.input.now) (spellings variants) (at c.read_variant_name.new.state c.read_variant_name.new.input) (at c.read_content.new.state c.read_content.new.input) (string_bytes c.in-Content.name) 1 moved.spelling (moved.writing.means (c.in-Ok-read_content.parts.0, c.in-Ok-read_content.parts.1)) (rw c.in-Content.is at c.in-Ok.ensures.taken) (rw move refl) c.in-Ok-read_content.ensures.fits in subst (λ (m : Meaning). Spans Cut (variants_of (spellings variants)).spelled start end m) (ap (λ b. tagged 1 (paired (number b, text (string_bytes c.in-Ok-read_content.parts.1)))) (search rules)) r
+    let reads = content_reads (at c.args.state.now c.args.input.now) (spellings variants) (at c.read_variant_name.new.state c.read_variant_name.new.input) (at c.read_content.new.state c.read_content.new.input) (string_bytes c.in-Content.name) 1 moved.spelling (moved.writing.means (parts.0, parts.1)) (rw c.in-Content.is at c.in-Ok.ensures.taken) (rw move refl) c.in-Ok-read_content.ensures.fits in
+    rw (to_z-of_z w32 parts.0 (search rules)) reads
 
 pub returns-then-eq-2-clause-refused : goal.returns-then-eq-2-clause-refused
 returns-then-eq-2-clause-refused c known =
