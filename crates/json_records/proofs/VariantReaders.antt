@@ -1,13 +1,13 @@
 -- What a reader of an enum answers, from what the readers of the name and of the content answer.
-use Rattle.std.proofs.Common.{◌≡◌, ℕ, List, [], ◌∷◌, ◌++◌, ◌⊎◌, inl, inr, Some, None, Result, Ok, Err, IfErr, Bool, bytes_eq, refl, sym, ◌∙◌, ap, subst}
+use Rattle.std.proofs.Common.{◌≡◌, ℕ, List, [], ◌∷◌, ◌++◌, inl, inr, Some, None, Result, Ok, Err, IfErr, Bool, bytes_eq, refl, sym, ◌∙◌, ap, subst}
 use Rattle.nano_value.specs.Meaning.{Meaning, nothing}
 use Rattle.nano_text.specs.Tokens.{At, Leaves, Spans, Fits}
 use Rattle.nano_text.proofs.Tokens.{leaves_append, leaves_split, meets, same_at, same_end}
-use Rattle.nano_json.specs.Token.{Token, str, colon, curly_open, curly_close}
+use Rattle.nano_json.specs.Token.{Token, str, curly_open, curly_close}
 use Rattle.nano_json.specs.Cut.{Cut}
 use Rattle.nano_json.specs.Spelling.{NothingFits, Spelling}
 use Rattle.nano_json.proofs.Cuts.{cut_one_way}
-use Rattle.json_records.specs.Variants.{Variants, tagged, unit_named, content_named, Found, nobody, found, Closed, SpellsFound, NameAlone, NameAndContent, variants_of}
+use Rattle.json_records.specs.Variants.{Variants, tagged, unit_named, content_named, nobody, found, Closed, SpellsFound, variants_of}
 use Rattle.json_records.specs.VariantReading.{alone, opened, NoVariantBegins}
 
 -- ---- tokens that a value begins with

@@ -1,17 +1,15 @@
 -- Enums that are written and read back: what is written of a sound value spells its meaning.
-use Rattle.std.specs.Prelude.{◌≡◌, ◌⊎◌, ℕ, suc, ◌≤◌, ◌<◌, Bool, true, false, ◌&&◌, not, ◌||◌, List, [], ◌∷◌, ◌++◌, Option, Some, None, bytes_eq, cond, refl}
+use Rattle.std.specs.Prelude.{◌≡◌, ℕ, suc, Bool, true, false, ◌&&◌, not, ◌||◌, List, [], ◌∷◌, ◌++◌, Some, bytes_eq, cond, refl}
 use Rattle.std.proofs.Common.{sym, ◌∙◌, subst, ap, inl, inr, arith}
 use Rattle.std.proofs.lemmas.Slice.Eq.{bytes_eq-Decides}
-use Rattle.nano_value.specs.Meaning.{Meaning, nothing, whole, whole_injective, both_injective}
-use Rattle.nano_value.specs.Legal.{IsImage}
-use Rattle.nano_json.specs.Token.{Token, str, null, curly_open, curly_close}
+use Rattle.nano_value.specs.Meaning.{Meaning, nothing, whole_injective, both_injective}
+use Rattle.nano_json.specs.Token.{Token, null, curly_close}
 use Rattle.nano_json.specs.CutAgain.{and_true}
 use Rattle.nano_json.specs.Spelling.{Spelling}
-use Rattle.nano_json.specs.Writing.{Writing}
 use Rattle.nano_json.specs.Format.{Format, StartsWith, str_is_not_null}
 use Rattle.nano_json.specs.MapFormat.{curly_is_not_null}
 use Rattle.json_records.specs.Variants.{Variants, no_variants, unit_variant, variant, tagged, unit_named, content_named, found, either, LegalFrom, SpellsFound, SpellsFrom, SpellsVariant, variants_of, some_injective, unit_is_legal, found_is_legal, legal_from}
-use Rattle.json_records.specs.VariantWriting.{Content, Seen, tag_of, content_of, seen_means, seen_tokens, OrderKeys, names_are_texts, variants_writing, first_is_none_behind}
+use Rattle.json_records.specs.VariantWriting.{Content, Seen, tag_of, seen_means, seen_tokens, OrderKeys, names_are_texts, variants_writing, first_is_none_behind}
 
 -- the type of a content, with its format
 pub record Body : Type 1 where

@@ -1,11 +1,11 @@
 -- How enums are written: a variant without content as its name, a variant with content as its name and the content between
 -- curly brackets.
-use Rattle.std.specs.Prelude.{◌≡◌, ◌⊎◌, ℕ, suc, ◌≤◌, ◌<◌, Bool, true, false, ◌&&◌, nat_lt, List, [], ◌∷◌, ◌++◌, length, refl}
+use Rattle.std.specs.Prelude.{◌≡◌, ◌⊎◌, ℕ, suc, ◌≤◌, Bool, true, ◌&&◌, nat_lt, List, [], ◌∷◌, ◌++◌, length, refl}
 use Rattle.std.specs.List.{list_all}
 use Rattle.std.proofs.Common.{sym, ◌∙◌, subst, ap, inl, inr, append_assoc, arith}
 use Rattle.std.proofs.lemmas.Bool.Decides.{nat_tests}
-use Rattle.nano_value.specs.Meaning.{Meaning, nothing, whole, usize_bound, whole_injective, both_injective}
-use Rattle.nano_value.specs.Legal.{IsImage, IsText}
+use Rattle.nano_value.specs.Meaning.{Meaning, nothing, usize_bound, whole_injective, both_injective}
+use Rattle.nano_value.specs.Legal.{IsText}
 use Rattle.nano_text.specs.Tokens.{Cuts}
 use Rattle.nano_text.specs.Written.{cuts_append}
 use Rattle.nano_json.specs.Token.{Token, str, colon, curly_open, curly_close}

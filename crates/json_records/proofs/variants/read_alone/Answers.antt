@@ -1,7 +1,6 @@
-use Rattle.std.proofs.Common.{ap, subst}
+use Rattle.std.proofs.Common.{ap}
 use Rattle.std.proofs.lemmas.Result.{err_from_is_err_and}
 use Rattle.nano_text.specs.Place.{live}
-use Rattle.nano_json.specs.Cut.{Cut}
 use Rattle.json_records.proofs.variants.read_alone.Goals as goal
 
 pub returns-in_err-next_tok-clause-refused : goal.returns-in_err-next_tok-clause-refused
