@@ -8,3 +8,8 @@ pub mod FieldNames
 pub mod FieldWriting
 pub mod FieldFormat
 pub mod FieldWeaker
+pub mod Variants
+pub mod VariantWriting
+pub mod VariantFormat
+pub mod VariantReading
+pub mod Formats

@@ -1,5 +1,6 @@
-//! Own types in JSON. A struct with named fields is one term over the spellings, or the writings, of
-//! its fields; one call reads it, and one call writes it.
+//! Own types in JSON. A struct with named fields, or an enum, is one term over the spellings, or the
+//! writings, of what is in it. One call reads the fields of a struct, and one writes them; an enum is
+//! read by its variant's name, and then by the variant's content.
 #![tactic(auto)]
 
 mod field_writing;
@@ -8,9 +9,17 @@ pub mod laws;
 mod named;
 mod optional;
 mod pairs;
+mod part;
 mod read;
 mod required;
+mod variant_writing;
+mod variants;
 
 pub use field_writing::{OptionalPart, RequiredPart, WriteFields, write_fields};
 pub use fields::{Fields, Optional, Required};
+pub use part::Part;
 pub use read::read_fields;
+pub use variant_writing::{write_fields_variant, write_unit_variant, write_variant};
+pub use variants::{
+    VariantName, read_content, read_fields_content, read_variant_name, unknown_variant,
+};

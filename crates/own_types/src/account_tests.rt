@@ -7,7 +7,7 @@ use std::process::Abort;
 use std::test::Fail;
 
 /// The texts are refused with these messages.
-fn refused_with<T: DeJson>(
+pub(crate) fn refused_with<T: DeJson>(
     rt: &impl Abort,
     alloc: Global,
     rows: &[(&str, &str)],

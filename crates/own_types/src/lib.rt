@@ -8,6 +8,9 @@ mod command;
 #[cfg(test)]
 mod field_writing_tests;
 mod holder;
+mod message;
+#[cfg(test)]
+mod message_tests;
 mod reading;
 #[cfg(test)]
 mod tests;
@@ -15,4 +18,5 @@ mod tests;
 pub use account::Account;
 pub use command::Command;
 pub use holder::Holder;
+pub use message::Message;
 pub use reading::Reading;

@@ -1,0 +1,10 @@
+use Rattle.std.proofs.Common.{ap}
+use Rattle.std.proofs.lemmas.Result.{err_from_is_err_and}
+use Rattle.nano_text.specs.Place.{live}
+use Rattle.json_records.proofs.variants.read_alone.Goals as goal
+
+pub returns-in_err-next_tok-clause-refused : goal.returns-in_err-next_tok-clause-refused
+returns-in_err-next_tok-clause-refused c =
+    let p = err_from_is_err_and c.from_residual-in_err-next_tok.result c.from_residual-in_err-next_tok.ensures.1 in
+    let text = ap (λ s. live s.cur c.args.input.now) c.in_ok-name.ensures.emptied.1 in
+    rw (p.1, p.2) (λ known name after l. c.in_err-next_tok.ensures.refused known l.1.0.token l.1.0.text (rw text l.1.1))

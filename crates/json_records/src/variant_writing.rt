@@ -1,0 +1,97 @@
+// The variants of enums, written: a name, and between curly brackets a name with its content.
+ghost use Rattle.std.specs.Prelude.{◌≡◌, ◌++◌, ◌∷◌, [], ℕ, List, OnOk, OnErr, string_bytes, encode_utf8_all};
+ghost use Rattle.nano_text.specs.Place.{counted};
+ghost use Rattle.nano_json.specs.Written.{written_text};
+ghost use Rattle.json_records.specs.FieldWriting.{fields_text};
+ghost use Rattle.json_records.specs.VariantWriting.{content_text};
+
+use crate::field_writing::{WriteFields, write_fields};
+use nano_json::{SerJson, SerJsonState, keep_written};
+use std::alloc::{AllocError, Global};
+
+/// Appends the name of a variant without content, between quotes and with escapes where it has
+/// such: `"Name"`. A refused write leaves `s.out` as it was.
+pub fn write_unit_variant(alloc: Global, name: &str, s: &mut SerJsonState) -> Result<(), AllocError>
+    ensures ok { OnOk result (string_bytes s.new.out ≡ string_bytes s.old.out ++ encode_utf8_all (written_text name.now)) }
+    ensures err { OnErr result (string_bytes s.new.out ≡ string_bytes s.old.out) }
+{
+    name.ser_json(alloc, 0, s)
+}
+
+/// Appends a variant with content: `{`, its name, a colon, the content at level `d`, and `}`. A
+/// refused write leaves `s.out` as it was.
+pub fn write_variant<T: SerJson>(
+    alloc: Global,
+    name: &str,
+    content: &T,
+    d: usize,
+    s: &mut SerJsonState,
+) -> Result<(), AllocError>
+    ensures ok { OnOk result (string_bytes s.new.out ≡ string_bytes s.old.out ++ encode_utf8_all (content_text name.now (T.writing.text d content.now))) }
+    ensures err { OnErr result (string_bytes s.new.out ≡ string_bytes s.old.out) }
+{
+    let start = s.out.len();
+    let written = append_variant(alloc, name, content, d, s);
+    keep_written(&mut s.out, start, written)
+}
+
+/// Appends a variant whose content is named fields: `{`, its name, a colon, the fields between curly
+/// brackets with their values at the level behind `d`, and `}`. A refused write leaves `s.out` as it
+/// was.
+pub fn write_fields_variant<F: WriteFields>(
+    alloc: Global,
+    name: &str,
+    fields: &F,
+    d: usize,
+    s: &mut SerJsonState,
+) -> Result<(), AllocError>
+    ensures ok { OnOk result (string_bytes s.new.out ≡ string_bytes s.old.out ++ encode_utf8_all (content_text name.now (fields_text (counted d) (F.fields fields.now)))) }
+    ensures err { OnErr result (string_bytes s.new.out ≡ string_bytes s.old.out) }
+{
+    let start = s.out.len();
+    let written = append_fields_variant(alloc, name, fields, d, s);
+    keep_written(&mut s.out, start, written)
+}
+
+/// Appends a variant with content. A refused growth leaves what was written so far.
+fn append_variant<T: SerJson>(
+    alloc: Global,
+    name: &str,
+    content: &T,
+    d: usize,
+    s: &mut SerJsonState,
+) -> Result<(), AllocError>
+    ensures ok { OnOk result (string_bytes s.new.out ≡ string_bytes s.old.out ++ encode_utf8_all (content_text name.now (T.writing.text d content.now))) }
+    ensures err { OnErr result ((more : List ℕ) × (string_bytes s.new.out ≡ string_bytes s.old.out ++ more)) }
+{
+    append_opening(alloc, name, s)?;
+    content.ser_json(alloc, d, s)?;
+    s.out.push('}')
+}
+
+/// Appends a variant whose content is named fields. A refused growth leaves what was written so far.
+fn append_fields_variant<F: WriteFields>(
+    alloc: Global,
+    name: &str,
+    fields: &F,
+    d: usize,
+    s: &mut SerJsonState,
+) -> Result<(), AllocError>
+    ensures ok { OnOk result (string_bytes s.new.out ≡ string_bytes s.old.out ++ encode_utf8_all (content_text name.now (fields_text (counted d) (F.fields fields.now)))) }
+    ensures err { OnErr result ((more : List ℕ) × (string_bytes s.new.out ≡ string_bytes s.old.out ++ more)) }
+{
+    append_opening(alloc, name, s)?;
+    write_fields(alloc, fields, d, s)?;
+    s.out.push('}')
+}
+
+/// Appends what stands before the content of a variant. A refused growth leaves what was written so
+/// far.
+fn append_opening(alloc: Global, name: &str, s: &mut SerJsonState) -> Result<(), AllocError>
+    ensures ok { OnOk result (string_bytes s.new.out ≡ string_bytes s.old.out ++ encode_utf8_all (123 ∷ (written_text name.now ++ 58 ∷ []))) }
+    ensures err { OnErr result ((more : List ℕ) × (string_bytes s.new.out ≡ string_bytes s.old.out ++ more)) }
+{
+    s.out.push('{')?;
+    write_unit_variant(alloc, name, s)?;
+    s.out.push(':')
+}
