@@ -30,8 +30,8 @@ const BLOCK: usize = 1024;
 /// Reads a value of a kind in a format, and drops it (`op` 0) or writes it again into `output` (`op` 1).
 ///
 /// Formats: 0 is the binary one, 1 is JSON; others are not there yet. Kinds: 0 `Vec<u8>`, 1 `Vec<u64>`, 2 `Vec<String>`,
-/// 3 `HashMap<String, i32>`, in the binary format 4 a list of records `{ value: i32, note: Option<String> }`. Answers 0
-/// or the number of bytes written, or one of the negative constants of this crate.
+/// 3 `HashMap<String, i32>`, 4 a list of records `{ value: i32, note: Option<String> }`. Answers 0 or the number of
+/// bytes written, or one of the negative constants of this crate.
 #[unsafe(no_mangle)]
 pub extern "C" fn nano_op(
     alloc: Global,
@@ -70,16 +70,17 @@ fn binary(alloc: Global, kind: u32, write: bool, input: &[u8], output: &mut [u8]
 
 /// One case of JSON.
 fn json(alloc: Global, kind: u32, write: bool, input: &[u8], output: &mut [u8]) -> i64
-    ensures { 3 < kind → result ≡ NO_SUCH_CASE }
+    ensures { 4 < kind → result ≡ NO_SUCH_CASE }
 {
     let Ok(text) = str::from_utf8(input) else {
-        return if kind > 3 { NO_SUCH_CASE } else { REFUSED };
+        return if kind > 4 { NO_SUCH_CASE } else { REFUSED };
     };
     match kind {
         0 => json_again::<Vec<u8>>(alloc, write, text, output),
         1 => json_again::<Vec<u64>>(alloc, write, text, output),
         2 => json_again::<Vec<String>>(alloc, write, text, output),
         3 => json_again::<HashMap<String, i32>>(alloc, write, text, output),
+        4 => json_again::<Vec<Item>>(alloc, write, text, output),
         _ => NO_SUCH_CASE,
     }
 }
