@@ -12,6 +12,7 @@ use Rattle.nano_json.specs.State.{token_of, pending}
 use Rattle.nano_json.specs.Skipped.{SkippedField}
 use Rattle.nano_json.specs.Spelling.{NothingFits}
 use Rattle.nano_json.proofs.Cuts.{cut_one_way}
+use Rattle.nano_json.specs.SpellingLaws.{str_injective}
 use Rattle.json_records.specs.Fields.{Field, Shape, Allowed, SpelledField, SpelledNamed, LastSpells, either}
 use Rattle.json_records.specs.Slots.{last_takes}
 
@@ -23,9 +24,6 @@ name_is _ strbuf numbuf h = absurd h
 
 pub pending_name : (s : DeJsonState) → IsStr (pending s) → pending s ≡ str (string_bytes s.strbuf)
 pending_name s h = name_is s.tok (string_bytes s.strbuf) (string_bytes s.numbuf) h
-
-same_name : (n name : List ℕ) → str n ≡ str name → n ≡ name
-same_name n name e = cc e
 
 -- the same tokens lead to one place
 leaves_same : (ts : List Token) (s x y : At Token) → Leaves Cut ts s x → Leaves Cut ts s y → x ≡ y
@@ -55,7 +53,7 @@ module _ {A : Type 0} (name : List ℕ) (S : List Token → A → Type 0) where
   pub field_refused : (takes : List ℕ → List Token → Type 0) (start : At Token) → start.token ≡ str name → ((us : List Token) → takes name us → (x : A) × S us x) → NothingFits (SpelledNamed name S) start → NothingFits (SpelledField takes) start
   field_refused takes start e spells none f h =
       let l = subst (λ (ts : List Token). Leaves Cut ts start h.1) h.2.0 h.3 in
-      let same = same_name f.name name (l.0 ∙ e) in
+      let same = str_injective f.name name (l.0 ∙ e) in
       let x = spells f.value (subst (λ (n : List ℕ). takes n f.value) same h.2.1) in
       none x.0 (h.0, h.1, (f.value, h.2.0 ∙ ap (λ (n : List ℕ). str n ∷ (colon ∷ f.value)) same, x.1), h.3)
 
@@ -88,7 +86,7 @@ skipped_refused behind bad x h = bad h.0 h.1 h.2 h.3
 
 module _ (takes more : List ℕ → List Token → Type 0) (name : List ℕ) (start : At Token) (e : start.token ≡ str name) where
   pub name_of : (end : At Token) (f : Field) → Spans Cut (SpelledField takes) start end f → f.name ≡ name
-  name_of end f s = let l = subst (λ (ts : List Token). Leaves Cut ts start end) s.1.0 s.2 in same_name f.name name (l.0 ∙ e)
+  name_of end f s = let l = subst (λ (ts : List Token). Leaves Cut ts start end) s.1.0 s.2 in str_injective f.name name (l.0 ∙ e)
 
   pub spans_too : (end : At Token) (f : Field) → ((us : List Token) → takes name us → more name us) → Spans Cut (SpelledField takes) start end f → Spans Cut (SpelledField more) start end f
   spans_too end f also s =
@@ -99,6 +97,6 @@ module _ (takes more : List ℕ → List Token → Type 0) (name : List ℕ) (st
   pub refused_too : ((us : List Token) → more name us → takes name us) → NothingFits (SpelledField takes) start → NothingFits (SpelledField more) start
   refused_too only none f h =
       let l = subst (λ (ts : List Token). Leaves Cut ts start h.1) h.2.0 h.3 in
-      let same = same_name f.name name (l.0 ∙ e) in
+      let same = str_injective f.name name (l.0 ∙ e) in
       let there = only f.value (subst (λ (n : List ℕ). more n f.value) same h.2.1) in
       none f (h.0, h.1, (h.2.0, subst (λ (n : List ℕ). takes n f.value) (sym same) there), h.3)

@@ -5,6 +5,7 @@ use Rattle.nano_json.specs.Token.{Token}
 use Rattle.json_records.specs.Fields.{Field, later, last, unless_known, others}
 use Rattle.json_records.specs.FieldLaws.{same_field}
 use Rattle.json_records.specs.Laws.{NoneNamed, LastFieldCounts, MissingNameHasNoField, OtherNamesAreSeen}
+use Rattle.json_records.specs.Slots.{later_old}
 
 -- the value of a field, if it has the name
 abbrev of_name : List ℕ → Field → Option (List Token)
@@ -72,16 +73,12 @@ last_between name us (f ∷ front) back h = ap (λ o. later o (of_name name f)) 
 pub last_field : LastFieldCounts
 last_field name us fs = (around_last name us fs, λ r. ap (last name) r.2 ∙ last_between name us r.0 r.1 r.3)
 
-later_none : (x : Option (List Token)) → later x None ≡ x
-later_none None = refl
-later_none (Some us) = refl
-
 pub seen_by_others : OtherNamesAreSeen
 seen_by_others knows name [] unknown = refl
 seen_by_others knows name (f ∷ fs) unknown =
     elim (knows f.name) as (λ b. knows f.name ≡ b → last name (unless_known b f (others knows fs)) ≡ last name (f ∷ fs)) [
       | true ↦ λ k.
           let other = unequal_name f.name name (λ same. let x = sym unknown ∙ (ap knows (sym same) ∙ k) in cc x) in
-          seen_by_others knows name fs unknown ∙ (sym (later_none (last name fs)) ∙ ap (λ b. later (last name fs) (if b then Some f.value else None)) (sym other))
+          seen_by_others knows name fs unknown ∙ (sym (later_old (last name fs)) ∙ ap (λ b. later (last name fs) (if b then Some f.value else None)) (sym other))
       | false ↦ λ k. ap (λ o. later o (of_name name f)) (seen_by_others knows name fs unknown)
     ] refl

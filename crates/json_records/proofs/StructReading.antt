@@ -4,12 +4,13 @@ use Rattle.nano_value.specs.Meaning.{Meaning}
 use Rattle.nano_text.specs.Tokens.{At, Leaves, Spans}
 use Rattle.nano_text.specs.Lists.{SpelledList}
 use Rattle.nano_text.proofs.Tokens.{same_end}
+use Rattle.nano_text.proofs.PartReading.{CommaTaken}
 use Rattle.nano_json.specs.Token.{Token, comma, curly_close}
 use Rattle.nano_json.specs.Cut.{Cut}
 use Rattle.nano_json.specs.Marks.{is_curly_close}
 use Rattle.nano_json.specs.Spelling.{NothingFits, IsSpelling}
 use Rattle.nano_json.specs.Maps.{curlies, curly_is_apart}
-use Rattle.nano_json.proofs.Containers.{ReadSoFar, CommaTaken, read_start, read_next, item_shorter, read_found, read_open_refused, read_item_refused, read_comma_refused, read_close_refused}
+use Rattle.nano_json.proofs.Containers.{ReadSoFar, read_start, read_next, item_shorter, read_found, read_open_refused, read_item_refused, read_comma_refused, read_close_refused}
 use Rattle.nano_json.proofs.Cuts.{cut_one_way}
 use Rattle.nano_json.proofs.MapReading.{curly_is, not_curly}
 use Rattle.nano_json.proofs.Shorter.{left}
@@ -42,11 +43,11 @@ module _ (struct : Struct) where
   pub fields_start : (holds : List Field → Type 0) (start here : At Token) → Leaves Cut (curlies.opening ∷ []) start here → holds [] → FieldsSoFar holds start here
   fields_start holds start here l h = record { fields = []; read = read_start any_spelling curlies curly_is_apart (no_field_closes (Allowed struct.shape)) start here l; held = h }
 
-  pub field_shorter : (here behind next : At Token) (f : Field) → Spans Cut (SpelledField (Allowed struct.shape)) here behind f → CommaTaken curlies behind next → left next < left here
+  pub field_shorter : (here behind next : At Token) (f : Field) → Spans Cut (SpelledField (Allowed struct.shape)) here behind f → CommaTaken Cut curlies behind next → left next < left here
   field_shorter = item_shorter any_spelling curlies curly_is_apart (no_field_closes (Allowed struct.shape))
 
   pub fields_next : (holds after : List Field → Type 0) (start here behind next : At Token) → FieldsSoFar holds start here → is_str here.token ≡ true
-      → (f : Field) × Spans Cut (SpelledField (Allowed struct.shape)) here behind f × ((fs : List Field) → holds fs → after (fs ++ f ∷ [])) → CommaTaken curlies behind next → FieldsSoFar after start next
+      → (f : Field) × Spans Cut (SpelledField (Allowed struct.shape)) here behind f × ((fs : List Field) → holds fs → after (fs ++ f ∷ [])) → CommaTaken Cut curlies behind next → FieldsSoFar after start next
   fields_next holds after start here behind next r is f c = record {
     fields = r.fields ++ f.0 ∷ [];
     read = read_next any_spelling curlies curly_is_apart (no_field_closes (Allowed struct.shape)) start here behind next r.fields f.0 r.read (name_goes_on here.token is) f.1 c;

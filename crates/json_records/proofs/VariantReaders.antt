@@ -7,13 +7,11 @@ use Rattle.nano_json.specs.Token.{Token, str, curly_open, curly_close}
 use Rattle.nano_json.specs.Cut.{Cut}
 use Rattle.nano_json.specs.Spelling.{NothingFits, Spelling}
 use Rattle.nano_json.proofs.Cuts.{cut_one_way}
+use Rattle.nano_json.specs.SpellingLaws.{str_injective}
 use Rattle.json_records.specs.Variants.{Variants, tagged, unit_named, content_named, nobody, found, Closed, SpellsFound, variants_of}
 use Rattle.json_records.specs.VariantReading.{alone, opened, NoVariantBegins}
 
 -- ---- tokens that a value begins with
-
-same_name : (a b : List ℕ) → str a ≡ str b → a ≡ b
-same_name a b e = cc e
 
 opened_names : (a b : List ℕ) (more : List Token) → opened a ≡ opened b ++ more → (a ≡ b) × (more ≡ [])
 opened_names a b more e = (cc e, cc e)
@@ -107,7 +105,7 @@ module _ (start : At Token) where
     pub unit_unknown : (mid : At Token) (name : List ℕ) → Leaves Cut (alone name) start mid → unit_named 0 vs name ≡ None → NothingFits (variants_of vs).spelled start
     unit_unknown mid name taken has m (ts, end, inl h, l) =
         let k = subst (λ (xs : List Token). Leaves Cut xs start end) h.one l in
-        let name = same_name h.name name (k.0 ∙ sym taken.0) in
+        let name = str_injective h.name name (k.0 ∙ sym taken.0) in
         let both = sym h.has ∙ (ap (unit_named 0 vs) name ∙ has) in absurd (cc both)
     unit_unknown mid name taken has m (ts, end, inr h, l) =
         let k = subst (λ (xs : List Token). Leaves Cut xs start end) h.are l in

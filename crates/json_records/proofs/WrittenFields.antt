@@ -2,6 +2,7 @@
 use Rattle.std.proofs.Common.{◌≡◌, ℕ, Bool, true, false, cond, List, [], ◌∷◌, ◌++◌, IsUtf8, chars, encode_utf8_all, refl, sym, ◌∙◌, ap, append_assoc, append-nil, lit<}
 use Rattle.std.specs.List.{flat_map}
 use Rattle.std.proofs.lemmas.Str.{encodes-append, encode_ascii, encodes-chars}
+use Rattle.std.proofs.lemmas.Grind.{flat_map-append}
 use Rattle.nano_text.specs.Written.{divided, in_list}
 use Rattle.json_records.specs.FieldNames.{quoted_name}
 use Rattle.json_records.specs.FieldWriting.{WrittenField, field_text, fields_text, none_yet, all_in_list}
@@ -41,10 +42,6 @@ field_in_list first before opened behind after name text utf8 e h k =
     ∙ (append_assoc (before ++ comma) label value
     ∙ (append_assoc before comma (label ++ value)
     ∙ ap (λ l. before ++ l) (ap (λ l. comma ++ l) (sym (field_bytes name text utf8)) ∙ sym (in_list_bytes first (quoted_name name ++ 58 ∷ text))))))
-
-flat_map-append : {A T : Type 0} (f : A → List T) (xs ys : List A) → flat_map f (xs ++ ys) ≡ flat_map f xs ++ flat_map f ys
-flat_map-append f [] ys = refl
-flat_map-append f (x ∷ xs) ys = ap (λ l. f x ++ l) (flat_map-append f xs ys) ∙ sym (append_assoc (f x) (flat_map f xs) (flat_map f ys))
 
 -- whether any stands before what follows both
 pub none_yet-append : {A : Type 0} (first : Bool) (xs ys : List A) → none_yet (none_yet first xs) ys ≡ none_yet first (xs ++ ys)

@@ -1,23 +1,25 @@
 -- Fields that are written and read back: a writing of fields and the shape that reads them.
-use Rattle.std.specs.Prelude.{◌≡◌, ℕ, ◌||◌, not, Bool, true, false, List, [], ◌∷◌, ◌++◌, map, Option, Some, None, bytes_eq, refl}
+use Rattle.std.specs.Prelude.{◌≡◌, ℕ, not, Bool, true, false, List, [], ◌∷◌, ◌++◌, map, Option, Some, None, bytes_eq, refl}
 use Rattle.std.specs.List.{AllByRecursion, list_all}
 use Rattle.std.specs.Option.{option_map}
 use Rattle.std.proofs.Common.{sym, ◌∙◌, ap, subst, inl, inr, append_assoc, append-nil}
 use Rattle.std.proofs.lemmas.Slice.Eq.{bytes_eq-Decides}
+use Rattle.std.proofs.lemmas.Bool.{and_parts, or_left, or_right, or_from, or_parts, not-true}
+use Rattle.std.proofs.lemmas.List.{map-append}
 use Rattle.nano_value.specs.Meaning.{Meaning, optional, paired, pair_map, both_injective}
-use Rattle.nano_value.specs.Legal.{all-map}
+use Rattle.nano_value.specs.Legal.{all-map, all_weaker}
 use Rattle.nano_text.specs.Written.{list_spelled}
+use Rattle.nano_text.specs.Each.{all_append, all_split}
 use Rattle.nano_json.specs.Token.{Token}
 use Rattle.nano_json.specs.Skipped.{SkippedField}
 use Rattle.nano_json.specs.SpellingLaws.{option_of}
 use Rattle.nano_json.specs.Maps.{curlies}
-use Rattle.nano_json.specs.CutAgain.{and_true}
 use Rattle.nano_json.specs.Format.{Format, SoundOption, option_reads_back, option_is_sound}
 use Rattle.nano_json.specs.MapFormat.{curly_is_not_null}
 use Rattle.json_records.specs.Fields.{Field, SpelledField, Allowed, SpelledFields, LastSpells, last, either, others}
 use Rattle.json_records.specs.Struct.{Struct, must, may, also, fields_of}
 use Rattle.json_records.specs.FieldNames.{ArePlainNames, are_distinct}
-use Rattle.json_records.specs.FieldWriting.{WrittenField, field_tokens, fields_tokens, FieldsWriting, written_field, written_if_some, must_write, may_write, also_write, fields_writing, all_append, all_split, maps_append}
+use Rattle.json_records.specs.FieldWriting.{WrittenField, field_tokens, fields_tokens, FieldsWriting, written_field, written_if_some, must_write, may_write, also_write, fields_writing}
 
 -- a written field as it stands in a text
 abbrev pub named : WrittenField → Field
@@ -58,24 +60,16 @@ pub all_join : {A : Type 0} (P Q R : A → Type 0) → ((x : A) → P x → Q x 
 all_join P Q R join [] h k = tt
 all_join P Q R join (x ∷ xs) h k = (join x h.0 k.0, all_join P Q R join xs h.1 k.1)
 
-pub all_mapped : {A : Type 0} (P Q : A → Type 0) → ((x : A) → P x → Q x) → (xs : List A) → AllByRecursion P xs → AllByRecursion Q xs
-all_mapped P Q f [] h = tt
-all_mapped P Q f (x ∷ xs) h = (f x h.0, all_mapped P Q f xs h.1)
-
-not_true : (b : Bool) → not b ≡ true → b ≡ false
-not_true true e = absurd (cc)
-not_true false e = refl
-
 each_differs : (name : List ℕ) (names : List (List ℕ)) → list_all (λ other. not (bytes_eq other name)) names ≡ true → AllByRecursion (λ other. Differs other name) names
 each_differs name [] h = tt
 each_differs name (other ∷ names) h =
-    let first = and_true (not (bytes_eq other name)) (list_all (λ o. not (bytes_eq o name)) names) h in
-    (not_true (bytes_eq other name) first.0, each_differs name names first.1)
+    let first = and_parts (not (bytes_eq other name)) (list_all (λ o. not (bytes_eq o name)) names) h in
+    (not-true (bytes_eq other name) first.0, each_differs name names first.1)
 
 pub distinct_names : (names : List (List ℕ)) → are_distinct names ≡ true → AreDistinct names
 distinct_names [] h = tt
 distinct_names (name ∷ names) h =
-    let first = and_true (list_all (λ other. not (bytes_eq other name)) names) (are_distinct names) h in
+    let first = and_parts (list_all (λ other. not (bytes_eq other name)) names) (are_distinct names) h in
     (each_differs name names first.0, distinct_names names first.1)
 
 -- names of one list and of another: none stands twice in either, and none of the second in the first
@@ -164,20 +158,6 @@ may_format name g = record {
 
 -- ---- fields, and more fields
 
-or_left : (a b : Bool) → a ≡ true → a || b ≡ true
-or_left a b e = rw e refl
-
-or_right : (a b : Bool) → b ≡ true → a || b ≡ true
-or_right true b e = refl
-or_right false b e = e
-
-neither : (a b : Bool) → a ≡ false → b ≡ false → a || b ≡ false
-neither a b e k = rw e k
-
-none_of : (a b : Bool) → a || b ≡ false → (a ≡ false) × (b ≡ false)
-none_of true b e = absurd (cc)
-none_of false b e = (refl, e)
-
 -- the fields of the first are none of the others
 known_are_passed : (knows : List ℕ → Bool) (fs rest : List Field) → AllByRecursion (λ f. knows f.name ≡ true) fs → others knows (fs ++ rest) ≡ others knows rest
 known_are_passed knows [] rest h = refl
@@ -211,17 +191,17 @@ module _ {A B : Type 0} (f : FieldsFormat A) (g : FieldsFormat B) where
   pub also_known : AllByRecursion (IsKnown Both) Names
   also_known =
       all_append (IsKnown Both) f.writing.names g.writing.names
-      (all_mapped (IsKnown f.struct) (IsKnown Both) (λ n. or_left (f.struct.shape.knows n) (g.struct.shape.knows n)) f.writing.names f.are_known)
-      (all_mapped (IsKnown g.struct) (IsKnown Both) (λ n. or_right (f.struct.shape.knows n) (g.struct.shape.knows n)) g.writing.names g.are_known)
+      (all_weaker (IsKnown f.struct) (IsKnown Both) (λ n. or_left (f.struct.shape.knows n) (g.struct.shape.knows n)) f.writing.names f.are_known)
+      (all_weaker (IsKnown g.struct) (IsKnown Both) (λ n. or_right (f.struct.shape.knows n) (g.struct.shape.knows n)) g.writing.names g.are_known)
 
   pub also_unknown : (name : List ℕ) → AllByRecursion (Differs name) Names → IsUnknown Both name
   also_unknown name h =
       let each = all_split (Differs name) f.writing.names g.writing.names h in
-      neither (f.struct.shape.knows name) (g.struct.shape.knows name) (f.others_unknown name each.0) (g.others_unknown name each.1)
+      or_from (f.struct.shape.knows name) (g.struct.shape.knows name) (f.others_unknown name each.0) (g.others_unknown name each.1)
 
   -- the fields of the second are unknown to the first
   second_unknown : AreApart f.writing.names g.writing.names → (y : B) → AllByRecursion (λ w. IsUnknown f.struct w.name) (g.writing.fields y)
-  second_unknown apart = g.are_named (IsUnknown f.struct) (all_mapped (λ n. AllByRecursion (Differs n) f.writing.names) (IsUnknown f.struct) f.others_unknown g.writing.names apart.across)
+  second_unknown apart = g.are_named (IsUnknown f.struct) (all_weaker (λ n. AllByRecursion (Differs n) f.writing.names) (IsUnknown f.struct) f.others_unknown g.writing.names apart.across)
 
   module _ (distinct : AreDistinct Names) (h : f.writing.orders_keys × g.writing.orders_keys) (x : A × B) (legal : Both.shape.legal (Means x)) (sound : BothFieldsSound x) where
     apart : AreApart f.writing.names g.writing.names
@@ -253,16 +233,16 @@ module _ {A B : Type 0} (f : FieldsFormat A) (g : FieldsFormat B) where
       Seconds = map named (g.writing.fields x.1)
 
       unknown_to_first : AllByRecursion (λ m. IsUnknown f.struct m.name) more
-      unknown_to_first = all_mapped (λ m. IsUnknown Both m.name) (λ m. IsUnknown f.struct m.name) (λ m e. (none_of (f.struct.shape.knows m.name) (g.struct.shape.knows m.name) e).0) more unknown
+      unknown_to_first = all_weaker (λ m. IsUnknown Both m.name) (λ m. IsUnknown f.struct m.name) (λ m e. (or_parts (f.struct.shape.knows m.name) (g.struct.shape.knows m.name) e).0) more unknown
 
       unknown_to_second : AllByRecursion (λ m. IsUnknown g.struct m.name) more
-      unknown_to_second = all_mapped (λ m. IsUnknown Both m.name) (λ m. IsUnknown g.struct m.name) (λ m e. (none_of (f.struct.shape.knows m.name) (g.struct.shape.knows m.name) e).1) more unknown
+      unknown_to_second = all_weaker (λ m. IsUnknown Both m.name) (λ m. IsUnknown g.struct m.name) (λ m e. (or_parts (f.struct.shape.knows m.name) (g.struct.shape.knows m.name) e).1) more unknown
 
       behind_first : AllByRecursion (λ m. IsUnknown f.struct m.name) (Seconds ++ more)
       behind_first = all_append (λ m. IsUnknown f.struct m.name) Seconds more (all-map (λ m. IsUnknown f.struct m.name) named (g.writing.fields x.1) (second_unknown apart x.1)) unknown_to_first
 
       in_a_row : map named (Written x) ++ more ≡ Firsts ++ (Seconds ++ more)
-      in_a_row = ap (λ l. l ++ more) (maps_append named (f.writing.fields x.0) (g.writing.fields x.1)) ∙ append_assoc Firsts Seconds more
+      in_a_row = ap (λ l. l ++ more) (map-append named (f.writing.fields x.0) (g.writing.fields x.1)) ∙ append_assoc Firsts Seconds more
 
       seen_by_second : others f.struct.shape.knows (Firsts ++ (Seconds ++ more)) ≡ Seconds ++ more
       seen_by_second =

@@ -1,6 +1,7 @@
 -- Structs whose fields are spelled, or written, as those of another: what own types with type parameters cite.
 use Rattle.std.specs.Prelude.{◌≡◌, ℕ, ◌||◌, Bool, true, false, List, [], ◌∷◌, ◌++◌, map, Some, None, refl}
 use Rattle.std.proofs.Common.{sym, ◌∙◌, ap, subst, inl, inr}
+use Rattle.std.proofs.lemmas.List.{map-append}
 use Rattle.nano_value.specs.Meaning.{Meaning}
 use Rattle.nano_text.specs.Written.{enclosed_same}
 use Rattle.nano_json.specs.Token.{Token, str, colon}
@@ -13,7 +14,7 @@ use Rattle.nano_json.specs.Weaker.{Allows, items_spell, option_spells}
 use Rattle.json_records.specs.Fields.{Field, SpelledField, Allowed, either, others}
 use Rattle.json_records.specs.Struct.{Struct, must, may, also, fields_of}
 use Rattle.json_records.specs.FieldNames.{ArePlainNames}
-use Rattle.json_records.specs.FieldWriting.{field_tokens, FieldsWriting, must_write, may_write, also_write, fields_writing, maps_append}
+use Rattle.json_records.specs.FieldWriting.{field_tokens, FieldsWriting, must_write, may_write, also_write, fields_writing}
 
 -- ---- what is spelled
 
@@ -91,7 +92,7 @@ pub also_same_tokens : {A B : Type 0} (v v' : FieldsWriting A) (w w' : FieldsWri
 also_same_tokens v v' w w' h k x =
     let first = h x.0 in
     let second = k x.1 in
-    maps_append field_tokens (v.fields x.0) (w.fields x.1) ∙ ((λ i. first i ++ second i) ∙ sym (maps_append field_tokens (v'.fields x.0) (w'.fields x.1)))
+    map-append field_tokens (v.fields x.0) (w.fields x.1) ∙ ((λ i. first i ++ second i) ∙ sym (map-append field_tokens (v'.fields x.0) (w'.fields x.1)))
 
 pub struct_same_tokens : {A : Type 0} (v w : FieldsWriting A) (p : ArePlainNames v.names) (q : ArePlainNames w.names) → SameTokens v w → (fields_writing v p).tokens ≡ (fields_writing w q).tokens
 struct_same_tokens v w p q h i x = enclosed_same curlies field_tokens field_tokens (v.fields x) (w.fields x) (h x) i

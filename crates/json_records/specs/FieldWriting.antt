@@ -3,10 +3,12 @@ use Rattle.std.specs.Prelude.{◌≡◌, ℕ, Bool, false, cond, List, [], ◌�
 use Rattle.std.specs.List.{AllByRecursion, flat_map}
 use Rattle.std.specs.Option.{option_map}
 use Rattle.std.proofs.Common.{sym, ◌∙◌, subst, ap}
+use Rattle.std.proofs.lemmas.List.{map-append}
 use Rattle.nano_value.specs.Meaning.{Meaning, nothing, optional, paired, pair_map, both_injective}
 use Rattle.nano_value.specs.Legal.{LegalOption, LegalPair, AllOfOption}
 use Rattle.nano_text.specs.Place.{counted}
 use Rattle.nano_text.specs.Written.{divided, enclosed, enclosed_same}
+use Rattle.nano_text.specs.Each.{all_append, all_split}
 use Rattle.nano_json.specs.Token.{Token, str, colon}
 use Rattle.nano_json.specs.Maps.{curlies}
 use Rattle.nano_json.specs.Written.{curly_marks}
@@ -136,27 +138,13 @@ may_write name w = record {
 
 -- ---- fields, and more fields
 
-pub maps_append : {A B : Type 0} (f : A → B) (xs ys : List A) → map f (xs ++ ys) ≡ map f xs ++ map f ys
-maps_append f [] ys = refl
-maps_append f (x ∷ xs) ys = ap (λ l. f x ∷ l) (maps_append f xs ys)
-
-pub all_append : {A : Type 0} (P : A → Type 0) (xs ys : List A) → AllByRecursion P xs → AllByRecursion P ys → AllByRecursion P (xs ++ ys)
-all_append P [] ys h k = k
-all_append P (x ∷ xs) ys h k = (h.0, all_append P xs ys h.1 k)
-
-pub all_split : {A : Type 0} (P : A → Type 0) (xs ys : List A) → AllByRecursion P (xs ++ ys) → AllByRecursion P xs × AllByRecursion P ys
-all_split P [] ys h = (tt, h)
-all_split P (x ∷ xs) ys h =
-    let rest = all_split P xs ys h.1 in
-    ((h.0, rest.0), rest.1)
-
 module _ {A B : Type 0} (v : FieldsWriting A) (w : FieldsWriting B) where
   pub also_same : v.orders_keys × w.orders_keys → (x y : A × B) → paired (pair_map v.means w.means x) ≡ paired (pair_map v.means w.means y) → (d : ℕ) → map (field_text d) (v.fields x.0 ++ w.fields x.1) ≡ map (field_text d) (v.fields y.0 ++ w.fields y.1)
   also_same h x y e d =
       let same = both_injective (v.means x.0) (w.means x.1) (v.means y.0) (w.means y.1) e in
       let first = v.same_texts h.0 x.0 y.0 same.0 d in
       let second = w.same_texts h.1 x.1 y.1 same.1 d in
-      maps_append (field_text d) (v.fields x.0) (w.fields x.1) ∙ ((λ i. first i ++ second i) ∙ sym (maps_append (field_text d) (v.fields y.0) (w.fields y.1)))
+      map-append (field_text d) (v.fields x.0) (w.fields x.1) ∙ ((λ i. first i ++ second i) ∙ sym (map-append (field_text d) (v.fields y.0) (w.fields y.1)))
 
   pub also_are_written : ArePlainNames (v.names ++ w.names) → v.orders_keys × w.orders_keys → (x : A × B) → LegalPair v.legal w.legal (paired (pair_map v.means w.means x)) → (d : ℕ) → AllByRecursion (λ f. IsWrittenAs (field_tokens f) (field_text d f)) (v.fields x.0 ++ w.fields x.1)
   also_are_written plain h x legal d =

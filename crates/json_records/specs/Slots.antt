@@ -1,10 +1,11 @@
 -- What is read of the fields so far: a slot holds the last value of its name.
 use Rattle.std.specs.Prelude.{◌≡◌, ℕ, ◌||◌, Bool, true, false, List, [], ◌∷◌, ◌++◌, Option, Some, None, bytes_eq, refl, if◌then◌else◌}
 use Rattle.std.proofs.Common.{sym, ◌∙◌, ap, subst, inl, inr, append-nil}
+use Rattle.std.proofs.lemmas.Bool.{or_parts}
 use Rattle.nano_value.specs.Meaning.{Meaning}
 use Rattle.nano_json.specs.Token.{Token}
-use Rattle.json_records.specs.Fields.{Field, LastSpells, last, later, unless_known, others, optional_field}
 use Rattle.nano_json.specs.Spelling.{Spelling}
+use Rattle.json_records.specs.Fields.{Field, LastSpells, last, later, unless_known, others, optional_field}
 
 -- empty where no field has the name, else what the last one spells
 abbrev pub Holds : List ℕ → (List Token → Meaning → Type 0) → Option Meaning → List Field → Type 0
@@ -13,7 +14,7 @@ Holds name spelled (Some m) fs = LastSpells name spelled fs m
 
 -- ---- one more field
 
-later_old : (o : Option (List Token)) → later o None ≡ o
+pub later_old : (o : Option (List Token)) → later o None ≡ o
 later_old None = refl
 later_old (Some us) = refl
 
@@ -60,11 +61,7 @@ others_known knows fs f e = others_more knows fs f ∙ (ap (λ b. others knows f
 pub others_unknown : (knows : List ℕ → Bool) (fs : List Field) (f : Field) → knows f.name ≡ false → others knows (fs ++ f ∷ []) ≡ others knows fs ++ f ∷ []
 others_unknown knows fs f e = others_more knows fs f ∙ ap (λ b. others knows fs ++ unless_known b f []) e
 
-neither : (a b : Bool) → a || b ≡ false → (a ≡ false) × (b ≡ false)
-neither true b e = absurd (cc e)
-neither false b e = (refl, e)
-
 -- a field that neither fields know changes what neither hold
 pub both_skip : (P Q : List Field → Type 0) (a b : List ℕ → Bool) (fs : List Field) (f : Field) → a f.name || b f.name ≡ false
     → (a f.name ≡ false → P (fs ++ f ∷ [])) → (b f.name ≡ false → Q (others a fs ++ f ∷ [])) → P (fs ++ f ∷ []) × Q (others a (fs ++ f ∷ []))
-both_skip P Q a b fs f e p q = let r = neither (a f.name) (b f.name) e in (p r.0, subst Q (sym (others_unknown a fs f r.0)) (q r.1))
+both_skip P Q a b fs f e p q = let r = or_parts (a f.name) (b f.name) e in (p r.0, subst Q (sym (others_unknown a fs f r.0)) (q r.1))

@@ -2,14 +2,16 @@
 use Rattle.std.specs.Prelude.{◌≡◌, ℕ, suc, Bool, true, false, ◌&&◌, not, ◌||◌, List, [], ◌∷◌, ◌++◌, Some, bytes_eq, cond, refl}
 use Rattle.std.proofs.Common.{sym, ◌∙◌, subst, ap, inl, inr, arith}
 use Rattle.std.proofs.lemmas.Slice.Eq.{bytes_eq-Decides}
+use Rattle.std.proofs.lemmas.Bool.{and_parts, or_right}
 use Rattle.nano_value.specs.Meaning.{Meaning, nothing, whole_injective, both_injective}
 use Rattle.nano_json.specs.Token.{Token, null, curly_close}
-use Rattle.nano_json.specs.CutAgain.{and_true}
 use Rattle.nano_json.specs.Spelling.{Spelling}
 use Rattle.nano_json.specs.Format.{Format, StartsWith, str_is_not_null}
 use Rattle.nano_json.specs.MapFormat.{curly_is_not_null}
-use Rattle.json_records.specs.Variants.{Variants, no_variants, unit_variant, variant, tagged, unit_named, content_named, found, either, LegalFrom, SpellsFound, SpellsFrom, SpellsVariant, variants_of, some_injective, unit_is_legal, found_is_legal, legal_from}
+use Rattle.nano_json.specs.SpellingLaws.{some_injective}
+use Rattle.json_records.specs.Variants.{Variants, no_variants, unit_variant, variant, tagged, unit_named, content_named, found, either, LegalFrom, SpellsFound, SpellsFrom, SpellsVariant, variants_of, unit_is_legal, found_is_legal, legal_from}
 use Rattle.json_records.specs.VariantWriting.{Content, Seen, tag_of, seen_means, seen_tokens, OrderKeys, names_are_texts, variants_writing, first_is_none_behind}
+use Rattle.json_records.specs.FieldFormat.{same_name}
 
 -- the type of a content, with its format
 pub record Body : Type 1 where
@@ -55,19 +57,9 @@ names_differ (variant name content others) = not (has_name others name) && names
 
 -- ---- the laws of it
 
-same_bytes : (name : List ℕ) → bytes_eq name name ≡ true
-same_bytes name = (bytes_eq-Decides name name).1 refl
-
-or_true : (a b : Bool) → b ≡ true → a || b ≡ true
-or_true true b e = refl
-or_true false b e = e
-
-left_true : (a b : Bool) → a ≡ true → a || b ≡ true
-left_true a b e = rw e refl
-
 unit_has_name : (from : ℕ) (vs : Variants Spelling) (name : List ℕ) (tag : ℕ) → unit_named from vs name ≡ Some tag → has_name vs name ≡ true
 unit_has_name from no_variants name tag e = absurd (cc e)
-unit_has_name from (variant first content others) name tag e = or_true (bytes_eq name first) (has_name others name) (unit_has_name (suc from) others name tag e)
+unit_has_name from (variant first content others) name tag e = or_right (bytes_eq name first) (has_name others name) (unit_has_name (suc from) others name tag e)
 unit_has_name from (unit_variant first others) name tag e =
     elim (bytes_eq name first) as (λ b. cond b (Some from) (unit_named (suc from) others name) ≡ Some tag → b || has_name others name ≡ true) [
       | true ↦ λ e. refl
@@ -76,7 +68,7 @@ unit_has_name from (unit_variant first others) name tag e =
 
 content_has_name : (from : ℕ) (vs : Variants Spelling) (name : List ℕ) (ts : List Token) (m : Meaning) → SpellsFound (content_named from vs name) ts m → has_name vs name ≡ true
 content_has_name from no_variants name ts m h = absurd h
-content_has_name from (unit_variant first others) name ts m h = or_true (bytes_eq name first) (has_name others name) (content_has_name (suc from) others name ts m h)
+content_has_name from (unit_variant first others) name ts m h = or_right (bytes_eq name first) (has_name others name) (content_has_name (suc from) others name ts m h)
 content_has_name from (variant first content others) name ts m h =
     elim (bytes_eq name first) as (λ b. SpellsFound (either b (found from content) (content_named (suc from) others name)) ts m → b || has_name others name ≡ true) [
       | true ↦ λ h. refl
@@ -129,19 +121,19 @@ same_content j k m n e = (both_injective _ _ _ _ e).1
 
 pub reads_back : (from : ℕ) (vs : Variants Body) → names_differ vs ≡ true → OrderKeys (writings vs) → (x : Seen (writings vs)) → LegalSpelled from (spellings vs) (seen_means from (writings vs) x) → SoundContent vs x → SpellsFrom from (spellings vs) (seen_tokens (writings vs) x) (seen_means from (writings vs) x)
 reads_back from no_variants differ ordered x legal sound = absurd x
-reads_back from (unit_variant name others) differ ordered (inl x) legal sound = inl (record { name = name; tag = from; has = rw (same_bytes name) refl; one = refl; is = refl })
+reads_back from (unit_variant name others) differ ordered (inl x) legal sound = inl (record { name = name; tag = from; has = rw (same_name name) refl; one = refl; is = refl })
 reads_back from (unit_variant name others) differ ordered (inr x) (inl h) sound = absurd (first_is_none_behind from (writings others) x (sym (same_place _ _ _ _ h)))
 reads_back from (unit_variant name others) differ ordered (inr x) (inr h) sound =
-    let parts = and_true (not (has_name others name)) (names_differ others) differ in
+    let parts = and_parts (not (has_name others name)) (names_differ others) differ in
     behind_unit from name (spellings others) _ _ (is_new others name parts.0) (reads_back (suc from) others parts.1 ordered x h sound)
 reads_back from (variant name content others) differ ordered (inl x) (inl h) sound =
     let legal = subst content.format.spelling.legal (sym (same_content _ _ _ _ h.is)) h.has in
     let spelled = content.format.reads_back ordered.0 x legal sound in
-    inr (record { name = name; back = content.format.writing.tokens x ++ curly_close ∷ []; are = refl; content = rw (same_bytes name) (record { part = content.format.writing.means x; has = (content.format.writing.tokens x, refl, spelled); is = refl }) })
+    inr (record { name = name; back = content.format.writing.tokens x ++ curly_close ∷ []; are = refl; content = rw (same_name name) (record { part = content.format.writing.means x; has = (content.format.writing.tokens x, refl, spelled); is = refl }) })
 reads_back from (variant name content others) differ ordered (inl x) (inr h) sound = absurd (none_behind from (spellings others) (content.format.writing.means x) h)
 reads_back from (variant name content others) differ ordered (inr x) (inl h) sound = absurd (first_is_none_behind from (writings others) x (sym (same_place _ _ _ _ h.is)))
 reads_back from (variant name content others) differ ordered (inr x) (inr h) sound =
-    let parts = and_true (not (has_name others name)) (names_differ others) differ in
+    let parts = and_parts (not (has_name others name)) (names_differ others) differ in
     behind_variant from name (spellings others) _ _ (is_new others name parts.0) content.format.spelling (reads_back (suc from) others parts.1 ordered.1 x h sound)
 
 -- a variant without content that has the place of a value is the value's

@@ -4,6 +4,7 @@ use Rattle.std.specs.Prelude.{◌≡◌, ◌⊎◌, ℕ, suc, ◌≤◌, Bool, t
 use Rattle.std.specs.List.{list_all}
 use Rattle.std.proofs.Common.{sym, ◌∙◌, subst, ap, inl, inr, append_assoc, arith}
 use Rattle.std.proofs.lemmas.Bool.Decides.{nat_tests}
+use Rattle.std.proofs.lemmas.Bool.{and_parts}
 use Rattle.nano_value.specs.Meaning.{Meaning, nothing, usize_bound, whole_injective, both_injective}
 use Rattle.nano_value.specs.Legal.{IsText}
 use Rattle.nano_text.specs.Tokens.{Cuts}
@@ -11,7 +12,7 @@ use Rattle.nano_text.specs.Written.{cuts_append}
 use Rattle.nano_json.specs.Token.{Token, str, colon, curly_open, curly_close}
 use Rattle.nano_json.specs.Cut.{Cut}
 use Rattle.nano_json.specs.Written.{written_text}
-use Rattle.nano_json.specs.CutAgain.{colon_is_cut, curlies_are_cut, textual_append, and_true}
+use Rattle.nano_json.specs.CutAgain.{colon_is_cut, curlies_are_cut, textual_append}
 use Rattle.nano_json.specs.Writing.{IsWrittenAs, Writing, text_is_written}
 use Rattle.json_records.specs.FieldNames.{is_plain_ascii, are_ascii_names, ascii_names}
 use Rattle.json_records.specs.Variants.{Variants, no_variants, unit_variant, variant, tagged, LegalFrom, legal_from}
@@ -89,7 +90,7 @@ names_are_texts (variant name content others) = is_text name && names_are_texts 
 
 is_text_is : (bytes : List ℕ) → is_text bytes ≡ true → IsText bytes
 is_text_is bytes e =
-    let parts = and_true (list_all is_plain_ascii bytes) (nat_lt (length bytes) usize_bound) e in
+    let parts = and_parts (list_all is_plain_ascii bytes) (nat_lt (length bytes) usize_bound) e in
     let alone : are_ascii_names (bytes ∷ []) ≡ true = rw parts.0 refl in
     let plain = ascii_names {names = bytes ∷ []} alone in
     let small = parts.1 in
@@ -140,15 +141,15 @@ LegalContents = LegalFrom (λ c. c.writing.legal)
 
 pub is_written : (tag : ℕ) (vs : Variants Content) → names_are_texts vs ≡ true → OrderKeys vs → (x : Seen vs) → LegalContents tag vs (seen_means tag vs x) → (d : ℕ) → IsWrittenAs (seen_tokens vs x) (seen_text vs d x)
 is_written tag no_variants texts ordered x legal d = absurd x
-is_written tag (unit_variant name others) texts ordered (inl x) legal d = text_is_written name (is_text_is name (and_true (is_text name) (names_are_texts others) texts).0)
+is_written tag (unit_variant name others) texts ordered (inl x) legal d = text_is_written name (is_text_is name (and_parts (is_text name) (names_are_texts others) texts).0)
 is_written tag (unit_variant name others) texts ordered (inr x) (inl h) d = absurd (first_is_none_behind tag others x (sym (whole_injective _ _ (both_injective _ _ _ _ h).0)))
-is_written tag (unit_variant name others) texts ordered (inr x) (inr h) d = is_written (suc tag) others (and_true (is_text name) (names_are_texts others) texts).1 ordered x h d
+is_written tag (unit_variant name others) texts ordered (inr x) (inr h) d = is_written (suc tag) others (and_parts (is_text name) (names_are_texts others) texts).1 ordered x h d
 is_written tag (variant name content others) texts ordered (inl x) (inl h) d =
     let legal = subst content.writing.legal (sym (both_injective _ _ _ _ h.is).1) h.has in
-    content_is_written name (content.writing.tokens x) (content.writing.text d x) (is_text_is name (and_true (is_text name) (names_are_texts others) texts).0) (content.writing.is_written ordered.0 x legal d)
+    content_is_written name (content.writing.tokens x) (content.writing.text d x) (is_text_is name (and_parts (is_text name) (names_are_texts others) texts).0) (content.writing.is_written ordered.0 x legal d)
 is_written tag (variant name content others) texts ordered (inl x) (inr h) d = let b = legal_from (λ c. c.writing.legal) (suc tag) others tag (content.writing.means x) h in absurd (omega (arith, b))
 is_written tag (variant name content others) texts ordered (inr x) (inl h) d = absurd (first_is_none_behind tag others x (sym (whole_injective _ _ (both_injective _ _ _ _ h.is).0)))
-is_written tag (variant name content others) texts ordered (inr x) (inr h) d = is_written (suc tag) others (and_true (is_text name) (names_are_texts others) texts).1 ordered.1 x h d
+is_written tag (variant name content others) texts ordered (inr x) (inr h) d = is_written (suc tag) others (and_parts (is_text name) (names_are_texts others) texts).1 ordered.1 x h d
 
 -- the variants of an enum, by how their contents are written. Each name has to be a text, which `refl` shows
 abbrev pub variants_writing : (vs : Variants Content) → names_are_texts vs ≡ true → Writing (Seen vs)

@@ -5,6 +5,7 @@ use Rattle.std.specs.List.Sorted.{IsStrictlySortedBy}
 use Rattle.std.specs.Result.{is_err}
 use Rattle.std.proofs.Common.{◌≡◌, ℕ, ◌+◌, Result, Ok, Err, OnOk, List, [], ◌∷◌, ◌++◌, sym, ◌∙◌, subst, ap}
 use Rattle.std.specs.FinMap as table
+use Rattle.std.proofs.lemmas.List.{map-append}
 use Rattle.nano_value.specs.Meaning.{Meaning, paired, both_injective}
 use Rattle.nano_value.specs.Legal.{IsImage}
 use Rattle.nano_value.specs.Tables.{Table, table_means, last_values, insert_all-push}
@@ -15,7 +16,7 @@ use Rattle.nano_bin.specs.LittleEndian.{SpellsNumber}
 use Rattle.nano_bin.specs.Spellings.{SpellsPair}
 use Rattle.nano_bin.specs.Tables.{ReadsTable, SpellsMap, map_means}
 use Rattle.nano_bin.specs.Sets.{ReadsSet, SpellsSet, items_mean}
-use Rattle.nano_bin.proofs.Readers.{image_reads, list_reads, count_reads_none, count_reads_push, map-push}
+use Rattle.nano_bin.proofs.Readers.{image_reads, list_reads, count_reads_none, count_reads_push}
 
 -- what holds on success holds of what is no error
 pub was_ok : {T E P : Type 0} (r : Result T E) → is_err r ≡ false → OnOk r P → P
@@ -58,7 +59,7 @@ module _ (S : List ℕ → Meaning → Type 0) where
   set_reads_insert bytes start mid end count s t m h r e = record {
     items = h.items ++ m ∷ [];
     reads = count_reads_push S bytes start mid end count h.items m h.reads r;
-    is = e ∙ (ap (λ x. table.insert x m tt) h.is ∙ sym (ap last_values (map-push (λ k. (k, tt)) h.items m) ∙ insert_all-push table.empty (marked h.items) m tt));
+    is = e ∙ (ap (λ x. table.insert x m tt) h.is ∙ sym (ap last_values (map-append (λ k. (k, tt)) h.items (m ∷ [])) ∙ insert_all-push table.empty (marked h.items) m tt));
   }
 
   pub set_reads : (bytes : List ℕ) (start mid end count : ℕ) (s : MeaningSet) → Reads (SpellsNumber 8) bytes start count mid → ReadsSet S count bytes mid s end → Reads (SpellsSet S) bytes start (set_means s) end

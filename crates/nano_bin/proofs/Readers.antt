@@ -1,5 +1,5 @@
 -- What the readers of containers answer, from what the readers of their parts answer.
-use Rattle.std.proofs.Common.{◌≡◌, ◌≢◌, ℕ, suc, ◌+◌, ◌^◌, ◌<◌, refl, List, [], ◌∷◌, ◌++◌, map, length, drop, Option, Some, None, sym, ◌∙◌, subst, ap, arith, append_assoc, length-append, slice_index, get_or-drop, true, false, ℤ, Fits as FitsWidth}
+use Rattle.std.proofs.Common.{◌≡◌, ◌≢◌, ℕ, suc, ◌+◌, ◌^◌, ◌<◌, refl, List, [], ◌∷◌, ◌++◌, length, drop, Option, Some, None, sym, ◌∙◌, subst, ap, arith, append_assoc, length-append, slice_index, get_or-drop, true, false, ℤ, Fits as FitsWidth}
 use Rattle.std.specs.Int.{Width, cast_signed, cast_unsigned}
 use Rattle.std.proofs.Math.Facts.{sfits_to_z, of_z-to_z}
 use Rattle.std.proofs.lemmas.Int.{to_z-of_z}
@@ -150,10 +150,6 @@ module _ {A : Type 0} (S : List ℕ → A → Type 0) where
   some_reads bytes start mid end x r j = then_reads (SpellsOption S) bytes start mid end 1 x (Some x) r j (λ a b h k. record { head = a; tail = b; whole = refl; first = h; second = k })
 
 -- ---- lists
-
-pub map-push : {A B : Type 0} (f : A → B) (xs : List A) (x : A) → map f (xs ++ x ∷ []) ≡ map f xs ++ f x ∷ []
-map-push f [] x = refl
-map-push f (y ∷ xs) x = ap (λ l. f y ∷ l) (map-push f xs x)
 
 module _ {A : Type 0} (S : List ℕ → A → Type 0) where
   items_push : (xs : List A) (y : A) (a b : List ℕ) → SpellsItems S a xs → S b y → SpellsItems S (a ++ b) (xs ++ y ∷ [])

@@ -2,28 +2,31 @@
 use Rattle.std.specs.declared.cmp.Ordering.{Ordering}
 use Rattle.std.specs.List.Sorted.{IsStrictlySortedBy}
 use Rattle.std.specs.Str.Iter.{chars_rest}
-use Rattle.std.proofs.Common.{◌≡◌, ◌≢◌, ℕ, ◌+◌, ◌^◌, ◌<◌, ◌≤◌, List, [], ◌∷◌, ◌++◌, ◌⊎◌, inl, inr, map, length, length-append, refl, ap, sym, ◌∙◌, subst, arith, cond, Bool, true, false}
+use Rattle.std.proofs.Common.{◌≡◌, ◌≢◌, ◌+◌, ◌^◌, ◌<◌, ◌≤◌, List, [], ◌∷◌, ◌++◌, inl, inr, length, length-append, ap, sym, ◌∙◌, subst, arith, cond, Bool, true, false}
 use Rattle.std.specs.FinMap as table
 use Rattle.std.specs.declared.str.Chars.{Chars}
+use Rattle.std.proofs.lemmas.List.{map-append}
 use Rattle.nano_value.specs.Meaning.{Meaning, usize_bound}
-use Rattle.nano_value.specs.Tables.{Table, last_values, insert_all-push}
+use Rattle.nano_value.specs.Tables.{last_values, insert_all-push}
 use Rattle.nano_value.specs.Sets.{MeaningSet, item_set, set_means, marked}
 use Rattle.nano_value.specs.OrderedSets.{ordered_means, ordered_means-sorted}
 use Rattle.nano_text.specs.Tokens.{At, Leaves, Spans}
 use Rattle.nano_text.specs.Lists.{ListMarks, SpelledItems, SpelledList, NeverStartsWith}
 use Rattle.nano_text.proofs.ListReading.{SoFar, StillLeft, start_so_far, start_left, item_left, next_so_far, next_left, open_refused, item_refused, comma_refused, close_refused, close_found}
+use Rattle.nano_text.proofs.LiveText.{live_fewer}
+use Rattle.nano_text.proofs.PartReading.{CommaTaken}
 use Rattle.nano_json.specs.declared.state.DeJsonState.{DeJsonState}
 use Rattle.nano_json.specs.Token.{Token, comma}
 use Rattle.nano_json.specs.Cut.{Cut}
 use Rattle.nano_json.specs.State.{at}
 use Rattle.nano_json.specs.Spelling.{NothingFits, IsSpelling}
-use Rattle.nano_json.specs.Spellings.{SpellsList, blocks}
+use Rattle.nano_json.specs.Spellings.{blocks}
 use Rattle.nano_json.specs.SpellingLaws.{no_item_closes, closing_is_apart}
 use Rattle.nano_json.specs.Sets.{items_mean, SpellsSet}
 use Rattle.nano_json.specs.Scan.{is_end}
 use Rattle.nano_json.proofs.Cuts.{cut_one_way}
-use Rattle.nano_json.proofs.Reading.{image_spans, image_refused, list_spans, list_refused, value_shorter, map_push, either_way}
-use Rattle.nano_json.proofs.Shorter.{left, leaves_shorter, live_fewer}
+use Rattle.nano_json.proofs.Reading.{image_spans, image_refused, list_spans, list_refused, value_shorter, either_way}
+use Rattle.nano_json.proofs.Shorter.{left, leaves_shorter}
 
 zero_or_one : (b : Bool) → cond b 0 1 ≤ 1
 zero_or_one true = omega arith
@@ -40,10 +43,6 @@ pub record ReadSoFar {V : Type 0} (marks : ListMarks Token) (spelled : List Toke
   pub still : StillLeft Cut marks spelled (SpelledItems marks spelled) start here
   pub count : length out + left here ≤ left start
 
--- what stands behind an item: a comma, which is taken, or the closing bracket
-abbrev pub CommaTaken : ListMarks Token → At Token → At Token → Type 0
-CommaTaken marks behind next = Leaves Cut (marks.comma ∷ []) behind next ⊎ ((behind.token ≡ marks.closing) × (next ≡ behind))
-
 module _ {V : Type 0} {P : V → Type 0} {S : List Token → V → Type 0} (s : IsSpelling P S) (marks : ListMarks Token) (apart : marks.closing ≢ marks.comma) (never : NeverStartsWith marks.closing S) where
   pub read_start : (start here : At Token) → Leaves Cut (marks.opening ∷ []) start here → ReadSoFar marks S start here []
   read_start start here h = record {
@@ -53,7 +52,7 @@ module _ {V : Type 0} {P : V → Type 0} {S : List Token → V → Type 0} (s : 
   }
 
   -- an item takes one token at least, with the comma behind it
-  pub item_shorter : (here behind next : At Token) (v : V) → Spans Cut S here behind v → CommaTaken marks behind next → left next < left here
+  pub item_shorter : (here behind next : At Token) (v : V) → Spans Cut S here behind v → CommaTaken Cut marks behind next → left next < left here
   item_shorter here behind next v i c =
       let less = value_shorter i.0 here behind (s.begins i.0 v i.1) i.2 in
       elim c [
@@ -61,7 +60,7 @@ module _ {V : Type 0} {P : V → Type 0} {S : List Token → V → Type 0} (s : 
         | inr p ↦ omega (arith, less, ap left p.1)
       ]
 
-  pub read_next : (start here behind next : At Token) (out : List V) (v : V) → ReadSoFar marks S start here out → here.token ≢ marks.closing → Spans Cut S here behind v → CommaTaken marks behind next → ReadSoFar marks S start next (out ++ v ∷ [])
+  pub read_next : (start here behind next : At Token) (out : List V) (v : V) → ReadSoFar marks S start here out → here.token ≢ marks.closing → Spans Cut S here behind v → CommaTaken Cut marks behind next → ReadSoFar marks S start next (out ++ v ∷ [])
   read_next start here behind next out v h n i c = record {
     so_far = next_so_far Cut cut_one_way marks apart S s.none_begins never start here behind next out v h.so_far n i (either_way c);
     still = next_left Cut cut_one_way marks apart S s.none_begins never start here behind next v h.still n i (either_way c);
@@ -103,11 +102,11 @@ module _ {P : Meaning → Type 0} {S : List Token → Meaning → Type 0} (s : I
   pub set_start : (start here : At Token) (set : MeaningSet) → set ≡ table.empty → Leaves Cut (blocks.opening ∷ []) start here → SetSoFar S start here set
   set_start start here set e h = record { items = []; read = read_start s blocks closing_is_apart (no_item_closes s) start here h; is = e }
 
-  pub set_next : (start here behind next : At Token) (set more : MeaningSet) (m : Meaning) → SetSoFar S start here set → here.token ≢ blocks.closing → Spans Cut S here behind m → CommaTaken blocks behind next → more ≡ table.insert set m tt → SetSoFar S start next more
+  pub set_next : (start here behind next : At Token) (set more : MeaningSet) (m : Meaning) → SetSoFar S start here set → here.token ≢ blocks.closing → Spans Cut S here behind m → CommaTaken Cut blocks behind next → more ≡ table.insert set m tt → SetSoFar S start next more
   set_next start here behind next set more m h n i c e = record {
     items = h.items ++ m ∷ [];
     read = read_next s blocks closing_is_apart (no_item_closes s) start here behind next h.items m h.read n i c;
-    is = e ∙ (ap (λ (x : MeaningSet). table.insert x m tt) h.is ∙ sym (ap last_values (map_push (λ (k : Meaning). (k, tt)) h.items m) ∙ insert_all-push table.empty (marked h.items) m tt));
+    is = e ∙ (ap (λ (x : MeaningSet). table.insert x m tt) h.is ∙ sym (ap last_values (map-append (λ (k : Meaning). (k, tt)) h.items (m ∷ [])) ∙ insert_all-push table.empty (marked h.items) m tt));
   }
 
   pub set_found : (start here end : At Token) (set : MeaningSet) → SetSoFar S start here set → left start < usize_bound → Leaves Cut (blocks.closing ∷ []) here end → Spans Cut (SpellsSet S) start end (set_means set)

@@ -15,6 +15,7 @@ use Rattle.nano_json.specs.Token.{Token, str, u64, i64, f64, bool, null, colon, 
 use Rattle.nano_json.specs.Cut.{is_space, is_word, IsMark, IsWord, IsRunOf, IsQuoted, IsEnd, IsLexeme, mark, word, number, quoted, nothing, Cut}
 use Rattle.nano_json.specs.Scan.{mark_of, word_token}
 use Rattle.nano_json.proofs.LexemeKinds.{mark_kind, word_kind, number_kind, quoted_kind, end_kind, only_mark, only_word, only_number, only_quoted, only_end, lexeme_no_space}
+use Rattle.nano_json.specs.SpellingLaws.{some_injective}
 
 -- the longest front of a list of such characters and what doesn't go on with them
 front_all : (p : ℕ → Bool) (w rest : List ℕ) → AllByRecursion (λ c. p c ≡ true) w → first_is p rest ≡ false → (front p (w ++ rest) ≡ w) × (behind p (w ++ rest) ≡ rest)
@@ -40,24 +41,21 @@ pick false x y z e = inr (refl, e)
 bytes_same : (xs ys : List ℕ) → bytes_eq xs ys ≡ true → xs ≡ ys
 bytes_same xs ys e = (bytes_eq-Decides xs ys).0 e
 
-pub some_same : {A : Type 0} (x y : A) → Some x ≡ Some y → x ≡ y
-some_same x y e = cc e
-
 -- a character that is a mark is that token's lexeme
 pub mark_lexeme : (c : ℕ) (cs : List ℕ) (t : Token) → mark_of c ≡ Some t → IsMark t (c ∷ cs) cs
 mark_lexeme c cs t e =
     elim (pick (nat_eq c 58) _ _ _ e) [
-      | inl p ↦ subst (λ (u : Token). IsMark u (c ∷ cs) cs) (some_same colon t p.1) (ap (λ (x : ℕ). x ∷ cs) (eqb-true c 58 p.0))
+      | inl p ↦ subst (λ (u : Token). IsMark u (c ∷ cs) cs) (some_injective colon t p.1) (ap (λ (x : ℕ). x ∷ cs) (eqb-true c 58 p.0))
       | inr n ↦ elim (pick (nat_eq c 44) _ _ _ n.1) [
-        | inl p ↦ subst (λ (u : Token). IsMark u (c ∷ cs) cs) (some_same comma t p.1) (ap (λ (x : ℕ). x ∷ cs) (eqb-true c 44 p.0))
+        | inl p ↦ subst (λ (u : Token). IsMark u (c ∷ cs) cs) (some_injective comma t p.1) (ap (λ (x : ℕ). x ∷ cs) (eqb-true c 44 p.0))
         | inr n ↦ elim (pick (nat_eq c 91) _ _ _ n.1) [
-          | inl p ↦ subst (λ (u : Token). IsMark u (c ∷ cs) cs) (some_same block_open t p.1) (ap (λ (x : ℕ). x ∷ cs) (eqb-true c 91 p.0))
+          | inl p ↦ subst (λ (u : Token). IsMark u (c ∷ cs) cs) (some_injective block_open t p.1) (ap (λ (x : ℕ). x ∷ cs) (eqb-true c 91 p.0))
           | inr n ↦ elim (pick (nat_eq c 93) _ _ _ n.1) [
-            | inl p ↦ subst (λ (u : Token). IsMark u (c ∷ cs) cs) (some_same block_close t p.1) (ap (λ (x : ℕ). x ∷ cs) (eqb-true c 93 p.0))
+            | inl p ↦ subst (λ (u : Token). IsMark u (c ∷ cs) cs) (some_injective block_close t p.1) (ap (λ (x : ℕ). x ∷ cs) (eqb-true c 93 p.0))
             | inr n ↦ elim (pick (nat_eq c 123) _ _ _ n.1) [
-              | inl p ↦ subst (λ (u : Token). IsMark u (c ∷ cs) cs) (some_same curly_open t p.1) (ap (λ (x : ℕ). x ∷ cs) (eqb-true c 123 p.0))
+              | inl p ↦ subst (λ (u : Token). IsMark u (c ∷ cs) cs) (some_injective curly_open t p.1) (ap (λ (x : ℕ). x ∷ cs) (eqb-true c 123 p.0))
               | inr n ↦ elim (pick (nat_eq c 125) _ _ _ n.1) [
-                | inl p ↦ subst (λ (u : Token). IsMark u (c ∷ cs) cs) (some_same curly_close t p.1) (ap (λ (x : ℕ). x ∷ cs) (eqb-true c 125 p.0))
+                | inl p ↦ subst (λ (u : Token). IsMark u (c ∷ cs) cs) (some_injective curly_close t p.1) (ap (λ (x : ℕ). x ∷ cs) (eqb-true c 125 p.0))
                 | inr n ↦ cc n.1
               ]
             ]
@@ -83,18 +81,18 @@ mark_one_way t u text r q h k =
     let e = sym a.1 ∙ b.1 in
     let first : a.0 ≡ b.0 = cc e in
     let rest : r ≡ q = cc e in
-    (some_same t u (sym a.2 ∙ (ap mark_of first ∙ b.2)), rest)
+    (some_injective t u (sym a.2 ∙ (ap mark_of first ∙ b.2)), rest)
 
 -- a word of the language, with no further character of a word behind it, is a lexeme
 pub word_lexeme : (text : List ℕ) (t : Token) → word_token (front is_word text) ≡ Some t → IsWord t text (behind is_word text)
 word_lexeme text t e =
     let s = front_split is_word text in
     elim (pick (bytes_eq (front is_word text) (codes "true")) _ _ _ e) [
-      | inl p ↦ subst (λ (u : Token). IsWord u text (behind is_word text)) (some_same (bool true) t p.1) (s.0 ∙ ap (λ (x : List ℕ). x ++ behind is_word text) (bytes_same (front is_word text) (codes "true") p.0), s.2)
+      | inl p ↦ subst (λ (u : Token). IsWord u text (behind is_word text)) (some_injective (bool true) t p.1) (s.0 ∙ ap (λ (x : List ℕ). x ++ behind is_word text) (bytes_same (front is_word text) (codes "true") p.0), s.2)
       | inr n ↦ elim (pick (bytes_eq (front is_word text) (codes "false")) _ _ _ n.1) [
-        | inl p ↦ subst (λ (u : Token). IsWord u text (behind is_word text)) (some_same (bool false) t p.1) (s.0 ∙ ap (λ (x : List ℕ). x ++ behind is_word text) (bytes_same (front is_word text) (codes "false") p.0), s.2)
+        | inl p ↦ subst (λ (u : Token). IsWord u text (behind is_word text)) (some_injective (bool false) t p.1) (s.0 ∙ ap (λ (x : List ℕ). x ++ behind is_word text) (bytes_same (front is_word text) (codes "false") p.0), s.2)
         | inr n ↦ elim (pick (bytes_eq (front is_word text) (codes "null")) _ _ _ n.1) [
-          | inl p ↦ subst (λ (u : Token). IsWord u text (behind is_word text)) (some_same null t p.1) (s.0 ∙ ap (λ (x : List ℕ). x ++ behind is_word text) (bytes_same (front is_word text) (codes "null") p.0), s.2)
+          | inl p ↦ subst (λ (u : Token). IsWord u text (behind is_word text)) (some_injective null t p.1) (s.0 ∙ ap (λ (x : List ℕ). x ++ behind is_word text) (bytes_same (front is_word text) (codes "null") p.0), s.2)
           | inr n ↦ cc n.1
         ]
       ]
@@ -111,7 +109,7 @@ word_one_way : (t u : Token) (text r q : List ℕ) → IsWord t text r → IsWor
 word_one_way t u text r q h k =
     let a = word_front t text r h in
     let b = word_front u text q k in
-    (some_same t u (sym a.0 ∙ b.0), sym a.1 ∙ b.1)
+    (some_injective t u (sym a.0 ∙ b.0), sym a.1 ∙ b.1)
 
 number_again : (t u : Token) (text r q : List ℕ) → IsRunOf t text r → IsRunOf u text q → (t ≡ u) × (r ≡ q)
 number_again (u64 n) (u64 m) text r q h k = let e = IsNumber-unique text (U64 n) (U64 m) h.0 k.0 r q h.1 k.1 in let same : n ≡ m = cc e.0 in (ap u64 same, e.2)

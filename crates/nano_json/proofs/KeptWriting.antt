@@ -1,5 +1,5 @@
 -- A text that was written on can be cut back to what it was.
-use Rattle.std.proofs.Common.{◌≡◌, ℕ, ◌≤◌, List, ◌++◌, Result, Ok, Err, OnOk, OnErr, String, IsUtf8, string_bytes, take, length, length-append, refl, sym, ◌∙◌, ap, subst, arith}
+use Rattle.std.proofs.Common.{◌≡◌, ℕ, ◌≤◌, List, ◌++◌, Result, Ok, Err, OnOk, OnErr, String, IsUtf8, string_bytes, take, length, length-append, sym, ◌∙◌, ap, subst, arith}
 use Rattle.std.specs.Str.{IsCharBoundary}
 use Rattle.std.specs.String.{string_len}
 use Rattle.std.proofs.lemmas.List.{take_at}

@@ -2,7 +2,8 @@
 use Rattle.std.proofs.Common.{◌≡◌, ℕ, List, [], ◌∷◌, inl, inr, Bool, true, false, cond, refl, ap, sym, ◌∙◌, Some, None, is_some, arith, nat_eq, ◌≤◌, eqb-true, ne_eqb}
 use Rattle.std.specs.Char.{is_ascii_digit}
 use Rattle.std.specs.declared.str.Chars.{Chars}
-use Rattle.nano_text.proofs.Runs.{digit_range, or_either}
+use Rattle.std.proofs.lemmas.Bool.{or_cases}
+use Rattle.nano_text.proofs.Runs.{digit_range}
 use Rattle.nano_text.specs.Front.{first_is}
 use Rattle.nano_text.specs.Number.{is_sign}
 use Rattle.nano_text.specs.Place.{held, live, before_nul}
@@ -43,8 +44,8 @@ digit_no_mark c l h = rw (ne_eqb c 58 (λ e. omega arith), ne_eqb c 44 (λ e. om
 
 number_no_mark : (c : ℕ) → starts_number c ≡ true → mark_of c ≡ None
 number_no_mark c h =
-    elim (or_either (is_sign c) (is_ascii_digit c) h) [
-      | inl s ↦ elim (or_either _ _ s) [ inl e ↦ rw (eqb-true c 43 e) refl | inr e ↦ rw (eqb-true c 45 e) refl ]
+    elim (or_cases (is_sign c) (is_ascii_digit c) h) [
+      | inl s ↦ elim (or_cases _ _ s) [ inl e ↦ rw (eqb-true c 43 e) refl | inr e ↦ rw (eqb-true c 45 e) refl ]
       | inr d ↦ let r = digit_range c d in digit_no_mark c r.0 r.1
     ]
 
@@ -144,11 +145,11 @@ only_none t text rest k (nothing h) = let e = sym (end_kind t text rest h) ∙ k
 space_kind : (c : ℕ) → is_space c ≡ true → kind_of c ≡ no_token
 unfolding kind_of
 space_kind c s =
-    elim (or_either _ _ s) [
+    elim (or_cases _ _ s) [
       | inr d ↦ rw (eqb-true c 32 d) refl
-      | inl s ↦ elim (or_either _ _ s) [
+      | inl s ↦ elim (or_cases _ _ s) [
         | inr d ↦ rw (eqb-true c 9 d) refl
-        | inl s ↦ elim (or_either _ _ s) [
+        | inl s ↦ elim (or_cases _ _ s) [
           | inr d ↦ rw (eqb-true c 13 d) refl
           | inl d ↦ rw (eqb-true c 10 d) refl
         ]

@@ -6,13 +6,13 @@ use Rattle.nano_value.specs.Meaning.{Meaning, usize_bound}
 use Rattle.nano_value.specs.Tables.{Table, table_means, last_values, insert_all-push}
 use Rattle.nano_text.specs.Tokens.{At, Leaves, Spans}
 use Rattle.nano_text.specs.Lists.{SpelledList}
-use Rattle.nano_text.proofs.PartReading.{pair_found, first_refused, mark_refused, second_refused}
+use Rattle.nano_text.proofs.PartReading.{pair_found, first_refused, mark_refused, second_refused, CommaTaken}
 use Rattle.nano_json.specs.Token.{Token, colon, comma, curly_close}
 use Rattle.nano_json.specs.Cut.{Cut}
 use Rattle.nano_json.specs.Marks.{is_curly_close}
 use Rattle.nano_json.specs.Spelling.{NothingFits, IsSpelling}
 use Rattle.nano_json.specs.Maps.{curlies, SpellsEntry, SpellsMap, map_means, curly_is_apart, entry_spelling, no_entry_closes}
-use Rattle.nano_json.proofs.Containers.{ReadSoFar, CommaTaken, read_start, read_next, item_shorter, read_found, read_few, read_open_refused, read_item_refused, read_comma_refused, read_close_refused}
+use Rattle.nano_json.proofs.Containers.{ReadSoFar, read_start, read_next, item_shorter, read_found, read_few, read_open_refused, read_item_refused, read_comma_refused, read_close_refused}
 use Rattle.nano_json.proofs.Cuts.{cut_one_way}
 use Rattle.nano_json.proofs.Reading.{image_spans, image_refused}
 use Rattle.nano_json.proofs.Shorter.{left}
@@ -55,10 +55,10 @@ module _ {P Q : Meaning → Type 0} {S R : List Token → Meaning → Type 0} (s
   pub table_start : (start here : At Token) (u : Table Meaning) → u ≡ table.empty → Leaves Cut (curlies.opening ∷ []) start here → TableSoFar S R start here u
   table_start start here u e h = record { pairs = []; read = read_start (entry_spelling s t) curlies curly_is_apart (no_entry_closes s t) start here h; is = e }
 
-  pub entry_shorter : (here behind next : At Token) (x y : Meaning) → Spans Cut (SpellsEntry S R) here behind (x, y) → CommaTaken curlies behind next → left next < left here
+  pub entry_shorter : (here behind next : At Token) (x y : Meaning) → Spans Cut (SpellsEntry S R) here behind (x, y) → CommaTaken Cut curlies behind next → left next < left here
   entry_shorter here behind next x y i c = item_shorter (entry_spelling s t) curlies curly_is_apart (no_entry_closes s t) here behind next (x, y) i c
 
-  pub table_next : (start here behind next : At Token) (u w : Table Meaning) (x y : Meaning) → TableSoFar S R start here u → here.token ≢ curlies.closing → Spans Cut (SpellsEntry S R) here behind (x, y) → CommaTaken curlies behind next → w ≡ table.insert u x y → TableSoFar S R start next w
+  pub table_next : (start here behind next : At Token) (u w : Table Meaning) (x y : Meaning) → TableSoFar S R start here u → here.token ≢ curlies.closing → Spans Cut (SpellsEntry S R) here behind (x, y) → CommaTaken Cut curlies behind next → w ≡ table.insert u x y → TableSoFar S R start next w
   table_next start here behind next u w x y h n i c e = record {
     pairs = h.pairs ++ (x, y) ∷ [];
     read = read_next (entry_spelling s t) curlies curly_is_apart (no_entry_closes s t) start here behind next h.pairs (x, y) h.read n i c;

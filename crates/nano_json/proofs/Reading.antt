@@ -1,16 +1,16 @@
 -- What a reader of one value knows of the tokens that it takes.
-use Rattle.std.proofs.Common.{◌≡◌, ◌≢◌, ℕ, ◌<◌, List, [], ◌∷◌, ◌++◌, map, length, refl, ap, sym, ◌∙◌, subst, Some, None, arith, true, false, ◌⊎◌, inl, inr}
+use Rattle.std.proofs.Common.{◌≡◌, ◌≢◌, ℕ, ◌<◌, List, [], ◌∷◌, length, refl, ap, sym, ◌∙◌, subst, Some, None, arith, true, false, ◌⊎◌, inl, inr}
 use Rattle.nano_value.specs.Meaning.{Meaning, usize_bound}
 use Rattle.nano_value.specs.Legal.{IsImage}
 use Rattle.nano_text.specs.Tokens.{At, Leaves, Spans}
 use Rattle.nano_text.specs.Lists.{StartsOtherwise, SpelledList}
+use Rattle.nano_text.proofs.Tokens.{same_end}
 use Rattle.nano_json.specs.Token.{Token, null, block_close, end}
 use Rattle.nano_json.specs.Cut.{Cut}
 use Rattle.nano_json.specs.Marks.{is_null, is_block_close}
 use Rattle.nano_json.specs.Spelling.{MayBegin, BeginsValue, NothingFits, IsSpelling}
 use Rattle.nano_json.specs.Spellings.{SpellsOption, SpellsList, SpellsCount, blocks}
 use Rattle.nano_json.specs.SpellingLaws.{between_one, between_apart}
-use Rattle.nano_text.proofs.Tokens.{same_end}
 use Rattle.nano_json.proofs.Cuts.{cut_one_way}
 use Rattle.nano_json.proofs.Shorter.{left, cut_shorter, left_token, leaves_shorter}
 
@@ -80,10 +80,6 @@ begins_no_end t h e = subst MayBegin e h
 pub value_shorter : (ts : List Token) (s e : At Token) → BeginsValue ts → Leaves Cut ts s e → left e < left s
 value_shorter [] s e b h = absurd b
 value_shorter (t ∷ ts) s e b h = omega (arith, leaves_shorter ts h.1.0 e h.1.2, cut_shorter s h.1.0 h.1.1, left_token s (λ x. begins_no_end t b (h.0 ∙ x)))
-
-pub map_push : {A B : Type 0} (f : A → B) (xs : List A) (x : A) → map f (xs ++ x ∷ []) ≡ map f xs ++ f x ∷ []
-map_push f [] x = refl
-map_push f (y ∷ ys) x = ap (λ zs. f y ∷ zs) (map_push f ys x)
 
 pub list_spans : {A : Type 0} (S : List Token → A → Type 0) (start behind : At Token) (xs : List A) → length xs < usize_bound → Spans Cut (SpelledList blocks S) start behind xs → Spans Cut (SpellsList S) start behind xs
 list_spans S start behind xs count s = (s.0, record { count = count; items = s.1 }, s.2)

@@ -1,7 +1,7 @@
 -- What is written is read back.
-use Rattle.std.proofs.Common.{◌≡◌, ℕ, List, [], ◌∷◌, ◌++◌, Bool, true, false, cond, not, ◌&&◌, ◌==◌, encode_utf8_all, chars, refl, sym, ◌∙◌, ap, subst, append-nil, nat_eq}
+use Rattle.std.proofs.Common.{◌≡◌, ℕ, List, [], ◌∷◌, Bool, true, false, cond, not, ◌==◌, encode_utf8_all, refl, sym, ◌∙◌, ap, subst, append-nil}
 use Rattle.std.proofs.Math.Utf8.{scalar, scalars}
-use Rattle.std.proofs.lemmas.Bool.{false≢true}
+use Rattle.std.proofs.lemmas.Bool.{false≢true, and_parts}
 use Rattle.std.proofs.lemmas.Str.{chars-encodes}
 use Rattle.nano_text.specs.Place.{before_nul, live_text}
 use Rattle.nano_text.specs.Tokens.{At, Cuts, Leaves, FitsText}
@@ -9,7 +9,7 @@ use Rattle.nano_text.specs.Written.{cuts_fit}
 use Rattle.nano_text.proofs.Tokens.{same_at, same_end}
 use Rattle.nano_json.specs.Token.{Token, end}
 use Rattle.nano_json.specs.Cut.{Cut, nothing}
-use Rattle.nano_json.specs.CutAgain.{is_textual, AllTextual, and_true}
+use Rattle.nano_json.specs.CutAgain.{AllTextual}
 use Rattle.nano_json.specs.Spelling.{IsSpelling}
 use Rattle.nano_json.specs.Writing.{IsWrittenAs}
 use Rattle.nano_json.proofs.Cuts.{cut_one_way}
@@ -17,14 +17,14 @@ use Rattle.nano_json.proofs.Cuts.{cut_one_way}
 -- characters that a text may hold are scalar values, and none is NUL
 textual_scalars : (cs : List ℕ) → AllTextual cs → scalars cs ≡ true
 textual_scalars [] h = refl
-textual_scalars (c ∷ cs) h = rw ((and_true (scalar c) (not (c == 0)) h.0).0, textual_scalars cs h.1) refl
+textual_scalars (c ∷ cs) h = rw ((and_parts (scalar c) (not (c == 0)) h.0).0, textual_scalars cs h.1) refl
 
 textual_before_nul : (cs : List ℕ) → AllTextual cs → before_nul cs ≡ cs
 textual_before_nul [] h = refl
 textual_before_nul (c ∷ cs) h = elim (c == 0) as (λ (b : Bool). not b ≡ true → cond b [] (c ∷ before_nul cs) ≡ c ∷ cs) [
   | true ↦ λ e. absurd (false≢true e)
   | false ↦ λ e. ap (λ (l : List ℕ). c ∷ l) (textual_before_nul cs h.1)
-] (and_true (scalar c) (not (c == 0)) h.0).1
+] (and_parts (scalar c) (not (c == 0)) h.0).1
 
 -- all of what is written is live
 written_is_live : (cs : List ℕ) → AllTextual cs → live_text (encode_utf8_all cs) ≡ cs
@@ -51,6 +51,3 @@ one_fits_text {S = S} s text v w f g =
     s.one_value b.0 v w (subst (λ (ts : List Token). S ts v) same.0 a.2) b.2
 
 -- what is not false is true
-pub by_contradiction : (b : Bool) → (b ≡ false → ⊥) → b ≡ true
-by_contradiction true h = refl
-by_contradiction false h = absurd (h refl)

@@ -1,10 +1,6 @@
 -- Each token that is taken leaves less, so what takes tokens ends, and their count has a bound.
-use Rattle.std.proofs.Common.{◌≡◌, ◌≢◌, ℕ, zero, suc, ◌+◌, ◌*◌, ◌-◌, ◌<◌, ◌≤◌, List, [], ◌∷◌, ◌++◌, refl, ap, sym, subst, length, length-append, arith, cond, Bool, true, false, nat_eq}
-use Rattle.std.specs.Str.{chars, chars_after, continuation_len, lead_bits}
-use Rattle.std.specs.Str.Iter.{chars_rest}
-use Rattle.std.specs.declared.str.Chars.{Chars}
+use Rattle.std.proofs.Common.{◌≡◌, ◌≢◌, ℕ, ◌+◌, ◌-◌, ◌<◌, ◌≤◌, List, [], ◌∷◌, ◌++◌, refl, ap, sym, subst, length, length-append, arith, cond, true, false}
 use Rattle.nano_text.proofs.Numbers.{IsNumber-shorter}
-use Rattle.nano_text.specs.Place.{held, live, before_nul}
 use Rattle.nano_text.specs.Tokens.{At, Leaves}
 use Rattle.nano_text.specs.declared.number.Number.TheVariants.{U64, I64, Dec}
 use Rattle.nano_json.specs.Token.{Token, str, u64, i64, f64, bool, null, colon, curly_open, curly_close, block_open, block_close, comma, end}
@@ -83,27 +79,3 @@ token_shorter s m more c = omega (arith, cut_shorter s m c, left_token s more)
 pub leaves_shorter : (ts : List Token) (s e : At Token) → Leaves Cut ts s e → left e ≤ left s
 leaves_shorter [] s e h = omega (arith, ap left h)
 leaves_shorter (t ∷ ts) s e h = omega (arith, leaves_shorter ts h.1.0 e h.1.2, cut_shorter s h.1.0 h.1.1, left_more s)
-
--- a text has no more characters than bytes
-chars_after_fewer : (n c : ℕ) (bs : List ℕ) → length (chars_after n c bs) ≤ length bs + 1
-chars_after_fewer zero c [] = omega arith
-chars_after_fewer zero c (b ∷ bs) = omega (arith, chars_after_fewer (continuation_len b) (lead_bits b) bs)
-chars_after_fewer (suc n) c [] = omega arith
-chars_after_fewer (suc n) c (b ∷ bs) = omega (arith, chars_after_fewer n (c * 64 + (b - 128)) bs)
-
-chars_fewer : (bs : List ℕ) → length (chars bs) ≤ length bs
-unfolding chars
-chars_fewer [] = omega arith
-chars_fewer (b ∷ bs) = omega (arith, chars_after_fewer (continuation_len b) (lead_bits b) bs)
-
-before_nul_fewer : (cs : List ℕ) → length (before_nul cs) ≤ length cs
-before_nul_fewer [] = omega arith
-before_nul_fewer (c ∷ cs) = elim (nat_eq c 0) as (λ (b : Bool). length (cond b [] (c ∷ before_nul cs)) ≤ length (c ∷ cs)) [
-  | true ↦ omega arith
-  | false ↦ omega (arith, before_nul_fewer cs)
-]
-
--- a live text has one character more than its iterator has bytes, at most
-pub live_fewer : (cur : ℕ) (i : Chars) → length (live cur i) ≤ length (chars_rest i) + 1
-unfolding live
-live_fewer cur i = omega (arith, before_nul_fewer (cur ∷ held i), chars_fewer (chars_rest i))

@@ -1,7 +1,5 @@
 -- Writing a text in runs: the longest front that is written as itself, then one character that isn't.
-use Rattle.std.proofs.Common.{◌≡◌, ◌≢◌, ℕ, ◌<◌, ◌≤◌, List, [], ◌∷◌, ◌++◌, Bool, true, false, cond, not, ◌&&◌, ◌==◌, chars, encode_utf8, encode_utf8_all, IsUtf8, length, take, drop, refl, ap, sym, ◌∙◌, subst, ne_eqb, append_assoc, append-nil, arith}
-use Rattle.std.specs.List.{AllByRecursion}
-use Rattle.std.specs.Str.{IsCharBoundary}
+use Rattle.std.proofs.Common.{◌≡◌, ℕ, ◌≤◌, List, [], ◌∷◌, ◌++◌, true, false, cond, ◌==◌, chars, encode_utf8, encode_utf8_all, IsUtf8, length, take, drop, refl, ap, sym, ◌∙◌, subst, append_assoc, append-nil, arith}
 use Rattle.std.proofs.lemmas.Bool.Decides.{nat_tests}
 use Rattle.std.proofs.lemmas.List.{take_at, drop_at}
 use Rattle.std.proofs.lemmas.Str.{chars-nil, encodes-append, chars_past_char}

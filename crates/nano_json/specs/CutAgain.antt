@@ -1,14 +1,13 @@
 -- What is written of scalars is cut into its tokens.
-use Rattle.std.specs.Prelude.{◌≡◌, ◌≢◌, ◌⊎◌, ℕ, ◌+◌, ◌*◌, ◌/◌, ◌%◌, ◌<◌, ◌≤◌, ◌^◌, ◌==◌, ◌||◌, ◌&&◌, not, ℤ, pos, negsuc, neg_ℤ, suc, FitsSigned, Bool, true, false, cond, List, [], ◌∷◌, ◌++◌, map, length, Option, Some, None, codes, chars, encode_utf8_all, refl}
+use Rattle.std.specs.Prelude.{◌≡◌, ◌≢◌, ℕ, ◌+◌, ◌/◌, ◌%◌, ◌<◌, ◌≤◌, ◌^◌, ◌==◌, ◌&&◌, not, ℤ, pos, negsuc, neg_ℤ, suc, FitsSigned, Bool, true, false, cond, List, [], ◌∷◌, ◌++◌, map, length, Option, Some, None, codes, chars, refl}
 use Rattle.std.specs.Char.{digit_char, digit_value, is_ascii_digit, is_ascii_hexdigit}
 use Rattle.std.specs.Fmt.{decimal, signed_decimal}
-use Rattle.std.specs.Int.{Width, w64}
+use Rattle.std.specs.Int.{w64}
 use Rattle.std.specs.List.{AllByRecursion, flat_map}
 use Rattle.std.specs.Str.{all_ascii_digits}
-use Rattle.std.specs.Str.Parse.{digits_value}
 use Rattle.std.proofs.Common.{sym, ◌∙◌, subst, ap, inl, inr, append_assoc, append-nil, length-append, eqb-true, ne_eqb, arith}
 use Rattle.std.proofs.Math.Utf8.{scalar, scalars}
-use Rattle.std.proofs.lemmas.Bool.{eqb-false}
+use Rattle.std.proofs.lemmas.Bool.{eqb-false, and_parts, or_cases, and_from, or_right}
 use Rattle.std.proofs.lemmas.Bool.Decides.{nat_tests}
 use Rattle.std.proofs.lemmas.Fmt.{decimal_by_steps, decimal_is_IsNumeral}
 use Rattle.std.proofs.lemmas.Str.{encodes-chars, scalars-chars, digit_value-digit_char}
@@ -16,19 +15,13 @@ use Rattle.nano_value.specs.Legal.{IsText}
 use Rattle.nano_text.specs.Front.{first_is}
 use Rattle.nano_text.specs.Number.{IsNumber, Run, is_sign, continues}
 use Rattle.nano_text.specs.String.{Piece, escaped, scalar as scalar_piece, IsPiece, IsString, piece_text, piece_char, unit_value}
-use Rattle.nano_text.specs.Tokens.{Cuts}
 use Rattle.nano_text.specs.Written.{IsCutInto, MarksAreCut}
 use Rattle.nano_text.specs.declared.number.Number.TheVariants.{U64, I64}
 use Rattle.nano_json.specs.Token.{Token, str, u64, i64, bool, null, colon}
-use Rattle.nano_json.specs.Cut.{is_word, IsLexeme, mark, word, number, quoted, IsQuoted, starts_number, Cut}
+use Rattle.nano_json.specs.Cut.{is_word, IsLexeme, mark, word, number, quoted, starts_number, Cut}
 use Rattle.nano_json.specs.Spellings.{blocks}
 use Rattle.nano_json.specs.Maps.{curlies}
 use Rattle.nano_json.specs.Written.{block_marks, curly_marks, MayFollow, may_follow, written_truth, signed_token, written_piece, written_text, is_control, four_digits}
-
--- both tests pass
-pub and_true : (a b : Bool) → a && b ≡ true → (a ≡ true) × (b ≡ true)
-and_true true b e = (refl, e)
-and_true false b e = absurd (cc)
 
 -- the lexeme stands at the beginning
 cut_at_once : (text rest : List ℕ) (t : Token) → IsLexeme t text rest → Cut text t rest
@@ -67,25 +60,21 @@ none_goes_on : (test : ℕ → Bool) → Apart test → (rest : List ℕ) → Ma
 none_goes_on test apart [] h = refl
 none_goes_on test apart (c ∷ cs) h = apart c h
 
-one_of : (a b : Bool) → a || b ≡ true → (a ≡ true) ⊎ (b ≡ true)
-one_of true b e = inl refl
-one_of false b e = inr e
-
 -- what holds of each character that may follow
 follower : (P : ℕ → Type 0) → P 10 → P 13 → P 9 → P 32 → P 44 → P 58 → P 93 → P 125 → (c : ℕ) → may_follow c ≡ true → P c
 follower P p10 p13 p9 p32 p44 p58 p93 p125 c h =
     let is = λ (k : ℕ) (p : P k) (e : c == k ≡ true). subst P (sym (eqb-true c k e)) p in
-    elim (one_of _ _ h) [
-      | inl s ↦ elim (one_of _ _ s) [
-        | inl s ↦ elim (one_of _ _ s) [
-          | inl s ↦ elim (one_of _ _ s) [ inl e ↦ is 10 p10 e | inr e ↦ is 13 p13 e ]
+    elim (or_cases _ _ h) [
+      | inl s ↦ elim (or_cases _ _ s) [
+        | inl s ↦ elim (or_cases _ _ s) [
+          | inl s ↦ elim (or_cases _ _ s) [ inl e ↦ is 10 p10 e | inr e ↦ is 13 p13 e ]
           | inr e ↦ is 9 p9 e
         ]
         | inr e ↦ is 32 p32 e
       ]
-      | inr s ↦ elim (one_of _ _ s) [
-        | inl s ↦ elim (one_of _ _ s) [ inl e ↦ is 44 p44 e | inr e ↦ is 58 p58 e ]
-        | inr s ↦ elim (one_of _ _ s) [ inl e ↦ is 93 p93 e | inr e ↦ is 125 p125 e ]
+      | inr s ↦ elim (or_cases _ _ s) [
+        | inl s ↦ elim (or_cases _ _ s) [ inl e ↦ is 44 p44 e | inr e ↦ is 58 p58 e ]
+        | inr s ↦ elim (or_cases _ _ s) [ inl e ↦ is 93 p93 e | inr e ↦ is 125 p125 e ]
       ]
     ]
 
@@ -111,33 +100,27 @@ record AreDigitsOf (n : ℕ) (ds : List ℕ) : Type 0 where
   pub all : all_ascii_digits ds ≡ true
   pub some : 0 < length ds
 
-both_are : (a b : Bool) → a ≡ true → b ≡ true → a && b ≡ true
-both_are a b e h = rw e h
-
 digit_is : (d : ℕ) → d < 10 → is_ascii_digit (48 + d) ≡ true
 digit_is d h = grind (arith, nat_tests)
 
 digits_append : (xs ys : List ℕ) → all_ascii_digits xs ≡ true → all_ascii_digits ys ≡ true → all_ascii_digits (xs ++ ys) ≡ true
 digits_append [] ys h k = k
 digits_append (x ∷ xs) ys h k =
-    let parts = and_true (is_ascii_digit x) (all_ascii_digits xs) h in
-    both_are (is_ascii_digit x) (all_ascii_digits (xs ++ ys)) parts.0 (digits_append xs ys parts.1 k)
+    let parts = and_parts (is_ascii_digit x) (all_ascii_digits xs) h in
+    and_from (is_ascii_digit x) (all_ascii_digits (xs ++ ys)) parts.0 (digits_append xs ys parts.1 k)
 
 decimal_digits : (n : ℕ) → n < 2 ^ 64 → AreDigitsOf n (decimal n)
 decimal_digits = decimal_by_steps AreDigitsOf
-    (λ n small. record { all = both_are (is_ascii_digit (48 + n)) true (digit_is n small) refl; some = omega arith })
+    (λ n small. record { all = and_from (is_ascii_digit (48 + n)) true (digit_is n small) refl; some = omega arith })
     (λ n ds large h. record {
-      all = digits_append ds ((48 + n % 10) ∷ []) h.all (both_are (is_ascii_digit (48 + n % 10)) true (digit_is (n % 10) (omega arith)) refl);
+      all = digits_append ds ((48 + n % 10) ∷ []) h.all (and_from (is_ascii_digit (48 + n % 10)) true (digit_is (n % 10) (omega arith)) refl);
       some = let long = length-append ds ((48 + n % 10) ∷ []) in omega (arith, long);
     })
 
 -- digits begin with one
 starts_with_digit : (ds rest : List ℕ) → all_ascii_digits ds ≡ true → 0 < length ds → first_is starts_number (ds ++ rest) ≡ true
 starts_with_digit [] rest h k = absurd (omega (arith, k))
-starts_with_digit (d ∷ ds) rest h k = or_right (is_sign d) (is_ascii_digit d) (and_true (is_ascii_digit d) (all_ascii_digits ds) h).0 where
-  or_right : (a b : Bool) → b ≡ true → a || b ≡ true
-  or_right true b e = refl
-  or_right false b e = e
+starts_with_digit (d ∷ ds) rest h k = or_right (is_sign d) (is_ascii_digit d) (and_parts (is_ascii_digit d) (all_ascii_digits ds) h).0
 
 -- the run of digits behind an optional minus sign
 abbrev digits_run : Option ℕ → ℕ → Run
@@ -245,7 +228,7 @@ textual_append (x ∷ xs) ys h k = (h.0, textual_append xs ys h.1 k)
 pieces_stand : (cs : List ℕ) → scalars cs ≡ true → AllByRecursion IsPiece (map written_piece cs) × (map piece_char (map written_piece cs) ≡ cs) × (flat_map piece_text (map written_piece cs) ≡ flat_map (λ c. piece_text (written_piece c)) cs) × AllTextual (flat_map (λ c. piece_text (written_piece c)) cs)
 pieces_stand [] h = (tt, refl, refl, tt)
 pieces_stand (c ∷ cs) h =
-    let parts = and_true (scalar c) (scalars cs) h in
+    let parts = and_parts (scalar c) (scalars cs) h in
     let first = piece_stands c parts.0 in
     let others = pieces_stand cs parts.1 in (
       (first.good, others.0),
@@ -272,7 +255,7 @@ text_is_cut bytes is rest h =
 digits_textual : (ds : List ℕ) → all_ascii_digits ds ≡ true → AllTextual ds
 digits_textual [] h = tt
 digits_textual (d ∷ ds) h =
-    let parts = and_true (is_ascii_digit d) (all_ascii_digits ds) h in
+    let parts = and_parts (is_ascii_digit d) (all_ascii_digits ds) h in
     (one d parts.0, digits_textual ds parts.1)
   where
     one : (c : ℕ) → is_ascii_digit c ≡ true → is_textual c ≡ true

@@ -3,14 +3,14 @@ use Rattle.std.specs.Prelude.{◌≡◌, ◌≢◌, ℕ, ◌<◌, ◌^◌, ℤ, 
 use Rattle.std.specs.Int.{Width, w64}
 use Rattle.std.specs.List.{AllByRecursion}
 use Rattle.std.specs.Option.{option_map}
-use Rattle.std.proofs.Common.{sym, subst, ap}
-use Rattle.nano_value.specs.Meaning.{Meaning, number, truth, nothing, whole, text, optional, listed, number_injective, whole_injective, text_injective, both_injective, listed_injective}
-use Rattle.nano_value.specs.Legal.{IsImage, IsText, AllOfOption, AllOfList, AllOfCount}
-use Rattle.nano_text.specs.Lists.{ListMarks, StartsOtherwise, SpelledList}
+use Rattle.std.proofs.Common.{sym, subst}
+use Rattle.nano_value.specs.Meaning.{Meaning, number, whole, text, optional, listed, number_injective, whole_injective, text_injective, both_injective, listed_injective}
+use Rattle.nano_value.specs.Legal.{IsText, AllOfOption, AllOfList, AllOfCount}
+use Rattle.nano_text.specs.Lists.{StartsOtherwise, SpelledList}
 use Rattle.nano_text.specs.Written.{list_spelled, each_is_spelled}
 use Rattle.nano_json.specs.Token.{Token, str, u64, bool, null, block_open, integer_of}
 use Rattle.nano_json.specs.Spelling.{BeginsValue, Spelling}
-use Rattle.nano_json.specs.Spellings.{SpellsOption, SpellsSigned, blocks}
+use Rattle.nano_json.specs.Spellings.{SpellsOption, blocks}
 use Rattle.nano_json.specs.SpellingLaws.{unsigned, signed, truths, units, texts, option_of, list_of, array_of}
 use Rattle.nano_json.specs.Written.{signed_token, option_tokens, list_tokens}
 use Rattle.nano_json.specs.Writing.{Writing, unsigned_writing, signed_writing, truth_writing, unit_writing, text_writing, option_writing, list_writing, array_writing, writing_as}

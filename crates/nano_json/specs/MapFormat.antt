@@ -1,27 +1,25 @@
 -- What is written of tuples, maps and sets is read back.
-use Rattle.std.specs.Prelude.{◌≡◌, ◌≢◌, ℕ, ◌<◌, Bool, true, false, cond, T, refl, List, [], ◌∷◌, ◌++◌, map, length}
+use Rattle.std.specs.Prelude.{◌≡◌, ◌≢◌, ◌<◌, true, false, cond, refl, List, [], ◌∷◌, ◌++◌, map}
 use Rattle.std.specs.declared.cmp.Ordering.{Ordering}
 use Rattle.std.specs.FinMap.Entries.{is_sorted}
 use Rattle.std.specs.List.{AllByRecursion}
-use Rattle.std.proofs.Common.{sym, ◌∙◌, subst, ap, inl}
+use Rattle.std.proofs.Common.{sym, subst, ap, inl}
 use Rattle.nano_value.specs.Meaning.{Meaning, pair_map, paired, both_injective, usize_bound}
 use Rattle.nano_value.specs.Legal.{BothOfPair, AllOfList, length-map}
-use Rattle.nano_value.specs.Tables.{table_of, table_means, table_means-injective, last_values, AllOfTable, LegalMap, all_of_last_values}
+use Rattle.nano_value.specs.Tables.{table_of, table_means, table_means-injective, AllOfTable, LegalMap, all_of_last_values}
 use Rattle.nano_value.specs.Sets.{marked, item_set, set_means, set_means-injective, AllOfSet, LegalSet, all-marked}
 use Rattle.nano_value.specs.Ascending.{ascending, IsOrderOf, all-ascending, table_of-ascending}
 use Rattle.nano_value.specs.InOrder.{ascending_items}
 use Rattle.nano_value.specs.SetItems.{all_items, item_set-ascending}
 use Rattle.nano_value.specs.OrderedSets.{ordered_means, unordered, no_list_is_unordered}
-use Rattle.nano_text.specs.Lists.{SpelledList}
-use Rattle.nano_text.specs.Written.{list_spelled, each_is_spelled, with_mark, with_closing, with_opening}
-use Rattle.nano_json.specs.Token.{Token, null, comma, block_open, block_close, curly_open}
-use Rattle.nano_json.specs.Spelling.{Spelling}
+use Rattle.nano_text.specs.Written.{list_spelled, each_is_spelled, with_mark, with_closing}
+use Rattle.nano_json.specs.Token.{Token, null, comma, block_close, curly_open}
 use Rattle.nano_json.specs.Spellings.{blocks}
 use Rattle.nano_json.specs.Tuples.{and_then, last_part, tuple_of}
 use Rattle.nano_json.specs.Maps.{curlies, SpellsEntry, SpellsMap, map_of}
 use Rattle.nano_json.specs.Sets.{SpellsSet, set_of}
 use Rattle.nano_json.specs.Written.{list_tokens, entry_tokens, entries_tokens}
-use Rattle.nano_json.specs.Writing.{Writing, last_writing, next_writing, tuple_writing}
+use Rattle.nano_json.specs.Writing.{last_writing, next_writing, tuple_writing}
 use Rattle.nano_json.specs.MapWriting.{map_writing, set_writing, ordered_writing, in_order}
 use Rattle.nano_json.specs.Format.{StartsWith, Format, AllSound, items_read_back, each_is_sound, bracket_is_not_null}
 

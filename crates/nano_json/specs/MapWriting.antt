@@ -1,11 +1,11 @@
 -- How maps and sets are written: in the order of their keys and items.
-use Rattle.std.specs.Prelude.{◌≡◌, ℕ, Bool, true, false, cond, T, refl, List, [], ◌∷◌, ◌++◌, map}
+use Rattle.std.specs.Prelude.{◌≡◌, ℕ, true, false, cond, T, refl, List, [], ◌∷◌, map}
 use Rattle.std.specs.declared.cmp.Ordering.{Ordering}
 use Rattle.std.specs.FinMap.Entries.{is_sorted}
 use Rattle.std.specs.List.{AllByRecursion}
 use Rattle.std.specs.Map.{keys_of}
 use Rattle.std.proofs.Common.{sym, ◌∙◌, subst, ap}
-use Rattle.nano_value.specs.Meaning.{Meaning, pair_map, listed, listed_injective}
+use Rattle.nano_value.specs.Meaning.{pair_map}
 use Rattle.nano_value.specs.Legal.{BothOfPair}
 use Rattle.nano_value.specs.Tables.{table_of, table_means, table_means-injective, AllOfTable, LegalMap}
 use Rattle.nano_value.specs.Sets.{marked, item_set, set_means, set_means-injective, AllOfSet, LegalSet, keys_of-marked}
@@ -15,7 +15,7 @@ use Rattle.nano_value.specs.SetItems.{same_items, all_items}
 use Rattle.nano_value.specs.OrderedSets.{ordered_means, unordered, ordered_means-meanings, no_list_is_unordered}
 use Rattle.nano_text.specs.Place.{counted}
 use Rattle.nano_text.specs.Written.{enclosed_same}
-use Rattle.nano_json.specs.Token.{Token, colon}
+use Rattle.nano_json.specs.Token.{colon}
 use Rattle.nano_json.specs.Maps.{curlies}
 use Rattle.nano_json.specs.Written.{block_marks, curly_marks, written_list, list_tokens, written_entry, entry_tokens, written_entries, entries_tokens}
 use Rattle.nano_json.specs.CutAgain.{curlies_are_cut}

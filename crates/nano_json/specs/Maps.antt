@@ -1,5 +1,5 @@
 -- The spellings of maps: keys with their values between curly brackets. Of each key the last value counts.
-use Rattle.std.specs.Prelude.{◌≡◌, ◌≢◌, ◌<◌, List, [], ◌∷◌, length}
+use Rattle.std.specs.Prelude.{◌≢◌, ◌<◌, List, [], ◌∷◌, length}
 use Rattle.std.proofs.Common.{sym, subst}
 use Rattle.nano_value.specs.Meaning.{Meaning, usize_bound}
 use Rattle.nano_value.specs.Legal.{IsImage, BothOfPair, AllOfList}

@@ -1,5 +1,5 @@
 -- The spellings of sets: those of lists, of which each item counts once.
-use Rattle.std.specs.Prelude.{◌≡◌, ◌<◌, ℕ, List, length}
+use Rattle.std.specs.Prelude.{◌<◌, ℕ, List}
 use Rattle.std.proofs.Common.{sym, subst}
 use Rattle.nano_value.specs.Meaning.{Meaning, usize_bound}
 use Rattle.nano_value.specs.Legal.{IsImage, BothOfPair, AllOfList, length-map}

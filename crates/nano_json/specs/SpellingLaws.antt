@@ -15,10 +15,10 @@ use Rattle.nano_json.specs.Spellings.{SpellsUnsigned, SpellsSigned, SpellsTruth,
 
 -- ---- one token
 
-same_heads : (t u : Token) (ts us : List Token) → t ∷ ts ≡ u ∷ us → t ≡ u
+pub same_heads : (t u : Token) (ts us : List Token) → t ∷ ts ≡ u ∷ us → t ≡ u
 same_heads t u ts us e = cc e
 
-same_tails : (t u : Token) (ts us : List Token) → t ∷ ts ≡ u ∷ us → ts ≡ us
+pub same_tails : (t u : Token) (ts us : List Token) → t ∷ ts ≡ u ∷ us → ts ≡ us
 same_tails t u ts us e = cc e
 
 starts_append : (t : Token) (ts more : List Token) → StartsOtherwise t ts → StartsOtherwise t (ts ++ more)
@@ -61,10 +61,10 @@ u64_injective m n e = cc e
 bool_injective : (b c : Bool) → bool b ≡ bool c → b ≡ c
 bool_injective b c e = cc e
 
-str_injective : (xs ys : List ℕ) → str xs ≡ str ys → xs ≡ ys
+pub str_injective : (xs ys : List ℕ) → str xs ≡ str ys → xs ≡ ys
 str_injective xs ys e = cc e
 
-some_injective : {A : Type 0} (x y : A) → Some x ≡ Some y → x ≡ y
+pub some_injective : {A : Type 0} (x y : A) → Some x ≡ Some y → x ≡ y
 some_injective x y e = cc e
 
 integer_is_scalar : (t : Token) (z : ℤ) → integer_of t ≡ Some z → IsScalar t

@@ -1,5 +1,5 @@
 -- What is spelled where the parts are spelled in one way is spelled where they are in another that allows as much.
-use Rattle.std.specs.Prelude.{◌≡◌, ℕ, List, [], ◌∷◌, Option, Some, None}
+use Rattle.std.specs.Prelude.{ℕ, List, [], ◌∷◌, Option, Some, None}
 use Rattle.std.proofs.Common.{inl, inr}
 use Rattle.nano_value.specs.Meaning.{Meaning, optional, listed, paired}
 use Rattle.nano_value.specs.Legal.{IsImage}

@@ -1,12 +1,12 @@
 -- How the values of a type are written, with the laws of it.
-use Rattle.std.specs.Prelude.{◌≡◌, ◌⊎◌, ℕ, ◌+◌, ◌<◌, ◌≤◌, ◌^◌, ℤ, FitsSigned, Bool, true, List, [], ◌∷◌, ◌++◌, map, length, Option, Some, None, codes, refl}
+use Rattle.std.specs.Prelude.{◌≡◌, ℕ, ◌+◌, ◌<◌, ◌^◌, ℤ, FitsSigned, Bool, true, List, [], ◌∷◌, ◌++◌, map, Option, Some, None, codes, refl}
 use Rattle.std.specs.Fmt.{decimal, signed_decimal}
 use Rattle.std.specs.Int.{Width, w8, w16, w32, w64}
 use Rattle.std.specs.List.{AllByRecursion, flat_map}
 use Rattle.std.specs.Option.{option_map}
-use Rattle.std.proofs.Common.{sym, ◌∙◌, subst, ap, append_assoc, arith}
+use Rattle.std.proofs.Common.{sym, subst, ap, append_assoc, arith}
 use Rattle.nano_value.specs.Meaning.{Meaning, number, truth, nothing, whole, text, optional, listed, paired, pair_map, number_injective, truth_injective, whole_injective, text_injective, both_injective, listed_injective}
-use Rattle.nano_value.specs.Legal.{IsImage, IsText, LegalUnit, LegalOption, LegalList, LegalArray, LegalPair, AllOfOption, AllOfList, AllOfCount, BothOfPair}
+use Rattle.nano_value.specs.Legal.{IsImage, IsText, LegalUnit, LegalOption, LegalList, LegalArray, LegalPair, AllOfOption}
 use Rattle.nano_text.specs.Lists.{ListMarks}
 use Rattle.nano_text.specs.Place.{counted}
 use Rattle.nano_text.specs.Tokens.{Cuts}

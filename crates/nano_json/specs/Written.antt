@@ -1,13 +1,12 @@
 -- What is written of the values of the types: the characters, and the tokens that they are cut into.
 use Rattle.std.specs.Prelude.{◌≡◌, ℕ, ◌/◌, ◌%◌, ◌==◌, ◌||◌, ◌&&◌, not, nat_lt, ℤ, pos, negsuc, Bool, true, false, List, [], ◌∷◌, ◌++◌, Option, Some, None, if◌then◌else◌, codes, chars}
 use Rattle.std.specs.Char.{digit_char}
-use Rattle.std.specs.Fmt.{decimal, signed_decimal}
 use Rattle.std.specs.List.{flat_map}
 use Rattle.nano_text.specs.Lists.{ListMarks}
 use Rattle.nano_text.specs.String.{Piece, CodeUnit, plain, escaped, scalar, piece_text}
 use Rattle.nano_text.specs.Written.{enclosed, with_mark}
 use Rattle.nano_json.specs.Maps.{curlies}
-use Rattle.nano_json.specs.Token.{Token, str, u64, i64, bool, null, colon}
+use Rattle.nano_json.specs.Token.{Token, u64, i64, null, colon}
 use Rattle.nano_json.specs.Cut.{is_space}
 use Rattle.nano_json.specs.Spellings.{blocks}
 

@@ -34,7 +34,7 @@ digit_from_value c h = grind (arith, nat_tests)
 pub no_digit_from_value : (c : ℕ) → (digit_value c < 10 → ⊥) → is_ascii_digit c ≡ false
 no_digit_from_value c h = grind (arith, nat_tests)
 
-digit_ascii : (c : ℕ) → is_ascii_digit c ≡ true → c < 128
+pub digit_ascii : (c : ℕ) → is_ascii_digit c ≡ true → c < 128
 digit_ascii c h = grind (arith, nat_tests)
 
 -- digits are their bytes

@@ -1,9 +1,10 @@
 -- What `next` does to the text that is still to be read.
-use Rattle.std.proofs.Common.{◌≡◌, ◌≢◌, ℕ, List, [], ◌∷◌, ◌++◌, Bool, true, false, cond, length, encode_utf8, IsUtf8, refl, ap, sym, ◌∙◌, ne_eqb, eqb-true, nat_eq}
+use Rattle.std.proofs.Common.{◌≡◌, ◌≢◌, ℕ, List, [], ◌∷◌, ◌++◌, Bool, true, false, cond, length, encode_utf8, IsUtf8, refl, ap, sym, ◌∙◌, ne_eqb, eqb-true, nat_eq, ◌+◌, ◌*◌, ◌-◌, ◌≤◌, zero, suc, arith}
 use Rattle.std.proofs.lemmas.Str.{chars_past_char}
 use Rattle.std.proofs.StrCases.{chars_of_empty}
 use Rattle.std.specs.Str.Iter.{chars_rest}
 use Rattle.std.specs.declared.str.Chars.{Chars}
+use Rattle.std.specs.Str.{chars, chars_after, continuation_len, lead_bits}
 use Rattle.nano_text.specs.Place.{held, live, before_nul}
 use Rattle.nano_text.specs.Front.{first_is}
 
@@ -63,3 +64,27 @@ live_stop test cur s none fails = first_is-live test cur s none ∙ fails
 pub live-tail : (cur c : ℕ) (s : Chars) (rest : List ℕ) → live cur s ≡ c ∷ rest → before_nul (held s) ≡ rest
 unfolding live
 live-tail cur c s rest e = elim (nat_eq cur 0) as (λ b. cond b [] (cur ∷ before_nul (held s)) ≡ c ∷ rest → before_nul (held s) ≡ rest) [ true ↦ λ h. cc h | false ↦ λ h. cc h ] e
+
+-- a text has no more characters than bytes
+chars_after_fewer : (n c : ℕ) (bs : List ℕ) → length (chars_after n c bs) ≤ length bs + 1
+chars_after_fewer zero c [] = omega arith
+chars_after_fewer zero c (b ∷ bs) = omega (arith, chars_after_fewer (continuation_len b) (lead_bits b) bs)
+chars_after_fewer (suc n) c [] = omega arith
+chars_after_fewer (suc n) c (b ∷ bs) = omega (arith, chars_after_fewer n (c * 64 + (b - 128)) bs)
+
+chars_fewer : (bs : List ℕ) → length (chars bs) ≤ length bs
+unfolding chars
+chars_fewer [] = omega arith
+chars_fewer (b ∷ bs) = omega (arith, chars_after_fewer (continuation_len b) (lead_bits b) bs)
+
+before_nul_fewer : (cs : List ℕ) → length (before_nul cs) ≤ length cs
+before_nul_fewer [] = omega arith
+before_nul_fewer (c ∷ cs) = elim (nat_eq c 0) as (λ (b : Bool). length (cond b [] (c ∷ before_nul cs)) ≤ length (c ∷ cs)) [
+  | true ↦ omega arith
+  | false ↦ omega (arith, before_nul_fewer cs)
+]
+
+-- a live text has one character more than its iterator has bytes, at most
+pub live_fewer : (cur : ℕ) (s : Chars) → length (live cur s) ≤ length (chars_rest s) + 1
+unfolding live
+live_fewer cur s = omega (arith, before_nul_fewer (cur ∷ held s), chars_fewer (chars_rest s))

@@ -1,12 +1,12 @@
 -- From the parts that were taken to the number that stands there, and back.
-use Rattle.std.proofs.Common.{◌≡◌, ℕ, ◌+◌, ◌<◌, ◌||◌, ◌&&◌, ◌⊎◌, inl, inr, List, [], ◌∷◌, ◌++◌, Bool, true, false, cond, nat_lt, refl, ap, sym, ◌∙◌, subst, Option, Some, None, length, length-append, arith, option_map}
-use Rattle.std.proofs.lemmas.Bool.{ltb-false, ltb-true}
+use Rattle.std.proofs.Common.{◌≡◌, ℕ, ◌+◌, ◌<◌, ◌||◌, inl, inr, List, [], ◌∷◌, ◌++◌, Bool, true, false, cond, nat_lt, refl, ap, sym, ◌∙◌, subst, Option, Some, None, length, length-append, arith, option_map}
+use Rattle.std.proofs.lemmas.Bool.{ltb-false, ltb-true, and_parts, and_cases}
 use Rattle.std.proofs.lemmas.Bool.Decides.{nat_tests}
 use Rattle.nano_text.specs.declared.number.Number.{Number}
 use Rattle.nano_text.specs.declared.number.Number.TheVariants.{Dec}
 use Rattle.nano_text.specs.Number.{Exponent, is_minus, sign_text, fraction_text, exponent_text, run_text, IsGood, AreGoodParts, number_of, number_from_parts, IsNumber}
 use Rattle.nano_text.specs.Scan.{run_at, behind_run, exponent_len, minus_room, fraction_room, exponent_room, decimal_len}
-use Rattle.nano_text.proofs.Runs.{run_split, run_is_run, run_ends, run_again, and_true}
+use Rattle.nano_text.proofs.Runs.{run_split, run_is_run, run_ends, run_again}
 
 -- ---- an integer
 
@@ -62,10 +62,6 @@ not_chosen : (b : Bool) (n : ℕ) → cond b (Some n) None ≡ None → b ≡ fa
 not_chosen true n h = cc h
 not_chosen false n h = refl
 
-not_both : (a b : Bool) → a && b ≡ false → (a ≡ false) ⊎ (b ≡ false)
-not_both true b e = inr e
-not_both false b e = inl refl
-
 minus_length : (minus : Bool) (ds : List ℕ) → length (cond minus (45 ∷ []) [] ++ ds) ≡ minus_room minus + length ds
 minus_length true ds = omega arith
 minus_length false ds = omega arith
@@ -86,22 +82,22 @@ decimal_yes minus w (Some ds) None n h =
     (omega (arith, or_some (length w) (length ds) is.0, length-append w ds), refl, omega (arith, is.1))
 decimal_yes minus w None (Some e) n h =
     let is = chosen _ _ n h in
-    let some = and_true _ _ is.0 in
+    let some = and_parts _ _ is.0 in
     ((omega (arith, ltb-true 0 (length w) some.0, length-append w []), ltb-true 0 (length e.digits) some.1), refl, omega (arith, is.1))
 decimal_yes minus w (Some ds) (Some e) n h =
     let is = chosen _ _ n h in
-    let some = and_true _ _ is.0 in
+    let some = and_parts _ _ is.0 in
     ((omega (arith, or_some (length w) (length ds) some.0, length-append w ds), ltb-true 0 (length e.digits) some.1), refl, omega (arith, is.1))
 
 -- and of one that isn't
 pub decimal_not : (minus : Bool) (w : List ℕ) (f : Option (List ℕ)) (e : Option Exponent) → ((f ≡ None) × (e ≡ None) → ⊥) → decimal_len (length w) (option_map length f) (option_map exponent_len e) ≡ None → AreGoodParts minus w f e → ⊥
 decimal_not minus w None None some h g = some (refl, refl)
 decimal_not minus w (Some ds) None some h g = or_none (length w) (length ds) (not_chosen _ _ h) (omega (arith, g, length-append w ds))
-decimal_not minus w None (Some e) some h g = elim (not_both _ _ (not_chosen _ _ h)) [
+decimal_not minus w None (Some e) some h g = elim (and_cases _ _ (not_chosen _ _ h)) [
   | inl x ↦ omega (arith, ltb-false 0 (length w) x, g.0, length-append w [])
   | inr x ↦ omega (arith, ltb-false 0 (length e.digits) x, g.1)
 ]
-decimal_not minus w (Some ds) (Some e) some h g = elim (not_both _ _ (not_chosen _ _ h)) [
+decimal_not minus w (Some ds) (Some e) some h g = elim (and_cases _ _ (not_chosen _ _ h)) [
   | inl x ↦ or_none (length w) (length ds) x (omega (arith, g.0, length-append w ds))
   | inr x ↦ omega (arith, ltb-false 0 (length e.digits) x, g.1)
 ]

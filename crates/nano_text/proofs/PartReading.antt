@@ -57,12 +57,12 @@ module _ {T V : Type 0} (cut : List ℕ → T → List ℕ → Type 0) (one_way 
 
 -- ---- the last part, optionally a comma, and the closing bracket
 
-module _ {T V : Type 0} (cut : List ℕ → T → List ℕ → Type 0) (one_way : IsOneWay cut) (marks : ListMarks T) (apart : marks.closing ≢ marks.comma) (spelled : List T → V → Type 0) (none_begins : NoneBeginsAnother spelled) where
-  -- a comma, which is taken, or the closing bracket, which stays
-  abbrev CommaTaken : At T → At T → Type 0
-  CommaTaken m k = Leaves cut (marks.comma ∷ []) m k ⊎ ((m.token ≡ marks.closing) × (k ≡ m))
+-- what stands behind a part: a comma, which is taken, or the closing bracket, which stays
+abbrev pub CommaTaken : {T : Type 0} → (List ℕ → T → List ℕ → Type 0) → ListMarks T → At T → At T → Type 0
+CommaTaken cut marks behind next = Leaves cut (marks.comma ∷ []) behind next ⊎ ((behind.token ≡ marks.closing) × (next ≡ behind))
 
-  pub last_found : (s m k e : At T) (v : V) → Spans cut spelled s m v → CommaTaken m k → Leaves cut (marks.closing ∷ []) k e → Spans cut (SpelledLast marks spelled) s e v
+module _ {T V : Type 0} (cut : List ℕ → T → List ℕ → Type 0) (one_way : IsOneWay cut) (marks : ListMarks T) (apart : marks.closing ≢ marks.comma) (spelled : List T → V → Type 0) (none_begins : NoneBeginsAnother spelled) where
+  pub last_found : (s m k e : At T) (v : V) → Spans cut spelled s m v → CommaTaken cut marks m k → Leaves cut (marks.closing ∷ []) k e → Spans cut (SpelledLast marks spelled) s e v
   last_found s m k e v i (inl l) c = (
     i.0 ++ marks.comma ∷ marks.closing ∷ [],
     (i.0, marks.comma ∷ marks.closing ∷ [], refl, i.1, inr (marks.closing ∷ [], refl, refl)),
@@ -94,7 +94,7 @@ module _ {T V : Type 0} (cut : List ℕ → T → List ℕ → Type 0) (one_way 
         | inr p ↦ let k = subst (λ (xs : List T). Leaves cut xs m f.1) p.1 b in bad.1 k.1.0 (k.0, (k.1.0, k.1.1, refl))
       ]
 
-  pub last_close_refused : (s m k : At T) (x : V) → Spans cut spelled s m x → CommaTaken m k → ((e : At T) → Leaves cut (marks.closing ∷ []) k e → ⊥) → (v : V) → Fits cut (SpelledLast marks spelled) s v → ⊥
+  pub last_close_refused : (s m k : At T) (x : V) → Spans cut spelled s m x → CommaTaken cut marks m k → ((e : At T) → Leaves cut (marks.closing ∷ []) k e → ⊥) → (v : V) → Fits cut (SpelledLast marks spelled) s v → ⊥
   last_close_refused s m k x i (inl l) bad v f =
       let b = behind_last s m x v i f in
       elim f.2.4 [

@@ -1,39 +1,36 @@
 -- The text of a run, as bytes: the current character, and a front of the bytes behind it.
-use Rattle.std.proofs.Common.{◌≡◌, ℕ, ◌+◌, ◌<◌, ◌≤◌, List, [], ◌∷◌, ◌++◌, Bool, true, false, cond, nat_eq, take, length, length-append, chars, encode_utf8, encode_utf8_all, IsUtf8, Option, Some, None, IfSome, option_map, refl, ap, sym, ◌∙◌, subst, arith, suc}
-use Rattle.std.proofs.Math.Utf8.{encode, scalars, scalar}
+use Rattle.std.proofs.Common.{◌≡◌, ℕ, ◌+◌, ◌<◌, ◌≤◌, List, [], ◌∷◌, ◌++◌, Bool, true, false, cond, nat_eq, take, length, length-append, chars, encode_utf8, encode_utf8_all, IsUtf8, Option, Some, None, IfSome, option_map, refl, ap, sym, ◌∙◌, subst, arith}
+use Rattle.std.proofs.Math.Utf8.{scalars, scalar}
 use Rattle.std.proofs.lemmas.Bool.Decides.{nat_tests}
 use Rattle.std.proofs.lemmas.List.{take_at}
-use Rattle.std.proofs.lemmas.Str.{encode_ascii, encodes-append, encodes-chars, scalars-chars, length-le-encodes, IsCharBoundary-at_seam}
+use Rattle.std.proofs.lemmas.Str.{encode_ascii, encodes-append, encodes-chars, scalars-chars, IsCharBoundary-at_seam}
 use Rattle.std.specs.Char.{is_ascii_digit}
 use Rattle.std.specs.List.{AllByRecursion}
 use Rattle.std.specs.Str.{IsCharBoundary, all_ascii_digits}
 use Rattle.std.specs.Str.Iter.{chars_rest}
 use Rattle.std.specs.declared.str.Chars.{Chars}
+use Rattle.std.proofs.lemmas.Bool.{and_parts}
 use Rattle.nano_text.specs.declared.number.ExponentLen.{ExponentLen}
 use Rattle.nano_text.specs.declared.number.Number.TheVariants.{Dec}
 use Rattle.nano_text.specs.Number.{IsNumber, is_minus, Run, Exponent, IsRun, is_sign, is_letter_e, sign_text, fraction_text, exponent_text, run_text}
-use Rattle.nano_text.specs.Place.{held, live, before_nul}
+use Rattle.nano_text.specs.Place.{live, before_nul}
 use Rattle.nano_text.specs.Scan.{exponent_len, decimal_len, fraction_room, exponent_room, run_at, behind_run}
-use Rattle.nano_text.proofs.LiveText.{live-first, live-tail}
+use Rattle.nano_text.proofs.LiveText.{live-first, live-tail, live_fewer}
 use Rattle.nano_text.proofs.Numbers.{decimal_length, decimal_yes, number_at}
-use Rattle.nano_text.proofs.Runs.{and_true, run_split, run_is_run}
+use Rattle.nano_text.proofs.Runs.{run_split, run_is_run}
+use Rattle.nano_text.specs.Each.{all_append}
+use Rattle.nano_text.proofs.Digits.{digit_ascii}
 
 -- ---- a run is ASCII
 
 abbrev IsAsciiText : List ℕ → Type 0
 IsAsciiText cs = AllByRecursion (λ c. c < 128) cs
 
-ascii_append : (xs ys : List ℕ) → IsAsciiText xs → IsAsciiText ys → IsAsciiText (xs ++ ys)
-ascii_append [] ys h k = k
-ascii_append (x ∷ xs) ys h k = (h.0, ascii_append xs ys h.1 k)
-
 digits_ascii : (ds : List ℕ) → all_ascii_digits ds ≡ true → IsAsciiText ds
 digits_ascii [] h = tt
 digits_ascii (d ∷ ds) h =
-    let both = and_true (is_ascii_digit d) (all_ascii_digits ds) h in
-    (small d both.0, digits_ascii ds both.1) where
-      small : (c : ℕ) → is_ascii_digit c ≡ true → c < 128
-      small c e = grind (arith, nat_tests)
+    let both = and_parts (is_ascii_digit d) (all_ascii_digits ds) h in
+    (digit_ascii d both.0, digits_ascii ds both.1)
 
 sign_ascii : (s : Option ℕ) → IfSome s (λ c. is_sign c ≡ true) → IsAsciiText (sign_text s)
 sign_ascii None h = tt
@@ -51,15 +48,15 @@ minus_ascii false = tt
 
 exponent_ascii : (e : Option Exponent) → IfSome e (λ x. is_letter_e x.letter ≡ true) → IfSome e (λ x. all_ascii_digits x.digits ≡ true) → IsAsciiText (exponent_text e)
 exponent_ascii None l d = tt
-exponent_ascii (Some e) l d = (small e.letter l, ascii_append (cond e.minus (45 ∷ []) []) e.digits (minus_ascii e.minus) (digits_ascii e.digits d)) where
+exponent_ascii (Some e) l d = (small e.letter l, all_append (λ c. c < 128) (cond e.minus (45 ∷ []) []) e.digits (minus_ascii e.minus) (digits_ascii e.digits d)) where
   small : (c : ℕ) → is_letter_e c ≡ true → c < 128
   small c h = grind (arith, nat_tests)
 
 run_ascii : (r : Run) → IsRun r → IsAsciiText (run_text r)
 run_ascii r h =
-    ascii_append (sign_text r.sign) (r.whole ++ (fraction_text r.fraction ++ exponent_text r.exponent)) (sign_ascii r.sign h.sign)
-    (ascii_append r.whole (fraction_text r.fraction ++ exponent_text r.exponent) (digits_ascii r.whole h.whole)
-    (ascii_append (fraction_text r.fraction) (exponent_text r.exponent) (fraction_ascii r.fraction h.fraction) (exponent_ascii r.exponent h.letter h.digits)))
+    all_append (λ c. c < 128) (sign_text r.sign) (r.whole ++ (fraction_text r.fraction ++ exponent_text r.exponent)) (sign_ascii r.sign h.sign)
+    (all_append (λ c. c < 128) r.whole (fraction_text r.fraction ++ exponent_text r.exponent) (digits_ascii r.whole h.whole)
+    (all_append (λ c. c < 128) (fraction_text r.fraction) (exponent_text r.exponent) (fraction_ascii r.fraction h.fraction) (exponent_ascii r.exponent h.letter h.digits)))
 
 ascii-encodes : (cs : List ℕ) → IsAsciiText cs → encode_utf8_all cs ≡ cs
 ascii-encodes [] h = refl
@@ -81,7 +78,7 @@ before_nul_front (x ∷ xs) (c ∷ cs) rest e = elim (nat_eq c 0) as (λ (b : Bo
 
 scalars-behind_front : (xs ys : List ℕ) → scalars (xs ++ ys) ≡ true → scalars ys ≡ true
 scalars-behind_front [] ys h = h
-scalars-behind_front (x ∷ xs) ys h = scalars-behind_front xs ys (and_true (scalar x) (scalars (xs ++ ys)) h).1
+scalars-behind_front (x ∷ xs) ys h = scalars-behind_front xs ys (and_parts (scalar x) (scalars (xs ++ ys)) h).1
 
 -- an ASCII front of the live text: its first character is the current one, and the others are a front of the bytes
 pub record IsFront (cur : ℕ) (bytes front : List ℕ) (len : ℕ) : Type 0 where
@@ -108,20 +105,11 @@ pub run_length : (r : Run) → length (run_text r) ≡ length (sign_text r.sign)
 run_length r =
     omega (arith, length-append (sign_text r.sign) (r.whole ++ (fraction_text r.fraction ++ exponent_text r.exponent)), length-append r.whole (fraction_text r.fraction ++ exponent_text r.exponent), decimal_length r.fraction r.exponent)
 
-before_nul_le : (cs : List ℕ) → length (before_nul cs) ≤ length cs
-before_nul_le [] = omega arith
-before_nul_le (c ∷ cs) = elim (nat_eq c 0) as (λ (b : Bool). length (cond b [] (c ∷ before_nul cs)) ≤ suc (length cs)) [ true ↦ omega arith | false ↦ let h = before_nul_le cs in omega arith ]
-
-live_le : (cur : ℕ) (s : Chars) (bytes : List ℕ) → IsUtf8 bytes → bytes ≡ chars_rest s → length (live cur s) ≤ length bytes + 1
-unfolding live
-live_le cur s bytes utf8 is =
-    omega (arith, before_nul_le (cur ∷ held s), ap (λ (bs : List ℕ). length (chars bs)) is, length-le-encodes (chars bytes), ap length (encodes-chars bytes utf8))
-
 -- the run has room in the current character and the bytes behind it
 pub run_room : (cur : ℕ) (s : Chars) (bytes : List ℕ) → IsUtf8 bytes → bytes ≡ chars_rest s → length (run_text (run_at (live cur s))) ≤ length bytes + 1
 run_room cur s bytes utf8 is =
     let text = live cur s in
-    omega (arith, live_le cur s bytes utf8 is, ap length (run_split text), length-append (run_text (run_at text)) (behind_run text))
+    omega (arith, live_fewer cur s, ap length is, ap length (run_split text), length-append (run_text (run_at text)) (behind_run text))
 
 pub run_bytes : (cur : ℕ) (s : Chars) (bytes : List ℕ) (len : ℕ) → IsUtf8 bytes → bytes ≡ chars_rest s → length (run_text (run_at (live cur s))) ≡ len + 1 → IsFront cur bytes (run_text (run_at (live cur s))) len
 run_bytes cur s bytes len utf8 is count =

@@ -1,7 +1,8 @@
 -- The run that a text begins with is the only good one that it can begin with.
-use Rattle.std.proofs.Common.{◌≡◌, ℕ, ◌<◌, ◌≤◌, ◌||◌, ◌⊎◌, inl, inr, List, [], ◌∷◌, ◌++◌, Bool, true, false, cond, refl, ap, ◌∙◌, subst, Option, Some, None, IfSome, append_assoc, length, arith, eqb-true, ne_eqb, ◌&&◌, leb-true}
+use Rattle.std.proofs.Common.{◌≡◌, ℕ, ◌<◌, ◌≤◌, ◌||◌, inl, inr, List, [], ◌∷◌, ◌++◌, Bool, true, false, cond, refl, ap, ◌∙◌, subst, Option, Some, None, IfSome, append_assoc, length, arith, eqb-true, ne_eqb, leb-true}
 use Rattle.std.specs.Char.{is_ascii_digit}
 use Rattle.std.specs.Str.{all_ascii_digits}
+use Rattle.std.proofs.lemmas.Bool.{and_parts, or_cases, or_parts}
 use Rattle.nano_text.specs.Front.{first_is, front, behind}
 use Rattle.nano_text.specs.Number.{Run, Exponent, is_sign, is_point, is_letter_e, is_minus, sign_text, fraction_text, exponent_text, run_text, IsRun, IsGood, AreGoodParts, continues}
 use Rattle.nano_text.specs.Scan.{first_if, behind_one, is_minus_char, fraction_at, behind_fraction, exponent_at, behind_exponent, behind_sign, behind_whole, run_at, behind_run}
@@ -117,16 +118,8 @@ run_ends t = fraction_ends (behind is_ascii_digit (behind_sign t)) (digits_split
 
 -- ---- a good run is the one that is taken
 
-pub and_true : (a b : Bool) → a && b ≡ true → (a ≡ true) × (b ≡ true)
-and_true true b e = (refl, e)
-and_true false b e = cc e
-
-pub or_either : (a b : Bool) → a || b ≡ true → (a ≡ true) ⊎ (b ≡ true)
-or_either true b e = inl refl
-or_either false b e = inr e
-
 pub digit_range : (c : ℕ) → is_ascii_digit c ≡ true → (48 ≤ c) × (c ≤ 57)
-digit_range c h = let p = and_true _ _ h in (leb-true 48 c p.0, leb-true c 57 p.1)
+digit_range c h = let p = and_parts _ _ h in (leb-true 48 c p.0, leb-true c 57 p.1)
 
 digit_no_sign : (c : ℕ) → is_ascii_digit c ≡ true → is_sign c ≡ false
 digit_no_sign c h = let r = digit_range c h in rw (ne_eqb c 43 (λ e. omega arith), ne_eqb c 45 (λ e. omega arith)) refl
@@ -135,19 +128,19 @@ digit_no_minus : (c : ℕ) → is_ascii_digit c ≡ true → is_minus_char c ≡
 digit_no_minus c h = let r = digit_range c h in ne_eqb c 45 (λ e. omega arith)
 
 letter_no_digit : (c : ℕ) → is_letter_e c ≡ true → (is_ascii_digit c ≡ false) × (is_point c ≡ false)
-letter_no_digit c h = elim (or_either _ _ h) [ inl e ↦ (rw (eqb-true c 101 e) refl, rw (eqb-true c 101 e) refl) | inr e ↦ (rw (eqb-true c 69 e) refl, rw (eqb-true c 69 e) refl) ]
+letter_no_digit c h = elim (or_cases _ _ h) [ inl e ↦ (rw (eqb-true c 101 e) refl, rw (eqb-true c 101 e) refl) | inr e ↦ (rw (eqb-true c 69 e) refl, rw (eqb-true c 69 e) refl) ]
 
 digits_again : (ds rest : List ℕ) → all_ascii_digits ds ≡ true → first_is is_ascii_digit rest ≡ false → (front is_ascii_digit (ds ++ rest) ≡ ds) × (behind is_ascii_digit (ds ++ rest) ≡ rest)
 digits_again [] rest h e = (front_stop is_ascii_digit rest e, behind_stop is_ascii_digit rest e)
 digits_again (c ∷ ds) rest h e =
-    let p = and_true (is_ascii_digit c) (all_ascii_digits ds) h in
+    let p = and_parts (is_ascii_digit c) (all_ascii_digits ds) h in
     let r = digits_again ds rest p.1 e in
     (rw p.0 (ap (λ (l : List ℕ). c ∷ l) r.0), rw p.0 r.1)
 
 -- the digits of an exponent begin with no minus
 digits_no_minus : (ds rest : List ℕ) → all_ascii_digits ds ≡ true → 0 < length ds → first_is is_minus_char (ds ++ rest) ≡ false
 digits_no_minus [] rest h n = absurd (omega arith)
-digits_no_minus (c ∷ ds) rest h n = digit_no_minus c (and_true (is_ascii_digit c) (all_ascii_digits ds) h).0
+digits_no_minus (c ∷ ds) rest h n = digit_no_minus c (and_parts (is_ascii_digit c) (all_ascii_digits ds) h).0
 
 exponent_found : (l : ℕ) (m : Bool) (ds rest : List ℕ) → is_letter_e l ≡ true → all_ascii_digits ds ≡ true → 0 < length ds → first_is is_ascii_digit rest ≡ false
     → (exponent_at (exponent_text (Some (record { letter = l; minus = m; digits = ds })) ++ rest) ≡ Some (record { letter = l; minus = m; digits = ds }))
@@ -183,24 +176,20 @@ sign_again : (s : Option ℕ) (rest : List ℕ) → IfSome s (λ c. is_sign c �
 sign_again None rest h n = (first_stop is_sign rest (n refl), one_stop is_sign rest (n refl))
 sign_again (Some c) rest h n = (rw h refl, rw h refl)
 
-pub or_neither : (a b : Bool) → a || b ≡ false → (a ≡ false) × (b ≡ false)
-or_neither true b e = cc e
-or_neither false b e = (refl, e)
-
 -- what goes on with no run of a kind is no digit
 no_digit : (f : Option (List ℕ)) (x : Option Exponent) (rest : List ℕ) → first_is (continues f x) rest ≡ false → first_is is_ascii_digit rest ≡ false
 no_digit None None [] e = refl
 no_digit None (Some x) [] e = refl
 no_digit (Some ds) None [] e = refl
 no_digit (Some ds) (Some x) [] e = refl
-no_digit None None (c ∷ cs) e = (or_neither (is_ascii_digit c) (is_point c) (or_neither (is_ascii_digit c || is_point c) (is_letter_e c) e).0).0
-no_digit (Some ds) None (c ∷ cs) e = (or_neither (is_ascii_digit c) (is_letter_e c) e).0
+no_digit None None (c ∷ cs) e = (or_parts (is_ascii_digit c) (is_point c) (or_parts (is_ascii_digit c || is_point c) (is_letter_e c) e).0).0
+no_digit (Some ds) None (c ∷ cs) e = (or_parts (is_ascii_digit c) (is_letter_e c) e).0
 no_digit None (Some x) (c ∷ cs) e = e
 no_digit (Some ds) (Some x) (c ∷ cs) e = e
 
 no_point : (x : Option Exponent) (rest : List ℕ) → IfSome x (λ e. is_letter_e e.letter ≡ true) → first_is (continues None x) rest ≡ false → first_is is_point (exponent_text x ++ rest) ≡ false
 no_point None [] l e = refl
-no_point None (c ∷ cs) l e = (or_neither (is_ascii_digit c) (is_point c) (or_neither (is_ascii_digit c || is_point c) (is_letter_e c) e).0).1
+no_point None (c ∷ cs) l e = (or_parts (is_ascii_digit c) (is_point c) (or_parts (is_ascii_digit c || is_point c) (is_letter_e c) e).0).1
 no_point (Some x) rest l e = (letter_no_digit x.letter l).1
 
 exponent_no_digit : (f : Option (List ℕ)) (x : Option Exponent) (rest : List ℕ) → IfSome x (λ e. is_letter_e e.letter ≡ true) → first_is (continues f x) rest ≡ false → first_is is_ascii_digit (exponent_text x ++ rest) ≡ false
@@ -219,7 +208,7 @@ exponent_good minus whole (Some ds) (Some x) g = g.1
 
 -- a good run without a sign begins with none
 good_no_sign : (minus : Bool) (whole : List ℕ) (f : Option (List ℕ)) (x : Option Exponent) (rest : List ℕ) → AreGoodParts minus whole f x → all_ascii_digits whole ≡ true → first_is is_sign (whole ++ (fraction_text f ++ rest)) ≡ false
-good_no_sign minus (c ∷ cs) f x rest g h = digit_no_sign c (and_true (is_ascii_digit c) (all_ascii_digits cs) h).0
+good_no_sign minus (c ∷ cs) f x rest g h = digit_no_sign c (and_parts (is_ascii_digit c) (all_ascii_digits cs) h).0
 good_no_sign minus [] (Some ds) x rest g h = refl
 good_no_sign minus [] None None rest g h = absurd (omega (arith, g.0))
 good_no_sign minus [] None (Some x) rest g h = absurd (omega (arith, g.0))

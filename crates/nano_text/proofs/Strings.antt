@@ -8,6 +8,7 @@ use Rattle.nano_text.specs.Front.{front, behind}
 use Rattle.nano_text.specs.String.{Piece, plain, escaped, scalar, pair, unit_text, unit_value, piece_text, piece_char, is_plain, IsPiece, IsString}
 use Rattle.nano_text.proofs.Escapes.{same_unit}
 use Rattle.nano_text.proofs.Utf8Fronts.{front-append-behind}
+use Rattle.nano_text.specs.Each.{all_append}
 
 head_same : (c d : ℕ) (xs ys : List ℕ) → c ∷ xs ≡ d ∷ ys → c ≡ d
 head_same c d xs ys e = cc e
@@ -90,15 +91,11 @@ pub record HasRead (text written left : List ℕ) : Type 0 where
 pub nothing_read : (text : List ℕ) → HasRead text [] text
 nothing_read text = record { pieces = []; good = tt; split = refl; are = refl }
 
-all_append : (ps qs : List Piece) → AllByRecursion IsPiece ps → AllByRecursion IsPiece qs → AllByRecursion IsPiece (ps ++ qs)
-all_append [] qs h k = k
-all_append (p ∷ ps) qs h k = (h.0, all_append ps qs h.1 k)
-
 -- more pieces
 pub reads_more : (text written left more rest : List ℕ) (ps : List Piece) → HasRead text written left → AllByRecursion IsPiece ps → left ≡ flat_map piece_text ps ++ rest → more ≡ written ++ encode_utf8_all (map piece_char ps) → HasRead text more rest
 reads_more text written left more rest ps h good split is = record {
   pieces = h.pieces ++ ps;
-  good = all_append h.pieces ps h.good good;
+  good = all_append IsPiece h.pieces ps h.good good;
   split = h.split ∙ rw (split, flat_map-append piece_text h.pieces ps, append_assoc) refl;
   are = is ∙ rw (h.are, map-append piece_char h.pieces ps, encodes-append (map piece_char h.pieces) (map piece_char ps)) refl;
 }

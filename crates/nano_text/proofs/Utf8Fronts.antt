@@ -3,9 +3,8 @@ use Rattle.std.proofs.Common.{◌≡◌, ℕ, ◌+◌, ◌/◌, ◌≤◌, List,
 use Rattle.std.proofs.Math.Utf8.{encode, scalars, scalar}
 use Rattle.std.specs.List.{AllByRecursion}
 use Rattle.std.specs.Str.{IsCharBoundary}
-use Rattle.std.proofs.lemmas.Bool.{ltb-false, ltb-true, le-ltb}
+use Rattle.std.proofs.lemmas.Bool.{ltb-false, ltb-true, le-ltb, and_parts}
 use Rattle.std.proofs.lemmas.Str.{encode_ascii, encodes-chars, scalars-chars, chars-encodes, IsCharBoundary-at_seam}
-use Rattle.nano_text.proofs.Runs.{and_true}
 use Rattle.nano_text.specs.Front.{front, behind}
 use Rattle.nano_text.specs.Place.{before_nul}
 
@@ -100,7 +99,7 @@ behind-encodes_narrow test narrow (c ∷ cs) = elim (ltb c 128) as (λ (b : Bool
 
 scalars-behind : (test : ℕ → Bool) (cs : List ℕ) → scalars cs ≡ true → scalars (behind test cs) ≡ true
 scalars-behind test [] h = refl
-scalars-behind test (c ∷ cs) h = elim (test c) as (λ (b : Bool). scalars (cond b (behind test cs) (c ∷ cs)) ≡ true) [ true ↦ scalars-behind test cs (and_true (scalar c) (scalars cs) h).1 | false ↦ h ]
+scalars-behind test (c ∷ cs) h = elim (test c) as (λ (b : Bool). scalars (cond b (behind test cs) (c ∷ cs)) ≡ true) [ true ↦ scalars-behind test cs (and_parts (scalar c) (scalars cs) h).1 | false ↦ h ]
 
 -- the bytes of a text, cut behind the front
 pub record CutBehindFront (test : ℕ → Bool) (bytes : List ℕ) : Type 0 where

@@ -1,3 +1,4 @@
+pub mod Each
 pub mod Front
 pub mod Laws
 pub mod ListLaws

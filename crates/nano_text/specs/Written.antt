@@ -3,7 +3,7 @@ use Rattle.std.specs.Prelude.{◌≡◌, ℕ, Bool, cond, List, [], ◌∷◌, �
 use Rattle.std.specs.List.{AllByRecursion, flat_map}
 use Rattle.std.proofs.Common.{ap, sym, subst, inl, inr, append_assoc}
 use Rattle.nano_text.specs.Tokens.{At, Cuts, Leaves, FitsText}
-use Rattle.nano_text.specs.Lists.{ListMarks, SpelledItems, SpelledBehind, SpelledList, SpelledPair}
+use Rattle.nano_text.specs.Lists.{ListMarks, SpelledItems, SpelledBehind, SpelledList}
 
 -- the items, with one comma between two
 abbrev pub divided : {A T : Type 0} → T → (A → List T) → List A → List T

@@ -1,5 +1,5 @@
 -- Arrays and values that are pushed.
-use Rattle.std.proofs.Common.{◌≡◌, ◌+◌, ◌<◌, max, List, [], ◌∷◌, ◌++◌, Vec, Global, length, length-append, arith, refl, ap, ◌∙◌}
+use Rattle.std.proofs.Common.{◌≡◌, ◌+◌, ◌<◌, max, List, [], ◌∷◌, ◌++◌, Vec, Global, length-append, arith, refl, ap, ◌∙◌}
 use denote.Param.Weighed.{most, most-append}
 use Rattle.nano_toml.specs.Data.{Values, more_values, values}
 use Rattle.nano_toml.specs.Fronts.{push_value}
@@ -34,9 +34,6 @@ pub values_view-push_array : (ts : List Toml) (array : Vec Toml Global) → valu
 values_view-push_array ts array = values_view-push ts (SimpleArray array) ∙ ap (push_value (values_view ts)) (view-SimpleArray array)
 
 -- a list of no length is empty
-pub no_items : {A : Type 0} (xs : List A) → length xs ≡ 0 → xs ≡ []
-no_items [] e = refl
-no_items (x ∷ xs) e = absurd (omega arith)
 
 -- the last value of an array is less deep than the array
 pub size-last : (array : Vec Toml Global) (ts : List Toml) (t : Toml) → array.items ≡ ts ++ t ∷ [] → the_size t < the_size (SimpleArray array)

@@ -1,6 +1,7 @@
 -- Numbers, and how they are scanned: one is the other.
 use Rattle.std.proofs.Common.{◌≡◌, ℕ, ◌<◌, ◌≤◌, ◌^◌, List, [], ◌∷◌, ◌++◌, length, length-append, Bool, true, false, cond, ◌==◌, ◌||◌, nat_le, nat_lt, Option, Some, None, option_map, refl, ap, sym, ◌∙◌, subst, inl, inr, append_assoc, true≢false, arith, pos, neg_ℤ}
 use Rattle.std.proofs.lemmas.Bool.Decides.{eqb_tells, nat_tests}
+use Rattle.std.proofs.Math.Bool.{or-true}
 use Rattle.nano_toml.specs.Characters.{is_sign, is_digit, starts_number, is_in_digits, is_in_date, goes_on_integer, Each}
 use Rattle.nano_toml.specs.Span.{begins, front, behind}
 use Rattle.nano_toml.specs.Token.{Token, signed, decimal, nan, infinity, date}
@@ -9,10 +10,6 @@ use Rattle.nano_toml.specs.Number.{Body, is_nan, is_infinity, is_decimal, is_dat
 use Rattle.nano_toml.specs.Scan.{Taken, taken, any_digit, fitting, integer_from, integer_at, decimal_at, date_at, behind_digits, behind_word, behind_sign, number_at}
 use Rattle.nano_toml.proofs.Spans.{front_again, behind_again, span_split, behind_stops, front_passes}
 use Rattle.nano_toml.proofs.Signs.{at_digits, at_nan, at_infinity, past_sign}
-
-or_right : (x : Bool) → x || true ≡ true
-or_right true = refl
-or_right false = refl
 
 -- ---- digits
 
@@ -101,10 +98,10 @@ goes_on_digits : (c : ℕ) → goes_on_integer c ≡ false → is_in_digits c �
 goes_on_digits c h = elim (is_in_digits c) as (λ (b : Bool). b || ((c == 46) || (c == 45)) ≡ false → b ≡ false) [ true ↦ λ e. e | false ↦ λ e. refl ] h
 
 goes_on_point : (c : ℕ) → goes_on_integer c ≡ false → (c == 46) ≡ false
-goes_on_point c h = elim (c == 46) as (λ (b : Bool). is_in_digits c || (b || (c == 45)) ≡ false → b ≡ false) [ true ↦ λ e. sym (or_right (is_in_digits c)) ∙ e | false ↦ λ e. refl ] h
+goes_on_point c h = elim (c == 46) as (λ (b : Bool). is_in_digits c || (b || (c == 45)) ≡ false → b ≡ false) [ true ↦ λ e. sym (or-true (is_in_digits c)) ∙ e | false ↦ λ e. refl ] h
 
 goes_on_minus : (c : ℕ) → goes_on_integer c ≡ false → (c == 45) ≡ false
-goes_on_minus c h = elim (c == 45) as (λ (b : Bool). is_in_digits c || ((c == 46) || b) ≡ false → b ≡ false) [ true ↦ λ e. sym (ap (λ (x : Bool). is_in_digits c || x) (or_right (c == 46)) ∙ or_right (is_in_digits c)) ∙ e | false ↦ λ e. refl ] h
+goes_on_minus c h = elim (c == 45) as (λ (b : Bool). is_in_digits c || ((c == 46) || b) ≡ false → b ≡ false) [ true ↦ λ e. sym (ap (λ (x : Bool). is_in_digits c || x) (or-true (c == 46)) ∙ or-true (is_in_digits c)) ∙ e | false ↦ λ e. refl ] h
 
 stops_digits : (rest : List ℕ) → begins goes_on_integer rest ≡ false → begins is_in_digits rest ≡ false
 stops_digits [] h = refl
@@ -266,7 +263,7 @@ sign_no_minus c h = elim (c == 43) as (λ (b : Bool). b || (c == 45) ≡ false �
 
 digit_begins : (text : List ℕ) → begins is_digit text ≡ true → (begins is_sign text ≡ false) × (begins (λ c. c == 45) text ≡ false) × (begins starts_number text ≡ true)
 digit_begins [] h = cc h
-digit_begins (c ∷ cs) h = (digit_no_sign c h, sign_no_minus c (digit_no_sign c h), rw h (or_right (is_sign c)))
+digit_begins (c ∷ cs) h = (digit_no_sign c h, sign_no_minus c (digit_no_sign c h), rw h (or-true (is_sign c)))
 
 begins_append : (p : ℕ → Bool) (xs ys : List ℕ) → begins p xs ≡ true → begins p (xs ++ ys) ≡ true
 begins_append p [] ys h = cc h

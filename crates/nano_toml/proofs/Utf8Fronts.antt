@@ -1,17 +1,13 @@
 -- The front of a text and the front of its bytes, for a test that every number from 128 on passes.
-use Rattle.std.proofs.Common.{◌≡◌, ℕ, ◌≤◌, List, [], ◌∷◌, ◌++◌, Bool, true, false, cond, ltb, ◌&&◌, chars, encode_utf8_all, IsUtf8, nat_eq, eqb-true, refl, ap, sym, ◌∙◌, arith, length}
+use Rattle.std.proofs.Common.{◌≡◌, ℕ, ◌≤◌, List, [], ◌∷◌, ◌++◌, Bool, true, false, cond, ltb, chars, encode_utf8_all, IsUtf8, nat_eq, eqb-true, refl, ap, sym, ◌∙◌, arith, length}
 use Rattle.std.proofs.Math.Utf8.{encode, scalars, scalar}
 use Rattle.std.specs.Str.{IsCharBoundary}
-use Rattle.std.proofs.lemmas.Bool.{ltb-false, ltb-true, le-ltb}
+use Rattle.std.proofs.lemmas.Bool.{ltb-false, ltb-true, le-ltb, and_parts}
 use Rattle.std.proofs.lemmas.Str.{encode_ascii, encodes-chars, scalars-chars, chars-encodes, IsCharBoundary-at_seam}
 use Rattle.nano_toml.specs.Characters.{Each}
 use Rattle.nano_toml.specs.LiveText.{before_nul}
 use Rattle.nano_toml.specs.Span.{front, behind}
 use Rattle.nano_toml.proofs.Spans.{span_split}
-
-and_true : (a b : Bool) → a && b ≡ true → (a ≡ true) × (b ≡ true)
-and_true true b e = (refl, e)
-and_true false b e = cc e
 
 -- characters that all pass come off the front
 front_passing : (test : ℕ → Bool) (xs ys : List ℕ) → Each test xs → front test (xs ++ ys) ≡ xs ++ front test ys
@@ -63,7 +59,7 @@ behind_encodes test wide (c ∷ cs) = elim (ltb c 128) as (λ (b : Bool). ltb c 
 
 scalars_behind : (test : ℕ → Bool) (cs : List ℕ) → scalars cs ≡ true → scalars (behind test cs) ≡ true
 scalars_behind test [] h = refl
-scalars_behind test (c ∷ cs) h = elim (test c) as (λ (b : Bool). scalars (cond b (behind test cs) (c ∷ cs)) ≡ true) [ true ↦ scalars_behind test cs (and_true (scalar c) (scalars cs) h).1 | false ↦ h ]
+scalars_behind test (c ∷ cs) h = elim (test c) as (λ (b : Bool). scalars (cond b (behind test cs) (c ∷ cs)) ≡ true) [ true ↦ scalars_behind test cs (and_parts (scalar c) (scalars cs) h).1 | false ↦ h ]
 
 -- the bytes of a text, cut behind the front
 pub record CutBehindFront (test : ℕ → Bool) (bytes : List ℕ) : Type 0 where

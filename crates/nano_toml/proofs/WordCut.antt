@@ -1,5 +1,6 @@
 -- Words, and how they are scanned: one is the other.
-use Rattle.std.proofs.Common.{◌≡◌, ℕ, List, [], ◌∷◌, ◌++◌, Bool, true, false, cond, ◌||◌, refl, ap, ◌∙◌}
+use Rattle.std.proofs.Common.{◌≡◌, ℕ, List, [], ◌∷◌, ◌++◌, Bool, true, false, cond, refl, ap, ◌∙◌}
+use Rattle.std.proofs.lemmas.Bool.{or_left}
 use Rattle.nano_toml.specs.Characters.{starts_word, is_in_word, Each}
 use Rattle.nano_toml.specs.Span.{begins, front, behind}
 use Rattle.nano_toml.specs.Word.{IsWord, word_token}
@@ -7,12 +8,9 @@ use Rattle.nano_toml.specs.Cut.{Lexeme, a_word}
 use Rattle.nano_toml.specs.Scan.{lexeme_at, taken}
 use Rattle.nano_toml.proofs.Spans.{front_again, behind_again, span_split, behind_stops, front_passes}
 
-or_true : (x y : Bool) → x ≡ true → (x || y) ≡ true
-or_true x y h = ap (λ z. z || y) h
-
 -- what starts a word may stand in one
 in_word_from_start : (c : ℕ) → starts_word c ≡ true → is_in_word c ≡ true
-in_word_from_start c h = or_true (starts_word c) _ h
+in_word_from_start c h = or_left (starts_word c) _ h
 
 pub at_word : (c : ℕ) (cs : List ℕ) → starts_word c ≡ true → lexeme_at (c ∷ cs) ≡ taken (word_token (front is_in_word (c ∷ cs))) (behind is_in_word (c ∷ cs))
 at_word c cs h = rw h refl

@@ -7,6 +7,7 @@ use Rattle.std.specs.Cmp.{IsPartialEquivalence, IsEquivalence, decided, booleans
 use Rattle.std.proofs.Common.{refl, sym, ap, ◌∙◌, true≢false}
 use Rattle.std.proofs.lemmas.Bool.Decides.{Decides-int_eq}
 use Rattle.std.proofs.lemmas.Slice.Eq.{bytes_eq-Decides}
+use Rattle.std.proofs.lemmas.Bool.{and_parts, and_from}
 use Rattle.nano_toml.specs.Data.{Data, text, boolean, number, decimal, nan, infinity, date, tables, values, Values, no_values, more_values, Tables, no_tables, more_tables, Table, no_pairs, more_pairs}
 use Rattle.nano_toml.specs.View.{view}
 use Rattle.nano_toml.specs.declared.value.Toml.{Toml}
@@ -40,11 +41,6 @@ abbrev mutual
   table_eq (more_pairs k a xs) (more_pairs l b ys) = bytes_eq k l && (data_eq a b && table_eq xs ys)
   table_eq _ _ = false
 
--- each part of a test that holds in both holds
-both : (x y : Bool) → (x && y) ≡ true → (x ≡ true) × (y ≡ true)
-both true y h = (refl, h)
-both false y h = absurd (true≢false (sym h))
-
 -- what passes the test is the same
 mutual
   pub data_eq_same : (a b : Data) → data_eq a b ≡ true → a ≡ b
@@ -62,28 +58,24 @@ mutual
   values_eq_same : (a b : Values) → values_eq a b ≡ true → a ≡ b
   values_eq_same no_values no_values h = refl
   values_eq_same (more_values a xs) (more_values b ys) h =
-      let k = both (data_eq a b) (values_eq xs ys) h in
+      let k = and_parts (data_eq a b) (values_eq xs ys) h in
       ap (λ c. more_values c xs) (data_eq_same a b k.0) ∙ ap (more_values b) (values_eq_same xs ys k.1)
   values_eq_same _ _ h = absurd (true≢false (sym h))
 
   tables_eq_same : (a b : Tables) → tables_eq a b ≡ true → a ≡ b
   tables_eq_same no_tables no_tables h = refl
   tables_eq_same (more_tables a xs) (more_tables b ys) h =
-      let k = both (table_eq a b) (tables_eq xs ys) h in
+      let k = and_parts (table_eq a b) (tables_eq xs ys) h in
       ap (λ c. more_tables c xs) (table_eq_same a b k.0) ∙ ap (more_tables b) (tables_eq_same xs ys k.1)
   tables_eq_same _ _ h = absurd (true≢false (sym h))
 
   table_eq_same : (a b : Table) → table_eq a b ≡ true → a ≡ b
   table_eq_same no_pairs no_pairs h = refl
   table_eq_same (more_pairs k a xs) (more_pairs l b ys) h =
-      let p = both (bytes_eq k l) (data_eq a b && table_eq xs ys) h in
-      let q = both (data_eq a b) (table_eq xs ys) p.1 in
+      let p = and_parts (bytes_eq k l) (data_eq a b && table_eq xs ys) h in
+      let q = and_parts (data_eq a b) (table_eq xs ys) p.1 in
       ap (λ c. more_pairs c a xs) ((bytes_eq-Decides k l).0 p.0) ∙ (ap (λ c. more_pairs l c xs) (data_eq_same a b q.0) ∙ ap (more_pairs l b) (table_eq_same xs ys q.1))
   table_eq_same _ _ h = absurd (true≢false (sym h))
-
--- a test holds in both where each part does
-both_true : (x y : Bool) → x ≡ true → y ≡ true → (x && y) ≡ true
-both_true x y h k = ap (λ z. z && y) h ∙ k
 
 -- what is the same passes the test
 mutual
@@ -100,15 +92,15 @@ mutual
 
   values_eq_refl : (a : Values) → values_eq a a ≡ true
   values_eq_refl no_values = refl
-  values_eq_refl (more_values a xs) = both_true _ _ (data_eq_refl a) (values_eq_refl xs)
+  values_eq_refl (more_values a xs) = and_from _ _ (data_eq_refl a) (values_eq_refl xs)
 
   tables_eq_refl : (a : Tables) → tables_eq a a ≡ true
   tables_eq_refl no_tables = refl
-  tables_eq_refl (more_tables a xs) = both_true _ _ (table_eq_refl a) (tables_eq_refl xs)
+  tables_eq_refl (more_tables a xs) = and_from _ _ (table_eq_refl a) (tables_eq_refl xs)
 
   table_eq_refl : (a : Table) → table_eq a a ≡ true
   table_eq_refl no_pairs = refl
-  table_eq_refl (more_pairs k a xs) = both_true _ _ ((bytes_eq-Decides k k).1 refl) (both_true _ _ (data_eq_refl a) (table_eq_refl xs))
+  table_eq_refl (more_pairs k a xs) = and_from _ _ ((bytes_eq-Decides k k).1 refl) (and_from _ _ (data_eq_refl a) (table_eq_refl xs))
 
 -- the test tells exactly whether two values are the same
 pub data_eq-Decides : (a b : Data) → Decides (data_eq a b) (a ≡ b)

@@ -7,6 +7,7 @@ use Rattle.std.specs.Option.{option_map, option_eq}
 use Rattle.std.specs.Cmp.{first_so, second_so, unsigned_Decides, signed_Decides, booleans_Decides}
 use Rattle.std.specs.Cmp.Lexicographic.{pointwise, bytes_decides}
 use Rattle.std.proofs.Common.{ap, sym, ◌∙◌, subst}
+use Rattle.std.proofs.lemmas.Bool.{and_from}
 use Rattle.nano_value.specs.Meaning.{Meaning, number, text, nothing, both, whole, truth, optional, listed, paired, pair_map, number_injective, truth_injective, whole_injective, text_injective, both_injective}
 
 -- the test is true of two values exactly where they mean the same
@@ -15,9 +16,6 @@ Tells {A} test means = (x y : A) → Decides (test x y) (means x ≡ means y)
 
 false_is_not_true : {P : Type 0} → false ≡ true → P
 false_is_not_true h = absurd (cc)
-
-and_is_true : (b c : Bool) → b ≡ true → c ≡ true → (b && c) ≡ true
-and_is_true b c h k = ap (λ d. d && c) h ∙ k
 
 pub unsigned_tell : Tells nat_eq whole
 unsigned_tell x y = ((λ e. ap whole ((unsigned_Decides x y).0 e)), λ e. (unsigned_Decides x y).1 (whole_injective x y e))
@@ -48,14 +46,14 @@ module _ {A : Type 0} (means : A → Meaning) (test : A → A → Bool) (tells :
   lists_tell (x ∷ xs) (y ∷ ys) = (
     λ e i. both ((tells x y).0 (first_so (test x y) (pointwise test xs ys) e) i) ((lists_tell xs ys).0 (second_so (test x y) (pointwise test xs ys) e) i),
     λ e. let parts = both_injective (means x) (listed (map means xs)) (means y) (listed (map means ys)) e in
-        and_is_true (test x y) (pointwise test xs ys) ((tells x y).1 parts.0) ((lists_tell xs ys).1 parts.1),
+        and_from (test x y) (pointwise test xs ys) ((tells x y).1 parts.0) ((lists_tell xs ys).1 parts.1),
   )
 
 pub pairs_tell : {A B : Type 0} (f : A → Meaning) (test : A → A → Bool) (g : B → Meaning) (test' : B → B → Bool) → Tells test f → Tells test' g → Tells (λ x y. test x.0 y.0 && test' x.1 y.1) (λ x. paired (pair_map f g x))
 pairs_tell f test g test' t u x y = (
   λ e i. both ((t x.0 y.0).0 (first_so (test x.0 y.0) (test' x.1 y.1) e) i) ((u x.1 y.1).0 (second_so (test x.0 y.0) (test' x.1 y.1) e) i),
   λ e. let parts = both_injective (f x.0) (g x.1) (f y.0) (g y.1) e in
-      and_is_true (test x.0 y.0) (test' x.1 y.1) ((t x.0 y.0).1 parts.0) ((u x.1 y.1).1 parts.1),
+      and_from (test x.0 y.0) (test' x.1 y.1) ((t x.0 y.0).1 parts.0) ((u x.1 y.1).1 parts.1),
 )
 
 and_assoc : (a b c : Bool) → (a && b) && c ≡ a && (b && c)

@@ -1,4 +1,4 @@
-use Rattle.std.proofs.Common.{IsUtf8, ◌-◌, take, drop, sym, ap, subst, arith}
+use Rattle.std.proofs.Common.{IsUtf8, ◌-◌, drop, sym, subst, arith}
 use Rattle.std.proofs.lemmas.List.{length-drop, take_all}
 use Rattle.std.proofs.lemmas.Str.{IsUtf8-from_ascii}
 use Rattle.nano_json.proofs.digits.append_ascii.Goals as goal

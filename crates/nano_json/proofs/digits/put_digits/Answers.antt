@@ -1,4 +1,4 @@
-use Rattle.std.proofs.Common.{arith, rules}
+use Rattle.std.proofs.Common.{rules}
 use Rattle.nano_json.proofs.PutDigits.{room_in_front, digit_put, last_digit_put}
 use Rattle.nano_json.proofs.digits.put_digits.Goals as goal
 

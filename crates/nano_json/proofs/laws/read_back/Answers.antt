@@ -1,8 +1,6 @@
-use Rattle.std.proofs.Common.{◌≡◌, Bool, true, false, refl, sym, ◌∙◌, ap, subst}
-use Rattle.nano_text.specs.Place.{live_text}
-use Rattle.nano_text.specs.Tokens.{FitsText}
-use Rattle.nano_json.specs.Cut.{Cut}
-use Rattle.nano_json.proofs.RoundTrip.{written_fits, one_fits_text, by_contradiction}
+use Rattle.std.proofs.Common.{sym, ◌∙◌, subst}
+use Rattle.std.proofs.lemmas.Bool.{true_from_ne_false}
+use Rattle.nano_json.proofs.RoundTrip.{written_fits, one_fits_text}
 use Rattle.nano_json.proofs.laws.read_back.Goals as goal
 
 pub returns-in-Ok-deserialize_json-clause-same : goal.returns-in-Ok-deserialize_json-clause-same
@@ -21,4 +19,4 @@ returns-in-Ok-clause-memory g c sound =
     let legal = subst (λ m. w.legal m) (λ i. sym g.met.T.SerJson.writes_meaning i x) (g.met.T.SerJson.writes_legal (g.T.Value.means x) c.known.ensures) in
     let written = w.is_written g.met.T.SerJson.orders_keys x legal 0 in
     let fits = written_fits g.T.DeJson.spelling.spelled (w.tokens x) (w.text 0 x) c.as_str.result.now (g.T.Value.means x) written (c.as_str.ensures.value ∙ c.in-Ok.ensures) (c.written_tokens_spell_a_sound_value.ensures sound) in
-    by_contradiction c.in-Err-deserialize_json.error.memory (λ e. c.in-Err-deserialize_json.ensures.refused e _ fits)
+    true_from_ne_false c.in-Err-deserialize_json.error.memory (λ e. c.in-Err-deserialize_json.ensures.refused e _ fits)

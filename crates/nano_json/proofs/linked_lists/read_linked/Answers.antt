@@ -1,6 +1,7 @@
 use Rattle.std.proofs.Common.{◌≡◌, inl, inr, sym, ap, subst, arith, List, ◌∷◌, [], ◌++◌, map}
 use Rattle.std.proofs.lemmas.Grind.{common_steps}
 use Rattle.std.proofs.lemmas.Result.{err_from_is_err_and}
+use Rattle.std.proofs.lemmas.List.{map-append}
 use Rattle.nano_value.specs.Meaning.{Meaning}
 use Rattle.nano_text.proofs.ListReading.{SoFar, start_so_far, start_left, item_left, next_so_far, next_left, open_refused, item_refused, comma_refused, close_refused, close_found}
 use Rattle.nano_json.specs.Cut.{Cut}
@@ -9,7 +10,7 @@ use Rattle.nano_json.specs.Token.{comma}
 use Rattle.nano_json.specs.Spellings.{blocks}
 use Rattle.nano_json.specs.SpellingLaws.{no_item_closes, closing_is_apart}
 use Rattle.nano_json.proofs.Cuts.{cut_one_way}
-use Rattle.nano_json.proofs.Reading.{close_is, not_close, value_shorter, map_push, either_way}
+use Rattle.nano_json.proofs.Reading.{close_is, not_close, value_shorter, either_way}
 use Rattle.nano_json.proofs.Shorter.{left, leaves_shorter}
 use Rattle.nano_json.proofs.linked_lists.read_linked.Goals as goal
 
@@ -55,7 +56,7 @@ items-preserved g c =
     let taken = map means c.items.items in
     let item = means c.in_ok-item.item in
     let grown : c.push_back.new.self ≡ c.items.items ++ c.in_ok-item.item ∷ [] = grind (arith, common_steps) in
-    let same = sym (map_push means c.items.items c.in_ok-item.item) in
+    let same = sym (map-append means c.items.items (c.in_ok-item.item ∷ [])) in
     record {
       so_far = rw grown (subst (λ (ms : List Meaning). SoFar Cut blocks s.spelled start next ms) same (next_so_far Cut cut_one_way blocks closing_is_apart s.spelled s.laws.none_begins (no_item_closes s.laws) start here behind next taken item c.items.invariant.so_far other c.in_ok-item.ensures.fits (either_way c.in_ok-eat_comma_block.ensures.taken)));
       still = next_left Cut cut_one_way blocks closing_is_apart s.spelled s.laws.none_begins (no_item_closes s.laws) start here behind next item c.items.invariant.still other c.in_ok-item.ensures.fits (either_way c.in_ok-eat_comma_block.ensures.taken);

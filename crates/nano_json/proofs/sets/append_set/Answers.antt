@@ -1,4 +1,4 @@
-use Rattle.std.proofs.Common.{encode_utf8, ◌++◌, OnOk, string_bytes, encode_utf8_all, ap, sym, append-nil}
+use Rattle.std.proofs.Common.{encode_utf8, string_bytes, sym, append-nil}
 use Rattle.std.specs.Map.Iter.{deref}
 use Rattle.std.proofs.lemmas.Result.{on_ok_weaker}
 use Rattle.nano_json.proofs.WrittenItems.{write_step, items_enclosed, pushed, mapped_enclosed}

@@ -1,4 +1,4 @@
-use Rattle.std.proofs.Common.{rules, string_bytes, eqb-true, sym, ◌∙◌}
+use Rattle.std.proofs.Common.{rules, string_bytes, eqb-true, sym}
 use Rattle.nano_json.proofs.WrittenRuns.{runs_more, runs_done}
 use Rattle.nano_json.proofs.strings.append_characters.Goals as goal
 

@@ -1,4 +1,4 @@
-use Rattle.std.proofs.Common.{◌≡◌, ◌++◌, sym, ◌∙◌, ap, subst, length, string_bytes}
+use Rattle.std.proofs.Common.{sym, ◌∙◌, ap, subst, length, string_bytes}
 use Rattle.std.specs.Str.{IsCharBoundary}
 use Rattle.nano_text.specs.Front.{front}
 use Rattle.nano_json.specs.Written.{stands_as_itself}

@@ -4,10 +4,11 @@ use Rattle.std.proofs.lemmas.Map.Iter.{hash_map_turn}
 use Rattle.std.specs.Map.Iter.{deref_pair}
 use Rattle.std.specs.Option.{option_copied}
 use Rattle.std.specs.String.{string_eq_equiv}
+use Rattle.std.proofs.lemmas.List.{nil_from_length}
 use Rattle.nano_toml.specs.View.{view, values_view, tables_view, table_view}
 use Rattle.nano_toml.specs.declared.value.Toml.{Toml, SimpleArray}
 use Rattle.nano_toml.proofs.value.Toml.TheLaws.{the_size}
-use Rattle.nano_toml.proofs.ArrayViews.{values_view-push, values_view-push_same, no_items, size-last}
+use Rattle.nano_toml.proofs.ArrayViews.{values_view-push, values_view-push_same, size-last}
 use Rattle.nano_toml.specs.Fronts.{push_value}
 use Rattle.nano_toml.proofs.TableViews.{at-table_view, same_tables_from_entries, values_view-from_places, length-from_values_view, tables_view-from_places, length-from_tables_view, view-Array, view-SimpleArray, Map, value_here, table_here, is_some-at, has_key}
 use Rattle.nano_toml.specs.Data.{at, tables, Tables, values, Values}
@@ -105,7 +106,7 @@ pushed_same : (xs ys : List Toml) (x y : Toml) → values_view xs ≡ values_vie
 pushed_same xs ys x y h k = values_view-push xs x ∙ (ap (λ vs. push_value vs (view x)) h ∙ (ap (push_value (values_view ys)) k ∙ sym (values_view-push ys y)))
 
 both_empty : (xs ys : List Toml) → length xs ≡ 0 → length ys ≡ 0 → values_view xs ≡ values_view ys
-both_empty xs ys h k = ap values_view (no_items xs h ∙ sym (no_items ys k))
+both_empty xs ys h k = ap values_view (nil_from_length xs h ∙ sym (nil_from_length ys k))
 
 -- what two lists mean is the same exactly if what the vectors hold is
 list_one : (a b : Toml) (x y : Vec Toml Global) → a ≡ SimpleArray x → b ≡ SimpleArray y → view a ≡ view b → values_view x.items ≡ values_view y.items

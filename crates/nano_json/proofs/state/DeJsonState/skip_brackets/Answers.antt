@@ -1,8 +1,9 @@
 use Rattle.std.proofs.Common.{arith, sym}
 use Rattle.std.proofs.lemmas.Result.{err_from_is_err_and}
+use Rattle.nano_text.proofs.LiveText.{live_fewer}
 use Rattle.nano_json.specs.State.{at, pending}
 use Rattle.nano_json.proofs.BracketCounts.{start, step, goes_on, bracket_cut, end_is, end_not, room_start, room_step, room_below}
-use Rattle.nano_json.proofs.Shorter.{live_fewer, token_shorter}
+use Rattle.nano_json.proofs.Shorter.{token_shorter}
 use Rattle.nano_json.proofs.state.DeJsonState.skip_brackets.Goals as goal
 
 pub returns-in_err-advance-clause-refused : goal.returns-in_err-advance-clause-refused

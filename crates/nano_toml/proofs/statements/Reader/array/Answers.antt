@@ -1,5 +1,6 @@
 use Rattle.std.proofs.Common.{◌≡◌, ap, sym, refl, ◌∙◌, [], ◌∷◌, arith}
 use Rattle.std.proofs.lemmas.Result.{err_from_is_err_and}
+use Rattle.std.proofs.lemmas.List.{nil_from_length}
 use Rattle.nano_toml.specs.Data.{no_values, values}
 use Rattle.nano_toml.specs.Fronts.{closed, is_open, push_value, array_front}
 use Rattle.nano_toml.specs.LiveText.{live}
@@ -8,7 +9,7 @@ use Rattle.nano_toml.specs.Taken.{token_of}
 use Rattle.nano_toml.specs.Token.{open_bracket, close_bracket, comma}
 use Rattle.nano_toml.specs.View.{view, values_view}
 use Rattle.nano_toml.specs.declared.token.TomlTok.TheVariants as tok
-use Rattle.nano_toml.proofs.ArrayViews.{arrays_view-push, values_view-push, values_view-push_array, no_items}
+use Rattle.nano_toml.proofs.ArrayViews.{arrays_view-push, values_view-push, values_view-push_array}
 use Rattle.nano_toml.proofs.ReadLemmas.{Took-at, GoesOn-scalar, GoesOn-token, Reads-closed, Reads-open, ReadsNothing-on, ReadsNothing-cut, ReadsNothing-fails}
 use Rattle.nano_toml.proofs.TableViews.{view-SimpleArray}
 use Rattle.nano_toml.proofs.Unexpected.{no_item}
@@ -64,7 +65,7 @@ returns-in-None-clause-found c =
     let start = array_front [] no_values in
     let front = array_front outer here in
     let means = view-SimpleArray c.tokens.here in
-    let none : outer ≡ [] = ap (λ vs. arrays_view vs []) (no_items c.tokens.outer.items (omega (arith, c.in-None.ensures.cases.0, c.tokens.outer.ok.0))) in
+    let none : outer ≡ [] = ap (λ vs. arrays_view vs []) (nil_from_length c.tokens.outer.items (omega (arith, c.in-None.ensures.cases.0, c.tokens.outer.ok.0))) in
     Reads-closed start (closed (values here)) text rest _
     (GoesOn-token start front (closed (values here)) text now rest close_bracket c.tokens.invariant (Took-at now rest c.in_ok-tok.tok tok.BlockClose c.in-BlockClose.is c.in_ok-tok.ensures.cut) (λ more. ap (λ a. array_front a here (close_bracket ∷ more)) none))
     (λ more. ap (λ d. closed d more) (sym means))
