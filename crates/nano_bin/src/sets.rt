@@ -16,7 +16,7 @@ use crate::take::no_memory;
 use crate::traits::{BothBin, DeBin, SerBin};
 use nano_value::{Key, items_in_order};
 use std::alloc::{AllocError, Global};
-use std::collections::{BTreeSet, HashSet};
+use std::collections::HashSet;
 use std::hash::Hash;
 
 impl<T: SerBin + Key + Hash + Ord> SerBin for HashSet<T> {
@@ -35,14 +35,14 @@ impl<T: SerBin + Key + Hash + Ord> SerBin for HashSet<T> {
 }
 
 /// Appends items, or cuts `output` back to its first `start` bytes where that is refused.
-fn append_ordered<T: SerBin + Ord>(
+fn append_ordered<T: SerBin>(
     alloc: Global,
-    items: &BTreeSet<&T>,
+    items: &[&T],
     output: &mut Vec<u8>,
     start: usize,
 ) -> Result<(), AllocError>
     requires { start ≤ length output.old.items }
-    ensures ok { OnOk result (output.new.items ≡ output.old.items ++ flat_map T.writing.written (map deref items.now.keys)) }
+    ensures ok { OnOk result (output.new.items ≡ output.old.items ++ flat_map T.writing.written (map deref items.now)) }
     ensures err { OnErr result (output.new.items ≡ take start output.old.items) }
 {
     for item in items {

@@ -1,8 +1,9 @@
 -- What a loop over items has written.
-use Rattle.std.proofs.Common.{◌≡◌, ℕ, refl, Bool, true, false, cond, List, [], ◌∷◌, ◌++◌, map, encode_utf8_all, sym, ◌∙◌, ap, append_assoc, append-nil, Result, Ok, Err, OnOk}
+use Rattle.std.proofs.Common.{◌≡◌, ℕ, suc, ◌+◌, ◌<◌, arith, drop, get_or, length, refl, Bool, true, false, cond, List, [], ◌∷◌, ◌++◌, map, encode_utf8_all, sym, ◌∙◌, ap, append_assoc, append-nil, Result, Ok, Err, OnOk}
 use Rattle.std.specs.Bool.{if◌then◌else◌}
 use Rattle.std.specs.Result.{is_ok}
 use Rattle.std.specs.List.{flat_map}
+use Rattle.std.proofs.Math.Seq.{drop-cons}
 use Rattle.std.proofs.lemmas.Str.{encodes-append}
 use Rattle.nano_text.specs.Written.{divided, in_list, enclosed, enclosed_same}
 use Rattle.nano_text.specs.Lists.{ListMarks}
@@ -34,6 +35,12 @@ module _ {A : Type 0} (W : A → List ℕ) where
         is = e ∙ (ap (λ l. l ++ encode_utf8_all item) h.is ∙ (append_assoc before (encode_utf8_all h.done) (encode_utf8_all item) ∙ ap (λ l. before ++ l) (sym (encodes-append h.done item))));
         rest = append_assoc h.done item (left_in_list W false rest) ∙ (ap (λ l. h.done ++ l) (sym (one_more first x rest) ∙ ap (left_in_list W first) (sym i)) ∙ h.rest);
       }
+
+  -- the item of a slice that stands at i
+  pub write_next : (before now more : List ℕ) (first : Bool) (i : ℕ) (all : List A) (x : A) → i < length all → x ≡ get_or all i x → WritesSoFar W before now first (drop i all) all → more ≡ now ++ encode_utf8_all (in_list 44 first (W x)) → WritesSoFar W before more false (drop (i + 1) all) all
+  write_next before now more first i all x inside is h e =
+      let next : suc i ≡ i + 1 = omega arith in
+      write_step before now more first _ _ all x h (drop-cons all i x inside ∙ (λ j. sym is j ∷ drop (next j) all)) e
 
   none_left : (first : Bool) → left_in_list W first [] ≡ []
   none_left true = refl

@@ -24,7 +24,7 @@ use crate::traits::{BothJson, DeJson, SerJson};
 use crate::write_state::{SerJsonState, keep_written};
 use nano_value::{Key, entries_in_order};
 use std::alloc::{AllocError, Global};
-use std::collections::{BTreeMap, HashMap};
+use std::collections::HashMap;
 use std::hash::Hash;
 use std::str::Chars;
 
@@ -109,13 +109,13 @@ fn append_entry<K: SerJson, V: SerJson>(
 }
 
 /// Appends entries between curly brackets. A refused growth leaves what was written so far.
-fn append_map<K: SerJson + Ord, V: SerJson>(
+fn append_map<K: SerJson, V: SerJson>(
     alloc: Global,
-    entries: &BTreeMap<&K, &V>,
+    entries: &[(&K, &V)],
     d: usize,
     s: &mut SerJsonState,
 ) -> Result<(), AllocError>
-    ensures ok { OnOk result (string_bytes s.new.out ≡ string_bytes s.old.out ++ encode_utf8_all (written_entries (K.writing.text d) (V.writing.text d) (map deref_pair entries.now.entries))) }
+    ensures ok { OnOk result (string_bytes s.new.out ≡ string_bytes s.old.out ++ encode_utf8_all (written_entries (K.writing.text d) (V.writing.text d) (map deref_pair entries.now))) }
     ensures err { OnErr result ((more : List ℕ) × (string_bytes s.new.out ≡ string_bytes s.old.out ++ more)) }
 {
     s.out.push('{')?;

@@ -25,7 +25,7 @@ use crate::traits::{BothJson, DeJson, SerJson};
 use crate::write_state::{SerJsonState, keep_written};
 use nano_value::{Key, items_in_order};
 use std::alloc::{AllocError, Global};
-use std::collections::{BTreeSet, HashSet};
+use std::collections::HashSet;
 use std::hash::Hash;
 use std::str::Chars;
 
@@ -75,13 +75,13 @@ impl<T: DeJson + Key + Hash> DeJson for HashSet<T> {
 }
 
 /// Appends items between square brackets. A refused growth leaves what was written so far.
-fn append_set<T: SerJson + Ord>(
+fn append_set<T: SerJson>(
     alloc: Global,
-    items: &BTreeSet<&T>,
+    items: &[&T],
     d: usize,
     s: &mut SerJsonState,
 ) -> Result<(), AllocError>
-    ensures ok { OnOk result (string_bytes s.new.out ≡ string_bytes s.old.out ++ encode_utf8_all (written_list (T.writing.text d) (map deref items.now.keys))) }
+    ensures ok { OnOk result (string_bytes s.new.out ≡ string_bytes s.old.out ++ encode_utf8_all (written_list (T.writing.text d) (map deref items.now))) }
     ensures err { OnErr result ((more : List ℕ) × (string_bytes s.new.out ≡ string_bytes s.old.out ++ more)) }
 {
     s.out.push('[')?;

@@ -1,6 +1,7 @@
 -- The entries of a map in the order of the keys, as they are written.
 use Rattle.std.specs.Prelude.{◌≡◌, ◌≢◌, ◌+◌, ◌<◌, Bool, true, false, cond, ◌&&◌, T, refl, List, [], ◌∷◌, ◌++◌, map, length, Option, Some, None, is_some}
-use Rattle.std.specs.List.{AllByRecursion, IsDistinct}
+use Rattle.std.specs.List.{AllByRecursion}
+use Rattle.std.specs.List.Sorted.{IsStrictlySortedBy}
 use Rattle.std.specs.Option.{option_map, unwrap_or}
 use Rattle.std.specs.Bool.{one_answer}
 use Rattle.std.specs.declared.cmp.Ordering.{Ordering}
@@ -13,6 +14,7 @@ use Rattle.std.specs.FinMap.Entries.{by_order, below_all, put, is_sorted}
 use Rattle.std.specs.Map.{lookup, keys_of}
 use Rattle.std.proofs.Common.{sym, ◌∙◌, subst, ap, append_assoc}
 use Rattle.std.proofs.lemmas.List.{append-nil}
+use Rattle.std.proofs.lemmas.Map.Keys.{IsDistinct-from_sorted}
 use Rattle.nano_value.specs.Meaning.{Meaning, pair_map, usize_bound}
 use Rattle.nano_value.specs.Order.{meaning_cmp, meaning_cmp-total, meaning_cmp-antisymmetric, same_meaning, same_meaning-decides}
 use Rattle.nano_value.specs.Exact.{Tells}
@@ -50,6 +52,16 @@ less Greater p = absurd p
 
 equal : (r : Ordering) → is_eq r ≡ true → r ≡ Equal
 equal r e = (Equal-is r).0 e
+
+module _ {K X : Type 0} (R : K → K → Ordering) where
+  strictly_below : (x : K) (es : List (K × X)) → T (below_all R x es) → AllByRecursion (λ y. R x y ≡ Less) (keys_of es)
+  strictly_below x [] h = tt
+  strictly_below x (e ∷ es) h = (less _ (first _ _ h), strictly_below x es (second _ _ h))
+
+  pub strictly_sorted : (es : List (K × X)) → T (is_sorted R es) → IsStrictlySortedBy R (keys_of es)
+  unfolding IsStrictlySortedBy
+  strictly_sorted [] h = tt
+  strictly_sorted (e ∷ es) h = (strictly_below e.0 es (first _ _ h), strictly_sorted es (second _ _ h))
 
 module _ {K X : Type 0} {R : K → K → Ordering} (o : IsTotalOrder R) where
   below_less : (x y : K) (es : List (K × X)) → R x y ≡ Less → T (below_all R y es) → table.find R x es ≡ None
@@ -231,15 +243,6 @@ module _ {K V X : Type 0} (R : K → K → Ordering) (f : K → Meaning) (order 
 
   -- ---- the entries in order are those of the same table
 
-  distinct_below : (x : K) (es : List (K × V)) → T (below_all R x es) → AllByRecursion (λ y. eq_by_cmp R x y ≡ false) (keys_of es)
-  distinct_below x [] h = tt
-  distinct_below x (e ∷ es) h = (ap is_eq (less _ (first _ _ h)), distinct_below x es (second _ _ h))
-
-  distinct_sorted : (es : List (K × V)) → T (is_sorted R es) → IsDistinct (eq_by_cmp R) (keys_of es)
-  unfolding IsDistinct
-  distinct_sorted [] h = tt
-  distinct_sorted (e ∷ es) h = (distinct_below e.0 es (first _ _ h), distinct_sorted es (second _ _ h))
-
   untied : (q : Meaning) (k x : K) → R k x ≡ Greater → same_meaning q (f x) ≡ true → same_meaning q (f k) ≡ true → ⊥
   untied q k x g a b =
       let same_key : f k ≡ f x = sym ((same_meaning-decides q (f k)).0 b) ∙ (same_meaning-decides q (f x)).0 a in
@@ -256,7 +259,7 @@ module _ {K V X : Type 0} (R : K → K → Ordering) (f : K → Meaning) (order 
       ] refl
 
   get-entries : (u : FinMap R V) (q : Meaning) → table.get (table_of f g (table.entries u)) q ≡ option_map g (lookup (λ x. same_meaning q (f x)) (table.entries u))
-  get-entries u q = get-table_of f g (eq_by_cmp R) order.ties (table.entries u) q (distinct_sorted (table.entries u) (table.entries_sorted u))
+  get-entries u q = get-table_of f g (eq_by_cmp R) order.ties (table.entries u) q (IsDistinct-from_sorted R (keys_of (table.entries u)) (strictly_sorted R (table.entries u) (table.entries_sorted u)))
 
   table_of-entries : (u : FinMap R V) (k : K) (v : V) → table_of f g (table.entries (table.insert u k v)) ≡ table.insert (table_of f g (table.entries u)) (f k) (g v)
   table_of-entries u k v =

@@ -1,10 +1,9 @@
--- what is appended, and the entries that are left, are all
+-- the entries so far are appended
+use Rattle.std.proofs.Common.{◌≡◌, ◌++◌, map, take}
+use Rattle.std.specs.List.{flat_map}
 use Rattle.std.specs.Map.Iter.{deref_pair}
 use Rattle.nano_bin.specs.Writing.{written_pair}
-use Rattle.nano_bin.proofs.Writers.{WritesSoFar}
 use Rattle.nano_bin.proofs.maps.append_entries.Given as goal
 
 abbrev pub invariant-loop-key : goal.invariant-loop-key
-invariant-loop-key g l =
-    let W = written_pair g.K.SerBin.writing.written g.V.SerBin.writing.written in
-    WritesSoFar (λ e. W (deref_pair e)) l.fn.output.items l.output.items l.key-iterator l.entries.entries
+invariant-loop-key g l = l.output.items ≡ l.fn.output.items ++ flat_map (written_pair g.K.SerBin.writing.written g.V.SerBin.writing.written) (map deref_pair (take l.key-index l.entries))
