@@ -5,6 +5,8 @@
 #[cfg(test)]
 mod container_tests;
 #[cfg(test)]
+mod front_tests;
+#[cfg(test)]
 mod helper_tests;
 #[cfg(test)]
 mod token_tests;

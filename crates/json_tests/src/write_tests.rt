@@ -147,6 +147,7 @@ fn maps_and_sets_are_read_and_written(rt: HostRuntime) -> Result<(), Fail> {
 fn tuples_are_read_and_written(rt: HostRuntime) -> Result<(), Fail> {
     let alloc = rt.alloc();
     normal::<(u8, u8)>(&rt, alloc, &[("[1,2,]", "[1,2]")])?;
+    normal::<(u8, String)>(&rt, alloc, &[("[1,\"a\\n\",]", "[1,\"a\\n\"]")])?;
     let three = [("[1,\"a\\n\",true]", "[1,\"a\\n\",true]")];
     normal::<(u8, String, bool)>(&rt, alloc, &three)?;
     normal::<(u8, i8, (), Option<u8>)>(&rt, alloc, &[("[1,-0,null,null]", "[1,0,null,null]")])
@@ -168,9 +169,10 @@ fn text_is_appended_at_any_level(rt: HostRuntime) -> Result<(), Fail> {
     let mut state = SerJsonState {
         out: String::from_str(alloc, "{")?,
     };
+    vec![in alloc; 1u8]?.ser_json(alloc, usize::MAX, &mut state)?;
     let names = ["a", "b"];
     names.ser_json(alloc, usize::MAX, &mut state)?;
     (7u8, Some(true)).ser_json(alloc, 3, &mut state)?;
-    assert_eq!(rt; state.out.as_str(), "{[\"a\",\"b\"][7,true]");
+    assert_eq!(rt; state.out.as_str(), "{[1][\"a\",\"b\"][7,true]");
     Ok(())
 }
