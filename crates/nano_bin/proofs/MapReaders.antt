@@ -1,9 +1,7 @@
 -- What readers of maps and sets have read.
-use Rattle.std.specs.Prelude.{false}
 use Rattle.std.specs.declared.cmp.Ordering.{Ordering}
 use Rattle.std.specs.List.Sorted.{IsStrictlySortedBy}
-use Rattle.std.specs.Result.{is_err}
-use Rattle.std.proofs.Common.{◌≡◌, ℕ, ◌+◌, Result, Ok, Err, OnOk, List, [], ◌∷◌, ◌++◌, sym, ◌∙◌, subst, ap}
+use Rattle.std.proofs.Common.{◌≡◌, ℕ, ◌+◌, List, [], ◌∷◌, ◌++◌, sym, ◌∙◌, subst, ap}
 use Rattle.std.specs.FinMap as table
 use Rattle.std.proofs.lemmas.List.{map-append}
 use Rattle.nano_value.specs.Meaning.{Meaning, paired, both_injective}
@@ -17,11 +15,6 @@ use Rattle.nano_bin.specs.Spellings.{SpellsPair}
 use Rattle.nano_bin.specs.Tables.{ReadsTable, SpellsMap, map_means}
 use Rattle.nano_bin.specs.Sets.{ReadsSet, SpellsSet, items_mean}
 use Rattle.nano_bin.proofs.Readers.{image_reads, list_reads, count_reads_none, count_reads_push}
-
--- what holds on success holds of what is no error
-pub was_ok : {T E P : Type 0} (r : Result T E) → is_err r ≡ false → OnOk r P → P
-was_ok (Ok x) e h = h
-was_ok (Err x) e h = absurd (cc)
 
 module _ (S R : List ℕ → Meaning → Type 0) where
   -- what a reader of pairs answers, as a pair of meanings

@@ -4,9 +4,8 @@ use Rattle.std.specs.List.{AllByRecursion, flat_map}
 use Rattle.std.specs.Simd.{first_chunks}
 use Rattle.std.proofs.Math.Nat.{le-div_iff_mul-le}
 use Rattle.std.proofs.Math.Seq.{take-add}
-use Rattle.std.proofs.lemmas.List.{drop-drop, take-append-drop, length-take-le}
+use Rattle.std.proofs.lemmas.List.{drop-drop, take-append-drop, length-take-le, length-map}
 use Rattle.nano_value.specs.Meaning.{Meaning, whole}
-use Rattle.nano_value.specs.Legal.{length-map}
 use Rattle.nano_bin.specs.Reading.{NothingFits, Reads}
 use Rattle.nano_bin.specs.LittleEndian.{little_endian, little_value, little_byte, length-little_endian, little_endian-little_value, little_value_fits}
 use Rattle.nano_bin.specs.Spellings.{SpellsUnsigned, SpellsItems, SpellsCount}
@@ -106,7 +105,7 @@ run_reads k count bytes start small positive enough =
       whole = sym (take-append-drop (count * k) left) ∙ ap (λ l. take (count * k) left ++ l) (drop-drop (count * k) start bytes);
       moved = ap (λ n. start + n) (sym (length-take-le (count * k) left room));
       spells = record {
-        count_is = length-map chunk_means (first_chunks k count left) ∙ length-first_chunks k count left;
+        count_is = length-map (first_chunks k count left) chunk_means ∙ length-first_chunks k count left;
         items = chunk_items k count left room (rest_are_bytes start bytes small);
       };
     }
@@ -129,7 +128,7 @@ bytes_read count bytes start small room =
       whole = sym (take-append-drop count left) ∙ ap (λ l. take count left ++ l) (drop-drop count start bytes);
       moved = ap (λ n. start + n) (sym (length-take-le count left room));
       spells = record {
-        count_is = length-map whole (take count left) ∙ length-take-le count left room;
+        count_is = length-map (take count left) whole ∙ length-take-le count left room;
         items = byte_items (take count left) (front_are_bytes count left (rest_are_bytes start bytes small));
       };
     }

@@ -1,10 +1,10 @@
 -- Signed numbers of a fixed width that stand one behind the other, read at once.
 use Rattle.std.proofs.Common.{◌≡◌, ℕ, suc, ◌^◌, ◌<◌, refl, List, [], ◌∷◌, map, length, sym, ◌∙◌, subst, ap, ℤ, Fits as FitsWidth}
+use Rattle.std.proofs.lemmas.List.{length-map}
 use Rattle.std.specs.Int.{Width, cast_signed, cast_unsigned}
 use Rattle.std.specs.List.{AllByRecursion}
 use Rattle.std.proofs.Math.Facts.{sfits_to_z, of_z-to_z}
 use Rattle.nano_value.specs.Meaning.{Meaning, whole, number, whole_injective}
-use Rattle.nano_value.specs.Legal.{length-map}
 use Rattle.nano_bin.specs.Reading.{NothingFits, Reads}
 use Rattle.nano_bin.specs.LittleEndian.{SpellsNumber, little_value}
 use Rattle.nano_bin.specs.Spellings.{SpellsUnsigned, SpellsSigned, SpellsItems, SpellsCount}
@@ -30,7 +30,7 @@ module _ (w : Width) (k : ℕ) where
     whole = r.whole;
     moved = r.moved;
     spells = record {
-      count_is = length-map number (map f chunks) ∙ (length-map f chunks ∙ (sym (length-map chunk_means chunks) ∙ r.spells.count_is));
+      count_is = length-map (map f chunks) number ∙ (length-map chunks f ∙ (sym (length-map chunks chunk_means) ∙ r.spells.count_is));
       items = signed_items fits f same chunks r.front all r.spells.items;
     };
   }

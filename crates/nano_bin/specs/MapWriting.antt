@@ -3,9 +3,10 @@ use Rattle.std.specs.Prelude.{◌≡◌, ℕ, refl, List, [], ◌∷◌, ◌++�
 use Rattle.std.specs.declared.cmp.Ordering.{Ordering}
 use Rattle.std.specs.List.{AllByRecursion, flat_map}
 use Rattle.std.proofs.Common.{sym, ◌∙◌, subst, ap}
+use Rattle.std.proofs.lemmas.List.{length-map}
 use Rattle.std.proofs.lemmas.List.Folds.{flat_map-map}
 use Rattle.nano_value.specs.Meaning.{Meaning, pair_map}
-use Rattle.nano_value.specs.Legal.{BothOfPair, length-map}
+use Rattle.nano_value.specs.Legal.{BothOfPair}
 use Rattle.nano_value.specs.Tables.{table_of, table_means, table_means-injective, AllOfTable, LegalMap}
 use Rattle.nano_bin.specs.LittleEndian.{little_endian}
 use Rattle.nano_bin.specs.Spellings.{SpellsPair, SpellsItems}
@@ -20,7 +21,7 @@ written_map R A B es = written_list (written_pair A B) (ascending R es)
 -- items that are written alike, one by one, are written alike as lists
 pub same_list : {A : Type 0} (W : A → List ℕ) (xs ys : List A) → map W xs ≡ map W ys → written_list W xs ≡ written_list W ys
 same_list W xs ys e =
-    let lengths : length xs ≡ length ys = sym (length-map W xs) ∙ (ap length e ∙ length-map W ys) in
+    let lengths : length xs ≡ length ys = sym (length-map xs W) ∙ (ap length e ∙ length-map ys W) in
     let items : flat_map W xs ≡ flat_map W ys = sym (flat_map-map (λ l. l) W xs) ∙ (ap (flat_map (λ l. l)) e ∙ flat_map-map (λ l. l) W ys) in
     λ i. little_endian 8 (lengths i) ++ items i
 
@@ -54,7 +55,7 @@ module _ {K V : Type 0} (R : K → K → Ordering) where
             head = little_endian 8 (length in_order);
             tail = flat_map (written_pair A B) in_order;
             whole = refl;
-            count = record { fits = all.count; whole = ap (little_endian 8) (sym (length-map (pair_map f g) in_order)) };
+            count = record { fits = all.count; whole = ap (little_endian 8) (sym (length-map in_order (pair_map f g))) };
             items = pairs_read_back in_order all.items;
           };
           is = ap table_means (sym (table_of-ascending R f order g es));

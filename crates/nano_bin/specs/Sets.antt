@@ -4,8 +4,9 @@ use Rattle.std.specs.declared.cmp.Ordering.{Ordering}
 use Rattle.std.specs.List.{AllByRecursion, flat_map}
 use Rattle.std.specs.Map.{keys_of}
 use Rattle.std.proofs.Common.{sym, ◌∙◌, subst, ap}
+use Rattle.std.proofs.lemmas.List.{length-map}
 use Rattle.nano_value.specs.Meaning.{Meaning, pair_map, usize_bound}
-use Rattle.nano_value.specs.Legal.{IsImage, BothOfPair, AllOfList, length-map}
+use Rattle.nano_value.specs.Legal.{IsImage, BothOfPair, AllOfList}
 use Rattle.nano_value.specs.Tables.{last_values, all_of_last_values}
 use Rattle.nano_value.specs.Sets.{MeaningSet, marked, item_set, set_means, AllOfSet, LegalSet, set_means-injective, all-marked}
 use Rattle.nano_value.specs.InOrder.{ascending_items}
@@ -32,7 +33,7 @@ set_spelling {P} s =
     record {
       is_legal = λ a m h.
           let list = items.is_legal a h.part h.has in
-          let marks : AllOfList (BothOfPair P (λ _. Unit {0})) (marked h.part) = record { count = subst (λ n. n < usize_bound) (sym (length-map (λ x. (x, tt)) h.part)) list.count; items = all-marked P h.part list.items } in
+          let marks : AllOfList (BothOfPair P (λ _. Unit {0})) (marked h.part) = record { count = subst (λ n. n < usize_bound) (sym (length-map h.part (λ x. (x, tt)))) list.count; items = all-marked P h.part list.items } in
           record { part = last_values (marked h.part); has = all_of_last_values P (λ _. Unit {0}) (marked h.part) marks; is = h.is };
       one_value = all.one_value;
       one_front = all.one_front;
@@ -88,14 +89,14 @@ module _ {K : Type 0} (R : K → K → Ordering) where
       let all = all-ascending R f order (λ u. u) P (λ _. Unit {0}) (marked ks) legal in
       let entries = ascending R (marked ks) in
       let items = keys_of entries in
-      let same_count : length entries ≡ length (map f items) = sym (length-map f items ∙ length-map (λ e. e.0) entries) in
+      let same_count : length entries ≡ length (map f items) = sym (length-map items f ∙ length-map entries (λ e. e.0)) in
       record {
         part = map f items;
         has = record {
           head = little_endian 8 (length items);
           tail = flat_map W items;
           whole = refl;
-          count = record { fits = subst (λ n. n < usize_bound) (length-map (pair_map f (λ u. u)) entries ∙ same_count) all.count; whole = ap (little_endian 8) (sym (length-map f items)) };
+          count = record { fits = subst (λ n. n < usize_bound) (length-map entries (pair_map f (λ u. u)) ∙ same_count) all.count; whole = ap (little_endian 8) (sym (length-map items f)) };
           items = items_read_back f P S W back items (all_keys f P entries all.items);
         };
         is = ap set_means (sym (ap last_values (marked_means f entries) ∙ table_of-ascending R f order (λ u. u) (marked ks)));

@@ -4,9 +4,10 @@ use Rattle.std.specs.Int.{Width, w8, w16, w32, w64, w128, cast_unsigned}
 use Rattle.std.specs.Option.{option_map}
 use Rattle.std.specs.List.{AllByRecursion, flat_map}
 use Rattle.std.proofs.Common.{sym, subst, ap, lit<}
+use Rattle.std.proofs.lemmas.List.{length-map}
 use Rattle.std.proofs.Math.Facts.{Fits-of_z}
 use Rattle.nano_value.specs.Meaning.{Meaning, number, truth, nothing, whole, text, optional, listed, paired, pair_map, number_injective, truth_injective, whole_injective, text_injective, both_injective, listed_injective}
-use Rattle.nano_value.specs.Legal.{IsImage, LegalPair, AllOfOption, BothOfPair, AllOfList, AllOfCount, IsText, length-map}
+use Rattle.nano_value.specs.Legal.{IsImage, LegalPair, AllOfOption, BothOfPair, AllOfList, AllOfCount, IsText}
 use Rattle.nano_bin.specs.Reading.{Spelling}
 use Rattle.nano_bin.specs.LittleEndian.{little_endian}
 use Rattle.nano_bin.specs.Spellings.{SpellsPair, SpellsOption, SpellsItems, SpellsCount, SpellsList}
@@ -188,7 +189,7 @@ module _ {A : Type 0} (means : A → Meaning) (P : Meaning → Type 0) (S : List
       let all : AllOfList P (map means xs) = subst (AllOfList P) (sym (listed_injective _ _ h.is)) h.has in
       record {
         part = map means xs;
-        has = record { head = little_endian 8 (length xs); tail = flat_map W xs; whole = refl; count = record { fits = all.count; whole = ap (little_endian 8) (sym (length-map means xs)) }; items = items_read_back xs all.items };
+        has = record { head = little_endian 8 (length xs); tail = flat_map W xs; whole = refl; count = record { fits = all.count; whole = ap (little_endian 8) (sym (length-map xs means)) }; items = items_read_back xs all.items };
         is = refl;
       }
 

@@ -1,6 +1,5 @@
 -- What readers of maps know at the head of the loop, and at its exits.
-use Rattle.std.proofs.Common.{◌≡◌, ◌≢◌, ◌<◌, List, [], ◌∷◌, ◌++◌, ap, sym, ◌∙◌, subst, true, false, refl, Result, Ok, Err, OnOk}
-use Rattle.std.specs.Result.{is_err}
+use Rattle.std.proofs.Common.{◌≡◌, ◌≢◌, ◌<◌, List, [], ◌∷◌, ◌++◌, ap, sym, ◌∙◌, subst, true, false, refl}
 use Rattle.std.specs.FinMap as table
 use Rattle.nano_value.specs.Meaning.{Meaning, usize_bound}
 use Rattle.nano_value.specs.Tables.{Table, table_means, last_values, insert_all-push}
@@ -16,11 +15,6 @@ use Rattle.nano_json.proofs.Containers.{ReadSoFar, read_start, read_next, item_s
 use Rattle.nano_json.proofs.Cuts.{cut_one_way}
 use Rattle.nano_json.proofs.Reading.{image_spans, image_refused}
 use Rattle.nano_json.proofs.Shorter.{left}
-
--- what holds on success holds of what is no error
-pub was_ok : {T E P : Type 0} (r : Result T E) → is_err r ≡ false → OnOk r P → P
-was_ok (Ok x) e h = h
-was_ok (Err x) e h = absurd (cc)
 
 pub curly_is : (t : Token) → is_curly_close t ≡ true → t ≡ curly_close
 curly_is curly_close e = refl

@@ -4,8 +4,9 @@ use Rattle.std.specs.declared.cmp.Ordering.{Ordering}
 use Rattle.std.specs.FinMap.Entries.{is_sorted}
 use Rattle.std.specs.List.{AllByRecursion}
 use Rattle.std.proofs.Common.{sym, subst, ap, inl}
+use Rattle.std.proofs.lemmas.List.{length-map}
 use Rattle.nano_value.specs.Meaning.{Meaning, pair_map, paired, both_injective, usize_bound}
-use Rattle.nano_value.specs.Legal.{BothOfPair, AllOfList, length-map}
+use Rattle.nano_value.specs.Legal.{BothOfPair, AllOfList}
 use Rattle.nano_value.specs.Tables.{table_of, table_means, table_means-injective, AllOfTable, LegalMap, all_of_last_values}
 use Rattle.nano_value.specs.Sets.{marked, item_set, set_means, set_means-injective, AllOfSet, LegalSet, all-marked}
 use Rattle.nano_value.specs.Ascending.{ascending, IsOrderOf, all-ascending, table_of-ascending}
@@ -191,7 +192,7 @@ module _ {K : Type 0} (R : K → K → Ordering) (f : Format K) (h : IsOrderOf f
   set_is_sound ks ts s =
       let Spelled = λ (m : Meaning). (us : List Token) × f.spelling.spelled us m in
       let each = each_is_spelled blocks f.spelling.spelled s.part ts s.has.items in
-      let marks : AllOfList (BothOfPair Spelled (λ _. Unit {0})) (marked s.part) = record { count = subst (λ n. n < usize_bound) (sym (length-map (λ x. (x, tt)) s.part)) s.has.count; items = all-marked Spelled s.part each } in
+      let marks : AllOfList (BothOfPair Spelled (λ _. Unit {0})) (marked s.part) = record { count = subst (λ n. n < usize_bound) (sym (length-map s.part (λ x. (x, tt)))) s.has.count; items = all-marked Spelled s.part each } in
       let set = all_of_last_values Spelled (λ _. Unit {0}) (marked s.part) marks in
       let same = set_means-injective _ _ s.is in
       each_is_sound f h.1 (ascending_items R ks) (all_items R f.writing.means h.0 Spelled ks (subst (AllOfSet Spelled) (sym same) set)).items

@@ -1,8 +1,9 @@
 -- The spellings of sets: those of lists, of which each item counts once.
 use Rattle.std.specs.Prelude.{◌<◌, ℕ, List}
 use Rattle.std.proofs.Common.{sym, subst}
+use Rattle.std.proofs.lemmas.List.{length-map}
 use Rattle.nano_value.specs.Meaning.{Meaning, usize_bound}
-use Rattle.nano_value.specs.Legal.{IsImage, BothOfPair, AllOfList, length-map}
+use Rattle.nano_value.specs.Legal.{IsImage, BothOfPair, AllOfList}
 use Rattle.nano_value.specs.Tables.{last_values, all_of_last_values}
 use Rattle.nano_value.specs.Sets.{marked, set_means, LegalSet, all-marked}
 use Rattle.nano_json.specs.Token.{Token}
@@ -25,7 +26,7 @@ set_spelling {P} s =
     record {
       is_legal = λ ts m h.
           let list = items.is_legal ts h.part h.has in
-          let marks : AllOfList (BothOfPair P (λ _. Unit {0})) (marked h.part) = record { count = subst (λ (n : ℕ). n < usize_bound) (sym (length-map (λ x. (x, tt)) h.part)) list.count; items = all-marked P h.part list.items } in
+          let marks : AllOfList (BothOfPair P (λ _. Unit {0})) (marked h.part) = record { count = subst (λ (n : ℕ). n < usize_bound) (sym (length-map h.part (λ x. (x, tt)))) list.count; items = all-marked P h.part list.items } in
           record { part = last_values (marked h.part); has = all_of_last_values P (λ _. Unit {0}) (marked h.part) marks; is = h.is };
       one_value = all.one_value;
       none_begins = all.none_begins;

@@ -13,12 +13,12 @@ use Rattle.std.specs.FinMap.{FinMap}
 use Rattle.std.specs.FinMap.Entries.{by_order, below_all, put, is_sorted}
 use Rattle.std.specs.Map.{lookup, keys_of}
 use Rattle.std.proofs.Common.{sym, ◌∙◌, subst, ap, append_assoc}
-use Rattle.std.proofs.lemmas.List.{append-nil}
+use Rattle.std.proofs.lemmas.List.{append-nil, length-map}
 use Rattle.std.proofs.lemmas.Map.Keys.{IsDistinct-from_sorted}
 use Rattle.nano_value.specs.Meaning.{Meaning, pair_map, usize_bound}
 use Rattle.nano_value.specs.Order.{meaning_cmp, meaning_cmp-total, meaning_cmp-antisymmetric, same_meaning, same_meaning-decides}
 use Rattle.nano_value.specs.Exact.{Tells}
-use Rattle.nano_value.specs.Legal.{BothOfPair, AllOfList, length-map, all-map}
+use Rattle.nano_value.specs.Legal.{BothOfPair, AllOfList, all-map}
 use Rattle.nano_value.specs.Tables.{Table, table_of, insert_all, last_values, no_entries, get-table_of, AllOfTable}
 
 -- the entries in the order of the keys: of each key the last value
@@ -291,7 +291,7 @@ module _ {K V X : Type 0} (R : K → K → Ordering) (f : K → Meaning) (order 
 
     pub all-ascending : (es : List (K × V)) → AllOfTable P Q (table_of f g es) → AllOfList (BothOfPair P Q) (map (pair_map f g) (ascending R es))
     all-ascending es h = record {
-      count = subst (λ n. n < usize_bound) (sym (length-map (pair_map f g) (ascending R es) ∙ length-ascending es)) h.count;
+      count = subst (λ n. n < usize_bound) (sym (length-map (ascending R es) (pair_map f g) ∙ length-ascending es)) h.count;
       items = all-map (BothOfPair P Q) (pair_map f g) (ascending R es) (all_found order.total (λ k v. P (f k) × Q (g v)) (ascending R es) (table.entries_sorted (last_values {R = R} es)) (λ q v is.
           found_legal (f q) (g v) (table.entries (table_of f g es)) h.entries (sym (table.get-entries (table_of f g es) (f q)) ∙ (sym (find-ascending es q) ∙ ap (option_map g) is))));
     }

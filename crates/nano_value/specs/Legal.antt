@@ -3,7 +3,7 @@ use Rattle.std.specs.Prelude.{◌≡◌, ℕ, suc, ◌<◌, ◌≤◌, drop, ◌
 use Rattle.std.specs.List.{AllByRecursion}
 use Rattle.std.specs.Int.{Width}
 use Rattle.std.proofs.Common.{ap, sym, subst, ◌∙◌}
-use Rattle.std.proofs.lemmas.List.{drop_all}
+use Rattle.std.proofs.lemmas.List.{drop_all, length-map}
 use Rattle.nano_value.specs.Meaning.{Meaning, number, whole, truth, nothing, text, optional, listed, paired, usize_bound}
 
 -- the meaning is what a part that has the property is mapped to
@@ -71,10 +71,6 @@ LegalPair P Q = IsImage paired (BothOfPair P Q)
 pub image_of : {A : Type 0} (f : A → Meaning) (P : A → Type 0) (x : A) → P x → IsImage f P (f x)
 image_of f P x h = record { part = x; has = h; is = refl }
 
-pub length-map : {A B : Type 0} (f : A → B) (xs : List A) → length (map f xs) ≡ length xs
-length-map f [] = refl
-length-map f (x ∷ xs) = ap (λ n. suc n) (length-map f xs)
-
 pub all-map : {A B : Type 0} (P : B → Type 0) (f : A → B) (xs : List A) → AllByRecursion (λ x. P (f x)) xs → AllByRecursion P (map f xs)
 all-map P f [] h = tt
 all-map P f (x ∷ xs) h = (h.0, all-map P f xs h.1)
@@ -86,12 +82,12 @@ all_walked P place xs past walked = walked (subst (AllByRecursion P) (sym (drop_
 -- a list of legal items is legal
 pub list_is_legal : {A : Type 0} (means : A → Meaning) (P : Meaning → Type 0) (xs : List A) → length xs < usize_bound → AllByRecursion (λ x. P (means x)) xs → LegalList P (listed (map means xs))
 list_is_legal means P xs count all =
-    image_of listed (AllOfList P) (map means xs) (record { count = subst (λ n. n < usize_bound) (sym (length-map means xs)) count; items = all-map P means xs all })
+    image_of listed (AllOfList P) (map means xs) (record { count = subst (λ n. n < usize_bound) (sym (length-map xs means)) count; items = all-map P means xs all })
 
 -- an array of legal items is legal
 pub array_is_legal : {A : Type 0} (means : A → Meaning) (P : Meaning → Type 0) (count : ℕ) (xs : List A) → length xs ≡ count → AllByRecursion (λ x. P (means x)) xs → LegalArray count P (listed (map means xs))
 array_is_legal means P count xs long all =
-    image_of listed (AllOfCount count P) (map means xs) (record { count_is = length-map means xs ∙ long; items = all-map P means xs all })
+    image_of listed (AllOfCount count P) (map means xs) (record { count_is = length-map xs means ∙ long; items = all-map P means xs all })
 
 -- a pair of legal parts is legal
 pub pair_is_legal : (P Q : Meaning → Type 0) (m n : Meaning) → P m → Q n → LegalPair P Q (paired (m, n))

@@ -4,8 +4,9 @@ use Rattle.std.specs.declared.cmp.Ordering.{Ordering}
 use Rattle.std.specs.List.{AllByRecursion}
 use Rattle.std.specs.Map.{keys_of}
 use Rattle.std.proofs.Common.{sym, ◌∙◌, subst, ap}
+use Rattle.std.proofs.lemmas.List.{length-map}
 use Rattle.nano_value.specs.Meaning.{Meaning, pair_map, usize_bound}
-use Rattle.nano_value.specs.Legal.{AllOfList, BothOfPair, length-map}
+use Rattle.nano_value.specs.Legal.{AllOfList, BothOfPair}
 use Rattle.nano_value.specs.Tables.{last_values}
 use Rattle.nano_value.specs.Sets.{marked, item_set, AllOfSet}
 use Rattle.nano_value.specs.Ascending.{IsOrderOf, ascending, ascending_same, all-ascending, table_of-ascending}
@@ -39,8 +40,8 @@ module _ {K : Type 0} (R : K → K → Ordering) (f : K → Meaning) (order : Is
   all_items P ks h =
       let entries = ascending R (marked ks) in
       let all = all-ascending R f order (λ u. u) P (λ _. Unit {0}) (marked ks) h in
-      let same_count = length-map f (keys_of entries) ∙ length-map (λ e. e.0) entries in
+      let same_count = length-map (keys_of entries) f ∙ length-map entries (λ e. e.0) in
       record {
-        count = subst (λ n. n < usize_bound) (length-map (pair_map f (λ u. u)) entries ∙ sym same_count) all.count;
+        count = subst (λ n. n < usize_bound) (length-map entries (pair_map f (λ u. u)) ∙ sym same_count) all.count;
         items = all_keys f P entries all.items;
       }

@@ -5,8 +5,9 @@ use Rattle.std.specs.Map.{lookup, keys_of}
 use Rattle.std.specs.Set.{KeepsOthers}
 use Rattle.std.specs.FinMap as table
 use Rattle.std.proofs.Common.{ap, sym, ◌∙◌, subst}
+use Rattle.std.proofs.lemmas.List.{length-map}
 use Rattle.nano_value.specs.Meaning.{Meaning, listed, listed_injective}
-use Rattle.nano_value.specs.Legal.{IsImage, image_of, length-map}
+use Rattle.nano_value.specs.Legal.{IsImage, image_of}
 use Rattle.nano_value.specs.Exact.{Tells}
 use Rattle.nano_value.specs.Tables.{Table, table_of, AllOfTable, all_of_table_of, all_of_table_weaker, table_of-insert}
 
@@ -74,7 +75,7 @@ all-marked P (k ∷ ks) h = ((h.0, tt), all-marked P ks h.1)
 -- a set of legal items is legal
 pub set_is_legal : {K : Type 0} (f : K → Meaning) (P : Meaning → Type 0) (ks : List K) → length ks < 2 ^ 63 → AllByRecursion (λ k. P (f k)) ks → LegalSet P (set_means (item_set f ks))
 set_is_legal f P ks few all =
-    image_of set_means (AllOfSet P) (item_set f ks) (all_of_table_of P (λ _. Unit {0}) f (λ u. u) (marked ks) (subst (λ n. n < 2 ^ 63) (sym (length-map (λ k. (k, tt)) ks)) few) (all-marked (λ k. P (f k)) ks all))
+    image_of set_means (AllOfSet P) (item_set f ks) (all_of_table_of P (λ _. Unit {0}) f (λ u. u) (marked ks) (subst (λ n. n < 2 ^ 63) (sym (length-map ks (λ k. (k, tt)))) few) (all-marked (λ k. P (f k)) ks all))
 
 pub set_weaker : (P Q : Meaning → Type 0) → ((m : Meaning) → P m → Q m) → (m : Meaning) → LegalSet P m → LegalSet Q m
 set_weaker P Q weaker m h = record { part = h.part; has = all_of_table_weaker P Q (λ _. Unit {0}) (λ _. Unit {0}) weaker (λ x u. u) h.part h.has; is = h.is }

@@ -11,9 +11,10 @@ use Rattle.std.specs.FinMap.{FinMap}
 use Rattle.std.specs.FinMap.Entries.{by_order}
 use Rattle.std.proofs.lemmas.Map.Keys.{IsDistinct-head, IsDistinct-tail}
 use Rattle.std.proofs.Common.{ap, sym, ◌∙◌, subst, arith}
+use Rattle.std.proofs.lemmas.List.{length-map}
 use Rattle.nano_value.specs.Meaning.{Meaning, listed, paired, pair_map, both_injective, listed_injective, usize_bound}
 use Rattle.nano_value.specs.Order.{meaning_cmp, meaning_cmp-total, meaning_cmp-antisymmetric, same_meaning, same_meaning-decides}
-use Rattle.nano_value.specs.Legal.{IsImage, BothOfPair, AllOfList, image_of, length-map, all-map, all_weaker}
+use Rattle.nano_value.specs.Legal.{IsImage, BothOfPair, AllOfList, image_of, all-map, all_weaker}
 use Rattle.nano_value.specs.Exact.{Tells}
 
 -- entries put into a table, one behind the other
@@ -159,7 +160,7 @@ module _ {X : Type 0} (P : Meaning → Type 0) (Q : X → Type 0) where
 
   pub all_of_table_of : {K V : Type 0} (f : K → Meaning) (g : V → X) (es : List (K × V)) → length es < 2 ^ 63 → AllByRecursion (λ e. P (f e.0) × Q (g e.1)) es → AllOfTable P Q (table_of f g es)
   all_of_table_of f g es few all =
-      let long = length-map (pair_map f g) es in
+      let long = length-map es (pair_map f g) in
       all_of_last_values (map (pair_map f g) es) (record { count = omega (arith, long, few); items = all-map (BothOfPair P Q) (pair_map f g) es all })
 
 -- a map of legal entries is legal

@@ -1,9 +1,10 @@
 use Rattle.std.proofs.Common.{sym, ap}
 use Rattle.nano_value.specs.Tables.{table_of, table_of-insert}
+use Rattle.nano_value.proofs.Results.{was_ok}
 use Rattle.nano_bin.specs.Spellings.{SpellsPair}
 use Rattle.nano_bin.specs.SpellingLaws.{pair_spelling}
 use Rattle.nano_bin.proofs.Readers.{count_refused}
-use Rattle.nano_bin.proofs.MapReaders.{table_reads_none, table_reads_insert, no_pair, was_ok}
+use Rattle.nano_bin.proofs.MapReaders.{table_reads_none, table_reads_insert, no_pair}
 use Rattle.nano_bin.proofs.maps.take_entries.Goals as goal
 
 pub loop-init : goal.loop-init

@@ -3,8 +3,9 @@ use Rattle.std.proofs.lemmas.Map.Keys.{IsDistinct-from_sorted}
 use Rattle.std.specs.Ordering.{eq_by_cmp}
 use Rattle.nano_value.specs.Ascending.{key_order}
 use Rattle.nano_value.specs.Sets.{item_set, item_set-insert}
+use Rattle.nano_value.proofs.Results.{was_ok}
 use Rattle.nano_bin.proofs.Readers.{count_refused}
-use Rattle.nano_bin.proofs.MapReaders.{set_reads_none, set_reads_insert, was_ok}
+use Rattle.nano_bin.proofs.MapReaders.{set_reads_none, set_reads_insert}
 use Rattle.nano_bin.proofs.ordered_sets.take_ordered.Goals as goal
 
 pub loop-init : goal.loop-init

@@ -1,7 +1,8 @@
 use Rattle.std.proofs.Common.{sym, ap}
 use Rattle.nano_value.specs.Sets.{item_set, item_set-insert}
+use Rattle.nano_value.proofs.Results.{was_ok}
 use Rattle.nano_bin.proofs.Readers.{count_refused}
-use Rattle.nano_bin.proofs.MapReaders.{set_reads_none, set_reads_insert, was_ok}
+use Rattle.nano_bin.proofs.MapReaders.{set_reads_none, set_reads_insert}
 use Rattle.nano_bin.proofs.sets.take_items.Goals as goal
 
 pub loop-init : goal.loop-init

@@ -1,9 +1,10 @@
 use Rattle.std.proofs.Common.{sym, ap, rules}
 use Rattle.std.proofs.lemmas.Result.{err_from_is_err_and}
 use Rattle.nano_value.specs.Tables.{table_of, table_of-insert}
+use Rattle.nano_value.proofs.Results.{was_ok}
 use Rattle.nano_json.specs.State.{at, pending}
 use Rattle.nano_json.proofs.Containers.{few_left}
-use Rattle.nano_json.proofs.MapReading.{was_ok, curly_is, not_curly, entry_shorter, table_start, table_next, table_found, table_open_refused, table_entry_refused, table_comma_refused, table_close_refused}
+use Rattle.nano_json.proofs.MapReading.{curly_is, not_curly, entry_shorter, table_start, table_next, table_found, table_open_refused, table_entry_refused, table_comma_refused, table_close_refused}
 use Rattle.nano_json.proofs.maps.read_map.Goals as goal
 
 pub returns-in_err-curly_open-clause-refused : goal.returns-in_err-curly_open-clause-refused

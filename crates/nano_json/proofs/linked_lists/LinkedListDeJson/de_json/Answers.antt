@@ -1,6 +1,6 @@
 use Rattle.std.proofs.Common.{map, subst, sym, rules, ℕ, ◌<◌, length}
+use Rattle.std.proofs.lemmas.List.{length-map}
 use Rattle.nano_value.specs.Meaning.{listed, usize_bound}
-use Rattle.nano_value.specs.Legal.{length-map}
 use Rattle.nano_json.specs.State.{at}
 use Rattle.nano_json.proofs.Reading.{image_spans, image_refused, list_spans, list_refused}
 use Rattle.nano_json.proofs.linked_lists.LinkedListDeJson.de_json.Goals as goal
@@ -11,7 +11,7 @@ returns-in-Ok-clause-fits g c =
     let behind = at c.read_linked.new.state c.read_linked.new.input in
     let items = map g.T.Value.means c.in-Ok.items in
     let small : length c.in-Ok.items < usize_bound = search rules in
-    let count = subst (λ (n : ℕ). n < usize_bound) (sym (length-map g.T.Value.means c.in-Ok.items)) small in
+    let count = subst (λ (n : ℕ). n < usize_bound) (sym (length-map c.in-Ok.items g.T.Value.means)) small in
     image_spans listed start behind items (list_spans g.T.DeJson.spelling.spelled start behind items count c.in-Ok.ensures.fits)
 
 pub returns-in-Err-clause-refused : goal.returns-in-Err-clause-refused
