@@ -1,5 +1,5 @@
 -- Each token that is taken leaves less, so what takes tokens ends, and their count has a bound.
-use Rattle.std.proofs.Common.{◌≡◌, ◌≢◌, ℕ, ◌+◌, ◌-◌, ◌<◌, ◌≤◌, List, [], ◌∷◌, ◌++◌, refl, ap, sym, subst, length, length-append, arith, cond, true, false}
+use Rattle.std.proofs.Common.{◌≡◌, ◌≢◌, ℕ, ◌+◌, ◌<◌, ◌≤◌, List, [], ◌∷◌, ◌++◌, refl, ap, sym, subst, length, length-append, arith, cond, true, false}
 use Rattle.nano_text.proofs.Numbers.{IsNumber-shorter}
 use Rattle.nano_text.specs.Tokens.{At, Leaves}
 use Rattle.nano_text.specs.declared.number.Number.TheVariants.{U64, I64, Dec}

@@ -1,8 +1,8 @@
 -- Which meanings the values of a type have.
-use Rattle.std.specs.Prelude.{◌≡◌, ℕ, suc, ◌<◌, ◌≤◌, drop, ◌^◌, refl, List, [], ◌∷◌, map, length, Option, Some, None, IsUtf8, FitsSigned}
+use Rattle.std.specs.Prelude.{◌≡◌, ℕ, ◌<◌, ◌≤◌, drop, ◌^◌, refl, List, [], ◌∷◌, map, length, Option, Some, None, IsUtf8, FitsSigned}
 use Rattle.std.specs.List.{AllByRecursion}
 use Rattle.std.specs.Int.{Width}
-use Rattle.std.proofs.Common.{ap, sym, subst, ◌∙◌}
+use Rattle.std.proofs.Common.{sym, subst, ◌∙◌}
 use Rattle.std.proofs.lemmas.List.{drop_all, length-map}
 use Rattle.nano_value.specs.Meaning.{Meaning, number, whole, truth, nothing, text, optional, listed, paired, usize_bound}
 

@@ -1,4 +1,4 @@
-use Rattle.std.proofs.Common.{◌-◌, ◌≡◌, ◌++◌, ◌<◌, drop, length, ◌+◌}
+use Rattle.std.proofs.Common.{◌≡◌, ◌++◌, ◌<◌, drop, length, ◌+◌}
 use Rattle.std.specs.Fmt.{decimal}
 use Rattle.nano_json.proofs.digits.put_digits.Given as goal
 
