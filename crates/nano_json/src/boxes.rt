@@ -34,16 +34,14 @@ impl<T: DeJson> DeJson for Box<T> {
         state: &mut DeJsonState,
         input: &mut Chars<'_>,
     ) -> Result<Box<T>, DeJsonErr> {
-        match T::de_json(alloc, state, input) {
-            Ok(value) => match Box::new(alloc, value) {
-                Ok(value) => Ok(value),
-                Err(_refused) => {
-                    let error = state.err_memory(alloc);
-                    state.fail();
-                    Err(error)
-                }
-            },
-            Err(error) => Err(error),
+        let value = T::de_json(alloc, state, input)?;
+        match Box::new(alloc, value) {
+            Ok(value) => Ok(value),
+            Err(_refused) => {
+                let error = state.err_memory(alloc);
+                state.fail();
+                Err(error)
+            }
         }
     }
 }

@@ -102,10 +102,7 @@ pub fn read_back<T: BothJson>(alloc: Global, written: &T) -> Result<T, DeJsonErr
     written.known();
     written_tokens_spell_a_sound_value(written);
     match written.serialize_json(alloc) {
-        Ok(text) => match T::deserialize_json(alloc, text.as_str()) {
-            Ok(read) => Ok(read),
-            Err(error) => Err(error),
-        },
+        Ok(text) => T::deserialize_json(alloc, text.as_str()),
         Err(_refused) => Err(DeJsonState::new(alloc).err_memory(alloc)),
     }
 }

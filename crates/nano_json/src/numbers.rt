@@ -32,10 +32,10 @@ fn read_unsigned(
     ensures memory { IfErr result (λ e. e.memory ≡ true → string_bytes e.msg ≡ []) }
 {
     match state.u64_range(alloc, max) {
-        Ok(value) => match state.next_tok(alloc, input) {
-            Ok(()) => Ok(value),
-            Err(error) => Err(error),
-        },
+        Ok(value) => {
+            state.next_tok(alloc, input)?;
+            Ok(value)
+        }
         Err(error) => {
             state.fail();
             Err(error)
@@ -59,10 +59,10 @@ fn read_signed(
     ensures memory { IfErr result (λ e. e.memory ≡ true → string_bytes e.msg ≡ []) }
 {
     match state.i64_range(alloc, min, max) {
-        Ok(value) => match state.next_tok(alloc, input) {
-            Ok(()) => Ok(value),
-            Err(error) => Err(error),
-        },
+        Ok(value) => {
+            state.next_tok(alloc, input)?;
+            Ok(value)
+        }
         Err(error) => {
             state.fail();
             Err(error)
@@ -94,10 +94,8 @@ impl DeJson for u8 {
         state: &mut DeJsonState,
         input: &mut Chars<'_>,
     ) -> Result<u8, DeJsonErr> {
-        match read_unsigned(alloc, state, input, u8::MAX as u64) {
-            Ok(value) => Ok(value as u8),
-            Err(error) => Err(error),
-        }
+        let value = read_unsigned(alloc, state, input, u8::MAX as u64)?;
+        Ok(value as u8)
     }
 }
 
@@ -141,10 +139,8 @@ impl DeJson for u16 {
         state: &mut DeJsonState,
         input: &mut Chars<'_>,
     ) -> Result<u16, DeJsonErr> {
-        match read_unsigned(alloc, state, input, u16::MAX as u64) {
-            Ok(value) => Ok(value as u16),
-            Err(error) => Err(error),
-        }
+        let value = read_unsigned(alloc, state, input, u16::MAX as u64)?;
+        Ok(value as u16)
     }
 }
 
@@ -188,10 +184,8 @@ impl DeJson for u32 {
         state: &mut DeJsonState,
         input: &mut Chars<'_>,
     ) -> Result<u32, DeJsonErr> {
-        match read_unsigned(alloc, state, input, u32::MAX as u64) {
-            Ok(value) => Ok(value as u32),
-            Err(error) => Err(error),
-        }
+        let value = read_unsigned(alloc, state, input, u32::MAX as u64)?;
+        Ok(value as u32)
     }
 }
 
@@ -235,10 +229,8 @@ impl DeJson for u64 {
         state: &mut DeJsonState,
         input: &mut Chars<'_>,
     ) -> Result<u64, DeJsonErr> {
-        match read_unsigned(alloc, state, input, u64::MAX) {
-            Ok(value) => Ok(value),
-            Err(error) => Err(error),
-        }
+        let value = read_unsigned(alloc, state, input, u64::MAX)?;
+        Ok(value)
     }
 }
 
@@ -282,10 +274,8 @@ impl DeJson for usize {
         state: &mut DeJsonState,
         input: &mut Chars<'_>,
     ) -> Result<usize, DeJsonErr> {
-        match read_unsigned(alloc, state, input, usize::MAX as u64) {
-            Ok(value) => Ok(value as usize),
-            Err(error) => Err(error),
-        }
+        let value = read_unsigned(alloc, state, input, usize::MAX as u64)?;
+        Ok(value as usize)
     }
 }
 
@@ -329,10 +319,8 @@ impl DeJson for i8 {
         state: &mut DeJsonState,
         input: &mut Chars<'_>,
     ) -> Result<i8, DeJsonErr> {
-        match read_signed(alloc, state, input, i8::MIN as i64, i8::MAX as i64) {
-            Ok(value) => Ok(value as i8),
-            Err(error) => Err(error),
-        }
+        let value = read_signed(alloc, state, input, i8::MIN as i64, i8::MAX as i64)?;
+        Ok(value as i8)
     }
 }
 
@@ -376,10 +364,8 @@ impl DeJson for i16 {
         state: &mut DeJsonState,
         input: &mut Chars<'_>,
     ) -> Result<i16, DeJsonErr> {
-        match read_signed(alloc, state, input, i16::MIN as i64, i16::MAX as i64) {
-            Ok(value) => Ok(value as i16),
-            Err(error) => Err(error),
-        }
+        let value = read_signed(alloc, state, input, i16::MIN as i64, i16::MAX as i64)?;
+        Ok(value as i16)
     }
 }
 
@@ -423,10 +409,8 @@ impl DeJson for i32 {
         state: &mut DeJsonState,
         input: &mut Chars<'_>,
     ) -> Result<i32, DeJsonErr> {
-        match read_signed(alloc, state, input, i32::MIN as i64, i32::MAX as i64) {
-            Ok(value) => Ok(value as i32),
-            Err(error) => Err(error),
-        }
+        let value = read_signed(alloc, state, input, i32::MIN as i64, i32::MAX as i64)?;
+        Ok(value as i32)
     }
 }
 
@@ -470,10 +454,8 @@ impl DeJson for i64 {
         state: &mut DeJsonState,
         input: &mut Chars<'_>,
     ) -> Result<i64, DeJsonErr> {
-        match read_signed(alloc, state, input, i64::MIN, i64::MAX) {
-            Ok(value) => Ok(value),
-            Err(error) => Err(error),
-        }
+        let value = read_signed(alloc, state, input, i64::MIN, i64::MAX)?;
+        Ok(value)
     }
 }
 

@@ -51,13 +51,11 @@ impl DeJson for String {
         input: &mut Chars<'_>,
     ) -> Result<String, DeJsonErr> {
         match state.as_string(alloc) {
-            Ok(text) => match state.next_tok(alloc, input) {
-                Ok(()) => {
-                    let _length = text.len();
-                    Ok(text)
-                }
-                Err(error) => Err(error),
-            },
+            Ok(text) => {
+                state.next_tok(alloc, input)?;
+                let _length = text.len();
+                Ok(text)
+            }
             Err(error) => {
                 state.fail();
                 Err(error)

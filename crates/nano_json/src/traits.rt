@@ -83,10 +83,8 @@ pub trait DeJson: Value + Drop {
         let mut state = DeJsonState::new(alloc);
         let mut chars = input.chars();
         state.next(&mut chars);
-        match state.next_tok(alloc, &mut chars) {
-            Ok(()) => Self::de_json(alloc, &mut state, &mut chars),
-            Err(error) => Err(error),
-        }
+        state.next_tok(alloc, &mut chars)?;
+        Self::de_json(alloc, &mut state, &mut chars)
     }
 
     /// What the spelling calls legal is a legal meaning of the type.

@@ -45,10 +45,10 @@ impl DeJson for bool {
         input: &mut Chars<'_>,
     ) -> Result<bool, DeJsonErr> {
         match state.as_bool(alloc) {
-            Ok(value) => match state.next_tok(alloc, input) {
-                Ok(()) => Ok(value),
-                Err(error) => Err(error),
-            },
+            Ok(value) => {
+                state.next_tok(alloc, input)?;
+                Ok(value)
+            }
             Err(error) => {
                 state.fail();
                 Err(error)
@@ -150,15 +150,11 @@ impl<T: DeJson> DeJson for Option<T> {
         input: &mut Chars<'_>,
     ) -> Result<Option<T>, DeJsonErr> {
         if state.is_null() {
-            return match state.next_tok(alloc, input) {
-                Ok(()) => Ok(None),
-                Err(error) => Err(error),
-            };
+            state.next_tok(alloc, input)?;
+            return Ok(None);
         }
-        match T::de_json(alloc, state, input) {
-            Ok(value) => Ok(Some(value)),
-            Err(error) => Err(error),
-        }
+        let value = T::de_json(alloc, state, input)?;
+        Ok(Some(value))
     }
 }
 

@@ -1,22 +1,25 @@
 use Rattle.std.proofs.Common.{sym, ◌∙◌, subst}
 use Rattle.std.proofs.lemmas.Bool.{true_from_ne_false}
+use Rattle.std.proofs.lemmas.Result.{IfErr-weaker, IfOk-weaker}
 use Rattle.nano_json.proofs.RoundTrip.{written_fits, one_fits_text}
 use Rattle.nano_json.proofs.laws.read_back.Goals as goal
 
-pub returns-in-Ok-deserialize_json-clause-same : goal.returns-in-Ok-deserialize_json-clause-same
-returns-in-Ok-deserialize_json-clause-same g c sound =
+pub returns-in-Ok-clause-same : goal.returns-in-Ok-clause-same
+returns-in-Ok-clause-same g c =
     let w = g.T.SerJson.writing in
     let x = c.args.written.now in
     let legal = subst (λ m. w.legal m) (λ i. sym g.met.T.SerJson.writes_meaning i x) (g.met.T.SerJson.writes_legal (g.T.Value.means x) c.known.ensures) in
     let written = w.is_written g.met.T.SerJson.orders_keys x legal 0 in
+    IfOk-weaker c.deserialize_json.result _ _ (λ read found sound.
     let fits = written_fits g.T.DeJson.spelling.spelled (w.tokens x) (w.text 0 x) c.as_str.result.now (g.T.Value.means x) written (c.as_str.ensures.value ∙ c.in-Ok.ensures) (c.written_tokens_spell_a_sound_value.ensures sound) in
-    one_fits_text g.T.DeJson.spelling.laws _ _ _ c.in-Ok-deserialize_json.ensures.fits fits
+    one_fits_text g.T.DeJson.spelling.laws _ _ _ found fits) c.deserialize_json.ensures.fits
 
 pub returns-in-Ok-clause-memory : goal.returns-in-Ok-clause-memory
-returns-in-Ok-clause-memory g c sound =
+returns-in-Ok-clause-memory g c =
     let w = g.T.SerJson.writing in
     let x = c.args.written.now in
     let legal = subst (λ m. w.legal m) (λ i. sym g.met.T.SerJson.writes_meaning i x) (g.met.T.SerJson.writes_legal (g.T.Value.means x) c.known.ensures) in
     let written = w.is_written g.met.T.SerJson.orders_keys x legal 0 in
+    IfErr-weaker c.deserialize_json.result _ _ (λ e none sound.
     let fits = written_fits g.T.DeJson.spelling.spelled (w.tokens x) (w.text 0 x) c.as_str.result.now (g.T.Value.means x) written (c.as_str.ensures.value ∙ c.in-Ok.ensures) (c.written_tokens_spell_a_sound_value.ensures sound) in
-    true_from_ne_false c.in-Err-deserialize_json.error.memory (λ e. c.in-Err-deserialize_json.ensures.refused e _ fits)
+    true_from_ne_false e.memory (λ known. none known _ fits)) c.deserialize_json.ensures.refused

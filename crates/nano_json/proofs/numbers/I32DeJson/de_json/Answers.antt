@@ -1,15 +1,18 @@
 use Rattle.std.proofs.Common.{refl, lit<}
+use Rattle.std.proofs.lemmas.Result.{err_from_is_err_and}
 use Rattle.std.specs.Int.{w32}
 use Rattle.nano_json.specs.State.{at}
 use Rattle.nano_json.proofs.Integers.{signed_spans, signed_refused, narrowed}
 use Rattle.nano_json.proofs.numbers.I32DeJson.de_json.Goals as goal
 
-pub returns-in-Ok-clause-fits : goal.returns-in-Ok-clause-fits
-returns-in-Ok-clause-fits c =
-    let low = c.in-Ok.ensures.range.0 in
-    let high = c.in-Ok.ensures.range.1 in
-    let same = (narrowed w32 2147483647 c.in-Ok.value (lit< tt) (lit< tt) low high) in
-    signed_spans w32 2147483647 c.in-Ok.value _ (at c.args.state.now c.args.input.now) (at c.read_signed.new.state c.read_signed.new.input) same (lit< tt) low high c.in-Ok.ensures.taken
+pub returns-clause-fits : goal.returns-clause-fits
+returns-clause-fits c =
+    let low = c.in_ok-value.ensures.range.0 in
+    let high = c.in_ok-value.ensures.range.1 in
+    let same = (narrowed w32 2147483647 c.in_ok-value.value (lit< tt) (lit< tt) low high) in
+    signed_spans w32 2147483647 c.in_ok-value.value _ (at c.args.state.now c.args.input.now) (at c.read_signed.new.state c.read_signed.new.input) same (lit< tt) low high c.in_ok-value.ensures.taken
 
-pub returns-in-Err-clause-refused : goal.returns-in-Err-clause-refused
-returns-in-Err-clause-refused c known = signed_refused w32 2147483647 (at c.args.state.now c.args.input.now) refl (c.in-Err.ensures.refused known)
+pub returns-in_err-value-clause-refused : goal.returns-in_err-value-clause-refused
+returns-in_err-value-clause-refused c =
+    let p = err_from_is_err_and c.from_residual.result c.from_residual.ensures.1 in
+    rw (p.1, p.2) (λ known. signed_refused w32 2147483647 (at c.args.state.now c.args.input.now) refl (c.in_err-value.ensures.refused known))

@@ -1,10 +1,13 @@
 use Rattle.std.proofs.Common.{refl, lit<}
+use Rattle.std.proofs.lemmas.Result.{err_from_is_err_and}
 use Rattle.nano_json.specs.State.{at}
 use Rattle.nano_json.proofs.Integers.{unsigned_spans, unsigned_refused}
 use Rattle.nano_json.proofs.numbers.UsizeDeJson.de_json.Goals as goal
 
-pub returns-in-Ok-clause-fits : goal.returns-in-Ok-clause-fits
-returns-in-Ok-clause-fits c = unsigned_spans 64 18446744073709551615 _ (at c.args.state.now c.args.input.now) (at c.read_unsigned.new.state c.read_unsigned.new.input) c.in-Ok.ensures.range (lit< tt) c.in-Ok.ensures.taken
+pub returns-clause-fits : goal.returns-clause-fits
+returns-clause-fits c = unsigned_spans 64 18446744073709551615 _ (at c.args.state.now c.args.input.now) (at c.read_unsigned.new.state c.read_unsigned.new.input) c.in_ok-value.ensures.range (lit< tt) c.in_ok-value.ensures.taken
 
-pub returns-in-Err-clause-refused : goal.returns-in-Err-clause-refused
-returns-in-Err-clause-refused c known = unsigned_refused 64 18446744073709551615 (at c.args.state.now c.args.input.now) refl (c.in-Err.ensures.refused known)
+pub returns-in_err-value-clause-refused : goal.returns-in_err-value-clause-refused
+returns-in_err-value-clause-refused c =
+    let p = err_from_is_err_and c.from_residual.result c.from_residual.ensures.1 in
+    rw (p.1, p.2) (λ known. unsigned_refused 64 18446744073709551615 (at c.args.state.now c.args.input.now) refl (c.in_err-value.ensures.refused known))

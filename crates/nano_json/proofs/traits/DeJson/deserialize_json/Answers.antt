@@ -1,5 +1,5 @@
 use Rattle.std.proofs.Common.{sym, ◌∙◌, ap, subst, List, ℕ, chars}
-use Rattle.std.proofs.lemmas.Result.{IfErr-weaker, IfOk-weaker}
+use Rattle.std.proofs.lemmas.Result.{IfErr-weaker, IfOk-weaker, err_from_is_err_and}
 use Rattle.nano_text.specs.Tokens.{At, Fits}
 use Rattle.nano_text.specs.Place.{before_nul, live_text}
 use Rattle.nano_text.proofs.Tokens.{same_at}
@@ -9,22 +9,23 @@ use Rattle.nano_json.specs.Token.{Token}
 use Rattle.nano_json.proofs.Cuts.{cut_one_way}
 use Rattle.nano_json.proofs.traits.DeJson.deserialize_json.Goals as goal
 
-pub returns-in-Ok-clause-fits : goal.returns-in-Ok-clause-fits
-returns-in-Ok-clause-fits g c =
+pub returns-clause-fits : goal.returns-clause-fits
+returns-clause-fits g c =
     let text = c.next.ensures.rest ∙ ap (λ (b : List ℕ). before_nul (chars b)) c.chars-chars.ensures.rest in
     let now = at c.next_tok.new.self c.next_tok.new.i in
-    let cut = subst (λ (t : List ℕ). Cut t now.token now.text) text c.in-Ok.ensures.taken in
+    let cut = subst (λ (t : List ℕ). Cut t now.token now.text) text c.in_ok-next_tok.ensures.taken in
     IfOk-weaker c.de_json.result _ _ (λ value s. (now, cut, (s.0, at c.de_json.new.state c.de_json.new.input, s.1, s.2))) c.de_json.ensures.fits
 
-pub returns-in-Ok-clause-refused : goal.returns-in-Ok-clause-refused
-returns-in-Ok-clause-refused g c =
+pub returns-clause-refused : goal.returns-clause-refused
+returns-clause-refused g c =
     let text = c.next.ensures.rest ∙ ap (λ (b : List ℕ). before_nul (chars b)) c.chars-chars.ensures.rest in
     let now = at c.next_tok.new.self c.next_tok.new.i in
-    let cut = subst (λ (t : List ℕ). Cut t now.token now.text) text c.in-Ok.ensures.taken in
+    let cut = subst (λ (t : List ℕ). Cut t now.token now.text) text c.in_ok-next_tok.ensures.taken in
     IfErr-weaker c.de_json.result _ _ (λ e none known m f.
     none known m (subst (λ (s : At Token). Fits Cut g.Self.DeJson.spelling.spelled s m) (same_at Cut cut_one_way (live_text c.args.input.now) f.0 now f.1 cut) f.2)) c.de_json.ensures.refused
 
-pub returns-clause-refused : goal.returns-clause-refused
-returns-clause-refused g c known m f =
+pub returns-in_err-next_tok-clause-refused : goal.returns-in_err-next_tok-clause-refused
+returns-in_err-next_tok-clause-refused g c =
+    let p = err_from_is_err_and c.from_residual.result c.from_residual.ensures.1 in
     let text = c.next.ensures.rest ∙ ap (λ (b : List ℕ). before_nul (chars b)) c.chars-chars.ensures.rest in
-    c.in-Err.ensures.refused known f.0.token f.0.text (subst (λ (t : List ℕ). Cut t f.0.token f.0.text) (sym text) f.1)
+    rw (p.1, p.2) (λ known m f. c.in_err-next_tok.ensures.refused known f.0.token f.0.text (subst (λ (t : List ℕ). Cut t f.0.token f.0.text) (sym text) f.1))
