@@ -131,13 +131,9 @@ pub fn read_content<T: DeJson>(
     ensures ended { OnErr result (at state.new input.new ≡ ended) }
     ensures memory { IfErr result (λ e. e.memory ≡ true → string_bytes e.msg ≡ []) }
 {
-    match T::de_json(alloc, state, input) {
-        Ok(content) => match close_content(alloc, state, input) {
-            Ok(()) => Ok(content),
-            Err(error) => Err(error),
-        },
-        Err(error) => Err(error),
-    }
+    let content = T::de_json(alloc, state, input)?;
+    close_content(alloc, state, input)?;
+    Ok(content)
 }
 
 /// Reads named fields, as the content of a variant whose name is taken, and the `}` behind them.
@@ -156,13 +152,9 @@ pub fn read_fields_content<F: Fields>(
     ensures ended { OnErr result (at state.new input.new ≡ ended) }
     ensures memory { IfErr result (λ e. e.memory ≡ true → string_bytes e.msg ≡ []) }
 {
-    match read_fields(fields, alloc, state, input) {
-        Ok(values) => match close_content(alloc, state, input) {
-            Ok(()) => Ok(values),
-            Err(error) => Err(error),
-        },
-        Err(error) => Err(error),
-    }
+    let values = read_fields(fields, alloc, state, input)?;
+    close_content(alloc, state, input)?;
+    Ok(values)
 }
 
 /// Takes the `}` behind the content of a variant. Every refusal leaves the state at the end of the
