@@ -55,13 +55,11 @@ impl<T: DeBin> DeBin for Vec<T> {
     fn de_bin(alloc: Global, offset: &mut usize, bytes: &[u8]) -> Result<Vec<T>, DeBinErr> {
         let start = *offset;
         let count = usize::de_bin(alloc, offset, bytes)?;
-        match T::de_bin_items(alloc, count, offset, bytes) {
-            Ok(items) => Ok(items),
-            Err(error) => {
-                *offset = start;
-                Err(error)
-            }
+        let taken = T::de_bin_items(alloc, count, offset, bytes);
+        if taken.is_err() {
+            *offset = start;
         }
+        taken
     }
 }
 
@@ -110,13 +108,11 @@ impl<T: DeBin> DeBin for LinkedList<T> {
     fn de_bin(alloc: Global, offset: &mut usize, bytes: &[u8]) -> Result<LinkedList<T>, DeBinErr> {
         let start = *offset;
         let count = usize::de_bin(alloc, offset, bytes)?;
-        match take_linked(alloc, count, offset, bytes) {
-            Ok(items) => Ok(items),
-            Err(error) => {
-                *offset = start;
-                Err(error)
-            }
+        let taken = take_linked(alloc, count, offset, bytes);
+        if taken.is_err() {
+            *offset = start;
         }
+        taken
     }
 }
 

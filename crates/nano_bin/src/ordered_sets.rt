@@ -59,13 +59,11 @@ impl<T: DeBin + Key + Ord> DeBin for BTreeSet<T> {
     fn de_bin(alloc: Global, offset: &mut usize, bytes: &[u8]) -> Result<BTreeSet<T>, DeBinErr> {
         let start = *offset;
         let count = usize::de_bin(alloc, offset, bytes)?;
-        match take_ordered(alloc, count, offset, bytes) {
-            Ok(items) => Ok(items),
-            Err(error) => {
-                *offset = start;
-                Err(error)
-            }
+        let taken = take_ordered(alloc, count, offset, bytes);
+        if taken.is_err() {
+            *offset = start;
         }
+        taken
     }
 }
 

@@ -41,13 +41,11 @@ impl DeBin for String {
     {
         let start = *offset;
         let count = usize::de_bin(alloc, offset, bytes)?;
-        match take_text(alloc, count, offset, bytes) {
-            Ok(text) => Ok(text),
-            Err(error) => {
-                *offset = start;
-                Err(error)
-            }
+        let taken = take_text(alloc, count, offset, bytes);
+        if taken.is_err() {
+            *offset = start;
         }
+        taken
     }
 }
 

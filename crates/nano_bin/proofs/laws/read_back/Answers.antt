@@ -1,14 +1,10 @@
 use Rattle.std.proofs.lemmas.Result.{IfOk-weaker, IfErr-weaker}
-use Rattle.nano_bin.proofs.RoundTrip.{read_same, read_moved, code_fits, for_memory}
+use Rattle.nano_bin.proofs.RoundTrip.{read_same, code_fits, for_memory}
 use Rattle.nano_bin.proofs.laws.read_back.Goals as goal
 
 pub returns-clause-same : goal.returns-clause-same
 returns-clause-same g c =
     IfOk-weaker c.de_bin.result _ _ (λ read fits at. read_same g.T.DeBin.spelling.laws _ _ _ _ _ _ fits (g.met.T.BothBin.reads_back _ c.known.ensures) at) c.de_bin.ensures.ok
-
-pub returns-clause-moved : goal.returns-clause-moved
-returns-clause-moved g c =
-    IfOk-weaker c.de_bin.result _ _ (λ read fits at. read_moved g.T.DeBin.spelling.laws _ _ _ _ _ _ fits (g.met.T.BothBin.reads_back _ c.known.ensures) at) c.de_bin.ensures.ok
 
 pub returns-clause-memory : goal.returns-clause-memory
 returns-clause-memory g c =
