@@ -1,5 +1,5 @@
 -- What the readers of containers answer, from what the readers of their parts answer.
-use Rattle.std.proofs.Common.{◌≡◌, ◌≢◌, ℕ, suc, ◌+◌, ◌^◌, ◌<◌, refl, List, [], ◌∷◌, ◌++◌, length, drop, Option, Some, None, sym, ◌∙◌, subst, ap, arith, append_assoc, length-append, slice_index, get_or-drop, true, false, ℤ, Fits as FitsWidth}
+use Rattle.std.proofs.Common.{◌≡◌, ◌≢◌, Result, Ok, Err, IfOk, ℕ, suc, ◌+◌, ◌^◌, ◌<◌, refl, List, [], ◌∷◌, ◌++◌, length, drop, Option, Some, None, sym, ◌∙◌, subst, ap, arith, append_assoc, length-append, slice_index, get_or-drop, true, false, ℤ, Fits as FitsWidth}
 use Rattle.std.specs.Int.{Width, cast_signed, cast_unsigned}
 use Rattle.std.proofs.Math.Facts.{sfits_to_z, of_z-to_z}
 use Rattle.std.proofs.lemmas.Int.{to_z-of_z}
@@ -11,6 +11,11 @@ use Rattle.nano_bin.specs.Reading.{IsSpelling, NothingFits, Reads}
 use Rattle.nano_bin.specs.LittleEndian.{SpellsNumber, number_spelling, little_endian, little_value, length-little_endian, little_endian-little_value, little_value_fits}
 use Rattle.nano_bin.specs.Spellings.{SpellsUnit, SpellsUnsigned, SpellsSigned, SpellsSignedNumber, SpellsTruth, SpellsPair, SpellsOption, SpellsItems, SpellsCount, SpellsList, SpellsText, IsTextOf}
 use Rattle.nano_bin.specs.SpellingLaws.{same_fronts, same_heads, truth_byte}
+
+-- what two facts of success show together
+pub both_ok : {T E : Type 0} {P Q R : T → Type 0} (r : Result T E) → ((x : T) → P x → Q x → R x) → IfOk r P → IfOk r Q → IfOk r R
+both_ok (Ok x) f p q = f x p q
+both_ok (Err e) f p q = tt
 
 -- ---- one reader behind another
 

@@ -39,12 +39,10 @@ impl<T: DeBin, const N: usize> DeBin for [T; N] {
     ghost spells_legal = { array_weaker T.spelling.legal T.legal T.spells_legal N };
 
     fn de_bin(alloc: Global, offset: &mut usize, bytes: &[u8]) -> Result<[T; N], DeBinErr> {
-        match T::de_bin_items(alloc, N, offset, bytes) {
-            Ok(items) => match <[T; N]>::try_from(items) {
-                Ok(items) => Ok(items),
-                Err(_) => unreachable!(),
-            },
-            Err(error) => Err(error),
+        let items = T::de_bin_items(alloc, N, offset, bytes)?;
+        match <[T; N]>::try_from(items) {
+            Ok(items) => Ok(items),
+            Err(_) => unreachable!(),
         }
     }
 }

@@ -25,15 +25,13 @@ impl<T: DeBin> DeBin for Box<T> {
 
     fn de_bin(alloc: Global, offset: &mut usize, bytes: &[u8]) -> Result<Box<T>, DeBinErr> {
         let start = *offset;
-        match T::de_bin(alloc, offset, bytes) {
-            Ok(value) => match Box::new(alloc, value) {
-                Ok(value) => Ok(value),
-                Err(_) => {
-                    *offset = start;
-                    Err(no_memory(start, bytes))
-                }
-            },
-            Err(error) => Err(error),
+        let value = T::de_bin(alloc, offset, bytes)?;
+        match Box::new(alloc, value) {
+            Ok(value) => Ok(value),
+            Err(_) => {
+                *offset = start;
+                Err(no_memory(start, bytes))
+            }
         }
     }
 }

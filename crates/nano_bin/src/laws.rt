@@ -25,10 +25,7 @@ pub fn read_back<T: BothBin>(
     ensures kept { OnErr result (offset.new ≡ offset.old) }
 {
     written.known();
-    match T::de_bin(alloc, offset, bytes) {
-        Ok(read) => Ok(read),
-        Err(error) => Err(error),
-    }
+    T::de_bin(alloc, offset, bytes)
 }
 
 /// Reads two values back whose codes were laid one behind the other.
@@ -46,15 +43,13 @@ pub fn read_both_back<A: BothBin, B: BothBin>(
     ensures kept { OnErr result (offset.new ≡ offset.old) }
 {
     let start = *offset;
-    match read_back(alloc, first, offset, bytes) {
-        Ok(one) => match read_back(alloc, second, offset, bytes) {
-            Ok(other) => Ok((one, other)),
-            Err(error) => {
-                *offset = start;
-                Err(error)
-            }
-        },
-        Err(error) => Err(error),
+    let one = read_back(alloc, first, offset, bytes)?;
+    match read_back(alloc, second, offset, bytes) {
+        Ok(other) => Ok((one, other)),
+        Err(error) => {
+            *offset = start;
+            Err(error)
+        }
     }
 }
 

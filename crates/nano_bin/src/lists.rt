@@ -54,16 +54,12 @@ impl<T: DeBin> DeBin for Vec<T> {
 
     fn de_bin(alloc: Global, offset: &mut usize, bytes: &[u8]) -> Result<Vec<T>, DeBinErr> {
         let start = *offset;
-        match usize::de_bin(alloc, offset, bytes) {
-            Ok(count) => match T::de_bin_items(alloc, count, offset, bytes) {
-                Ok(items) => Ok(items),
-                Err(error) => {
-                    *offset = start;
-                    Err(error)
-                }
-            },
-            Err(error) => Err(error),
+        let count = usize::de_bin(alloc, offset, bytes)?;
+        let taken = T::de_bin_items(alloc, count, offset, bytes);
+        if taken.is_err() {
+            *offset = start;
         }
+        taken
     }
 }
 
@@ -111,16 +107,12 @@ impl<T: DeBin> DeBin for LinkedList<T> {
 
     fn de_bin(alloc: Global, offset: &mut usize, bytes: &[u8]) -> Result<LinkedList<T>, DeBinErr> {
         let start = *offset;
-        match usize::de_bin(alloc, offset, bytes) {
-            Ok(count) => match take_linked(alloc, count, offset, bytes) {
-                Ok(items) => Ok(items),
-                Err(error) => {
-                    *offset = start;
-                    Err(error)
-                }
-            },
-            Err(error) => Err(error),
+        let count = usize::de_bin(alloc, offset, bytes)?;
+        let taken = take_linked(alloc, count, offset, bytes);
+        if taken.is_err() {
+            *offset = start;
         }
+        taken
     }
 }
 

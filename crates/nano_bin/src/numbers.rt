@@ -45,10 +45,8 @@ impl DeBin for u8 {
         ensures short { IfErr result (IsTooShort bytes.now offset.old 1) }
         ensures kept { OnErr result (offset.new ≡ offset.old) }
     {
-        match take_number::<1>(offset, bytes) {
-            Ok(taken) => Ok(u8::from_le_bytes(taken)),
-            Err(error) => Err(error),
-        }
+        let taken = take_number::<1>(offset, bytes)?;
+        Ok(u8::from_le_bytes(taken))
     }
 
     fn de_bin_items(
@@ -58,15 +56,13 @@ impl DeBin for u8 {
         bytes: &[u8],
     ) -> Result<Vec<u8>, DeBinErr> {
         let start = *offset;
-        match take_bytes(count, offset, bytes) {
-            Ok(taken) => match taken.to_vec(alloc) {
-                Ok(items) => Ok(items),
-                Err(_) => {
-                    *offset = start;
-                    Err(no_memory(start, bytes))
-                }
-            },
-            Err(error) => Err(error),
+        let taken = take_bytes(count, offset, bytes)?;
+        match taken.to_vec(alloc) {
+            Ok(items) => Ok(items),
+            Err(_) => {
+                *offset = start;
+                Err(no_memory(start, bytes))
+            }
         }
     }
 }
@@ -107,10 +103,8 @@ impl DeBin for u16 {
         ensures short { IfErr result (IsTooShort bytes.now offset.old 2) }
         ensures kept { OnErr result (offset.new ≡ offset.old) }
     {
-        match take_number::<2>(offset, bytes) {
-            Ok(taken) => Ok(u16::from_le_bytes(taken)),
-            Err(error) => Err(error),
-        }
+        let taken = take_number::<2>(offset, bytes)?;
+        Ok(u16::from_le_bytes(taken))
     }
 
     #[tactic(auto, using(crate::specs::LittleEndian::from_le_bytes_16))]
@@ -121,15 +115,13 @@ impl DeBin for u16 {
         bytes: &[u8],
     ) -> Result<Vec<u16>, DeBinErr> {
         let start = *offset;
-        match take_numbers::<2>(count, offset, bytes) {
-            Ok(taken) => match u16s(alloc, taken) {
-                Ok(items) => Ok(items),
-                Err(_) => {
-                    *offset = start;
-                    Err(no_memory(start, bytes))
-                }
-            },
-            Err(error) => Err(error),
+        let taken = take_numbers::<2>(count, offset, bytes)?;
+        match u16s(alloc, taken) {
+            Ok(items) => Ok(items),
+            Err(_) => {
+                *offset = start;
+                Err(no_memory(start, bytes))
+            }
         }
     }
 }
@@ -180,10 +172,8 @@ impl DeBin for u32 {
         ensures short { IfErr result (IsTooShort bytes.now offset.old 4) }
         ensures kept { OnErr result (offset.new ≡ offset.old) }
     {
-        match take_number::<4>(offset, bytes) {
-            Ok(taken) => Ok(u32::from_le_bytes(taken)),
-            Err(error) => Err(error),
-        }
+        let taken = take_number::<4>(offset, bytes)?;
+        Ok(u32::from_le_bytes(taken))
     }
 
     #[tactic(auto, using(crate::specs::LittleEndian::from_le_bytes_32))]
@@ -194,15 +184,13 @@ impl DeBin for u32 {
         bytes: &[u8],
     ) -> Result<Vec<u32>, DeBinErr> {
         let start = *offset;
-        match take_numbers::<4>(count, offset, bytes) {
-            Ok(taken) => match u32s(alloc, taken) {
-                Ok(items) => Ok(items),
-                Err(_) => {
-                    *offset = start;
-                    Err(no_memory(start, bytes))
-                }
-            },
-            Err(error) => Err(error),
+        let taken = take_numbers::<4>(count, offset, bytes)?;
+        match u32s(alloc, taken) {
+            Ok(items) => Ok(items),
+            Err(_) => {
+                *offset = start;
+                Err(no_memory(start, bytes))
+            }
         }
     }
 }
@@ -253,10 +241,8 @@ impl DeBin for u64 {
         ensures short { IfErr result (IsTooShort bytes.now offset.old 8) }
         ensures kept { OnErr result (offset.new ≡ offset.old) }
     {
-        match take_number::<8>(offset, bytes) {
-            Ok(taken) => Ok(u64::from_le_bytes(taken)),
-            Err(error) => Err(error),
-        }
+        let taken = take_number::<8>(offset, bytes)?;
+        Ok(u64::from_le_bytes(taken))
     }
 
     #[tactic(auto, using(crate::specs::LittleEndian::from_le_bytes_64))]
@@ -267,15 +253,13 @@ impl DeBin for u64 {
         bytes: &[u8],
     ) -> Result<Vec<u64>, DeBinErr> {
         let start = *offset;
-        match take_numbers::<8>(count, offset, bytes) {
-            Ok(taken) => match u64s(alloc, taken) {
-                Ok(items) => Ok(items),
-                Err(_) => {
-                    *offset = start;
-                    Err(no_memory(start, bytes))
-                }
-            },
-            Err(error) => Err(error),
+        let taken = take_numbers::<8>(count, offset, bytes)?;
+        match u64s(alloc, taken) {
+            Ok(items) => Ok(items),
+            Err(_) => {
+                *offset = start;
+                Err(no_memory(start, bytes))
+            }
         }
     }
 }
@@ -330,10 +314,8 @@ impl DeBin for usize {
         ensures short { IfErr result (IsTooShort bytes.now offset.old 8) }
         ensures kept { OnErr result (offset.new ≡ offset.old) }
     {
-        match take_number::<8>(offset, bytes) {
-            Ok(taken) => Ok(usize::from_le_bytes(taken)),
-            Err(error) => Err(error),
-        }
+        let taken = take_number::<8>(offset, bytes)?;
+        Ok(usize::from_le_bytes(taken))
     }
 
     #[tactic(auto, using(crate::specs::LittleEndian::from_le_bytes_64))]
@@ -344,15 +326,13 @@ impl DeBin for usize {
         bytes: &[u8],
     ) -> Result<Vec<usize>, DeBinErr> {
         let start = *offset;
-        match take_numbers::<8>(count, offset, bytes) {
-            Ok(taken) => match usizes(alloc, taken) {
-                Ok(items) => Ok(items),
-                Err(_) => {
-                    *offset = start;
-                    Err(no_memory(start, bytes))
-                }
-            },
-            Err(error) => Err(error),
+        let taken = take_numbers::<8>(count, offset, bytes)?;
+        match usizes(alloc, taken) {
+            Ok(items) => Ok(items),
+            Err(_) => {
+                *offset = start;
+                Err(no_memory(start, bytes))
+            }
         }
     }
 }
@@ -407,10 +387,8 @@ impl DeBin for u128 {
         ensures short { IfErr result (IsTooShort bytes.now offset.old 16) }
         ensures kept { OnErr result (offset.new ≡ offset.old) }
     {
-        match take_number::<16>(offset, bytes) {
-            Ok(taken) => Ok(u128::from_le_bytes(taken)),
-            Err(error) => Err(error),
-        }
+        let taken = take_number::<16>(offset, bytes)?;
+        Ok(u128::from_le_bytes(taken))
     }
 
     #[tactic(auto, using(crate::specs::LittleEndian::from_le_bytes_128))]
@@ -421,15 +399,13 @@ impl DeBin for u128 {
         bytes: &[u8],
     ) -> Result<Vec<u128>, DeBinErr> {
         let start = *offset;
-        match take_numbers::<16>(count, offset, bytes) {
-            Ok(taken) => match u128s(alloc, taken) {
-                Ok(items) => Ok(items),
-                Err(_) => {
-                    *offset = start;
-                    Err(no_memory(start, bytes))
-                }
-            },
-            Err(error) => Err(error),
+        let taken = take_numbers::<16>(count, offset, bytes)?;
+        match u128s(alloc, taken) {
+            Ok(items) => Ok(items),
+            Err(_) => {
+                *offset = start;
+                Err(no_memory(start, bytes))
+            }
         }
     }
 }

@@ -37,16 +37,15 @@ impl<T: DeBin> DeBin for Option<T> {
 
     fn de_bin(alloc: Global, offset: &mut usize, bytes: &[u8]) -> Result<Option<T>, DeBinErr> {
         let start = *offset;
-        match u8::de_bin(alloc, offset, bytes) {
-            Ok(1) => match T::de_bin(alloc, offset, bytes) {
+        match u8::de_bin(alloc, offset, bytes)? {
+            1 => match T::de_bin(alloc, offset, bytes) {
                 Ok(value) => Ok(Some(value)),
                 Err(error) => {
                     *offset = start;
                     Err(error)
                 }
             },
-            Ok(_) => Ok(None),
-            Err(error) => Err(error),
+            _ => Ok(None),
         }
     }
 }

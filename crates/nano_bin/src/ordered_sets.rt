@@ -58,16 +58,12 @@ impl<T: DeBin + Key + Ord> DeBin for BTreeSet<T> {
 
     fn de_bin(alloc: Global, offset: &mut usize, bytes: &[u8]) -> Result<BTreeSet<T>, DeBinErr> {
         let start = *offset;
-        match usize::de_bin(alloc, offset, bytes) {
-            Ok(count) => match take_ordered(alloc, count, offset, bytes) {
-                Ok(items) => Ok(items),
-                Err(error) => {
-                    *offset = start;
-                    Err(error)
-                }
-            },
-            Err(error) => Err(error),
+        let count = usize::de_bin(alloc, offset, bytes)?;
+        let taken = take_ordered(alloc, count, offset, bytes);
+        if taken.is_err() {
+            *offset = start;
         }
+        taken
     }
 }
 

@@ -30,15 +30,13 @@ impl<A: DeBin, B: DeBin> DeBin for (A, B) {
 
     fn de_bin(alloc: Global, offset: &mut usize, bytes: &[u8]) -> Result<(A, B), DeBinErr> {
         let start = *offset;
-        match A::de_bin(alloc, offset, bytes) {
-            Ok(first) => match B::de_bin(alloc, offset, bytes) {
-                Ok(second) => Ok((first, second)),
-                Err(error) => {
-                    *offset = start;
-                    Err(error)
-                }
-            },
-            Err(error) => Err(error),
+        let first = A::de_bin(alloc, offset, bytes)?;
+        match B::de_bin(alloc, offset, bytes) {
+            Ok(second) => Ok((first, second)),
+            Err(error) => {
+                *offset = start;
+                Err(error)
+            }
         }
     }
 }

@@ -31,10 +31,8 @@ impl<A: DeBin, B: DeBin, C: DeBin, D: DeBin> DeBin for (A, B, C, D) {
     ghost spells_legal = { pair_weaker A.spelling.legal A.legal (pair_of B.spelling (pair_of C.spelling D.spelling)).legal (LegalPair B.legal (LegalPair C.legal D.legal)) A.spells_legal (pair_weaker B.spelling.legal B.legal (pair_of C.spelling D.spelling).legal (LegalPair C.legal D.legal) B.spells_legal (pair_weaker C.spelling.legal C.legal D.spelling.legal D.legal C.spells_legal D.spells_legal)) };
 
     fn de_bin(alloc: Global, offset: &mut usize, bytes: &[u8]) -> Result<(A, B, C, D), DeBinErr> {
-        match <(A, (B, (C, D)))>::de_bin(alloc, offset, bytes) {
-            Ok((first, (second, (third, fourth)))) => Ok((first, second, third, fourth)),
-            Err(error) => Err(error),
-        }
+        let (first, (second, (third, fourth))) = <(A, (B, (C, D)))>::de_bin(alloc, offset, bytes)?;
+        Ok((first, second, third, fourth))
     }
 }
 

@@ -42,10 +42,8 @@ impl DeBin for i8 {
         ensures short { IfErr result (IsTooShort bytes.now offset.old 1) }
         ensures kept { OnErr result (offset.new ≡ offset.old) }
     {
-        match u8::de_bin(alloc, offset, bytes) {
-            Ok(bits) => Ok(u8::cast_signed(bits)),
-            Err(error) => Err(error),
-        }
+        let bits = u8::de_bin(alloc, offset, bytes)?;
+        Ok(u8::cast_signed(bits))
     }
 
     fn de_bin_items(
@@ -55,15 +53,13 @@ impl DeBin for i8 {
         bytes: &[u8],
     ) -> Result<Vec<i8>, DeBinErr> {
         let start = *offset;
-        match take_numbers::<1>(count, offset, bytes) {
-            Ok(taken) => match i8s(alloc, taken) {
-                Ok(items) => Ok(items),
-                Err(_) => {
-                    *offset = start;
-                    Err(no_memory(start, bytes))
-                }
-            },
-            Err(error) => Err(error),
+        let taken = take_numbers::<1>(count, offset, bytes)?;
+        match i8s(alloc, taken) {
+            Ok(items) => Ok(items),
+            Err(_) => {
+                *offset = start;
+                Err(no_memory(start, bytes))
+            }
         }
     }
 }
@@ -112,10 +108,8 @@ impl DeBin for i16 {
         ensures short { IfErr result (IsTooShort bytes.now offset.old 2) }
         ensures kept { OnErr result (offset.new ≡ offset.old) }
     {
-        match u16::de_bin(alloc, offset, bytes) {
-            Ok(bits) => Ok(u16::cast_signed(bits)),
-            Err(error) => Err(error),
-        }
+        let bits = u16::de_bin(alloc, offset, bytes)?;
+        Ok(u16::cast_signed(bits))
     }
 
     fn de_bin_items(
@@ -125,15 +119,13 @@ impl DeBin for i16 {
         bytes: &[u8],
     ) -> Result<Vec<i16>, DeBinErr> {
         let start = *offset;
-        match take_numbers::<2>(count, offset, bytes) {
-            Ok(taken) => match i16s(alloc, taken) {
-                Ok(items) => Ok(items),
-                Err(_) => {
-                    *offset = start;
-                    Err(no_memory(start, bytes))
-                }
-            },
-            Err(error) => Err(error),
+        let taken = take_numbers::<2>(count, offset, bytes)?;
+        match i16s(alloc, taken) {
+            Ok(items) => Ok(items),
+            Err(_) => {
+                *offset = start;
+                Err(no_memory(start, bytes))
+            }
         }
     }
 }
@@ -182,10 +174,8 @@ impl DeBin for i32 {
         ensures short { IfErr result (IsTooShort bytes.now offset.old 4) }
         ensures kept { OnErr result (offset.new ≡ offset.old) }
     {
-        match u32::de_bin(alloc, offset, bytes) {
-            Ok(bits) => Ok(u32::cast_signed(bits)),
-            Err(error) => Err(error),
-        }
+        let bits = u32::de_bin(alloc, offset, bytes)?;
+        Ok(u32::cast_signed(bits))
     }
 
     fn de_bin_items(
@@ -195,15 +185,13 @@ impl DeBin for i32 {
         bytes: &[u8],
     ) -> Result<Vec<i32>, DeBinErr> {
         let start = *offset;
-        match take_numbers::<4>(count, offset, bytes) {
-            Ok(taken) => match i32s(alloc, taken) {
-                Ok(items) => Ok(items),
-                Err(_) => {
-                    *offset = start;
-                    Err(no_memory(start, bytes))
-                }
-            },
-            Err(error) => Err(error),
+        let taken = take_numbers::<4>(count, offset, bytes)?;
+        match i32s(alloc, taken) {
+            Ok(items) => Ok(items),
+            Err(_) => {
+                *offset = start;
+                Err(no_memory(start, bytes))
+            }
         }
     }
 }
@@ -252,10 +240,8 @@ impl DeBin for i64 {
         ensures short { IfErr result (IsTooShort bytes.now offset.old 8) }
         ensures kept { OnErr result (offset.new ≡ offset.old) }
     {
-        match u64::de_bin(alloc, offset, bytes) {
-            Ok(bits) => Ok(u64::cast_signed(bits)),
-            Err(error) => Err(error),
-        }
+        let bits = u64::de_bin(alloc, offset, bytes)?;
+        Ok(u64::cast_signed(bits))
     }
 
     fn de_bin_items(
@@ -265,15 +251,13 @@ impl DeBin for i64 {
         bytes: &[u8],
     ) -> Result<Vec<i64>, DeBinErr> {
         let start = *offset;
-        match take_numbers::<8>(count, offset, bytes) {
-            Ok(taken) => match i64s(alloc, taken) {
-                Ok(items) => Ok(items),
-                Err(_) => {
-                    *offset = start;
-                    Err(no_memory(start, bytes))
-                }
-            },
-            Err(error) => Err(error),
+        let taken = take_numbers::<8>(count, offset, bytes)?;
+        match i64s(alloc, taken) {
+            Ok(items) => Ok(items),
+            Err(_) => {
+                *offset = start;
+                Err(no_memory(start, bytes))
+            }
         }
     }
 }
@@ -326,10 +310,8 @@ impl DeBin for i128 {
         ensures short { IfErr result (IsTooShort bytes.now offset.old 16) }
         ensures kept { OnErr result (offset.new ≡ offset.old) }
     {
-        match u128::de_bin(alloc, offset, bytes) {
-            Ok(bits) => Ok(u128::cast_signed(bits)),
-            Err(error) => Err(error),
-        }
+        let bits = u128::de_bin(alloc, offset, bytes)?;
+        Ok(u128::cast_signed(bits))
     }
 
     fn de_bin_items(
@@ -339,15 +321,13 @@ impl DeBin for i128 {
         bytes: &[u8],
     ) -> Result<Vec<i128>, DeBinErr> {
         let start = *offset;
-        match take_numbers::<16>(count, offset, bytes) {
-            Ok(taken) => match i128s(alloc, taken) {
-                Ok(items) => Ok(items),
-                Err(_) => {
-                    *offset = start;
-                    Err(no_memory(start, bytes))
-                }
-            },
-            Err(error) => Err(error),
+        let taken = take_numbers::<16>(count, offset, bytes)?;
+        match i128s(alloc, taken) {
+            Ok(items) => Ok(items),
+            Err(_) => {
+                *offset = start;
+                Err(no_memory(start, bytes))
+            }
         }
     }
 }

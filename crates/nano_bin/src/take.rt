@@ -92,10 +92,7 @@ pub(crate) fn take_number<const N: usize>(
     ensures short { IfErr result (IsTooShort bytes.now offset.old N) }
     ensures kept { OnErr result (offset.new ≡ offset.old) }
 {
-    match take_array::<N>(offset, bytes) {
-        Ok(taken) => Ok(taken),
-        Err(error) => Err(error),
-    }
+    take_array::<N>(offset, bytes)
 }
 
 /// Takes so many bytes of UTF-8 as a new text.

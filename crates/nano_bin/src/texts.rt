@@ -40,16 +40,12 @@ impl DeBin for String {
         ensures kept { OnErr result (offset.new ≡ offset.old) }
     {
         let start = *offset;
-        match usize::de_bin(alloc, offset, bytes) {
-            Ok(count) => match take_text(alloc, count, offset, bytes) {
-                Ok(text) => Ok(text),
-                Err(error) => {
-                    *offset = start;
-                    Err(error)
-                }
-            },
-            Err(error) => Err(error),
+        let count = usize::de_bin(alloc, offset, bytes)?;
+        let taken = take_text(alloc, count, offset, bytes);
+        if taken.is_err() {
+            *offset = start;
         }
+        taken
     }
 }
 

@@ -30,10 +30,8 @@ impl<A: DeBin, B: DeBin, C: DeBin> DeBin for (A, B, C) {
     ghost spells_legal = { pair_weaker A.spelling.legal A.legal (pair_of B.spelling C.spelling).legal (LegalPair B.legal C.legal) A.spells_legal (pair_weaker B.spelling.legal B.legal C.spelling.legal C.legal B.spells_legal C.spells_legal) };
 
     fn de_bin(alloc: Global, offset: &mut usize, bytes: &[u8]) -> Result<(A, B, C), DeBinErr> {
-        match <(A, (B, C))>::de_bin(alloc, offset, bytes) {
-            Ok((first, (second, third))) => Ok((first, second, third)),
-            Err(error) => Err(error),
-        }
+        let (first, (second, third)) = <(A, (B, C))>::de_bin(alloc, offset, bytes)?;
+        Ok((first, second, third))
     }
 }
 

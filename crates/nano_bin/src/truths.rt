@@ -35,11 +35,7 @@ impl DeBin for bool {
         ensures short { IfErr result (IsTooShort bytes.now offset.old 1) }
         ensures kept { OnErr result (offset.new ≡ offset.old) }
     {
-        match u8::de_bin(alloc, offset, bytes) {
-            Ok(0) => Ok(false),
-            Ok(_) => Ok(true),
-            Err(error) => Err(error),
-        }
+        Ok(u8::de_bin(alloc, offset, bytes)? != 0)
     }
 }
 

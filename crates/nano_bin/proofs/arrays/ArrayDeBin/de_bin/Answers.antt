@@ -1,7 +1,10 @@
+use Rattle.std.proofs.lemmas.Result.{err_from_is_err_and}
 use Rattle.nano_value.specs.Meaning.{listed}
 use Rattle.nano_bin.specs.Spellings.{SpellsCount}
 use Rattle.nano_bin.proofs.Readers.{image_refused}
 use Rattle.nano_bin.proofs.arrays.ArrayDeBin.de_bin.Goals as goal
 
-pub returns-in-Err-clause-err : goal.returns-in-Err-clause-err
-returns-in-Err-clause-err g c h = image_refused (SpellsCount g.row.N g.T.DeBin.spelling.spelled) listed _ (c.in-Err.ensures.err h)
+pub returns-in_err-items-clause-err : goal.returns-in_err-items-clause-err
+returns-in_err-items-clause-err g c =
+    let p = err_from_is_err_and c.from_residual.result c.from_residual.ensures.1 in
+    rw (p.1, p.2) (λ h. image_refused (SpellsCount g.row.N g.T.DeBin.spelling.spelled) listed _ (c.in_err-items.ensures.err h))

@@ -5,6 +5,6 @@ use Rattle.nano_bin.specs.LittleEndian.{from_le_bytes_128}
 use Rattle.nano_bin.proofs.Runs.{chunks_mapped}
 use Rattle.nano_bin.proofs.numbers.U128DeBin.de_bin_items.Goals as goal
 
-pub returns-in-Ok-u128s-clause-ok : goal.returns-in-Ok-u128s-clause-ok
-returns-in-Ok-u128s-clause-ok c =
-    rw (ap (map whole) c.in-Ok-u128s.ensures ∙ chunks_mapped 16 (from_le_bytes w128) from_le_bytes_128 _ c.in-Ok.ensures.length) c.in-Ok.ensures.ok
+pub returns-in-Ok-clause-ok : goal.returns-in-Ok-clause-ok
+returns-in-Ok-clause-ok c =
+    rw (ap (map whole) c.in-Ok.ensures ∙ chunks_mapped 16 (from_le_bytes w128) from_le_bytes_128 _ c.in_ok-taken.ensures.length) c.in_ok-taken.ensures.ok

@@ -1,19 +1,21 @@
+use Rattle.std.proofs.lemmas.Result.{err_from_is_err_and, IfErr-weaker}
 use Rattle.nano_bin.specs.Spellings.{SpellsList}
 use Rattle.nano_bin.specs.Sets.{items_mean}
-use Rattle.nano_bin.proofs.Readers.{list_refused, list_items_refused, unsigned_reads, unsigned_refused, image_refused}
+use Rattle.nano_bin.proofs.Readers.{both_ok, list_refused, list_items_refused, unsigned_reads, unsigned_refused, image_refused}
 use Rattle.nano_bin.proofs.MapReaders.{ordered_reads}
 use Rattle.nano_bin.proofs.ordered_sets.BTreeSetDeBin.de_bin.Goals as goal
 
-pub returns-in-Ok-take_ordered-clause-ok : goal.returns-in-Ok-take_ordered-clause-ok
-returns-in-Ok-take_ordered-clause-ok g c =
-    ordered_reads g.T.DeBin.spelling.spelled g.T.Ord.cmp g.T.Value.means c.in-Ok-take_ordered.items.keys c.in-Ok-take_ordered.ensures.ordered _ _ _ _ _ (unsigned_reads 8 _ _ _ _ c.in-Ok.ensures.ok) c.in-Ok-take_ordered.ensures.ok
+pub returns-else-is_err-clause-ok : goal.returns-else-is_err-clause-ok
+returns-else-is_err-clause-ok g c =
+    both_ok c.take_ordered-taken.result (λ items ordered reads. ordered_reads g.T.DeBin.spelling.spelled g.T.Ord.cmp g.T.Value.means items.keys ordered _ _ _ _ _ (unsigned_reads 8 _ _ _ _ c.in_ok-count.ensures.ok) reads) c.take_ordered-taken.ensures.ordered c.take_ordered-taken.ensures.ok
 
-pub returns-in-Err-take_ordered-clause-err : goal.returns-in-Err-take_ordered-clause-err
-returns-in-Err-take_ordered-clause-err g c h =
+pub returns-then-is_err-clause-err : goal.returns-then-is_err-clause-err
+returns-then-is_err-clause-err g c =
     let S = g.T.DeBin.spelling.spelled in
-    image_refused (SpellsList S) items_mean _ (list_items_refused S _ _ _ _ (unsigned_reads 8 _ _ _ _ c.in-Ok.ensures.ok) (c.in-Err-take_ordered.ensures.err h))
+    IfErr-weaker c.take_ordered-taken.result _ _ (λ e refused h. image_refused (SpellsList S) items_mean _ (list_items_refused S _ _ _ _ (unsigned_reads 8 _ _ _ _ c.in_ok-count.ensures.ok) (refused h))) c.take_ordered-taken.ensures.err
 
-pub returns-in-Err-clause-err : goal.returns-in-Err-clause-err
-returns-in-Err-clause-err g c h =
+pub returns-in_err-count-clause-err : goal.returns-in_err-count-clause-err
+returns-in_err-count-clause-err g c =
+    let p = err_from_is_err_and c.from_residual.result c.from_residual.ensures.1 in
     let S = g.T.DeBin.spelling.spelled in
-    image_refused (SpellsList S) items_mean _ (list_refused S _ (unsigned_refused 8 _ c.in-Err.ensures.err))
+    rw (p.1, p.2) (λ _. image_refused (SpellsList S) items_mean _ (list_refused S _ (unsigned_refused 8 _ c.in_err-count.ensures.err)))

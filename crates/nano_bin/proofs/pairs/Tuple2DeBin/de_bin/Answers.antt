@@ -1,22 +1,24 @@
+use Rattle.std.proofs.lemmas.Result.{err_from_is_err_and}
 use Rattle.nano_value.specs.Meaning.{paired}
 use Rattle.nano_bin.specs.Spellings.{SpellsPair}
 use Rattle.nano_bin.proofs.Readers.{pair_reads, pair_refused, second_refused, image_reads, image_refused}
 use Rattle.nano_bin.proofs.pairs.Tuple2DeBin.de_bin.Goals as goal
 
-pub returns-in-Ok-de_bin-clause-ok : goal.returns-in-Ok-de_bin-clause-ok
-returns-in-Ok-de_bin-clause-ok g c =
+pub returns-in-Ok-clause-ok : goal.returns-in-Ok-clause-ok
+returns-in-Ok-clause-ok g c =
     let S = g.A.DeBin.spelling in
     let R = g.B.DeBin.spelling in
-    image_reads paired _ _ _ _ (pair_reads S.spelled R.spelled _ _ _ _ _ _ c.in-Ok.ensures.ok c.in-Ok-de_bin.ensures.ok)
-
-pub returns-in-Err-de_bin-clause-err : goal.returns-in-Err-de_bin-clause-err
-returns-in-Err-de_bin-clause-err g c h =
-    let S = g.A.DeBin.spelling in
-    let R = g.B.DeBin.spelling in
-    image_refused (SpellsPair S.spelled R.spelled) paired _ (second_refused S.spelled R.spelled S.laws _ _ _ _ c.in-Ok.ensures.ok (c.in-Err-de_bin.ensures.err h))
+    image_reads paired _ _ _ _ (pair_reads S.spelled R.spelled _ _ _ _ _ _ c.in_ok-first.ensures.ok c.in-Ok.ensures.ok)
 
 pub returns-in-Err-clause-err : goal.returns-in-Err-clause-err
 returns-in-Err-clause-err g c h =
     let S = g.A.DeBin.spelling in
     let R = g.B.DeBin.spelling in
-    image_refused (SpellsPair S.spelled R.spelled) paired _ (pair_refused S.spelled R.spelled _ (c.in-Err.ensures.err h))
+    image_refused (SpellsPair S.spelled R.spelled) paired _ (second_refused S.spelled R.spelled S.laws _ _ _ _ c.in_ok-first.ensures.ok (c.in-Err.ensures.err h))
+
+pub returns-in_err-first-clause-err : goal.returns-in_err-first-clause-err
+returns-in_err-first-clause-err g c =
+    let p = err_from_is_err_and c.from_residual.result c.from_residual.ensures.1 in
+    let S = g.A.DeBin.spelling in
+    let R = g.B.DeBin.spelling in
+    rw (p.1, p.2) (λ h. image_refused (SpellsPair S.spelled R.spelled) paired _ (pair_refused S.spelled R.spelled _ (c.in_err-first.ensures.err h)))
