@@ -55,10 +55,8 @@ impl DeBin for Item {
     ghost spells_legal = { λ m h. h };
 
     fn de_bin(alloc: Global, offset: &mut usize, bytes: &[u8]) -> Result<Item, DeBinErr> {
-        match <(i32, Option<String>)>::de_bin(alloc, offset, bytes) {
-            Ok((value, note)) => Ok(Item { value, note }),
-            Err(error) => Err(error),
-        }
+        let (value, note) = <(i32, Option<String>)>::de_bin(alloc, offset, bytes)?;
+        Ok(Item { value, note })
     }
 }
 
@@ -108,13 +106,8 @@ impl DeJson for Item {
             name: "note",
             of: PhantomData,
         };
-        match read_fields(&(value, note), alloc, state, input) {
-            Ok(values) => {
-                let (value, note) = values;
-                Ok(Item { value, note })
-            }
-            Err(error) => Err(error),
-        }
+        let (value, note) = read_fields(&(value, note), alloc, state, input)?;
+        Ok(Item { value, note })
     }
 }
 

@@ -60,13 +60,8 @@ impl DeJson for Account {
             name: "note",
             of: PhantomData,
         };
-        match read_fields(&(name, (visits, note)), alloc, state, input) {
-            Ok(values) => {
-                let (name, (visits, note)) = values;
-                Ok(Account { name, visits, note })
-            }
-            Err(error) => Err(error),
-        }
+        let (name, (visits, note)) = read_fields(&(name, (visits, note)), alloc, state, input)?;
+        Ok(Account { name, visits, note })
     }
 }
 

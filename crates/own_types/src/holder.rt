@@ -42,18 +42,12 @@ impl<T: DeJson> DeJson for Holder<T> {
         state: &mut DeJsonState,
         input: &mut Chars<'_>,
     ) -> Result<Holder<T>, DeJsonErr> {
-        match read_fields(
-            &Required {
-                name: "x",
-                of: PhantomData,
-            },
-            alloc,
-            state,
-            input,
-        ) {
-            Ok(x) => Ok(Holder { x }),
-            Err(error) => Err(error),
-        }
+        let x = Required {
+            name: "x",
+            of: PhantomData,
+        };
+        let x = read_fields(&x, alloc, state, input)?;
+        Ok(Holder { x })
     }
 }
 

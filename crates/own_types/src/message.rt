@@ -1,4 +1,4 @@
-// An enum of three shapes in JSON: a name, a name with a tuple, a name with named fields.
+// An enum of each shape in JSON: a name, a name with a tuple, with one part, with named fields.
 ghost use Rattle.std.specs.Prelude.{refl};
 ghost use Rattle.own_types.specs.Message.{message_format};
 
@@ -19,6 +19,8 @@ pub enum Message {
     Hello,
     /// Move by so many steps, under a name.
     Move(i32, String),
+    /// Wait for so many milliseconds.
+    Wait(u64),
     /// Say a text.
     Say {
         /// The text.
@@ -40,6 +42,7 @@ impl Value for Message {
                 by.known();
                 name.known();
             }
+            Message::Wait(time) => time.known(),
             Message::Say { text, times } => {
                 text.known();
                 times.known();
@@ -58,43 +61,34 @@ impl DeJson for Message {
         state: &mut DeJsonState,
         input: &mut Chars<'_>,
     ) -> Result<Message, DeJsonErr> {
-        match read_variant_name(alloc, state, input) {
-            Ok(name) => match name {
-                VariantName::Unit(name) => {
-                    if name.as_str() == "Hello" {
-                        Ok(Message::Hello)
-                    } else {
-                        Err(unknown_variant(alloc, state, name.as_str()))
-                    }
-                }
-                VariantName::Content(name) => {
-                    if name.as_str() == "Move" {
-                        match read_content::<(i32, String)>(alloc, state, input) {
-                            Ok(parts) => Ok(Message::Move(parts.0, parts.1)),
-                            Err(error) => Err(error),
-                        }
-                    } else if name.as_str() == "Say" {
-                        let text = Required {
-                            name: "text",
-                            of: PhantomData,
-                        };
-                        let times = Required {
-                            name: "times",
-                            of: PhantomData,
-                        };
-                        match read_fields_content(&(text, times), alloc, state, input) {
-                            Ok(values) => {
-                                let (text, times) = values;
-                                Ok(Message::Say { text, times })
-                            }
-                            Err(error) => Err(error),
-                        }
-                    } else {
-                        Err(unknown_variant(alloc, state, name.as_str()))
-                    }
-                }
+        match read_variant_name(alloc, state, input)? {
+            VariantName::Unit(name) => match name.as_str() {
+                "Hello" => Ok(Message::Hello),
+                _ => Err(unknown_variant(alloc, state, name.as_str())),
             },
-            Err(error) => Err(error),
+            VariantName::Content(name) => match name.as_str() {
+                "Move" => {
+                    let (by, name): (i32, String) = read_content(alloc, state, input)?;
+                    Ok(Message::Move(by, name))
+                }
+                "Wait" => {
+                    let [time]: [u64; 1] = read_content(alloc, state, input)?;
+                    Ok(Message::Wait(time))
+                }
+                "Say" => {
+                    let text = Required {
+                        name: "text",
+                        of: PhantomData,
+                    };
+                    let times = Required {
+                        name: "times",
+                        of: PhantomData,
+                    };
+                    let (text, times) = read_fields_content(&(text, times), alloc, state, input)?;
+                    Ok(Message::Say { text, times })
+                }
+                _ => Err(unknown_variant(alloc, state, name.as_str())),
+            },
         }
     }
 }
@@ -106,7 +100,7 @@ impl SerJson for Message {
 
     ghost writes_legal = { λ m h. h };
 
-    ghost orders_keys = { ((tt, tt), ((tt, tt), tt)) };
+    ghost orders_keys = { ((tt, tt), (tt, ((tt, tt), tt))) };
 
     fn ser_json(&self, alloc: Global, d: usize, s: &mut SerJsonState) -> Result<(), AllocError> {
         match self {
@@ -114,6 +108,7 @@ impl SerJson for Message {
             Message::Move(by, name) => {
                 write_variant(alloc, "Move", &(Part { of: by }, Part { of: name }), d, s)
             }
+            Message::Wait(time) => write_variant(alloc, "Wait", &[Part { of: time }], d, s),
             Message::Say { text, times } => {
                 let text = RequiredPart {
                     name: "text",

@@ -17,6 +17,7 @@ fn messages_by_name(rt: HostRuntime) -> Result<(), Fail> {
             " { \"Move\" : [ 2 , \"\\n\" , ] } ,",
             "{\"Move\":[2,\"\\n\"]}",
         ),
+        ("{\"Wait\":[5,]}", "{\"Wait\":[5]}"),
         (
             "{\"Say\":{\"times\":3,\"z\":[0],\"text\":\"b\",}}",
             "{\"Say\":{\"text\":\"b\",\"times\":3}}",
@@ -56,6 +57,9 @@ fn messages_refused(rt: HostRuntime) -> Result<(), Fail> {
             "Unexpected token BlockClose expected string ",
         ),
         ("{\"Move\":{}}", "Unexpected token CurlyOpen expected [ "),
+        ("{\"Wait\":5}", "Unexpected token U64(5) expected [ "),
+        ("{\"Wait\":[]}", "Token wrong type array "),
+        ("{\"Wait\":[5,6]}", "Token wrong type array "),
         ("{\"Say\":{\"text\":\"a\"}}", "Key not found times"),
     ];
     refused_with::<Message>(&rt, alloc, &rows)

@@ -47,10 +47,8 @@ impl DeBin for Reading {
     ghost spells_legal = { λ m h. h };
 
     fn de_bin(alloc: Global, offset: &mut usize, bytes: &[u8]) -> Result<Reading, DeBinErr> {
-        match <(u64, Vec<u8>)>::de_bin(alloc, offset, bytes) {
-            Ok((at, samples)) => Ok(Reading { at, samples }),
-            Err(error) => Err(error),
-        }
+        let (at, samples) = <(u64, Vec<u8>)>::de_bin(alloc, offset, bytes)?;
+        Ok(Reading { at, samples })
     }
 }
 
