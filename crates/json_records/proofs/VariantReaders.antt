@@ -1,5 +1,7 @@
 -- What a reader of an enum answers, from what the readers of the name and of the content answer.
-use Rattle.std.proofs.Common.{◌≡◌, ℕ, List, [], ◌∷◌, ◌++◌, inl, inr, Some, None, Result, Ok, Err, IfErr, Bool, bytes_eq, refl, sym, ◌∙◌, ap, subst}
+use Rattle.std.proofs.Common.{◌≡◌, ◌≢◌, ℕ, List, [], ◌∷◌, ◌++◌, inl, inr, Some, None, Result, Ok, Err, IfErr, false, bytes_eq, length, get_or, refl, sym, ◌∙◌, ap, subst, arith}
+use Rattle.std.proofs.lemmas.Bool.{false_from_ne_true}
+use Rattle.std.proofs.lemmas.Slice.Eq.{bytes_eq-Decides}
 use Rattle.nano_value.specs.Meaning.{Meaning, nothing}
 use Rattle.nano_text.specs.Tokens.{At, Leaves, Spans, Fits}
 use Rattle.nano_text.proofs.Tokens.{leaves_append, leaves_split, meets, same_at, same_end}
@@ -16,9 +18,15 @@ use Rattle.json_records.specs.VariantReading.{alone, opened, NoVariantBegins}
 opened_names : (a b : List ℕ) (more : List Token) → opened a ≡ opened b ++ more → (a ≡ b) × (more ≡ [])
 opened_names a b more e = (cc e, cc e)
 
--- what a test of a text says of its bytes
-pub told : (answer : Bool) (shown bytes name : List ℕ) (b : Bool) → answer ≡ bytes_eq shown name → shown ≡ bytes → answer ≡ b → bytes_eq bytes name ≡ b
-told answer shown bytes name b e k is = ap (λ l. bytes_eq l name) (sym k) ∙ (sym e ∙ is)
+-- a name that a match found to be another one
+pub is_another : (shown bytes name : List ℕ) → shown ≡ bytes → shown ≢ name → bytes_eq bytes name ≡ false
+is_another shown bytes name e other = false_from_ne_true (bytes_eq bytes name) (λ same. other (e ∙ (bytes_eq-Decides bytes name).0 same))
+
+-- the one part that an array of one holds
+pub one_part : {A : Type 0} (d : A) (parts : List A) → length parts ≡ 1 → parts ≡ get_or parts 0 d ∷ []
+one_part d (part ∷ []) e = refl
+one_part d [] e = absurd (omega (arith, e))
+one_part d (part ∷ other ∷ parts) e = absurd (omega (arith, e))
 
 -- what each refusal of the one kind is of the other
 pub each_refusal : {T E : Type 0} (P Q : E → Type 0) (r : Result T E) → ((e : E) → P e → Q e) → IfErr r P → IfErr r Q

@@ -46,8 +46,10 @@ impl<T: DeJson> DeJson for Holder<T> {
             name: "x",
             of: PhantomData,
         };
-        let x = read_fields(&x, alloc, state, input)?;
-        Ok(Holder { x })
+        match read_fields(&x, alloc, state, input) {
+            Ok(x) => Ok(Holder { x }),
+            Err(error) => Err(error),
+        }
     }
 }
 
