@@ -1,18 +1,14 @@
 -- How the value of an enum begins.
-use Rattle.std.specs.Prelude.{ℕ, List, [], ◌∷◌, string_bytes}
-use Rattle.nano_text.specs.Tokens.{At, Leaves}
-use Rattle.nano_json.specs.Token.{Token, str, colon, curly_open}
-use Rattle.nano_json.specs.Cut.{Cut}
+use Rattle.std.specs.Prelude.{ℕ, List, string_bytes}
+use Rattle.text_values.specs.Tokens.{At, Leaves}
+use Rattle.text_fields.specs.Variants.{Closed as ClosedIn}
+use Rattle.nano_value.specs.Meaning.{Meaning}
+use Rattle.json_tokens.specs.Cut.{Cut}
+use Rattle.json_tokens.specs.Token.{Token}
+use Rattle.json_records.specs.Variants.{json_variants, alone, opened}
 use Rattle.json_records.specs.declared.variants.VariantName.{VariantName}
-use Rattle.json_records.specs.declared.variants.VariantName.TheVariants.{Unit as Alone, Content as Opened}
-
--- the name of a variant without content
-abbrev pub alone : List ℕ → List Token
-alone name = str name ∷ []
-
--- what stands before the content of a variant with this name
-abbrev pub opened : List ℕ → List Token
-opened name = curly_open ∷ str name ∷ colon ∷ []
+use Rattle.json_records.specs.declared.variants.VariantName.TheVariants.{Unit as Alone}
+use Rattle.json_records.specs.declared.variants.VariantName.TheVariants.{Content as Opened}
 
 -- the tokens that a name was taken from
 abbrev pub name_tokens : VariantName → List Token
@@ -23,3 +19,7 @@ name_tokens (Opened name) = opened (string_bytes name)
 pub record NoVariantBegins (start : At Token) : Type 0 where
   pub alone : (name : List ℕ) (after : At Token) → Leaves Cut (alone name) start after → ⊥
   pub opened : (name : List ℕ) (after : At Token) → Leaves Cut (opened name) start after → ⊥
+
+-- content, and the closing bracket behind it
+abbrev pub Closed : (List Token → Meaning → Type 0) → List Token → Meaning → Type 0
+Closed = ClosedIn json_variants

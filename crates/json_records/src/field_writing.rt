@@ -1,25 +1,32 @@
 // Named fields, as they are written.
-ghost use Rattle.std.specs.Prelude.{◌≡◌, ◌++◌, [], ◌∷◌, ℕ, List, OnOk, OnErr, string_bytes, encode_utf8_all};
-ghost use Rattle.nano_text.specs.Place.{counted};
-ghost use Rattle.nano_text.specs.Written.{in_list};
-ghost use Rattle.json_records.specs.FieldWriting.{field_text, fields_text, written_field, written_if_some};
+ghost use Rattle.std.specs.Prelude.{◌≡◌, ◌++◌, [], ◌∷◌, OnOk, OnErr};
+ghost use Rattle.text_fields.specs.FieldWriting.{field_text, fields_text, written_field};
+ghost use Rattle.text_fields.specs.FieldWriting.{written_if_some};
+ghost use Rattle.json_records.specs.Fields.{json_fields};
+ghost use Rattle.json_records.specs.FieldTexts.{behind_comma};
+ghost use Rattle.nano_text.specs.Outcomes.{Appends, AppendsPart, Stays};
 
 use nano_json::{SerJson, SerJsonState, keep_written};
 use std::alloc::{AllocError, Global};
 
 /// Fields that are written one behind the other.
 ///
-/// A `RequiredPart` is one, an `OptionalPart` is one or none, and a pair is its first fields and then
-/// its second ones; so a struct is pairs in pairs.
+/// A `RequiredPart` is one, an `OptionalPart` is one or none, and a pair is its first fields and
+/// then its second ones; so a struct is pairs in pairs.
 pub trait WriteFields {
-    ghost use Rattle.std.specs.Prelude.{◌≡◌, ◌++◌, ℕ, List, IfOk, OnErr, string_bytes, encode_utf8_all};
-    ghost use Rattle.json_records.specs.FieldWriting.{WrittenField, field_text, none_yet, all_in_list};
+    ghost use Rattle.std.specs.Prelude.{◌≡◌, List, IfOk, OnOk, OnErr};
+    ghost use Rattle.text_fields.specs.FieldWriting.{WrittenField, field_text};
+    ghost use Rattle.json_records.specs.Fields.{json_fields};
+    ghost use Rattle.json_records.specs.FieldTexts.{in_a_row, none_yet};
+    ghost use Rattle.nano_text.specs.Outcomes.{Appends, AppendsPart};
+    ghost use Rattle.nano_json.specs.Token.{Token};
 
     /// The fields that are written, in this order.
-    ghost fields: { Self → List WrittenField };
+    ghost fields: { Self → List (WrittenField Token) };
 
-    /// Appends the fields, with their values at level `d`. Each stands behind a comma, but the first
-    /// where `first` says that no field stands before it. Answers whether none stands before the next.
+    /// Appends the fields, with their values at level `d`. Each stands behind a comma, but the
+    /// first where `first` says that no field stands before it. Answers whether none stands before
+    /// the next.
     ///
     /// A refused write leaves what was written so far.
     fn append_fields(
@@ -29,9 +36,10 @@ pub trait WriteFields {
         d: usize,
         s: &mut SerJsonState,
     ) -> Result<bool, AllocError>
-        ensures ok { OnOk result (string_bytes s.new.out ≡ string_bytes s.old.out ++ encode_utf8_all (all_in_list 44 first (field_text d) (fields self.now))) }
+        ensures ok { OnOk result (Appends s.old.out s.new.out
+            (in_a_row first (field_text json_fields d) (fields self.now))) }
         ensures next { IfOk result (λ still_first. still_first ≡ none_yet first (fields self.now)) }
-        ensures err { OnErr result ((more : List ℕ) × (string_bytes s.new.out ≡ string_bytes s.old.out ++ more)) };
+        ensures err { OnErr result (AppendsPart s.old.out s.new.out) };
 }
 
 /// A field that is always written.
@@ -62,8 +70,9 @@ fn append_field<T: SerJson>(
     d: usize,
     s: &mut SerJsonState,
 ) -> Result<(), AllocError>
-    ensures ok { OnOk result (string_bytes s.new.out ≡ string_bytes s.old.out ++ encode_utf8_all (in_list 44 first (field_text d (written_field name.now T.writing value.now)))) }
-    ensures err { OnErr result ((more : List ℕ) × (string_bytes s.new.out ≡ string_bytes s.old.out ++ more)) }
+    ensures ok { OnOk result (Appends s.old.out s.new.out (behind_comma first
+        (field_text json_fields d (written_field name.now T.json.writing value.now)))) }
+    ensures err { OnErr result (AppendsPart s.old.out s.new.out) }
 {
     if !first {
         s.conl()?;
@@ -73,7 +82,7 @@ fn append_field<T: SerJson>(
 }
 
 impl<T: SerJson> WriteFields for RequiredPart<'_, T> {
-    ghost fields = { λ part. written_field part.name.now T.writing part.value.now ∷ [] };
+    ghost fields = { λ part. written_field part.name.now T.json.writing part.value.now ∷ [] };
 
     fn append_fields(
         &self,
@@ -88,7 +97,7 @@ impl<T: SerJson> WriteFields for RequiredPart<'_, T> {
 }
 
 impl<T: SerJson> WriteFields for OptionalPart<'_, T> {
-    ghost fields = { λ part. written_if_some part.name.now T.writing part.value.now };
+    ghost fields = { λ part. written_if_some part.name.now T.json.writing part.value.now };
 
     fn append_fields(
         &self,
@@ -122,18 +131,19 @@ impl<A: WriteFields, B: WriteFields> WriteFields for (A, B) {
     }
 }
 
-/// Appends fields between curly brackets. A refused growth leaves what was written so far.
+/// Appends a struct at level `d`. A refused growth leaves what was written so far.
 fn append_struct<F: WriteFields>(
     alloc: Global,
     fields: &F,
     d: usize,
     s: &mut SerJsonState,
 ) -> Result<(), AllocError>
-    ensures ok { OnOk result (string_bytes s.new.out ≡ string_bytes s.old.out ++ encode_utf8_all (fields_text d (F.fields fields.now))) }
-    ensures err { OnErr result ((more : List ℕ) × (string_bytes s.new.out ≡ string_bytes s.old.out ++ more)) }
+    ensures ok { OnOk result
+        (Appends s.old.out s.new.out (fields_text json_fields d (F.fields fields.now))) }
+    ensures err { OnErr result (AppendsPart s.old.out s.new.out) }
 {
     s.st_pre()?;
-    fields.append_fields(alloc, true, d, s)?;
+    fields.append_fields(alloc, true, d.saturating_add(1), s)?;
     s.st_post(d)
 }
 
@@ -147,10 +157,11 @@ pub fn write_fields<F: WriteFields>(
     d: usize,
     s: &mut SerJsonState,
 ) -> Result<(), AllocError>
-    ensures ok { OnOk result (string_bytes s.new.out ≡ string_bytes s.old.out ++ encode_utf8_all (fields_text (counted d) (F.fields fields.now))) }
-    ensures err { OnErr result (string_bytes s.new.out ≡ string_bytes s.old.out) }
+    ensures ok { OnOk result
+        (Appends s.old.out s.new.out (fields_text json_fields d (F.fields fields.now))) }
+    ensures err { OnErr result (Stays s.old.out s.new.out) }
 {
     let start = s.out.len();
-    let written = append_struct(alloc, fields, d.saturating_add(1), s);
+    let written = append_struct(alloc, fields, d, s);
     keep_written(&mut s.out, start, written)
 }

@@ -1,13 +1,12 @@
-// The fields of a struct: what tells their names, reads the value behind a name, and makes the values of all.
-ghost use Rattle.std.specs.Prelude.{◌≡◌, List, [], ◌∷◌, ◌++◌, true, false, IfOk, OnOk, IfErr, string_bytes};
+// The fields of a struct: what tells their names, reads the value behind a name, and makes the
+// values of all.
+ghost use Rattle.std.specs.Prelude.{◌≡◌, List, [], ◌∷◌, ◌++◌, true, false, IfOk, OnOk, IfErr};
+ghost use Rattle.std.specs.Prelude.{string_bytes};
 ghost use Rattle.nano_value.specs.Meaning.{Meaning};
-ghost use Rattle.nano_text.specs.Tokens.{Spans};
-ghost use Rattle.nano_json.specs.Token.{IsStr};
-ghost use Rattle.nano_json.specs.Cut.{Cut};
+ghost use Rattle.json_records.specs.FieldReading.{Field, Struct, SpelledField, ReadsField};
+ghost use Rattle.nano_json.specs.Readers.{Refuses, Tells};
 ghost use Rattle.nano_json.specs.State.{at, pending};
-ghost use Rattle.nano_json.specs.Spelling.{NothingFits};
-ghost use Rattle.json_records.specs.Fields.{Field, SpelledField};
-ghost use Rattle.json_records.specs.Struct.{Struct};
+ghost use Rattle.nano_json.specs.Token.{IsStr};
 
 use nano_json::{DeJsonErr, DeJsonState};
 use std::alloc::Global;
@@ -53,10 +52,11 @@ pub trait Fields {
     ) -> Result<(), DeJsonErr>
         requires text { IsStr (pending state.old) }
         requires known { (named self.now).shape.knows (string_bytes state.old.strbuf) ≡ true }
-        ensures fits { OnOk result ((f : Field) × Spans Cut (SpelledField (named self.now).shape.takes) (at state.old input.old) (at state.new input.new) f
-            × ((fs : List Field) → holds self.now slots.old fs → holds self.now slots.new (fs ++ f ∷ []))) }
-        ensures refused { IfErr result (λ e. e.memory ≡ false → NothingFits (SpelledField (named self.now).shape.takes) (at state.old input.old)) }
-        ensures memory { IfErr result (λ e. e.memory ≡ true → string_bytes e.msg ≡ []) };
+        ensures fits { OnOk result (ReadsField (named self.now).shape.takes
+            (holds self.now slots.old) (holds self.now slots.new)
+            (at state.old input.old) (at state.new input.new)) }
+        ensures refused { Refuses (SpelledField (named self.now).shape.takes)
+            (at state.old input.old) result };
 
     /// The values that the slots hold. It is refused by `Key not found {name}` for the first field
     /// that must be there and is missing.
@@ -66,12 +66,15 @@ pub trait Fields {
         alloc: Global,
         state: &DeJsonState,
     ) -> Result<Self::Values, DeJsonErr>
-        ensures all { IfOk result (λ values. (fs : List Field) → holds self.now slots fs → (named self.now).shape.means fs (means values)) }
-        ensures missing { IfErr result (λ e. e.memory ≡ false → (fs : List Field) (m : Meaning) → holds self.now slots fs → (named self.now).shape.means fs m → ⊥) }
-        ensures memory { IfErr result (λ e. e.memory ≡ true → string_bytes e.msg ≡ []) };
+        ensures all { IfOk result (λ values. (fs : List Field) → holds self.now slots fs
+            → (named self.now).shape.means fs (means values)) }
+        ensures missing { IfErr result (Tells ((fs : List Field) (m : Meaning)
+            → holds self.now slots fs → (named self.now).shape.means fs m → ⊥)) };
 
     /// A field whose name is not known changes nothing.
-    ghost skips: { (fields : Self) (slots : Self.Slots) (fs : List Field) (f : Field) → (named fields).shape.knows f.name ≡ false → holds fields slots fs → holds fields slots (fs ++ f ∷ []) };
+    ghost skips: { (fields : Self) (slots : Self.Slots) (fs : List Field) (f : Field)
+        → (named fields).shape.knows f.name ≡ false → holds fields slots fs
+        → holds fields slots (fs ++ f ∷ []) };
 }
 
 /// A field that must be there.

@@ -1,6 +1,7 @@
 //! Laws of the definitions that the contracts cite: each function does nothing, and its contract is
 //! the law.
-ghost use Rattle.json_records.specs.Laws.{LastFieldCounts, MissingNameHasNoField, OtherNamesAreSeen};
+ghost use Rattle.json_records.specs.Laws.{LastFieldCounts, MissingNameHasNoField};
+ghost use Rattle.json_records.specs.Laws.{OtherNamesAreSeen};
 
 /// Of a name the field counts behind which no other has it.
 pub fn the_last_field_counts()

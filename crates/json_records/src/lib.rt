@@ -1,6 +1,6 @@
-//! Own types in JSON. A struct with named fields, or an enum, is one term over the spellings, or the
-//! writings, of what is in it. One call reads the fields of a struct, and one writes them; an enum is
-//! read by its variant's name, and then by the variant's content.
+//! Own types in JSON. A struct with named fields, or an enum, is one term over the formats of what is
+//! in it. One call reads the fields of a struct, and one writes them; an enum is read by its
+//! variant's name, and then by the variant's content.
 #![tactic(auto)]
 
 mod field_writing;

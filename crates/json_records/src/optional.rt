@@ -1,8 +1,8 @@
 // A field that may be missing.
 ghost use Rattle.std.specs.Option.{option_map};
 ghost use Rattle.nano_value.specs.Meaning.{optional};
-ghost use Rattle.json_records.specs.Struct.{may};
-ghost use Rattle.json_records.specs.Slots.{optional_skips};
+ghost use Rattle.text_fields.specs.Struct.{may_read};
+ghost use Rattle.text_fields.specs.Slots.{optional_skips};
 
 use crate::fields::{Fields, Optional};
 use crate::named::read_named;
@@ -15,13 +15,15 @@ impl<T: DeJson> Fields for Optional<T> {
 
     type Values = Option<T>;
 
-    ghost named = { λ f. may f.name.now T.spelling };
+    ghost named = { λ f. may_read f.name.now T.json.spelling };
 
     ghost means = { λ value. optional (option_map T.means value) };
 
-    ghost holds = { λ f slot fs. (may f.name.now T.spelling).shape.means fs (optional (option_map T.means slot)) };
+    ghost holds = { λ f slot fs. (may_read f.name.now T.json.spelling).shape.means fs
+        (optional (option_map T.means slot)) };
 
-    ghost skips = { λ f slot. optional_skips f.name.now T.spelling (optional (option_map T.means slot)) };
+    ghost skips = { λ f slot. optional_skips f.name.now T.json.spelling
+        (optional (option_map T.means slot)) };
 
     fn empty(&self) -> Option<T> {
         None

@@ -1,16 +1,13 @@
 // Named fields between curly brackets.
-ghost use Rattle.std.specs.Prelude.{◌≡◌, List, [], ◌∷◌, ◌++◌, true, false, IfOk, OnOk, IfErr, OnErr, string_bytes};
-ghost use Rattle.nano_text.specs.Tokens.{Spans};
-ghost use Rattle.nano_json.specs.Token.{IsStr};
-ghost use Rattle.nano_json.specs.Cut.{Cut};
-ghost use Rattle.nano_json.specs.State.{at, ended, pending};
-ghost use Rattle.nano_json.specs.Spelling.{NothingFits};
+ghost use Rattle.std.specs.Prelude.{◌≡◌, OnOk, OnErr};
+ghost use Rattle.json_records.specs.FieldReading.{Allowed, SpelledField, ReadsField, fields_of};
 ghost use Rattle.json_records.specs.Marks.{is_str};
-ghost use Rattle.json_records.specs.Fields.{Field, Allowed, SpelledField};
-ghost use Rattle.json_records.specs.Struct.{fields_of};
+ghost use Rattle.nano_json.specs.Readers.{Reads, Refuses};
+ghost use Rattle.nano_json.specs.State.{at, ended, pending};
+ghost use Rattle.nano_json.specs.Token.{IsStr};
 
 use crate::fields::Fields;
-use nano_json::{DeJsonErr, DeJsonState, DeJsonTok};
+use nano_json::{DeJsonErr, DeJsonState, DeJsonTok, end_if_refused};
 use std::alloc::Global;
 use std::str::Chars;
 
@@ -29,18 +26,14 @@ pub fn read_fields<F: Fields>(
     state: &mut DeJsonState,
     input: &mut Chars<'_>,
 ) -> Result<F::Values, DeJsonErr>
-    ensures fits { IfOk result (λ values. Spans Cut (fields_of (F.named fields.now)).spelled (at state.old input.old) (at state.new input.new) (F.means values)) }
-    ensures refused { IfErr result (λ e. e.memory ≡ false → NothingFits (fields_of (F.named fields.now)).spelled (at state.old input.old)) }
+    ensures fits { Reads (fields_of (F.named fields.now)).spelled F.means
+        (at state.old input.old) (at state.new input.new) result }
+    ensures refused { Refuses (fields_of (F.named fields.now)).spelled
+        (at state.old input.old) result }
     ensures ended { OnErr result (at state.new input.new ≡ ended) }
-    ensures memory { IfErr result (λ e. e.memory ≡ true → string_bytes e.msg ≡ []) }
 {
-    match read_list(fields, alloc, state, input) {
-        Ok(values) => Ok(values),
-        Err(error) => {
-            state.fail();
-            Err(error)
-        }
-    }
+    let read = read_list(fields, alloc, state, input);
+    end_if_refused(state, read)
 }
 
 /// Reads named fields between curly brackets. Where it is refused, the state stands anywhere.
@@ -50,9 +43,10 @@ fn read_list<F: Fields>(
     state: &mut DeJsonState,
     input: &mut Chars<'_>,
 ) -> Result<F::Values, DeJsonErr>
-    ensures fits { IfOk result (λ values. Spans Cut (fields_of (F.named fields.now)).spelled (at state.old input.old) (at state.new input.new) (F.means values)) }
-    ensures refused { IfErr result (λ e. e.memory ≡ false → NothingFits (fields_of (F.named fields.now)).spelled (at state.old input.old)) }
-    ensures memory { IfErr result (λ e. e.memory ≡ true → string_bytes e.msg ≡ []) }
+    ensures fits { Reads (fields_of (F.named fields.now)).spelled F.means
+        (at state.old input.old) (at state.new input.new) result }
+    ensures refused { Refuses (fields_of (F.named fields.now)).spelled
+        (at state.old input.old) result }
 {
     let mut slots = fields.empty();
     state.curly_open(alloc, input)?;
@@ -75,10 +69,11 @@ fn read_any<F: Fields>(
     input: &mut Chars<'_>,
 ) -> Result<(), DeJsonErr>
     requires { IsStr (pending state.old) }
-    ensures fits { OnOk result ((f : Field) × Spans Cut (SpelledField (Allowed (F.named fields.now).shape)) (at state.old input.old) (at state.new input.new) f
-        × ((fs : List Field) → F.holds fields.now slots.old fs → F.holds fields.now slots.new (fs ++ f ∷ []))) }
-    ensures refused { IfErr result (λ e. e.memory ≡ false → NothingFits (SpelledField (Allowed (F.named fields.now).shape)) (at state.old input.old)) }
-    ensures memory { IfErr result (λ e. e.memory ≡ true → string_bytes e.msg ≡ []) }
+    ensures fits { OnOk result (ReadsField (Allowed (F.named fields.now).shape)
+        (F.holds fields.now slots.old) (F.holds fields.now slots.new)
+        (at state.old input.old) (at state.new input.new)) }
+    ensures refused { Refuses (SpelledField (Allowed (F.named fields.now).shape))
+        (at state.old input.old) result }
 {
     if fields.knows(state.strbuf.as_str()) {
         return fields.read_field(slots, alloc, state, input);

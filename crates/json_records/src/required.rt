@@ -1,7 +1,7 @@
 // A field that must be there.
 ghost use Rattle.std.specs.Option.{option_map};
-ghost use Rattle.json_records.specs.Struct.{must};
-ghost use Rattle.json_records.specs.Slots.{Holds, holds_skips};
+ghost use Rattle.text_fields.specs.Struct.{must_read};
+ghost use Rattle.text_fields.specs.Slots.{Holds, holds_skips};
 
 use crate::fields::{Fields, Required};
 use crate::named::read_named;
@@ -14,13 +14,14 @@ impl<T: DeJson> Fields for Required<T> {
 
     type Values = T;
 
-    ghost named = { λ f. must f.name.now T.spelling };
+    ghost named = { λ f. must_read f.name.now T.json.spelling };
 
     ghost means = { T.means };
 
-    ghost holds = { λ f slot. Holds f.name.now T.spelling.spelled (option_map T.means slot) };
+    ghost holds = { λ f slot. Holds f.name.now T.json.spelling.spelled (option_map T.means slot) };
 
-    ghost skips = { λ f slot. holds_skips f.name.now T.spelling.spelled (option_map T.means slot) };
+    ghost skips = { λ f slot. holds_skips f.name.now T.json.spelling.spelled
+        (option_map T.means slot) };
 
     fn empty(&self) -> Option<T> {
         None

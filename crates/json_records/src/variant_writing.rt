@@ -1,9 +1,10 @@
 // The variants of enums, written: a name, and between curly brackets a name with its content.
-ghost use Rattle.std.specs.Prelude.{◌≡◌, ◌++◌, ◌∷◌, [], ℕ, List, OnOk, OnErr, string_bytes, encode_utf8_all};
-ghost use Rattle.nano_text.specs.Place.{counted};
+ghost use Rattle.std.specs.Prelude.{◌++◌, ◌∷◌, [], OnOk, OnErr};
+ghost use Rattle.text_fields.specs.FieldWriting.{fields_text};
+ghost use Rattle.json_records.specs.Fields.{json_fields};
+ghost use Rattle.json_records.specs.Variants.{content_text};
+ghost use Rattle.nano_text.specs.Outcomes.{Appends, AppendsPart, Stays};
 ghost use Rattle.nano_json.specs.Written.{written_text};
-ghost use Rattle.json_records.specs.FieldWriting.{fields_text};
-ghost use Rattle.json_records.specs.VariantWriting.{content_text};
 
 use crate::field_writing::{WriteFields, write_fields};
 use nano_json::{SerJson, SerJsonState, keep_written};
@@ -12,8 +13,8 @@ use std::alloc::{AllocError, Global};
 /// Appends the name of a variant without content, between quotes and with escapes where it has
 /// such: `"Name"`. A refused write leaves `s.out` as it was.
 pub fn write_unit_variant(alloc: Global, name: &str, s: &mut SerJsonState) -> Result<(), AllocError>
-    ensures ok { OnOk result (string_bytes s.new.out ≡ string_bytes s.old.out ++ encode_utf8_all (written_text name.now)) }
-    ensures err { OnErr result (string_bytes s.new.out ≡ string_bytes s.old.out) }
+    ensures ok { OnOk result (Appends s.old.out s.new.out (written_text name.now)) }
+    ensures err { OnErr result (Stays s.old.out s.new.out) }
 {
     name.ser_json(alloc, 0, s)
 }
@@ -27,17 +28,18 @@ pub fn write_variant<T: SerJson>(
     d: usize,
     s: &mut SerJsonState,
 ) -> Result<(), AllocError>
-    ensures ok { OnOk result (string_bytes s.new.out ≡ string_bytes s.old.out ++ encode_utf8_all (content_text name.now (T.writing.text d content.now))) }
-    ensures err { OnErr result (string_bytes s.new.out ≡ string_bytes s.old.out) }
+    ensures ok { OnOk result (Appends s.old.out s.new.out
+        (content_text name.now (T.json.writing.text d content.now))) }
+    ensures err { OnErr result (Stays s.old.out s.new.out) }
 {
     let start = s.out.len();
     let written = append_variant(alloc, name, content, d, s);
     keep_written(&mut s.out, start, written)
 }
 
-/// Appends a variant whose content is named fields: `{`, its name, a colon, the fields between curly
-/// brackets with their values at the level behind `d`, and `}`. A refused write leaves `s.out` as it
-/// was.
+/// Appends a variant whose content is named fields: `{`, its name, a colon, the fields between
+/// curly brackets with their values at the level behind `d`, and `}`. A refused write leaves `s.out`
+/// as it was.
 pub fn write_fields_variant<F: WriteFields>(
     alloc: Global,
     name: &str,
@@ -45,8 +47,9 @@ pub fn write_fields_variant<F: WriteFields>(
     d: usize,
     s: &mut SerJsonState,
 ) -> Result<(), AllocError>
-    ensures ok { OnOk result (string_bytes s.new.out ≡ string_bytes s.old.out ++ encode_utf8_all (content_text name.now (fields_text (counted d) (F.fields fields.now)))) }
-    ensures err { OnErr result (string_bytes s.new.out ≡ string_bytes s.old.out) }
+    ensures ok { OnOk result (Appends s.old.out s.new.out
+        (content_text name.now (fields_text json_fields d (F.fields fields.now)))) }
+    ensures err { OnErr result (Stays s.old.out s.new.out) }
 {
     let start = s.out.len();
     let written = append_fields_variant(alloc, name, fields, d, s);
@@ -61,15 +64,17 @@ fn append_variant<T: SerJson>(
     d: usize,
     s: &mut SerJsonState,
 ) -> Result<(), AllocError>
-    ensures ok { OnOk result (string_bytes s.new.out ≡ string_bytes s.old.out ++ encode_utf8_all (content_text name.now (T.writing.text d content.now))) }
-    ensures err { OnErr result ((more : List ℕ) × (string_bytes s.new.out ≡ string_bytes s.old.out ++ more)) }
+    ensures ok { OnOk result (Appends s.old.out s.new.out
+        (content_text name.now (T.json.writing.text d content.now))) }
+    ensures err { OnErr result (AppendsPart s.old.out s.new.out) }
 {
     append_opening(alloc, name, s)?;
     content.ser_json(alloc, d, s)?;
     s.out.push('}')
 }
 
-/// Appends a variant whose content is named fields. A refused growth leaves what was written so far.
+/// Appends a variant whose content is named fields. A refused growth leaves what was written so
+/// far.
 fn append_fields_variant<F: WriteFields>(
     alloc: Global,
     name: &str,
@@ -77,8 +82,9 @@ fn append_fields_variant<F: WriteFields>(
     d: usize,
     s: &mut SerJsonState,
 ) -> Result<(), AllocError>
-    ensures ok { OnOk result (string_bytes s.new.out ≡ string_bytes s.old.out ++ encode_utf8_all (content_text name.now (fields_text (counted d) (F.fields fields.now)))) }
-    ensures err { OnErr result ((more : List ℕ) × (string_bytes s.new.out ≡ string_bytes s.old.out ++ more)) }
+    ensures ok { OnOk result (Appends s.old.out s.new.out
+        (content_text name.now (fields_text json_fields d (F.fields fields.now)))) }
+    ensures err { OnErr result (AppendsPart s.old.out s.new.out) }
 {
     append_opening(alloc, name, s)?;
     write_fields(alloc, fields, d, s)?;
@@ -88,8 +94,9 @@ fn append_fields_variant<F: WriteFields>(
 /// Appends what stands before the content of a variant. A refused growth leaves what was written so
 /// far.
 fn append_opening(alloc: Global, name: &str, s: &mut SerJsonState) -> Result<(), AllocError>
-    ensures ok { OnOk result (string_bytes s.new.out ≡ string_bytes s.old.out ++ encode_utf8_all (123 ∷ (written_text name.now ++ 58 ∷ []))) }
-    ensures err { OnErr result ((more : List ℕ) × (string_bytes s.new.out ≡ string_bytes s.old.out ++ more)) }
+    ensures ok { OnOk result
+        (Appends s.old.out s.new.out (123 ∷ (written_text name.now ++ 58 ∷ []))) }
+    ensures err { OnErr result (AppendsPart s.old.out s.new.out) }
 {
     s.out.push('{')?;
     write_unit_variant(alloc, name, s)?;

@@ -1,18 +1,18 @@
 // The variants of enums, read: a name, and between curly brackets a name with its content.
-ghost use Rattle.std.specs.Prelude.{◌≡◌, ◌++◌, ◌∷◌, [], List, ℕ, true, false, OnOk, IfOk, IfErr, OnErr, string_bytes, codes};
+ghost use Rattle.std.specs.Prelude.{◌≡◌, ◌++◌, ◌∷◌, [], ℕ, List, true, false, OnOk, IfOk, IfErr};
+ghost use Rattle.std.specs.Prelude.{OnErr, string_bytes, codes};
 ghost use Rattle.std.specs.declared.str.Chars.{Chars};
-ghost use Rattle.nano_text.specs.Tokens.{At, Leaves, Spans};
-ghost use Rattle.nano_json.specs.Token.{Token, str, colon, curly_close};
-ghost use Rattle.nano_json.specs.Cut.{Cut};
+ghost use Rattle.json_records.specs.FieldReading.{fields_of};
+ghost use Rattle.json_records.specs.VariantReading.{Closed, name_tokens, NoVariantBegins};
+ghost use Rattle.json_records.specs.Variants.{alone, opened};
+ghost use Rattle.json_tokens.specs.Outcomes.{Takes, NoneHere};
+ghost use Rattle.nano_json.specs.Readers.{Reads, Refuses, Tells};
 ghost use Rattle.nano_json.specs.State.{at, ended};
-ghost use Rattle.nano_json.specs.Spelling.{NothingFits};
-ghost use Rattle.json_records.specs.Struct.{fields_of};
-ghost use Rattle.json_records.specs.Variants.{Closed};
-ghost use Rattle.json_records.specs.VariantReading.{alone, opened, name_tokens, NoVariantBegins};
+ghost use Rattle.nano_json.specs.Token.{str, colon, curly_close};
 
 use crate::fields::Fields;
 use crate::read::read_fields;
-use nano_json::{DeJson, DeJsonErr, DeJsonState, DeJsonTok};
+use nano_json::{DeJson, DeJsonErr, DeJsonState, DeJsonTok, end_if_refused};
 use std::alloc::Global;
 use std::str::Chars;
 
@@ -36,18 +36,13 @@ pub fn read_variant_name(
     state: &mut DeJsonState,
     input: &mut Chars<'_>,
 ) -> Result<VariantName, DeJsonErr>
-    ensures taken { IfOk result (λ name. Leaves Cut (name_tokens name) (at state.old input.old) (at state.new input.new)) }
-    ensures refused { IfErr result (λ e. e.memory ≡ false → NoVariantBegins (at state.old input.old)) }
+    ensures taken { IfOk result (λ name.
+        Takes (name_tokens name) state.old input.old state.new input.new) }
+    ensures refused { IfErr result (Tells (NoVariantBegins (at state.old input.old))) }
     ensures ended { OnErr result (at state.new input.new ≡ ended) }
-    ensures memory { IfErr result (λ e. e.memory ≡ true → string_bytes e.msg ≡ []) }
 {
-    match read_name(alloc, state, input) {
-        Ok(name) => Ok(name),
-        Err(error) => {
-            state.fail();
-            Err(error)
-        }
-    }
+    let read = read_name(alloc, state, input);
+    end_if_refused(state, read)
 }
 
 /// Takes the name that the value of an enum begins with. Where it is refused, the state stands
@@ -57,9 +52,9 @@ fn read_name(
     state: &mut DeJsonState,
     input: &mut Chars<'_>,
 ) -> Result<VariantName, DeJsonErr>
-    ensures taken { IfOk result (λ name. Leaves Cut (name_tokens name) (at state.old input.old) (at state.new input.new)) }
-    ensures refused { IfErr result (λ e. e.memory ≡ false → NoVariantBegins (at state.old input.old)) }
-    ensures memory { IfErr result (λ e. e.memory ≡ true → string_bytes e.msg ≡ []) }
+    ensures taken { IfOk result (λ name.
+        Takes (name_tokens name) state.old input.old state.new input.new) }
+    ensures refused { IfErr result (Tells (NoVariantBegins (at state.old input.old))) }
 {
     match state.tok {
         DeJsonTok::Str => read_alone(alloc, state, input),
@@ -74,9 +69,10 @@ fn read_alone(
     state: &mut DeJsonState,
     input: &mut Chars<'_>,
 ) -> Result<VariantName, DeJsonErr>
-    ensures taken { IfOk result (λ name. Leaves Cut (name_tokens name) (at state.old input.old) (at state.new input.new)) }
-    ensures refused { IfErr result (λ e. e.memory ≡ false → (name : List ℕ) (after : At Token) → Leaves Cut (alone name) (at state.old input.old) after → ⊥) }
-    ensures memory { IfErr result (λ e. e.memory ≡ true → string_bytes e.msg ≡ []) }
+    ensures taken { IfOk result (λ name.
+        Takes (name_tokens name) state.old input.old state.new input.new) }
+    ensures refused { IfErr result (Tells
+        ((name : List ℕ) → NoneHere (alone name) state.old input.old)) }
 {
     let name = state.as_string(alloc)?;
     state.next_tok(alloc, input)?;
@@ -89,9 +85,10 @@ fn read_opened(
     state: &mut DeJsonState,
     input: &mut Chars<'_>,
 ) -> Result<VariantName, DeJsonErr>
-    ensures taken { IfOk result (λ name. Leaves Cut (name_tokens name) (at state.old input.old) (at state.new input.new)) }
-    ensures refused { IfErr result (λ e. e.memory ≡ false → (name : List ℕ) (after : At Token) → Leaves Cut (opened name) (at state.old input.old) after → ⊥) }
-    ensures memory { IfErr result (λ e. e.memory ≡ true → string_bytes e.msg ≡ []) }
+    ensures taken { IfOk result (λ name.
+        Takes (name_tokens name) state.old input.old state.new input.new) }
+    ensures refused { IfErr result (Tells
+        ((name : List ℕ) → NoneHere (opened name) state.old input.old)) }
 {
     state.curly_open(alloc, input)?;
     let name = read_key(alloc, state, input)?;
@@ -104,9 +101,10 @@ fn read_key(
     state: &mut DeJsonState,
     input: &mut Chars<'_>,
 ) -> Result<String, DeJsonErr>
-    ensures taken { IfOk result (λ name. Leaves Cut (str (string_bytes name) ∷ colon ∷ []) (at state.old input.old) (at state.new input.new)) }
-    ensures refused { IfErr result (λ e. e.memory ≡ false → (name : List ℕ) (after : At Token) → Leaves Cut (str name ∷ colon ∷ []) (at state.old input.old) after → ⊥) }
-    ensures memory { IfErr result (λ e. e.memory ≡ true → string_bytes e.msg ≡ []) }
+    ensures taken { IfOk result (λ name.
+        Takes (str (string_bytes name) ∷ colon ∷ []) state.old input.old state.new input.new) }
+    ensures refused { IfErr result (Tells
+        ((name : List ℕ) → NoneHere (str name ∷ colon ∷ []) state.old input.old)) }
 {
     if state.next_str().is_none() {
         return Err(state.err_token(alloc, "String"));
@@ -126,10 +124,10 @@ pub fn read_content<T: DeJson>(
     state: &mut DeJsonState,
     input: &mut Chars<'_>,
 ) -> Result<T, DeJsonErr>
-    ensures fits { IfOk result (λ content. Spans Cut (Closed T.spelling.spelled) (at state.old input.old) (at state.new input.new) (T.means content)) }
-    ensures refused { IfErr result (λ e. e.memory ≡ false → NothingFits (Closed T.spelling.spelled) (at state.old input.old)) }
+    ensures fits { Reads (Closed T.json.spelling.spelled) T.means
+        (at state.old input.old) (at state.new input.new) result }
+    ensures refused { Refuses (Closed T.json.spelling.spelled) (at state.old input.old) result }
     ensures ended { OnErr result (at state.new input.new ≡ ended) }
-    ensures memory { IfErr result (λ e. e.memory ≡ true → string_bytes e.msg ≡ []) }
 {
     let content = T::de_json(alloc, state, input)?;
     close_content(alloc, state, input)?;
@@ -147,10 +145,11 @@ pub fn read_fields_content<F: Fields>(
     state: &mut DeJsonState,
     input: &mut Chars<'_>,
 ) -> Result<F::Values, DeJsonErr>
-    ensures fits { IfOk result (λ values. Spans Cut (Closed (fields_of (F.named fields.now)).spelled) (at state.old input.old) (at state.new input.new) (F.means values)) }
-    ensures refused { IfErr result (λ e. e.memory ≡ false → NothingFits (Closed (fields_of (F.named fields.now)).spelled) (at state.old input.old)) }
+    ensures fits { Reads (Closed (fields_of (F.named fields.now)).spelled) F.means
+        (at state.old input.old) (at state.new input.new) result }
+    ensures refused { Refuses (Closed (fields_of (F.named fields.now)).spelled)
+        (at state.old input.old) result }
     ensures ended { OnErr result (at state.new input.new ≡ ended) }
-    ensures memory { IfErr result (λ e. e.memory ≡ true → string_bytes e.msg ≡ []) }
 {
     let values = read_fields(fields, alloc, state, input)?;
     close_content(alloc, state, input)?;
@@ -159,23 +158,18 @@ pub fn read_fields_content<F: Fields>(
 
 /// Takes the `}` behind the content of a variant. Every refusal leaves the state at the end of the
 /// text.
-pub(crate) fn close_content(
+fn close_content(
     alloc: Global,
     state: &mut DeJsonState,
     input: &mut Chars<'_>,
 ) -> Result<(), DeJsonErr>
-    ensures taken { OnOk result (Leaves Cut (curly_close ∷ []) (at state.old input.old) (at state.new input.new)) }
-    ensures refused { IfErr result (λ e. e.memory ≡ false → (after : At Token) → Leaves Cut (curly_close ∷ []) (at state.old input.old) after → ⊥) }
+    ensures taken { OnOk result
+        (Takes (curly_close ∷ []) state.old input.old state.new input.new) }
+    ensures refused { IfErr result (Tells (NoneHere (curly_close ∷ []) state.old input.old)) }
     ensures ended { OnErr result (at state.new input.new ≡ ended) }
-    ensures memory { IfErr result (λ e. e.memory ≡ true → string_bytes e.msg ≡ []) }
 {
-    match state.curly_close(alloc, input) {
-        Ok(()) => Ok(()),
-        Err(error) => {
-            state.fail();
-            Err(error)
-        }
-    }
+    let closed = state.curly_close(alloc, input);
+    end_if_refused(state, closed)
 }
 
 /// The refusal of a name that no variant has: `Enum not defined {name}`. It leaves the state at the
@@ -183,7 +177,8 @@ pub(crate) fn close_content(
 #[cold]
 #[inline(never)]
 pub fn unknown_variant(alloc: Global, state: &mut DeJsonState, name: &str) -> DeJsonErr
-    ensures msg { result.memory ≡ false → string_bytes result.msg ≡ codes "Enum not defined " ++ name.now }
+    ensures msg { result.memory ≡ false
+        → string_bytes result.msg ≡ codes "Enum not defined " ++ name.now }
     ensures memory { result.memory ≡ true → string_bytes result.msg ≡ [] }
     ensures line { result.line ≡ state.old.line }
     ensures col { result.col ≡ state.old.col }

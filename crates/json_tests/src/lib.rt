@@ -3,7 +3,11 @@
 #![tactic(auto)]
 
 #[cfg(test)]
+mod bound_tests;
+#[cfg(test)]
 mod container_tests;
+#[cfg(test)]
+mod fault_tests;
 #[cfg(test)]
 mod front_tests;
 #[cfg(test)]

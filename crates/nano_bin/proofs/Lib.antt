@@ -1,7 +1,5 @@
 pub mod MapReaders
 pub mod Readers
 pub mod RoundTrip
-pub mod Runs
-pub mod SignedRuns
+pub mod SameBytes
 pub mod Variants
-pub mod Writers

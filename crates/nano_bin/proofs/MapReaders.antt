@@ -9,10 +9,10 @@ use Rattle.nano_value.specs.Legal.{IsImage}
 use Rattle.nano_value.specs.Tables.{Table, table_means, last_values, insert_all-push}
 use Rattle.nano_value.specs.Sets.{MeaningSet, item_set, set_means, marked}
 use Rattle.nano_value.specs.OrderedSets.{ordered_means, ordered_means-sorted}
-use Rattle.nano_bin.specs.Reading.{Reads, NothingFits}
-use Rattle.nano_bin.specs.LittleEndian.{SpellsNumber}
-use Rattle.nano_bin.specs.Spellings.{SpellsPair}
-use Rattle.nano_bin.specs.Tables.{ReadsTable, SpellsMap, map_means}
+use Rattle.bin_bytes.specs.Reading.{Reads, NothingFits}
+use Rattle.bin_bytes.specs.LittleEndian.{SpellsNumber}
+use Rattle.nano_bin.specs.Tuples.{SpellsPair}
+use Rattle.nano_bin.specs.Maps.{ReadsTable, SpellsMap, map_means}
 use Rattle.nano_bin.specs.Sets.{ReadsSet, SpellsSet, items_mean}
 use Rattle.nano_bin.proofs.Readers.{image_reads, list_reads, count_reads_none, count_reads_push}
 

@@ -1,16 +1,17 @@
 -- What the readers of containers answer, from what the readers of their parts answer.
-use Rattle.std.proofs.Common.{◌≡◌, ◌≢◌, Result, Ok, Err, IfOk, ℕ, suc, ◌+◌, ◌^◌, ◌<◌, refl, List, [], ◌∷◌, ◌++◌, length, drop, Option, Some, None, sym, ◌∙◌, subst, ap, arith, append_assoc, length-append, slice_index, get_or-drop, true, false, ℤ, Fits as FitsWidth}
-use Rattle.std.specs.Int.{Width, cast_signed, cast_unsigned}
-use Rattle.std.proofs.Math.Facts.{sfits_to_z, of_z-to_z}
-use Rattle.std.proofs.lemmas.Int.{to_z-of_z}
-use Rattle.std.specs.List.{AllByRecursion}
+use Rattle.std.proofs.Common.{◌≡◌, ◌≢◌, Result, Ok, Err, IfOk, ℕ, ◌+◌, ◌<◌, refl, List, [], ◌∷◌, ◌++◌, length, drop, Option, Some, None, sym, ◌∙◌, subst, ap, arith, append_assoc, length-append, true, false}
 use Rattle.std.proofs.lemmas.List.{append-nil}
-use Rattle.nano_value.specs.Meaning.{Meaning, number, nothing, truth, whole, whole_injective}
+use Rattle.nano_value.specs.Meaning.{Meaning, nothing, truth, whole, whole_injective}
 use Rattle.nano_value.specs.Legal.{IsImage}
-use Rattle.nano_bin.specs.Reading.{IsSpelling, NothingFits, Reads}
-use Rattle.nano_bin.specs.LittleEndian.{SpellsNumber, number_spelling, little_endian, little_value, length-little_endian, little_endian-little_value, little_value_fits}
-use Rattle.nano_bin.specs.Spellings.{SpellsUnit, SpellsUnsigned, SpellsSigned, SpellsSignedNumber, SpellsTruth, SpellsPair, SpellsOption, SpellsItems, SpellsCount, SpellsList, SpellsText, IsTextOf}
-use Rattle.nano_bin.specs.SpellingLaws.{same_fronts, same_heads, truth_byte}
+use Rattle.nano_bin.specs.Spelling.{IsSpelling, same_fronts, same_heads}
+use Rattle.bin_bytes.specs.Reading.{NothingFits, Reads}
+use Rattle.bin_bytes.specs.LittleEndian.{SpellsNumber}
+use Rattle.nano_bin.specs.Bools.{SpellsUnit, SpellsTruth, truth_byte}
+use Rattle.nano_bin.specs.Numbers.{SpellsUnsigned, number_spelling}
+use Rattle.nano_bin.specs.Tuples.{SpellsPair}
+use Rattle.nano_bin.specs.Options.{SpellsOption}
+use Rattle.nano_bin.specs.Lists.{SpellsItems, SpellsCount, SpellsList}
+use Rattle.nano_bin.specs.Texts.{SpellsText, IsTextOf}
 
 -- what two facts of success show together
 pub both_ok : {T E : Type 0} {P Q R : T → Type 0} (r : Result T E) → ((x : T) → P x → Q x → R x) → IfOk r P → IfOk r Q → IfOk r R
@@ -57,55 +58,12 @@ image_refused S f bytes none m r = none r.spells.part (record { front = r.front;
 
 -- ---- numbers
 
--- a front of bytes is of bytes
-bytes_front : (front rest : List ℕ) → ((i : ℕ) → slice_index (front ++ rest) i < 256) → AllByRecursion (λ b. b < 256) front
-bytes_front [] rest h = tt
-bytes_front (b ∷ front) rest h = (h 0, bytes_front front rest (λ i. h (suc i)))
-
--- k bytes are read as their number
-pub number_reads : (k : ℕ) (bytes taken : List ℕ) (start end : ℕ) → ((i : ℕ) → slice_index bytes i < 256) → drop start bytes ≡ taken ++ drop end bytes → end ≡ start + k → length taken ≡ k → Reads (SpellsUnsigned k) bytes start (whole (little_value taken)) end
-number_reads k bytes taken start end small split moved long =
-    let all = bytes_front taken (drop end bytes) (λ i. subst (λ l. slice_index l i < 256) split (rw (get_or-drop) (small (start + i)))) in
-    image_reads whole bytes start end (little_value taken) (record {
-      front = taken;
-      whole = split;
-      moved = moved ∙ ap (λ m. start + m) (sym long);
-      spells = record {
-        fits = subst (λ m. little_value taken < 256 ^ m) long (little_value_fits taken all);
-        whole = sym (subst (λ m. little_endian m (little_value taken) ≡ taken) long (little_endian-little_value taken all));
-      };
-    })
-
--- fewer than k bytes have no front of k bytes
-pub number_refused : (k : ℕ) (bytes : List ℕ) → length bytes < k → NothingFits (SpellsUnsigned k) bytes
-number_refused k bytes h m f =
-    let long : length f.front ≡ k = ap length f.spells.has.whole ∙ length-little_endian k f.spells.part in
-    let parts = ap length f.whole ∙ length-append f.front f.rest in
-    omega (arith, long, parts)
-
 -- what a reader of unsigned numbers answers, as a number
 pub unsigned_reads : (k : ℕ) (bytes : List ℕ) (start end n : ℕ) → Reads (SpellsUnsigned k) bytes start (whole n) end → Reads (SpellsNumber k) bytes start n end
 unsigned_reads k bytes start end n r = record { front = r.front; whole = r.whole; moved = r.moved; spells = subst (SpellsNumber k r.front) (sym (whole_injective n r.spells.part r.spells.is)) r.spells.has }
 
 pub unsigned_refused : (k : ℕ) (bytes : List ℕ) → NothingFits (SpellsUnsigned k) bytes → NothingFits (SpellsNumber k) bytes
 unsigned_refused k bytes none n f = none (whole n) (record { front = f.front; rest = f.rest; whole = f.whole; spells = record { part = n; has = f.spells; is = refl } })
-
--- a signed number stands as its bits; in code it is the signed number of its bits
-pub signed_reads : (w : Width) (k : ℕ) (bytes : List ℕ) (start end n : ℕ) (z : ℤ) → (n < 256 ^ k → FitsWidth w n) → z ≡ cast_signed w n → Reads (SpellsUnsigned k) bytes start (whole n) end → Reads (SpellsSigned w k) bytes start (number (cast_signed w (cast_unsigned w z))) end
-signed_reads w k bytes start end n z fits e r =
-    let bits = unsigned_reads k bytes start end n r in
-    let f = fits bits.spells.fits in
-    let in_range = sfits_to_z {w = w} {n = n} f in
-    let same = ap (λ y. cast_signed w (cast_unsigned w y)) e ∙ to_z-of_z w (cast_signed w n) in_range in
-    subst (λ y. Reads (SpellsSigned w k) bytes start (number y) end) (sym same) (image_reads number bytes start end (cast_signed w n) (record {
-      front = bits.front;
-      whole = bits.whole;
-      moved = bits.moved;
-      spells = record { in_range = in_range; bits = subst (SpellsNumber k bits.front) (sym (of_z-to_z {w = w} {n = n} f)) bits.spells };
-    }))
-
-pub signed_refused : (w : Width) (k : ℕ) (bytes : List ℕ) → NothingFits (SpellsUnsigned k) bytes → NothingFits (SpellsSigned w k) bytes
-signed_refused w k bytes none = image_refused (SpellsSignedNumber w k) number bytes (λ z f. unsigned_refused k bytes none (cast_unsigned w z) (record { front = f.front; rest = f.rest; whole = f.whole; spells = f.spells.bits }))
 
 -- where there is no byte, there is no truth value
 pub truth_refused : (bytes : List ℕ) → NothingFits (SpellsUnsigned 1) bytes → NothingFits (λ a. IsImage truth (SpellsTruth a)) bytes

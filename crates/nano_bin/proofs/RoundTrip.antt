@@ -2,10 +2,10 @@
 use Rattle.std.proofs.Common.{◌≡◌, ◌≢◌, ℕ, ◌+◌, List, ◌++◌, length, drop, sym, ◌∙◌, subst, ap, append_assoc, refl}
 use Rattle.std.proofs.lemmas.List.{drop-drop}
 use Rattle.std.proofs.Math.Seq.{drop-append_seam}
-use Rattle.nano_bin.specs.declared.error.DeBinKind.{DeBinKind}
-use Rattle.nano_bin.specs.declared.error.DeBinKind.TheVariants.{TooShort, NotUtf8, TooLong, Memory, Own}
-use Rattle.nano_bin.specs.Reading.{IsSpelling, NothingFits, Reads}
-use Rattle.nano_bin.specs.SpellingLaws.{same_fronts}
+use Rattle.bin_bytes.specs.declared.error.DeBinKind.{DeBinKind}
+use Rattle.bin_bytes.specs.declared.error.DeBinKind.TheVariants.{TooShort, NotUtf8, TooLong, Memory, Own}
+use Rattle.nano_bin.specs.Spelling.{IsSpelling, same_fronts}
+use Rattle.bin_bytes.specs.Reading.{NothingFits, Reads}
 use Rattle.nano_bin.specs.Promises.{StandsAt}
 
 module _ {A : Type 0} {P : A → Type 0} {S : List ℕ → A → Type 0} (s : IsSpelling P S) where

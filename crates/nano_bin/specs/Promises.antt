@@ -12,4 +12,5 @@ OneValue {A} spelled = (bytes : List ℕ) (x y : A) → spelled bytes x → spel
 
 -- no spelling is a proper beginning of another
 abbrev pub NoneBeginsAnother : {A : Type 0} → (List ℕ → A → Type 0) → Type 0
-NoneBeginsAnother {A} spelled = (bytes more : List ℕ) (x y : A) → spelled bytes x → spelled (bytes ++ more) y → more ≡ []
+NoneBeginsAnother {A} spelled =
+    (bytes more : List ℕ) (x y : A) → spelled bytes x → spelled (bytes ++ more) y → more ≡ []

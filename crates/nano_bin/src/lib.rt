@@ -1,33 +1,29 @@
-//! The binary format of nanoserde: fixed-width little-endian numbers, lengths and counts as eight bytes.
+//! The binary format of nanoserde: fixed-width little-endian numbers, lengths and counts as eight
+//! bytes.
 //!
-//! A value is written by [`SerBin`] and read by [`DeBin`]; a type that has both is [`BothBin`], and what it
-//! writes is read back at any offset, whatever bytes follow.
+//! A value is written by [`SerBin`] and read by [`DeBin`]; a type that has both is [`BothBin`], and
+//! what it writes is read back at any offset, whatever bytes follow. The errors are those of
+//! `bin_bytes`, passed on.
 #![tactic(auto)]
 
 mod append;
-mod arrays;
+mod bools;
 mod boxes;
-mod error;
 pub mod laws;
 mod lists;
 mod maps;
-mod numbers;
 mod options;
-mod ordered_sets;
-mod pairs;
-mod quadruples;
+mod read;
 mod sets;
 mod signed;
-mod take;
 mod texts;
 mod traits;
-mod triples;
-mod truths;
-mod widths;
+mod tuples;
+mod unsigned;
 
 pub use append::append_part;
-pub use error::{DeBinErr, DeBinKind};
-pub use traits::{BothBin, DeBin, SerBin};
+pub use bin_bytes::{DeBinErr, DeBinKind};
+pub use traits::{BinFormat, BothBin, DeBin, SerBin};
 
 #[cfg(test)]
 mod tests;
@@ -35,3 +31,5 @@ mod tests;
 mod tests_maps;
 #[cfg(test)]
 mod tests_memory;
+#[cfg(test)]
+mod tests_types;

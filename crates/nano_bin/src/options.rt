@@ -1,23 +1,19 @@
 // Options: any byte but 1; or the byte 1 and the item.
-ghost use Rattle.std.proofs.Common.{ap};
-ghost use Rattle.std.specs.Option.{option_map};
-ghost use Rattle.nano_value.specs.Meaning.{optional};
-ghost use Rattle.nano_value.specs.Legal.{option_weaker};
-ghost use Rattle.nano_bin.specs.SpellingLaws.{option_of};
-ghost use Rattle.nano_bin.specs.Writing.{option_writing, option_format, option_reads_back};
+ghost use Rattle.nano_value.specs.Ties.{option_ties};
+ghost use Rattle.nano_bin.specs.Options.{option_format};
 
 use crate::append::append_part;
-use crate::error::DeBinErr;
-use crate::traits::{BothBin, DeBin, SerBin};
+use crate::traits::{BinFormat, BothBin, DeBin, SerBin};
+use bin_bytes::DeBinErr;
 use std::alloc::{AllocError, Global};
 
+impl<T: BinFormat> BinFormat for Option<T> {
+    ghost bin = { option_format T.bin };
+
+    ghost ties = { option_ties T.ties };
+}
+
 impl<T: SerBin> SerBin for Option<T> {
-    ghost writing = { option_writing T.writing };
-
-    ghost writes_meaning = { ap (λ means x. optional (option_map means x)) T.writes_meaning };
-
-    ghost orders_keys = { T.orders_keys };
-
     fn ser_bin(&self, alloc: Global, output: &mut Vec<u8>) -> Result<(), AllocError> {
         let start = output.len();
         match self {
@@ -31,27 +27,19 @@ impl<T: SerBin> SerBin for Option<T> {
 }
 
 impl<T: DeBin> DeBin for Option<T> {
-    ghost spelling = { option_of T.spelling };
-
-    ghost spells_legal = { option_weaker T.spelling.legal T.legal T.spells_legal };
+    ghost is_read = { T.is_read };
 
     fn de_bin(alloc: Global, offset: &mut usize, bytes: &[u8]) -> Result<Option<T>, DeBinErr> {
-        let start = *offset;
-        match u8::de_bin(alloc, offset, bytes)? {
-            1 => match T::de_bin(alloc, offset, bytes) {
-                Ok(value) => Ok(Some(value)),
-                Err(error) => {
-                    *offset = start;
-                    Err(error)
-                }
-            },
-            _ => Ok(None),
+        let mut at = *offset;
+        let tag = u8::de_bin(alloc, &mut at, bytes)?;
+        if tag != 1 {
+            *offset = at;
+            return Ok(None);
         }
+        let value = T::de_bin(alloc, &mut at, bytes)?;
+        *offset = at;
+        Ok(Some(value))
     }
 }
 
-impl<T: BothBin> BothBin for Option<T> {
-    ghost format = { option_format T.format };
-
-    ghost reads_back = { option_reads_back T.means T.legal T.spelling.spelled T.writing.written T.reads_back };
-}
+impl<T: BothBin> BothBin for Option<T> {}

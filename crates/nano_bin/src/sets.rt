@@ -1,48 +1,53 @@
-// Hash sets: the count, and the items. They are written in order.
-ghost use Rattle.std.specs.Prelude.{◌≡◌, ◌≢◌, ◌≤◌, ◌++◌, map, take, drop, length, IfOk, IfErr, OnOk, OnErr, refl};
+// Sets, hashed and ordered: the count, and the items in order.
+ghost use Rattle.std.specs.Prelude.{◌≡◌, ◌≤◌, ◌++◌, map, take, drop, length, IfOk, IfErr, OnOk};
+ghost use Rattle.std.specs.Prelude.{OnErr};
 ghost use Rattle.std.specs.List.{flat_map};
 ghost use Rattle.std.specs.Map.Iter.{deref};
-ghost use Rattle.nano_value.specs.Sets.{item_set, set_means, set_weaker};
-ghost use Rattle.nano_bin.specs.declared.error.DeBinKind.{DeBinKind};
-ghost use Rattle.nano_bin.specs.Reading.{NothingFits};
-ghost use Rattle.nano_bin.specs.Spellings.{SpellsCount};
-ghost use Rattle.nano_value.specs.Ascending.{key_order};
-ghost use Rattle.nano_bin.specs.Sets.{ReadsSet, set_of, set_writing, set_format, set_reads_back};
-ghost use Rattle.nano_bin.specs.Writing.{writing_as, format_as};
+ghost use Rattle.std.specs.BTreeSet.{IsOrdered};
+ghost use Rattle.nano_value.specs.Sets.{item_set};
+ghost use Rattle.nano_value.specs.InOrder.{ascending_items};
+ghost use Rattle.nano_value.specs.Ties.{set_ties, ordered_ties, seen_ties};
+ghost use Rattle.bin_bytes.specs.Reading.{Refuses};
+ghost use Rattle.nano_bin.specs.Format.{format_as};
+ghost use Rattle.bin_bytes.specs.Items.{SpellsCount};
+ghost use Rattle.nano_bin.specs.Sets.{ReadsSet, set_format, ordered_format};
 
-use crate::append::append_part;
-use crate::error::{DeBinErr, DeBinKind};
-use crate::take::no_memory;
-use crate::traits::{BothBin, DeBin, SerBin};
-use nano_value::{Key, items_in_order};
+use crate::append::{append_count, append_part};
+use crate::read::read_count;
+use crate::traits::{BinFormat, BothBin, DeBin, SerBin};
+use bin_bytes::{DeBinErr, no_memory};
+use nano_value::{Key, OrderedKey, items_in_order};
 use std::alloc::{AllocError, Global};
-use std::collections::HashSet;
+use std::collections::{BTreeSet, HashSet};
 use std::hash::Hash;
 
-impl<T: SerBin + Key + Hash + Ord> SerBin for HashSet<T> {
-    ghost writing = { writing_as (λ x. x.keys) (set_writing T.cmp T.writing) };
+impl<T: BinFormat + Key + Hash> BinFormat for HashSet<T> {
+    ghost bin = { format_as (λ x. x.keys) (set_format T.order T.bin) };
 
-    ghost writes_meaning = { λ i x. set_means (item_set (T.writes_meaning i) x.keys) };
+    ghost ties = { seen_ties (set_ties T.ties) (λ x. x.keys) };
+}
 
-    ghost orders_keys = { (key_order T.cmp T.eq T.means T.writing.means T.total T.matches_eq T.exact T.writes_meaning, T.orders_keys) };
-
+impl<T: SerBin + OrderedKey + Hash> SerBin for HashSet<T> {
     fn ser_bin(&self, alloc: Global, output: &mut Vec<u8>) -> Result<(), AllocError> {
         let start = output.len();
         let items = items_in_order(alloc, self)?;
-        items.len().ser_bin(alloc, output)?;
-        append_ordered(alloc, &items, output, start)
+        append_count(alloc, items.len(), output)?;
+        append_hash_set(alloc, &items, output, start)
     }
 }
 
-/// Appends items, or cuts `output` back to its first `start` bytes where that is refused.
-fn append_ordered<T: SerBin>(
+/// Appends the items of a hashed set, or cuts `output` back to its first `start` bytes where that
+/// is refused.
+fn append_hash_set<T: SerBin>(
     alloc: Global,
     items: &[&T],
     output: &mut Vec<u8>,
     start: usize,
 ) -> Result<(), AllocError>
     requires { start ≤ length output.old.items }
-    ensures ok { OnOk result (output.new.items ≡ output.old.items ++ flat_map T.writing.written (map deref items.now)) }
+    ensures ok { OnOk result
+        (output.new.items ≡ output.old.items
+        ++ flat_map T.bin.writing.written (map deref items.now)) }
     ensures err { OnErr result (output.new.items ≡ take start output.old.items) }
 {
     for item in items {
@@ -52,53 +57,116 @@ fn append_ordered<T: SerBin>(
 }
 
 impl<T: DeBin + Key + Hash> DeBin for HashSet<T> {
-    ghost spelling = { set_of T.spelling };
-
-    ghost spells_legal = { set_weaker T.spelling.legal T.legal T.spells_legal };
+    ghost is_read = { T.is_read };
 
     fn de_bin(alloc: Global, offset: &mut usize, bytes: &[u8]) -> Result<HashSet<T>, DeBinErr> {
-        let start = *offset;
-        let count = usize::de_bin(alloc, offset, bytes)?;
-        let taken = take_items(alloc, count, offset, bytes);
-        if taken.is_err() {
-            *offset = start;
-        }
-        taken
+        let mut at = *offset;
+        let count = read_count(alloc, &mut at, bytes)?;
+        let items = read_hash_set(alloc, count, &mut at, bytes)?;
+        *offset = at;
+        Ok(items)
     }
 }
 
 /// Reads so many items, one behind the other, into a set.
-fn take_items<T: DeBin + Key + Hash>(
+fn read_hash_set<T: DeBin + Key + Hash>(
     alloc: Global,
     count: usize,
     offset: &mut usize,
     bytes: &[u8],
 ) -> Result<HashSet<T>, DeBinErr>
-    ensures ok { IfOk result (λ items. ReadsSet T.spelling.spelled count bytes.now offset.old (item_set T.means items.keys) offset.new) }
-    ensures err { IfErr result (λ e. e.kind ≢ DeBinKind.Memory → NothingFits (SpellsCount count T.spelling.spelled) (drop offset.old bytes.now)) }
+    ensures ok { IfOk result (λ items.
+        ReadsSet T.bin.spelling.spelled count bytes.now offset.old
+        (item_set T.means items.keys) offset.new) }
+    ensures err { IfErr result
+        (Refuses (SpellsCount count T.bin.spelling.spelled) (drop offset.old bytes.now)) }
     ensures kept { OnErr result (offset.new ≡ offset.old) }
 {
-    let start = *offset;
+    let mut at = *offset;
     let mut items = HashSet::new(alloc);
     for _ in 0..count {
-        match T::de_bin(alloc, offset, bytes) {
-            Ok(item) => {
-                if items.insert(item).is_err() {
-                    *offset = start;
-                    return Err(no_memory(start, bytes));
-                }
-            }
-            Err(error) => {
-                *offset = start;
-                return Err(error);
-            }
+        let item = T::de_bin(alloc, &mut at, bytes)?;
+        if items.insert(item).is_err() {
+            return Err(no_memory(at, bytes));
         }
     }
+    *offset = at;
     Ok(items)
 }
 
-impl<T: BothBin + Key + Hash + Ord> BothBin for HashSet<T> {
-    ghost format = { format_as (λ x. x.keys) (set_format T.cmp T.format) };
+impl<T: BothBin + OrderedKey + Hash> BothBin for HashSet<T> {}
 
-    ghost reads_back = { λ x. set_reads_back T.cmp T.means T.legal T.spelling.spelled T.writing.written (key_order T.cmp T.eq T.means T.means T.total T.matches_eq T.exact refl) T.reads_back x.keys };
+impl<T: BinFormat + Key + Ord> BinFormat for BTreeSet<T> {
+    ghost bin = { format_as (λ x. x.keys) (ordered_format T.order T.cmp T.bin) };
+
+    ghost ties = { seen_ties (ordered_ties T.ties T.cmp) (λ x. x.keys) };
 }
+
+impl<T: SerBin + OrderedKey> SerBin for BTreeSet<T> {
+    fn ser_bin(&self, alloc: Global, output: &mut Vec<u8>) -> Result<(), AllocError> {
+        let start = output.len();
+        append_count(alloc, self.len(), output)?;
+        append_btree_set(alloc, self, output, start)
+    }
+}
+
+/// Appends the items of an ordered set, or cuts `output` back to its first `start` bytes where that
+/// is refused.
+fn append_btree_set<T: SerBin + Ord>(
+    alloc: Global,
+    items: &BTreeSet<T>,
+    output: &mut Vec<u8>,
+    start: usize,
+) -> Result<(), AllocError>
+    requires { start ≤ length output.old.items }
+    ensures ok { OnOk result
+        (output.new.items ≡ output.old.items ++ flat_map T.bin.writing.written items.now.keys) }
+    ensures ordered { OnOk result (ascending_items T.cmp items.now.keys ≡ items.now.keys) }
+    ensures err { OnErr result (output.new.items ≡ take start output.old.items) }
+{
+    for item in items {
+        append_part(alloc, item, output, start)?;
+    }
+    Ok(())
+}
+
+impl<T: DeBin + Key + Ord> DeBin for BTreeSet<T> {
+    ghost is_read = { T.is_read };
+
+    fn de_bin(alloc: Global, offset: &mut usize, bytes: &[u8]) -> Result<BTreeSet<T>, DeBinErr> {
+        let mut at = *offset;
+        let count = read_count(alloc, &mut at, bytes)?;
+        let items = read_btree_set(alloc, count, &mut at, bytes)?;
+        *offset = at;
+        Ok(items)
+    }
+}
+
+/// Reads so many items, one behind the other, into a set.
+fn read_btree_set<T: DeBin + Key + Ord>(
+    alloc: Global,
+    count: usize,
+    offset: &mut usize,
+    bytes: &[u8],
+) -> Result<BTreeSet<T>, DeBinErr>
+    ensures ok { IfOk result (λ items.
+        ReadsSet T.bin.spelling.spelled count bytes.now offset.old
+        (item_set T.means items.keys) offset.new) }
+    ensures ordered { IfOk result (IsOrdered T.cmp) }
+    ensures err { IfErr result
+        (Refuses (SpellsCount count T.bin.spelling.spelled) (drop offset.old bytes.now)) }
+    ensures kept { OnErr result (offset.new ≡ offset.old) }
+{
+    let mut at = *offset;
+    let mut items = BTreeSet::new(alloc);
+    for _ in 0..count {
+        let item = T::de_bin(alloc, &mut at, bytes)?;
+        if items.insert(item).is_err() {
+            return Err(no_memory(at, bytes));
+        }
+    }
+    *offset = at;
+    Ok(items)
+}
+
+impl<T: BothBin + OrderedKey> BothBin for BTreeSet<T> {}

@@ -1,4 +1,5 @@
-// Codes as they stand in the crate's documents, and the errors of codes that are cut short or refused.
+// Codes as they stand in the crate's documents, and the errors of codes that are cut short or
+// refused.
 use crate::{BothBin, DeBin, DeBinErr, DeBinKind, SerBin};
 use nano_value::Value;
 use std::alloc::Global;
@@ -6,8 +7,8 @@ use std::collections::LinkedList;
 use std::process::Abort;
 use std::test::Fail;
 
-/// The value is written as the code and read back from it, and every proper front of the code is refused as
-/// too short with the offset kept.
+/// The value is written as the code and read back from it, and every proper front of the code is
+/// refused as too short with the offset kept.
 fn row<T: BothBin + PartialEq>(
     rt: &impl Abort,
     alloc: Global,

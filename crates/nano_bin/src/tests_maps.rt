@@ -1,4 +1,5 @@
-// Maps and sets: repeated keys and items, the order in which they are written, cut codes, and nested types.
+// Maps and sets: repeated keys and items, the order in which they are written, cut codes, and
+// nested types.
 use crate::{BothBin, DeBin, DeBinKind, SerBin};
 use std::alloc::Global;
 use std::collections::{BTreeSet, HashMap, HashSet};

@@ -1,12 +1,13 @@
-// What calls leave behind where a growth is refused. Run with ample memory, nothing is; the runner can refuse any
-// one allocation, and then each call answers want of memory, or what it answers with ample memory.
+// What calls leave behind where a growth is refused. Run with ample memory, nothing is; the runner
+// can refuse any one allocation, and then each call answers want of memory, or what it answers with
+// ample memory.
 use crate::{BothBin, DeBinKind};
 use std::alloc::{AllocError, Global};
 use std::collections::{BTreeSet, HashMap, HashSet, LinkedList};
 use std::process::Abort;
 
-/// The value is written whole behind what was there, or not at all, and its code is read whole, or refused for
-/// memory with the offset kept.
+/// The value is written whole behind what was there, or not at all, and its code is read whole, or
+/// refused for memory with the offset kept.
 fn whole_or_not<T: BothBin>(rt: &impl Abort, alloc: Global, value: &T, code: &[u8]) {
     let mut output = Vec::new(alloc);
     if output.push(77u8).is_ok() {

@@ -1,14 +1,4 @@
-pub mod PutDigits
-pub mod RoundTrip
-pub mod WrittenItems
-pub mod KeptWriting
-pub mod WrittenRuns
-pub mod LexemeKinds
-pub mod Cuts
-pub mod Shorter
-pub mod BracketCounts
-pub mod Reading
-pub mod Containers
-pub mod MapReading
-pub mod TupleParts
+pub mod Json
 pub mod Integers
+pub mod Writing
+pub mod Arrays

@@ -1,36 +1,23 @@
-//! JSON as the crate nanoserde reads and writes it: typed values to text and back, the tokens of a
-//! text, a reader's state with its helpers and errors, and a writer's state.
+//! JSON as the crate nanoserde reads and writes it: typed values to text and back. The tokens of a
+//! text, a reader's state with its helpers and errors, and a writer's state are passed on.
 #![tactic(auto)]
 
-mod arrays;
+mod bools;
 mod boxes;
-mod digits;
 mod error;
-mod helpers;
-mod items;
 pub mod laws;
-mod linked_lists;
 mod lists;
 mod maps;
-mod marks;
 mod numbers;
-mod ordered_sets;
-mod pairs;
-mod parts;
-mod quadruples;
+mod options;
 mod sets;
-mod state;
-mod strings;
+mod signed;
 mod texts;
-mod token;
 mod traits;
-mod triples;
-mod words;
-mod write_parts;
-mod write_state;
+mod tuples;
+mod undo;
 
-pub use error::DeJsonErr;
-pub use state::DeJsonState;
-pub use token::DeJsonTok;
-pub use traits::{BothJson, DeJson, SerJson};
-pub use write_state::{SerJsonState, keep_written};
+pub use error::{DeJsonErr, DeJsonState, DeJsonTok, SerJsonState};
+pub use nano_text::keep_written;
+pub use traits::{BothJson, DeJson, JsonFormat, SerJson};
+pub use undo::end_if_refused;

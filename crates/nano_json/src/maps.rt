@@ -1,43 +1,46 @@
-// Hash maps: keys with their values between curly brackets. They are written in the order of the keys.
-ghost use Rattle.std.specs.Prelude.{◌≡◌, [], true, false, IfOk, IfErr, string_bytes, ◌++◌, ℕ, List, OnOk, OnErr, encode_utf8_all, map};
-ghost use Rattle.nano_value.specs.Tables.{table_of, table_means, map_weaker};
-ghost use Rattle.nano_text.specs.Tokens.{Spans};
-ghost use Rattle.nano_json.specs.Cut.{Cut};
-ghost use Rattle.nano_json.specs.State.{at};
-ghost use Rattle.nano_json.specs.Spelling.{NothingFits};
-ghost use Rattle.nano_json.specs.Maps.{SpellsEntry, SpellsMap, map_of};
+// Maps: keys with their values between curly brackets. They are written in the order of the keys.
 ghost use Rattle.std.specs.Map.Iter.{deref_pair};
-ghost use Rattle.nano_value.specs.Ascending.{ascending, key_order};
-ghost use Rattle.nano_text.specs.Written.{in_list};
-ghost use Rattle.nano_json.specs.Written.{entries_tokens, written_entry, written_entries};
-ghost use Rattle.nano_json.specs.Writing.{writing_as};
-ghost use Rattle.nano_json.specs.MapWriting.{map_writing};
+ghost use Rattle.std.specs.Prelude.{OnOk, OnErr, map};
+ghost use Rattle.nano_value.specs.Meaning.{pair_map};
+ghost use Rattle.nano_value.specs.Tables.{table_of, table_means};
+ghost use Rattle.nano_value.specs.Ties.{seen_ties, map_ties};
 ghost use Rattle.nano_json.specs.Format.{format_as};
-ghost use Rattle.nano_json.specs.MapFormat.{map_format};
-ghost use Rattle.nano_json.specs.Weaker.{map_spells};
+ghost use Rattle.nano_json.specs.Lists.{in_list};
+ghost use Rattle.nano_json.specs.Maps.{SpellsEntry, SpellsMap, written_entry, written_entries};
+ghost use Rattle.nano_json.specs.Maps.{map_format};
+ghost use Rattle.nano_text.specs.Outcomes.{Appends, AppendsPart};
+ghost use Rattle.nano_json.specs.Readers.{Reads, Refuses};
+ghost use Rattle.nano_json.specs.State.{at};
 
-use crate::error::DeJsonErr;
-use crate::helpers::bytes_left;
-use crate::items::append_item;
-use crate::state::DeJsonState;
-use crate::traits::{BothJson, DeJson, SerJson};
-use crate::write_state::{SerJsonState, keep_written};
-use nano_value::{Key, entries_in_order};
+use crate::lists::append_item;
+use crate::traits::{BothJson, DeJson, JsonFormat, SerJson};
+use crate::undo::end_if_refused;
+use json_tokens::{DeJsonErr, DeJsonState, SerJsonState, bytes_left};
+use nano_text::keep_written;
+use nano_value::{Key, OrderedKey, entries_in_order};
 use std::alloc::{AllocError, Global};
 use std::collections::HashMap;
 use std::hash::Hash;
 use std::str::Chars;
 
+impl<K: JsonFormat + Key + Hash, V: JsonFormat> JsonFormat for HashMap<K, V> {
+    ghost json = { format_as (λ x. x.entries) (map_format K.order K.json V.json) };
+
+    ghost ties = { seen_ties (map_ties K.ties V.ties) (λ x. x.entries) };
+}
+
 /// Reads keys with their values between curly brackets into a map. A key that comes again takes its
 /// last value. Where it is refused, the state stands anywhere.
-fn read_map<K: DeJson + Key + Hash, V: DeJson>(
+fn read_hash_map<K: DeJson + Key + Hash, V: DeJson>(
     alloc: Global,
     state: &mut DeJsonState,
     input: &mut Chars<'_>,
 ) -> Result<HashMap<K, V>, DeJsonErr>
-    ensures fits { IfOk result (λ entries. Spans Cut (SpellsMap K.spelling.spelled V.spelling.spelled) (at state.old input.old) (at state.new input.new) (table_means (table_of K.means V.means entries.entries))) }
-    ensures refused { IfErr result (λ e. e.memory ≡ false → NothingFits (SpellsMap K.spelling.spelled V.spelling.spelled) (at state.old input.old)) }
-    ensures memory { IfErr result (λ e. e.memory ≡ true → string_bytes e.msg ≡ []) }
+    ensures fits { Reads (SpellsMap K.json.spelling.spelled V.json.spelling.spelled)
+        (λ entries. table_means (table_of K.means V.means entries.entries))
+        (at state.old input.old) (at state.new input.new) result }
+    ensures refused { Refuses (SpellsMap K.json.spelling.spelled V.json.spelling.spelled)
+        (at state.old input.old) result }
 {
     // A text has fewer than 2^63 bytes, so a `usize` counts its entries.
     let _room = bytes_left(input);
@@ -60,9 +63,10 @@ fn read_entry<K: DeJson, V: DeJson>(
     state: &mut DeJsonState,
     input: &mut Chars<'_>,
 ) -> Result<(K, V), DeJsonErr>
-    ensures fits { IfOk result (λ entry. Spans Cut (SpellsEntry K.spelling.spelled V.spelling.spelled) (at state.old input.old) (at state.new input.new) (K.means entry.0, V.means entry.1)) }
-    ensures refused { IfErr result (λ e. e.memory ≡ false → NothingFits (SpellsEntry K.spelling.spelled V.spelling.spelled) (at state.old input.old)) }
-    ensures memory { IfErr result (λ e. e.memory ≡ true → string_bytes e.msg ≡ []) }
+    ensures fits { Reads (SpellsEntry K.json.spelling.spelled V.json.spelling.spelled)
+        (pair_map K.means V.means) (at state.old input.old) (at state.new input.new) result }
+    ensures refused { Refuses (SpellsEntry K.json.spelling.spelled V.json.spelling.spelled)
+        (at state.old input.old) result }
 {
     let key = K::de_json(alloc, state, input)?;
     state.colon(alloc, input)?;
@@ -71,22 +75,13 @@ fn read_entry<K: DeJson, V: DeJson>(
 }
 
 impl<K: DeJson + Key + Hash, V: DeJson> DeJson for HashMap<K, V> {
-    ghost spelling = { map_of K.spelling V.spelling };
-
-    ghost spells_legal = { map_weaker K.spelling.legal K.legal V.spelling.legal V.legal K.spells_legal V.spells_legal };
-
     fn de_json(
         alloc: Global,
         state: &mut DeJsonState,
         input: &mut Chars<'_>,
     ) -> Result<HashMap<K, V>, DeJsonErr> {
-        match read_map(alloc, state, input) {
-            Ok(entries) => Ok(entries),
-            Err(error) => {
-                state.fail();
-                Err(error)
-            }
-        }
+        let read = read_hash_map(alloc, state, input);
+        end_if_refused(state, read)
     }
 }
 
@@ -100,8 +95,9 @@ fn append_entry<K: SerJson, V: SerJson>(
     d: usize,
     s: &mut SerJsonState,
 ) -> Result<(), AllocError>
-    ensures ok { OnOk result (string_bytes s.new.out ≡ string_bytes s.old.out ++ encode_utf8_all (in_list 44 first (written_entry (K.writing.text d) (V.writing.text d) (key.now, value.now)))) }
-    ensures err { OnErr result ((more : List ℕ) × (string_bytes s.new.out ≡ string_bytes s.old.out ++ more)) }
+    ensures ok { OnOk result (Appends s.old.out s.new.out (in_list first
+        (written_entry (K.json.writing.text d) (V.json.writing.text d) (key.now, value.now)))) }
+    ensures err { OnErr result (AppendsPart s.old.out s.new.out) }
 {
     append_item(alloc, key, first, d, s)?;
     s.out.push(':')?;
@@ -109,14 +105,15 @@ fn append_entry<K: SerJson, V: SerJson>(
 }
 
 /// Appends entries between curly brackets. A refused growth leaves what was written so far.
-fn append_map<K: SerJson, V: SerJson>(
+fn append_hash_map<K: SerJson, V: SerJson>(
     alloc: Global,
     entries: &[(&K, &V)],
     d: usize,
     s: &mut SerJsonState,
 ) -> Result<(), AllocError>
-    ensures ok { OnOk result (string_bytes s.new.out ≡ string_bytes s.old.out ++ encode_utf8_all (written_entries (K.writing.text d) (V.writing.text d) (map deref_pair entries.now))) }
-    ensures err { OnErr result ((more : List ℕ) × (string_bytes s.new.out ≡ string_bytes s.old.out ++ more)) }
+    ensures ok { OnOk result (Appends s.old.out s.new.out (written_entries
+        (K.json.writing.text d) (V.json.writing.text d) (map deref_pair entries.now))) }
+    ensures err { OnErr result (AppendsPart s.old.out s.new.out) }
 {
     s.out.push('{')?;
     let mut first = true;
@@ -127,35 +124,13 @@ fn append_map<K: SerJson, V: SerJson>(
     s.out.push('}')
 }
 
-impl<K: SerJson + Key + Hash + Ord, V: SerJson> SerJson for HashMap<K, V> {
-    ghost writing = { writing_as (λ x. x.entries) (map_writing K.cmp K.writing V.writing) };
-
-    ghost writes_meaning = { λ i x. table_means (table_of (K.writes_meaning i) (V.writes_meaning i) x.entries) };
-
-    ghost writes_legal = { map_weaker K.legal K.writing.legal V.legal V.writing.legal K.writes_legal V.writes_legal };
-
-    ghost orders_keys = { (key_order K.cmp K.eq K.means K.writing.means K.total K.matches_eq K.exact K.writes_meaning, K.orders_keys, V.orders_keys) };
-
+impl<K: SerJson + OrderedKey + Hash, V: SerJson> SerJson for HashMap<K, V> {
     fn ser_json(&self, alloc: Global, d: usize, s: &mut SerJsonState) -> Result<(), AllocError> {
         let start = s.out.len();
         let entries = entries_in_order(alloc, self)?;
-        let written = append_map(alloc, &entries, d.saturating_add(1), s);
+        let written = append_hash_map(alloc, &entries, d.saturating_add(1), s);
         keep_written(&mut s.out, start, written)
     }
 }
 
-impl<K: BothJson + Key + Hash + Ord, V: BothJson> BothJson for HashMap<K, V> {
-    ghost format = { format_as (λ x. x.entries) (map_format K.cmp K.format V.format) };
-
-    ghost format_means = { λ i x. table_means (table_of (K.format_means i) (V.format_means i) x.entries) };
-
-    ghost format_tokens = { λ i x. entries_tokens (K.format_tokens i) (V.format_tokens i) (ascending K.cmp x.entries) };
-
-    ghost format_orders = { λ _. (key_order K.cmp K.eq K.means K.format.writing.means K.total K.matches_eq K.exact K.format_means, K.format_orders K.orders_keys, V.format_orders V.orders_keys) };
-
-    ghost format_legal = { map_weaker K.legal K.format.spelling.legal V.legal V.format.spelling.legal K.format_legal V.format_legal };
-
-    ghost format_spells = { map_spells K.format.spelling.spelled K.spelling.spelled V.format.spelling.spelled V.spelling.spelled K.format_spells V.format_spells };
-
-    ghost spells_format = { map_spells K.spelling.spelled K.format.spelling.spelled V.spelling.spelled V.format.spelling.spelled K.spells_format V.spells_format };
-}
+impl<K: BothJson + OrderedKey + Hash, V: BothJson> BothJson for HashMap<K, V> {}

@@ -1,43 +1,43 @@
-// Hash sets: items between square brackets. They are written in order.
-ghost use Rattle.std.specs.Prelude.{◌≡◌, [], true, false, IfOk, IfErr, string_bytes, ◌++◌, ℕ, List, OnOk, OnErr, encode_utf8_all, map};
-ghost use Rattle.nano_value.specs.Sets.{item_set, set_means, set_weaker};
-ghost use Rattle.nano_text.specs.Tokens.{Spans};
-ghost use Rattle.nano_json.specs.Cut.{Cut};
-ghost use Rattle.nano_json.specs.State.{at};
-ghost use Rattle.nano_json.specs.Spelling.{NothingFits};
-ghost use Rattle.nano_json.specs.Sets.{SpellsSet, set_of};
+// Sets: items between square brackets, read in any order. They are written in order.
 ghost use Rattle.std.specs.Map.Iter.{deref};
-ghost use Rattle.std.proofs.Common.{ap};
-ghost use Rattle.nano_value.specs.Ascending.{key_order};
-ghost use Rattle.nano_json.specs.Written.{list_tokens, written_list};
-ghost use Rattle.nano_json.specs.Writing.{writing_as};
-ghost use Rattle.nano_json.specs.MapWriting.{set_writing};
+ghost use Rattle.std.specs.Prelude.{OnOk, OnErr, map};
+ghost use Rattle.nano_value.specs.OrderedSets.{ordered_means};
+ghost use Rattle.nano_value.specs.Sets.{item_set, set_means};
+ghost use Rattle.nano_value.specs.Ties.{seen_ties, set_ties, ordered_ties};
 ghost use Rattle.nano_json.specs.Format.{format_as};
-ghost use Rattle.nano_json.specs.MapFormat.{set_format};
-ghost use Rattle.nano_value.specs.InOrder.{ascending_items};
-ghost use Rattle.nano_json.specs.Weaker.{set_spells};
+ghost use Rattle.nano_json.specs.Lists.{written_list};
+ghost use Rattle.nano_text.specs.Outcomes.{Appends, AppendsPart};
+ghost use Rattle.nano_json.specs.Readers.{Reads, Refuses};
+ghost use Rattle.nano_json.specs.Sets.{SpellsSet, set_format, ordered_format};
+ghost use Rattle.nano_json.specs.State.{at};
 
-use crate::error::DeJsonErr;
-use crate::helpers::bytes_left;
-use crate::items::append_item;
-use crate::state::DeJsonState;
-use crate::traits::{BothJson, DeJson, SerJson};
-use crate::write_state::{SerJsonState, keep_written};
-use nano_value::{Key, items_in_order};
+use crate::lists::append_item;
+use crate::traits::{BothJson, DeJson, JsonFormat, SerJson};
+use crate::undo::end_if_refused;
+use json_tokens::{DeJsonErr, DeJsonState, SerJsonState, bytes_left};
+use nano_text::keep_written;
+use nano_value::{Key, OrderedKey, items_in_order};
 use std::alloc::{AllocError, Global};
-use std::collections::HashSet;
+use std::collections::{BTreeSet, HashSet};
 use std::hash::Hash;
 use std::str::Chars;
 
+impl<T: JsonFormat + Key + Hash> JsonFormat for HashSet<T> {
+    ghost json = { format_as (λ x. x.keys) (set_format T.order T.json) };
+
+    ghost ties = { seen_ties (set_ties T.ties) (λ x. x.keys) };
+}
+
 /// Reads items between square brackets into a set. Where it is refused, the state stands anywhere.
-fn read_set<T: DeJson + Key + Hash>(
+fn read_hash_set<T: DeJson + Key + Hash>(
     alloc: Global,
     state: &mut DeJsonState,
     input: &mut Chars<'_>,
 ) -> Result<HashSet<T>, DeJsonErr>
-    ensures fits { IfOk result (λ items. Spans Cut (SpellsSet T.spelling.spelled) (at state.old input.old) (at state.new input.new) (set_means (item_set T.means items.keys))) }
-    ensures refused { IfErr result (λ e. e.memory ≡ false → NothingFits (SpellsSet T.spelling.spelled) (at state.old input.old)) }
-    ensures memory { IfErr result (λ e. e.memory ≡ true → string_bytes e.msg ≡ []) }
+    ensures fits { Reads (SpellsSet T.json.spelling.spelled)
+        (λ items. set_means (item_set T.means items.keys))
+        (at state.old input.old) (at state.new input.new) result }
+    ensures refused { Refuses (SpellsSet T.json.spelling.spelled) (at state.old input.old) result }
 {
     // A text has fewer than 2^63 bytes, so a `usize` counts its items.
     let _room = bytes_left(input);
@@ -55,34 +55,26 @@ fn read_set<T: DeJson + Key + Hash>(
 }
 
 impl<T: DeJson + Key + Hash> DeJson for HashSet<T> {
-    ghost spelling = { set_of T.spelling };
-
-    ghost spells_legal = { set_weaker T.spelling.legal T.legal T.spells_legal };
-
     fn de_json(
         alloc: Global,
         state: &mut DeJsonState,
         input: &mut Chars<'_>,
     ) -> Result<HashSet<T>, DeJsonErr> {
-        match read_set(alloc, state, input) {
-            Ok(items) => Ok(items),
-            Err(error) => {
-                state.fail();
-                Err(error)
-            }
-        }
+        let read = read_hash_set(alloc, state, input);
+        end_if_refused(state, read)
     }
 }
 
 /// Appends items between square brackets. A refused growth leaves what was written so far.
-fn append_set<T: SerJson>(
+fn append_hash_set<T: SerJson>(
     alloc: Global,
     items: &[&T],
     d: usize,
     s: &mut SerJsonState,
 ) -> Result<(), AllocError>
-    ensures ok { OnOk result (string_bytes s.new.out ≡ string_bytes s.old.out ++ encode_utf8_all (written_list (T.writing.text d) (map deref items.now))) }
-    ensures err { OnErr result ((more : List ℕ) × (string_bytes s.new.out ≡ string_bytes s.old.out ++ more)) }
+    ensures ok { OnOk result
+        (Appends s.old.out s.new.out (written_list (T.json.writing.text d) (map deref items.now))) }
+    ensures err { OnErr result (AppendsPart s.old.out s.new.out) }
 {
     s.out.push('[')?;
     let mut first = true;
@@ -93,35 +85,87 @@ fn append_set<T: SerJson>(
     s.out.push(']')
 }
 
-impl<T: SerJson + Key + Hash + Ord> SerJson for HashSet<T> {
-    ghost writing = { writing_as (λ x. x.keys) (set_writing T.cmp T.writing) };
-
-    ghost writes_meaning = { λ i x. set_means (item_set (T.writes_meaning i) x.keys) };
-
-    ghost writes_legal = { set_weaker T.legal T.writing.legal T.writes_legal };
-
-    ghost orders_keys = { (key_order T.cmp T.eq T.means T.writing.means T.total T.matches_eq T.exact T.writes_meaning, T.orders_keys) };
-
+impl<T: SerJson + OrderedKey + Hash> SerJson for HashSet<T> {
     fn ser_json(&self, alloc: Global, d: usize, s: &mut SerJsonState) -> Result<(), AllocError> {
         let start = s.out.len();
         let items = items_in_order(alloc, self)?;
-        let written = append_set(alloc, &items, d.saturating_add(1), s);
+        let written = append_hash_set(alloc, &items, d.saturating_add(1), s);
         keep_written(&mut s.out, start, written)
     }
 }
 
-impl<T: BothJson + Key + Hash + Ord> BothJson for HashSet<T> {
-    ghost format = { format_as (λ x. x.keys) (set_format T.cmp T.format) };
+impl<T: BothJson + OrderedKey + Hash> BothJson for HashSet<T> {}
 
-    ghost format_means = { λ i x. set_means (item_set (T.format_means i) x.keys) };
+impl<T: JsonFormat + Key + Ord> JsonFormat for BTreeSet<T> {
+    ghost json = { format_as (λ x. x.keys) (ordered_format T.order T.cmp T.json) };
 
-    ghost format_tokens = { λ i x. list_tokens (T.format_tokens i) (ascending_items T.cmp x.keys) };
-
-    ghost format_orders = { λ _. (key_order T.cmp T.eq T.means T.format.writing.means T.total T.matches_eq T.exact T.format_means, T.format_orders T.orders_keys) };
-
-    ghost format_legal = { set_weaker T.legal T.format.spelling.legal T.format_legal };
-
-    ghost format_spells = { set_spells T.format.spelling.spelled T.spelling.spelled T.format_spells };
-
-    ghost spells_format = { set_spells T.spelling.spelled T.format.spelling.spelled T.spells_format };
+    ghost ties = { seen_ties (ordered_ties T.ties T.cmp) (λ x. x.keys) };
 }
+
+/// Reads items between square brackets into a set. Where it is refused, the state stands anywhere.
+fn read_btree_set<T: DeJson + Key + Ord>(
+    alloc: Global,
+    state: &mut DeJsonState,
+    input: &mut Chars<'_>,
+) -> Result<BTreeSet<T>, DeJsonErr>
+    ensures fits { Reads (SpellsSet T.json.spelling.spelled)
+        (λ items. ordered_means T.cmp T.means items.keys)
+        (at state.old input.old) (at state.new input.new) result }
+    ensures refused { Refuses (SpellsSet T.json.spelling.spelled) (at state.old input.old) result }
+{
+    // A text has fewer than 2^63 bytes, so a `usize` counts its items.
+    let _room = bytes_left(input);
+    let mut items = BTreeSet::new(alloc);
+    state.block_open(alloc, input)?;
+    'items: while !state.is_block_close() {
+        let item = T::de_json(alloc, state, input)?;
+        let Ok(_added) = items.insert(item) else {
+            return Err(state.err_memory(alloc));
+        };
+        state.eat_comma_block(alloc, input)?;
+    }
+    state.block_close(alloc, input)?;
+    Ok(items)
+}
+
+impl<T: DeJson + Key + Ord> DeJson for BTreeSet<T> {
+    fn de_json(
+        alloc: Global,
+        state: &mut DeJsonState,
+        input: &mut Chars<'_>,
+    ) -> Result<BTreeSet<T>, DeJsonErr> {
+        let read = read_btree_set(alloc, state, input);
+        end_if_refused(state, read)
+    }
+}
+
+/// Appends items between square brackets. A refused growth leaves what was written so far.
+fn append_btree_set<T: SerJson + Ord>(
+    alloc: Global,
+    items: &BTreeSet<T>,
+    d: usize,
+    s: &mut SerJsonState,
+) -> Result<(), AllocError>
+    ensures ok { OnOk result
+        (Appends s.old.out s.new.out (written_list (T.json.writing.text d) items.now.keys)) }
+    ensures err { OnErr result (AppendsPart s.old.out s.new.out) }
+{
+    s.out.push('[')?;
+    let mut first = true;
+    for item in items {
+        append_item(alloc, item, first, d, s)?;
+        first = false;
+    }
+    s.out.push(']')
+}
+
+impl<T: SerJson + OrderedKey> SerJson for BTreeSet<T> {
+    fn ser_json(&self, alloc: Global, d: usize, s: &mut SerJsonState) -> Result<(), AllocError> {
+        let start = s.out.len();
+        let _count = self.len();
+        let written = append_btree_set(alloc, self, d.saturating_add(1), s);
+        keep_written(&mut s.out, start, written)
+    }
+}
+
+impl<T: BothJson + OrderedKey> BothJson for BTreeSet<T> {}

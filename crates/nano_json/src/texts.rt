@@ -1,81 +1,68 @@
 // Texts: a string.
-ghost use Rattle.std.specs.Prelude.{refl, string_bytes};
-ghost use Rattle.nano_json.specs.SpellingLaws.{texts};
-ghost use Rattle.nano_json.specs.Writing.{text_writing, writing_as};
-ghost use Rattle.nano_json.specs.Format.{text_format, format_as};
+ghost use Rattle.std.specs.Prelude.{string_bytes};
+ghost use Rattle.nano_value.specs.Meaning.{text};
+ghost use Rattle.nano_value.specs.Ties.{tied};
+ghost use Rattle.nano_json.specs.Format.{format_as};
+ghost use Rattle.nano_json.specs.Readers.{Reads, Refuses};
+ghost use Rattle.nano_json.specs.Texts.{texts, text_format};
+ghost use Rattle.nano_json.specs.State.{at};
 
-use crate::error::DeJsonErr;
-use crate::state::DeJsonState;
-use crate::strings::append_string;
-use crate::traits::{BothJson, DeJson, SerJson};
-use crate::write_state::SerJsonState;
+use crate::traits::{BothJson, DeJson, JsonFormat, SerJson};
+use crate::undo::end_if_refused;
+use json_tokens::{DeJsonErr, DeJsonState, SerJsonState, append_string};
 use std::alloc::{AllocError, Global};
 use std::str::Chars;
 
+impl JsonFormat for String {
+    ghost json = { format_as (λ x. string_bytes x) text_format };
+
+    ghost ties = { tied };
+}
+
 impl SerJson for String {
-    ghost writing = { writing_as (λ x. string_bytes x) text_writing };
-
-    ghost writes_meaning = { refl };
-
-    ghost writes_legal = { λ m h. h };
-
-    ghost orders_keys = { tt };
-
     fn ser_json(&self, _alloc: Global, _d: usize, s: &mut SerJsonState) -> Result<(), AllocError> {
         append_string(&mut s.out, self.as_str())
     }
 }
 
-impl SerJson for &str {
-    ghost writing = { writing_as (λ x. x.now) text_writing };
-
-    ghost writes_meaning = { refl };
-
-    ghost writes_legal = { λ m h. h };
-
-    ghost orders_keys = { tt };
-
-    fn ser_json(&self, _alloc: Global, _d: usize, s: &mut SerJsonState) -> Result<(), AllocError> {
-        append_string(&mut s.out, self)
-    }
+/// Reads a string. Where it is refused, the state stands anywhere.
+#[inline(always)]
+fn read_string(
+    alloc: Global,
+    state: &mut DeJsonState,
+    input: &mut Chars<'_>,
+) -> Result<String, DeJsonErr>
+    ensures fits { Reads texts.spelled (λ x. text (string_bytes x))
+        (at state.old input.old) (at state.new input.new) result }
+    ensures refused { Refuses texts.spelled (at state.old input.old) result }
+{
+    let text = state.as_string(alloc)?;
+    state.next_tok(alloc, input)?;
+    let _length = text.len();
+    Ok(text)
 }
 
 impl DeJson for String {
-    ghost spelling = { texts };
-
-    ghost spells_legal = { λ m h. h };
-
     fn de_json(
         alloc: Global,
         state: &mut DeJsonState,
         input: &mut Chars<'_>,
     ) -> Result<String, DeJsonErr> {
-        match state.as_string(alloc) {
-            Ok(text) => {
-                state.next_tok(alloc, input)?;
-                let _length = text.len();
-                Ok(text)
-            }
-            Err(error) => {
-                state.fail();
-                Err(error)
-            }
-        }
+        let read = read_string(alloc, state, input);
+        end_if_refused(state, read)
     }
 }
 
-impl BothJson for String {
-    ghost format = { format_as (λ x. string_bytes x) text_format };
+impl BothJson for String {}
 
-    ghost format_means = { refl };
+impl JsonFormat for &str {
+    ghost json = { format_as (λ x. x.now) text_format };
 
-    ghost format_tokens = { refl };
+    ghost ties = { tied };
+}
 
-    ghost format_orders = { λ h. h };
-
-    ghost format_legal = { λ m h. h };
-
-    ghost format_spells = { λ ts m h. h };
-
-    ghost spells_format = { λ ts m h. h };
+impl SerJson for &str {
+    fn ser_json(&self, _alloc: Global, _d: usize, s: &mut SerJsonState) -> Result<(), AllocError> {
+        append_string(&mut s.out, self)
+    }
 }

@@ -2,7 +2,9 @@
 use Rattle.std.specs.Prelude.{◌≡◌, ℕ, List, ◌++◌, Option, Some, IfSome}
 use Rattle.std.specs.Io.KnownBytes.{Appends}
 use Rattle.nano_bin.specs.LittleEndian.{little_endian}
-use Rattle.nano_bin.specs.Writing.{written_list, written_option, written_text}
+use Rattle.nano_bin.specs.Lists.{written_list}
+use Rattle.nano_bin.specs.Options.{written_option}
+use Rattle.nano_bin.specs.Texts.{written_text}
 use Rattle.nano_show.specs.Requests.{Request, code_of_u16s, code_of_text, AskFor}
 use Rattle.nano_show.specs.Pairs.{hex_pairs, line}
 

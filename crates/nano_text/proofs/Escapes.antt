@@ -15,6 +15,15 @@ pub IfSome-from_SomeIff : (r : Option ℕ) (P : Type 0) (v : ℕ) (Q : ℕ → T
 IfSome-from_SomeIff None P v Q h q = tt
 IfSome-from_SomeIff (Some x) P v Q h q = subst Q (sym h.1) q
 
+-- what holds anyway, and what follows
+pub some_anyway : (r : Option ℕ) (P : Type 0) → P → IfSome r (λ _. P)
+some_anyway None P h = tt
+some_anyway (Some x) P h = h
+
+pub some_follows : (r : Option ℕ) (P Q : Type 0) → (P → Q) → IfSome r (λ _. P) → IfSome r (λ _. Q)
+some_follows None P Q f h = tt
+some_follows (Some x) P Q f h = f h
+
 unit_same : (u v : CodeUnit) → u.a ≡ v.a → u.b ≡ v.b → u.c ≡ v.c → u.d ≡ v.d → u ≡ v
 unit_same u v a b c d =
     ap (λ (x : ℕ). record { a = x; b = u.b; c = u.c; d = u.d }) a ∙ (ap (λ (x : ℕ). record { a = v.a; b = x; c = u.c; d = u.d }) b

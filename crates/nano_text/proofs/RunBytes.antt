@@ -10,7 +10,7 @@ use Rattle.std.specs.Str.{IsCharBoundary, all_ascii_digits}
 use Rattle.std.specs.Str.Iter.{chars_rest}
 use Rattle.std.specs.declared.str.Chars.{Chars}
 use Rattle.std.proofs.lemmas.Bool.{and_parts}
-use Rattle.nano_text.specs.declared.number.ExponentLen.{ExponentLen}
+use Rattle.nano_text.specs.declared.run.ExponentLen.{ExponentLen}
 use Rattle.nano_text.specs.declared.number.Number.TheVariants.{Dec}
 use Rattle.nano_text.specs.Number.{IsNumber, is_minus, Run, Exponent, IsRun, is_sign, is_letter_e, sign_text, fraction_text, exponent_text, run_text}
 use Rattle.nano_text.specs.Place.{live, before_nul}
@@ -19,7 +19,7 @@ use Rattle.nano_text.proofs.LiveText.{live-first, live-tail, live_fewer}
 use Rattle.nano_text.proofs.Numbers.{decimal_length, decimal_yes, number_at}
 use Rattle.nano_text.proofs.Runs.{run_split, run_is_run}
 use Rattle.nano_text.specs.Each.{all_append}
-use Rattle.nano_text.proofs.Digits.{digit_ascii}
+use Rattle.nano_text.proofs.DigitValues.{digit_ascii}
 
 -- ---- a run is ASCII
 

@@ -1,15 +1,20 @@
 -- Taking the longest front of the live text that passes a test: the current character, and a front of the bytes behind it.
-use Rattle.std.proofs.Common.{◌≡◌, ◌≢◌, ℕ, ◌<◌, ◌≤◌, List, ◌∷◌, ◌++◌, Bool, true, false, drop, take, length, length-append, chars, encode_utf8, encode_utf8_all, IsUtf8, refl, ap, sym, ◌∙◌, subst, ne_eqb, arith}
+use Rattle.std.proofs.Common.{◌≡◌, ◌≢◌, ℕ, ◌+◌, ◌-◌, ◌^◌, ◌<◌, ◌≤◌, min, List, ◌∷◌, ◌++◌, Bool, true, false, drop, take, length, length-append, chars, encode_utf8, encode_utf8_all, IsUtf8, refl, ap, sym, ◌∙◌, subst, ne_eqb, arith}
 use Rattle.std.proofs.Math.Seq.{drop-append_seam}
-use Rattle.std.proofs.lemmas.List.{take_at}
+use Rattle.std.proofs.lemmas.List.{take_at, take-append-drop}
+use Rattle.std.proofs.lemmas.Str.{IsUtf8-take, chars-append}
+use Rattle.std.specs.List.{AllByRecursion}
 use Rattle.std.proofs.lemmas.Bool.Decides.{nat_tests}
 use Rattle.std.specs.Char.{is_ascii_digit}
 use Rattle.std.specs.Str.{IsCharBoundary}
 use Rattle.std.specs.Str.Iter.{chars_rest}
 use Rattle.std.specs.declared.str.Chars.{Chars}
 use Rattle.nano_text.specs.Front.{front, behind}
-use Rattle.nano_text.specs.Place.{held, live, before_nul}
+use Rattle.nano_text.specs.declared.place.Place.{Place}
+use Rattle.nano_text.specs.Place.{held, live, before_nul, passed, IsInLine, Passes}
+use Rattle.nano_text.specs.PlaceLaws.{passes_append}
 use Rattle.nano_text.specs.String.{is_plain}
+use Rattle.nano_text.proofs.InLine.{in_line_line, in_line_col, front_in_line}
 use Rattle.nano_text.proofs.LiveText.{live_more}
 use Rattle.nano_text.proofs.Utf8Fronts.{CutBehindFront, cut_wide, cut_narrow, front-append-behind, front-before_nul, behind-before_nul}
 
@@ -54,6 +59,41 @@ module _ (test : ℕ → Bool) (stops : test 0 ≡ false) (cut : (bytes : List �
   behind_shorter cur before passes =
       omega (arith, ap length (front-append-behind test (live cur before)), length-append (front test (live cur before)) (behind test (live cur before)), ap length (front-live cur before passes))
 
+  -- that front of the bytes, and what is behind it, as characters
+  utf8_front : (text : List ℕ) → IsUtf8 text → IsUtf8 (front test text)
+  utf8_front text utf8 =
+      subst IsUtf8 (take_front text) (IsUtf8-take text (length (front test text)) utf8 (cut text utf8).boundary)
+
+  -- what passes that front and goes on behind it
+  pub passes_front : (p q r : Place) (n : ℕ) (before after : Chars) (text last : List ℕ) → IsUtf8 text
+      → text ≡ chars_rest before → n ≡ length (front test text) → chars_rest after ≡ drop n text
+      → q.line ≡ (passed p (chars (take n text))).line → q.col ≡ (passed p (chars (take n text))).col
+      → Passes q (held after) r last → Passes p (held before) r last
+  passes_front p q r n before after text last utf8 is count left line col goes_on =
+      let taken : take n text ≡ front test text = ap (λ (k : ℕ). take k text) count ∙ take_front text in
+      let run : IsUtf8 (take n text) = subst IsUtf8 (sym taken) (utf8_front text utf8) in
+      passes_append {p = p} {between = held after} (record {
+        taken = chars (take n text);
+        split = ap chars (sym is ∙ sym (take-append-drop n text))
+            ∙ (chars-append (take n text) (drop n text) run ∙ ap (λ (bs : List ℕ). chars (take n text) ++ chars bs) (sym left));
+        line = line;
+        col = col;
+      }) goes_on
+
+  -- the same where that front is in a line
+  pub passes_in_line : (p q r : Place) (n : ℕ) (before after : Chars) (text last : List ℕ) → IsUtf8 text
+      → text ≡ chars_rest before → n ≡ length (front test text) → chars_rest after ≡ drop n text
+      → AllByRecursion IsInLine (front test text) → p.col < 2 ^ 64
+      → q.line ≡ p.line → q.col ≡ min (p.col + n) (2 ^ 64 - 1)
+      → Passes q (held after) r last → Passes p (held before) r last
+  passes_in_line p q r n before after text last utf8 is count left in_line small line col goes_on =
+      let taken : take n text ≡ front test text = ap (λ (k : ℕ). take k text) count ∙ take_front text in
+      let run = utf8_front text utf8 in
+      passes_front p q r n before after text last utf8 is count left
+      (line ∙ sym (ap (λ (bs : List ℕ). (passed p (chars bs)).line) taken ∙ in_line_line p (front test text) run in_line))
+      (col ∙ (ap (λ (k : ℕ). min (p.col + k) (2 ^ 64 - 1)) count
+      ∙ sym (ap (λ (bs : List ℕ). (passed p (chars bs)).col) taken ∙ in_line_col p (front test text) run in_line small))) goes_on
+
 -- characters that stand for themselves in a string, which all beyond ASCII do
 plain_wide : (n : ℕ) → 128 ≤ n → is_plain n ≡ true
 plain_wide n h = rw (ne_eqb n 34 (λ e. omega arith), ne_eqb n 92 (λ e. omega arith), ne_eqb n 0 (λ e. omega arith)) refl
@@ -67,3 +107,9 @@ digit_narrow n h = grind (arith, nat_tests)
 
 pub digits_cut : (bytes : List ℕ) → IsUtf8 bytes → CutBehindFront is_ascii_digit bytes
 digits_cut bytes utf8 = cut_narrow is_ascii_digit digit_narrow bytes utf8
+
+-- and each digit is in a line
+pub digits_in_line : (bytes : List ℕ) → AllByRecursion IsInLine (front is_ascii_digit bytes)
+digits_in_line bytes = front_in_line is_ascii_digit in_line bytes where
+  in_line : (b : ℕ) → is_ascii_digit b ≡ true → IsInLine b
+  in_line b h = (grind (arith, nat_tests), grind (arith, nat_tests))

@@ -23,7 +23,7 @@ behind_passing test [] ys h = refl
 behind_passing test (x ∷ xs) ys h = rw h.0 (behind_passing test xs ys h.1)
 
 -- what holds of each of three lists holds of the one that two tests choose
-of_each : (P : List ℕ → Type 0) (a b : Bool) (xs ys zs : List ℕ) → P xs → P ys → P zs → P (cond a xs (cond b ys zs))
+pub of_each : (P : List ℕ → Type 0) (a b : Bool) (xs ys zs : List ℕ) → P xs → P ys → P zs → P (cond a xs (cond b ys zs))
 of_each P true b xs ys zs p q r = p
 of_each P false true xs ys zs p q r = q
 of_each P false false xs ys zs p q r = r

@@ -6,8 +6,12 @@ use Rattle.nano_text.specs.declared.number.Number.{Number}
 
 -- a text begins with one number lexeme, at most
 abbrev pub BeginsWithOneNumber : Type 0
-BeginsWithOneNumber = (text : List ℕ) (number other : Number) (run ran rest left : List ℕ) → IsNumber text number run rest → IsNumber text other ran left → (number ≡ other) × (run ≡ ran) × (rest ≡ left)
+BeginsWithOneNumber = (text : List ℕ) (number other : Number) (run ran rest left : List ℕ)
+    → IsNumber text number run rest → IsNumber text other ran left
+    → (number ≡ other) × (run ≡ ran) × (rest ≡ left)
 
 -- a text begins with one string lexeme, at most
 abbrev pub BeginsWithOneString : Type 0
-BeginsWithOneString = (text characters others rest left : List ℕ) → IsString text characters rest → IsString text others left → (characters ≡ others) × (rest ≡ left)
+BeginsWithOneString = (text characters others rest left : List ℕ)
+    → IsString text characters rest → IsString text others left
+    → (characters ≡ others) × (rest ≡ left)

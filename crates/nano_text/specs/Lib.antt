@@ -1,13 +1,10 @@
 pub mod Each
 pub mod Front
+pub mod KeptWriting
 pub mod Laws
-pub mod ListLaws
-pub mod Lists
 pub mod Number
-pub mod PartLaws
-pub mod Parts
+pub mod Outcomes
 pub mod Place
+pub mod PlaceLaws
 pub mod Scan
 pub mod String
-pub mod Tokens
-pub mod Written

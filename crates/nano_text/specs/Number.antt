@@ -1,5 +1,7 @@
--- Number lexemes: the parts of a run, which runs are good, which number each is, and what may not follow it.
-use Rattle.std.specs.Prelude.{◌≡◌, ℕ, ◌^◌, ◌<◌, ◌≤◌, ◌==◌, ◌||◌, Bool, true, false, cond, List, [], ◌∷◌, ◌++◌, length, pos, neg_ℤ, Option, Some, None, IfSome}
+-- Number lexemes: the parts of a run, which runs are good, which number each is, and what may not
+-- follow it.
+use Rattle.std.specs.Prelude.{◌≡◌, ℕ, ◌^◌, ◌<◌, ◌≤◌, ◌==◌, ◌||◌, Bool, true, false, cond, List, []}
+use Rattle.std.specs.Prelude.{◌∷◌, ◌++◌, length, pos, neg_ℤ, Option, Some, None, IfSome}
 use Rattle.std.specs.Char.{is_ascii_digit}
 use Rattle.std.specs.Str.{all_ascii_digits}
 use Rattle.std.specs.Str.Parse.{digits_value}
@@ -13,7 +15,8 @@ pub record Exponent : Type 0 where
   pub minus : Bool
   pub digits : List ℕ
 
--- the parts of a run: the character of its sign, its digits, those behind its point, and its exponent
+-- the parts of a run: the character of its sign, its digits, those behind its point, and its
+-- exponent
 pub record Run : Type 0 where
   pub sign : Option ℕ
   pub whole : List ℕ
@@ -66,16 +69,20 @@ is_minus (Some c) = c == 45
 
 -- an integer has a digit and is in range; a decimal has a digit before its exponent, and one in it
 abbrev pub AreGoodParts : Bool → List ℕ → Option (List ℕ) → Option Exponent → Type 0
-AreGoodParts minus whole None None = (0 < length whole) × (cond minus (digits_value 10 whole ≤ 2 ^ 63) (digits_value 10 whole < 2 ^ 64))
+AreGoodParts minus whole None None =
+    (0 < length whole)
+    × (cond minus (digits_value 10 whole ≤ 2 ^ 63) (digits_value 10 whole < 2 ^ 64))
 AreGoodParts minus whole (Some ds) None = 0 < length (whole ++ ds)
-AreGoodParts minus whole fraction (Some e) = (0 < length (whole ++ fraction_digits fraction)) × (0 < length e.digits)
+AreGoodParts minus whole fraction (Some e) =
+    (0 < length (whole ++ fraction_digits fraction)) × (0 < length e.digits)
 
 abbrev pub IsGood : Run → Type 0
 IsGood r = AreGoodParts (is_minus r.sign) r.whole r.fraction r.exponent
 
 -- an integer with a minus is an `I64`, another a `U64`; a point or an exponent makes a decimal
 abbrev pub number_from_parts : Bool → List ℕ → Option (List ℕ) → Option Exponent → Number
-number_from_parts minus whole None None = cond minus (I64 (neg_ℤ (pos (digits_value 10 whole)))) (U64 (digits_value 10 whole))
+number_from_parts minus whole None None =
+    cond minus (I64 (neg_ℤ (pos (digits_value 10 whole)))) (U64 (digits_value 10 whole))
 number_from_parts minus whole (Some ds) None = Dec
 number_from_parts minus whole fraction (Some e) = Dec
 

@@ -1,5 +1,7 @@
 -- The place in a text, and the text that is still to be read.
-use Rattle.std.specs.Prelude.{ℕ, ◌+◌, ◌-◌, ◌==◌, List, [], ◌∷◌, chars, if◌then◌else◌, min, ◌^◌}
+use Rattle.std.specs.Prelude.{◌≡◌, ℕ, ◌+◌, ◌-◌, ◌==◌, ◌<◌, ◌≤◌, List, [], ◌∷◌, ◌++◌, Bool, ◌||◌}
+use Rattle.std.specs.Prelude.{nat_lt, nat_le, chars}
+use Rattle.std.specs.Prelude.{if◌then◌else◌, min, ◌^◌}
 use Rattle.std.specs.Str.Iter.{chars_rest}
 use Rattle.std.specs.declared.str.Chars.{Chars}
 use Rattle.nano_text.specs.declared.place.Place.{Place}
@@ -37,4 +39,34 @@ counted n = min (n + 1) (2 ^ 64 - 1)
 -- the place once the next of these characters is taken
 abbrev pub place_after : Place → List ℕ → Place
 place_after place [] = record place { cur = 0 }
-place_after place (c ∷ cs) = if c == 10 then record { cur = c; line = counted place.line; col = 0 } else record { cur = c; line = place.line; col = counted place.col }
+place_after place (c ∷ cs) =
+    if c == 10
+    then record { cur = c; line = counted place.line; col = 0 }
+    else record { cur = c; line = place.line; col = counted place.col }
+
+-- the place once these characters are taken, one by one
+abbrev pub passed : Place → List ℕ → Place
+passed place [] = place
+passed place (c ∷ cs) = passed (place_after place (c ∷ [])) cs
+
+-- some of the characters before were taken, those after are left, and line and column count each
+-- that was taken
+pub record Passes (old : Place) (before : List ℕ) (new : Place) (after : List ℕ) : Type 0 where
+  pub taken : List ℕ
+  pub split : before ≡ taken ++ after
+  pub line : new.line ≡ (passed old taken).line
+  pub col : new.col ≡ (passed old taken).col
+
+-- ---- the bytes of a run that is taken at once
+
+-- the byte of a line feed, which is its character
+abbrev pub is_line_feed : ℕ → Bool
+is_line_feed b = b == 10
+
+-- a byte of UTF-8 that a character begins with
+abbrev pub begins_character : ℕ → Bool
+begins_character b = nat_lt b 128 || nat_le 192 b
+
+-- a byte that is no control character and begins none beyond ASCII
+abbrev pub IsInLine : ℕ → Type 0
+IsInLine b = (32 ≤ b) × (b < 160)

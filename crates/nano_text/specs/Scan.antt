@@ -1,7 +1,8 @@
 -- The run that a text begins with, taken as long as it goes: good or not.
-use Rattle.std.specs.Prelude.{ℕ, ◌+◌, ◌==◌, ◌||◌, ◌&&◌, nat_lt, Bool, List, [], ◌∷◌, length, Option, Some, None, if◌then◌else◌}
+use Rattle.std.specs.Prelude.{ℕ, ◌+◌, ◌==◌, ◌||◌, ◌&&◌, nat_lt, Bool, List, [], ◌∷◌, length, Option}
+use Rattle.std.specs.Prelude.{Some, None, if◌then◌else◌}
 use Rattle.std.specs.Char.{is_ascii_digit}
-use Rattle.nano_text.specs.declared.number.ExponentLen.{ExponentLen}
+use Rattle.nano_text.specs.declared.run.ExponentLen.{ExponentLen}
 use Rattle.nano_text.specs.Front.{first_is, front, behind}
 use Rattle.nano_text.specs.Number.{Run, Exponent, is_sign, is_point, is_letter_e}
 
@@ -28,11 +29,19 @@ behind_fraction (c ∷ cs) = if is_point c then behind is_ascii_digit cs else (c
 
 abbrev pub exponent_at : List ℕ → Option Exponent
 exponent_at [] = None
-exponent_at (c ∷ cs) = if is_letter_e c then Some (record { letter = c; minus = first_is is_minus_char cs; digits = front is_ascii_digit (behind_one is_minus_char cs) }) else None
+exponent_at (c ∷ cs) =
+    if is_letter_e c
+    then Some (record {
+      letter = c;
+      minus = first_is is_minus_char cs;
+      digits = front is_ascii_digit (behind_one is_minus_char cs);
+    })
+    else None
 
 abbrev pub behind_exponent : List ℕ → List ℕ
 behind_exponent [] = []
-behind_exponent (c ∷ cs) = if is_letter_e c then behind is_ascii_digit (behind_one is_minus_char cs) else (c ∷ cs)
+behind_exponent (c ∷ cs) =
+    if is_letter_e c then behind is_ascii_digit (behind_one is_minus_char cs) else (c ∷ cs)
 
 -- behind the sign, the digits, and the fraction
 unfoldable pub behind_sign : List ℕ → List ℕ
@@ -69,9 +78,15 @@ abbrev pub exponent_room : Option ExponentLen → ℕ
 exponent_room None = 0
 exponent_room (Some e) = 1 + minus_room e.minus + e.digits
 
--- how many characters stand behind the point of a good decimal, or behind the letter if it has no point
+-- how many characters stand behind the point of a good decimal, or behind the letter if it has
+-- no point
 abbrev pub decimal_len : ℕ → Option ℕ → Option ExponentLen → Option ℕ
 decimal_len whole None None = None
-decimal_len whole (Some digits) None = if nat_lt 0 whole || nat_lt 0 digits then Some digits else None
-decimal_len whole None (Some e) = if nat_lt 0 whole && nat_lt 0 e.digits then Some (minus_room e.minus + e.digits) else None
-decimal_len whole (Some digits) (Some e) = if (nat_lt 0 whole || nat_lt 0 digits) && nat_lt 0 e.digits then Some (digits + 1 + minus_room e.minus + e.digits) else None
+decimal_len whole (Some digits) None =
+    if nat_lt 0 whole || nat_lt 0 digits then Some digits else None
+decimal_len whole None (Some e) =
+    if nat_lt 0 whole && nat_lt 0 e.digits then Some (minus_room e.minus + e.digits) else None
+decimal_len whole (Some digits) (Some e) =
+    if (nat_lt 0 whole || nat_lt 0 digits) && nat_lt 0 e.digits
+    then Some (digits + 1 + minus_room e.minus + e.digits)
+    else None

@@ -1,5 +1,7 @@
--- String lexemes: a quote, pieces, a quote. What a piece is, how it is written, and which character it stands for.
-use Rattle.std.specs.Prelude.{◌≡◌, ◌≢◌, ℕ, ◌+◌, ◌-◌, ◌*◌, ◌<◌, ◌≤◌, ◌==◌, ◌⊎◌, ◌&&◌, not, Bool, true, List, [], ◌∷◌, ◌++◌, flat_map, map, if◌then◌else◌}
+-- String lexemes: a quote, pieces, a quote. What a piece is, how it is written, and which character
+-- it stands for.
+use Rattle.std.specs.Prelude.{◌≡◌, ◌≢◌, ℕ, ◌+◌, ◌-◌, ◌*◌, ◌<◌, ◌≤◌, ◌==◌, ◌⊎◌, ◌&&◌, not, Bool}
+use Rattle.std.specs.Prelude.{true, List, [], ◌∷◌, ◌++◌, flat_map, map, if◌then◌else◌}
 use Rattle.std.specs.Char.{digit_value, is_ascii_hexdigit}
 use Rattle.std.specs.List.{AllByRecursion}
 
@@ -28,10 +30,12 @@ abbrev pub unit_text : CodeUnit → List ℕ
 unit_text u = u.a ∷ (u.b ∷ (u.c ∷ (u.d ∷ [])))
 
 abbrev pub unit_value : CodeUnit → ℕ
-unit_value u = ((digit_value u.a * 16 + digit_value u.b) * 16 + digit_value u.c) * 16 + digit_value u.d
+unit_value u =
+    ((digit_value u.a * 16 + digit_value u.b) * 16 + digit_value u.c) * 16 + digit_value u.d
 
 abbrev pub IsHex : CodeUnit → Type 0
-IsHex u = (is_ascii_hexdigit u.a ≡ true) × (is_ascii_hexdigit u.b ≡ true) × (is_ascii_hexdigit u.c ≡ true) × (is_ascii_hexdigit u.d ≡ true)
+IsHex u = (is_ascii_hexdigit u.a ≡ true) × (is_ascii_hexdigit u.b ≡ true)
+    × (is_ascii_hexdigit u.c ≡ true) × (is_ascii_hexdigit u.d ≡ true)
 
 -- how a piece is written
 abbrev pub piece_text : Piece → List ℕ
@@ -42,7 +46,9 @@ piece_text (pair u v) = 92 ∷ (117 ∷ (unit_text u ++ (92 ∷ (117 ∷ unit_te
 
 -- what an escape of one character stands for: n r t b f 0, and else itself
 abbrev pub escaped_char : ℕ → ℕ
-escaped_char c = if c == 110 then 10 else if c == 114 then 13 else if c == 116 then 9 else if c == 98 then 8 else if c == 102 then 12 else if c == 48 then 0 else c
+escaped_char c =
+    if c == 110 then 10 else if c == 114 then 13 else if c == 116 then 9
+    else if c == 98 then 8 else if c == 102 then 12 else if c == 48 then 0 else c
 
 -- the character that a piece stands for
 abbrev pub piece_char : Piece → ℕ
@@ -51,12 +57,15 @@ piece_char (escaped c) = escaped_char c
 piece_char (scalar u) = unit_value u
 piece_char (pair u v) = 0x10000 + (unit_value u - 0xD800) * 0x400 + (unit_value v - 0xDC00)
 
--- a plain character is no quote, backslash or NUL; u begins no escape of one character; a code unit alone is no surrogate
+-- a plain character is no quote, backslash or NUL; u begins no escape of one character; a code unit
+-- alone is no surrogate
 abbrev pub IsPiece : Piece → Type 0
 IsPiece (plain c) = (c ≢ 34) × (c ≢ 92) × (c ≢ 0)
 IsPiece (escaped c) = (c ≢ 117) × (c ≢ 0)
 IsPiece (scalar u) = IsHex u × ((unit_value u < 0xD800) ⊎ (0xE000 ≤ unit_value u))
-IsPiece (pair u v) = IsHex u × IsHex v × (0xD800 ≤ unit_value u) × (unit_value u < 0xDC00) × (0xDC00 ≤ unit_value v) × (unit_value v < 0xE000)
+IsPiece (pair u v) = IsHex u × IsHex v
+    × (0xD800 ≤ unit_value u) × (unit_value u < 0xDC00)
+    × (0xDC00 ≤ unit_value v) × (unit_value v < 0xE000)
 
 -- the text begins with a string of these characters, and that is the rest
 pub record IsString (text characters rest : List ℕ) : Type 0 where

@@ -1,6 +1,8 @@
 // The place in a text, and the step to the next character.
-ghost use Rattle.std.specs.Prelude.{◌≡◌, ◌≢◌, ◌∷◌};
-ghost use Rattle.nano_text.specs.Place.{held, tail, place_after, text_at, before_nul};
+ghost use Rattle.std.specs.Prelude.{◌≡◌, ◌≢◌, ◌<◌, ◌∷◌, ◌++◌, List, ℕ, chars, count_by};
+ghost use Rattle.nano_text.specs.Outcomes.{Counts};
+ghost use Rattle.nano_text.specs.Place.{held, tail, place_after, text_at, before_nul, passed};
+ghost use Rattle.nano_text.specs.Place.{is_line_feed, begins_character};
 
 use std::str::Chars;
 
@@ -21,10 +23,12 @@ impl Place {
     pub fn next(&mut self, i: &mut Chars<'_>)
         ensures place { self.new ≡ place_after self.old (held i.old) }
         ensures held { held i.new ≡ tail (held i.old) }
+        ensures passes { Counts self.old i.old self.new i.new }
 
         // What is live afterwards, and that the current character came off its front.
         ensures rest { text_at self.new i.new ≡ before_nul (held i.old) }
-        ensures taken { self.old.cur ≢ 0 → text_at self.old i.old ≡ self.old.cur ∷ text_at self.new i.new }
+        ensures taken { self.old.cur ≢ 0
+            → text_at self.old i.old ≡ self.old.cur ∷ text_at self.new i.new }
     {
         let _text = i.as_str();
         match i.next() {
@@ -45,7 +49,9 @@ impl Place {
     #[cold]
     #[inline(never)]
     pub(crate) fn pass(&mut self, text: &str)
-        ensures { self.new.cur ≡ self.old.cur }
+        ensures cur { self.new.cur ≡ self.old.cur }
+        ensures line { self.new.line ≡ (passed self.old (chars text.now)).line }
+        ensures col { self.new.col ≡ (passed self.old (chars text.now)).col }
     {
         let bytes = text.as_bytes();
         let feeds = line_feeds(bytes);
@@ -54,26 +60,34 @@ impl Place {
             return;
         }
         self.line = self.line.saturating_add(feeds);
-        self.col = characters(last_line(bytes));
+        self.col = characters(last_line(text).as_bytes());
     }
 }
 
 /// How many of the bytes are line feeds. The whole run is looked at, without a way out of the loop
 /// before its end, so that the compiler makes it vector code.
-fn line_feeds(bytes: &[u8]) -> usize {
+fn line_feeds(bytes: &[u8]) -> usize
+    ensures { result ≡ count_by is_line_feed bytes.now }
+{
     bytes.iter().filter(|byte| **byte == b'\n').count()
 }
 
-/// The bytes behind the last line feed, or all of them.
-fn last_line(bytes: &[u8]) -> &[u8] {
-    match bytes.iter().rposition(|byte| *byte == b'\n') {
-        Some(last) => &bytes[last + 1..],
-        None => bytes,
+/// What stands behind the last line feed, or the whole text if there is none.
+fn last_line(text: &str) -> &str
+    ensures none { count_by is_line_feed result.now ≡ 0 }
+    ensures behind { 0 < count_by is_line_feed text.now
+        → (before : List ℕ) × (text.now ≡ before ++ 10 ∷ result.now) }
+{
+    match text.rsplit_once('\n') {
+        Some((_before, line)) => line,
+        None => text,
     }
 }
 
 /// How many characters these bytes of UTF-8 begin.
-fn characters(bytes: &[u8]) -> usize {
+fn characters(bytes: &[u8]) -> usize
+    ensures { result ≡ count_by begins_character bytes.now }
+{
     bytes
         .iter()
         .filter(|byte| **byte < 0x80 || 0xC0 <= **byte)

@@ -1,9 +1,14 @@
 // String lexemes.
-ghost use Rattle.std.specs.Prelude.{◌≡◌, ◌≢◌, ◌++◌, ◌∷◌, ◌<◌, ◌≤◌, true, false, OnErr, OnOk, IfOk, IfSome, List, ℕ, string_bytes, string_capacity, encode_utf8_all, length};
+ghost use Rattle.std.specs.Prelude.{◌≡◌, ◌≢◌, ◌++◌, ◌∷◌, ◌<◌, ◌≤◌, true, false, OnErr, OnOk, IfOk};
+ghost use Rattle.std.specs.Prelude.{IfSome, List, ℕ, string_bytes, string_capacity};
+ghost use Rattle.std.specs.Prelude.{encode_utf8_all, length};
 ghost use Rattle.std.specs.Char.{digit_value, is_ascii_hexdigit};
+ghost use Rattle.std.specs.List.{AllWithin};
 ghost use Rattle.nano_text.specs.Front.{front, behind};
-ghost use Rattle.nano_text.specs.Place.{text_at};
-ghost use Rattle.nano_text.specs.String.{CodeUnit, IsHex, IsPiece, IsString, Piece, escaped_char, is_plain, piece_char, piece_text, unit_text, unit_value};
+ghost use Rattle.nano_text.specs.Outcomes.{Appends, Counts};
+ghost use Rattle.nano_text.specs.Place.{IsInLine, text_at};
+ghost use Rattle.nano_text.specs.String.{CodeUnit, IsHex, IsPiece, IsString, Piece, escaped_char};
+ghost use Rattle.nano_text.specs.String.{is_plain, piece_char, piece_text, unit_text, unit_value};
 
 use crate::number::Fault;
 use crate::place::Place;
@@ -34,7 +39,8 @@ struct PlainRun {
 
 /// Measures the bytes that stand for themselves before the first that doesn't.
 fn plain_run(bytes: &[u8]) -> PlainRun
-    ensures { result.len ≡ length (front is_plain bytes.now) }
+    ensures len { result.len ≡ length (front is_plain bytes.now) }
+    ensures in_line { result.bits < 128 → AllWithin IsInLine bytes.now 0 result.len }
 {
     let mut bits = 0;
     for (len, byte) in bytes.iter().enumerate() {
@@ -56,9 +62,13 @@ fn plain_run(bytes: &[u8]) -> PlainRun
 fn take_plain(p: &mut Place, i: &mut Chars<'_>, strbuf: &mut String) -> Result<(), AllocError>
     requires { is_plain p.old.cur ≡ true }
     ensures capacity { string_capacity strbuf.old ≤ string_capacity strbuf.new }
-    ensures full { OnErr result (string_capacity strbuf.old < length (string_bytes strbuf.old ++ encode_utf8_all (front is_plain (text_at p.old i.old)))) }
+    ensures full { OnErr result (string_capacity strbuf.old
+        < length (string_bytes strbuf.old
+        ++ encode_utf8_all (front is_plain (text_at p.old i.old)))) }
     ensures rest { OnOk result (text_at p.new i.new ≡ behind is_plain (text_at p.old i.old)) }
-    ensures taken { OnOk result (string_bytes strbuf.new ≡ string_bytes strbuf.old ++ encode_utf8_all (front is_plain (text_at p.old i.old))) }
+    ensures place { OnOk result (Counts p.old i.old p.new i.new) }
+    ensures taken { OnOk result
+        (Appends strbuf.old strbuf.new (front is_plain (text_at p.old i.old))) }
 {
     strbuf.push(p.cur)?;
     let text = i.as_str();
@@ -77,9 +87,12 @@ fn take_plain(p: &mut Place, i: &mut Chars<'_>, strbuf: &mut String) -> Result<(
 
 /// Takes a hexadecimal digit, and answers its value.
 fn take_hex_digit(p: &mut Place, i: &mut Chars<'_>) -> Option<u32>
-    ensures digit { IfSome result (λ value. (is_ascii_hexdigit p.old.cur ≡ true) × (value ≡ digit_value p.old.cur) × (value < 16)) }
+    ensures digit { IfSome result (λ value. (is_ascii_hexdigit p.old.cur ≡ true)
+        × (value ≡ digit_value p.old.cur) × (value < 16)) }
     ensures taken { IfSome result (λ value. text_at p.old i.old ≡ p.old.cur ∷ text_at p.new i.new) }
-    ensures none { result ≡ None → (c : ℕ) (rest : List ℕ) → is_ascii_hexdigit c ≡ true → text_at p.old i.old ≡ c ∷ rest → ⊥ }
+    ensures place { IfSome result (λ _. Counts p.old i.old p.new i.new) }
+    ensures none { result ≡ None → (c : ℕ) (rest : List ℕ)
+        → is_ascii_hexdigit c ≡ true → text_at p.old i.old ≡ c ∷ rest → ⊥ }
 {
     let value = p.cur.to_digit(16)?;
     p.next(i);
@@ -88,9 +101,13 @@ fn take_hex_digit(p: &mut Place, i: &mut Chars<'_>) -> Option<u32>
 
 /// Takes four hexadecimal digits, and answers the code unit that they write.
 fn take_code_unit(p: &mut Place, i: &mut Chars<'_>) -> Option<u32>
-    ensures taken { IfSome result (λ value. (unit : CodeUnit) × IsHex unit × (value ≡ unit_value unit) × (text_at p.old i.old ≡ unit_text unit ++ text_at p.new i.new)) }
+    ensures taken { IfSome result (λ value. (unit : CodeUnit) × IsHex unit
+        × (value ≡ unit_value unit)
+        × (text_at p.old i.old ≡ unit_text unit ++ text_at p.new i.new)) }
     ensures small { IfSome result (λ value. value < 0x10000) }
-    ensures none { result ≡ None → (unit : CodeUnit) (rest : List ℕ) → IsHex unit → text_at p.old i.old ≡ unit_text unit ++ rest → ⊥ }
+    ensures place { IfSome result (λ _. Counts p.old i.old p.new i.new) }
+    ensures none { result ≡ None → (unit : CodeUnit) (rest : List ℕ) → IsHex unit
+        → text_at p.old i.old ≡ unit_text unit ++ rest → ⊥ }
 {
     let first = take_hex_digit(p, i)?;
     let second = take_hex_digit(p, i)?;
@@ -101,8 +118,12 @@ fn take_code_unit(p: &mut Place, i: &mut Chars<'_>) -> Option<u32>
 
 /// Takes what stands behind `\u`: a code unit, or a leading surrogate, `\u` and a trailing one.
 fn take_unicode(p: &mut Place, i: &mut Chars<'_>) -> Option<char>
-    ensures taken { IfSome result (λ c. (piece : Piece) × IsPiece piece × (c ≡ piece_char piece) × (92 ∷ (117 ∷ text_at p.old i.old) ≡ piece_text piece ++ text_at p.new i.new)) }
-    ensures none { result ≡ None → (piece : Piece) (rest : List ℕ) → IsPiece piece → 92 ∷ (117 ∷ text_at p.old i.old) ≡ piece_text piece ++ rest → ⊥ }
+    ensures taken { IfSome result (λ c. (piece : Piece) × IsPiece piece
+        × (c ≡ piece_char piece)
+        × (92 ∷ (117 ∷ text_at p.old i.old) ≡ piece_text piece ++ text_at p.new i.new)) }
+    ensures place { IfSome result (λ _. Counts p.old i.old p.new i.new) }
+    ensures none { result ≡ None → (piece : Piece) (rest : List ℕ) → IsPiece piece
+        → 92 ∷ (117 ∷ text_at p.old i.old) ≡ piece_text piece ++ rest → ⊥ }
 {
     let lead = take_code_unit(p, i)?;
     if lead < 0xD800 || 0xDFFF < lead {
@@ -138,11 +159,16 @@ fn escaped_char(c: char) -> char
     }
 }
 
-/// Takes an escape, of which the backslash is current, and answers the character that it stands for.
+/// Takes an escape, of which the backslash is current, and answers the character that it stands
+/// for.
 fn take_escape(p: &mut Place, i: &mut Chars<'_>) -> Option<char>
     requires { p.old.cur ≡ 92 }
-    ensures taken { IfSome result (λ c. (piece : Piece) × IsPiece piece × (c ≡ piece_char piece) × (text_at p.old i.old ≡ piece_text piece ++ text_at p.new i.new)) }
-    ensures none { result ≡ None → (piece : Piece) (rest : List ℕ) → IsPiece piece → text_at p.old i.old ≡ piece_text piece ++ rest → ⊥ }
+    ensures taken { IfSome result (λ c. (piece : Piece) × IsPiece piece
+        × (c ≡ piece_char piece)
+        × (text_at p.old i.old ≡ piece_text piece ++ text_at p.new i.new)) }
+    ensures place { IfSome result (λ _. Counts p.old i.old p.new i.new) }
+    ensures none { result ≡ None → (piece : Piece) (rest : List ℕ) → IsPiece piece
+        → text_at p.old i.old ≡ piece_text piece ++ rest → ⊥ }
 {
     p.next(i);
     if p.cur == 'u' {
@@ -160,20 +186,28 @@ fn take_escape(p: &mut Place, i: &mut Chars<'_>) -> Option<char>
 /// Reads the string lexeme that begins at the current character. Its text is left in `strbuf`.
 ///
 /// A string is a quote, pieces and a quote. A piece is a character but a quote, a backslash and
-/// NUL; or `\n`, `\r`, `\t`, `\b`, `\f` or `\0`; or `\u` and the four hexadecimal digits of a scalar
-/// value; or two of these for a leading and a trailing surrogate; or a backslash and any other
-/// character but NUL, which stands for that character.
+/// NUL; or `\n`, `\r`, `\t`, `\b`, `\f` or `\0`; or `\u` and the four hexadecimal digits of a
+/// scalar value; or two of these for a leading and a trailing surrogate; or a backslash and any
+/// other character but NUL, which stands for that character. Line and column count each character
+/// that was taken, as [`Place::next`] does.
 ///
 /// # Errors
 ///
 /// `Fault::Malformed` where no string lexeme begins here, `Fault::Memory` where `strbuf` could not
-/// grow. Afterwards the place stands where the fault was found, and `strbuf` holds a front of the text.
+/// grow. Afterwards the place stands where the fault was found, and `strbuf` holds a front of the
+/// text.
 pub fn read_string(p: &mut Place, i: &mut Chars<'_>, strbuf: &mut String) -> Result<(), Fault>
-    ensures found { OnOk result ((characters : List ℕ) × IsString (text_at p.old i.old) characters (text_at p.new i.new) × (string_bytes strbuf.new ≡ encode_utf8_all characters)) }
+    ensures found { OnOk result ((characters : List ℕ)
+        × IsString (text_at p.old i.old) characters (text_at p.new i.new)
+        × (string_bytes strbuf.new ≡ encode_utf8_all characters)) }
+    ensures place { OnOk result (Counts p.old i.old p.new i.new) }
 
     // Memory is asked for only where the buffer has no room for the text.
-    ensures memory { result ≡ Err Fault.Memory → (characters rest : List ℕ) → IsString (text_at p.old i.old) characters rest → string_capacity strbuf.old < length (encode_utf8_all characters) }
-    ensures malformed { result ≡ Err Fault.Malformed → (characters rest : List ℕ) → IsString (text_at p.old i.old) characters rest → ⊥ }
+    ensures memory { result ≡ Err Fault.Memory → (characters rest : List ℕ)
+        → IsString (text_at p.old i.old) characters rest
+        → string_capacity strbuf.old < length (encode_utf8_all characters) }
+    ensures malformed { result ≡ Err Fault.Malformed → (characters rest : List ℕ)
+        → IsString (text_at p.old i.old) characters rest → ⊥ }
 {
     strbuf.clear();
     if p.cur != '"' {

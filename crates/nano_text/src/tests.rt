@@ -26,8 +26,8 @@ fn same(left: &str, right: &str) -> bool {
     left == right
 }
 
-/// A text, the number that it begins with, a decimal's text, and the current character, what `Chars`
-/// holds and the column afterwards.
+/// A text, the number that it begins with, a decimal's text, and the current character, what
+/// `Chars` holds and the column afterwards.
 #[derive(Drop)]
 struct NumberRow {
     text: &'static str,
@@ -249,6 +249,16 @@ fn strings(rt: HostRuntime) -> Result<(), Fail> {
         ),
         string("\"é😋\n\"", "é😋\n", '\0', 1, 1),
         string("\"a\n\nbc\" ", "a\n\nbc", ' ', 2, 4),
+        string("\"é\nü😋x\" ", "é\nü😋x", ' ', 1, 5),
+        string("\"ab\ncdé\\n\n\"", "ab\ncdé\n\n", '\0', 2, 1),
+        string("\"a\r\tb\u{7f}c\"", "a\r\tb\u{7f}c", '\0', 0, 8),
+        string(
+            "\"\u{80}\u{7ff}\u{800}\u{ffff}\u{10000}\u{10ffff}\"",
+            "\u{80}\u{7ff}\u{800}\u{ffff}\u{10000}\u{10ffff}",
+            '\0',
+            0,
+            8,
+        ),
         no_string("ab", 'a', 0, 1),
         no_string("", '\0', 0, 0),
         no_string("\"ab", '\0', 0, 3),
@@ -380,6 +390,17 @@ fn the_last_place(rt: HostRuntime) -> Result<(), Fail> {
         Ok(Number::U64(1234))
     );
     assert_eq!(rt; place(&p), (' ', usize::MAX, usize::MAX));
+
+    let mut i = "\"é\"".chars();
+    let mut p = last;
+    p.next(&mut i);
+    assert_eq!(rt; read_string(&mut p, &mut i, &mut text), Ok(()));
+    assert_eq!(rt; place(&p), ('\0', usize::MAX, usize::MAX));
+    let mut i = "\"é\nü\"".chars();
+    let mut p = last;
+    p.next(&mut i);
+    assert_eq!(rt; read_string(&mut p, &mut i, &mut text), Ok(()));
+    assert_eq!(rt; place(&p), ('\0', usize::MAX, 2));
     Ok(())
 }
 

@@ -10,6 +10,8 @@ pub mod LexemeCut
 pub mod LiveText
 pub mod NextSteps
 pub mod NumberCut
+pub mod OneTable
+pub mod Places
 pub mod PlainFronts
 pub mod Quotes
 pub mod ReadLemmas

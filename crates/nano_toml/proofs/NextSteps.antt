@@ -1,8 +1,8 @@
 -- The steps of the tokenizer, from the scan to what is cut.
 use Rattle.std.proofs.Common.{◌≡◌, ◌≢◌, ℕ, List, [], ◌∷◌, true, false, Option, Some, None, option_map, Result, Ok, Err, IfOk, IfErr, refl, ap, sym, ◌∙◌}
 use Rattle.nano_toml.specs.declared.token.TomlTok.{TomlTok}
-use Rattle.nano_toml.specs.declared.token.TokenFault.{TokenFault}
-use Rattle.nano_toml.specs.declared.token.TokenFault.TheVariants.{Memory}
+use Rattle.nano_toml.specs.declared.fault.Fault.{Fault}
+use Rattle.nano_toml.specs.declared.fault.Fault.TheVariants.{Memory}
 use Rattle.nano_toml.specs.Characters.{starts_word, starts_number, is_quote, is_in_word}
 use Rattle.nano_toml.specs.Span.{begins, front, behind}
 use Rattle.nano_toml.specs.Token.{Token}
@@ -41,10 +41,10 @@ mark_some (Some t) rest next h = let same : next ≡ a_token t = cc h in ap (λ 
 
 -- ---- a result, and what it says of the cut
 
-pub found_cut : (r : Result TomlTok TokenFault) (text rest : List ℕ) (scan : Option Taken) → next_at text ≡ scan → IfOk r (λ t. scan ≡ Some (record { next = token_of t; rest = rest })) → IfOk r (λ t. Took text (token_of t) rest)
+pub found_cut : (r : Result TomlTok Fault) (text rest : List ℕ) (scan : Option Taken) → next_at text ≡ scan → IfOk r (λ t. scan ≡ Some (record { next = token_of t; rest = rest })) → IfOk r (λ t. Took text (token_of t) rest)
 found_cut (Ok t) text rest scan e h = scanned_cut text (record { next = token_of t; rest = rest }) (e ∙ h)
 found_cut (Err f) text rest scan e h = tt
 
-pub refused_cut : (r : Result TomlTok TokenFault) (text : List ℕ) (scan : Option Taken) → next_at text ≡ scan → IfErr r (λ f. f ≢ Memory → scan ≡ None) → IfErr r (λ f. f ≢ Memory → CutsNothing text)
+pub refused_cut : (r : Result TomlTok Fault) (text : List ℕ) (scan : Option Taken) → next_at text ≡ scan → IfErr r (λ f. f ≢ Memory → scan ≡ None) → IfErr r (λ f. f ≢ Memory → CutsNothing text)
 refused_cut (Ok t) text scan e h = tt
 refused_cut (Err f) text scan e h = λ n. scanned_nothing text (e ∙ h n)

@@ -277,7 +277,7 @@ pub has_key : (q : List ℕ) (es : List Entry) → is_some (found q es) ≡ true
 has_key q es h = IsSome-from_is_some _ (is_some-at q es ∙ h)
 
 -- one level of maps, seen
-tables_map : (ms : List Map) → tables_of (map (λ m. table_of m.entries) (map (former-Toml-Array-0-at-1.map Toml Data view) ms)) ≡ tables_view ms
+pub tables_map : (ms : List Map) → tables_of (map (λ m. table_of m.entries) (map (former-Toml-Array-0-at-1.map Toml Data view) ms)) ≡ tables_view ms
 tables_map [] = refl
 tables_map (m ∷ ms) = ap (more_tables (table_view m.entries)) (tables_map ms)
 

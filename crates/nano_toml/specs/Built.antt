@@ -1,15 +1,18 @@
 -- The table of statements while it is built. Contracts of private functions alone name these words.
-use Rattle.std.specs.Prelude.{◌≡◌, ℕ, List, [], ◌∷◌, ◌++◌, Option, Some, None, option_map, string_bytes, if◌then◌else◌}
+use Rattle.std.specs.Prelude.{◌≡◌, ℕ, List, [], ◌∷◌, ◌++◌, Option, Some, None, option_map}
+use Rattle.std.specs.Prelude.{string_bytes, if◌then◌else◌}
 use Rattle.std.specs.Str.{bytes_eq}
 use Rattle.nano_toml.specs.Data.{Data, tables, Tables, no_tables, more_tables, Table, no_pairs, at}
 use Rattle.nano_toml.specs.Statements.{Statement, element, pair}
-use Rattle.nano_toml.specs.StatementTable.{Pair, last_value, scope_of, pairs, root_pairs, HasLast, IsTableOf}
+use Rattle.nano_toml.specs.StatementTable.{Pair, last_value, scope_of, pairs, root_pairs, HasLast}
+use Rattle.nano_toml.specs.StatementTable.{IsTableOf}
 use Rattle.nano_toml.specs.View.{table_view}
 use Rattle.nano_toml.specs.declared.table.Builder.{Builder}
 
 -- new has the value at the key, and at each other key what old has
 abbrev pub Puts : Table → List ℕ → Data → Table → Type 0
-Puts old key d new = (other : List ℕ) → at other new ≡ (if bytes_eq other key then Some d else at other old)
+Puts old key d new =
+    (other : List ℕ) → at other new ≡ (if bytes_eq other key then Some d else at other old)
 
 -- the tables with one more at the end
 abbrev pub push : Tables → Table → Tables
@@ -52,7 +55,8 @@ abbrev pub ArePlain : List Statement → Type 0
 ArePlain [] = Unit {0}
 ArePlain (s ∷ ss) = IsPlain s × ArePlain ss
 
--- the root is the table of the statements; or of those before the last header `[[key]]`, whose element has the table
+-- the root is the table of the statements; or of those before the last header `[[key]]`, whose
+-- element has the table
 abbrev pub Stands : List Statement → Table → Option (List ℕ) → Table → Type 0
 Stands done root None table = NoElement done × IsTableOf done root × (table ≡ no_pairs)
 Stands done root (Some key) table =
@@ -64,7 +68,8 @@ pub record IsBuilt (done : List Statement) (builder : Builder) : Type 0 where
   pub in_scope : string_bytes builder.scope ≡ scope_of done
   pub lawful : NoneNamed done (root_pairs done)
   pub plain : ArePlain done
-  pub stands : Stands done (table_view builder.root.entries) (option_map string_bytes builder.key) (table_view builder.table.entries)
+  pub stands : Stands done (table_view builder.root.entries)
+      (option_map string_bytes builder.key) (table_view builder.table.entries)
 
 -- the root is the table of all the statements
 pub record IsWhole (done : List Statement) (builder : Builder) : Type 0 where

@@ -1,5 +1,6 @@
 -- How a text is cut into tokens. A text is a list of characters, none of which is NUL.
-use Rattle.std.specs.Prelude.{◌≡◌, ℕ, ◌==◌, false, List, [], ◌∷◌, ◌++◌, Option, Some, None, encode_utf8_all, if◌then◌else◌}
+use Rattle.std.specs.Prelude.{◌≡◌, ℕ, ◌==◌, false, List, [], ◌∷◌, ◌++◌, Option, Some, None}
+use Rattle.std.specs.Prelude.{encode_utf8_all, if◌then◌else◌}
 use Rattle.nano_toml.specs.Characters.{is_in_word}
 use Rattle.nano_toml.specs.Span.{begins}
 use Rattle.nano_toml.specs.Token.{Token, string, equals, open_bracket, close_bracket, comma}
@@ -10,13 +11,20 @@ use Rattle.nano_toml.specs.Number.{IsNumber}
 
 -- the tokens of one character
 abbrev pub mark_token : ℕ → Option Token
-mark_token c = if c == 44 then Some comma else if c == 91 then Some open_bracket else if c == 93 then Some close_bracket else if c == 61 then Some equals else None
+mark_token c =
+    if c == 44 then Some comma
+    else if c == 91 then Some open_bracket
+    else if c == 93 then Some close_bracket
+    else if c == 61 then Some equals
+    else None
 
 -- the text begins with one lexeme of the token, and rest stands behind it
 pub data Lexeme (text : List ℕ) (token : Token) (rest : List ℕ) : Type 0 where
   a_mark : (c : ℕ) → mark_token c ≡ Some token → text ≡ c ∷ rest → Lexeme text token rest
-  a_word : (word : List ℕ) → IsWord word → begins is_in_word rest ≡ false → text ≡ word ++ rest → token ≡ word_token word → Lexeme text token rest
-  a_string : (chars : List ℕ) → IsString text chars rest → token ≡ string (encode_utf8_all chars) → Lexeme text token rest
+  a_word : (word : List ℕ) → IsWord word → begins is_in_word rest ≡ false → text ≡ word ++ rest
+      → token ≡ word_token word → Lexeme text token rest
+  a_string : (chars : List ℕ) → IsString text chars rest → token ≡ string (encode_utf8_all chars)
+      → Lexeme text token rest
   a_number : IsNumber text token rest → Lexeme text token rest
 
 -- the token is cut from the text: behind what is skipped stands one lexeme, and then rest
@@ -47,5 +55,6 @@ Tokens text (token ∷ more) = (rest : List ℕ) × Cut text token rest × Token
 -- a text is cut in one way: into one token and one rest, or to its end
 abbrev pub IsCutInOneWay : List ℕ → Type 0
 IsCutInOneWay text =
-    ((one two : Token) (rest left : List ℕ) → Cut text one rest → Cut text two left → (one ≡ two) × (rest ≡ left))
+    ((one two : Token) (rest left : List ℕ) → Cut text one rest → Cut text two left
+    → (one ≡ two) × (rest ≡ left))
     × ((token : Token) (rest : List ℕ) → Cut text token rest → CutEnd text → ⊥)

@@ -1,4 +1,5 @@
--- What a TOML value means. A table has each of its keys once, in ascending order, so that equal tables are one.
+-- What a TOML value means. A table has each of its keys once, in ascending order, so that equal
+-- tables are one.
 use Rattle.std.specs.Prelude.{ℕ, ℤ, List, Bool, Option, Some, None, if◌then◌else◌}
 use Rattle.std.specs.Ordering.{nat_cmp, match_ordering}
 use Rattle.std.specs.Str.{bytes_eq}

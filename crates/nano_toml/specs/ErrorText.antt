@@ -1,7 +1,34 @@
--- The line that an error prints.
+-- What an error tells, and the line that it prints.
 use Rattle.std.below.core.specs.declared.int.usize.TheConstants.{MAX}
-use Rattle.std.specs.Prelude.{ℕ, ◌+◌, List, ◌++◌, codes, min}
+use Rattle.std.specs.Prelude.{◌≡◌, ℕ, ◌+◌, List, ◌++◌, codes, min, string_bytes}
 use Rattle.std.specs.Fmt.{decimal}
+use Rattle.nano_toml.specs.declared.fault.Lexeme.{Lexeme}
+use Rattle.nano_toml.specs.declared.fault.Lexeme.TheVariants as lexeme
+use Rattle.nano_toml.specs.declared.fault.Fault.{Fault}
+use Rattle.nano_toml.specs.declared.fault.Fault.TheVariants as fault
+
+-- the word for characters that begin no token
+abbrev pub word_of : Lexeme → List ℕ
+word_of lexeme.Number = codes "number"
+word_of lexeme.Nan = codes "nan"
+word_of lexeme.Infinity = codes "inf"
+word_of lexeme.Quoted = codes "string"
+word_of lexeme.Character = codes "tokenizer"
+
+-- the text is the message of the fault; a token is shown in some form, and want of memory has no
+-- message
+abbrev pub Tells : Fault → List ℕ → Type 0
+Tells fault.Memory text = ⊥
+Tells (fault.Malformed lexeme) text =
+    text ≡ codes "Cannot parse toml " ++ (word_of lexeme ++ codes " ")
+Tells (fault.Unexpected token) text =
+    (shown : List ℕ) × (text ≡ codes "Unexpected token " ++ (shown ++ codes " "))
+Tells (fault.OtherKind key) text =
+    text ≡ codes "Array header on another kind " ++ (string_bytes key ++ codes " ")
+
+-- the text is the message of a fault
+abbrev pub IsMessage : List ℕ → Type 0
+IsMessage text = (fault : Fault) × Tells fault text
 
 -- counted from 1 in place of 0; the count stands still at the greatest number
 abbrev pub from_one : ℕ → ℕ
@@ -10,4 +37,5 @@ from_one n = min (n + 1) MAX
 -- the message, and where the fault stands
 abbrev pub error_text : List ℕ → ℕ → ℕ → List ℕ
 error_text message line column =
-    codes "Toml error: " ++ message ++ codes ", line:" ++ decimal (from_one line) ++ codes " col:" ++ decimal (from_one column)
+    codes "Toml error: " ++ message ++ codes ", line:" ++ decimal (from_one line)
+    ++ codes " col:" ++ decimal (from_one column)

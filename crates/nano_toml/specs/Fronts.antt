@@ -4,7 +4,8 @@ use Rattle.nano_toml.specs.Cut.{Cut, Tokens}
 use Rattle.nano_toml.specs.Data.{Data, Values, no_values, more_values}
 use Rattle.nano_toml.specs.Data as value
 use Rattle.nano_toml.specs.Statements.{Statement, scope, element, pair}
-use Rattle.nano_toml.specs.Token.{Token, ident, string, unsigned, signed, decimal, boolean, nan, infinity, date, equals, open_bracket, close_bracket, comma}
+use Rattle.nano_toml.specs.Token.{Token, ident, string, unsigned, signed, decimal, boolean, nan}
+use Rattle.nano_toml.specs.Token.{infinity, date, equals, open_bracket, close_bracket, comma}
 
 -- a closed thing and the tokens behind it, an open thing that all the tokens are, or neither
 pub data Front (A : Type 0) : Type 0 where
@@ -28,14 +29,17 @@ array_front outer here [] = is_open (close_all outer here)
 array_front outer here (comma ∷ ts) = array_front outer here ts
 array_front outer here (open_bracket ∷ ts) = array_front (here ∷ outer) no_values ts
 array_front [] here (close_bracket ∷ ts) = closed (value.values here) ts
-array_front (around ∷ outer) here (close_bracket ∷ ts) = array_front outer (push_value around (value.values here)) ts
+array_front (around ∷ outer) here (close_bracket ∷ ts) =
+    array_front outer (push_value around (value.values here)) ts
 array_front outer here (string s ∷ ts) = array_front outer (push_value here (value.text s)) ts
-array_front outer here (unsigned n ∷ ts) = array_front outer (push_value here (value.number (pos n))) ts
+array_front outer here (unsigned n ∷ ts) =
+    array_front outer (push_value here (value.number (pos n))) ts
 array_front outer here (signed n ∷ ts) = array_front outer (push_value here (value.number n)) ts
 array_front outer here (decimal s ∷ ts) = array_front outer (push_value here (value.decimal s)) ts
 array_front outer here (boolean b ∷ ts) = array_front outer (push_value here (value.boolean b)) ts
 array_front outer here (nan minus ∷ ts) = array_front outer (push_value here (value.nan minus)) ts
-array_front outer here (infinity minus ∷ ts) = array_front outer (push_value here (value.infinity minus)) ts
+array_front outer here (infinity minus ∷ ts) =
+    array_front outer (push_value here (value.infinity minus)) ts
 array_front outer here (date s ∷ ts) = array_front outer (push_value here (value.date s)) ts
 array_front outer here (ident s ∷ ts) = nothing
 array_front outer here (equals ∷ ts) = nothing
@@ -101,7 +105,8 @@ Begins (t ∷ ts) text rest = (middle : List ℕ) × Cut text t middle × Begins
 -- the text begins with it, and leaves rest; what is open ends the text
 abbrev pub Reads : {A : Type 0} → (List Token → Front A) → List ℕ → A → List ℕ → Type 0
 Reads front text a rest =
-    ((ts : List Token) × Begins ts text rest × ((more : List Token) → front (ts ++ more) ≡ closed a more))
+    ((ts : List Token) × Begins ts text rest
+    × ((more : List Token) → front (ts ++ more) ≡ closed a more))
     ⊎ ((ts : List Token) × Tokens text ts × (front ts ≡ is_open a) × (rest ≡ []))
 
 -- whatever the tokens of the text are, they don't begin with it

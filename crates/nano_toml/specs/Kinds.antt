@@ -1,6 +1,7 @@
 -- The content of a value, where it is of the kind, and None where it is of another.
 use Rattle.std.specs.Prelude.{ℕ, zero, suc, ℤ, List, Bool, Option, Some, None}
-use Rattle.nano_toml.specs.Data.{Data, text, boolean, number, date, tables, values, Values, Tables, no_tables, more_tables, Table}
+use Rattle.nano_toml.specs.Data.{Data, text, boolean, number, decimal, date, tables, values, Values}
+use Rattle.nano_toml.specs.Data.{Tables, no_tables, more_tables, Table}
 
 -- the bytes of a text
 abbrev pub as_text : Data → Option (List ℕ)
@@ -16,6 +17,11 @@ as_boolean _ = None
 abbrev pub as_number : Data → Option ℤ
 as_number (number n) = Some n
 as_number _ = None
+
+-- the bytes of a decimal
+abbrev pub as_decimal : Data → Option (List ℕ)
+as_decimal (decimal s) = Some s
+as_decimal _ = None
 
 -- the bytes of a date
 abbrev pub as_date : Data → Option (List ℕ)

@@ -7,6 +7,9 @@ pub mod Fronts
 pub mod Kinds
 pub mod LiveText
 pub mod Number
+pub mod OneTable
+pub mod Outcomes
+pub mod Place
 pub mod Plain
 pub mod Quoted
 pub mod Reading

@@ -1,6 +1,10 @@
--- Numbers: a sign, and what stands behind it. What that may be, which token it is, and what may not follow.
-use Rattle.std.specs.Prelude.{◌≡◌, ℕ, pos, neg_ℤ, ◌+◌, ◌-◌, ◌*◌, ◌^◌, ◌<◌, ◌≤◌, ◌==◌, Bool, true, false, cond, List, [], ◌∷◌, ◌++◌, length, codes, filter, Option, Some, None}
-use Rattle.nano_toml.specs.Characters.{is_sign, is_digit, is_in_digits, is_in_date, goes_on_integer, Each}
+-- Numbers: a sign, and what stands behind it. What that may be, which token it is, and what may not
+-- follow.
+use Rattle.std.specs.Prelude.{◌≡◌, ℕ, pos, neg_ℤ, ◌+◌, ◌-◌, ◌*◌, ◌^◌, ◌<◌, ◌≤◌, ◌==◌, Bool, true}
+use Rattle.std.specs.Prelude.{false, cond, List, [], ◌∷◌, ◌++◌, length, codes, filter, Option, Some}
+use Rattle.std.specs.Prelude.{None}
+use Rattle.nano_toml.specs.Characters.{is_sign, is_digit, is_in_digits, is_in_date, goes_on_integer}
+use Rattle.nano_toml.specs.Characters.{Each}
 use Rattle.nano_toml.specs.Span.{begins}
 use Rattle.nano_toml.specs.Token.{Token, unsigned, signed, decimal, nan, infinity, date}
 
@@ -39,13 +43,17 @@ abbrev pub IsInRange : Bool → ℕ → Type 0
 IsInRange true n = n ≤ 2 ^ 63
 IsInRange false n = n < 2 ^ 64
 
--- each part has the characters that it may have, a decimal or an integer has a digit, and an integer is in range
+-- each part has the characters that it may have, a decimal or an integer has a digit, and an
+-- integer is in range
 abbrev pub IsBody : Bool → Body → Type 0
 IsBody minus is_nan = Unit {0}
 IsBody minus is_infinity = Unit {0}
-IsBody minus (is_decimal whole part) = Each is_in_digits whole × Each is_in_digits part × (0 < length (digits whole ++ digits part))
+IsBody minus (is_decimal whole part) =
+    Each is_in_digits whole × Each is_in_digits part
+    × (0 < length (digits whole ++ digits part))
 IsBody minus (is_date first more) = Each is_in_digits first × Each is_in_date more
-IsBody minus (is_integer whole) = Each is_in_digits whole × (0 < length (digits whole)) × IsInRange minus (value whole)
+IsBody minus (is_integer whole) =
+    Each is_in_digits whole × (0 < length (digits whole)) × IsInRange minus (value whole)
 
 -- whether a character would go on with it
 abbrev pub goes_on : Body → ℕ → Bool
@@ -66,7 +74,8 @@ integer_token false n = unsigned n
 abbrev pub body_token : Bool → Body → Token
 body_token minus is_nan = nan minus
 body_token minus is_infinity = infinity minus
-body_token minus (is_decimal whole part) = decimal (kept_sign minus ++ (digits whole ++ 46 ∷ digits part))
+body_token minus (is_decimal whole part) =
+    decimal (kept_sign minus ++ (digits whole ++ 46 ∷ digits part))
 body_token minus (is_date first more) = date (kept_sign minus ++ (digits first ++ 45 ∷ more))
 body_token minus (is_integer whole) = integer_token minus (value whole)
 

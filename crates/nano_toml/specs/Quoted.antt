@@ -52,12 +52,17 @@ abbrev pub AreTriplePieces : List Piece → Type 0
 AreTriplePieces [] = Unit {0}
 AreTriplePieces (plain c ∷ more) = (c ≢ 34) × (c ≢ 92) × AreTriplePieces more
 AreTriplePieces (escaped c ∷ more) = AreTriplePieces more
-AreTriplePieces (quotes run ∷ more) = Each is_quote run × (0 < length run) × (length run ≢ 3) × StopsQuotes more × AreTriplePieces more
+AreTriplePieces (quotes run ∷ more) =
+    Each is_quote run × (0 < length run) × (length run ≢ 3)
+    × StopsQuotes more × AreTriplePieces more
 
 -- the text begins with a string of these characters, and rest stands behind it
 pub data IsString (text chars rest : List ℕ) : Type 0 where
-  empty : text ≡ 34 ∷ (34 ∷ rest) → begins is_quote rest ≡ false → chars ≡ [] → IsString text chars rest
+  empty : text ≡ 34 ∷ (34 ∷ rest) → begins is_quote rest ≡ false → chars ≡ []
+      → IsString text chars rest
   short : (pieces : List Piece) → 0 < length pieces → AreShortPieces pieces
-      → text ≡ 34 ∷ (pieces_text pieces ++ 34 ∷ rest) → chars ≡ pieces_chars pieces → IsString text chars rest
-  triple : (pieces : List Piece) → AreTriplePieces pieces → text ≡ 34 ∷ (34 ∷ (34 ∷ (pieces_text pieces ++ 34 ∷ (34 ∷ (34 ∷ rest)))))
+      → text ≡ 34 ∷ (pieces_text pieces ++ 34 ∷ rest) → chars ≡ pieces_chars pieces
+      → IsString text chars rest
+  triple : (pieces : List Piece) → AreTriplePieces pieces
+      → text ≡ 34 ∷ (34 ∷ (34 ∷ (pieces_text pieces ++ 34 ∷ (34 ∷ (34 ∷ rest)))))
       → begins is_quote rest ≡ false → chars ≡ pieces_chars pieces → IsString text chars rest

@@ -26,12 +26,14 @@ abbrev pub arrays_view : List (Vec Toml Global) → List Values → List Values
 arrays_view [] inner = inner
 arrays_view (array ∷ arrays) inner = arrays_view arrays (values_view array.items ∷ inner)
 
--- what stands in the text next: no statement and nothing else, or this statement and then what rest spells
+-- what stands in the text next: no statement and nothing else, or this statement and then what rest
+-- spells
 abbrev pub IsNext : List ℕ → Option Statement → List ℕ → Type 0
 IsNext text None rest = Spells text [] × ((ss : List Statement) → Spells text ss → ss ≡ [])
 IsNext text (Some s) rest =
     ((more : List Statement) → Spells rest more → Spells text (s ∷ more))
-    × ((ss : List Statement) → Spells text ss → (more : List Statement) × (ss ≡ s ∷ more) × Spells rest more)
+    × ((ss : List Statement) → Spells text ss
+    → (more : List Statement) × (ss ≡ s ∷ more) × Spells rest more)
 
 -- the text spells no statements
 abbrev pub SpellsNothing : List ℕ → Type 0

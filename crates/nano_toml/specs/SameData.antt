@@ -8,7 +8,9 @@ use Rattle.std.proofs.Common.{refl, sym, ap, ◌∙◌, true≢false}
 use Rattle.std.proofs.lemmas.Bool.Decides.{Decides-int_eq}
 use Rattle.std.proofs.lemmas.Slice.Eq.{bytes_eq-Decides}
 use Rattle.std.proofs.lemmas.Bool.{and_parts, and_from}
-use Rattle.nano_toml.specs.Data.{Data, text, boolean, number, decimal, nan, infinity, date, tables, values, Values, no_values, more_values, Tables, no_tables, more_tables, Table, no_pairs, more_pairs}
+use Rattle.nano_toml.specs.Data.{Data, text, boolean, number, decimal, nan, infinity, date, tables}
+use Rattle.nano_toml.specs.Data.{values, Values, no_values, more_values, Tables, no_tables}
+use Rattle.nano_toml.specs.Data.{more_tables, Table, no_pairs, more_pairs}
 use Rattle.nano_toml.specs.View.{view}
 use Rattle.nano_toml.specs.declared.value.Toml.{Toml}
 
@@ -59,14 +61,16 @@ mutual
   values_eq_same no_values no_values h = refl
   values_eq_same (more_values a xs) (more_values b ys) h =
       let k = and_parts (data_eq a b) (values_eq xs ys) h in
-      ap (λ c. more_values c xs) (data_eq_same a b k.0) ∙ ap (more_values b) (values_eq_same xs ys k.1)
+      ap (λ c. more_values c xs) (data_eq_same a b k.0)
+      ∙ ap (more_values b) (values_eq_same xs ys k.1)
   values_eq_same _ _ h = absurd (true≢false (sym h))
 
   tables_eq_same : (a b : Tables) → tables_eq a b ≡ true → a ≡ b
   tables_eq_same no_tables no_tables h = refl
   tables_eq_same (more_tables a xs) (more_tables b ys) h =
       let k = and_parts (table_eq a b) (tables_eq xs ys) h in
-      ap (λ c. more_tables c xs) (table_eq_same a b k.0) ∙ ap (more_tables b) (tables_eq_same xs ys k.1)
+      ap (λ c. more_tables c xs) (table_eq_same a b k.0)
+      ∙ ap (more_tables b) (tables_eq_same xs ys k.1)
   tables_eq_same _ _ h = absurd (true≢false (sym h))
 
   table_eq_same : (a b : Table) → table_eq a b ≡ true → a ≡ b
@@ -74,7 +78,9 @@ mutual
   table_eq_same (more_pairs k a xs) (more_pairs l b ys) h =
       let p = and_parts (bytes_eq k l) (data_eq a b && table_eq xs ys) h in
       let q = and_parts (data_eq a b) (table_eq xs ys) p.1 in
-      ap (λ c. more_pairs c a xs) ((bytes_eq-Decides k l).0 p.0) ∙ (ap (λ c. more_pairs l c xs) (data_eq_same a b q.0) ∙ ap (more_pairs l b) (table_eq_same xs ys q.1))
+      ap (λ c. more_pairs c a xs) ((bytes_eq-Decides k l).0 p.0)
+      ∙ (ap (λ c. more_pairs l c xs) (data_eq_same a b q.0)
+      ∙ ap (more_pairs l b) (table_eq_same xs ys q.1))
   table_eq_same _ _ h = absurd (true≢false (sym h))
 
 -- what is the same passes the test
@@ -100,7 +106,9 @@ mutual
 
   table_eq_refl : (a : Table) → table_eq a a ≡ true
   table_eq_refl no_pairs = refl
-  table_eq_refl (more_pairs k a xs) = and_from _ _ ((bytes_eq-Decides k k).1 refl) (and_from _ _ (data_eq_refl a) (table_eq_refl xs))
+  table_eq_refl (more_pairs k a xs) =
+      and_from _ _ ((bytes_eq-Decides k k).1 refl)
+      (and_from _ _ (data_eq_refl a) (table_eq_refl xs))
 
 -- the test tells exactly whether two values are the same
 pub data_eq-Decides : (a b : Data) → Decides (data_eq a b) (a ≡ b)
@@ -114,13 +122,20 @@ view_eq a b = data_eq (view a) (view b)
 pub view_eq_laws : IsPartialEquivalence view_eq
 view_eq_laws =
     let e = decided data_eq data_eq-Decides in
-    record { symm = λ x y. e.symm (view x) (view y); trans = λ x y z p q. e.congr (view x) (view y) (view z) p ∙ q }
+    record {
+      symm = λ x y. e.symm (view x) (view y);
+      trans = λ x y z p q. e.congr (view x) (view y) (view z) p ∙ q;
+    }
 
 -- and reflexive: an equivalence
 pub view_eq_equiv : IsEquivalence view_eq
 view_eq_equiv =
     let e = decided data_eq data_eq-Decides in
-    record { refl = λ x. e.refl (view x); symm = λ x y. e.symm (view x) (view y); congr = λ x y z p. e.congr (view x) (view y) (view z) p }
+    record {
+      refl = λ x. e.refl (view x);
+      symm = λ x y. e.symm (view x) (view y);
+      congr = λ x y z p. e.congr (view x) (view y) (view z) p;
+    }
 
 -- a value equals itself
 abbrev pub EqIsReflexive : Type 0

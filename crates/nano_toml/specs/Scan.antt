@@ -1,6 +1,11 @@
--- The tokenizer as a function of the text, character by character. Contracts of private functions alone name it; lemmas tie it to the cut.
-use Rattle.std.specs.Prelude.{ℕ, ◌+◌, ◌-◌, ◌*◌, ◌^◌, ◌==◌, ◌||◌, nat_lt, nat_le, pos, neg_ℤ, Bool, true, false, List, [], ◌∷◌, ◌++◌, length, encode_utf8, Option, Some, None, option_map, if◌then◌else◌}
-use Rattle.nano_toml.specs.Characters.{is_space, is_line_feed, is_quote, is_digit, is_sign, starts_word, is_in_word, starts_number, is_in_digits, is_in_date}
+-- The tokenizer as a function of the text, character by character. Contracts of private functions
+-- alone name it; lemmas tie it to the cut.
+use Rattle.std.specs.Prelude.{ℕ, ◌+◌, ◌-◌, ◌*◌, ◌^◌, ◌==◌, ◌||◌, nat_lt, nat_le, pos, neg_ℤ, Bool}
+use Rattle.std.specs.Prelude.{true, false, List, [], ◌∷◌, ◌++◌, length, encode_utf8, Option, Some}
+use Rattle.std.specs.Prelude.{None, option_map, if◌then◌else◌}
+use Rattle.nano_toml.specs.Characters.{is_space, is_line_feed, is_quote, is_digit, is_sign}
+use Rattle.nano_toml.specs.Characters.{starts_word, is_in_word, starts_number, is_in_digits}
+use Rattle.nano_toml.specs.Characters.{is_in_date}
 use Rattle.nano_toml.specs.Span.{front, behind, begins}
 use Rattle.nano_toml.specs.Token.{Token, string, unsigned, signed, decimal, nan, infinity, date}
 use Rattle.nano_toml.specs.Word.{word_token}
@@ -25,7 +30,8 @@ tail (c ∷ cs) = cs
 abbrev pub behind_gaps : Bool → List ℕ → List ℕ
 behind_gaps comment [] = []
 behind_gaps true (c ∷ cs) = if is_line_feed c then behind_gaps false cs else behind_gaps true cs
-behind_gaps false (c ∷ cs) = if c == 35 then behind_gaps true cs else if is_space c then behind_gaps false cs else (c ∷ cs)
+behind_gaps false (c ∷ cs) =
+    if c == 35 then behind_gaps true cs else if is_space c then behind_gaps false cs else (c ∷ cs)
 
 -- ---- strings
 
@@ -38,7 +44,10 @@ pub record Content : Type 0 where
 abbrev pub short_at : List ℕ → Bool → List ℕ → Option Content
 short_at bytes escaped [] = None
 short_at bytes true (c ∷ cs) = short_at (bytes ++ encode_utf8 c) false cs
-short_at bytes false (c ∷ cs) = if c == 34 then Some (record { bytes = bytes; rest = cs }) else if c == 92 then short_at bytes true cs else short_at (bytes ++ encode_utf8 c) false cs
+short_at bytes false (c ∷ cs) =
+    if c == 34 then Some (record { bytes = bytes; rest = cs })
+    else if c == 92 then short_at bytes true cs
+    else short_at (bytes ++ encode_utf8 c) false cs
 
 -- between triple quotes, behind these bytes: behind a backslash, or behind this run of quotes
 pub data Behind : Type 0 where
@@ -47,7 +56,8 @@ pub data Behind : Type 0 where
 
 abbrev pub triple_at : List ℕ → Behind → List ℕ → Option Content
 triple_at bytes a_backslash [] = None
-triple_at bytes (some_quotes run) [] = if length run == 3 then Some (record { bytes = bytes; rest = [] }) else None
+triple_at bytes (some_quotes run) [] =
+    if length run == 3 then Some (record { bytes = bytes; rest = [] }) else None
 triple_at bytes a_backslash (c ∷ cs) = triple_at (bytes ++ encode_utf8 c) (some_quotes []) cs
 triple_at bytes (some_quotes run) (c ∷ cs) =
     if c == 34 then triple_at bytes (some_quotes (run ++ c ∷ [])) cs
@@ -57,10 +67,13 @@ triple_at bytes (some_quotes run) (c ∷ cs) =
 
 -- behind the second quote, and behind the first
 abbrev pub behind_two_quotes : List ℕ → Option Content
-behind_two_quotes text = if begins is_quote text then triple_at [] (some_quotes []) (tail text) else Some (record { bytes = []; rest = text })
+behind_two_quotes text =
+    if begins is_quote text then triple_at [] (some_quotes []) (tail text)
+    else Some (record { bytes = []; rest = text })
 
 abbrev pub behind_one_quote : List ℕ → Option Content
-behind_one_quote text = if begins is_quote text then behind_two_quotes (tail text) else short_at [] false text
+behind_one_quote text =
+    if begins is_quote text then behind_two_quotes (tail text) else short_at [] false text
 
 -- ---- numbers
 
@@ -86,27 +99,41 @@ value_at size (c ∷ cs) = value_at (more_value size c) cs
 abbrev pub decimal_at : Bool → List ℕ → List ℕ → Option Taken
 decimal_at minus whole text =
     if any_digit whole || any_digit (front is_in_digits text)
-    then taken (decimal ((kept_sign minus ++ digits whole) ++ (46 ∷ digits (front is_in_digits text)))) (behind is_in_digits text)
+    then taken
+    (decimal ((kept_sign minus ++ digits whole) ++ (46 ∷ digits (front is_in_digits text))))
+    (behind is_in_digits text)
     else None
 
 -- behind the first minus of a date
 abbrev pub date_at : Bool → List ℕ → List ℕ → Option Taken
-date_at minus first text = taken (date ((kept_sign minus ++ digits first) ++ (45 ∷ front is_in_date text))) (behind is_in_date text)
+date_at minus first text =
+    taken (date ((kept_sign minus ++ digits first) ++ (45 ∷ front is_in_date text)))
+    (behind is_in_date text)
 
 -- an integer, from whether it has a digit and from its value
 abbrev pub integer_from : Bool → Bool → Option ℕ → Option Next
 integer_from minus false size = None
 integer_from minus true None = None
 integer_from false true (Some size) = Some (a_token (unsigned size))
-integer_from true true (Some size) = if nat_le size (2 ^ 63) then Some (a_token (signed (neg_ℤ (pos size)))) else None
+integer_from true true (Some size) =
+    if nat_le size (2 ^ 63) then Some (a_token (signed (neg_ℤ (pos size)))) else None
 
 abbrev pub integer_at : Bool → List ℕ → List ℕ → Option Taken
-integer_at minus whole text = option_map (λ next. record { next = next; rest = text }) (integer_from minus (any_digit whole) (fitting (value whole)))
+integer_at minus whole text =
+    option_map (λ next. record { next = next; rest = text })
+    (integer_from minus (any_digit whole) (fitting (value whole)))
 
 -- behind these digits
 abbrev pub behind_digits : Bool → List ℕ → List ℕ → Option Taken
 behind_digits minus whole [] = integer_at minus whole []
-behind_digits minus whole (c ∷ cs) = if c == 46 then decimal_at minus whole cs else if c == 45 then date_at minus whole cs else integer_at minus whole (c ∷ cs)
+behind_digits minus whole (c ∷ cs) =
+    if c == 46 then decimal_at minus whole cs
+    else if c == 45 then date_at minus whole cs
+    else integer_at minus whole (c ∷ cs)
+
+-- behind a sign, from the digits on
+abbrev pub number_from : Bool → List ℕ → Option Taken
+number_from minus text = behind_digits minus (front is_in_digits text) (behind is_in_digits text)
 
 -- the text without these characters at its front, if they stand there
 abbrev pub behind_word : List ℕ → List ℕ → Option (List ℕ)
@@ -115,17 +142,25 @@ behind_word (w ∷ ws) [] = None
 behind_word (w ∷ ws) (c ∷ cs) = if c == w then behind_word ws cs else None
 
 abbrev pub word_at : Token → List ℕ → List ℕ → Option Taken
-word_at token word text = option_map (λ rest. record { next = a_token token; rest = rest }) (behind_word word text)
+word_at token word text =
+    option_map (λ rest. record { next = a_token token; rest = rest }) (behind_word word text)
+
+abbrev pub n_a_n : List ℕ
+n_a_n = 110 ∷ (97 ∷ (110 ∷ []))
+
+abbrev pub i_n_f : List ℕ
+i_n_f = 105 ∷ (110 ∷ (102 ∷ []))
 
 -- behind a sign, if there is one
 abbrev pub behind_sign : Bool → List ℕ → Option Taken
 behind_sign minus text =
-    if begins (λ c. c == 110) text then word_at (nan minus) (110 ∷ (97 ∷ (110 ∷ []))) text
-    else if begins (λ c. c == 105) text then word_at (infinity minus) (105 ∷ (110 ∷ (102 ∷ []))) text
-    else behind_digits minus (front is_in_digits text) (behind is_in_digits text)
+    if begins (λ c. c == 110) text then word_at (nan minus) n_a_n text
+    else if begins (λ c. c == 105) text then word_at (infinity minus) i_n_f text
+    else number_from minus text
 
 abbrev pub number_at : List ℕ → Option Taken
-number_at text = behind_sign (begins (λ c. c == 45) text) (if begins is_sign text then tail text else text)
+number_at text =
+    behind_sign (begins (λ c. c == 45) text) (if begins is_sign text then tail text else text)
 
 -- ---- one token
 
@@ -133,9 +168,12 @@ number_at text = behind_sign (begins (λ c. c == 45) text) (if begins is_sign te
 abbrev pub lexeme_at : List ℕ → Option Taken
 lexeme_at [] = None
 lexeme_at (c ∷ cs) =
-    if starts_word c then taken (word_token (front is_in_word (c ∷ cs))) (behind is_in_word (c ∷ cs))
+    if starts_word c
+    then taken (word_token (front is_in_word (c ∷ cs))) (behind is_in_word (c ∷ cs))
     else if starts_number c then number_at (c ∷ cs)
-    else if is_quote c then option_map (λ content. record { next = a_token (string content.bytes); rest = content.rest }) (behind_one_quote cs)
+    else if is_quote c
+    then option_map (λ s. record { next = a_token (string s.bytes); rest = s.rest })
+    (behind_one_quote cs)
     else option_map (λ token. record { next = a_token token; rest = cs }) (mark_token c)
 
 -- at the end of the text, or at a lexeme

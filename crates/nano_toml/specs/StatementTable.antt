@@ -1,5 +1,6 @@
 -- The table of a list of statements, read off places in the list.
-use Rattle.std.specs.Prelude.{◌≡◌, ℕ, List, [], ◌∷◌, ◌++◌, Option, Some, None, if◌then◌else◌, unwrap_or}
+use Rattle.std.specs.Prelude.{◌≡◌, ℕ, List, [], ◌∷◌, ◌++◌, Option, Some, None, if◌then◌else◌}
+use Rattle.std.specs.Prelude.{unwrap_or}
 use Rattle.std.specs.Str.{bytes_eq}
 use Rattle.nano_toml.specs.Data.{Data, tables, Tables, no_tables, more_tables, Table, at}
 use Rattle.nano_toml.specs.Statements.{Statement, scope, element, pair, Spells}
@@ -38,7 +39,8 @@ full_key (c ∷ cs) name = (c ∷ cs) ++ 46 ∷ name
 -- the pairs among the statements, with their full keys; the statements `before` stand before them
 abbrev pub pairs : List Statement → List Statement → List Pair
 pairs before [] = []
-pairs before (pair name d ∷ ss) = (full_key (scope_of before) name, d) ∷ pairs (before ++ pair name d ∷ []) ss
+pairs before (pair name d ∷ ss) =
+    (full_key (scope_of before) name, d) ∷ pairs (before ++ pair name d ∷ []) ss
 pairs before (s ∷ ss) = pairs (before ++ s ∷ []) ss
 
 -- the statements up to the next `[[..]]`
@@ -51,12 +53,14 @@ until_element (s ∷ ss) = s ∷ until_element ss
 abbrev pub root_pairs : List Statement → List Pair
 root_pairs ss = pairs [] (until_element ss)
 
--- for each `[[key]]`, in order, the pairs of the statements from it to the next `[[..]]`; `before` stands before them all
+-- for each `[[key]]`, in order, the pairs of the statements from it to the next `[[..]]`; `before`
+-- stands before them all
 abbrev pub element_pairs : List ℕ → List Statement → List Statement → List (List Pair)
 element_pairs key before [] = []
 element_pairs key before (element name ∷ ss) =
     let now = before ++ element name ∷ [] in
-    if bytes_eq key name then pairs now (until_element ss) ∷ element_pairs key now ss else element_pairs key now ss
+    if bytes_eq key name then pairs now (until_element ss) ∷ element_pairs key now ss
+    else element_pairs key now ss
 element_pairs key before (s ∷ ss) = element_pairs key (before ++ s ∷ []) ss
 
 -- one table for each list of pairs, in order, with its last values
@@ -65,22 +69,29 @@ HaveLast [] no_tables = Unit {0}
 HaveLast (ps ∷ more) (more_tables table ts) = HasLast ps table × HaveLast more ts
 HaveLast pss ts = ⊥
 
--- what the root has at a key, by the pairs of its elements and its last value: the Array of the elements, or that value
+-- what the root has at a key, by the pairs of its elements and its last value: the Array of the
+-- elements, or that value
 abbrev pub IsFound : List (List Pair) → Option Data → Option Data → Type 0
 IsFound [] last found = found ≡ last
-IsFound (ps ∷ more) last found = (ts : Tables) × HaveLast (ps ∷ more) ts × (found ≡ Some (tables ts))
+IsFound (ps ∷ more) last found =
+    (ts : Tables) × HaveLast (ps ∷ more) ts × (found ≡ Some (tables ts))
 
 -- the table of the statements
 abbrev pub IsTableOf : List Statement → Table → Type 0
-IsTableOf ss table = (key : List ℕ) → IsFound (element_pairs key [] ss) (last_value key (root_pairs ss)) (at key table)
+IsTableOf ss table =
+    (key : List ℕ)
+    → IsFound (element_pairs key [] ss) (last_value key (root_pairs ss)) (at key table)
 
 -- no `[[key]]` names a key that the root holds by a statement `name = value`
 abbrev pub IsLawful : List Statement → Type 0
-IsLawful ss = (before after : List Statement) (key : List ℕ) → ss ≡ before ++ element key ∷ after → last_value key (root_pairs ss) ≡ None
+IsLawful ss =
+    (before after : List Statement) (key : List ℕ) → ss ≡ before ++ element key ∷ after
+    → last_value key (root_pairs ss) ≡ None
 
 -- the text spells lawful statements, and this is their table
 abbrev pub SpellsTable : List ℕ → Table → Type 0
-SpellsTable text table = (ss : List Statement) × Spells text ss × IsLawful ss × IsTableOf ss table
+SpellsTable text table =
+    (ss : List Statement) × Spells text ss × IsLawful ss × IsTableOf ss table
 
 -- the text spells no lawful statements
 abbrev pub SpellsNoTable : List ℕ → Type 0
@@ -88,4 +99,5 @@ SpellsNoTable text = (ss : List Statement) → Spells text ss → IsLawful ss �
 
 -- two lists that the text spells are one
 abbrev pub SpellsOneList : List ℕ → Type 0
-SpellsOneList text = (one other : List Statement) → Spells text one → Spells text other → one ≡ other
+SpellsOneList text =
+    (one other : List Statement) → Spells text one → Spells text other → one ≡ other

@@ -1,6 +1,7 @@
 -- What the tokenizer gives.
 use Rattle.std.specs.Prelude.{◌≡◌, ℕ, List, [], string_bytes}
-use Rattle.nano_toml.specs.Token.{Token, ident, string, unsigned, signed, decimal, boolean, nan, infinity, date, equals, open_bracket, close_bracket, comma}
+use Rattle.nano_toml.specs.Token.{Token, ident, string, unsigned, signed, decimal, boolean, nan}
+use Rattle.nano_toml.specs.Token.{infinity, date, equals, open_bracket, close_bracket, comma}
 use Rattle.nano_toml.specs.Cut.{Cut, CutEnd}
 use Rattle.nano_toml.specs.declared.token.TomlTok.{TomlTok}
 use Rattle.nano_toml.specs.declared.token.TomlTok.TheVariants as tok

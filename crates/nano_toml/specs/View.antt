@@ -4,7 +4,9 @@ use Rattle.std.specs.declared.alloc.Global.{Global}
 use Rattle.std.specs.declared.hash.FoldHasher.{FoldHasher}
 use Rattle.std.specs.declared.hash.BuildHasherDefault.{BuildHasherDefault}
 use Rattle.std.specs.HashMap.{HashMap}
-use Rattle.nano_toml.specs.Data.{Data, text, boolean, number, decimal, nan, infinity, date, tables, values, Values, no_values, more_values, Tables, no_tables, more_tables, Table, no_pairs, put}
+use Rattle.nano_toml.specs.Data.{Data, text, boolean, number, decimal, nan, infinity, date, tables}
+use Rattle.nano_toml.specs.Data.{values, Values, no_values, more_values, Tables, no_tables}
+use Rattle.nano_toml.specs.Data.{more_tables, Table, no_pairs, put}
 use Rattle.nano_toml.specs.declared.value.Toml.{Toml, fold-Toml}
 use Rattle.nano_toml.specs.declared.value.Toml.TheOpen.{Toml-F}
 
@@ -46,5 +48,6 @@ abbrev pub values_view : List Toml → Values
 values_view ts = values_of (map view ts)
 
 -- what maps in order mean
-abbrev pub tables_view : List (HashMap (String Global) Toml (BuildHasherDefault FoldHasher)) → Tables
+abbrev pub tables_view :
+    List (HashMap (String Global) Toml (BuildHasherDefault FoldHasher)) → Tables
 tables_view ms = tables_of (map (λ m. table_view m.entries) ms)

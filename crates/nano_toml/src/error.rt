@@ -11,13 +11,16 @@ use std::fmt;
 /// `Unexpected token {token} `, where a token stands where none of its kind may;
 /// `Array header on another kind {key} `, where a header `[[key]]` names a key that a pair gave.
 /// Where memory was wanted, `memory` is true and `msg` is empty.
+///
+/// The place is where reading stood: behind the last character that was taken, which may be the one
+/// that follows the token at fault.
 #[derive(Drop)]
 pub struct TomlErr {
     /// What is wrong.
     pub msg: String,
-    /// How many line feeds were taken before the fault was found.
+    /// How many line feeds stand before the place, so that 0 is the first line.
     pub line: usize,
-    /// How many characters of its line were taken before the fault was found.
+    /// How many characters of its line stand before the place.
     pub col: usize,
     /// Whether memory was wanted, which says nothing of the text.
     pub memory: bool,

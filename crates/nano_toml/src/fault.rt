@@ -1,36 +1,47 @@
 //! Why the reader stopped.
 
 ghost use Rattle.std.specs.Prelude.{◌≡◌};
+ghost use Rattle.nano_toml.specs.ErrorText.{word_of};
 ghost use Rattle.nano_toml.specs.declared.fault.Fault.TheVariants.{Memory};
 
-use crate::token::TokenFault;
+use crate::token::TomlTok;
 use std::alloc::{AllocError, AllocFailed};
 
-/// Why the reader stopped: want of memory, or what is wrong with the text.
+/// What characters were taken for that begin no token.
 #[derive(Clone, Copy, Debug)]
-pub(crate) enum Fault {
-    Memory,
-    /// No token could be cut.
-    Token(TokenFault),
-    /// The token that the reader keeps may not stand there.
-    Unexpected,
-    /// A header names a key that a pair gave. The reader keeps the key as a word.
-    OtherKind,
+pub(crate) enum Lexeme {
+    Number,
+    Nan,
+    Infinity,
+    Quoted,
+    Character,
 }
 
-impl From<TokenFault> for Fault {
-    ghost use Rattle.std.specs.Prelude.{◌≡◌};
-    ghost use Rattle.nano_toml.specs.declared.fault.Fault.TheVariants as fault;
-    ghost use Rattle.nano_toml.specs.declared.token.TokenFault.TheVariants as token;
-
-    ghost from_gives = { λ f e. f ≡ token.Memory → e ≡ fault.Memory };
-
-    fn from(fault: TokenFault) -> Fault {
-        match fault {
-            TokenFault::Memory => Fault::Memory,
-            fault => Fault::Token(fault),
+impl Lexeme {
+    /// The word for it in a message.
+    pub(crate) fn word(self) -> &'static str
+        ensures { result.now ≡ word_of self }
+    {
+        match self {
+            Lexeme::Number => "number",
+            Lexeme::Nan => "nan",
+            Lexeme::Infinity => "inf",
+            Lexeme::Quoted => "string",
+            Lexeme::Character => "tokenizer",
         }
     }
+}
+
+/// Why the reader stopped: want of memory, or what is wrong with the text.
+#[derive(Drop, Debug)]
+pub(crate) enum Fault {
+    Memory,
+    /// The characters begin no token.
+    Malformed(Lexeme),
+    /// A token stands where none of its kind may.
+    Unexpected(TomlTok),
+    /// A header `[[key]]` names a key that a pair gave.
+    OtherKind(String),
 }
 
 impl From<AllocError> for Fault {

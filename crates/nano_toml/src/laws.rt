@@ -1,9 +1,12 @@
-//! Laws of the values and of the definitions. The functions do nothing: what counts is what they ensure.
+//! Laws of the values and of the definitions. The functions do nothing: what counts is what they
+//! ensure.
 
 ghost use Rattle.std.specs.Prelude.{ℕ, List};
 ghost use Rattle.nano_toml.specs.Cut.{IsCutInOneWay};
+ghost use Rattle.nano_toml.specs.OneTable.{HasOneTable, SpellsOneTable};
 ghost use Rattle.nano_toml.specs.SameData.{EqIsReflexive, EqIsSymmetric, EqIsTransitive};
 ghost use Rattle.nano_toml.specs.StatementTable.{SpellsOneList};
+ghost use Rattle.nano_toml.specs.Statements.{Statement};
 
 /// Each value equals itself by `==`, `Nan` included.
 pub fn eq_is_reflexive()
@@ -28,4 +31,14 @@ pub fn text_is_cut_in_one_way()
 /// A text spells one list of statements at most.
 pub fn text_spells_one_list()
     ensures { (text : List ℕ) → SpellsOneList text }
+{}
+
+/// A list of statements has one table at most: two tables of it have the same value.
+pub fn list_has_one_table()
+    ensures { (statements : List Statement) → HasOneTable statements }
+{}
+
+/// A text spells one table at most: two answers of `parse` for one text have the same value.
+pub fn text_spells_one_table()
+    ensures { (text : List ℕ) → SpellsOneTable text }
 {}

@@ -1,4 +1,5 @@
-//! Reads TOML: a small dialect, whose values are texts, truth values, whole numbers, decimals, dates and arrays of these, and tables in arrays.
+//! Reads TOML: a small dialect, whose values are texts, truth values, whole numbers, decimals,
+//! dates and arrays of these, and tables in arrays.
 #![tactic(auto)]
 
 pub mod error;
@@ -6,6 +7,7 @@ mod fault;
 pub mod laws;
 mod numbers;
 mod parser;
+mod place;
 mod same;
 mod state;
 mod statements;

@@ -1,15 +1,22 @@
 // Numbers and dates.
-ghost use Rattle.std.specs.Prelude.{◌≡◌, ◌≢◌, ◌==◌, ◌++◌, ◌∷◌, [], ◌^◌, pos, neg_ℤ, nat_le, true, Some, None, OnOk, OnErr, IfOk, IfErr, string_bytes, if◌then◌else◌};
-ghost use Rattle.nano_toml.specs.Characters.{is_sign, is_digit, starts_number, is_in_digits, is_in_date};
+ghost use Rattle.std.specs.Prelude.{◌≡◌, ◌==◌, ◌^◌, pos, neg_ℤ, nat_le, true};
+ghost use Rattle.std.specs.Prelude.{Some, None, OnOk, OnErr, IfOk, IfErr, string_bytes};
+ghost use Rattle.std.specs.Prelude.{if◌then◌else◌};
+ghost use Rattle.nano_toml.specs.Characters.{is_sign, is_digit, starts_number, is_in_digits};
+ghost use Rattle.nano_toml.specs.Characters.{is_in_date};
 ghost use Rattle.nano_toml.specs.LiveText.{live};
 ghost use Rattle.nano_toml.specs.Number.{digits, value, kept_sign};
-ghost use Rattle.nano_toml.specs.Scan.{tail, any_digit, fitting, more_value, decimal_at, date_at, integer_from, behind_digits, word_at, number_at};
+ghost use Rattle.nano_toml.specs.Outcomes.{OnFault, FaultIs, Appends, Takes};
+ghost use Rattle.nano_toml.specs.Scan.{n_a_n, i_n_f, number_from};
+ghost use Rattle.nano_toml.specs.Scan.{tail, any_digit, fitting, more_value, decimal_at, date_at};
+ghost use Rattle.nano_toml.specs.Scan.{integer_from, word_at, number_at};
 ghost use Rattle.nano_toml.specs.Span.{front, behind, begins};
 ghost use Rattle.nano_toml.specs.Taken.{token_of};
 ghost use Rattle.nano_toml.specs.Token.{nan, infinity};
 
+use crate::fault::{Fault, Lexeme};
 use crate::state::Cursor;
-use crate::token::{TokenFault, TomlTok};
+use crate::token::TomlTok;
 use std::alloc::{AllocError, Global};
 
 fn is_sign(c: char) -> bool
@@ -73,9 +80,11 @@ fn negative(size: u64) -> Option<i64>
 }
 
 /// The integer of digits, unless there is none or it is out of range.
-fn integer(minus: bool, digits: Digits) -> Result<TomlTok, TokenFault>
-    ensures found { IfOk result (λ t. integer_from minus digits.any digits.value ≡ Some (token_of t)) }
+fn integer(minus: bool, digits: Digits) -> Result<TomlTok, Fault>
+    ensures found { IfOk result
+        (λ t. integer_from minus digits.any digits.value ≡ Some (token_of t)) }
     ensures refused { OnErr result (integer_from minus digits.any digits.value ≡ None) }
+    ensures told { IfErr result (λ e. e ≡ Fault.Malformed Lexeme.Number) }
 {
     match digits.value {
         Some(size) if digits.any => {
@@ -84,10 +93,10 @@ fn integer(minus: bool, digits: Digits) -> Result<TomlTok, TokenFault>
             }
             match negative(size) {
                 Some(number) => Ok(TomlTok::I64(number)),
-                None => Err(TokenFault::Number),
+                None => Err(Fault::Malformed(Lexeme::Number)),
             }
         }
-        _ => Err(TokenFault::Number),
+        _ => Err(Fault::Malformed(Lexeme::Number)),
     }
 }
 
@@ -104,9 +113,10 @@ fn sign_text(alloc: Global, minus: bool) -> Result<String, AllocError>
 
 impl<'a> Cursor<'a> {
     /// Takes a sign, if there is one, and answers whether it is a minus.
-    fn sign(&mut self) -> bool
+    fn read_sign(&mut self) -> bool
         ensures minus { result ≡ begins (λ c. c == 45) (live self.old) }
-        ensures rest { live self.new ≡ (if begins is_sign (live self.old) then tail (live self.old) else live self.old) }
+        ensures rest { live self.new
+            ≡ (if begins is_sign (live self.old) then tail (live self.old) else live self.old) }
     {
         let minus = self.cur == '-';
         if is_sign(self.cur) {
@@ -116,7 +126,7 @@ impl<'a> Cursor<'a> {
     }
 
     /// Takes digits and underscores.
-    fn digits(&mut self) -> Digits
+    fn read_digits(&mut self) -> Digits
         ensures any { result.any ≡ any_digit (front is_in_digits (live self.old)) }
         ensures value { result.value ≡ fitting (value (front is_in_digits (live self.old))) }
         ensures rest { live self.new ≡ behind is_in_digits (live self.old) }
@@ -133,11 +143,13 @@ impl<'a> Cursor<'a> {
         Digits { any, value }
     }
 
-    /// Takes digits and underscores, puts the digits behind the text, and answers whether there are any.
-    fn push_digits(&mut self, text: &mut String) -> Result<bool, AllocError>
+    /// Takes digits and underscores, puts the digits behind the text, and answers whether there are
+    /// any.
+    fn append_digits(&mut self, text: &mut String) -> Result<bool, AllocError>
         ensures any { IfOk result (λ any. any ≡ any_digit (front is_in_digits (live self.old))) }
         ensures rest { OnOk result (live self.new ≡ behind is_in_digits (live self.old)) }
-        ensures text { OnOk result (string_bytes text.new ≡ string_bytes text.old ++ digits (front is_in_digits (live self.old))) }
+        ensures text { OnOk result
+            (Appends text.old text.new (digits (front is_in_digits (live self.old)))) }
     {
         let mut any = false;
         'kept: while is_in_digits(self.cur) {
@@ -151,9 +163,9 @@ impl<'a> Cursor<'a> {
     }
 
     /// Takes digits, `:`, `-` and `T`, and puts them behind the text.
-    fn push_date(&mut self, text: &mut String) -> Result<(), AllocError>
+    fn append_date(&mut self, text: &mut String) -> Result<(), AllocError>
         ensures rest { OnOk result (live self.new ≡ behind is_in_date (live self.old)) }
-        ensures text { OnOk result (string_bytes text.new ≡ string_bytes text.old ++ front is_in_date (live self.old)) }
+        ensures text { OnOk result (Appends text.old text.new (front is_in_date (live self.old))) }
     {
         'date: while is_in_date(self.cur) {
             text.push(self.cur)?;
@@ -163,96 +175,105 @@ impl<'a> Cursor<'a> {
     }
 
     /// Reads a decimal, behind its point. Its digits before the point begin at `whole`.
-    fn decimal(
+    fn read_decimal(
         &mut self,
         alloc: Global,
         minus: bool,
         whole: &mut Cursor<'_>,
-    ) -> Result<TomlTok, TokenFault>
-        ensures found { IfOk result (λ t. decimal_at minus (front is_in_digits (live whole.old)) (live self.old) ≡ Some (record { next = token_of t; rest = live self.new })) }
-        ensures refused { IfErr result (λ e. e ≢ TokenFault.Memory → decimal_at minus (front is_in_digits (live whole.old)) (live self.old) ≡ None) }
+    ) -> Result<TomlTok, Fault>
+        ensures found { Takes result
+            (decimal_at minus (front is_in_digits (live whole.old)) (live self.old))
+            (live self.new) }
+        ensures refused { OnFault result
+            (decimal_at minus (front is_in_digits (live whole.old)) (live self.old) ≡ None) }
+        ensures told { FaultIs result (Fault.Malformed Lexeme.Number) }
     {
         let mut text = sign_text(alloc, minus)?;
-        let before = whole.push_digits(&mut text)?;
+        let before = whole.append_digits(&mut text)?;
         text.push('.')?;
-        let after = self.push_digits(&mut text)?;
+        let after = self.append_digits(&mut text)?;
         if before || after {
             Ok(TomlTok::F64(text))
         } else {
-            Err(TokenFault::Number)
+            Err(Fault::Malformed(Lexeme::Number))
         }
     }
 
     /// Reads a date, behind its first minus. Its first digits begin at `first`.
-    fn date(
+    fn read_date(
         &mut self,
         alloc: Global,
         minus: bool,
         first: &mut Cursor<'_>,
     ) -> Result<TomlTok, AllocError>
-        ensures { IfOk result (λ t. date_at minus (front is_in_digits (live first.old)) (live self.old) ≡ Some (record { next = token_of t; rest = live self.new })) }
+        ensures { Takes result
+            (date_at minus (front is_in_digits (live first.old)) (live self.old))
+            (live self.new) }
     {
         let mut text = sign_text(alloc, minus)?;
-        let _any = first.push_digits(&mut text)?;
+        let _any = first.append_digits(&mut text)?;
         text.push('-')?;
-        self.push_date(&mut text)?;
+        self.append_date(&mut text)?;
         Ok(TomlTok::Date(text))
     }
 
     /// Reads `nan`.
-    fn nan(&mut self, minus: bool) -> Result<TomlTok, TokenFault>
-        ensures found { IfOk result (λ t. word_at (nan minus) (110 ∷ (97 ∷ (110 ∷ []))) (live self.old) ≡ Some (record { next = token_of t; rest = live self.new })) }
-        ensures refused { IfErr result (λ e. e ≢ TokenFault.Memory → word_at (nan minus) (110 ∷ (97 ∷ (110 ∷ []))) (live self.old) ≡ None) }
+    fn read_nan(&mut self, minus: bool) -> Result<TomlTok, Fault>
+        ensures found { Takes result (word_at (nan minus) n_a_n (live self.old)) (live self.new) }
+        ensures refused { OnFault result (word_at (nan minus) n_a_n (live self.old) ≡ None) }
+        ensures told { FaultIs result (Fault.Malformed Lexeme.Nan) }
     {
         if self.take('n') && self.take('a') && self.take('n') {
             Ok(TomlTok::Nan(minus))
         } else {
-            Err(TokenFault::Nan)
+            Err(Fault::Malformed(Lexeme::Nan))
         }
     }
 
     /// Reads `inf`.
-    fn infinity(&mut self, minus: bool) -> Result<TomlTok, TokenFault>
-        ensures found { IfOk result (λ t. word_at (infinity minus) (105 ∷ (110 ∷ (102 ∷ []))) (live self.old) ≡ Some (record { next = token_of t; rest = live self.new })) }
-        ensures refused { IfErr result (λ e. e ≢ TokenFault.Memory → word_at (infinity minus) (105 ∷ (110 ∷ (102 ∷ []))) (live self.old) ≡ None) }
+    fn read_infinity(&mut self, minus: bool) -> Result<TomlTok, Fault>
+        ensures found { Takes result
+            (word_at (infinity minus) i_n_f (live self.old)) (live self.new) }
+        ensures refused { OnFault result (word_at (infinity minus) i_n_f (live self.old) ≡ None) }
     {
         if !self.take('i') || !self.take('n') {
-            Err(TokenFault::Nan)
+            Err(Fault::Malformed(Lexeme::Nan))
         } else if self.take('f') {
             Ok(TomlTok::Inf(minus))
         } else {
-            Err(TokenFault::Infinity)
+            Err(Fault::Malformed(Lexeme::Infinity))
         }
     }
 
     /// Reads a number that starts with digits, behind its sign.
-    fn from_digits(&mut self, alloc: Global, minus: bool) -> Result<TomlTok, TokenFault>
-        ensures found { IfOk result (λ t. behind_digits minus (front is_in_digits (live self.old)) (behind is_in_digits (live self.old)) ≡ Some (record { next = token_of t; rest = live self.new })) }
-        ensures refused { IfErr result (λ e. e ≢ TokenFault.Memory → behind_digits minus (front is_in_digits (live self.old)) (behind is_in_digits (live self.old)) ≡ None) }
+    fn read_from_digits(&mut self, alloc: Global, minus: bool) -> Result<TomlTok, Fault>
+        ensures found { Takes result (number_from minus (live self.old)) (live self.new) }
+        ensures refused { OnFault result (number_from minus (live self.old) ≡ None) }
+        ensures told { FaultIs result (Fault.Malformed Lexeme.Number) }
     {
         let mut start = self.again();
-        let digits = self.digits();
+        let digits = self.read_digits();
         if self.take('.') {
-            self.decimal(alloc, minus, &mut start)
+            self.read_decimal(alloc, minus, &mut start)
         } else if self.take('-') {
-            Ok(self.date(alloc, minus, &mut start)?)
+            Ok(self.read_date(alloc, minus, &mut start)?)
         } else {
             integer(minus, digits)
         }
     }
 
     /// Reads a number or a date.
-    pub(crate) fn number(&mut self, alloc: Global) -> Result<TomlTok, TokenFault>
-        ensures found { IfOk result (λ t. number_at (live self.old) ≡ Some (record { next = token_of t; rest = live self.new })) }
-        ensures refused { IfErr result (λ e. e ≢ TokenFault.Memory → number_at (live self.old) ≡ None) }
+    pub(crate) fn read_number(&mut self, alloc: Global) -> Result<TomlTok, Fault>
+        ensures found { Takes result (number_at (live self.old)) (live self.new) }
+        ensures refused { OnFault result (number_at (live self.old) ≡ None) }
     {
-        let minus = self.sign();
+        let minus = self.read_sign();
         if self.cur == 'n' {
-            return self.nan(minus);
+            return self.read_nan(minus);
         }
         if self.cur == 'i' {
-            return self.infinity(minus);
+            return self.read_infinity(minus);
         }
-        self.from_digits(alloc, minus)
+        self.read_from_digits(alloc, minus)
     }
 }

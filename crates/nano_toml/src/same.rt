@@ -6,8 +6,8 @@ ghost use Rattle.nano_toml.specs.View.{view, values_view, tables_view, table_vie
 use crate::value::Toml;
 use std::collections::HashMap;
 
-// Whether the values are of the same kind with the same content. Of two lists the last values are compared by the loop, so
-// that a list in the last place of a list takes no stack.
+// Whether the values are of the same kind with the same content. Of two lists the last values are
+// compared by the loop, so that a list in the last place of a list takes no stack.
 #[cycle(same)]
 pub fn same_value(one: &Toml, other: &Toml) -> bool
     ensures { IsTrue result ↔ (view one.now ≡ view other.now) }

@@ -1,14 +1,17 @@
 // The place in a text, and the steps to the next character and to the next token.
-ghost use Rattle.std.specs.Prelude.{◌≡◌, ◌≢◌, ◌∷◌, ◌==◌, true, false, not, IfOk, IfErr, option_map, if◌then◌else◌};
+ghost use Rattle.std.specs.Prelude.{◌≡◌, ◌≢◌, ◌∷◌, ◌==◌, ◌-◌, chars, length, false, not};
+ghost use Rattle.std.specs.Prelude.{IfOk, option_map, if◌then◌else◌};
 ghost use Rattle.nano_toml.specs.Characters.{is_space, is_line_feed, starts_word, starts_number};
 ghost use Rattle.nano_toml.specs.Cut.{mark_token, CutsNothing};
 ghost use Rattle.nano_toml.specs.LiveText.{live, live_text, held, before_nul};
+ghost use Rattle.nano_toml.specs.Outcomes.{OnFault};
 ghost use Rattle.nano_toml.specs.Scan.{behind_gaps, tail};
 ghost use Rattle.nano_toml.specs.Span.{begins, behind};
 ghost use Rattle.nano_toml.specs.Taken.{a_token, token_of, Took};
 
+use crate::fault::{Fault, Lexeme};
 use crate::numbers::starts_number;
-use crate::token::{TokenFault, TomlTok};
+use crate::token::TomlTok;
 use crate::words::{starts_word, word_token};
 use std::alloc::Global;
 use std::str::Chars;
@@ -18,26 +21,12 @@ use std::str::Chars;
 pub(crate) struct Cursor<'a> {
     pub(crate) cur: char,
     pub(crate) behind: Chars<'a>,
-    pub(crate) line: usize,
-    pub(crate) col: usize,
 }
 
 fn is_space(c: char) -> bool
     ensures { result ≡ is_space c }
 {
     c == '\n' || c == '\r' || c == '\t' || c == ' '
-}
-
-fn line_feeds(bytes: &[u8]) -> usize {
-    bytes.iter().filter(|byte| **byte == b'\n').count()
-}
-
-/// How many characters these bytes of UTF-8 begin.
-fn characters(bytes: &[u8]) -> usize {
-    bytes
-        .iter()
-        .filter(|byte| **byte < 0x80 || 0xC0 <= **byte)
-        .count()
 }
 
 /// The token of one character, if it is one.
@@ -61,8 +50,6 @@ impl<'a> Cursor<'a> {
         let mut cursor = Cursor {
             cur: '\0',
             behind: input.chars(),
-            line: 0,
-            col: 0,
         };
         cursor.next();
         cursor
@@ -75,8 +62,6 @@ impl<'a> Cursor<'a> {
         Cursor {
             cur: self.cur,
             behind: self.behind.as_str().chars(),
-            line: self.line,
-            col: self.col,
         }
     }
 
@@ -87,32 +72,17 @@ impl<'a> Cursor<'a> {
     {
         let _text = self.behind.as_str();
         match self.behind.next() {
-            Some(c) => {
-                self.cur = c;
-                if c == '\n' {
-                    self.line = self.line.saturating_add(1);
-                    self.col = 0;
-                } else {
-                    self.col = self.col.saturating_add(1);
-                }
-            }
+            Some(c) => self.cur = c,
             None => self.cur = '\0',
         }
     }
 
-    /// Counts these characters as if they were taken one by one.
-    pub(crate) fn pass(&mut self, text: &str)
-        ensures cur { self.new.cur ≡ self.old.cur }
-        ensures behind { self.new.behind ≡ self.old.behind }
+    /// How many characters of the text were taken, the current one among them.
+    pub(crate) fn taken(&self, text: &str) -> usize
+        ensures { result ≡ length (chars text.now) - length (held self.now.behind) }
     {
-        let bytes = text.as_bytes();
-        match bytes.iter().rposition(|byte| *byte == b'\n') {
-            Some(last) => {
-                self.line = self.line.saturating_add(line_feeds(bytes));
-                self.col = characters(&bytes[last + 1..]);
-            }
-            None => self.col = self.col.saturating_add(characters(bytes)),
-        }
+        let left = self.behind.as_str();
+        text.chars().count().saturating_sub(left.chars().count())
     }
 
     /// Takes this character, if it stands here, and answers whether it does.
@@ -153,21 +123,21 @@ impl<'a> Cursor<'a> {
         }
     }
 
-    /// Cuts one token, or the end of the text. Where it refuses, the line and the column are those of the fault.
-    pub(crate) fn next_tok(&mut self, alloc: Global) -> Result<TomlTok, TokenFault>
+    /// Cuts one token, or the end of the text.
+    pub(crate) fn next_tok(&mut self, alloc: Global) -> Result<TomlTok, Fault>
         ensures cut { IfOk result (λ t. Took (live self.old) (token_of t) (live self.new)) }
-        ensures refused { IfErr result (λ e. e ≢ TokenFault.Memory → CutsNothing (live self.old)) }
+        ensures refused { OnFault result (CutsNothing (live self.old)) }
     {
         self.skip();
         if starts_word(self.cur) {
-            return Ok(word_token(self.word(alloc)?));
+            return Ok(word_token(self.read_word(alloc)?));
         }
         if starts_number(self.cur) {
-            return self.number(alloc);
+            return self.read_number(alloc);
         }
         if self.cur == '"' {
             self.next();
-            return Ok(TomlTok::Str(self.string(alloc)?));
+            return Ok(TomlTok::Str(self.read_string(alloc)?));
         }
         if self.cur == '\0' {
             return Ok(TomlTok::Eof);
@@ -177,7 +147,7 @@ impl<'a> Cursor<'a> {
                 self.next();
                 Ok(token)
             }
-            None => Err(TokenFault::Character),
+            None => Err(Fault::Malformed(Lexeme::Character)),
         }
     }
 }

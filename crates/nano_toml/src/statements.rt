@@ -1,12 +1,17 @@
 //! Reads values and statements, token by token.
 
-ghost use Rattle.std.specs.Prelude.{◌≡◌, ◌≢◌, ◌<◌, ◌≤◌, [], IfOk, IfErr, IfSome, OnOk, length, string_bytes, option_map, Some, None};
+ghost use Rattle.std.specs.Prelude.{◌≡◌, ◌<◌, [], IfOk, IfErr, IfSome, OnOk, length};
+ghost use Rattle.std.specs.Prelude.{string_bytes, option_map, Some, None};
 ghost use Rattle.nano_toml.specs.Built.{IsPlain};
 ghost use Rattle.nano_toml.specs.Cut.{Cut, CutsNothing};
 ghost use Rattle.nano_toml.specs.Data.{no_values};
-ghost use Rattle.nano_toml.specs.Fronts.{Reads, ReadsNothing, ClosesNothing, array_front, value_front, pair_front, scope_front, element_front, header_front, close_all};
+ghost use Rattle.nano_toml.specs.Fronts.{Reads, ReadsNothing, ClosesNothing, array_front};
+ghost use Rattle.nano_toml.specs.Fronts.{value_front, pair_front, scope_front, element_front};
+ghost use Rattle.nano_toml.specs.Fronts.{header_front, close_all};
 ghost use Rattle.nano_toml.specs.LiveText.{live, live_text};
-ghost use Rattle.nano_toml.specs.Reading.{statement_view, scalar_at, arrays_view, IsNext, SpellsNothing};
+ghost use Rattle.nano_toml.specs.Outcomes.{OnFault, ReadsValue, ReadsStatement};
+ghost use Rattle.nano_toml.specs.Reading.{statement_view, scalar_at, arrays_view, IsNext};
+ghost use Rattle.nano_toml.specs.Reading.{SpellsNothing};
 ghost use Rattle.nano_toml.specs.Taken.{token_of, Took};
 ghost use Rattle.nano_toml.specs.Token.{close_bracket};
 ghost use Rattle.nano_toml.specs.View.{view, values_view};
@@ -34,8 +39,6 @@ pub(crate) enum Statement {
 pub(crate) struct Reader<'a> {
     pub(crate) alloc: Global,
     pub(crate) cursor: Cursor<'a>,
-    /// The token that may not stand where it does, after such a fault.
-    pub(crate) unexpected: TomlTok,
 }
 
 // The value that is one token, or the token again.
@@ -58,7 +61,8 @@ fn scalar(tok: TomlTok) -> Result<Toml, TomlTok>
 
 // Closes the arrays around an array, the innermost first.
 fn close_all(mut outer: Vec<Vec<Toml>>, mut here: Vec<Toml>) -> Result<Toml, AllocFailed<Toml>>
-    ensures { IfOk result (λ value. view value ≡ close_all (arrays_view outer.items []) (values_view here.items)) }
+    ensures { IfOk result
+        (λ value. view value ≡ close_all (arrays_view outer.items []) (values_view here.items)) }
 {
     'arrays: while let Some(mut around) = outer.pop() {
         around.push(Toml::SimpleArray(here))?;
@@ -75,46 +79,42 @@ impl<'a> Reader<'a> {
         Reader {
             alloc,
             cursor: Cursor::new(input),
-            unexpected: TomlTok::Bof,
         }
-    }
-
-    // Keeps a token that may not stand there.
-    fn refuse(&mut self, tok: TomlTok) -> Fault
-        ensures { result ≡ Fault.Unexpected }
-    {
-        self.unexpected = tok;
-        Fault::Unexpected
     }
 
     // The next token, or the end.
-    fn token(&mut self) -> Result<TomlTok, Fault>
-        ensures cut { IfOk result (λ t. Took (live self.old.cursor) (token_of t) (live self.new.cursor)) }
-        ensures refused { IfErr result (λ e. e ≢ Fault.Memory → CutsNothing (live self.old.cursor)) }
+    fn read_token(&mut self) -> Result<TomlTok, Fault>
+        ensures cut { IfOk result
+            (λ t. Took (live self.old.cursor) (token_of t) (live self.new.cursor)) }
+        ensures refused { OnFault result (CutsNothing (live self.old.cursor)) }
     {
-        Ok(self.cursor.next_tok(self.alloc)?)
+        self.cursor.next_tok(self.alloc)
     }
 
     // A closing bracket.
-    fn close_bracket(&mut self) -> Result<(), Fault>
-        ensures cut { OnOk result (Cut (live self.old.cursor) close_bracket (live self.new.cursor)) }
-        ensures refused { IfErr result (λ e. e ≢ Fault.Memory → ClosesNothing (live self.old.cursor)) }
+    fn read_close_bracket(&mut self) -> Result<(), Fault>
+        ensures cut { OnOk result
+            (Cut (live self.old.cursor) close_bracket (live self.new.cursor)) }
+        ensures refused { OnFault result (ClosesNothing (live self.old.cursor)) }
     {
-        match self.token()? {
+        match self.read_token()? {
             TomlTok::BlockClose => Ok(()),
-            tok => Err(self.refuse(tok)),
+            tok => Err(Fault::Unexpected(tok)),
         }
     }
 
-    // The rest of an array behind its bracket. The arrays that are still open stand in a vector, so that depth takes memory and no stack.
-    fn array(&mut self) -> Result<Toml, Fault>
-        ensures found { IfOk result (λ value. Reads (array_front [] no_values) (live self.old.cursor) (view value) (live self.new.cursor)) }
-        ensures refused { IfErr result (λ e. e ≢ Fault.Memory → ReadsNothing (array_front [] no_values) (live self.old.cursor)) }
+    // The rest of an array behind its bracket. The arrays that are still open stand in a vector, so
+    // that depth takes memory and no stack.
+    fn read_array(&mut self) -> Result<Toml, Fault>
+        ensures found { ReadsValue result (array_front [] no_values)
+            (live self.old.cursor) (live self.new.cursor) }
+        ensures refused { OnFault result
+            (ReadsNothing (array_front [] no_values) (live self.old.cursor)) }
     {
         let mut outer: Vec<Vec<Toml>> = Vec::new(self.alloc);
         let mut here: Vec<Toml> = Vec::new(self.alloc);
         'tokens: loop {
-            match self.token()? {
+            match self.read_token()? {
                 TomlTok::Comma => {}
                 TomlTok::BlockOpen => {
                     outer.push(mem::replace(&mut here, Vec::new(self.alloc)))?;
@@ -129,90 +129,99 @@ impl<'a> Reader<'a> {
                 TomlTok::Eof => return Ok(close_all(outer, here)?),
                 tok => match scalar(tok) {
                     Ok(value) => here.push(value)?,
-                    Err(tok) => return Err(self.refuse(tok)),
+                    Err(tok) => return Err(Fault::Unexpected(tok)),
                 },
             }
         }
     }
 
     // A value.
-    fn value(&mut self) -> Result<Toml, Fault>
-        ensures found { IfOk result (λ value. Reads value_front (live self.old.cursor) (view value) (live self.new.cursor)) }
-        ensures refused { IfErr result (λ e. e ≢ Fault.Memory → ReadsNothing value_front (live self.old.cursor)) }
+    fn read_value(&mut self) -> Result<Toml, Fault>
+        ensures found { ReadsValue result value_front
+            (live self.old.cursor) (live self.new.cursor) }
+        ensures refused { OnFault result (ReadsNothing value_front (live self.old.cursor)) }
     {
-        match self.token()? {
-            TomlTok::BlockOpen => self.array(),
+        match self.read_token()? {
+            TomlTok::BlockOpen => self.read_array(),
             tok => match scalar(tok) {
                 Ok(value) => Ok(value),
-                Err(tok) => Err(self.refuse(tok)),
+                Err(tok) => Err(Fault::Unexpected(tok)),
             },
         }
     }
 
     // The rest of a pair behind its name.
-    fn pair(&mut self, name: String) -> Result<Statement, Fault>
-        ensures found { IfOk result (λ s. Reads (pair_front (string_bytes name)) (live self.old.cursor) (statement_view s) (live self.new.cursor)) }
-        ensures refused { IfErr result (λ e. e ≢ Fault.Memory → ReadsNothing (pair_front (string_bytes name)) (live self.old.cursor)) }
+    fn read_pair(&mut self, name: String) -> Result<Statement, Fault>
+        ensures found { ReadsStatement result (pair_front (string_bytes name))
+            (live self.old.cursor) (live self.new.cursor) }
+        ensures refused { OnFault result
+            (ReadsNothing (pair_front (string_bytes name)) (live self.old.cursor)) }
     {
-        match self.token()? {
+        match self.read_token()? {
             TomlTok::Equals => {
-                let value = self.value()?;
+                let value = self.read_value()?;
                 Ok(Statement::Pair(name, value))
             }
-            tok => Err(self.refuse(tok)),
+            tok => Err(Fault::Unexpected(tok)),
         }
     }
 
     // The rest of a scope behind its name.
-    fn scope(&mut self, name: String) -> Result<Statement, Fault>
-        ensures found { IfOk result (λ s. Reads (scope_front (string_bytes name)) (live self.old.cursor) (statement_view s) (live self.new.cursor)) }
-        ensures refused { IfErr result (λ e. e ≢ Fault.Memory → ReadsNothing (scope_front (string_bytes name)) (live self.old.cursor)) }
+    fn read_scope(&mut self, name: String) -> Result<Statement, Fault>
+        ensures found { ReadsStatement result (scope_front (string_bytes name))
+            (live self.old.cursor) (live self.new.cursor) }
+        ensures refused { OnFault result
+            (ReadsNothing (scope_front (string_bytes name)) (live self.old.cursor)) }
     {
-        self.close_bracket()?;
+        self.read_close_bracket()?;
         Ok(Statement::Scope(name))
     }
 
     // The rest of an element's header behind its two brackets.
-    fn element(&mut self) -> Result<Statement, Fault>
-        ensures found { IfOk result (λ s. Reads element_front (live self.old.cursor) (statement_view s) (live self.new.cursor)) }
-        ensures refused { IfErr result (λ e. e ≢ Fault.Memory → ReadsNothing element_front (live self.old.cursor)) }
+    fn read_element(&mut self) -> Result<Statement, Fault>
+        ensures found { ReadsStatement result element_front
+            (live self.old.cursor) (live self.new.cursor) }
+        ensures refused { OnFault result (ReadsNothing element_front (live self.old.cursor)) }
     {
-        match self.token()? {
+        match self.read_token()? {
             TomlTok::Ident(key) => {
-                self.close_bracket()?;
-                self.close_bracket()?;
+                self.read_close_bracket()?;
+                self.read_close_bracket()?;
                 Ok(Statement::Element(key))
             }
-            tok => Err(self.refuse(tok)),
+            tok => Err(Fault::Unexpected(tok)),
         }
     }
 
     // The rest of a header behind its first bracket.
-    fn header(&mut self) -> Result<Statement, Fault>
-        ensures found { IfOk result (λ s. Reads header_front (live self.old.cursor) (statement_view s) (live self.new.cursor)) }
-        ensures refused { IfErr result (λ e. e ≢ Fault.Memory → ReadsNothing header_front (live self.old.cursor)) }
+    fn read_header(&mut self) -> Result<Statement, Fault>
+        ensures found { ReadsStatement result header_front
+            (live self.old.cursor) (live self.new.cursor) }
+        ensures refused { OnFault result (ReadsNothing header_front (live self.old.cursor)) }
     {
-        match self.token()? {
-            TomlTok::Ident(name) => self.scope(name),
-            TomlTok::Str(name) => self.scope(name),
-            TomlTok::BlockOpen => self.element(),
-            tok => Err(self.refuse(tok)),
+        match self.read_token()? {
+            TomlTok::Ident(name) => self.read_scope(name),
+            TomlTok::Str(name) => self.read_scope(name),
+            TomlTok::BlockOpen => self.read_element(),
+            tok => Err(Fault::Unexpected(tok)),
         }
     }
 
     /// The next statement, or none at the end of the text.
-    pub(crate) fn statement(&mut self) -> Result<Option<Statement>, Fault>
-        ensures found { IfOk result (λ s. IsNext (live self.old.cursor) (option_map statement_view s) (live self.new.cursor)) }
-        ensures refused { IfErr result (λ e. e ≢ Fault.Memory → SpellsNothing (live self.old.cursor)) }
+    pub(crate) fn read_statement(&mut self) -> Result<Option<Statement>, Fault>
+        ensures found { IfOk result (λ s. IsNext
+            (live self.old.cursor) (option_map statement_view s) (live self.new.cursor)) }
+        ensures refused { OnFault result (SpellsNothing (live self.old.cursor)) }
         ensures plain { IfOk result (λ s. IfSome s (λ s. IsPlain (statement_view s))) }
-        ensures shorter { IfOk result (λ s. IfSome s (λ _. length (live self.new.cursor) < length (live self.old.cursor))) }
+        ensures shorter { IfOk result (λ s. IfSome s
+            (λ _. length (live self.new.cursor) < length (live self.old.cursor))) }
     {
-        match self.token()? {
+        match self.read_token()? {
             TomlTok::Eof => Ok(None),
-            TomlTok::BlockOpen => Ok(Some(self.header()?)),
-            TomlTok::Ident(name) => Ok(Some(self.pair(name)?)),
-            TomlTok::Str(name) => Ok(Some(self.pair(name)?)),
-            tok => Err(self.refuse(tok)),
+            TomlTok::BlockOpen => Ok(Some(self.read_header()?)),
+            TomlTok::Ident(name) => Ok(Some(self.read_pair(name)?)),
+            TomlTok::Str(name) => Ok(Some(self.read_pair(name)?)),
+            tok => Err(Fault::Unexpected(tok)),
         }
     }
 }

@@ -1,8 +1,10 @@
 //! The table of statements, built one statement after another.
 
-ghost use Rattle.std.specs.Prelude.{◌≡◌, ◌≢◌, ◌↔◌, List, [], ◌∷◌, ◌++◌, IsTrue, Some, None, OnOk, IfOk, IfErr, string_bytes};
+ghost use Rattle.std.specs.Prelude.{◌≡◌, ◌↔◌, List, [], ◌∷◌, ◌++◌, IsTrue, Some, None, OnOk};
+ghost use Rattle.std.specs.Prelude.{IfOk, string_bytes};
 ghost use Rattle.nano_toml.specs.Built.{IsBuilt, IsWhole, IsPlain, IsTables, CanPush, Puts, pushed};
 ghost use Rattle.nano_toml.specs.Data.{at};
+ghost use Rattle.nano_toml.specs.Outcomes.{OnFault, FaultIs};
 ghost use Rattle.nano_toml.specs.Reading.{statement_view};
 ghost use Rattle.nano_toml.specs.StatementTable.{IsLawful, IsTableOf, full_key as key_in};
 ghost use Rattle.nano_toml.specs.Statements.{Statement as Stated, element, pair};
@@ -52,7 +54,9 @@ fn is_free(table: &Table, key: &String) -> bool
 
 // Puts the value at the key.
 fn put(table: &mut Table, key: String, value: Toml) -> Result<(), AllocError>
-    ensures { OnOk result (Puts (table_view table.old.entries) (string_bytes key) (view value) (table_view table.new.entries)) }
+    ensures { OnOk result
+        (Puts (table_view table.old.entries) (string_bytes key) (view value)
+        (table_view table.new.entries)) }
 {
     table.insert(key, value)?;
     Ok(())
@@ -61,7 +65,8 @@ fn put(table: &mut Table, key: String, value: Toml) -> Result<(), AllocError>
 // Adds a table at the end of an Array.
 fn push_into(value: &mut Toml, table: Table) -> Result<(), AllocError>
     requires { IsTables (view value.old) }
-    ensures { OnOk result (view value.new ≡ pushed (Some (view value.old)) (table_view table.entries)) }
+    ensures { OnOk result
+        (view value.new ≡ pushed (Some (view value.old)) (table_view table.entries)) }
 {
     let array = mem::replace(value, Toml::Bool(false)).with_table(table)?;
     *value = array;
@@ -71,7 +76,10 @@ fn push_into(value: &mut Toml, table: Table) -> Result<(), AllocError>
 // Adds a table at the end of the Array at a key.
 fn push_table(alloc: Global, root: &mut Table, key: String, table: Table) -> Result<(), AllocError>
     requires { CanPush (at (string_bytes key) (table_view root.old.entries)) }
-    ensures { OnOk result (Puts (table_view root.old.entries) (string_bytes key) (pushed (at (string_bytes key) (table_view root.old.entries)) (table_view table.entries)) (table_view root.new.entries)) }
+    ensures { OnOk result
+        (let there = at (string_bytes key) (table_view root.old.entries) in
+        Puts (table_view root.old.entries) (string_bytes key)
+        (pushed there (table_view table.entries)) (table_view root.new.entries)) }
 {
     match root.get_mut(&key) {
         Some(value) => push_into(value, table),
@@ -112,7 +120,8 @@ impl Builder {
     // Moves the table of the last element into the root.
     fn end_element(&mut self, alloc: Global) -> Result<(), AllocError>
         requires { (done : List Stated) × IsBuilt done self.old }
-        ensures { (done : List Stated) → IsBuilt done self.old → OnOk result (IsWhole done self.new) }
+        ensures { (done : List Stated) → IsBuilt done self.old
+            → OnOk result (IsWhole done self.new) }
     {
         if let Some(key) = self.key.take() {
             let table = mem::replace(&mut self.table, HashMap::new(alloc));
@@ -121,25 +130,31 @@ impl Builder {
         Ok(())
     }
 
-    // Begins a new element. Where the key has a value of another kind, the builder keeps the key.
+    // Begins a new element. The key has no value of another kind.
     fn start_element(&mut self, alloc: Global, key: String) -> Result<(), Fault>
         requires { (done : List Stated) × IsBuilt done self.old }
-        ensures built { (done : List Stated) → IsBuilt done self.old → OnOk result (IsBuilt (done ++ element (string_bytes key) ∷ []) self.new) }
-        ensures refused { (done : List Stated) → IsBuilt done self.old → IfErr result (λ e. e ≢ Fault.Memory → (more : List Stated) → IsLawful (done ++ element (string_bytes key) ∷ more) → ⊥) }
+        ensures built { (done : List Stated) → IsBuilt done self.old
+            → OnOk result (IsBuilt (done ++ element (string_bytes key) ∷ []) self.new) }
+        ensures refused { (done : List Stated) → IsBuilt done self.old
+            → OnFault result
+            ((more : List Stated) → IsLawful (done ++ element (string_bytes key) ∷ more) → ⊥) }
+        ensures told { FaultIs result (Fault.OtherKind key) }
     {
         self.end_element(alloc)?;
-        let is_free = is_free(&self.root, &key);
-        self.key = Some(key);
-        if !is_free {
-            return Err(Fault::OtherKind);
+        if !is_free(&self.root, &key) {
+            return Err(Fault::OtherKind(key));
         }
+        self.key = Some(key);
         Ok(())
     }
 
     // Adds a pair to the element, or to the root where there is none.
     fn add_pair(&mut self, alloc: Global, name: String, value: Toml) -> Result<(), AllocError>
         requires { (done : List Stated) × IsBuilt done self.old }
-        ensures { (done : List Stated) → IsBuilt done self.old → IsPlain (pair (string_bytes name) (view value)) → OnOk result (IsBuilt (done ++ pair (string_bytes name) (view value) ∷ []) self.new) }
+        ensures { (done : List Stated) → IsBuilt done self.old
+            → IsPlain (pair (string_bytes name) (view value))
+            → OnOk result
+            (IsBuilt (done ++ pair (string_bytes name) (view value) ∷ []) self.new) }
     {
         let key = full_key(alloc, self.scope.as_str(), name)?;
         if self.key.is_some() {
@@ -149,11 +164,15 @@ impl Builder {
         }
     }
 
-    /// Adds a statement. A fault but want of memory is a header that names a key which a pair gave: the builder then keeps that key.
+    /// Adds a statement. A fault but want of memory is a header that names a key which a pair gave.
     pub(crate) fn add(&mut self, alloc: Global, statement: Statement) -> Result<(), Fault>
         requires { (done : List Stated) × IsBuilt done self.old }
-        ensures built { (done : List Stated) → IsBuilt done self.old → IsPlain (statement_view statement) → OnOk result (IsBuilt (done ++ statement_view statement ∷ []) self.new) }
-        ensures refused { (done : List Stated) → IsBuilt done self.old → IfErr result (λ e. e ≢ Fault.Memory → (more : List Stated) → IsLawful (done ++ statement_view statement ∷ more) → ⊥) }
+        ensures built { (done : List Stated) → IsBuilt done self.old
+            → IsPlain (statement_view statement)
+            → OnOk result (IsBuilt (done ++ statement_view statement ∷ []) self.new) }
+        ensures refused { (done : List Stated) → IsBuilt done self.old
+            → OnFault result
+            ((more : List Stated) → IsLawful (done ++ statement_view statement ∷ more) → ⊥) }
     {
         match statement {
             Statement::Scope(name) => {
@@ -171,7 +190,8 @@ impl Builder {
     /// The table of the statements that were added.
     pub(crate) fn finish(mut self, alloc: Global) -> Result<Table, AllocError>
         requires { (done : List Stated) × IsBuilt done self }
-        ensures { (done : List Stated) → IsBuilt done self → IfOk result (λ table. IsTableOf done (table_view table.entries)) }
+        ensures { (done : List Stated) → IsBuilt done self
+            → IfOk result (λ table. IsTableOf done (table_view table.entries)) }
     {
         self.end_element(alloc)?;
         Ok(self.root)

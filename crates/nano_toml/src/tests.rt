@@ -1,12 +1,15 @@
 // What the tokenizer cuts from worked texts.
+use crate::fault::Fault;
+use crate::place::Place;
 use crate::state::Cursor;
-use crate::token::{TokenFault, TomlTok};
+use crate::token::TomlTok;
 use std::alloc::{AllocError, Global};
 use std::process::Abort;
 use std::test::Fail;
 
-/// The tokens of a text in their debug form, and then `end`, or the fault and its line and column. Want of memory
-/// is an error of the test: so with an allocation refused a test may fail by that, and by no other answer.
+/// The tokens of a text in their debug form, and then `end`, or the fault and its line and column.
+/// Want of memory is an error of the test: so with an allocation refused a test may fail by that,
+/// and by no other answer.
 fn cuts(alloc: Global, text: &str) -> Result<String, Fail> {
     let mut cursor = Cursor::new(text);
     let mut all = String::new(alloc);
@@ -20,12 +23,15 @@ fn cuts(alloc: Global, text: &str) -> Result<String, Fail> {
                 let shown = format!(in alloc; "{token:?} ")?;
                 all.push_str(shown.as_str())?;
             }
-            Err(TokenFault::Memory) => Err(AllocError)?,
-            Err(fault) => {
-                let shown = format!(in alloc; "{fault:?} {}:{}", cursor.line, cursor.col)?;
-                all.push_str(shown.as_str())?;
-                return Ok(all);
-            }
+            Err(fault) => match fault {
+                Fault::Malformed(lexeme) => {
+                    let place = Place::behind(text, cursor.taken(text));
+                    let shown = format!(in alloc; "{lexeme:?} {}:{}", place.line, place.col)?;
+                    all.push_str(shown.as_str())?;
+                    return Ok(all);
+                }
+                _fault => return Err(Fail::from(AllocError)),
+            },
         }
     }
     Ok(all)

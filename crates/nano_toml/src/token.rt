@@ -1,5 +1,4 @@
-// The tokens of a text, and why none was cut.
-use std::alloc::AllocError;
+// The tokens of a text.
 
 /// A token of a TOML text.
 #[derive(Drop, Debug, PartialEq)]
@@ -29,26 +28,4 @@ pub enum TomlTok {
     Bof,
     /// The end of the text.
     Eof,
-}
-
-/// Why no token was cut: want of memory, or what a text that has none there was taken for.
-#[derive(Clone, Copy, Debug)]
-pub(crate) enum TokenFault {
-    Memory,
-    Number,
-    Nan,
-    Infinity,
-    Quoted,
-    Character,
-}
-
-impl From<AllocError> for TokenFault {
-    ghost use Rattle.std.specs.Prelude.{◌≡◌};
-    ghost use Rattle.nano_toml.specs.declared.token.TokenFault.TheVariants.{Memory};
-
-    ghost from_gives = { λ _ e. e ≡ Memory };
-
-    fn from(_error: AllocError) -> TokenFault {
-        TokenFault::Memory
-    }
 }

@@ -2,7 +2,8 @@
 
 ghost use Rattle.std.specs.Prelude.{◌≡◌, ◌↔◌, IsTrue, IsSome, IfSome, Some, IfOk, string_bytes};
 ghost use Rattle.nano_toml.specs.Built.{IsTables, pushed};
-ghost use Rattle.nano_toml.specs.Kinds.{as_text, as_boolean, as_number, as_date, as_tables, as_values, index_of};
+ghost use Rattle.nano_toml.specs.Kinds.{as_text, as_boolean, as_number, as_decimal, as_date};
+ghost use Rattle.nano_toml.specs.Kinds.{as_tables, as_values, index_of};
 ghost use Rattle.nano_toml.specs.View.{view, values_view, tables_view, table_view};
 
 use crate::same::same_value;
@@ -11,12 +12,13 @@ use std::collections::HashMap;
 
 /// A value of a TOML text.
 ///
-/// Two values are equal by `==` if they are of the same kind and have the same content: lists in order,
-/// tables with the same pairs, decimals with the same text. So `Nan(true) == Nan(true)`, and a `Num` never
-/// equals a `Dec`.
+/// Two values are equal by `==` if they are of the same kind and have the same content: lists in
+/// order, tables with the same pairs, decimals with the same text. So `Nan(true) == Nan(true)`, and
+/// a `Num` never equals a `Dec`.
 ///
-/// Comparing two values takes no stack for a list in the last place of a list, however deep they are, and some for a
-/// list in another place. Dropping a value takes none for lists in lists; while no memory can be had it may.
+/// Comparing two values takes no stack for a list in the last place of a list, however deep they
+/// are, and some for a list in another place. Dropping a value takes none for lists in lists; while
+/// no memory can be had it may.
 pub enum Toml {
     /// A text.
     Str(String),
@@ -97,7 +99,8 @@ impl Toml {
         }
     }
 
-    // Drops the values one after another: those of a list come behind those that are left. Where there is no room for them, the list is dropped by itself.
+    // Drops the values one after another: those of a list come behind those that are left. Where
+    // there is no room for them, the list is dropped by itself.
     #[cycle(release)]
     fn release(mut left: Vec<Toml>) {
         'values: while let Some(value) = left.pop() {
@@ -110,7 +113,8 @@ impl Toml {
     // The Array with one more table at its end.
     pub(crate) fn with_table(self, table: HashMap<String, Toml>) -> Result<Toml, AllocError>
         requires { IsTables (view self) }
-        ensures { IfOk result (λ array. view array ≡ pushed (Some (view self)) (table_view table.entries)) }
+        ensures { IfOk result
+            (λ array. view array ≡ pushed (Some (view self)) (table_view table.entries)) }
     {
         match self {
             Toml::Array(mut tables) => {
@@ -154,7 +158,8 @@ impl Toml {
         }
     }
 
-    /// A copy of the text of a `Date`; the caller knows that it is one. The error is want of memory.
+    /// A copy of the text of a `Date`; the caller knows that it is one. The error is want of
+    /// memory.
     pub fn date(&self, alloc: Global) -> Result<String, AllocError>
         requires { IsSome (as_date (view self.now)) }
         ensures { IfOk result (λ text. as_date (view self.now) ≡ Some (string_bytes text)) }
@@ -187,7 +192,8 @@ impl Toml {
         }
     }
 
-    /// The table at a place of an `Array`, counted from 0; the caller knows that the value is one and has that many.
+    /// The table at a place of an `Array`, counted from 0; the caller knows that the value is one
+    /// and has that many.
     pub fn index(&self, i: usize) -> &HashMap<String, Toml>
         requires { IsSome (index_of (view self.now) i) }
         ensures { index_of (view self.now) i ≡ Some (table_view result.now.entries) }
@@ -197,4 +203,62 @@ impl Toml {
             _ => unreachable!(),
         }
     }
+
+    /// The text of a `Str`, taken out; the caller knows that it is one.
+    pub fn into_str(self) -> String
+        requires { IsSome (as_text (view self)) }
+        ensures { as_text (view self) ≡ Some (string_bytes result) }
+    {
+        match self {
+            Toml::Str(text) => text,
+            _ => unreachable!(),
+        }
+    }
+
+    /// The text of a `Dec`, taken out; the caller knows that it is one.
+    pub fn into_dec(self) -> String
+        requires { IsSome (as_decimal (view self)) }
+        ensures { as_decimal (view self) ≡ Some (string_bytes result) }
+    {
+        match self {
+            Toml::Dec(text) => text,
+            _ => unreachable!(),
+        }
+    }
+
+    /// The text of a `Date`, taken out; the caller knows that it is one.
+    pub fn into_date(self) -> String
+        requires { IsSome (as_date (view self)) }
+        ensures { as_date (view self) ≡ Some (string_bytes result) }
+    {
+        match self {
+            Toml::Date(text) => text,
+            _ => unreachable!(),
+        }
+    }
+
+    /// The tables of an `Array`, in order, taken out; the caller knows that it is one.
+    pub fn into_arr(self) -> Vec<HashMap<String, Toml>>
+        requires { IsSome (as_tables (view self)) }
+        ensures { as_tables (view self) ≡ Some (tables_view result.items) }
+    {
+        match self {
+            Toml::Array(tables) => tables,
+            _ => unreachable!(),
+        }
+    }
+
+    /// The values of a `SimpleArray`, in order, taken out; the caller knows that it is one.
+    pub fn into_simple_arr(self) -> Vec<Toml>
+        requires { IsSome (as_values (view self)) }
+        ensures { as_values (view self) ≡ Some (values_view result.items) }
+    {
+        match self {
+            Toml::SimpleArray(values) => values,
+            _ => unreachable!(),
+        }
+    }
 }
+
+#[cfg(test)]
+mod tests;

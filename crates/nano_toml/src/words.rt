@@ -37,7 +37,7 @@ pub(crate) fn word_token(word: String) -> TomlTok
 
 impl<'a> Cursor<'a> {
     /// Takes a word.
-    pub(crate) fn word(&mut self, alloc: Global) -> Result<String, AllocError>
+    pub(crate) fn read_word(&mut self, alloc: Global) -> Result<String, AllocError>
         ensures text { IfOk result (λ word. string_bytes word ≡ front is_in_word (live self.old)) }
         ensures rest { OnOk result (live self.new ≡ behind is_in_word (live self.old)) }
     {

@@ -3,8 +3,14 @@ pub mod Legal
 pub mod Exact
 pub mod Order
 pub mod Tables
+pub mod Ties
 pub mod Sets
+pub mod SortedEntries
 pub mod Ascending
 pub mod InOrder
 pub mod OrderedSets
 pub mod SetItems
+pub mod MeaningOrder
+pub mod SetOrder
+pub mod Sums
+pub mod LastValues

@@ -1,5 +1,6 @@
 -- What the values of a program stand for.
-use Rattle.std.specs.Prelude.{◌≡◌, ℕ, ◌^◌, List, [], ◌∷◌, Option, Some, None, Bool, true, false, refl, ℤ, pos}
+use Rattle.std.specs.Prelude.{◌≡◌, ℕ, ◌^◌, List, [], ◌∷◌, Option, Some, None, Bool, true, false}
+use Rattle.std.specs.Prelude.{refl, ℤ, pos}
 
 -- a number, a text by its bytes of UTF-8, nothing, or two meanings
 pub data Meaning : Type 0 where

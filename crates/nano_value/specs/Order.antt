@@ -1,4 +1,5 @@
--- A total order of the meanings, which makes them the keys of finite maps and sets. It need not be the `Ord` of a type.
+-- A total order of the meanings, which makes them the keys of finite maps and sets. It need not be
+-- the `Ord` of a type.
 use Rattle.std.specs.Prelude.{◌≡◌, ℕ, Bool, true, refl, List, [], ◌∷◌, ◌++◌, length, ℤ, pos, negsuc}
 use Rattle.std.specs.declared.cmp.Ordering.{Ordering}
 use Rattle.std.specs.Bool.{Decides}
@@ -40,7 +41,8 @@ sign_and_size (negsuc m) (negsuc n) s e = ap negsuc e
 -- texts of one length at the front of the same list are the same
 text_front : (xs ys m n : List ℕ) → length xs ≡ length ys → xs ++ m ≡ ys ++ n → (xs ≡ ys) × (m ≡ n)
 text_front xs ys m n long e =
-    let one : xs ≡ ys = sym (take_at xs m (length xs) refl) ∙ (ap (take (length xs)) e ∙ take_at ys n (length xs) (sym long)) in
+    let one : xs ≡ ys = sym (take_at xs m (length xs) refl)
+    ∙ (ap (take (length xs)) e ∙ take_at ys n (length xs) (sym long)) in
     (one, append_cancel_left ys m n (subst (λ l. l ++ m ≡ ys ++ n) one e))
 
 -- where two lists begin with codes, the meanings are the same, and so is what is behind the codes
@@ -58,7 +60,9 @@ code_front (text xs) (text ys) m n e =
 code_front nothing nothing m n e = (refl, cc)
 code_front (both a b) (both c d) m n e =
     let tails : (code a ++ code b) ++ m ≡ (code c ++ code d) ++ n = cc in
-    let one = code_front a c (code b ++ m) (code d ++ n) (sym (append_assoc (code a) (code b) m) ∙ (tails ∙ append_assoc (code c) (code d) n)) in
+    let one =
+    code_front a c (code b ++ m) (code d ++ n) (sym (append_assoc (code a) (code b) m)
+    ∙ (tails ∙ append_assoc (code c) (code d) n)) in
     let two = code_front b d m n one.1 in
     (λ i. both (one.0 i) (two.0 i), two.1)
 code_front a b m n e = absurd (cc)
@@ -73,7 +77,8 @@ meaning_cmp-total = on_texts code
 -- only equal meanings tie
 pub meaning_cmp-antisymmetric : IsAntisymmetric meaning_cmp
 unfolding meaning_cmp
-meaning_cmp-antisymmetric x y e = code_injective x y (slice_cmp-IsAntisymmetric nat_cmp-IsAntisymmetric (code x) (code y) e)
+meaning_cmp-antisymmetric x y e =
+    code_injective x y (slice_cmp-IsAntisymmetric nat_cmp-IsAntisymmetric (code x) (code y) e)
 
 -- whether two meanings are the same
 abbrev pub same_meaning : Meaning → Meaning → Bool

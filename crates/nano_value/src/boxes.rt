@@ -1,5 +1,5 @@
 // Boxes: each means its content.
-use crate::value::{Key, Value};
+use crate::value::{Key, OrderedKey, Value};
 
 impl<T: Value> Value for Box<T> {
     ghost means = { λ x. T.means x.value };
@@ -12,5 +12,11 @@ impl<T: Value> Value for Box<T> {
 }
 
 impl<T: Key> Key for Box<T> {
+    ghost order = { T.order };
+
     ghost exact = { λ x y. T.exact x.value y.value };
+}
+
+impl<T: OrderedKey> OrderedKey for Box<T> {
+    ghost follows = { λ x y. T.follows x.value y.value };
 }

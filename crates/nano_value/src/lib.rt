@@ -1,10 +1,12 @@
 //! What the values of a program mean, and which of them `==` tells apart.
 //!
-//! The formats of this repository speak of meanings alone: a number, a text, nothing, or two meanings. Two
-//! values are the same if they mean the same, whatever their capacity or the order in which they are walked.
+//! The formats of this repository speak of meanings alone: a number, a text, nothing, or two
+//! meanings. Two values are the same if they mean the same, whatever their capacity or the order in
+//! which they are walked.
 #![tactic(auto)]
 
 mod boxes;
+pub mod laws;
 mod lists;
 mod maps;
 mod numbers;
@@ -18,4 +20,7 @@ mod tuples;
 mod value;
 
 pub use ordered::{entries_in_order, items_in_order};
-pub use value::{Key, Value};
+pub use value::{Key, OrderedKey, Value};
+
+#[cfg(test)]
+mod tests;

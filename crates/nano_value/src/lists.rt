@@ -2,9 +2,10 @@
 ghost use Rattle.std.specs.Prelude.{◌≡◌, ◌<◌, length, map};
 ghost use Rattle.nano_value.specs.Meaning.{listed, usize_bound};
 ghost use Rattle.nano_value.specs.Legal.{LegalArray, LegalList};
+ghost use Rattle.nano_value.specs.MeaningOrder.{lists, lists_follow};
 ghost use Rattle.nano_value.specs.Exact.{lists_tell};
 
-use crate::value::{Key, Value};
+use crate::value::{Key, OrderedKey, Value};
 use std::collections::LinkedList;
 
 impl<T: Value> Value for Vec<T> {
@@ -20,6 +21,8 @@ impl<T: Value> Value for Vec<T> {
 }
 
 impl<T: Key> Key for Vec<T> {
+    ghost order = { lists T.order };
+
     ghost exact = { λ x y. lists_tell T.means T.eq T.exact x.items y.items };
 }
 
@@ -37,6 +40,8 @@ impl<T: Value> Value for LinkedList<T> {
 }
 
 impl<T: Key> Key for LinkedList<T> {
+    ghost order = { lists T.order };
+
     ghost exact = { lists_tell T.means T.eq T.exact };
 }
 
@@ -62,6 +67,8 @@ impl<T: Value> Value for &[T] {
 }
 
 impl<T: Key> Key for &[T] {
+    ghost order = { lists T.order };
+
     ghost exact = { λ x y. lists_tell T.means T.eq T.exact x.now y.now };
 }
 
@@ -78,5 +85,23 @@ impl<T: Value, const N: usize> Value for [T; N] {
 }
 
 impl<T: Key, const N: usize> Key for [T; N] {
+    ghost order = { lists T.order };
+
     ghost exact = { lists_tell T.means T.eq T.exact };
+}
+
+impl<T: OrderedKey> OrderedKey for Vec<T> {
+    ghost follows = { λ x y. lists_follow T.cmp T.means T.order T.follows x.items y.items };
+}
+
+impl<T: OrderedKey, const N: usize> OrderedKey for [T; N] {
+    ghost follows = { lists_follow T.cmp T.means T.order T.follows };
+}
+
+impl<T: OrderedKey> OrderedKey for LinkedList<T> {
+    ghost follows = { lists_follow T.cmp T.means T.order T.follows };
+}
+
+impl<T: OrderedKey> OrderedKey for &[T] {
+    ghost follows = { λ x y. lists_follow T.cmp T.means T.order T.follows x.now y.now };
 }

@@ -2,9 +2,10 @@
 ghost use Rattle.std.specs.Option.{option_map};
 ghost use Rattle.nano_value.specs.Meaning.{optional};
 ghost use Rattle.nano_value.specs.Legal.{LegalOption};
+ghost use Rattle.nano_value.specs.MeaningOrder.{options, options_follow};
 ghost use Rattle.nano_value.specs.Exact.{options_tell};
 
-use crate::value::{Key, Value};
+use crate::value::{Key, OrderedKey, Value};
 
 impl<T: Value> Value for Option<T> {
     ghost means = { λ x. optional (option_map T.means x) };
@@ -20,5 +21,11 @@ impl<T: Value> Value for Option<T> {
 }
 
 impl<T: Key> Key for Option<T> {
+    ghost order = { options T.order };
+
     ghost exact = { options_tell T.means T.eq T.exact };
+}
+
+impl<T: OrderedKey> OrderedKey for Option<T> {
+    ghost follows = { options_follow T.cmp T.means T.order T.follows };
 }

@@ -1,8 +1,9 @@
 // Ordered sets: each means its items, as a hash set of them does.
 ghost use Rattle.nano_value.specs.Sets.{LegalSet};
+ghost use Rattle.nano_value.specs.SetOrder.{sets, sets_follow};
 ghost use Rattle.nano_value.specs.OrderedSets.{ordered_means, ordered_tell};
 
-use crate::value::{Key, Value};
+use crate::value::{Key, OrderedKey, Value};
 use std::collections::BTreeSet;
 
 impl<T: Key + Ord> Value for BTreeSet<T> {
@@ -18,5 +19,11 @@ impl<T: Key + Ord> Value for BTreeSet<T> {
 }
 
 impl<T: Key + Ord> Key for BTreeSet<T> {
+    ghost order = { sets T.order };
+
     ghost exact = { λ x y. ordered_tell T.cmp T.eq T.means T.total T.matches_eq T.exact x.keys y.keys };
+}
+
+impl<T: OrderedKey> OrderedKey for BTreeSet<T> {
+    ghost follows = { λ x y. sets_follow T.cmp T.means T.order T.follows x.keys y.keys };
 }

@@ -1,9 +1,10 @@
 // Truth values, and the unit.
 ghost use Rattle.nano_value.specs.Meaning.{nothing, truth};
 ghost use Rattle.nano_value.specs.Legal.{LegalTruth, LegalUnit};
+ghost use Rattle.nano_value.specs.MeaningOrder.{meanings, wholes, truths_follow, units_follow};
 ghost use Rattle.nano_value.specs.Exact.{truths_tell, units_tell};
 
-use crate::value::{Key, Value};
+use crate::value::{Key, OrderedKey, Value};
 
 impl Value for bool {
     ghost means = { truth };
@@ -16,6 +17,8 @@ impl Value for bool {
 }
 
 impl Key for bool {
+    ghost order = { wholes };
+
     ghost exact = { truths_tell };
 }
 
@@ -28,5 +31,15 @@ impl Value for () {
 }
 
 impl Key for () {
+    ghost order = { meanings };
+
     ghost exact = { units_tell };
+}
+
+impl OrderedKey for bool {
+    ghost follows = { truths_follow };
+}
+
+impl OrderedKey for () {
+    ghost follows = { units_follow };
 }

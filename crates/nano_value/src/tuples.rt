@@ -1,9 +1,12 @@
-// Tuples: a pair means the meanings of its parts, and a longer tuple its first part and the tuple of the others.
+// Tuples: a pair means the meanings of its parts, and a longer tuple its first part and the tuple
+// of the others.
 ghost use Rattle.nano_value.specs.Meaning.{paired, pair_map};
 ghost use Rattle.nano_value.specs.Legal.{LegalPair};
+ghost use Rattle.nano_value.specs.MeaningOrder.{pairs, pairs_follow, triples_follow};
+ghost use Rattle.nano_value.specs.MeaningOrder.{quadruples_follow};
 ghost use Rattle.nano_value.specs.Exact.{pairs_tell, triples_tell, quadruples_tell};
 
-use crate::value::{Key, Value};
+use crate::value::{Key, OrderedKey, Value};
 
 impl<A: Value, B: Value> Value for (A, B) {
     ghost means = { λ x. paired (pair_map A.means B.means x) };
@@ -18,6 +21,8 @@ impl<A: Value, B: Value> Value for (A, B) {
 }
 
 impl<A: Key, B: Key> Key for (A, B) {
+    ghost order = { pairs A.order B.order };
+
     ghost exact = { pairs_tell A.means A.eq B.means B.eq A.exact B.exact };
 }
 
@@ -35,6 +40,8 @@ impl<A: Value, B: Value, C: Value> Value for (A, B, C) {
 }
 
 impl<A: Key, B: Key, C: Key> Key for (A, B, C) {
+    ghost order = { pairs A.order (pairs B.order C.order) };
+
     ghost exact = { triples_tell A.means A.eq B.means B.eq C.means C.eq A.exact B.exact C.exact };
 }
 
@@ -53,5 +60,21 @@ impl<A: Value, B: Value, C: Value, D: Value> Value for (A, B, C, D) {
 }
 
 impl<A: Key, B: Key, C: Key, D: Key> Key for (A, B, C, D) {
+    ghost order = { pairs A.order (pairs B.order (pairs C.order D.order)) };
+
     ghost exact = { quadruples_tell A.means A.eq B.means B.eq C.means C.eq D.means D.eq A.exact B.exact C.exact D.exact };
+}
+
+impl<A: OrderedKey, B: OrderedKey> OrderedKey for (A, B) {
+    ghost follows = { pairs_follow A.cmp A.means A.order B.cmp B.means B.order A.follows B.follows };
+}
+
+impl<A: OrderedKey, B: OrderedKey, C: OrderedKey> OrderedKey for (A, B, C) {
+    ghost follows = { triples_follow A.cmp A.means A.order B.cmp B.means B.order C.cmp C.means C.order A.follows
+        B.follows C.follows };
+}
+
+impl<A: OrderedKey, B: OrderedKey, C: OrderedKey, D: OrderedKey> OrderedKey for (A, B, C, D) {
+    ghost follows = { quadruples_follow A.cmp A.means A.order B.cmp B.means B.order C.cmp C.means C.order D.cmp
+        D.means D.order A.follows B.follows C.follows D.follows };
 }

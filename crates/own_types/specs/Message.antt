@@ -4,13 +4,10 @@ use Rattle.own_types.specs.declared.message.Message.TheVariants.{Hello, Move, Wa
 use Rattle.std.specs.Prelude.{ℕ, ℤ, List, [], ◌∷◌, String, codes, refl}
 use Rattle.std.specs.Global.{Global}
 use Rattle.std.proofs.Common.{inl, inr}
-use Rattle.nano_json.specs.Format.{Format, format_as, array_format}
-use Rattle.json_records.specs.Formats.{i32_format, u32_format, u64_format, string_format, pair_format}
-use Rattle.json_records.specs.FieldNames.{ascii_names}
-use Rattle.json_records.specs.FieldFormat.{must_format, also_format, fields_format}
-use Rattle.json_records.specs.Variants.{Variants, no_variants, unit_variant, variant}
-use Rattle.json_records.specs.VariantWriting.{Seen}
-use Rattle.json_records.specs.VariantFormat.{Body, body, writings, variants_format}
+use Rattle.nano_json.specs.Format.{Format, format_as}
+use Rattle.json_records.specs.Fields.{must, also, ascii_names, fields_format}
+use Rattle.json_records.specs.Formats.{i32_format, u32_format, u64_format, string_format, pair_format, array_format}
+use Rattle.json_records.specs.Variants.{JsonVariants, Seen, no_variants, unit_variant, variant, body, variants_format}
 
 -- what behind the names of the variants with content stands
 abbrev pub moved : Format (ℤ × String Global)
@@ -21,12 +18,19 @@ abbrev pub waited : Format (List ℕ)
 waited = array_format 1 u64_format
 
 abbrev pub said : Format (String Global × ℕ)
-said = fields_format (also_format (must_format (codes "text") string_format) (must_format (codes "times") u32_format)) (ascii_names refl) refl
+said =
+    fields_format (also (must (codes "text") string_format) (must (codes "times") u32_format))
+    (ascii_names refl) refl
 
-abbrev pub variants : Variants Body
-variants = unit_variant (codes "Hello") (variant (codes "Move") (body moved) (variant (codes "Wait") (body waited) (variant (codes "Say") (body said) no_variants)))
+abbrev pub variants : JsonVariants
+variants =
+    unit_variant (codes "Hello")
+    (variant (codes "Move") (body moved)
+    (variant (codes "Wait") (body waited)
+    (variant (codes "Say") (body said)
+    no_variants)))
 
-abbrev pub seen : Message → Seen (writings variants)
+abbrev pub seen : Message → Seen variants
 seen Hello = inl tt
 seen (Move by name) = inr (inl (by, name))
 seen (Wait time) = inr (inr (inl (time ∷ [])))

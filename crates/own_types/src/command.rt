@@ -1,8 +1,10 @@
-// An enum of three variants. It is written as a tag of two bytes, and the fields of the variant behind it.
+// An enum of three variants. It is written as a tag of two bytes, and the fields of the variant
+// behind it.
 ghost use Rattle.std.specs.Prelude.{refl};
-ghost use Rattle.own_types.specs.Command.{command_format, no_keys};
+ghost use Rattle.nano_value.specs.Ties.{tied};
+ghost use Rattle.own_types.specs.Command.{command_format};
 
-use nano_bin::{BothBin, DeBin, DeBinErr, DeBinKind, SerBin, append_part};
+use nano_bin::{BinFormat, BothBin, DeBin, DeBinErr, DeBinKind, SerBin, append_part};
 use nano_value::Value;
 use std::alloc::{AllocError, Global};
 
@@ -34,13 +36,13 @@ impl Value for Command {
     }
 }
 
+impl BinFormat for Command {
+    ghost bin = { command_format };
+
+    ghost ties = { tied };
+}
+
 impl SerBin for Command {
-    ghost writing = { command_format.writing };
-
-    ghost writes_meaning = { refl };
-
-    ghost orders_keys = { no_keys };
-
     fn ser_bin(&self, alloc: Global, output: &mut Vec<u8>) -> Result<(), AllocError> {
         let start = output.len();
         match self {
@@ -62,44 +64,33 @@ impl SerBin for Command {
 }
 
 impl DeBin for Command {
-    ghost spelling = { command_format.spelling };
-
-    ghost spells_legal = { λ m h. h };
+    ghost is_read = { refl };
 
     fn de_bin(alloc: Global, offset: &mut usize, bytes: &[u8]) -> Result<Command, DeBinErr> {
         let start = *offset;
-        match u16::de_bin(alloc, offset, bytes) {
-            Ok(0) => Ok(Command::Stop),
-            Ok(1) => match <(u32, String)>::de_bin(alloc, offset, bytes) {
-                Ok((steps, name)) => Ok(Command::Move(steps, name)),
-                Err(error) => {
-                    *offset = start;
-                    Err(error)
-                }
-            },
-            Ok(2) => match u64::de_bin(alloc, offset, bytes) {
-                Ok(time) => Ok(Command::Wait(time)),
-                Err(error) => {
-                    *offset = start;
-                    Err(error)
-                }
-            },
-            Ok(_) => {
-                *offset = start;
-                Err(DeBinErr {
+        let mut at = start;
+        let command = match u16::de_bin(alloc, &mut at, bytes)? {
+            0 => Command::Stop,
+            1 => {
+                let (steps, name) = <(u32, String)>::de_bin(alloc, &mut at, bytes)?;
+                Command::Move(steps, name)
+            }
+            2 => {
+                let time = u64::de_bin(alloc, &mut at, bytes)?;
+                Command::Wait(time)
+            }
+            _ => {
+                return Err(DeBinErr {
                     o: start,
                     l: 0,
                     s: bytes.len(),
                     kind: DeBinKind::Own,
-                })
+                });
             }
-            Err(error) => Err(error),
-        }
+        };
+        *offset = at;
+        Ok(command)
     }
 }
 
-impl BothBin for Command {
-    ghost format = { command_format };
-
-    ghost reads_back = { command_format.reads_back no_keys };
-}
+impl BothBin for Command {}

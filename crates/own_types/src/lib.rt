@@ -12,6 +12,7 @@ mod message;
 #[cfg(test)]
 mod message_tests;
 mod reading;
+mod tally;
 #[cfg(test)]
 mod tests;
 
@@ -20,3 +21,4 @@ pub use command::Command;
 pub use holder::Holder;
 pub use message::Message;
 pub use reading::Reading;
+pub use tally::Tally;

@@ -1,12 +1,12 @@
 // An enum of each shape in JSON: a name, a name with a tuple, with one part, with named fields.
-ghost use Rattle.std.specs.Prelude.{refl};
+ghost use Rattle.nano_value.specs.Ties.{tied};
 ghost use Rattle.own_types.specs.Message.{message_format};
 
 use json_records::{
     Part, Required, RequiredPart, VariantName, read_content, read_fields_content,
     read_variant_name, unknown_variant, write_fields_variant, write_unit_variant, write_variant,
 };
-use nano_json::{BothJson, DeJson, DeJsonErr, DeJsonState, SerJson, SerJsonState};
+use nano_json::{BothJson, DeJson, DeJsonErr, DeJsonState, JsonFormat, SerJson, SerJsonState};
 use nano_value::Value;
 use std::alloc::{AllocError, Global};
 use std::marker::PhantomData;
@@ -51,11 +51,13 @@ impl Value for Message {
     }
 }
 
+impl JsonFormat for Message {
+    ghost json = { message_format };
+
+    ghost ties = { tied };
+}
+
 impl DeJson for Message {
-    ghost spelling = { message_format.spelling };
-
-    ghost spells_legal = { λ m h. h };
-
     fn de_json(
         alloc: Global,
         state: &mut DeJsonState,
@@ -94,14 +96,6 @@ impl DeJson for Message {
 }
 
 impl SerJson for Message {
-    ghost writing = { message_format.writing };
-
-    ghost writes_meaning = { refl };
-
-    ghost writes_legal = { λ m h. h };
-
-    ghost orders_keys = { ((tt, tt), (tt, ((tt, tt), tt))) };
-
     fn ser_json(&self, alloc: Global, d: usize, s: &mut SerJsonState) -> Result<(), AllocError> {
         match self {
             Message::Hello => write_unit_variant(alloc, "Hello", s),
@@ -124,18 +118,4 @@ impl SerJson for Message {
     }
 }
 
-impl BothJson for Message {
-    ghost format = { message_format };
-
-    ghost format_means = { refl };
-
-    ghost format_tokens = { refl };
-
-    ghost format_orders = { λ h. h };
-
-    ghost format_legal = { λ m h. h };
-
-    ghost format_spells = { λ ts m h. h };
-
-    ghost spells_format = { λ ts m h. h };
-}
+impl BothJson for Message {}

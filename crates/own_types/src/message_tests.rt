@@ -58,8 +58,11 @@ fn messages_refused(rt: HostRuntime) -> Result<(), Fail> {
         ),
         ("{\"Move\":{}}", "Unexpected token CurlyOpen expected [ "),
         ("{\"Wait\":5}", "Unexpected token U64(5) expected [ "),
-        ("{\"Wait\":[]}", "Token wrong type array "),
-        ("{\"Wait\":[5,6]}", "Token wrong type array "),
+        (
+            "{\"Wait\":[]}",
+            "Unexpected token BlockClose expected unsigned integer ",
+        ),
+        ("{\"Wait\":[5,6]}", "Unexpected token U64(6) expected ] "),
         ("{\"Say\":{\"text\":\"a\"}}", "Key not found times"),
     ];
     refused_with::<Message>(&rt, alloc, &rows)

@@ -1,8 +1,9 @@
 // A struct of two fields. It means, and is written as, the pair of them.
+ghost use Rattle.nano_value.specs.Ties.{tied};
+ghost use Rattle.nano_bin.specs.Format.{format_as};
 ghost use Rattle.std.specs.Prelude.{refl};
-ghost use Rattle.nano_bin.specs.Writing.{writing_as, format_as};
 
-use nano_bin::{BothBin, DeBin, DeBinErr, SerBin, append_part};
+use nano_bin::{BinFormat, BothBin, DeBin, DeBinErr, SerBin, append_part};
 use nano_value::Value;
 use std::alloc::{AllocError, Global};
 
@@ -27,13 +28,13 @@ impl Value for Reading {
     }
 }
 
+impl BinFormat for Reading {
+    ghost bin = { format_as (λ r. (r.at, r.samples)) ⟦<(u64, Vec<u8>) as BinFormat>⟧.bin };
+
+    ghost ties = { tied };
+}
+
 impl SerBin for Reading {
-    ghost writing = { writing_as (λ r. (r.at, r.samples)) ⟦<(u64, Vec<u8>) as SerBin>⟧.writing };
-
-    ghost writes_meaning = { refl };
-
-    ghost orders_keys = { (tt, tt) };
-
     fn ser_bin(&self, alloc: Global, output: &mut Vec<u8>) -> Result<(), AllocError> {
         let start = output.len();
         self.at.ser_bin(alloc, output)?;
@@ -42,9 +43,7 @@ impl SerBin for Reading {
 }
 
 impl DeBin for Reading {
-    ghost spelling = { ⟦<(u64, Vec<u8>) as DeBin>⟧.spelling };
-
-    ghost spells_legal = { λ m h. h };
+    ghost is_read = { refl };
 
     fn de_bin(alloc: Global, offset: &mut usize, bytes: &[u8]) -> Result<Reading, DeBinErr> {
         let (at, samples) = <(u64, Vec<u8>)>::de_bin(alloc, offset, bytes)?;
@@ -52,8 +51,4 @@ impl DeBin for Reading {
     }
 }
 
-impl BothBin for Reading {
-    ghost format = { format_as (λ r. (r.at, r.samples)) ⟦<(u64, Vec<u8>) as BothBin>⟧.format };
-
-    ghost reads_back = { λ r. ⟦<(u64, Vec<u8>) as BothBin>⟧.format.reads_back (tt, tt) (r.at, r.samples) };
-}
+impl BothBin for Reading {}

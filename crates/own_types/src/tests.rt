@@ -1,7 +1,9 @@
 // Own types, written and read back.
-use crate::{Command, Reading};
+use crate::{Command, Reading, Tally};
 use nano_bin::{BothBin, DeBin, DeBinKind, SerBin};
+use nano_json::{DeJson, SerJson};
 use std::alloc::Global;
+use std::collections::HashMap;
 use std::process::Abort;
 use std::test::Fail;
 
@@ -57,5 +59,29 @@ fn commands(rt: HostRuntime) -> Result<(), Fail> {
             assert_eq!(rt; (error.o, error.l, error.s, offset), (0, 0, 2, 0));
         }
     }
+    Ok(())
+}
+
+/// The words are written in their order, however they were put in, and read back.
+#[test]
+fn tallies(rt: HostRuntime) -> Result<(), Fail> {
+    let alloc = rt.alloc();
+    let mut words = HashMap::new(alloc);
+    for (word, count) in [("b", 2u32), ("a", 1)] {
+        words.insert(String::from_str(alloc, word)?, count)?;
+    }
+    let tally = Tally { at: 7, words };
+    let text = tally.serialize_json(alloc)?;
+    assert_eq!(rt; text.as_str(), "{\"at\":7,\"words\":{\"a\":1,\"b\":2}}");
+    let code = tally.serialize_bin(alloc)?;
+    let wanted: [u8; 42] = [
+        7, 0, 0, 0, 0, 0, 0, 0, 2, 0, 0, 0, 0, 0, 0, 0, 1, 0, 0, 0, 0, 0, 0, 0, 97, 1, 0, 0, 0, 1,
+        0, 0, 0, 0, 0, 0, 0, 98, 2, 0, 0, 0,
+    ];
+    assert_eq!(rt; code.as_slice(), wanted.as_slice());
+    let again = Tally::deserialize_bin(alloc, code.as_slice())?;
+    assert_eq!(rt; again.serialize_json(alloc)?.as_str(), text.as_str());
+    let read = Tally::deserialize_json(alloc, text.as_str())?;
+    assert_eq!(rt; read.serialize_bin(alloc)?.as_slice(), wanted.as_slice());
     Ok(())
 }

@@ -1,4 +1,4 @@
-//! What worked texts give: their tables, and the texts of faults.
+//! What worked texts give.
 
 use crate::{Toml, TomlErr, TomlParser, TomlTok};
 use std::alloc::{AllocError, Global};
@@ -156,184 +156,6 @@ fn tables(rt: HostRuntime) -> Result<(), Fail> {
 }
 
 #[test]
-fn faults(rt: HostRuntime) -> Result<(), Fail> {
-    check(
-        &rt,
-        rt.alloc(),
-        &[
-            (
-                "a = 1 [[a]]",
-                "Toml error: Array header on another kind a , line:1 col:12",
-            ),
-            (
-                "[s] x = 1 [[s.x]]",
-                "Toml error: Array header on another kind s.x , line:1 col:18",
-            ),
-            (
-                "key = # INVALID",
-                "Toml error: Unexpected token Eof , line:1 col:16",
-            ),
-            (
-                "n = 1e5",
-                "Toml error: Unexpected token U64(5) , line:1 col:8",
-            ),
-            (
-                "a = [[b]]",
-                "Toml error: Unexpected token Ident(\"b\") , line:1 col:9",
-            ),
-            (
-                "a = [1] b",
-                "Toml error: Unexpected token Eof , line:1 col:10",
-            ),
-            ("[a", "Toml error: Unexpected token Eof , line:1 col:3"),
-            (
-                "[a]]",
-                "Toml error: Unexpected token BlockClose , line:1 col:5",
-            ),
-            (
-                "[[\"a\"]]",
-                "Toml error: Unexpected token Str(\"a\") , line:1 col:7",
-            ),
-            (
-                "d = 1979-05-27T07:32:00Z",
-                "Toml error: Unexpected token Eof , line:1 col:25",
-            ),
-            (
-                "n = 1_8446744073709551616",
-                "Toml error: Cannot parse toml number , line:1 col:26",
-            ),
-            (
-                "n = 18446744073709551616",
-                "Toml error: Cannot parse toml number , line:1 col:25",
-            ),
-            (
-                "n = -9223372036854775809",
-                "Toml error: Cannot parse toml number , line:1 col:25",
-            ),
-            (
-                "n = 99999999999999999999",
-                "Toml error: Cannot parse toml number , line:1 col:25",
-            ),
-            (
-                "a = \"\"\"x\"\"\"\"",
-                "Toml error: Cannot parse toml string , line:1 col:13",
-            ),
-            (
-                "a = \"\\",
-                "Toml error: Cannot parse toml string , line:1 col:7",
-            ),
-            (
-                "a = \"x\0\"",
-                "Toml error: Cannot parse toml string , line:1 col:8",
-            ),
-            ("a", "Toml error: Unexpected token Eof , line:1 col:2"),
-            ("a =", "Toml error: Unexpected token Eof , line:1 col:4"),
-            ("= 1", "Toml error: Unexpected token Equals , line:1 col:3"),
-            (
-                "1 = 1",
-                "Toml error: Unexpected token U64(1) , line:1 col:3",
-            ),
-            (
-                "a = b",
-                "Toml error: Unexpected token Ident(\"b\") , line:1 col:6",
-            ),
-            (
-                "a = =",
-                "Toml error: Unexpected token Equals , line:1 col:6",
-            ),
-            (
-                "a = ]",
-                "Toml error: Unexpected token BlockClose , line:1 col:6",
-            ),
-            ("a = ,", "Toml error: Unexpected token Comma , line:1 col:6"),
-            (
-                "a = [=",
-                "Toml error: Unexpected token Equals , line:1 col:7",
-            ),
-            (
-                "a = [b]",
-                "Toml error: Unexpected token Ident(\"b\") , line:1 col:8",
-            ),
-            ("[", "Toml error: Unexpected token Eof , line:1 col:2"),
-            ("[[", "Toml error: Unexpected token Eof , line:1 col:3"),
-            ("[[a", "Toml error: Unexpected token Eof , line:1 col:4"),
-            ("[[a]", "Toml error: Unexpected token Eof , line:1 col:5"),
-            (
-                "[[a]b]",
-                "Toml error: Unexpected token Ident(\"b\") , line:1 col:7",
-            ),
-            ("[1]", "Toml error: Unexpected token U64(1) , line:1 col:4"),
-            (
-                "[]",
-                "Toml error: Unexpected token BlockClose , line:1 col:3",
-            ),
-            ("[=]", "Toml error: Unexpected token Equals , line:1 col:4"),
-            (
-                "true = 1",
-                "Toml error: Unexpected token Bool(true) , line:1 col:6",
-            ),
-            (
-                "a = 1 2",
-                "Toml error: Unexpected token U64(2) , line:1 col:8",
-            ),
-            (
-                "a = 1,",
-                "Toml error: Unexpected token Comma , line:1 col:7",
-            ),
-            (
-                "a = 1 ]",
-                "Toml error: Unexpected token BlockClose , line:1 col:8",
-            ),
-            (
-                ", a = 1",
-                "Toml error: Unexpected token Comma , line:1 col:3",
-            ),
-            (
-                "a = [1] [",
-                "Toml error: Unexpected token Eof , line:1 col:10",
-            ),
-            (
-                "a = 1 [[a]] [[a]]",
-                "Toml error: Array header on another kind a , line:1 col:13",
-            ),
-            (
-                "a = [] [[a]]",
-                "Toml error: Array header on another kind a , line:1 col:13",
-            ),
-            ("a = -n", "Toml error: Cannot parse toml nan , line:1 col:7"),
-            (
-                "a = -ix",
-                "Toml error: Cannot parse toml nan , line:1 col:8",
-            ),
-            (
-                "a = -inx",
-                "Toml error: Cannot parse toml inf , line:1 col:9",
-            ),
-            (
-                "a = _",
-                "Toml error: Unexpected token Ident(\"_\") , line:1 col:6",
-            ),
-            (
-                "a = -",
-                "Toml error: Cannot parse toml number , line:1 col:6",
-            ),
-            (
-                "a = .5",
-                "Toml error: Cannot parse toml tokenizer , line:1 col:6",
-            ),
-            (
-                "@",
-                "Toml error: Cannot parse toml tokenizer , line:1 col:2",
-            ),
-            (
-                "a = 1\n\nb = @",
-                "Toml error: Cannot parse toml tokenizer , line:3 col:6",
-            ),
-        ],
-    )
-}
-
-#[test]
 fn accessors(rt: HostRuntime) -> Result<(), Fail> {
     let text = "n = 5 s = \"x\" b = true d = 1979-05-27 l = [1, 2] [[t]] [[t]] k = 1";
     let alloc = rt.alloc();
@@ -463,8 +285,8 @@ fn deep_lists(rt: HostRuntime) -> Result<(), Fail> {
 fn deep_lists_compared(rt: HostRuntime) -> Result<(), Fail> {
     let alloc = rt.alloc();
     for (open, close) in [("[", ""), ("[", "]"), ("[[],1,", "]")] {
-        let text = brackets(alloc, open, 100_000, close)?;
-        let other = brackets(alloc, open, 99_999, close)?;
+        let text = brackets(alloc, open, 10_000, close)?;
+        let other = brackets(alloc, open, 9_999, close)?;
         let is_same = same(alloc, text.as_str(), text.as_str())?;
         assert!(rt; is_same, "of {open}");
         let is_other = !same(alloc, text.as_str(), other.as_str())?;
@@ -473,7 +295,8 @@ fn deep_lists_compared(rt: HostRuntime) -> Result<(), Fail> {
     Ok(())
 }
 
-// An answer in spite of a refused allocation: the same table or fault, or want of memory, which is marked and has no message.
+// An answer in spite of a refused allocation: the same table or fault, or want of memory, which is
+// marked and has no message.
 #[test]
 fn want_of_memory(rt: HostRuntime) -> Result<(), Fail> {
     let alloc = rt.alloc();

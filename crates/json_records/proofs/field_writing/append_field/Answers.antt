@@ -1,10 +1,23 @@
 use Rattle.std.proofs.Common.{◌≡◌, ◌++◌, string_bytes}
 use Rattle.std.proofs.lemmas.Result.{on_ok_weaker}
-use Rattle.json_records.proofs.WrittenFields.{comma_before, comma_written, no_comma_written, field_in_list}
+use Rattle.json_records.proofs.WrittenFields.{comma_before, comma_written, no_comma_written}
+use Rattle.json_records.proofs.WrittenFields.{field_behind_comma}
 use Rattle.json_records.proofs.field_writing.append_field.Goals as goal
-use Rattle.json_records.proofs.field_writing.append_field.Goals.{then-not-first+in_ok-conl, else-not-first}
+use Rattle.json_records.proofs.field_writing.append_field.Goals.{then-not-first+in_ok-conl}
+use Rattle.json_records.proofs.field_writing.append_field.Goals.{else-not-first}
 
 pub returns-clause-ok : goal.returns-clause-ok
 returns-clause-ok g c =
-    let opened : string_bytes c.if-not-first.s.out ≡ string_bytes c.args.s.now.out ++ comma_before c.args.first = elim c.if-not-first.branch [ then-not-first+in_ok-conl w ↦ rw w.s-is (comma_written c.args.first (string_bytes c.args.s.now.out) _ w.if-not-first.true w.in_ok-conl.ensures.ok) | else-not-first w ↦ rw w.s-is (no_comma_written c.args.first (string_bytes c.args.s.now.out) w.if-not-first.false) ] in
-    on_ok_weaker c.ser_json.result (field_in_list c.args.first (string_bytes c.args.s.now.out) (string_bytes c.if-not-first.s.out) (string_bytes c.field.new.self.out) (string_bytes c.ser_json.new.s.out) c.args.name.now (g.T.SerJson.writing.text c.args.d c.args.value.now) c.utf8.name opened c.in_ok-field.ensures.ok) c.ser_json.ensures.ok
+    let before = string_bytes c.args.s.now.out in
+    let first = c.args.first in
+    let opened : string_bytes c.if-not-first.s.out ≡ before ++ comma_before first =
+    elim c.if-not-first.branch [
+      | then-not-first+in_ok-conl w ↦
+          rw w.s-is (comma_written first before _ w.if-not-first.true w.in_ok-conl.ensures.ok)
+      | else-not-first w ↦ rw w.s-is (no_comma_written first before w.if-not-first.false)
+    ] in
+    on_ok_weaker c.ser_json.result
+    (field_behind_comma first before (string_bytes c.if-not-first.s.out)
+    (string_bytes c.field.new.self.out) (string_bytes c.ser_json.new.s.out) c.args.name.now
+    (g.T.JsonFormat.json.writing.text c.args.d c.args.value.now) c.utf8.name opened
+    c.in_ok-field.ensures.ok) c.ser_json.ensures.ok

@@ -1,60 +1,94 @@
 use Rattle.std.proofs.Common.{List, string_bytes, ap, sym, ◌∙◌}
 use Rattle.std.proofs.lemmas.Result.{err_from_is_err_and, IfErr-weaker, on_ok_weaker}
-use Rattle.nano_json.specs.State.{at}
-use Rattle.nano_json.specs.Skipped.{SkippedField}
-use Rattle.nano_json.specs.Token.{Token}
-use Rattle.json_records.specs.Fields.{Allowed}
-use Rattle.json_records.proofs.FieldReading.{pending_name, skipped_found, skipped_refused, colon_refused, value_refused, field_refused}
-use Rattle.json_records.proofs.KnownNames.{second_of, known_field, known_refused}
+use Rattle.text_fields.proofs.FieldReading.{skipped_found, skipped_refused, colon_refused}
+use Rattle.text_fields.proofs.FieldReading.{value_refused, field_refused}
+use Rattle.text_fields.proofs.KnownNames.{second_of, known_field, known_refused}
+use Rattle.json_tokens.specs.Skipped.{SkippedField}
+use Rattle.json_tokens.specs.State.{at}
+use Rattle.json_tokens.specs.Token.{Token}
+use Rattle.nano_json.proofs.Json.{json_laws}
+use Rattle.json_records.specs.FieldReading.{Allowed}
+use Rattle.json_records.specs.Fields.{json_fields}
+use Rattle.json_records.proofs.Pending.{pending_name}
 use Rattle.json_records.proofs.read.read_any.Goals as goal
 
 pub returns-then-knows-clause-fits : goal.returns-then-knows-clause-fits
 returns-then-knows-clause-fits g c =
-    let sh = (g.F.Fields.named c.args.fields.now).shape in
+    let shape = (g.F.Fields.named c.args.fields.now).shape in
     let name = pending_name c.args.state.now c.requires in
-    let known = ap sh.knows (sym c.as_str.ensures.value) ∙ sym c.if-knows.ensures in
-    on_ok_weaker c.read_field.result (λ h. (
-      h.0,
-      known_field sh (string_bytes c.args.state.now.strbuf) (at c.args.state.now c.args.input.now) name known (at c.read_field.new.state c.read_field.new.input) h.0 h.1,
-      h.2,
-    )) c.read_field.ensures.fits
+    let known = ap shape.knows (sym c.as_str.ensures.value) ∙ sym c.if-knows.ensures in
+    let bytes = string_bytes c.args.state.now.strbuf in
+    let start = at c.args.state.now c.args.input.now in
+    let end = at c.read_field.new.state c.read_field.new.input in
+    let field = known_field json_fields json_laws bytes start name shape known end in
+    on_ok_weaker c.read_field.result (λ h. (h.0, field h.0 h.1, h.2)) c.read_field.ensures.fits
 
 pub returns-then-knows-clause-refused : goal.returns-then-knows-clause-refused
 returns-then-knows-clause-refused g c =
-    let sh = (g.F.Fields.named c.args.fields.now).shape in
+    let shape = (g.F.Fields.named c.args.fields.now).shape in
     let name = pending_name c.args.state.now c.requires in
-    let known = ap sh.knows (sym c.as_str.ensures.value) ∙ sym c.if-knows.ensures in
-    IfErr-weaker c.read_field.result _ _ (λ e none memory. known_refused sh (string_bytes c.args.state.now.strbuf) (at c.args.state.now c.args.input.now) name known (none memory)) c.read_field.ensures.refused
+    let known = ap shape.knows (sym c.as_str.ensures.value) ∙ sym c.if-knows.ensures in
+    let bytes = string_bytes c.args.state.now.strbuf in
+    let start = at c.args.state.now c.args.input.now in
+    let none = known_refused json_fields json_laws bytes start name shape known in
+    IfErr-weaker c.read_field.result _ _ (λ e told. (λ memory. none (told.0 memory), told.1))
+    c.read_field.ensures.refused
 
 pub returns-in_err-next_colon-clause-refused : goal.returns-in_err-next_colon-clause-refused
 returns-in_err-next_colon-clause-refused g c =
     let p = err_from_is_err_and c.from_residual.result c.from_residual.ensures.1 in
-    let sh = (g.F.Fields.named c.args.fields.now).shape in
+    let shape = (g.F.Fields.named c.args.fields.now).shape in
     let n = string_bytes c.args.state.now.strbuf in
     let start = at c.args.state.now c.args.input.now in
     let name = pending_name c.args.state.now c.requires in
-    let unknown = ap sh.knows (sym c.as_str.ensures.value) ∙ sym c.if-knows.ensures in
+    let unknown = ap shape.knows (sym c.as_str.ensures.value) ∙ sym c.if-knows.ensures in
     let skipped = λ (us : List Token) (x : Unit {0}). SkippedField us in
-    rw (p.1, p.2) (λ memory. field_refused n skipped (Allowed sh) start name (λ us t. (tt, second_of (sh.knows n) (sh.takes n us) (SkippedField us) unknown t)) (colon_refused n skipped start (c.in_err-next_colon.ensures.refused memory)))
+    let only = λ (us : List Token). second_of (shape.knows n) (shape.takes n us) (SkippedField us) unknown in
+    let none =
+    field_refused json_fields json_laws n start name skipped (Allowed shape)
+    (λ us t. (tt, only us t)) in
+    let error = c.in_err-next_colon.ensures.refused in
+    rw (p.1, p.2) (
+      λ memory.
+          none (colon_refused json_fields json_laws n skipped start (error.0 memory)),
+      error.1.0,
+    )
 
 pub returns-clause-fits : goal.returns-clause-fits
 returns-clause-fits g c =
-    let sh = (g.F.Fields.named c.args.fields.now).shape in
+    let shape = (g.F.Fields.named c.args.fields.now).shape in
     let n = string_bytes c.args.state.now.strbuf in
     let name = pending_name c.args.state.now c.requires in
-    let unknown = ap sh.knows (sym c.as_str.ensures.value) ∙ sym c.if-knows.ensures in
+    let unknown = ap shape.knows (sym c.as_str.ensures.value) ∙ sym c.if-knows.ensures in
+    let start = at c.args.state.now c.args.input.now in
+    let behind = at c.next_colon.new.self c.next_colon.new.i in
+    let end = at c.whole_field.new.self c.whole_field.new.i in
+    let field =
+    skipped_found json_fields json_laws shape n start behind end name unknown
+    c.in_ok-next_colon.ensures.taken in
+    let skips = g.met.F.Fields.skips c.args.fields.now c.args.slots.now in
     on_ok_weaker c.whole_field.result (λ h.
-    let found = skipped_found sh n (at c.args.state.now c.args.input.now) (at c.next_colon.new.self c.next_colon.new.i) (at c.whole_field.new.self c.whole_field.new.i) name unknown c.in_ok-next_colon.ensures.taken h in
-    (found.0, found.1, λ fs x. g.met.F.Fields.skips c.args.fields.now c.args.slots.now fs found.0 found.2 x)) c.whole_field.ensures.taken
+    let f = field h in
+    (f.0, f.1, λ fs x. skips fs f.0 f.2 x)) c.whole_field.ensures.taken
 
 pub returns-clause-refused : goal.returns-clause-refused
 returns-clause-refused g c =
-    let sh = (g.F.Fields.named c.args.fields.now).shape in
+    let shape = (g.F.Fields.named c.args.fields.now).shape in
     let n = string_bytes c.args.state.now.strbuf in
     let start = at c.args.state.now c.args.input.now in
     let behind = at c.next_colon.new.self c.next_colon.new.i in
     let name = pending_name c.args.state.now c.requires in
-    let unknown = ap sh.knows (sym c.as_str.ensures.value) ∙ sym c.if-knows.ensures in
+    let unknown = ap shape.knows (sym c.as_str.ensures.value) ∙ sym c.if-knows.ensures in
     let skipped = λ (us : List Token) (x : Unit {0}). SkippedField us in
-    IfErr-weaker c.whole_field.result _ _ (λ e none memory.
-    field_refused n skipped (Allowed sh) start name (λ us t. (tt, second_of (sh.knows n) (sh.takes n us) (SkippedField us) unknown t)) (value_refused n skipped start behind c.in_ok-next_colon.ensures.taken (skipped_refused behind (none memory)))) c.whole_field.ensures.refused
+    let only = λ (us : List Token). second_of (shape.knows n) (shape.takes n us) (SkippedField us) unknown in
+    let none =
+    field_refused json_fields json_laws n start name skipped (Allowed shape)
+    (λ us t. (tt, only us t)) in
+    let no_value =
+    value_refused json_fields json_laws n skipped start behind
+    c.in_ok-next_colon.ensures.taken in
+    IfErr-weaker c.whole_field.result _ _ (λ e told. (
+      λ memory. none (no_value (skipped_refused json_fields json_laws behind
+          (λ field after s l. told.0 memory field s after l))),
+      told.1.0,
+    )) c.whole_field.ensures.refused

@@ -1,11 +1,15 @@
-use Rattle.nano_json.specs.State.{at}
-use Rattle.nano_json.proofs.Shorter.{left}
-use Rattle.json_records.proofs.StructReading.{FieldsSoFar}
+use Rattle.text_values.proofs.TokensLeft.{tokens_left}
+use Rattle.text_fields.proofs.StructReading.{FieldsSoFar}
+use Rattle.json_tokens.specs.State.{at}
+use Rattle.nano_json.proofs.Json.{json_laws}
+use Rattle.json_records.specs.Fields.{json_fields}
 use Rattle.json_records.proofs.read.read_list.Given as goal
 
 -- the slots hold the fields so far
 abbrev pub invariant-fields : goal.invariant-fields
-invariant-fields g l = FieldsSoFar (g.F.Fields.named l.fn.fields) (g.F.Fields.holds l.fn.fields l.slots) (at l.fn.state l.fn.input) (at l.state l.input)
+invariant-fields g l =
+    FieldsSoFar json_fields json_laws (g.F.Fields.named l.fn.fields)
+    (g.F.Fields.holds l.fn.fields l.slots) (at l.fn.state l.fn.input) (at l.state l.input)
 
 abbrev pub decreases-fields : goal.decreases-fields
-decreases-fields g l = left (at l.state l.input)
+decreases-fields g l = tokens_left json_laws.is_end (at l.state l.input)

@@ -7,4 +7,8 @@ pub returns-in_err-next_tok-clause-refused : goal.returns-in_err-next_tok-clause
 returns-in_err-next_tok-clause-refused c =
     let p = err_from_is_err_and c.from_residual-in_err-next_tok.result c.from_residual-in_err-next_tok.ensures.1 in
     let text = ap (λ s. live s.cur c.args.input.now) c.in_ok-name.ensures.emptied.1 in
-    rw (p.1, p.2) (λ known name after l. c.in_err-next_tok.ensures.refused known l.1.0.token l.1.0.text (rw text l.1.1))
+    let error = c.in_err-next_tok.ensures.refused in
+    rw (p.1, p.2) (
+      λ known name after l. error.0 known l.1.0.token l.1.0.text (rw text l.1.1),
+      error.1.0,
+    )

@@ -1,17 +1,30 @@
 use Rattle.std.proofs.lemmas.Result.{err_from_is_err_and}
-use Rattle.nano_json.specs.State.{at}
+use Rattle.json_tokens.specs.State.{at}
 use Rattle.json_records.proofs.VariantReaders.{closed_found, content_refused, closing_refused}
 use Rattle.json_records.proofs.variants.read_content.Goals as goal
 
 pub returns-clause-fits : goal.returns-clause-fits
-returns-clause-fits g c = closed_found (at c.args.state.now c.args.input.now) g.T.DeJson.spelling.spelled (at c.de_json.new.state c.de_json.new.input) (at c.close_content.new.state c.close_content.new.input) (g.T.Value.means c.in_ok-content.content) c.in_ok-content.ensures.fits c.in_ok-close_content.ensures.taken
+returns-clause-fits g c =
+    closed_found (at c.args.state.now c.args.input.now) g.T.JsonFormat.json.spelling.spelled
+    (at c.de_json.new.state c.de_json.new.input)
+    (at c.close_content.new.state c.close_content.new.input)
+    (g.T.Value.means c.in_ok-content.content) c.in_ok-content.ensures.fits
+    c.in_ok-close_content.ensures.taken
 
 pub returns-in_err-close_content-clause-refused : goal.returns-in_err-close_content-clause-refused
 returns-in_err-close_content-clause-refused g c =
     let p = err_from_is_err_and c.from_residual-in_err-close_content.result c.from_residual-in_err-close_content.ensures.1 in
-    rw (p.1, p.2) (λ known. closing_refused (at c.args.state.now c.args.input.now) g.T.DeJson.spelling (at c.de_json.new.state c.de_json.new.input) (g.T.Value.means c.in_ok-content.content) c.in_ok-content.ensures.fits (c.in_err-close_content.ensures.refused known))
+    let none =
+    closing_refused (at c.args.state.now c.args.input.now) g.T.JsonFormat.json.spelling
+    (at c.de_json.new.state c.de_json.new.input) (g.T.Value.means c.in_ok-content.content)
+    c.in_ok-content.ensures.fits in
+    let error = c.in_err-close_content.ensures.refused in
+    rw (p.1, p.2) (λ known. none (error.0 known), error.1)
 
 pub returns-in_err-content-clause-refused : goal.returns-in_err-content-clause-refused
 returns-in_err-content-clause-refused g c =
     let p = err_from_is_err_and c.from_residual.result c.from_residual.ensures.1 in
-    rw (p.1, p.2) (λ known. content_refused (at c.args.state.now c.args.input.now) g.T.DeJson.spelling.spelled (c.in_err-content.ensures.refused known))
+    let start = at c.args.state.now c.args.input.now in
+    let none = content_refused start g.T.JsonFormat.json.spelling.spelled in
+    let error = c.in_err-content.ensures.refused in
+    rw (p.1, p.2) (λ known. none (error.0 known), error.1)

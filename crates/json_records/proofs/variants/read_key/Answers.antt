@@ -1,10 +1,10 @@
 use Rattle.std.proofs.Common.{ap, sym, subst, not, ◌∙◌, ◌∷◌, []}
 use Rattle.std.proofs.lemmas.Result.{err_from_is_err_and}
 use Rattle.nano_text.specs.Place.{live}
-use Rattle.nano_text.specs.Tokens.{Leaves}
-use Rattle.nano_json.specs.Cut.{Cut}
-use Rattle.nano_json.specs.State.{at}
-use Rattle.nano_json.specs.Token.{str, colon, IsStr}
+use Rattle.text_values.specs.Tokens.{Leaves}
+use Rattle.json_tokens.specs.Cut.{Cut}
+use Rattle.json_tokens.specs.State.{at}
+use Rattle.json_tokens.specs.Token.{str, colon, IsStr}
 use Rattle.json_records.proofs.VariantReaders.{another_head}
 use Rattle.json_records.proofs.variants.read_key.Goals as goal
 
@@ -12,14 +12,28 @@ pub returns-in_err-next_colon-clause-refused : goal.returns-in_err-next_colon-cl
 returns-in_err-next_colon-clause-refused c =
     let p = err_from_is_err_and c.from_residual-in_err-next_colon.result c.from_residual-in_err-next_colon.ensures.1 in
     let text = ap (λ s. live s.cur c.args.input.now) c.in_ok-name.ensures.emptied.1 in
-    rw (p.1, p.2) (λ known name after l. c.in_err-next_colon.ensures.refused known after (another_head (at c.args.state.now c.args.input.now) (at c.as_string.new.self c.args.input.now) (str name) (colon ∷ []) after text l))
+    let start = at c.args.state.now c.args.input.now in
+    let mid = at c.as_string.new.self c.args.input.now in
+    let error = c.in_err-next_colon.ensures.refused in
+    rw (p.1, p.2) (
+      λ known name after l. error.0 known after (another_head start mid (str name) (colon ∷ []) after text l),
+      error.1.0,
+    )
 
 pub returns-clause-taken : goal.returns-clause-taken
 returns-clause-taken c =
     let text = ap (λ s. live s.cur c.args.input.now) c.in_ok-name.ensures.emptied.1 in
+    let start = at c.args.state.now c.args.input.now in
+    let mid = at c.as_string.new.self c.args.input.now in
     let behind = at c.next_colon.new.self c.next_colon.new.i in
-    let taken = another_head (at c.as_string.new.self c.args.input.now) (at c.args.state.now c.args.input.now) _ (colon ∷ []) behind (sym text) c.in_ok-next_colon.ensures.taken in
-    subst (λ t. Leaves Cut (t ∷ colon ∷ []) (at c.args.state.now c.args.input.now) behind) c.in_ok-name.ensures.ok taken
+    let taken =
+    another_head mid start _ (colon ∷ []) behind (sym text) c.in_ok-next_colon.ensures.taken in
+    subst (λ t. Leaves Cut (t ∷ colon ∷ []) start behind) c.in_ok-name.ensures.ok taken
 
 pub returns-then-is_none-clause-refused : goal.returns-then-is_none-clause-refused
-returns-then-is_none-clause-refused c known name after l = let h = c.next_str.ensures.1 (subst IsStr l.0 tt) in let both = sym h ∙ (c.is_none.ensures ∙ ap not c.if-is_none.true) in absurd (cc both)
+returns-then-is_none-clause-refused c = (
+  λ known name after l.
+      let h = c.next_str.ensures.1 (subst IsStr l.0 tt) in
+      let both = sym h ∙ (c.is_none.ensures ∙ ap not c.if-is_none.true) in absurd (cc both),
+  c.err_token.ensures.0,
+)

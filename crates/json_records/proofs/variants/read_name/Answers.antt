@@ -1,17 +1,23 @@
 use Rattle.std.proofs.Common.{ap, sym}
+use Rattle.std.proofs.lemmas.Result.{IfErr-weaker}
 use Rattle.std.specs.Prelude.{string_bytes}
-use Rattle.nano_json.specs.State.{at, token_of}
-use Rattle.json_records.proofs.VariantReaders.{each_refusal, no_bracket, no_string}
+use Rattle.json_tokens.specs.State.{at, token_of}
+use Rattle.json_records.proofs.VariantReaders.{no_bracket, no_string}
 use Rattle.json_records.proofs.variants.read_name.Goals as goal
 
 pub returns-in-Str-clause-refused : goal.returns-in-Str-clause-refused
 returns-in-Str-clause-refused c =
     let s = c.args.state.now in
-    let pending = ap (λ t. token_of t (string_bytes s.strbuf) (string_bytes s.numbuf)) c.in-Str.is in
-    each_refusal _ _ c.read_alone.result (λ e none known. no_bracket (string_bytes s.strbuf) (at s c.args.input.now) (sym pending) (none known)) c.read_alone.ensures.refused
+    let text = string_bytes s.strbuf in
+    let pending = ap (λ t. token_of t text (string_bytes s.numbuf)) c.in-Str.is in
+    let none = no_bracket text (at s c.args.input.now) (sym pending) in
+    IfErr-weaker c.read_alone.result _ _ (λ e told. (λ known. none (told.0 known), told.1))
+    c.read_alone.ensures.refused
 
 pub returns-in-CurlyOpen-clause-refused : goal.returns-in-CurlyOpen-clause-refused
 returns-in-CurlyOpen-clause-refused c =
     let s = c.args.state.now in
     let pending = ap (λ t. token_of t (string_bytes s.strbuf) (string_bytes s.numbuf)) c.in-CurlyOpen.is in
-    each_refusal _ _ c.read_opened.result (λ e none known. no_string (at s c.args.input.now) (sym pending) (none known)) c.read_opened.ensures.refused
+    let none = no_string (at s c.args.input.now) (sym pending) in
+    IfErr-weaker c.read_opened.result _ _ (λ e told. (λ known. none (told.0 known), told.1))
+    c.read_opened.ensures.refused

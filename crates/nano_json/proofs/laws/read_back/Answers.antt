@@ -1,25 +1,36 @@
-use Rattle.std.proofs.Common.{sym, ◌∙◌, subst}
+use Rattle.std.proofs.Common.{◌∙◌, sym, subst}
 use Rattle.std.proofs.lemmas.Bool.{true_from_ne_false}
 use Rattle.std.proofs.lemmas.Result.{IfErr-weaker, IfOk-weaker}
-use Rattle.nano_json.proofs.RoundTrip.{written_fits, one_fits_text}
+use Rattle.nano_value.specs.Meaning.{Meaning}
+use Rattle.nano_value.specs.Ties.{Ties}
+use Rattle.text_values.proofs.RoundTrip.{written_fits, one_fits_text}
+use Rattle.nano_json.specs.Format.{Format}
+use Rattle.nano_json.proofs.Json.{json_laws}
 use Rattle.nano_json.proofs.laws.read_back.Goals as goal
+
+-- what is legal for the type is legal for the format
+legal_there : {A : Type 0} {means : A → Meaning} {legal : Meaning → Type 0} (f : Format A)
+    → Ties means legal f.writing.means f.spelling.legal → (x : A) → legal (means x)
+    → f.spelling.legal (f.writing.means x)
+legal_there {means = means} f t x h =
+    subst f.spelling.legal (λ i. sym t.means_is i x) (t.allows (means x) h)
 
 pub returns-in-Ok-clause-same : goal.returns-in-Ok-clause-same
 returns-in-Ok-clause-same g c =
-    let w = g.T.SerJson.writing in
+    let f = g.T.JsonFormat.json in
+    let w = f.writing in
     let x = c.args.written.now in
-    let legal = subst (λ m. w.legal m) (λ i. sym g.met.T.SerJson.writes_meaning i x) (g.met.T.SerJson.writes_legal (g.T.Value.means x) c.known.ensures) in
-    let written = w.is_written g.met.T.SerJson.orders_keys x legal 0 in
+    let written = f.is_written x (legal_there f g.met.T.JsonFormat.ties x c.known.ensures) 0 in
     IfOk-weaker c.deserialize_json.result _ _ (λ read found sound.
-    let fits = written_fits g.T.DeJson.spelling.spelled (w.tokens x) (w.text 0 x) c.as_str.result.now (g.T.Value.means x) written (c.as_str.ensures.value ∙ c.in-Ok.ensures) (c.written_tokens_spell_a_sound_value.ensures sound) in
-    one_fits_text g.T.DeJson.spelling.laws _ _ _ found fits) c.deserialize_json.ensures.fits
+    let fits = written_fits json_laws f.spelling.spelled (w.tokens x) (w.text 0 x) c.as_str.result.now (g.T.Value.means x) written (c.as_str.ensures.value ∙ c.in-Ok.ensures) (c.written_tokens_spell_a_sound_value.ensures sound) in
+    one_fits_text json_laws f.spelling.laws _ _ _ found fits) c.deserialize_json.ensures.fits
 
 pub returns-in-Ok-clause-memory : goal.returns-in-Ok-clause-memory
 returns-in-Ok-clause-memory g c =
-    let w = g.T.SerJson.writing in
+    let f = g.T.JsonFormat.json in
+    let w = f.writing in
     let x = c.args.written.now in
-    let legal = subst (λ m. w.legal m) (λ i. sym g.met.T.SerJson.writes_meaning i x) (g.met.T.SerJson.writes_legal (g.T.Value.means x) c.known.ensures) in
-    let written = w.is_written g.met.T.SerJson.orders_keys x legal 0 in
+    let written = f.is_written x (legal_there f g.met.T.JsonFormat.ties x c.known.ensures) 0 in
     IfErr-weaker c.deserialize_json.result _ _ (λ e none sound.
-    let fits = written_fits g.T.DeJson.spelling.spelled (w.tokens x) (w.text 0 x) c.as_str.result.now (g.T.Value.means x) written (c.as_str.ensures.value ∙ c.in-Ok.ensures) (c.written_tokens_spell_a_sound_value.ensures sound) in
-    true_from_ne_false e.memory (λ known. none known _ fits)) c.deserialize_json.ensures.refused
+    let fits = written_fits json_laws f.spelling.spelled (w.tokens x) (w.text 0 x) c.as_str.result.now (g.T.Value.means x) written (c.as_str.ensures.value ∙ c.in-Ok.ensures) (c.written_tokens_spell_a_sound_value.ensures sound) in
+    true_from_ne_false e.memory (λ known. none.0 known _ fits)) c.deserialize_json.ensures.refused

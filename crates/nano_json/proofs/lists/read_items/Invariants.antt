@@ -1,17 +1,13 @@
-use Rattle.std.specs.Prelude.{map}
-use Rattle.nano_text.specs.Lists.{SpelledItems}
-use Rattle.nano_text.proofs.ListReading.{SoFar, StillLeft}
-use Rattle.nano_json.specs.Cut.{Cut}
-use Rattle.nano_json.specs.State.{at}
-use Rattle.nano_json.specs.Spellings.{blocks}
-use Rattle.nano_json.proofs.Shorter.{left}
+use Rattle.std.specs.Prelude.{◌≡◌, map, length}
+use Rattle.text_values.proofs.Containers.{ReadSoFar}
+use Rattle.json_tokens.specs.Brackets.{blocks}
+use Rattle.json_tokens.specs.State.{at}
+use Rattle.nano_json.proofs.Json.{json_laws}
 use Rattle.nano_json.proofs.lists.read_items.Given as goal
 
-abbrev pub invariant-items : goal.invariant-items
-invariant-items g l = record {
-  so_far : SoFar Cut blocks g.T.DeJson.spelling.spelled (at l.fn.state l.fn.input) (at l.state l.input) (map g.T.Value.means l.items.items);
-  still : StillLeft Cut blocks g.T.DeJson.spelling.spelled (SpelledItems blocks g.T.DeJson.spelling.spelled) (at l.fn.state l.fn.input) (at l.state l.input);
+abbrev pub invariant-loop-index : goal.invariant-loop-index
+invariant-loop-index g l = record {
+  read : ReadSoFar json_laws blocks g.T.JsonFormat.json.spelling.spelled (at l.fn.state l.fn.input)
+      (at l.state l.input) (map g.T.Value.means l.items.items);
+  count : length l.items.items ≡ l._index;
 }
-
-abbrev pub decreases-items : goal.decreases-items
-decreases-items g l = left (at l.state l.input)

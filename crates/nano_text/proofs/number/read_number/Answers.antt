@@ -1,6 +1,6 @@
 use Rattle.std.proofs.Common.{◌≡◌, ◌+◌, ℕ, Option, Some, None, Bool, true, false, is_some, option_map, refl, sym, ◌∙◌, ap, subst, arith, length, length-append, encode_utf8, take}
 use Rattle.nano_text.specs.Number.{is_minus, run_text, AreGoodParts}
-use Rattle.nano_text.specs.declared.number.ExponentLen.{ExponentLen}
+use Rattle.nano_text.specs.declared.run.ExponentLen.{ExponentLen}
 use Rattle.nano_text.specs.Place.{text_at}
 use Rattle.nano_text.specs.Scan.{run_at, exponent_len, decimal_len, fraction_room, exponent_room}
 use Rattle.nano_text.proofs.Numbers.{none_mapped, integer_found, integer_good, number_good, integer_not_decimal, decimal_not}

@@ -1,10 +1,11 @@
-use Rattle.std.proofs.Common.{◌≡◌, ◌≢◌, ◌∷◌, ◌++◌, ℕ, [], refl, sym, ◌∙◌, ap, arith, length, length-append, string_bytes, encode_utf8, true, ne_eqb}
+use Rattle.std.proofs.Common.{rules, ◌≡◌, ◌≢◌, ◌∷◌, ◌++◌, ℕ, [], refl, sym, ◌∙◌, ap, arith, length, length-append, string_bytes, encode_utf8, true, ne_eqb}
 use Rattle.nano_text.specs.Place.{text_at}
 use Rattle.nano_text.specs.String.{is_plain}
 use Rattle.nano_text.proofs.LiveText.{live_end, live-first}
 use Rattle.nano_text.proofs.Escapes.{piece_some}
 use Rattle.nano_text.proofs.TakenFront.{behind_shorter, plain_cut}
 use Rattle.nano_text.proofs.Strings.{reads_piece, reads_plain, no_string, written_le}
+use Rattle.nano_text.specs.PlaceLaws.{passes_append}
 use Rattle.nano_text.proofs.string.read_string.Goals as goal
 
 -- the opening quote comes off the text
@@ -26,6 +27,7 @@ pieces-preserved c =
     let piece = c.in-Some.ensures.taken in
     record {
       read = reads_piece _ _ _ _ _ piece.0 c.pieces.invariant.read piece.1 piece.3 (c.in_ok-push.ensures.bytes ∙ ap (λ (n : ℕ). string_bytes c.pieces.strbuf ++ encode_utf8 n) piece.2);
+      place = passes_append c.pieces.invariant.place c.in-Some.ensures.place;
       capacity = omega (arith, c.pieces.invariant.capacity, c.in_ok-push.ensures.capacity);
     }
 
@@ -51,6 +53,7 @@ pieces-smaller-then-p-ne92 c =
 pub pieces-preserved-then-p-ne92 : goal.pieces-preserved-then-p-ne92
 pieces-preserved-then-p-ne92 c = record {
   read = reads_plain _ _ _ _ _ c.pieces.invariant.read c.in_ok-take_plain.ensures.rest c.in_ok-take_plain.ensures.taken;
+  place = passes_append c.pieces.invariant.place c.in_ok-take_plain.ensures.place;
   capacity = omega (arith, c.pieces.invariant.capacity, c.in_ok-take_plain.ensures.capacity);
 }
 
@@ -59,3 +62,6 @@ returns-in_err-take_plain-clause-memory c error characters rest string =
     let quote = c.next.ensures.taken (quote_some _ c.if-p-ne34.false) ∙ ap (λ (n : ℕ). n ∷ text_at c.next.new.self c.next.new.i) c.if-p-ne34.false in
     let more = reads_plain _ _ _ _ _ c.pieces.invariant.read refl refl in
     omega (arith, written_le _ _ _ _ characters rest quote more string, c.pieces.invariant.capacity, c.in_err-take_plain.ensures.full)
+
+pub returns-clause-place : goal.returns-clause-place
+returns-clause-place c = search (rules, passes_append)

@@ -1,5 +1,6 @@
 use Rattle.std.proofs.Common.{refl}
 use Rattle.nano_text.proofs.Escapes.{same_behind_first}
+use Rattle.nano_text.specs.PlaceLaws.{passes_append}
 use Rattle.nano_text.proofs.string.take_code_unit.Goals as goal
 
 pub returns-in_err-first-clause-none : goal.returns-in_err-first-clause-none
@@ -30,3 +31,8 @@ returns-clause-taken c = (
   rw (c.in_ok-first.ensures.digit.1, c.in_ok-second.ensures.digit.1, c.in_ok-third.ensures.digit.1, c.in_ok-fourth.ensures.digit.1) refl,
   rw (c.in_ok-first.ensures.taken, c.in_ok-second.ensures.taken, c.in_ok-third.ensures.taken, c.in_ok-fourth.ensures.taken) refl,
 )
+
+pub returns-clause-place : goal.returns-clause-place
+returns-clause-place c =
+    passes_append c.in_ok-first.ensures.place (passes_append c.in_ok-second.ensures.place
+    (passes_append c.in_ok-third.ensures.place c.in_ok-fourth.ensures.place))

@@ -1,8 +1,9 @@
-use Rattle.std.proofs.Common.{◌≡◌, ◌≢◌, ◌∷◌, [], refl, sym, ◌∙◌, arith}
+use Rattle.std.proofs.Common.{rules, ◌≡◌, ◌≢◌, ◌∷◌, [], refl, sym, ◌∙◌, arith}
 use Rattle.nano_text.specs.Place.{text_at}
 use Rattle.nano_text.specs.String.{escaped}
 use Rattle.nano_text.proofs.LiveText.{live_end}
-use Rattle.nano_text.proofs.Escapes.{piece_longer}
+use Rattle.nano_text.proofs.Escapes.{some_follows, piece_longer}
+use Rattle.nano_text.specs.PlaceLaws.{passes_append}
 use Rattle.nano_text.proofs.string.take_escape.Goals as goal
 
 pub returns-then-p-eq0-clause-none : goal.returns-then-p-eq0-clause-none
@@ -16,3 +17,11 @@ pub returns-clause-taken : goal.returns-clause-taken
 returns-clause-taken c =
     let some : c.args.p.now.cur ≢ 0 = λ e. omega (arith, e, c.requires) in
     (escaped c.next.new.self.cur, (c.if-p-eq117.false, c.if-p-eq0.false), c.escaped_char-c.ensures, rw (c.next.ensures.taken some, c.next-2.ensures.taken c.if-p-eq0.false, c.requires) refl)
+
+pub returns-then-p-eq117-clause-place : goal.returns-then-p-eq117-clause-place
+returns-then-p-eq117-clause-place c =
+    some_follows _ _ _ (λ k. passes_append c.next.ensures.passes (passes_append c.next-then-p-eq117.ensures.passes k))
+    c.take_unicode.ensures.place
+
+pub returns-clause-place : goal.returns-clause-place
+returns-clause-place c = search (rules, passes_append)

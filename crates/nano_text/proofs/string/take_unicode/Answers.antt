@@ -1,7 +1,8 @@
 use Rattle.std.proofs.Common.{◌≢◌, ◌<◌, ◌≤◌, ◌⊎◌, inl, inr, refl, arith}
 use Rattle.nano_text.specs.String.{scalar, pair, unit_value}
 use Rattle.nano_text.proofs.LiveText.{live-first}
-use Rattle.nano_text.proofs.Escapes.{IfSome-from_SomeIff, unit_of_piece, paired, same_behind_first}
+use Rattle.nano_text.proofs.Escapes.{some_anyway, IfSome-from_SomeIff, unit_of_piece, paired, same_behind_first}
+use Rattle.nano_text.specs.PlaceLaws.{passes_append}
 use Rattle.nano_text.proofs.string.take_unicode.Goals as goal
 use Rattle.nano_text.proofs.string.take_unicode.Goals.{then-lead-lt55296-via-then-lead-lt55296, then-lead-lt55296-via-else-lead-lt55296+then-lead-gt57343, then-lead-gt56319-via-then-lead-gt56319, then-lead-gt56319-via-else-lead-gt56319+then-p-ne92}
 
@@ -66,3 +67,8 @@ returns-clause-taken c =
       rw (lead.2, trail.2) refl,
       rw (lead.3, c.next.ensures.taken some, c.next-2.ensures.taken more, c.if-p-ne92.false, c.if-p-ne117.false, trail.3) refl,
     )
+
+pub returns-clause-place : goal.returns-clause-place
+returns-clause-place c =
+    some_anyway _ _ (passes_append c.in_ok-lead.ensures.place (passes_append c.next.ensures.passes
+    (passes_append c.next-2.ensures.passes c.in_ok-trail.ensures.place)))

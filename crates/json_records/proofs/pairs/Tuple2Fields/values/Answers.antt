@@ -1,5 +1,5 @@
 use Rattle.std.proofs.Common.{refl}
-use Rattle.json_records.specs.Fields.{others}
+use Rattle.text_fields.specs.Fields.{others}
 use Rattle.json_records.proofs.pairs.Tuple2Fields.values.Goals as goal
 
 pub returns-clause-all : goal.returns-clause-all

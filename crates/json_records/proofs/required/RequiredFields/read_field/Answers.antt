@@ -1,18 +1,32 @@
 use Rattle.std.proofs.Common.{string_bytes}
 use Rattle.std.proofs.lemmas.Result.{err_from_is_err_and}
-use Rattle.nano_json.specs.State.{at}
-use Rattle.json_records.specs.Struct.{must}
-use Rattle.json_records.proofs.FieldReading.{pending_name, named_field, field_refused}
+use Rattle.text_fields.specs.Struct.{must_read}
+use Rattle.text_fields.proofs.FieldReading.{named_field, field_refused}
+use Rattle.json_tokens.specs.State.{at}
+use Rattle.nano_json.proofs.Json.{json_laws}
+use Rattle.json_records.specs.Fields.{json_fields}
+use Rattle.json_records.proofs.Pending.{pending_name}
 use Rattle.json_records.proofs.required.RequiredFields.read_field.Goals as goal
 
 pub returns-in_err-value-clause-refused : goal.returns-in_err-value-clause-refused
 returns-in_err-value-clause-refused g c =
     let p = err_from_is_err_and c.from_residual.result c.from_residual.ensures.1 in
     let name = pending_name c.args.state.now c.requires.text in
-    let takes = (must c.args.self.now.name.now g.T.DeJson.spelling).shape.takes in
-    rw (p.1, p.2) (λ known. field_refused (string_bytes c.args.state.now.strbuf) g.T.DeJson.spelling.spelled takes (at c.args.state.now c.args.input.now) name (λ us h. h) (c.in_err-value.ensures.refused known))
+    let spelling = g.T.JsonFormat.json.spelling in
+    let takes = (must_read c.args.self.now.name.now spelling).shape.takes in
+    let start = at c.args.state.now c.args.input.now in
+    let none =
+    field_refused json_fields json_laws (string_bytes c.args.state.now.strbuf) start name
+    spelling.spelled takes (λ us h. h) in
+    let error = c.in_err-value.ensures.refused in
+    rw (p.1, p.2) (λ known. none (error.0 known), error.1)
 
 pub returns-clause-fits : goal.returns-clause-fits
 returns-clause-fits g c =
-    let read = named_field (string_bytes c.args.state.now.strbuf) c.args.self.now.name.now g.T.DeJson.spelling.spelled (at c.args.state.now c.args.input.now) (at c.read_named.new.state c.read_named.new.input) (g.T.Value.means c.in_ok-value.value) c.requires.known c.in_ok-value.ensures.fits in
+    let start = at c.args.state.now c.args.input.now in
+    let end = at c.read_named.new.state c.read_named.new.input in
+    let read =
+    named_field json_fields json_laws (string_bytes c.args.state.now.strbuf)
+    c.args.self.now.name.now g.T.JsonFormat.json.spelling.spelled start end
+    (g.T.Value.means c.in_ok-value.value) c.requires.known c.in_ok-value.ensures.fits in
     (read.0, read.1, λ fs h. read.2 fs)

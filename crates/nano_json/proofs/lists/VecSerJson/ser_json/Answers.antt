@@ -1,4 +1,4 @@
-use Rattle.nano_json.proofs.KeptWriting.{kept_by}
+use Rattle.nano_text.specs.KeptWriting.{kept_by}
 use Rattle.nano_json.proofs.lists.VecSerJson.ser_json.Goals as goal
 
 pub keep_written-requires : goal.keep_written-requires

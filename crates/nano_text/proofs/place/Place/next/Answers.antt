@@ -1,4 +1,5 @@
 use Rattle.std.proofs.Common.{refl, subst, IsUtf8, ne_eqb}
+use Rattle.nano_text.specs.PlaceLaws.{passes_next}
 use Rattle.nano_text.proofs.LiveText.{held_next, held_none, live_next, live_last, live_taken, live_none}
 use Rattle.nano_text.proofs.place.Place.next.Goals as goal
 
@@ -49,3 +50,11 @@ returns-else-c-eq10-clause-rest c =
 
 pub returns-in-None-clause-rest : goal.returns-in-None-clause-rest
 returns-in-None-clause-rest c = live_none c.args.i.now c.next.new.self (held_none c.args.i.now c.in-None.ensures.steps.0.0)
+
+pub returns-then-c-eq10-clause-passes : goal.returns-then-c-eq10-clause-passes
+returns-then-c-eq10-clause-passes c =
+    passes_next _ _ _ _ (returns-then-c-eq10-clause-place c) (returns-then-c-eq10-clause-held c)
+
+pub returns-else-c-eq10-clause-passes : goal.returns-else-c-eq10-clause-passes
+returns-else-c-eq10-clause-passes c =
+    passes_next _ _ _ _ (returns-else-c-eq10-clause-place c) (returns-else-c-eq10-clause-held c)

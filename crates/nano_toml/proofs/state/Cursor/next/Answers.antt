@@ -2,23 +2,13 @@ use Rattle.std.proofs.Common.{subst, IsUtf8}
 use Rattle.nano_toml.proofs.LiveText.{held_next, held_none, live_next, live_last, live_taken, live_none}
 use Rattle.nano_toml.proofs.state.Cursor.next.Goals as goal
 
-pub returns-then-c-eq10-clause-rest : goal.returns-then-c-eq10-clause-rest
-returns-then-c-eq10-clause-rest c =
+pub returns-in-Some-clause-rest : goal.returns-in-Some-clause-rest
+returns-in-Some-clause-rest c =
     let text = subst IsUtf8 c.as_str-text.ensures c.as_str-text.utf8 in
     live_taken c.in-Some.c c.args.self.now.behind c.next.new.self (held_next c.args.self.now.behind c.next.new.self c.in-Some.c text c.in-Some.ensures.steps.0)
 
-pub returns-then-c-eq10-clause-taken : goal.returns-then-c-eq10-clause-taken
-returns-then-c-eq10-clause-taken c =
-    let text = subst IsUtf8 c.as_str-text.ensures c.as_str-text.utf8 in
-    live_next _ _ _ _ (held_next c.args.self.now.behind c.next.new.self c.in-Some.c text c.in-Some.ensures.steps.0)
-
-pub returns-else-c-eq10-clause-rest : goal.returns-else-c-eq10-clause-rest
-returns-else-c-eq10-clause-rest c =
-    let text = subst IsUtf8 c.as_str-text.ensures c.as_str-text.utf8 in
-    live_taken c.in-Some.c c.args.self.now.behind c.next.new.self (held_next c.args.self.now.behind c.next.new.self c.in-Some.c text c.in-Some.ensures.steps.0)
-
-pub returns-else-c-eq10-clause-taken : goal.returns-else-c-eq10-clause-taken
-returns-else-c-eq10-clause-taken c =
+pub returns-in-Some-clause-taken : goal.returns-in-Some-clause-taken
+returns-in-Some-clause-taken c =
     let text = subst IsUtf8 c.as_str-text.ensures c.as_str-text.utf8 in
     live_next _ _ _ _ (held_next c.args.self.now.behind c.next.new.self c.in-Some.c text c.in-Some.ensures.steps.0)
 

@@ -15,30 +15,30 @@ pub returns-then-starts_word-clause-cut : goal.returns-then-starts_word-clause-c
 returns-then-starts_word-clause-cut c =
     let start = begins_live starts_word c.skip.new.self.cur c.skip.new.self.behind refl ∙ sym c.if-starts_word.ensures in
     scanned_cut _ _ (ap next_behind_gaps (sym c.skip.ensures)
-    ∙ word_next (live c.skip.new.self) _ (live c.word.new.self) _ start c.in_ok-word.ensures.text c.in_ok-word.ensures.rest c.word_token.ensures)
+    ∙ word_next (live c.skip.new.self) _ (live c.read_word.new.self) _ start c.in_ok-read_word.ensures.text c.in_ok-read_word.ensures.rest c.word_token.ensures)
 
 pub returns-then-starts_number-clause-cut : goal.returns-then-starts_number-clause-cut
 returns-then-starts_number-clause-cut c =
     let start = begins_live starts_number c.skip.new.self.cur c.skip.new.self.behind refl ∙ sym c.if-starts_number.ensures in
-    found_cut c.number.result (live c.args.self.now) (live c.number.new.self) (number_at (live c.skip.new.self)) (ap next_behind_gaps (sym c.skip.ensures) ∙ number_next (live c.skip.new.self) start) c.number.ensures.found
+    found_cut c.read_number.result (live c.args.self.now) (live c.read_number.new.self) (number_at (live c.skip.new.self)) (ap next_behind_gaps (sym c.skip.ensures) ∙ number_next (live c.skip.new.self) start) c.read_number.ensures.found
 
 pub returns-then-starts_number-clause-refused : goal.returns-then-starts_number-clause-refused
 returns-then-starts_number-clause-refused c =
     let start = begins_live starts_number c.skip.new.self.cur c.skip.new.self.behind refl ∙ sym c.if-starts_number.ensures in
-    refused_cut c.number.result (live c.args.self.now) (number_at (live c.skip.new.self)) (ap next_behind_gaps (sym c.skip.ensures) ∙ number_next (live c.skip.new.self) start) c.number.ensures.refused
+    refused_cut c.read_number.result (live c.args.self.now) (number_at (live c.skip.new.self)) (ap next_behind_gaps (sym c.skip.ensures) ∙ number_next (live c.skip.new.self) start) c.read_number.ensures.refused
 
-pub returns-in_err-string-clause-refused : goal.returns-in_err-string-clause-refused
-returns-in_err-string-clause-refused c =
+pub returns-in_err-read_string-clause-refused : goal.returns-in_err-read_string-clause-refused
+returns-in_err-read_string-clause-refused c =
     let some : c.skip.new.self.cur ≢ 0 = omega arith in
-    let p = err_from_is_err_and c.from_residual-in_err-string.result c.from_residual-in_err-string.ensures.1 in
+    let p = err_from_is_err_and c.from_residual-in_err-read_string.result c.from_residual-in_err-read_string.ensures.1 in
     let at = ap next_behind_gaps (sym c.skip.ensures) ∙ string_next (live c.skip.new.self) (live c.next.new.self) c.skip.new.self.cur (c.next.ensures.taken some) c.if-self-eq34.true in
-    rw (p.1, p.2) (λ n. scanned_nothing (live c.args.self.now) (at ∙ ap string_taken (c.in_err-string.ensures.refused n)))
+    rw (p.1, p.2) (λ n. scanned_nothing (live c.args.self.now) (at ∙ ap string_taken (c.in_err-read_string.ensures.refused n)))
 
 pub returns-then-self-eq34-clause-cut : goal.returns-then-self-eq34-clause-cut
 returns-then-self-eq34-clause-cut c =
     let some : c.skip.new.self.cur ≢ 0 = omega arith in
     let at = ap next_behind_gaps (sym c.skip.ensures) ∙ string_next (live c.skip.new.self) (live c.next.new.self) c.skip.new.self.cur (c.next.ensures.taken some) c.if-self-eq34.true in
-    scanned_cut (live c.args.self.now) _ (at ∙ ap string_taken c.in_ok-string.ensures.found)
+    scanned_cut (live c.args.self.now) _ (at ∙ ap string_taken c.in_ok-read_string.ensures.found)
 
 pub returns-then-self-eq0-clause-cut : goal.returns-then-self-eq0-clause-cut
 returns-then-self-eq0-clause-cut c =

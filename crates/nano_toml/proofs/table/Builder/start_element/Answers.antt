@@ -8,14 +8,14 @@ pub returns-then-not-is_free-clause-refused : goal.returns-then-not-is_free-clau
 returns-then-not-is_free-clause-refused c done built kind more lawful =
     let whole = c.in_ok-end_element.ensures done built in
     key_taken done (string_bytes c.args.key) (table_view c.end_element.new.self.root.entries) whole.root
-    (λ free. true≢false (sym (c.is_free-is_free.ensures.1 free) ∙ c.if-not-is_free.true)) more lawful
+    (λ free. true≢false (sym (c.is_free.ensures.1 free) ∙ c.if-not-is_free.true)) more lawful
 
 pub returns-clause-built : goal.returns-clause-built
 returns-clause-built c done built =
     let whole = c.in_ok-end_element.ensures done built in
     let key = string_bytes c.args.key in
     let root = table_view c.end_element.new.self.root.entries in
-    let free = key_free done key root whole.root whole.lawful whole.plain (c.is_free-is_free.ensures.0 c.if-not-is_free.false) in
+    let free = key_free done key root whole.root whole.lawful whole.plain (c.is_free.ensures.0 c.if-not-is_free.false) in
     record {
       in_scope = whole.in_scope ∙ sym (scope_of-element done key);
       lawful = NoneNamed-element done key whole.lawful free;

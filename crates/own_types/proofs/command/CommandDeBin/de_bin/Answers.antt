@@ -1,37 +1,66 @@
-use Rattle.std.proofs.Common.{◌≢◌, ℕ, zero, suc, refl, List}
+use Rattle.std.proofs.Common.{◌≢◌, ℕ, zero, suc, refl, List, arith}
+use Rattle.std.proofs.lemmas.Bool.Decides.{nat_tests}
+use Rattle.std.proofs.lemmas.Result.{err_from_is_err_and}
 use Rattle.nano_value.specs.Meaning.{Meaning}
-use Rattle.nano_bin.specs.Variants.{body_spelling}
+use Rattle.nano_bin.specs.Variants.{spelling_at}
 use Rattle.nano_bin.proofs.Readers.{unit_reads}
-use Rattle.nano_bin.proofs.Variants.{variant_reads, fields_refused, tag_refused}
-use Rattle.own_types.specs.Command.{bodies}
+use Rattle.nano_bin.proofs.Variants.{variant_reads, content_refused, tag_refused}
+use Rattle.own_types.specs.Command.{variants}
 use Rattle.own_types.proofs.command.CommandDeBin.de_bin.Goals as goal
+use Rattle.own_types.proofs.command.CommandDeBin.de_bin.Goals.{in-0, in-1+in_ok-steps-in-1, in-2+in_ok-time-in-2}
 
-pub returns-in-Ok-eq0-clause-ok : goal.returns-in-Ok-eq0-clause-ok
-returns-in-Ok-eq0-clause-ok c = variant_reads (body_spelling bodies) _ _ _ _ 0 _ (rw c.in-Ok-eq0.field-0-test at c.in-Ok-eq0.ensures.ok) (unit_reads _ _)
+pub returns-in_err-de_bin-clause-err : goal.returns-in_err-de_bin-clause-err
+returns-in_err-de_bin-clause-err c =
+    let p = err_from_is_err_and c.from_residual.result c.from_residual.ensures.1 in
+    rw (p.1, p.2) (λ h.
+    tag_refused variants c.args.bytes.now c.args.offset.now c.in_err-de_bin.ensures.err)
 
-pub returns-in-Ok-de_bin-clause-ok : goal.returns-in-Ok-de_bin-clause-ok
-returns-in-Ok-de_bin-clause-ok c = variant_reads (body_spelling bodies) _ _ _ _ 1 _ (rw c.in-Ok-eq1.field-0-test at c.in-Ok-eq1.ensures.ok) c.in-Ok-de_bin.ensures.ok
+pub returns-in_err-steps-in-1-clause-err : goal.returns-in_err-steps-in-1-clause-err
+returns-in_err-steps-in-1-clause-err c =
+    let p = err_from_is_err_and c.from_residual-in_err-steps-in-1.result c.from_residual-in_err-steps-in-1.ensures.1 in
+    let tag = rw c.in-1.is at c.in_ok-de_bin.ensures.ok in
+    rw (p.1, p.2) (λ h.
+    content_refused variants c.args.bytes.now c.args.offset.now c.de_bin.new.offset 1 tag
+    (c.in_err-steps-in-1.ensures.err h))
 
-pub returns-in-Err-de_bin-clause-err : goal.returns-in-Err-de_bin-clause-err
-returns-in-Err-de_bin-clause-err c h = fields_refused (body_spelling bodies) _ _ _ 1 (rw c.in-Ok-eq1.field-0-test at c.in-Ok-eq1.ensures.ok) (c.in-Err-de_bin.ensures.err h)
+pub returns-in_err-time-in-2-clause-err : goal.returns-in_err-time-in-2-clause-err
+returns-in_err-time-in-2-clause-err c =
+    let p = err_from_is_err_and c.from_residual-in_err-time-in-2.result c.from_residual-in_err-time-in-2.ensures.1 in
+    let tag = rw c.in-2.is at c.in_ok-de_bin.ensures.ok in
+    rw (p.1, p.2) (λ h.
+    content_refused variants c.args.bytes.now c.args.offset.now c.de_bin.new.offset 2 tag
+    c.in_err-time-in-2.ensures.err)
 
-pub returns-in-Ok-de_bin-2-clause-ok : goal.returns-in-Ok-de_bin-2-clause-ok
-returns-in-Ok-de_bin-2-clause-ok c = variant_reads (body_spelling bodies) _ _ _ _ 2 _ (rw c.in-Ok-eq2.field-0-test at c.in-Ok-eq2.ensures.ok) c.in-Ok-de_bin-2.ensures.ok
-
-pub returns-in-Err-de_bin-2-clause-err : goal.returns-in-Err-de_bin-2-clause-err
-returns-in-Err-de_bin-2-clause-err c h = fields_refused (body_spelling bodies) _ _ _ 2 (rw c.in-Ok-eq2.field-0-test at c.in-Ok-eq2.ensures.ok) c.in-Err-de_bin-2.ensures.err
-
--- no other tag has fields
-no_other : (tag : ℕ) → tag ≢ 0 → tag ≢ 1 → tag ≢ 2 → (bytes : List ℕ) (m : Meaning) → (body_spelling bodies tag).spelled bytes m → ⊥
+-- no other tag has content
+no_other : (tag : ℕ) → tag ≢ 0 → tag ≢ 1 → tag ≢ 2 → (bytes : List ℕ) (m : Meaning)
+    → (spelling_at variants tag).spelled bytes m → ⊥
 no_other zero a b c bytes m h = a refl
 no_other (suc zero) a b c bytes m h = b refl
 no_other (suc (suc zero)) a b c bytes m h = c refl
 no_other (suc (suc (suc tag))) a b c bytes m h = h
 
-pub returns-in-Ok-clause-err : goal.returns-in-Ok-clause-err
-returns-in-Ok-clause-err c h =
-    let t = c.in-Ok.field-0-test in
-    fields_refused (body_spelling bodies) _ _ _ c.in-Ok.field-0 c.in-Ok.ensures.ok (λ m f. no_other c.in-Ok.field-0 t.0.0.1 t.0.1 t.1 f.front m f.spells)
+pub returns-in_default-clause-err : goal.returns-in_default-clause-err
+returns-in_default-clause-err c h =
+    let tag = c.in_ok-de_bin.field-0 in
+    let t0 : tag ≢ 0 = λ e. first_of (omega (arith, e), cc e, grind (arith, nat_tests, e)) in
+    let t1 : tag ≢ 1 = λ e. first_of (omega (arith, e), cc e, grind (arith, nat_tests, e)) in
+    let t2 : tag ≢ 2 = λ e. first_of (omega (arith, e), cc e, grind (arith, nat_tests, e)) in
+    content_refused variants c.args.bytes.now c.args.offset.now c.de_bin.new.offset tag
+    c.in_ok-de_bin.ensures.ok (λ m f. no_other tag t0 t1 t2 f.front m f.spells)
 
-pub returns-in-Err-clause-err : goal.returns-in-Err-clause-err
-returns-in-Err-clause-err c h = tag_refused (body_spelling bodies) c.args.bytes.now c.args.offset.now c.in-Err.ensures.err
+pub returns-clause-ok : goal.returns-clause-ok
+returns-clause-ok c =
+    let bytes = c.args.bytes.now in
+    let start = c.args.offset.now in
+    let mid = c.de_bin.new.offset in
+    elim c.match-branch-2.branch [
+      | in-0 w ↦
+          let tag = rw w.in-0.is at c.in_ok-de_bin.ensures.ok in
+          rw (w.at-is, w.command-is) (variant_reads variants bytes start mid mid 0 _ tag (unit_reads _ _))
+      | in-1+in_ok-steps-in-1 w ↦
+          let tag = rw w.in-1.is at c.in_ok-de_bin.ensures.ok in
+          rw (w.at-is, w.command-is) (variant_reads variants bytes start mid _ 1 _ tag w.in_ok-steps-in-1.ensures.ok)
+      | in-2+in_ok-time-in-2 w ↦
+          let tag = rw w.in-2.is at c.in_ok-de_bin.ensures.ok in
+          rw (w.at-is, w.command-is) (variant_reads variants bytes start mid _ 2 _ tag w.in_ok-time-in-2.ensures.ok)
+    ]

@@ -4,7 +4,7 @@ use Rattle.std.proofs.lemmas.Result.{err_from_is_err_and}
 use Rattle.std.specs.Int.{w32}
 use Rattle.std.specs.Prelude.{codes}
 use Rattle.nano_json.specs.State.{at}
-use Rattle.json_records.specs.VariantFormat.{spellings}
+use Rattle.json_records.specs.Variants.{spellings}
 use Rattle.json_records.proofs.VariantReaders.{is_another, one_part, name_refused, content_reads, content_unknown, content_missing}
 use Rattle.own_types.specs.Message.{variants, moved, waited, said}
 use Rattle.own_types.proofs.message.MessageDeJson.de_json.Goals as goal
@@ -12,7 +12,9 @@ use Rattle.own_types.proofs.message.MessageDeJson.de_json.Goals as goal
 pub returns-in_err-name-clause-refused : goal.returns-in_err-name-clause-refused
 returns-in_err-name-clause-refused c =
     let p = err_from_is_err_and c.from_residual.result c.from_residual.ensures.1 in
-    rw (p.1, p.2) (λ known. name_refused (at c.args.state.now c.args.input.now) (spellings variants) (c.in_err-name.ensures.refused known))
+    let error = c.in_err-name.ensures.refused in
+    let none = name_refused (at c.args.state.now c.args.input.now) (spellings variants) in
+    rw (p.1, p.2) (λ known. none (error.0 known), error.1)
 
 pub returns-in-Move-clause-fits : goal.returns-in-Move-clause-fits
 returns-in-Move-clause-fits c =
@@ -24,7 +26,9 @@ pub returns-in_err-by-in-Move-clause-refused : goal.returns-in_err-by-in-Move-cl
 returns-in_err-by-in-Move-clause-refused c =
     let name : string_bytes c.in-Content.name ≡ codes "Move" = sym c.as_str-in-Content.ensures.value ∙ c.in-Move.is in
     let p = err_from_is_err_and c.from_residual-in_err-by-in-Move.result c.from_residual-in_err-by-in-Move.ensures.1 in
-    rw (p.1, p.2) (λ known. content_missing (at c.args.state.now c.args.input.now) (spellings variants) (at c.read_variant_name.new.state c.read_variant_name.new.input) (string_bytes c.in-Content.name) 1 moved.spelling (rw c.in-Content.is at c.in_ok-name.ensures.taken) (rw name refl) (c.in_err-by-in-Move.ensures.refused known))
+    let error = c.in_err-by-in-Move.ensures.refused in
+    let none = content_missing (at c.args.state.now c.args.input.now) (spellings variants) (at c.read_variant_name.new.state c.read_variant_name.new.input) (string_bytes c.in-Content.name) 1 moved.spelling (rw c.in-Content.is at c.in_ok-name.ensures.taken) (rw name refl) in
+    rw (p.1, p.2) (λ known. none (error.0 known), error.1)
 
 pub returns-in-Wait-clause-fits : goal.returns-in-Wait-clause-fits
 returns-in-Wait-clause-fits c =
@@ -38,7 +42,9 @@ pub returns-in_err-time-in-Wait-clause-refused : goal.returns-in_err-time-in-Wai
 returns-in_err-time-in-Wait-clause-refused c =
     let name : string_bytes c.in-Content.name ≡ codes "Wait" = sym c.as_str-in-Content.ensures.value ∙ c.in-Wait.is in
     let p = err_from_is_err_and c.from_residual-in_err-time-in-Wait.result c.from_residual-in_err-time-in-Wait.ensures.1 in
-    rw (p.1, p.2) (λ known. content_missing (at c.args.state.now c.args.input.now) (spellings variants) (at c.read_variant_name.new.state c.read_variant_name.new.input) (string_bytes c.in-Content.name) 2 waited.spelling (rw c.in-Content.is at c.in_ok-name.ensures.taken) (rw name refl) (c.in_err-time-in-Wait.ensures.refused known))
+    let error = c.in_err-time-in-Wait.ensures.refused in
+    let none = content_missing (at c.args.state.now c.args.input.now) (spellings variants) (at c.read_variant_name.new.state c.read_variant_name.new.input) (string_bytes c.in-Content.name) 2 waited.spelling (rw c.in-Content.is at c.in_ok-name.ensures.taken) (rw name refl) in
+    rw (p.1, p.2) (λ known. none (error.0 known), error.1)
 
 pub returns-in-Say-clause-fits : goal.returns-in-Say-clause-fits
 returns-in-Say-clause-fits c =
@@ -49,11 +55,14 @@ pub returns-in_err-text-in-Say-clause-refused : goal.returns-in_err-text-in-Say-
 returns-in_err-text-in-Say-clause-refused c =
     let name : string_bytes c.in-Content.name ≡ codes "Say" = sym c.as_str-in-Content.ensures.value ∙ c.in-Say.is in
     let p = err_from_is_err_and c.from_residual-in_err-text-in-Say.result c.from_residual-in_err-text-in-Say.ensures.1 in
-    rw (p.1, p.2) (λ known. content_missing (at c.args.state.now c.args.input.now) (spellings variants) (at c.read_variant_name.new.state c.read_variant_name.new.input) (string_bytes c.in-Content.name) 3 said.spelling (rw c.in-Content.is at c.in_ok-name.ensures.taken) (rw name refl) (c.in_err-text-in-Say.ensures.refused known))
+    let error = c.in_err-text-in-Say.ensures.refused in
+    let none = content_missing (at c.args.state.now c.args.input.now) (spellings variants) (at c.read_variant_name.new.state c.read_variant_name.new.input) (string_bytes c.in-Content.name) 3 said.spelling (rw c.in-Content.is at c.in_ok-name.ensures.taken) (rw name refl) in
+    rw (p.1, p.2) (λ known. none (error.0 known), error.1)
 
 pub returns-clause-refused : goal.returns-clause-refused
-returns-clause-refused c known =
+returns-clause-refused c =
     let move = is_another _ _ (codes "Move") c.as_str-in-Content.ensures.value c.in_default-as_str.not-Move in
     let wait = is_another _ _ (codes "Wait") c.as_str-in-Content.ensures.value c.in_default-as_str.not-Wait in
     let say = is_another _ _ (codes "Say") c.as_str-in-Content.ensures.value c.in_default-as_str.not-Say in
-    content_unknown (at c.args.state.now c.args.input.now) (spellings variants) (at c.read_variant_name.new.state c.read_variant_name.new.input) (string_bytes c.in-Content.name) (rw c.in-Content.is at c.in_ok-name.ensures.taken) (rw (move, wait, say) refl)
+    let none = content_unknown (at c.args.state.now c.args.input.now) (spellings variants) (at c.read_variant_name.new.state c.read_variant_name.new.input) (string_bytes c.in-Content.name) (rw c.in-Content.is at c.in_ok-name.ensures.taken) (rw (move, wait, say) refl) in
+    (λ known. none, search rules)

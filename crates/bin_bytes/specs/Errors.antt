@@ -1,0 +1,43 @@
+-- The errors of readers.
+use Rattle.std.specs.Prelude.{◌≡◌, ◌≢◌, ◌<◌, ◌≤◌, ◌⊎◌, ◌++◌, ℕ, List, length, drop, take, IsUtf8}
+use Rattle.std.specs.Prelude.{codes}
+use Rattle.std.specs.Fmt.{decimal}
+use Rattle.bin_bytes.specs.declared.error.DeBinErr.{DeBinErr}
+use Rattle.bin_bytes.specs.declared.error.DeBinKind.{DeBinKind}
+use Rattle.bin_bytes.specs.declared.error.DeBinKind.TheVariants.{TooShort, NotUtf8, Memory}
+use Rattle.bin_bytes.specs.Reading.{Reads}
+use Rattle.bin_bytes.specs.LittleEndian.{SpellsNumber}
+
+-- a refusal at a place, of so many bytes wanted among all of them
+abbrev pub refusal : DeBinKind → ℕ → ℕ → List ℕ → DeBinErr
+refusal kind place wanted bytes = record { o = place; l = wanted; s = length bytes; kind = kind }
+
+-- fewer bytes are left at the place than wanted
+pub record IsTooShort (bytes : List ℕ) (place wanted : ℕ) (error : DeBinErr) : Type 0 where
+  pub left : length (drop place bytes) < wanted
+  pub is : error ≡ refusal TooShort place wanted bytes
+
+-- the wanted bytes are there, and no UTF-8
+pub record IsNotUtf8 (bytes : List ℕ) (place wanted : ℕ) (error : DeBinErr) : Type 0 where
+  pub left : wanted ≤ length (drop place bytes)
+  pub wrong : IsUtf8 (take wanted (drop place bytes)) → ⊥
+  pub is : error ≡ refusal NotUtf8 place wanted bytes
+
+-- so many bytes of UTF-8 do not stand at the place: they are cut short, or they are no UTF-8
+abbrev pub IsTextFault : List ℕ → ℕ → ℕ → DeBinErr → Type 0
+IsTextFault bytes place count error =
+    error.kind ≢ Memory → IsTooShort bytes place count error ⊎ IsNotUtf8 bytes place count error
+
+-- no text stands at the place: its length is cut short, or its bytes are, or they are no UTF-8
+abbrev pub IsTextRefusal : List ℕ → ℕ → DeBinErr → Type 0
+IsTextRefusal bytes place error =
+    IsTooShort bytes place 8 error
+    ⊎ ((count behind : ℕ) × Reads (SpellsNumber 8) bytes place count behind
+    × (IsTooShort bytes behind count error ⊎ IsNotUtf8 bytes behind count error))
+
+-- what Debug and Display print
+abbrev pub printed : DeBinErr → List ℕ
+printed e =
+    codes "Bin deserialize error at:"
+    ++ (decimal e.o
+    ++ (codes " wanted:" ++ (decimal e.l ++ (codes " bytes but max size is " ++ decimal e.s))))

@@ -1,0 +1,25 @@
+-- What stands one behind the other: items, so many of them, and so many bytes.
+use Rattle.std.specs.Prelude.{◌≡◌, ℕ, List, [], ◌∷◌, ◌++◌, length, IsUtf8}
+
+-- items one behind the other
+abbrev pub SpellsItems : {A : Type 0} → (List ℕ → A → Type 0) → List ℕ → List A → Type 0
+SpellsItems S bytes [] = bytes ≡ []
+SpellsItems S bytes (x ∷ xs) =
+    (head tail : List ℕ) × (bytes ≡ head ++ tail) × S head x × SpellsItems S tail xs
+
+-- so many items
+pub record SpellsCount {A : Type 0} (count : ℕ) (S : List ℕ → A → Type 0) (bytes : List ℕ)
+    (xs : List A) : Type 0 where
+  pub count_is : length xs ≡ count
+  pub items : SpellsItems S bytes xs
+
+-- so many bytes
+pub record IsChunk (k : ℕ) (bytes chunk : List ℕ) : Type 0 where
+  pub same : bytes ≡ chunk
+  pub long : length chunk ≡ k
+
+-- UTF-8 of a length
+pub record IsTextOf (count : ℕ) (bytes utf8 : List ℕ) : Type 0 where
+  pub same : bytes ≡ utf8
+  pub count_is : length utf8 ≡ count
+  pub is_utf8 : IsUtf8 utf8

@@ -1,0 +1,7 @@
+pub mod Telling
+pub mod LexemeKinds
+pub mod Cuts
+pub mod Room
+pub mod Shorter
+pub mod BracketCounts
+pub mod WrittenRuns

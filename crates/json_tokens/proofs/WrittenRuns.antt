@@ -1,0 +1,93 @@
+-- Writing a text in runs: the longest front that is written as itself, then one character that isn't.
+use Rattle.std.proofs.Common.{◌≡◌, ℕ, ◌≤◌, List, [], ◌∷◌, ◌++◌, true, false, cond, ◌==◌, chars, encode_utf8, encode_utf8_all, IsUtf8, length, take, drop, refl, ap, sym, ◌∙◌, subst, append_assoc, append-nil, arith}
+use Rattle.std.proofs.lemmas.Bool.Decides.{nat_tests}
+use Rattle.std.proofs.lemmas.List.{take_at, drop_at}
+use Rattle.std.proofs.lemmas.Str.{chars-nil, encodes-append, chars_past_char}
+use Rattle.nano_text.specs.Front.{front, behind}
+use Rattle.nano_text.specs.String.{plain, piece_text}
+use Rattle.nano_text.proofs.Utf8Fronts.{CutBehindFront, cut_wide, front-append-behind}
+use Rattle.json_tokens.specs.Written.{stands_as_itself, written_piece, written_characters, is_control}
+
+wide_stands : (n : ℕ) → 128 ≤ n → stands_as_itself n ≡ true
+wide_stands n h = grind (arith, nat_tests)
+
+-- a text is cut behind the front that is written as itself
+pub cut_run : (bytes : List ℕ) → IsUtf8 bytes → CutBehindFront stands_as_itself bytes
+cut_run = cut_wide stands_as_itself wide_stands
+
+-- a character that is written as itself is no escape
+as_itself : (c : ℕ) → stands_as_itself c ≡ true → written_piece c ≡ plain c
+as_itself c h =
+    let e8 : c == 8 ≡ false = grind (arith, nat_tests) in
+    let e12 : c == 12 ≡ false = grind (arith, nat_tests) in
+    let e10 : c == 10 ≡ false = grind (arith, nat_tests) in
+    let e13 : c == 13 ≡ false = grind (arith, nat_tests) in
+    let e9 : c == 9 ≡ false = grind (arith, nat_tests) in
+    let e92 : c == 92 ≡ false = grind (arith, nat_tests) in
+    let e34 : c == 34 ≡ false = grind (arith, nat_tests) in
+    let control : is_control c ≡ false = grind (arith, nat_tests) in
+    rw (e8, e12, e10, e13, e9, e92, e34, control) refl
+
+written_front : (cs : List ℕ) → written_characters cs ≡ front stands_as_itself cs ++ written_characters (behind stands_as_itself cs)
+written_front [] = refl
+written_front (c ∷ cs) = elim (stands_as_itself c) as (λ b. stands_as_itself c ≡ b → piece_text (written_piece c) ++ written_characters cs ≡ cond b (c ∷ front stands_as_itself cs) [] ++ written_characters (cond b (behind stands_as_itself cs) (c ∷ cs))) [
+  | true ↦ λ e. ap (λ p. piece_text p ++ written_characters cs) (as_itself c e) ∙ ap (λ l. c ∷ l) (written_front cs)
+  | false ↦ λ e. refl
+] refl
+
+-- what is written of a text: the front, and what is written of what is behind it
+pub run_written : (bytes : List ℕ) → IsUtf8 bytes → encode_utf8_all (written_characters (chars bytes)) ≡ front stands_as_itself bytes ++ encode_utf8_all (written_characters (chars (behind stands_as_itself bytes)))
+run_written bytes utf8 =
+    let cut = cut_run bytes utf8 in
+    let cs = chars bytes in
+    ap encode_utf8_all (written_front cs) ∙ (encodes-append (front stands_as_itself cs) (written_characters (behind stands_as_itself cs)) ∙ (λ i. sym cut.front_is i ++ encode_utf8_all (written_characters (sym cut.behind_is i))))
+
+-- one character, and what is written of those behind it
+pub character_written : (bytes rest : List ℕ) (c : ℕ) → IsUtf8 bytes → bytes ≡ encode_utf8 c ++ rest → encode_utf8_all (written_characters (chars bytes)) ≡ encode_utf8_all (piece_text (written_piece c)) ++ encode_utf8_all (written_characters (chars rest))
+character_written bytes rest c utf8 e = ap (λ cs. encode_utf8_all (written_characters cs)) (chars_past_char bytes rest c utf8 e) ∙ encodes-append (piece_text (written_piece c)) (written_characters (chars rest))
+
+-- the bytes of what is written of a text
+abbrev Written : List ℕ → List ℕ
+Written bytes = encode_utf8_all (written_characters (chars bytes))
+
+module _ (text plain tail : List ℕ) (n : ℕ) (utf8 : IsUtf8 text) (count : n ≡ length (front stands_as_itself text)) (is_front : plain ≡ take n text) (is_tail : tail ≡ drop n text) where
+  seam : text ≡ front stands_as_itself text ++ behind stands_as_itself text
+  seam = sym (front-append-behind stands_as_itself text)
+
+  plain_is : plain ≡ front stands_as_itself text
+  plain_is = is_front ∙ (ap (λ l. take n l) seam ∙ take_at (front stands_as_itself text) (behind stands_as_itself text) n (sym count))
+
+  tail_is : tail ≡ behind stands_as_itself text
+  tail_is = is_tail ∙ (ap (λ l. drop n l) seam ∙ drop_at (front stands_as_itself text) (behind stands_as_itself text) n (sym count))
+
+  run_split : Written text ≡ plain ++ Written tail
+  run_split = run_written text utf8 ∙ (λ i. sym plain_is i ++ Written (sym tail_is i))
+
+  -- where the text ends behind the front
+  pub run_last : (before middle : List ℕ) → middle ≡ before ++ plain → (run : List ℕ) × (middle ≡ before ++ run) × (Written text ≡ run ++ Written tail)
+  run_last before middle e = (plain, e, run_split)
+
+  -- where one more character is taken
+  pub run_more : (before middle after rest : List ℕ) (c : ℕ) → middle ≡ before ++ plain → tail ≡ encode_utf8 c ++ rest → after ≡ middle ++ encode_utf8_all (piece_text (written_piece c)) → (run : List ℕ) × (after ≡ before ++ run) × (Written text ≡ run ++ Written rest)
+  run_more before middle after rest c e taken f =
+      let piece = encode_utf8_all (piece_text (written_piece c)) in
+      let tail_utf8 = subst IsUtf8 (sym tail_is) (cut_run text utf8).behind_utf8 in (
+        plain ++ piece,
+        f ∙ (ap (λ l. l ++ piece) e ∙ append_assoc before plain piece),
+        run_split ∙ (ap (λ l. plain ++ l) (character_written tail rest c tail_utf8 taken) ∙ sym (append_assoc plain piece (Written rest))),
+      )
+
+-- one more run
+pub runs_more : (before out more text left rest : List ℕ) → (done : List ℕ) × (out ≡ before ++ done) × (text ≡ done ++ left) → (run : List ℕ) × (more ≡ out ++ run) × (left ≡ run ++ rest) → (done : List ℕ) × (more ≡ before ++ done) × (text ≡ done ++ rest)
+runs_more before out more text left rest h k = (
+  h.0 ++ k.0,
+  k.1 ∙ (ap (λ l. l ++ k.0) h.1 ∙ append_assoc before h.0 k.0),
+  h.2 ∙ (ap (λ l. h.0 ++ l) k.2 ∙ sym (append_assoc h.0 k.0 rest)),
+)
+
+-- no text is left
+pub runs_done : (before out whole left : List ℕ) → (done : List ℕ) × (out ≡ before ++ done) × (whole ≡ done ++ Written left) → length left ≡ 0 → out ≡ before ++ whole
+runs_done before out whole [] h e =
+    let nothing : Written [] ≡ [] = ap (λ cs. encode_utf8_all (written_characters cs)) chars-nil in
+    h.1 ∙ ap (λ l. before ++ l) (sym (h.2 ∙ (ap (λ l. h.0 ++ l) nothing ∙ append-nil h.0)))
+runs_done before out whole (b ∷ bs) h e = absurd (omega (arith, e))

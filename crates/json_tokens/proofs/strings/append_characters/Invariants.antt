@@ -1,0 +1,13 @@
+use Rattle.std.proofs.Common.{◌≡◌, ◌++◌, List, ℕ, chars, length, string_bytes, encode_utf8_all}
+use denote.Text.{Utf8}
+use denote.Shadow.{shadow}
+use Rattle.json_tokens.specs.Written.{written_characters}
+use Rattle.json_tokens.proofs.strings.append_characters.Given as goal
+
+-- what is written so far, and what is left to write, make the whole
+abbrev pub invariant-runs : goal.invariant-runs
+invariant-runs l = shadow (Utf8 l.rest)
+    × ((done : List ℕ) × (string_bytes l.out ≡ string_bytes l.initial.out ++ done) × (encode_utf8_all (written_characters (chars l.fn.text)) ≡ done ++ encode_utf8_all (written_characters (chars l.rest))))
+
+abbrev pub decreases-runs : goal.decreases-runs
+decreases-runs l = length l.rest

@@ -1,0 +1,20 @@
+-- The brackets and the comma of lists and maps, as tokens and as characters.
+use Rattle.std.specs.Prelude.{ℕ}
+use Rattle.text_values.specs.Items.{ListMarks}
+use Rattle.json_tokens.specs.Token.{Token, comma, curly_open, curly_close, block_open, block_close}
+
+-- square brackets
+abbrev pub blocks : ListMarks Token
+blocks = record { opening = block_open; closing = block_close; comma = comma }
+
+-- curly brackets
+abbrev pub curlies : ListMarks Token
+curlies = record { opening = curly_open; closing = curly_close; comma = comma }
+
+-- [ ] ,
+abbrev pub block_marks : ListMarks ℕ
+block_marks = record { opening = 91; closing = 93; comma = 44 }
+
+-- { } ,
+abbrev pub curly_marks : ListMarks ℕ
+curly_marks = record { opening = 123; closing = 125; comma = 44 }

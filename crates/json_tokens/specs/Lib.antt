@@ -1,0 +1,15 @@
+pub mod Token
+pub mod Cut
+pub mod State
+pub mod Skipped
+pub mod Messages
+pub mod Outcomes
+pub mod Scan
+pub mod Laws
+pub mod Marks
+pub mod Brackets
+pub mod Written
+pub mod CutAgain
+pub mod WrittenText
+pub mod Json
+pub mod Scalars

@@ -1,0 +1,251 @@
+// How a reader's state takes the next token: white space, and one lexeme.
+ghost use Rattle.std.specs.Prelude.{◌≡◌, ◌≢◌, ◌<◌, ℕ, List, OnOk, OnErr, IfErr, Some, None, length};
+ghost use Rattle.std.specs.Prelude.{string_bytes, string_capacity};
+ghost use Rattle.std.specs.Option.{option_map};
+ghost use Rattle.nano_text.specs.Front.{front, behind};
+ghost use Rattle.nano_text.specs.Place.{live};
+ghost use Rattle.json_tokens.specs.Cut.{is_space, is_word, starts_number, Cut, IsLexeme, IsRunOf};
+ghost use Rattle.json_tokens.specs.Cut.{IsQuoted};
+ghost use Rattle.json_tokens.specs.Outcomes.{NothingCut, NoRoom, Counts};
+ghost use Rattle.json_tokens.specs.Scan.{mark_of, word_token, NoneLexeme, NoneRunOf, NoneQuoted};
+ghost use Rattle.json_tokens.specs.Scan.{NoRoomForLexeme, NoRoomForRun, NoRoomForQuoted};
+ghost use Rattle.json_tokens.specs.State.{token_of, pending, KeepsOtherBuffers};
+
+use crate::state::DeJsonState;
+use crate::token::DeJsonTok;
+use nano_text::{Fault, Number, read_number, read_string};
+use std::alloc::AllocError;
+use std::str::Chars;
+
+/// Why no token was taken. The message is made where the caller is told, so that what reads many
+/// tokens hands back one byte.
+#[derive(Clone, Copy)]
+pub(crate) enum Refusal {
+    /// The character starts no token.
+    NoToken,
+    /// The word in `identbuf` is no token.
+    Word,
+    /// A number run that is not good.
+    Number,
+    /// A string that has no end, or a bad escape.
+    String,
+    /// The end of the text inside a skipped field.
+    Field,
+    /// Memory was refused.
+    Memory,
+}
+
+impl DeJsonState {
+    /// Takes the next token. A refusal leaves the pending token, and the place where it was found.
+    ///
+    /// It is one function apart, and what makes errors of its answer is inlined in its callers: so
+    /// no error is written where a token is taken.
+    #[inline(never)]
+    pub(crate) fn advance(&mut self, i: &mut Chars<'_>) -> Result<(), Refusal>
+        ensures taken { OnOk result
+            (Cut (live self.old.cur i.old) (pending self.new) (live self.new.cur i.new)) }
+        ensures buffers { OnOk result (KeepsOtherBuffers self.old self.new) }
+        ensures place { OnOk result (Counts self.old i.old self.new i.new) }
+        ensures refused { IfErr result (λ r. r ≢ Refusal.Memory
+            → NothingCut (live self.old.cur i.old)) }
+        ensures room { IfErr result (λ r. r ≡ Refusal.Memory
+            → NoRoom self.old (live self.old.cur i.old)) }
+    {
+        self.skip_space(i);
+        self.take_lexeme(i)
+    }
+
+    /// Passes over white space.
+    #[inline]
+    fn skip_space(&mut self, i: &mut Chars<'_>)
+        ensures live { live self.new.cur i.new ≡ behind is_space (live self.old.cur i.old) }
+        ensures place { Counts self.old i.old self.new i.new }
+        ensures tok { self.new.tok ≡ self.old.tok }
+        ensures strbuf { self.new.strbuf ≡ self.old.strbuf }
+        ensures numbuf { self.new.numbuf ≡ self.old.numbuf }
+        ensures identbuf { self.new.identbuf ≡ self.old.identbuf }
+    {
+        'space: while is_space(self.cur) {
+            self.next(i);
+        }
+    }
+
+    /// Takes the token that begins here, where no white space stands.
+    fn take_lexeme(&mut self, i: &mut Chars<'_>) -> Result<(), Refusal>
+        ensures taken { OnOk result
+            (IsLexeme (pending self.new) (live self.old.cur i.old) (live self.new.cur i.new)) }
+        ensures buffers { OnOk result (KeepsOtherBuffers self.old self.new) }
+        ensures place { OnOk result (Counts self.old i.old self.new i.new) }
+        ensures refused { IfErr result (λ r. r ≢ Refusal.Memory
+            → NoneLexeme (live self.old.cur i.old)) }
+        ensures room { IfErr result (λ r. r ≡ Refusal.Memory
+            → NoRoomForLexeme self.old (live self.old.cur i.old)) }
+    {
+        if let Some(tok) = mark(self.cur) {
+            self.next(i);
+            self.tok = tok;
+            return Ok(());
+        }
+        if starts_number(self.cur) {
+            return self.take_number(i);
+        }
+        if self.cur == '"' {
+            return self.take_string(i);
+        }
+        if is_word(self.cur) {
+            return self.take_word(i);
+        }
+        if self.cur == '\0' {
+            self.tok = DeJsonTok::Eof;
+            return Ok(());
+        }
+        Err(Refusal::NoToken)
+    }
+
+    /// Takes the number that begins here.
+    fn take_number(&mut self, i: &mut Chars<'_>) -> Result<(), Refusal>
+        ensures taken { OnOk result
+            (IsRunOf (pending self.new) (live self.old.cur i.old) (live self.new.cur i.new)) }
+        ensures buffers { OnOk result (KeepsOtherBuffers self.old self.new) }
+        ensures place { OnOk result (Counts self.old i.old self.new i.new) }
+        ensures refused { IfErr result (λ r. r ≢ Refusal.Memory
+            → NoneRunOf (live self.old.cur i.old)) }
+        ensures room { IfErr result (λ r. r ≡ Refusal.Memory
+            → NoRoomForRun self.old (live self.old.cur i.old)) }
+    {
+        let mut place = self.place();
+        let read = read_number(&mut place, i, &mut self.numbuf);
+        self.stand_at(place);
+        match read {
+            Ok(number) => {
+                self.tok = match number {
+                    Number::U64(value) => DeJsonTok::U64(value),
+                    Number::I64(value) => DeJsonTok::I64(value),
+                    Number::Dec => DeJsonTok::F64,
+                };
+                Ok(())
+            }
+            Err(fault) => match fault {
+                Fault::Malformed => Err(Refusal::Number),
+                Fault::Memory => Err(Refusal::Memory),
+            },
+        }
+    }
+
+    /// Takes the string that begins here.
+    fn take_string(&mut self, i: &mut Chars<'_>) -> Result<(), Refusal>
+        ensures taken { OnOk result
+            (IsQuoted (pending self.new) (live self.old.cur i.old) (live self.new.cur i.new)) }
+        ensures buffers { OnOk result (KeepsOtherBuffers self.old self.new) }
+        ensures place { OnOk result (Counts self.old i.old self.new i.new) }
+        ensures refused { IfErr result (λ r. r ≢ Refusal.Memory
+            → NoneQuoted (live self.old.cur i.old)) }
+        ensures room { IfErr result (λ r. r ≡ Refusal.Memory
+            → NoRoomForQuoted self.old (live self.old.cur i.old)) }
+    {
+        let mut place = self.place();
+        let read = read_string(&mut place, i, &mut self.strbuf);
+        self.stand_at(place);
+        match read {
+            Ok(()) => {
+                self.tok = DeJsonTok::Str;
+                Ok(())
+            }
+            Err(fault) => match fault {
+                Fault::Malformed => Err(Refusal::String),
+                Fault::Memory => Err(Refusal::Memory),
+            },
+        }
+    }
+
+    /// Takes the word that begins here.
+    fn take_word(&mut self, i: &mut Chars<'_>) -> Result<(), Refusal>
+        ensures taken { OnOk result (
+            (word_token (front is_word (live self.old.cur i.old)) ≡ Some (pending self.new))
+            × (live self.new.cur i.new ≡ behind is_word (live self.old.cur i.old))) }
+        ensures place { OnOk result (Counts self.old i.old self.new i.new) }
+        ensures strbuf { self.new.strbuf ≡ self.old.strbuf }
+        ensures numbuf { self.new.numbuf ≡ self.old.numbuf }
+        ensures refused { IfErr result (λ r. r ≢ Refusal.Memory
+            → word_token (front is_word (live self.old.cur i.old)) ≡ None) }
+        ensures room { IfErr result (λ r. r ≡ Refusal.Memory
+            → string_capacity self.old.identbuf
+            < length (front is_word (live self.old.cur i.old))) }
+    {
+        if self.gather_word(i).is_err() {
+            return Err(Refusal::Memory);
+        }
+        let word = self.identbuf.as_str();
+        if word == "true" {
+            self.tok = DeJsonTok::Bool(true);
+            return Ok(());
+        }
+        if word == "false" {
+            self.tok = DeJsonTok::Bool(false);
+            return Ok(());
+        }
+        if word == "null" {
+            self.tok = DeJsonTok::Null;
+            return Ok(());
+        }
+        Err(Refusal::Word)
+    }
+
+    /// Gathers the word that begins here in `identbuf`.
+    fn gather_word(&mut self, i: &mut Chars<'_>) -> Result<(), AllocError>
+        ensures live { OnOk result
+            (live self.new.cur i.new ≡ behind is_word (live self.old.cur i.old)) }
+        ensures place { Counts self.old i.old self.new i.new }
+        ensures gathered { OnOk result
+            (string_bytes self.new.identbuf ≡ front is_word (live self.old.cur i.old)) }
+        ensures strbuf { self.new.strbuf ≡ self.old.strbuf }
+        ensures numbuf { self.new.numbuf ≡ self.old.numbuf }
+        ensures full { OnErr result (string_capacity self.old.identbuf
+            < length (front is_word (live self.old.cur i.old))) }
+    {
+        self.identbuf.clear();
+        'word: while is_word(self.cur) {
+            self.identbuf.push(self.cur)?;
+            self.next(i);
+        }
+        Ok(())
+    }
+}
+
+#[inline]
+fn is_space(c: char) -> bool
+    ensures { result ≡ is_space c }
+{
+    c == '\n' || c == '\r' || c == '\t' || c == ' '
+}
+
+#[inline]
+fn is_word(c: char) -> bool
+    ensures { result ≡ is_word c }
+{
+    c.is_ascii_uppercase() || c.is_ascii_lowercase() || c == '_'
+}
+
+#[inline]
+fn starts_number(c: char) -> bool
+    ensures { result ≡ starts_number c }
+{
+    c == '+' || c == '-' || c.is_ascii_digit()
+}
+
+/// The mark that a character is.
+#[inline]
+fn mark(c: char) -> Option<DeJsonTok>
+    ensures { (strbuf numbuf : List ℕ)
+        → option_map (λ t. token_of t strbuf numbuf) result ≡ mark_of c }
+{
+    match c {
+        ':' => Some(DeJsonTok::Colon),
+        ',' => Some(DeJsonTok::Comma),
+        '[' => Some(DeJsonTok::BlockOpen),
+        ']' => Some(DeJsonTok::BlockClose),
+        '{' => Some(DeJsonTok::CurlyOpen),
+        '}' => Some(DeJsonTok::CurlyClose),
+        _ => None,
+    }
+}

@@ -1,0 +1,44 @@
+-- That what holds the same entries, or the same items, is written alike.
+use Rattle.std.specs.declared.cmp.Ordering.{Ordering}
+use Rattle.std.specs.FinMap.Entries.{is_sorted}
+use Rattle.std.proofs.Common.{◌≡◌, Bool, true, false, cond, List, map, sym, ◌∙◌, ap}
+use Rattle.nano_value.specs.Meaning.{Meaning}
+use Rattle.nano_value.specs.Tables.{table_of, table_means}
+use Rattle.nano_value.specs.Sets.{marked, item_set, set_means, set_means-injective}
+use Rattle.nano_value.specs.OrderedSets.{ordered_means, unordered, no_list_is_unordered}
+use Rattle.nano_value.specs.MeaningOrder.{MeaningOrder}
+use Rattle.nano_value.specs.Ties.{Ties}
+use Rattle.nano_bin.specs.Format.{Format}
+use Rattle.nano_bin.specs.Maps.{map_format}
+use Rattle.nano_bin.specs.Sets.{set_format}
+
+module _ {K : Type 0} {means : K → Meaning} {legal : Meaning → Type 0} (o : MeaningOrder) (k : Format K) (t : Ties means legal k.writing.means k.spelling.legal) where
+  -- entries of the same table
+  pub same_entries :
+      {V : Type 0} {means' : V → Meaning} {legal' : Meaning → Type 0} (v : Format V)
+      → Ties means' legal' v.writing.means v.spelling.legal
+      → (es fs : List (K × V))
+      → table_of means means' es ≡ table_of means means' fs
+      → (map_format o k v).writing.written es ≡ (map_format o k v).writing.written fs
+  same_entries {V} {means'} v u es fs e =
+      let seen : (xs : List (K × V)) → table_means (table_of k.writing.means v.writing.means xs) ≡ table_means (table_of means means' xs) = λ xs i. table_means (table_of (t.means_is i) (u.means_is i) xs) in
+      (map_format o k v).writing.same_written es fs (seen es ∙ (ap table_means e ∙ sym (seen fs)))
+
+  items_told :
+      (C : K → K → Ordering) (xs ys : List K)
+      → set_means (item_set means xs) ≡ ordered_means C means ys
+      → item_set means xs ≡ item_set means ys
+  items_told C xs ys =
+      elim (is_sorted C (marked ys)) as (λ (b : Bool). set_means (item_set means xs) ≡ cond b (set_means (item_set means ys)) (unordered (map means ys)) → item_set means xs ≡ item_set means ys) [
+        | true ↦ λ e. set_means-injective (item_set means xs) (item_set means ys) e
+        | false ↦ λ e. no_list_is_unordered _ (map means ys) e
+      ]
+
+  -- a set without an order, and one that holds its items in the order C
+  pub same_items :
+      (C : K → K → Ordering) (xs ys : List K)
+      → set_means (item_set means xs) ≡ ordered_means C means ys
+      → (set_format o k).writing.written xs ≡ (set_format o k).writing.written ys
+  same_items C xs ys e =
+      let seen : (zs : List K) → set_means (item_set k.writing.means zs) ≡ set_means (item_set means zs) = λ zs i. set_means (item_set (t.means_is i) zs) in
+      (set_format o k).writing.same_written xs ys (seen xs ∙ (ap set_means (items_told C xs ys e) ∙ sym (seen ys)))

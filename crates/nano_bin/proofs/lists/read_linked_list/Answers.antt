@@ -1,0 +1,19 @@
+use Rattle.std.proofs.Common.{◌≡◌, ◌++◌, ◌∷◌, [], map, arith, ap, ◌∙◌}
+use Rattle.std.proofs.lemmas.Grind.{common_steps}
+use Rattle.std.proofs.lemmas.List.{map-append}
+use Rattle.std.proofs.lemmas.Result.{err_from_is_err_and}
+use Rattle.nano_bin.proofs.Readers.{count_refused, count_reads_push}
+use Rattle.nano_bin.proofs.lists.read_linked_list.Goals as goal
+
+pub loop-preserved : goal.loop-preserved
+loop-preserved g c =
+    let means = g.T.Value.means in
+    let item = c.in_ok-item.item in
+    let grown : c.push_back.new.self ≡ c.loop.items ++ item ∷ [] = grind (arith, common_steps) in
+    rw (ap (map means) grown ∙ map-append means c.loop.items (item ∷ [])) (count_reads_push g.T.BinFormat.bin.spelling.spelled _ _ _ _ _ _ _ c.loop.invariant c.in_ok-item.ensures.ok)
+
+pub returns-in_err-item-clause-err : goal.returns-in_err-item-clause-err
+returns-in_err-item-clause-err g c =
+    let S = g.T.BinFormat.bin.spelling in
+    let p = err_from_is_err_and c.from_residual.result c.from_residual.ensures.1 in
+    rw (p.1, p.2) (λ h. count_refused S.spelled S.laws _ _ _ _ _ _ c.loop.invariant c.loop-test.true (c.in_err-item.ensures.err h))

@@ -1,0 +1,285 @@
+// Unsigned integers: the lowest byte first.
+ghost use Rattle.std.specs.Prelude.{◌≡◌, drop, refl, IfOk, IfErr, OnErr};
+ghost use Rattle.nano_value.specs.Meaning.{whole};
+ghost use Rattle.nano_value.specs.Ties.{tied};
+ghost use Rattle.bin_bytes.specs.Reading.{Reads, NothingFits};
+ghost use Rattle.nano_bin.specs.Numbers.{SpellsUnsigned, unsigned_format};
+ghost use Rattle.bin_bytes.specs.Errors.{IsTooShort};
+
+use crate::traits::{BinFormat, BothBin, DeBin, SerBin};
+use bin_bytes::{
+    DeBinErr, append_bytes, append_number, append_run, no_memory, read_bytes, read_number, read_run,
+};
+use std::alloc::{AllocError, Global};
+
+impl BinFormat for u8 {
+    ghost bin = { unsigned_format 1 };
+
+    ghost ties = { tied };
+}
+
+impl SerBin for u8 {
+    fn ser_bin(&self, alloc: Global, output: &mut Vec<u8>) -> Result<(), AllocError> {
+        append_number::<u8, 1>(self, output)
+    }
+
+    fn ser_bin_items(alloc: Global, items: &[u8], output: &mut Vec<u8>) -> Result<(), AllocError> {
+        append_bytes(output, items)
+    }
+}
+
+impl DeBin for u8 {
+    ghost is_read = { refl };
+
+    /// Takes no memory, and is refused exactly where fewer than 1 byte is left.
+    fn de_bin(alloc: Global, offset: &mut usize, bytes: &[u8]) -> Result<u8, DeBinErr>
+        ensures ok { IfOk result (λ value.
+            Reads (SpellsUnsigned 1) bytes.now offset.old (whole value) offset.new) }
+        ensures err { IfErr result (λ e.
+            NothingFits (SpellsUnsigned 1) (drop offset.old bytes.now)) }
+        ensures short { IfErr result (IsTooShort bytes.now offset.old 1) }
+        ensures kept { OnErr result (offset.new ≡ offset.old) }
+    {
+        read_number::<u8, 1>(offset, bytes)
+    }
+
+    fn de_bin_items(
+        alloc: Global,
+        count: usize,
+        offset: &mut usize,
+        bytes: &[u8],
+    ) -> Result<Vec<u8>, DeBinErr> {
+        let mut at = *offset;
+        let read = read_bytes(count, &mut at, bytes)?;
+        let Ok(items) = read.to_vec(alloc) else {
+            return Err(no_memory(at, bytes));
+        };
+        *offset = at;
+        Ok(items)
+    }
+}
+
+impl BothBin for u8 {}
+
+impl BinFormat for u16 {
+    ghost bin = { unsigned_format 2 };
+
+    ghost ties = { tied };
+}
+
+impl SerBin for u16 {
+    fn ser_bin(&self, alloc: Global, output: &mut Vec<u8>) -> Result<(), AllocError> {
+        append_number::<u16, 2>(self, output)
+    }
+
+    fn ser_bin_items(alloc: Global, items: &[u16], output: &mut Vec<u8>) -> Result<(), AllocError> {
+        append_run(items, output)
+    }
+}
+
+impl DeBin for u16 {
+    ghost is_read = { refl };
+
+    /// Takes no memory, and is refused exactly where fewer than 2 bytes are left.
+    fn de_bin(alloc: Global, offset: &mut usize, bytes: &[u8]) -> Result<u16, DeBinErr>
+        ensures ok { IfOk result (λ value.
+            Reads (SpellsUnsigned 2) bytes.now offset.old (whole value) offset.new) }
+        ensures err { IfErr result (λ e.
+            NothingFits (SpellsUnsigned 2) (drop offset.old bytes.now)) }
+        ensures short { IfErr result (IsTooShort bytes.now offset.old 2) }
+        ensures kept { OnErr result (offset.new ≡ offset.old) }
+    {
+        read_number::<u16, 2>(offset, bytes)
+    }
+
+    fn de_bin_items(
+        alloc: Global,
+        count: usize,
+        offset: &mut usize,
+        bytes: &[u8],
+    ) -> Result<Vec<u16>, DeBinErr> {
+        read_run::<u16, 2>(alloc, count, offset, bytes)
+    }
+}
+
+impl BothBin for u16 {}
+
+impl BinFormat for u32 {
+    ghost bin = { unsigned_format 4 };
+
+    ghost ties = { tied };
+}
+
+impl SerBin for u32 {
+    fn ser_bin(&self, alloc: Global, output: &mut Vec<u8>) -> Result<(), AllocError> {
+        append_number::<u32, 4>(self, output)
+    }
+
+    fn ser_bin_items(alloc: Global, items: &[u32], output: &mut Vec<u8>) -> Result<(), AllocError> {
+        append_run(items, output)
+    }
+}
+
+impl DeBin for u32 {
+    ghost is_read = { refl };
+
+    /// Takes no memory, and is refused exactly where fewer than 4 bytes are left.
+    fn de_bin(alloc: Global, offset: &mut usize, bytes: &[u8]) -> Result<u32, DeBinErr>
+        ensures ok { IfOk result (λ value.
+            Reads (SpellsUnsigned 4) bytes.now offset.old (whole value) offset.new) }
+        ensures err { IfErr result (λ e.
+            NothingFits (SpellsUnsigned 4) (drop offset.old bytes.now)) }
+        ensures short { IfErr result (IsTooShort bytes.now offset.old 4) }
+        ensures kept { OnErr result (offset.new ≡ offset.old) }
+    {
+        read_number::<u32, 4>(offset, bytes)
+    }
+
+    fn de_bin_items(
+        alloc: Global,
+        count: usize,
+        offset: &mut usize,
+        bytes: &[u8],
+    ) -> Result<Vec<u32>, DeBinErr> {
+        read_run::<u32, 4>(alloc, count, offset, bytes)
+    }
+}
+
+impl BothBin for u32 {}
+
+impl BinFormat for u64 {
+    ghost bin = { unsigned_format 8 };
+
+    ghost ties = { tied };
+}
+
+impl SerBin for u64 {
+    fn ser_bin(&self, alloc: Global, output: &mut Vec<u8>) -> Result<(), AllocError> {
+        append_number::<u64, 8>(self, output)
+    }
+
+    fn ser_bin_items(alloc: Global, items: &[u64], output: &mut Vec<u8>) -> Result<(), AllocError> {
+        append_run(items, output)
+    }
+}
+
+impl DeBin for u64 {
+    ghost is_read = { refl };
+
+    /// Takes no memory, and is refused exactly where fewer than 8 bytes are left.
+    fn de_bin(alloc: Global, offset: &mut usize, bytes: &[u8]) -> Result<u64, DeBinErr>
+        ensures ok { IfOk result (λ value.
+            Reads (SpellsUnsigned 8) bytes.now offset.old (whole value) offset.new) }
+        ensures err { IfErr result (λ e.
+            NothingFits (SpellsUnsigned 8) (drop offset.old bytes.now)) }
+        ensures short { IfErr result (IsTooShort bytes.now offset.old 8) }
+        ensures kept { OnErr result (offset.new ≡ offset.old) }
+    {
+        read_number::<u64, 8>(offset, bytes)
+    }
+
+    fn de_bin_items(
+        alloc: Global,
+        count: usize,
+        offset: &mut usize,
+        bytes: &[u8],
+    ) -> Result<Vec<u64>, DeBinErr> {
+        read_run::<u64, 8>(alloc, count, offset, bytes)
+    }
+}
+
+impl BothBin for u64 {}
+
+impl BinFormat for usize {
+    ghost bin = { unsigned_format 8 };
+
+    ghost ties = { tied };
+}
+
+impl SerBin for usize {
+    fn ser_bin(&self, alloc: Global, output: &mut Vec<u8>) -> Result<(), AllocError> {
+        append_number::<usize, 8>(self, output)
+    }
+
+    fn ser_bin_items(
+        alloc: Global,
+        items: &[usize],
+        output: &mut Vec<u8>,
+    ) -> Result<(), AllocError> {
+        append_run(items, output)
+    }
+}
+
+impl DeBin for usize {
+    ghost is_read = { refl };
+
+    /// Takes no memory, and is refused exactly where fewer than 8 bytes are left.
+    fn de_bin(alloc: Global, offset: &mut usize, bytes: &[u8]) -> Result<usize, DeBinErr>
+        ensures ok { IfOk result (λ value.
+            Reads (SpellsUnsigned 8) bytes.now offset.old (whole value) offset.new) }
+        ensures err { IfErr result (λ e.
+            NothingFits (SpellsUnsigned 8) (drop offset.old bytes.now)) }
+        ensures short { IfErr result (IsTooShort bytes.now offset.old 8) }
+        ensures kept { OnErr result (offset.new ≡ offset.old) }
+    {
+        read_number::<usize, 8>(offset, bytes)
+    }
+
+    fn de_bin_items(
+        alloc: Global,
+        count: usize,
+        offset: &mut usize,
+        bytes: &[u8],
+    ) -> Result<Vec<usize>, DeBinErr> {
+        read_run::<usize, 8>(alloc, count, offset, bytes)
+    }
+}
+
+impl BothBin for usize {}
+
+impl BinFormat for u128 {
+    ghost bin = { unsigned_format 16 };
+
+    ghost ties = { tied };
+}
+
+impl SerBin for u128 {
+    fn ser_bin(&self, alloc: Global, output: &mut Vec<u8>) -> Result<(), AllocError> {
+        append_number::<u128, 16>(self, output)
+    }
+
+    fn ser_bin_items(
+        alloc: Global,
+        items: &[u128],
+        output: &mut Vec<u8>,
+    ) -> Result<(), AllocError> {
+        append_run(items, output)
+    }
+}
+
+impl DeBin for u128 {
+    ghost is_read = { refl };
+
+    /// Takes no memory, and is refused exactly where fewer than 16 bytes are left.
+    fn de_bin(alloc: Global, offset: &mut usize, bytes: &[u8]) -> Result<u128, DeBinErr>
+        ensures ok { IfOk result (λ value.
+            Reads (SpellsUnsigned 16) bytes.now offset.old (whole value) offset.new) }
+        ensures err { IfErr result (λ e.
+            NothingFits (SpellsUnsigned 16) (drop offset.old bytes.now)) }
+        ensures short { IfErr result (IsTooShort bytes.now offset.old 16) }
+        ensures kept { OnErr result (offset.new ≡ offset.old) }
+    {
+        read_number::<u128, 16>(offset, bytes)
+    }
+
+    fn de_bin_items(
+        alloc: Global,
+        count: usize,
+        offset: &mut usize,
+        bytes: &[u8],
+    ) -> Result<Vec<u128>, DeBinErr> {
+        read_run::<u128, 16>(alloc, count, offset, bytes)
+    }
+}
+
+impl BothBin for u128 {}

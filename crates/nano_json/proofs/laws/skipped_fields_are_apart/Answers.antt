@@ -1,5 +1,0 @@
-use Rattle.nano_json.proofs.BracketCounts.{skipped_apart}
-use Rattle.nano_json.proofs.laws.skipped_fields_are_apart.Goals as goal
-
-pub returns : goal.returns
-returns c = skipped_apart

@@ -1,5 +1,0 @@
-use Rattle.nano_json.proofs.Cuts.{end_cut}
-use Rattle.nano_json.proofs.laws.the_end_follows_white_space.Goals as goal
-
-pub returns : goal.returns
-returns c = end_cut

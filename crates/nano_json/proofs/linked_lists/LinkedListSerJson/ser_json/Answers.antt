@@ -1,5 +1,0 @@
-use Rattle.nano_json.proofs.KeptWriting.{kept_by}
-use Rattle.nano_json.proofs.linked_lists.LinkedListSerJson.ser_json.Goals as goal
-
-pub keep_written-requires : goal.keep_written-requires
-keep_written-requires g c = kept_by c.append_linked-written.result c.args.s.now.out c.append_linked-written.new.s.out c.len-start.result _ c.len-start.ensures c.append_linked-written.ensures.ok c.append_linked-written.ensures.err

@@ -1,0 +1,40 @@
+// Options: `null`, or the item.
+ghost use Rattle.nano_value.specs.Ties.{option_ties};
+ghost use Rattle.nano_json.specs.Options.{option_format};
+
+use crate::traits::{BothJson, DeJson, JsonFormat, SerJson};
+use json_tokens::{DeJsonErr, DeJsonState, SerJsonState};
+use std::alloc::{AllocError, Global};
+use std::str::Chars;
+
+impl<T: JsonFormat> JsonFormat for Option<T> {
+    ghost json = { option_format T.json };
+
+    ghost ties = { option_ties T.ties };
+}
+
+impl<T: SerJson> SerJson for Option<T> {
+    fn ser_json(&self, alloc: Global, d: usize, s: &mut SerJsonState) -> Result<(), AllocError> {
+        match self {
+            None => s.out.push_str("null"),
+            Some(value) => value.ser_json(alloc, d, s),
+        }
+    }
+}
+
+impl<T: DeJson> DeJson for Option<T> {
+    fn de_json(
+        alloc: Global,
+        state: &mut DeJsonState,
+        input: &mut Chars<'_>,
+    ) -> Result<Option<T>, DeJsonErr> {
+        if state.is_null() {
+            state.next_tok(alloc, input)?;
+            return Ok(None);
+        }
+        let value = T::de_json(alloc, state, input)?;
+        Ok(Some(value))
+    }
+}
+
+impl<T: BothJson> BothJson for Option<T> {}

@@ -1,0 +1,35 @@
+use Rattle.std.proofs.Common.{ap, sym, ◌∙◌, refl, length, arith, string_bytes, eq-eqb}
+use Rattle.nano_toml.specs.Characters.{is_quote}
+use Rattle.nano_toml.specs.LiveText.{live}
+use Rattle.nano_toml.proofs.LiveText.{live_at_nul, begins_live}
+use Rattle.nano_toml.proofs.PlainFronts.{triple_run}
+use Rattle.nano_toml.proofs.Quotes.{run_is_content, run_closes}
+use Rattle.nano_toml.proofs.Spans.{behind_shorter}
+use Rattle.nano_toml.proofs.state.Cursor.read_triple_string.Goals as goal
+
+pub returns-in-0-clause-refused : goal.returns-in-0-clause-refused
+returns-in-0-clause-refused c = λ _. sym c.pieces.invariant.same ∙ rw (live_at_nul c.pieces.self.cur c.pieces.self.behind c.in-0.is) refl
+
+pub pieces-smaller-else-branch : goal.pieces-smaller-else-branch
+pieces-smaller-else-branch c =
+    let quote = begins_live is_quote c.pieces.self.cur c.pieces.self.behind refl ∙ eq-eqb _ 34 c.in-34.is in
+    omega (arith, ap length c.in_ok-closing_quotes-in-34.ensures.rest, behind_shorter is_quote (live c.pieces.self) quote)
+
+pub pieces-preserved-else-branch : goal.pieces-preserved-else-branch
+pieces-preserved-else-branch c =
+    let other = sym c.in_ok-closing_quotes-in-34.ensures.closing ∙ c.if-branch.false in
+    record {
+      same = rw (c.in_ok-closing_quotes-in-34.ensures.text, c.in_ok-closing_quotes-in-34.ensures.rest, c.if-branch.false)
+          (run_is_content (string_bytes c.pieces.text) (live c.pieces.self) other ∙ c.pieces.invariant.same);
+    }
+
+pub returns-then-branch-clause-found : goal.returns-then-branch-clause-found
+returns-then-branch-clause-found c =
+    let three = sym c.in_ok-closing_quotes-in-34.ensures.closing ∙ c.if-branch.true in
+    rw (c.in_ok-closing_quotes-in-34.ensures.text, c.in_ok-closing_quotes-in-34.ensures.rest, c.if-branch.true)
+    (sym c.pieces.invariant.same ∙ run_closes (string_bytes c.pieces.text) (live c.pieces.self) three)
+
+pub pieces-preserved : goal.pieces-preserved
+pieces-preserved c = record {
+  same = rw (c.in_ok-append_plain-in_default.ensures.text, c.in_ok-append_plain-in_default.ensures.rest) (sym (triple_run (string_bytes c.pieces.text) (live c.pieces.self)) ∙ c.pieces.invariant.same);
+}

@@ -1,0 +1,24 @@
+-- A list of statements has one table, and so has a text. A table is what the pairs of some map
+-- mean.
+use Rattle.std.specs.Prelude.{◌≡◌, ℕ, List, String}
+use Rattle.std.specs.declared.alloc.Global.{Global}
+use Rattle.nano_toml.specs.Statements.{Statement}
+use Rattle.nano_toml.specs.StatementTable.{IsTableOf, SpellsTable}
+use Rattle.nano_toml.specs.View.{table_view}
+use Rattle.nano_toml.specs.declared.value.Toml.{Toml}
+
+-- the keys and values of a map
+abbrev pub Pairs : Type 0
+Pairs = List (String Global × Toml)
+
+-- two tables of the statements are one
+abbrev pub HasOneTable : List Statement → Type 0
+HasOneTable ss =
+    (one other : Pairs) → IsTableOf ss (table_view one) → IsTableOf ss (table_view other)
+    → table_view one ≡ table_view other
+
+-- two tables that the text spells are one
+abbrev pub SpellsOneTable : List ℕ → Type 0
+SpellsOneTable text =
+    (one other : Pairs) → SpellsTable text (table_view one) → SpellsTable text (table_view other)
+    → table_view one ≡ table_view other

@@ -1,0 +1,94 @@
+-- That a format speaks of what the values of a type mean, and of the meanings that are legal for
+-- it.
+use Rattle.std.specs.Prelude.{◌≡◌, ℕ, map, refl}
+use Rattle.std.specs.Option.{option_map}
+use Rattle.std.specs.declared.cmp.Ordering.{Ordering}
+use Rattle.nano_value.specs.Legal.{LegalOption, LegalList, LegalArray, LegalPair, option_weaker}
+use Rattle.nano_value.specs.Legal.{list_weaker, array_weaker, pair_weaker}
+use Rattle.nano_value.specs.Meaning.{Meaning, optional, listed, paired, pair_map}
+use Rattle.nano_value.specs.Sets.{LegalSet, item_set, set_means, set_weaker}
+use Rattle.nano_value.specs.OrderedSets.{ordered_means}
+use Rattle.nano_value.specs.Tables.{LegalMap, table_of, table_means, map_weaker}
+
+-- what a format says that the values mean is what they mean, and it calls legal what is legal
+pub record Ties {A : Type 0} (means : A → Meaning) (legal : Meaning → Type 0) (seen : A → Meaning)
+    (allowed : Meaning → Type 0) : Type 0 where
+  pub means_is : seen ≡ means
+  pub allows : (m : Meaning) → legal m → allowed m
+  pub is_legal : (m : Meaning) → allowed m → legal m
+
+-- a format that says both as the type does
+pub tied : {A : Type 0} {means : A → Meaning} {legal : Meaning → Type 0}
+    → Ties means legal means legal
+tied = record { means_is = refl; allows = λ m h. h; is_legal = λ m h. h }
+
+module _ {A : Type 0} {means : A → Meaning} {legal : Meaning → Type 0} {seen : A → Meaning}
+    {allowed : Meaning → Type 0} (t : Ties means legal seen allowed) where
+  -- values that are seen as others
+  pub seen_ties : {B : Type 0} (view : B → A)
+      → Ties (λ x. means (view x)) legal (λ x. seen (view x)) allowed
+  seen_ties view =
+      record { means_is = λ i x. t.means_is i (view x); allows = t.allows; is_legal = t.is_legal }
+
+  pub option_ties : Ties (λ x. optional (option_map means x)) (LegalOption legal)
+      (λ x. optional (option_map seen x)) (LegalOption allowed)
+  option_ties = record {
+    means_is = λ i x. optional (option_map (t.means_is i) x);
+    allows = option_weaker legal allowed t.allows;
+    is_legal = option_weaker allowed legal t.is_legal;
+  }
+
+  pub list_ties : Ties (λ xs. listed (map means xs)) (LegalList legal) (λ xs. listed (map seen xs))
+      (LegalList allowed)
+  list_ties = record {
+    means_is = λ i xs. listed (map (t.means_is i) xs);
+    allows = list_weaker legal allowed t.allows;
+    is_legal = list_weaker allowed legal t.is_legal;
+  }
+
+  -- so many items
+  pub array_ties : (count : ℕ) → Ties (λ xs. listed (map means xs)) (LegalArray count legal)
+      (λ xs. listed (map seen xs)) (LegalArray count allowed)
+  array_ties count = record {
+    means_is = λ i xs. listed (map (t.means_is i) xs);
+    allows = array_weaker legal allowed t.allows count;
+    is_legal = array_weaker allowed legal t.is_legal count;
+  }
+
+  pub set_ties : Ties (λ xs. set_means (item_set means xs)) (LegalSet legal)
+      (λ xs. set_means (item_set seen xs)) (LegalSet allowed)
+  set_ties = record {
+    means_is = λ i xs. set_means (item_set (t.means_is i) xs);
+    allows = set_weaker legal allowed t.allows;
+    is_legal = set_weaker allowed legal t.is_legal;
+  }
+
+  -- the set that holds its items in the order R
+  pub ordered_ties :
+      (R : A → A → Ordering)
+      → Ties (ordered_means R means) (LegalSet legal) (ordered_means R seen) (LegalSet allowed)
+  ordered_ties R = record {
+    means_is = λ i. ordered_means R (t.means_is i);
+    allows = set_weaker legal allowed t.allows;
+    is_legal = set_weaker allowed legal t.is_legal;
+  }
+
+module _ {A B : Type 0} {means : A → Meaning} {legal : Meaning → Type 0} {seen : A → Meaning}
+    {allowed : Meaning → Type 0} {means' : B → Meaning} {legal' : Meaning → Type 0}
+    {seen' : B → Meaning} {allowed' : Meaning → Type 0} (t : Ties means legal seen allowed)
+    (u : Ties means' legal' seen' allowed') where
+  pub pair_ties : Ties (λ x. paired (pair_map means means' x)) (LegalPair legal legal')
+      (λ x. paired (pair_map seen seen' x)) (LegalPair allowed allowed')
+  pair_ties = record {
+    means_is = λ i x. paired (pair_map (t.means_is i) (u.means_is i) x);
+    allows = pair_weaker legal allowed legal' allowed' t.allows u.allows;
+    is_legal = pair_weaker allowed legal allowed' legal' t.is_legal u.is_legal;
+  }
+
+  pub map_ties : Ties (λ es. table_means (table_of means means' es)) (LegalMap legal legal')
+      (λ es. table_means (table_of seen seen' es)) (LegalMap allowed allowed')
+  map_ties = record {
+    means_is = λ i es. table_means (table_of (t.means_is i) (u.means_is i) es);
+    allows = map_weaker legal allowed legal' allowed' t.allows u.allows;
+    is_legal = map_weaker allowed legal allowed' legal' t.is_legal u.is_legal;
+  }

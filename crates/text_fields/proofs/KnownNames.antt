@@ -1,0 +1,73 @@
+-- What a reader knows of a field whose name it knows, or one of two groups of fields does.
+use Rattle.std.proofs.Common.{◌≡◌, ℕ, List, Bool, true, false, ap, sym, ◌∙◌, subst}
+use Rattle.text_values.specs.Tokens.{At, Spans, NothingFits}
+use Rattle.text_values.specs.CutLaws.{CutLaws}
+use Rattle.text_values.specs.Cutting.{Cutting}
+use Rattle.text_values.specs.Spelling.{Grammar}
+use Rattle.text_fields.specs.Fields.{FieldStyle, Field, Shape, Allowed, SpelledField, either}
+use Rattle.text_fields.specs.Struct.{Struct, also_read}
+use Rattle.text_fields.proofs.FieldReading.{spans_too, refused_too, field_too}
+
+-- one fact or the other, where it is known which
+module _ (b : Bool) (p q : Type 0) where
+  to_first : b ≡ true → p → either b p q
+  to_first e h = subst (λ c. either c p q) (sym e) h
+
+  to_second : b ≡ false → q → either b p q
+  to_second e h = subst (λ c. either c p q) (sym e) h
+
+  first_of : b ≡ true → either b p q → p
+  first_of e h = subst (λ c. either c p q) e h
+
+  pub second_of : b ≡ false → either b p q → q
+  second_of e h = subst (λ c. either c p q) e h
+
+module _ {T : Type 0} {c : Cutting T} {g : Grammar T} (s : FieldStyle c g) (r : CutLaws c g)
+    (name : List ℕ) (start : At T) (e : start.token ≡ s.name name) where
+  abbrev FieldSpans : (List ℕ → List T → Type 0) → At T → Field T → Type 0
+  FieldSpans takes end f = Spans c.cut (SpelledField s takes) start end f
+
+  abbrev NoField : (List ℕ → List T → Type 0) → Type 0
+  NoField takes = NothingFits c.cut (SpelledField s takes) start
+
+  module _ (shape : Shape T) (known : shape.knows name ≡ true) where
+    -- a field that is known is allowed
+    pub known_field : (end : At T) (f : Field T) → FieldSpans shape.takes end f
+        → FieldSpans (Allowed s shape) end f
+    known_field end f h =
+        spans_too s r name start e shape.takes (Allowed s shape) end f
+        (λ us t. to_first (shape.knows name) (shape.takes name us) (s.Skipped us) known t) h
+
+    pub known_refused : NoField shape.takes → NoField (Allowed s shape)
+    known_refused none =
+        refused_too s r name start e shape.takes (Allowed s shape)
+        (λ us t. first_of (shape.knows name) (shape.takes name us) (s.Skipped us) known t) none
+
+  module _ (a b : Struct T) where
+    -- a field that the first know is one of both
+    pub first_field : a.shape.knows name ≡ true → (end : At T) (f : Field T)
+        → FieldSpans a.shape.takes end f
+        → FieldSpans (also_read a b).shape.takes end f × (a.shape.knows f.name ≡ true)
+    first_field known end f h =
+        field_too s r name start e a.shape.takes (also_read a b).shape.takes a.shape.knows true known end f
+        (λ us t. to_first (a.shape.knows name) (a.shape.takes name us) (b.shape.takes name us) known t) h
+
+    pub first_refused : a.shape.knows name ≡ true → NoField a.shape.takes
+        → NoField (also_read a b).shape.takes
+    first_refused known none =
+        refused_too s r name start e a.shape.takes (also_read a b).shape.takes
+        (λ us t. first_of (a.shape.knows name) (a.shape.takes name us) (b.shape.takes name us) known t) none
+
+    -- a field of the second that the first do not know is one of both
+    pub second_field : a.shape.knows name ≡ false → (end : At T) (f : Field T)
+        → FieldSpans b.shape.takes end f
+        → FieldSpans (also_read a b).shape.takes end f × (a.shape.knows f.name ≡ false)
+    second_field unknown end f h =
+        field_too s r name start e b.shape.takes (also_read a b).shape.takes a.shape.knows false unknown end f
+        (λ us t. to_second (a.shape.knows name) (a.shape.takes name us) (b.shape.takes name us) unknown t) h
+
+    pub second_refused : a.shape.knows name ≡ false → NoField b.shape.takes
+        → NoField (also_read a b).shape.takes
+    second_refused unknown none =
+        refused_too s r name start e b.shape.takes (also_read a b).shape.takes
+        (λ us t. second_of (a.shape.knows name) (a.shape.takes name us) (b.shape.takes name us) unknown t) none

@@ -1,0 +1,4 @@
+pub mod LastFields
+pub mod FieldReading
+pub mod KnownNames
+pub mod StructReading

@@ -1,0 +1,133 @@
+-- What a reader of named fields knows at the head of the loop, and at its exits.
+use Rattle.std.proofs.Common.{◌≡◌, ◌≢◌, ◌<◌, ◌⊎◌, ℕ, List, [], ◌∷◌, ◌++◌, inl, inr, sym, subst}
+use Rattle.nano_value.specs.Meaning.{Meaning}
+use Rattle.text_values.specs.CutLaws.{CutLaws}
+use Rattle.text_values.specs.Cutting.{Cutting}
+use Rattle.text_values.specs.Items.{ListMarks, SpelledList}
+use Rattle.text_values.specs.Spelling.{Grammar, IsSpelling}
+use Rattle.text_values.specs.Tokens.{At, Leaves, Spans, NothingFits}
+use Rattle.text_values.proofs.Containers.{ReadSoFar, read_start, item_shorter, read_next}
+use Rattle.text_values.proofs.Containers.{read_found, read_open_refused, read_item_refused}
+use Rattle.text_values.proofs.Containers.{read_comma_refused, read_close_refused}
+use Rattle.text_values.proofs.PartReading.{CommaTaken}
+use Rattle.text_values.proofs.Tokens.{same_end}
+use Rattle.text_values.proofs.TokensLeft.{tokens_left}
+use Rattle.text_fields.specs.Fields.{FieldStyle, Field, Allowed, SpelledField, SpelledFields}
+use Rattle.text_fields.specs.FieldLaws.{any_spelling, one_list, no_list_begins}
+use Rattle.text_fields.specs.Struct.{Struct}
+
+module _ {T : Type 0} {c : Cutting T} {g : Grammar T} (s : FieldStyle c g) (r : CutLaws c g)
+    (struct : Struct T) where
+  abbrev Marks : ListMarks T
+  Marks = s.list.tokens
+
+  -- a field of a text: one that is known, or one that is skipped
+  abbrev pub AnyField : List T → Field T → Type 0
+  AnyField = SpelledField s (Allowed s struct.shape)
+
+  -- named fields between brackets
+  abbrev AllFields : List T → List (Field T) → Type 0
+  AllFields = SpelledList Marks AnyField
+
+  abbrev NoStruct : At T → Type 0
+  NoStruct start = NothingFits c.cut (SpelledFields s struct.shape) start
+
+  spells : IsSpelling g (λ _. Unit {0}) AnyField
+  spells = any_spelling s struct.shape struct.laws
+
+  -- these fields are read, and are held
+  pub record FieldsSoFar (holds : List (Field T) → Type 0) (start here : At T) : Type 0 where
+    pub fields : List (Field T)
+    pub read : ReadSoFar r Marks AnyField start here fields
+    pub held : holds fields
+
+  pub fields_start : (holds : List (Field T) → Type 0) (start here : At T)
+      → Leaves c.cut (Marks.opening ∷ []) start here → holds [] → FieldsSoFar holds start here
+  fields_start holds start here l h =
+      record { fields = []; read = read_start r spells Marks s.brackets start here l; held = h }
+
+  -- a field takes one token at least, with the comma behind it
+  pub field_shorter : (here behind next : At T) (f : Field T) → Spans c.cut AnyField here behind f
+      → CommaTaken c.cut Marks behind next
+      → tokens_left r.is_end next < tokens_left r.is_end here
+  field_shorter = item_shorter r spells Marks s.brackets
+
+  pub fields_next : (holds after : List (Field T) → Type 0) (start here behind next : At T)
+      → FieldsSoFar holds start here → here.token ≢ Marks.closing
+      → (f : Field T) × Spans c.cut AnyField here behind f
+      × ((fs : List (Field T)) → holds fs → after (fs ++ f ∷ []))
+      → CommaTaken c.cut Marks behind next → FieldsSoFar after start next
+  fields_next holds after start here behind next so_far goes_on f taken =
+      let fields = so_far.fields in
+      record {
+        fields = fields ++ f.0 ∷ [];
+        read = read_next r spells Marks s.brackets start here behind next fields f.0 so_far.read goes_on f.1 taken;
+        held = f.2 fields so_far.held;
+      }
+
+  -- ---- where no list of fields fits, no struct does
+
+  struct_refused : (start : At T) → NothingFits c.cut AllFields start → NoStruct start
+  struct_refused start none m h = none h.2.0 (h.0, h.1, h.2.1, h.3)
+
+  pub struct_open_refused : (start : At T)
+      → ((m : At T) → Leaves c.cut (Marks.opening ∷ []) start m → ⊥) → NoStruct start
+  struct_open_refused start bad =
+      struct_refused start (read_open_refused r spells Marks s.brackets start bad)
+
+  module _ (holds : List (Field T) → Type 0) (start here : At T)
+      (so_far : FieldsSoFar holds start here) where
+    pub struct_field_refused : here.token ≢ Marks.closing → NothingFits c.cut AnyField here
+        → NoStruct start
+    struct_field_refused goes_on bad =
+        struct_refused start
+        (read_item_refused r spells Marks s.brackets start here so_far.fields so_far.read goes_on bad)
+
+    pub struct_comma_refused : (behind : At T) (f : Field T) → here.token ≢ Marks.closing
+        → Spans c.cut AnyField here behind f
+        → (behind.token ≢ Marks.closing)
+        × ((k : At T) → Leaves c.cut (Marks.comma ∷ []) behind k → ⊥) → NoStruct start
+    struct_comma_refused behind f goes_on h bad =
+        struct_refused start
+        (read_comma_refused r spells Marks s.brackets start here behind so_far.fields f so_far.read goes_on h bad)
+
+    -- where no name is pending, no field stands
+    no_name : ((name : List ℕ) → here.token ≢ s.name name) → NothingFits c.cut AnyField here
+    no_name none f h =
+        let l = subst (λ (ts : List T). Leaves c.cut ts here h.1) h.2.0 h.3 in
+        none f.name (sym l.0)
+
+    pub struct_close_refused : ((name : List ℕ) → here.token ≢ s.name name)
+        → (here.token ≡ Marks.closing) ⊎ (here.token ≢ Marks.closing)
+        → ((m : At T) → Leaves c.cut (Marks.closing ∷ []) here m → ⊥) → NoStruct start
+    struct_close_refused none (inl closes) bad =
+        struct_refused start
+        (read_close_refused r spells Marks s.brackets start here so_far.fields so_far.read closes bad)
+    struct_close_refused none (inr goes_on) bad = struct_field_refused goes_on (no_name none)
+
+    -- ---- once the closing bracket is taken
+
+    module _ (end : At T) (l : Leaves c.cut (Marks.closing ∷ []) here end) where
+      all_read : Spans c.cut AllFields start end so_far.fields
+      all_read = read_found r spells Marks s.brackets start here end so_far.fields so_far.read l
+
+      -- the fields mean what they are said to
+      pub struct_found : (m : Meaning)
+          → ((fs : List (Field T)) → holds fs → struct.shape.means fs m)
+          → Spans c.cut (SpelledFields s struct.shape) start end m
+      struct_found m means =
+          (all_read.0, (so_far.fields, all_read.1, means so_far.fields so_far.held), all_read.2)
+
+      -- the fields mean nothing
+      pub struct_missing : ((fs : List (Field T)) (m : Meaning) → holds fs
+          → struct.shape.means fs m → ⊥) → NoStruct start
+      struct_missing bad m h =
+          let all = all_read in
+          let same =
+          same_end c.cut r.one_way AllFields (no_list_begins s struct.shape struct.laws)
+          h.0 all.0 h.2.0 so_far.fields start h.1 end h.2.1 all.1 h.3 all.2 in
+          let read = subst (λ (ts : List T). AllFields ts h.2.0) same.0 h.2.1 in
+          let fields =
+          one_list s struct.shape struct.laws all.0 h.2.0 so_far.fields read all.1 in
+          bad so_far.fields m so_far.held
+          (subst (λ (fs : List (Field T)). struct.shape.means fs m) fields h.2.2)

@@ -1,0 +1,14 @@
+pub mod Fields
+pub mod FieldLaws
+pub mod Struct
+pub mod Slots
+pub mod Names
+pub mod FieldWriting
+pub mod FieldFormat
+pub mod BothFields
+pub mod StructFormat
+pub mod Laws
+pub mod Variants
+pub mod VariantLaws
+pub mod VariantWriting
+pub mod VariantFormat

@@ -1,0 +1,12 @@
+pub mod Containers
+pub mod JoinedLists
+pub mod ListReading
+pub mod MapReading
+pub mod PartReading
+pub mod Reading
+pub mod RoundTrip
+pub mod TokenLaws
+pub mod Tokens
+pub mod TokensLeft
+pub mod TupleReading
+pub mod WrittenItems
