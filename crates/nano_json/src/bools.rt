@@ -1,4 +1,5 @@
 // Truth values and the unit: one word each.
+// Their readers are inlined: what is read then passes through no answer with room for an error.
 ghost use Rattle.nano_value.specs.Meaning.{truth, nothing};
 ghost use Rattle.nano_value.specs.Ties.{tied};
 ghost use Rattle.nano_json.specs.Bools.{truths, units, truth_format, unit_format};
@@ -43,6 +44,7 @@ fn read_bool(
 }
 
 impl DeJson for bool {
+    #[inline(always)]
     fn de_json(
         alloc: Global,
         state: &mut DeJsonState,
@@ -81,6 +83,7 @@ fn read_unit(alloc: Global, state: &mut DeJsonState, input: &mut Chars<'_>) -> R
 }
 
 impl DeJson for () {
+    #[inline(always)]
     fn de_json(
         alloc: Global,
         state: &mut DeJsonState,

@@ -1,4 +1,5 @@
 // Unsigned integers: a whole number in the type's range, without a minus sign.
+// Their readers are inlined: what is read then passes through no answer with room for an error.
 ghost use Rattle.std.specs.Prelude.{◌≡◌, ◌+◌, ◌^◌};
 ghost use Rattle.nano_value.specs.Meaning.{whole};
 ghost use Rattle.nano_value.specs.Ties.{tied};
@@ -71,6 +72,7 @@ impl Unsigned for u8 {
 }
 
 impl DeJson for u8 {
+    #[inline(always)]
     fn de_json(
         alloc: Global,
         state: &mut DeJsonState,
@@ -106,6 +108,7 @@ impl Unsigned for u16 {
 }
 
 impl DeJson for u16 {
+    #[inline(always)]
     fn de_json(
         alloc: Global,
         state: &mut DeJsonState,
@@ -141,6 +144,7 @@ impl Unsigned for u32 {
 }
 
 impl DeJson for u32 {
+    #[inline(always)]
     fn de_json(
         alloc: Global,
         state: &mut DeJsonState,
@@ -176,6 +180,7 @@ impl Unsigned for u64 {
 }
 
 impl DeJson for u64 {
+    #[inline(always)]
     fn de_json(
         alloc: Global,
         state: &mut DeJsonState,
@@ -211,6 +216,7 @@ impl Unsigned for usize {
 }
 
 impl DeJson for usize {
+    #[inline(always)]
     fn de_json(
         alloc: Global,
         state: &mut DeJsonState,

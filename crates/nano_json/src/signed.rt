@@ -1,4 +1,5 @@
 // Signed integers: a whole number in the type's range, with or without a minus sign.
+// Their readers are inlined: what is read then passes through no answer with room for an error.
 ghost use Rattle.std.specs.Int.{w8, w16, w32, w64};
 ghost use Rattle.nano_value.specs.Meaning.{number};
 ghost use Rattle.nano_value.specs.Ties.{tied};
@@ -73,6 +74,7 @@ impl Signed for i8 {
 }
 
 impl DeJson for i8 {
+    #[inline(always)]
     fn de_json(
         alloc: Global,
         state: &mut DeJsonState,
@@ -108,6 +110,7 @@ impl Signed for i16 {
 }
 
 impl DeJson for i16 {
+    #[inline(always)]
     fn de_json(
         alloc: Global,
         state: &mut DeJsonState,
@@ -143,6 +146,7 @@ impl Signed for i32 {
 }
 
 impl DeJson for i32 {
+    #[inline(always)]
     fn de_json(
         alloc: Global,
         state: &mut DeJsonState,
@@ -178,6 +182,7 @@ impl Signed for i64 {
 }
 
 impl DeJson for i64 {
+    #[inline(always)]
     fn de_json(
         alloc: Global,
         state: &mut DeJsonState,

@@ -1,4 +1,5 @@
 // Texts: a string.
+// Their readers are inlined: what is read then passes through no answer with room for an error.
 ghost use Rattle.std.specs.Prelude.{string_bytes};
 ghost use Rattle.nano_value.specs.Meaning.{text};
 ghost use Rattle.nano_value.specs.Ties.{tied};
@@ -43,6 +44,7 @@ fn read_string(
 }
 
 impl DeJson for String {
+    #[inline(always)]
     fn de_json(
         alloc: Global,
         state: &mut DeJsonState,
