@@ -8,3 +8,5 @@ mod fault_tests;
 mod helper_tests;
 #[cfg(test)]
 mod token_tests;
+#[cfg(test)]
+mod value_tests;

@@ -15,10 +15,9 @@ use Rattle.text_values.specs.Tokens.{IsOneWay}
 use Rattle.ron_tokens.specs.Token.{Token, IsLiteral, ident, str, u64, i64, f64, bool, character, colon, curly_open, curly_close, paren_open, paren_close, block_open, block_close, comma, end}
 use Rattle.ron_tokens.specs.Cut.{is_word, starts_word, BeginsWithWord, IsMark, IsWord, IsRunOf, IsQuoted, IsCharacter, IsEnd, IsLexeme, mark, word, number, quoted, single, nothing, Cut}
 use Rattle.ron_tokens.specs.Gaps.{IsGap, IsUnended}
-use Rattle.ron_tokens.specs.Outcomes.{NothingCut}
-use Rattle.ron_tokens.specs.Scan.{mark_of, word_token, IsStop, BeginsNoComment, BehindGap}
-use Rattle.ron_tokens.proofs.LexemeKinds.{kind_at, the_end, mark_kind, word_kind, number_kind, quoted_kind, single_kind, end_kind, unended_kind, only_mark, only_word, only_number, only_quoted, only_single, only_end, lexeme_stops}
-use Rattle.ron_tokens.proofs.Skipping.{skips_one_way, skips_go_on, unended_stops}
+use Rattle.ron_tokens.specs.Scan.{mark_of, word_token}
+use Rattle.ron_tokens.proofs.LexemeKinds.{mark_kind, word_kind, number_kind, quoted_kind, single_kind, end_kind, unended_kind, only_mark, only_word, only_number, only_quoted, only_single, only_end, lexeme_stops}
+use Rattle.ron_tokens.proofs.Skipping.{skips_one_way}
 
 some_injective : {A : Type 0} (x y : A) → Some x ≡ Some y → x ≡ y
 some_injective x y e = cc e
@@ -237,11 +236,11 @@ end_at : (t : Token) (text other rest : List ℕ) → IsUnended other → IsEnd 
 end_at end text other rest unended h = (unended, h.1)
 end_at _ text other rest unended h = absurd h
 
-end_elsewhere : (t : Token) (text other rest : List ℕ) → IsUnended text → IsUnended other → IsLexeme t text rest → IsLexeme t other rest
+pub end_elsewhere : (t : Token) (text other rest : List ℕ) → IsUnended text → IsUnended other → IsLexeme t text rest → IsLexeme t other rest
 end_elsewhere t text other rest here there h =
     nothing (end_at t text other rest there (only_end t text rest (unended_kind text here) h))
 
-is_unended : (t : Token) (text rest : List ℕ) → IsEnd t text rest → IsUnended text
+pub is_unended : (t : Token) (text rest : List ℕ) → IsEnd t text rest → IsUnended text
 is_unended end text rest h = h.0
 is_unended _ text rest h = absurd h
 
@@ -254,43 +253,6 @@ end_cut text rest = (
       ((h.gap, h.body, h.skipped, stop.0, h.split), stop.1),
   λ h. record { gap = h.0.0; body = h.0.1; split = h.0.4; skipped = h.0.2; lexeme = nothing (h.0.3, h.1) },
 )
-
--- ---- behind a gap
-
--- without the gap in front of a token it is cut too
-pub gap_is_left_out : (gap text rest : List ℕ) (t : Token) → IsGap gap → Cut (gap ++ text) t rest → Cut text t rest
-gap_is_left_out gap text rest t is h =
-    let more = skips_go_on gap h.gap text h.body is h.skipped (lexeme_stops t h.body rest h.lexeme) h.split in
-    record { gap = more.0; body = h.body; split = more.2; skipped = more.1; lexeme = h.lexeme }
-
--- behind the gap of a cut stands what is behind every gap
-pub cut_lexeme : (text between rest : List ℕ) (t : Token) → BehindGap text between → IsStop between → Cut text t rest → IsLexeme t between rest
-cut_lexeme text between rest t g stop h =
-    let ends : IsStop g.body = elim g.left [ inl same ↦ subst IsStop (sym same) stop | inr u ↦ unended_stops g.body u.0 ] in
-    let same = skips_one_way h.gap g.gap h.body g.body h.skipped g.skipped (lexeme_stops t h.body rest h.lexeme) ends (sym h.split ∙ g.split) in
-    let lexeme = subst (λ (body : List ℕ). IsLexeme t body rest) same h.lexeme in
-    elim g.left [
-      | inl e ↦ subst (λ (body : List ℕ). IsLexeme t body rest) e lexeme
-      | inr u ↦ end_elsewhere t g.body between rest u.0 (inl u.1) lexeme
-    ]
-
-pub lexeme_cut : (text between rest : List ℕ) (t : Token) → BehindGap text between → IsLexeme t between rest → Cut text t rest
-lexeme_cut text between rest t g h = record {
-  gap = g.gap;
-  body = g.body;
-  split = g.split;
-  skipped = g.skipped;
-  lexeme = elim g.left [
-    | inl e ↦ subst (λ (body : List ℕ). IsLexeme t body rest) (sym e) h
-    | inr u ↦ end_elsewhere t between g.body rest (inl u.1) u.0 h
-  ];
-}
-
--- nothing is cut where a slash begins no comment
-pub none_cut : (text between : List ℕ) → BehindGap text between → kind_at between ≡ the_end → BeginsNoComment between → NothingCut text
-none_cut text between g kind none t rest h =
-    let lexeme = cut_lexeme text between rest t g none.0 h in
-    none.1 (is_unended t between rest (only_end t between rest kind lexeme))
 
 -- what is a number is a run
 pub run_number : (t : Token) (text rest : List ℕ) → IsRunOf t text rest → (n : Number) × (run : List ℕ) × IsNumber text n run rest

@@ -6,6 +6,11 @@ pub mod Messages
 pub mod Outcomes
 pub mod Scan
 pub mod Laws
+pub mod Marks
 pub mod Brackets
 pub mod Written
 pub mod Ron
+pub mod Styles
+pub mod CutAgain
+pub mod WrittenText
+pub mod Scalars

@@ -7,7 +7,9 @@ mod gaps;
 mod helpers;
 pub mod laws;
 mod lexemes;
+mod marks;
 mod state;
+mod strings;
 mod token;
 mod values;
 mod words;
@@ -15,5 +17,6 @@ mod write_state;
 
 pub use error::DeRonErr;
 pub use state::DeRonState;
+pub use strings::append_string;
 pub use token::DeRonTok;
 pub use write_state::SerRonState;

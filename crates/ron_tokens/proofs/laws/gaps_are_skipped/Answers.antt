@@ -1,4 +1,4 @@
-use Rattle.ron_tokens.proofs.Cuts.{gap_is_left_out}
+use Rattle.ron_tokens.proofs.BehindGaps.{gap_is_left_out}
 use Rattle.ron_tokens.specs.Ron.{gap_is_skipped}
 use Rattle.ron_tokens.proofs.laws.gaps_are_skipped.Goals as goal
 

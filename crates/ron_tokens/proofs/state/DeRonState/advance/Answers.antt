@@ -1,7 +1,7 @@
 use Rattle.std.proofs.Common.{refl}
 use Rattle.std.proofs.lemmas.Result.{on_ok_weaker, IfErr-weaker}
 use Rattle.nano_text.specs.PlaceLaws.{passes_append}
-use Rattle.ron_tokens.proofs.Cuts.{lexeme_cut, cut_lexeme}
+use Rattle.ron_tokens.proofs.BehindGaps.{lexeme_cut, cut_lexeme}
 use Rattle.ron_tokens.proofs.Room.{outgrows_same}
 use Rattle.ron_tokens.proofs.Skipping.{first_stops}
 use Rattle.ron_tokens.proofs.state.DeRonState.advance.Goals as goal

@@ -6,7 +6,7 @@ use Rattle.nano_text.specs.PlaceLaws.{passes_append}
 use Rattle.ron_tokens.specs.Gaps.{is_space}
 use Rattle.ron_tokens.specs.Scan.{starts_gap, BehindGap}
 use Rattle.ron_tokens.proofs.Comments.{gap_over, spaces_more, comment_more, comment_shorter, behind_fewer}
-use Rattle.ron_tokens.proofs.Cuts.{none_cut}
+use Rattle.ron_tokens.proofs.BehindGaps.{none_cut}
 use Rattle.ron_tokens.proofs.Kept.{kept_append}
 use Rattle.ron_tokens.proofs.LexemeKinds.{kind_of, kind_live, kind_slash}
 use Rattle.ron_tokens.proofs.state.DeRonState.skip_gaps.Goals as goal
