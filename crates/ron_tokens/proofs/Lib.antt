@@ -1,0 +1,11 @@
+pub mod Telling
+pub mod Kept
+pub mod Skipping
+pub mod Comments
+pub mod LexemeKinds
+pub mod Cuts
+pub mod BehindGaps
+pub mod WordRuns
+pub mod Room
+pub mod Indents
+pub mod Shorter

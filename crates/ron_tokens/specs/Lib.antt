@@ -1,0 +1,16 @@
+pub mod Token
+pub mod Gaps
+pub mod Cut
+pub mod State
+pub mod Messages
+pub mod Outcomes
+pub mod Scan
+pub mod Laws
+pub mod Marks
+pub mod Brackets
+pub mod Written
+pub mod Ron
+pub mod Styles
+pub mod CutAgain
+pub mod WrittenText
+pub mod Scalars

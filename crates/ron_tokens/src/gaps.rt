@@ -1,0 +1,110 @@
+// How a reader's state passes over what stands between tokens: white space and comments.
+ghost use Rattle.std.specs.Prelude.{◌≡◌, true, false};
+ghost use Rattle.nano_text.specs.Front.{behind, first_is};
+ghost use Rattle.nano_text.specs.Place.{live};
+ghost use Rattle.ron_tokens.specs.Gaps.{is_space};
+ghost use Rattle.ron_tokens.specs.Outcomes.{NothingCut, Counts, KeepsToken};
+ghost use Rattle.ron_tokens.specs.Scan.{starts_gap, BehindLine, BehindBlock, BehindComment};
+ghost use Rattle.ron_tokens.specs.Scan.{BeginsNoComment, BehindGap};
+
+use crate::state::DeRonState;
+use std::str::Chars;
+
+impl DeRonState {
+    /// Passes over white space and comments. Answers whether each `/` that it came to begins a
+    /// comment; else it stands behind the first that does not.
+    #[inline]
+    pub(crate) fn skip_gaps(&mut self, i: &mut Chars<'_>) -> bool
+        ensures skipped { result ≡ true
+            → BehindGap (live self.old.cur i.old) (live self.new.cur i.new) }
+        ensures stops { result ≡ true → first_is starts_gap (live self.new.cur i.new) ≡ false }
+        ensures refused { result ≡ false → NothingCut (live self.old.cur i.old) }
+        ensures place { Counts self.old i.old self.new i.new }
+        ensures kept { KeepsToken self.old self.new }
+    {
+        self.skip_space(i);
+        'comments: while self.cur == '/' {
+            if !self.skip_comment(i) {
+                return false;
+            }
+            self.skip_space(i);
+        }
+        true
+    }
+
+    /// Passes over white space.
+    #[inline]
+    fn skip_space(&mut self, i: &mut Chars<'_>)
+        ensures live { live self.new.cur i.new ≡ behind is_space (live self.old.cur i.old) }
+        ensures stops { is_space self.new.cur ≡ false }
+        ensures place { Counts self.old i.old self.new i.new }
+        ensures kept { KeepsToken self.old self.new }
+    {
+        'space: while is_space(self.cur) {
+            self.next(i);
+        }
+    }
+
+    /// Passes over the comment that begins here, where a `/` stands. Answers whether one does.
+    #[inline(never)]
+    fn skip_comment(&mut self, i: &mut Chars<'_>) -> bool
+        requires { self.old.cur ≡ 47 }
+        ensures skipped { result ≡ true
+            → BehindComment (live self.old.cur i.old) (live self.new.cur i.new) }
+        ensures refused { result ≡ false → BeginsNoComment (live self.old.cur i.old) }
+        ensures place { Counts self.old i.old self.new i.new }
+        ensures kept { KeepsToken self.old self.new }
+    {
+        self.next(i);
+        if self.cur == '/' {
+            self.next(i);
+            self.skip_line(i);
+            return true;
+        }
+        if self.cur == '*' {
+            self.next(i);
+            self.skip_block(i);
+            return true;
+        }
+        false
+    }
+
+    /// Passes over the line and its line feed, or what is left where it has none.
+    fn skip_line(&mut self, i: &mut Chars<'_>)
+        ensures skipped { BehindLine (live self.old.cur i.old) (live self.new.cur i.new) }
+        ensures place { Counts self.old i.old self.new i.new }
+        ensures kept { KeepsToken self.old self.new }
+    {
+        'line: while self.cur != '\0' {
+            let ends = self.cur == '\n';
+            self.next(i);
+            if ends {
+                return;
+            }
+        }
+    }
+
+    /// Passes over what stands before the first `*/`, and over that, or over what is left where
+    /// there is none.
+    fn skip_block(&mut self, i: &mut Chars<'_>)
+        ensures skipped { BehindBlock (live self.old.cur i.old) (live self.new.cur i.new) }
+        ensures place { Counts self.old i.old self.new i.new }
+        ensures kept { KeepsToken self.old self.new }
+    {
+        'block: while self.cur != '\0' {
+            let star = self.cur == '*';
+            self.next(i);
+            if star && self.cur == '/' {
+                self.next(i);
+                return;
+            }
+        }
+    }
+}
+
+#[inline]
+fn is_space(c: char) -> bool
+    ensures { result ≡ is_space c }
+{
+    c == '\n' || c == '\r' || c == '\t' || c == ' '
+}

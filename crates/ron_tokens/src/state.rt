@@ -1,0 +1,157 @@
+// The state of a reader, and its steps: a character, a token, and the end.
+ghost use Rattle.std.specs.Prelude.{◌≡◌, ◌≢◌, [], ◌∷◌, false, OnOk, OnErr, IfErr, string_bytes};
+ghost use Rattle.std.specs.declared.str.Chars.{Chars};
+ghost use Rattle.nano_text.specs.Place.{held, tail, live, before_nul, place_after};
+ghost use Rattle.ron_tokens.specs.Cut.{Cut};
+ghost use Rattle.ron_tokens.specs.Outcomes.{Tells, NothingCut, NoRoom, Counts};
+ghost use Rattle.ron_tokens.specs.State.{at, ended, pending, place_of, KeepsOtherBuffers};
+
+use crate::error::DeRonErr;
+use crate::lexemes::Refusal;
+use crate::token::DeRonTok;
+use nano_text::Place;
+use std::alloc::Global;
+use std::str::Chars;
+
+/// A reader's state: the pending token with its texts, and the place behind it.
+///
+/// The text that is still to be read, the live text, is `cur` and what the characters still hold,
+/// before the first NUL. Every call is defined for any values of the fields.
+#[derive(Drop)]
+pub struct DeRonState {
+    /// The current character, or NUL at the end of the text.
+    pub cur: char,
+    /// The pending token.
+    pub tok: DeRonTok,
+    /// The text of a pending `Str`.
+    pub strbuf: String,
+    /// The text of a pending `F64`.
+    pub numbuf: String,
+    /// The text of a pending `Ident`.
+    pub identbuf: String,
+    /// The line of the current character, counted from 0.
+    pub line: usize,
+    /// The number of characters that were taken on this line.
+    pub col: usize,
+}
+
+impl DeRonState {
+    /// A state before the first character. It takes no memory.
+    pub fn new(alloc: Global) -> Self
+        ensures cur { result.cur ≡ 0 }
+        ensures tok { result.tok ≡ DeRonTok.Bof }
+        ensures strbuf { string_bytes result.strbuf ≡ [] }
+        ensures numbuf { string_bytes result.numbuf ≡ [] }
+        ensures identbuf { string_bytes result.identbuf ≡ [] }
+        ensures line { result.line ≡ 0 }
+        ensures col { result.col ≡ 0 }
+    {
+        DeRonState {
+            cur: '\0',
+            tok: DeRonTok::Bof,
+            strbuf: String::new(alloc),
+            numbuf: String::new(alloc),
+            identbuf: String::new(alloc),
+            line: 0,
+            col: 0,
+        }
+    }
+
+    /// Takes one character. A line feed adds a line and starts its columns at 0, any other
+    /// character adds a column. At the end of the text `cur` becomes NUL, and line and column stay.
+    /// It takes no memory.
+    pub fn next(&mut self, i: &mut Chars<'_>)
+        ensures place { place_of self.new ≡ place_after (place_of self.old) (held i.old) }
+        ensures held { held i.new ≡ tail (held i.old) }
+        ensures counts { Counts self.old i.old self.new i.new }
+        ensures rest { live self.new.cur i.new ≡ before_nul (held i.old) }
+        ensures taken { self.old.cur ≢ 0
+            → live self.old.cur i.old ≡ self.old.cur ∷ live self.new.cur i.new }
+        ensures tok { self.new.tok ≡ self.old.tok }
+        ensures strbuf { self.new.strbuf ≡ self.old.strbuf }
+        ensures numbuf { self.new.numbuf ≡ self.old.numbuf }
+        ensures identbuf { self.new.identbuf ≡ self.old.identbuf }
+    {
+        let mut place = self.place();
+        place.next(i);
+        self.stand_at(place);
+    }
+
+    /// Takes the next token: it is pending then, and `Eof` where nothing but white space and
+    /// comments is left. `strbuf` changes only for a `Str`, `numbuf` only for a number, and
+    /// `identbuf` only for a word.
+    ///
+    /// It is refused where no token can be cut from the live text, or memory was refused, which is
+    /// asked for only where the text of the token has no room in its buffer. The state is at the
+    /// end of the text then, as `fail` leaves it, with the line and the column where the fault was
+    /// found.
+    #[inline(always)]
+    pub fn next_tok(&mut self, alloc: Global, i: &mut Chars<'_>) -> Result<(), DeRonErr>
+        ensures taken { OnOk result
+            (Cut (live self.old.cur i.old) (pending self.new) (live self.new.cur i.new)) }
+        ensures buffers { OnOk result (KeepsOtherBuffers self.old self.new) }
+        ensures place { OnOk result (Counts self.old i.old self.new i.new) }
+        ensures refused { IfErr result (Tells self.new (NothingCut (live self.old.cur i.old))) }
+        ensures room { OnErr result (NoRoom self.old (live self.old.cur i.old)) }
+        ensures ended { OnErr result (at self.new i.new ≡ ended) }
+    {
+        match self.advance(i) {
+            Ok(()) => Ok(()),
+            Err(refusal) => Err(self.refuse(alloc, refusal)),
+        }
+    }
+
+    /// Leaves the state at the end of the text: `Eof` is pending, and `cur` is NUL. Line and column
+    /// stay. It takes no memory.
+    #[tactic(auto, unfolding(nano_text::specs::Place::live))]
+    pub fn fail(&mut self)
+        ensures ended { (i : Chars) → at self.new i ≡ ended }
+        ensures kept { self.new ≡ record self.old { tok = DeRonTok.Eof; cur = 0 } }
+    {
+        self.tok = DeRonTok::Eof;
+        self.cur = '\0';
+    }
+
+    /// The error of a refusal. It leaves the state at the end of the text.
+    #[cold]
+    #[inline(never)]
+    pub(crate) fn refuse(&mut self, alloc: Global, refusal: Refusal) -> DeRonErr
+        ensures ended { (i : Chars) → at self.new i ≡ ended }
+        ensures kept { self.new ≡ record self.old { tok = DeRonTok.Eof; cur = 0 } }
+        ensures made { Tells self.new (refusal ≢ Refusal.Memory) result }
+    {
+        let err = match refusal {
+            Refusal::NoToken => self.err_token(alloc, "tokenizer"),
+            Refusal::Comment => self.err_parse(alloc, "comment"),
+            Refusal::Character => self.err_token(alloc, "char"),
+            Refusal::Number => self.err_parse(alloc, "number"),
+            Refusal::String => self.err_parse(alloc, "string"),
+            Refusal::Memory => self.err_memory(alloc),
+        };
+        self.fail();
+        err
+    }
+
+    /// Where the state stands.
+    #[inline]
+    pub(crate) fn place(&self) -> Place
+        ensures { result ≡ place_of self.now }
+    {
+        Place {
+            cur: self.cur,
+            line: self.line,
+            col: self.col,
+        }
+    }
+
+    /// Stands at another place.
+    #[inline]
+    pub(crate) fn stand_at(&mut self, place: Place)
+        ensures { self.new
+            ≡ record self.old { cur = place.cur; line = place.line; col = place.col } }
+    {
+        self.cur = place.cur;
+        self.line = place.line;
+        self.col = place.col;
+    }
+}
