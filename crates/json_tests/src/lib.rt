@@ -9,9 +9,17 @@ mod container_tests;
 #[cfg(test)]
 mod fault_tests;
 #[cfg(test)]
+mod format_law_tests;
+#[cfg(test)]
 mod front_tests;
 #[cfg(test)]
 mod helper_tests;
+#[cfg(test)]
+mod large_tests;
+#[cfg(test)]
+mod law_tests;
+#[cfg(test)]
+mod number_fault_tests;
 #[cfg(test)]
 mod token_tests;
 #[cfg(test)]

@@ -28,6 +28,10 @@ pub use traits::{BinFormat, BothBin, DeBin, SerBin};
 #[cfg(test)]
 mod tests;
 #[cfg(test)]
+mod tests_large;
+#[cfg(test)]
+mod tests_laws;
+#[cfg(test)]
 mod tests_maps;
 #[cfg(test)]
 mod tests_memory;

@@ -4,6 +4,8 @@
 #![tactic(auto)]
 
 mod fault;
+#[cfg(test)]
+mod law_tests;
 pub mod laws;
 mod pairs;
 mod run;

@@ -25,4 +25,6 @@ pub use written::{Escaping, append_characters};
 #[cfg(test)]
 mod tests;
 #[cfg(test)]
+mod tests_calls;
+#[cfg(test)]
 mod tests_written;

@@ -61,6 +61,13 @@ fn characters_with_escapes(rt: HostRuntime) -> Result<(), Fail> {
         out.push('|')?;
     }
     assert_eq!(rt; out.as_str(), "|a|\"\"|é\"\"x\"\"\"\"|\"\"\"\"ab😋|");
+    let mut long = String::new(rt.alloc());
+    for _ in 0..3_000 {
+        long.push_str("\"é")?;
+    }
+    out.clear();
+    append_characters::<TwoQuotes>(&mut out, long.as_str())?;
+    assert_eq!(rt; out.len(), 3_000 * 4);
     Ok(())
 }
 

@@ -23,4 +23,8 @@ pub use token::TomlTok;
 pub use value::Toml;
 
 #[cfg(test)]
+mod law_tests;
+#[cfg(test)]
+mod list_tests;
+#[cfg(test)]
 mod tests;

@@ -8,9 +8,13 @@ mod command;
 #[cfg(test)]
 mod field_writing_tests;
 mod holder;
+#[cfg(test)]
+mod law_tests;
 mod message;
 #[cfg(test)]
 mod message_tests;
+#[cfg(test)]
+mod place_tests;
 mod reading;
 mod tally;
 #[cfg(test)]
