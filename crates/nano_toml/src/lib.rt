@@ -21,6 +21,3 @@ pub use error::TomlErr;
 pub use parser::TomlParser;
 pub use token::TomlTok;
 pub use value::Toml;
-
-#[cfg(test)]
-mod tests;
