@@ -1,142 +1,142 @@
 // What no clause of the readers of sets, maps and tuples says: that they succeed, that the definitions
 // are the format's, and the texts of faults.
-use nano_json::DeJson;
+use crate::checks::{all_refused, holds, refused_with, values};
+use nano_json::{DeJson, DeJsonErr};
 use std::alloc::Global;
 use std::collections::{BTreeSet, HashMap, HashSet, LinkedList};
-use std::process::Abort;
 use std::test::Fail;
 
-/// The texts are refused with these messages.
-fn refused_with<T: DeJson>(
-    rt: &impl Abort,
-    alloc: Global,
-    rows: &[(&str, &str)],
-) -> Result<(), Fail> {
-    for (text, expected) in rows {
-        match T::deserialize_json(alloc, text) {
-            Ok(_value) => assert!(rt; false, "{text} is read"),
-            Err(error) => assert_eq!(rt; error.msg.as_str(), *expected, "at {text}"),
-        }
-    }
-    Ok(())
+/// Whether a text is read as the hashed set of 1 and 3.
+fn is_hashed(alloc: Global, text: &str) -> Result<bool, DeJsonErr> {
+    let set = HashSet::<i32>::deserialize_json(alloc, text)?;
+    Ok(set.len() == 2 && set.contains(&1) && set.contains(&3))
 }
+
+/// Whether a text is read as the ordered set of 1 and 3.
+fn is_ordered(alloc: Global, text: &str) -> Result<bool, DeJsonErr> {
+    let set = BTreeSet::<i32>::deserialize_json(alloc, text)?;
+    Ok(set.len() == 2 && set.contains(&1) && set.contains(&3))
+}
+
+/// Faults of sets.
+const OF_SETS: &[(&str, &str)] = &[
+    ("[,]", "Unexpected token Comma expected unsigned integer "),
+    (
+        "[1,,2]",
+        "Unexpected token Comma expected unsigned integer ",
+    ),
+    ("[1 2]", "Unexpected token U64(2) expected , or ] "),
+    ("[1", "Unexpected token Eof expected , or ] "),
+    ("{}", "Unexpected token CurlyOpen expected [ "),
+    ("[256,,", "Value out of range 256>255 "),
+    ("[1] @", "Unexpected token BlockClose expected tokenizer "),
+];
 
 #[test]
 fn sets_of_numbers(rt: HostRuntime) -> Result<(), Fail> {
     let alloc = rt.alloc();
     for text in ["[3,1,3]", "[3,1,3,]", " [ 1 , 3 ] ", "[1,3]]", "[3,1]\0@"] {
-        let hashed = HashSet::<i32>::deserialize_json(alloc, text)?;
-        assert_eq!(rt; hashed.len(), 2, "at {text}");
-        assert!(rt; hashed.contains(&1) && hashed.contains(&3), "at {text}");
-        let ordered = BTreeSet::<i32>::deserialize_json(alloc, text)?;
-        assert_eq!(rt; ordered.len(), 2, "at {text}");
-        assert!(rt; ordered.contains(&1) && ordered.contains(&3), "at {text}");
+        holds(&rt, is_hashed(alloc, text)?, text);
+        holds(&rt, is_ordered(alloc, text)?, text);
     }
-    assert!(rt; HashSet::<u8>::deserialize_json(alloc, "[]")?.is_empty());
-    assert!(rt; BTreeSet::<u8>::deserialize_json(alloc, "[]")?.is_empty());
-    let rows = [
-        ("[,]", "Unexpected token Comma expected unsigned integer "),
-        (
-            "[1,,2]",
-            "Unexpected token Comma expected unsigned integer ",
-        ),
-        ("[1 2]", "Unexpected token U64(2) expected , or ] "),
-        ("[1", "Unexpected token Eof expected , or ] "),
-        ("{}", "Unexpected token CurlyOpen expected [ "),
-        ("[256,,", "Value out of range 256>255 "),
-        ("[1] @", "Unexpected token BlockClose expected tokenizer "),
-    ];
-    refused_with::<HashSet<u8>>(&rt, alloc, &rows)?;
-    refused_with::<BTreeSet<u8>>(&rt, alloc, &rows)?;
+    values(&rt, alloc, &[("[]", HashSet::<u8>::new(alloc))])?;
+    values(&rt, alloc, &[("[]", BTreeSet::<u8>::new(alloc))])?;
+    refused_with::<HashSet<u8>>(&rt, alloc, OF_SETS);
+    refused_with::<BTreeSet<u8>>(&rt, alloc, OF_SETS);
     Ok(())
 }
 
 #[test]
 fn maps_with_last_values(rt: HostRuntime) -> Result<(), Fail> {
     let alloc = rt.alloc();
-    let truths = HashMap::<u8, bool>::deserialize_json(alloc, "{2:true,1:false}")?;
-    assert_eq!(rt; truths.len(), 2);
-    assert_eq!(rt;
-        (truths.get(&1), truths.get(&2)),
-        (Some(&false), Some(&true))
+    let mut truths = HashMap::new(alloc);
+    truths.insert(1u8, false)?;
+    truths.insert(2, true)?;
+    values(&rt, alloc, &[("{2:true,1:false}", truths)])?;
+    let mut named = HashMap::new(alloc);
+    named.insert(String::from_str(alloc, "a")?, 2i32)?;
+    named.insert(String::from_str(alloc, "b")?, 3)?;
+    values(&rt, alloc, &[("{\"b\":1,\"a\":2,\"b\":3,}", named)])?;
+    values(&rt, alloc, &[("{}", HashMap::<u8, u8>::new(alloc))])?;
+    Ok(())
+}
+
+#[test]
+fn maps_refused(rt: HostRuntime) {
+    let alloc = rt.alloc();
+    refused_with::<HashMap<u8, u8>>(
+        &rt,
+        alloc,
+        &[
+            ("{,}", "Unexpected token Comma expected unsigned integer "),
+            (
+                "{1:2,,}",
+                "Unexpected token Comma expected unsigned integer ",
+            ),
+            ("{1 2}", "Unexpected token U64(2) expected : "),
+            ("{1,2}", "Unexpected token Comma expected : "),
+            ("{1:2 3:4}", "Unexpected token U64(3) expected , or } "),
+            ("{1:2]", "Unexpected token BlockClose expected , or } "),
+            ("{1:256,,", "Value out of range 256>255 "),
+            (
+                "{1:}",
+                "Unexpected token CurlyClose expected unsigned integer ",
+            ),
+            ("[]", "Unexpected token BlockOpen expected { "),
+        ],
     );
-    let named = HashMap::<String, i32>::deserialize_json(alloc, "{\"b\":1,\"a\":2,\"b\":3,}")?;
-    assert_eq!(rt; named.len(), 2);
-    assert_eq!(rt; named.get(&String::from_str(alloc, "a")?), Some(&2));
-    assert_eq!(rt; named.get(&String::from_str(alloc, "b")?), Some(&3));
-    assert!(rt; HashMap::<u8, u8>::deserialize_json(alloc, "{}")?.is_empty());
-    let rows = [
-        ("{,}", "Unexpected token Comma expected unsigned integer "),
-        (
-            "{1:2,,}",
-            "Unexpected token Comma expected unsigned integer ",
-        ),
-        ("{1 2}", "Unexpected token U64(2) expected : "),
-        ("{1,2}", "Unexpected token Comma expected : "),
-        ("{1:2 3:4}", "Unexpected token U64(3) expected , or } "),
-        ("{1:2]", "Unexpected token BlockClose expected , or } "),
-        ("{1:256,,", "Value out of range 256>255 "),
-        (
-            "{1:}",
-            "Unexpected token CurlyClose expected unsigned integer ",
-        ),
-        ("[]", "Unexpected token BlockOpen expected { "),
-    ];
-    refused_with::<HashMap<u8, u8>>(&rt, alloc, &rows)?;
     refused_with::<HashMap<String, Vec<u8>>>(
         &rt,
         alloc,
         &[("{\"a\":[1 2]}", "Unexpected token U64(2) expected , or ] ")],
-    )
+    );
 }
 
 #[test]
 fn tuples_of_a_count(rt: HostRuntime) -> Result<(), Fail> {
     let alloc = rt.alloc();
-    for text in ["[1,2]", "[1,2,]", " [ 1 , 2 , ] ]"] {
-        assert_eq!(rt;
-            <(u8, u16)>::deserialize_json(alloc, text)?,
-            (1, 2),
-            "at {text}"
-        );
-    }
-    assert_eq!(rt;
-        <(u8, bool, i8)>::deserialize_json(alloc, "[1,true,-3,]")?,
-        (1, true, -3)
-    );
-    assert_eq!(rt;
-        <(u8, bool, i8, u64)>::deserialize_json(alloc, "[1,false,-3,4]")?,
-        (1, false, -3, 4)
-    );
-    let rows = [
-        (
-            "[1]",
-            "Unexpected token BlockClose expected unsigned integer ",
-        ),
-        (
-            "[1,]",
-            "Unexpected token BlockClose expected unsigned integer ",
-        ),
-        ("[1,2,3]", "Unexpected token U64(3) expected ] "),
-        ("[1,2,,]", "Unexpected token Comma expected ] "),
-        ("[1 2]", "Unexpected token U64(2) expected , or ] "),
-        (
-            "[,1,2]",
-            "Unexpected token Comma expected unsigned integer ",
-        ),
-        (
-            "[]",
-            "Unexpected token BlockClose expected unsigned integer ",
-        ),
-        ("[256,,", "Value out of range 256>255 "),
-        ("1", "Unexpected token U64(1) expected [ "),
+    let pairs = [
+        ("[1,2]", (1u8, 2u16)),
+        ("[1,2,]", (1, 2)),
+        (" [ 1 , 2 , ] ]", (1, 2)),
     ];
-    refused_with::<(u8, u8)>(&rt, alloc, &rows)?;
-    assert!(rt; <(u8, u8, u8)>::deserialize_json(alloc, "[1,2]").is_err());
-    assert!(rt; <(u8, u8, u8)>::deserialize_json(alloc, "[1,2,3,4]").is_err());
-    assert!(rt; <(u8, u8, u8, u8)>::deserialize_json(alloc, "[1,2,3]").is_err());
-    assert!(rt; <(u8, u8, u8, u8)>::deserialize_json(alloc, "[1,2,3,4,5]").is_err());
-    Ok(())
+    values(&rt, alloc, &pairs)?;
+    values(&rt, alloc, &[("[1,true,-3,]", (1u8, true, -3i8))])?;
+    values(&rt, alloc, &[("[1,false,-3,4]", (1u8, false, -3i8, 4u64))])
+}
+
+#[test]
+fn tuples_refused(rt: HostRuntime) {
+    let alloc = rt.alloc();
+    refused_with::<(u8, u8)>(
+        &rt,
+        alloc,
+        &[
+            (
+                "[1]",
+                "Unexpected token BlockClose expected unsigned integer ",
+            ),
+            (
+                "[1,]",
+                "Unexpected token BlockClose expected unsigned integer ",
+            ),
+            ("[1,2,3]", "Unexpected token U64(3) expected ] "),
+            ("[1,2,,]", "Unexpected token Comma expected ] "),
+            ("[1 2]", "Unexpected token U64(2) expected , or ] "),
+            (
+                "[,1,2]",
+                "Unexpected token Comma expected unsigned integer ",
+            ),
+            (
+                "[]",
+                "Unexpected token BlockClose expected unsigned integer ",
+            ),
+            ("[256,,", "Value out of range 256>255 "),
+            ("1", "Unexpected token U64(1) expected [ "),
+        ],
+    );
+    all_refused::<(u8, u8, u8)>(&rt, alloc, &["[1,2]", "[1,2,3,4]"]);
+    all_refused::<(u8, u8, u8, u8)>(&rt, alloc, &["[1,2,3]", "[1,2,3,4,5]"]);
 }
 
 #[test]

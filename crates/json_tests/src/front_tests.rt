@@ -1,26 +1,53 @@
 // Texts that are cut short, and states that no text leaves.
+use crate::checks::{holds, refusal};
 use nano_json::{DeJson, DeJsonState, DeJsonTok};
 use std::alloc::Global;
 use std::collections::{BTreeSet, HashMap, HashSet, LinkedList};
 use std::process::Abort;
+use std::str::Chars;
 use std::test::Fail;
+
+/// A state over a text, with its first token taken where it has one.
+fn first_token(alloc: Global, input: &mut Chars<'_>) -> DeJsonState {
+    let mut state = DeJsonState::new(alloc);
+    state.next(input);
+    let _first = state.next_tok(alloc, input);
+    state
+}
+
+/// Whether a value is refused there.
+fn is_refused<T: DeJson>(alloc: Global, state: &mut DeJsonState, input: &mut Chars<'_>) -> bool {
+    T::de_json(alloc, state, input).is_err()
+}
+
+/// The state is at the end.
+fn is_at_the_end(rt: &impl Abort, state: &DeJsonState) {
+    assert!(rt; state.tok == DeJsonTok::Eof && state.cur == '\0');
+}
+
+/// The text is refused, and so is a second read on that state.
+fn front_refused<T: DeJson>(rt: &impl Abort, alloc: Global, text: &str) {
+    holds(rt, refusal::<T>(alloc, text).is_some(), text);
+    let mut input = text.chars();
+    let mut state = first_token(alloc, &mut input);
+    holds(rt, is_refused::<T>(alloc, &mut state, &mut input), text);
+    is_at_the_end(rt, &state);
+    holds(
+        rt,
+        is_refused::<Option<T>>(alloc, &mut state, &mut input),
+        text,
+    );
+}
 
 /// Each proper front of a text that ends where its bracket or its quote closes is refused, and so is
 /// a second read on that state.
 fn fronts_refused<T: DeJson>(rt: &impl Abort, alloc: Global, text: &str) -> Result<(), Fail> {
     let mut front = String::new(alloc);
     for c in text.chars() {
-        assert!(rt; T::deserialize_json(alloc, front.as_str()).is_err());
-        let mut input = front.as_str().chars();
-        let mut state = DeJsonState::new(alloc);
-        state.next(&mut input);
-        let _first = state.next_tok(alloc, &mut input);
-        assert!(rt; T::de_json(alloc, &mut state, &mut input).is_err());
-        assert!(rt; state.tok == DeJsonTok::Eof && state.cur == '\0');
-        assert!(rt; Option::<T>::de_json(alloc, &mut state, &mut input).is_err());
+        front_refused::<T>(rt, alloc, front.as_str());
         front.push(c)?;
     }
-    assert!(rt; T::deserialize_json(alloc, front.as_str()).is_ok());
+    holds(rt, refusal::<T>(alloc, front.as_str()).is_none(), text);
     Ok(())
 }
 
@@ -63,11 +90,9 @@ fn nothing_begins<T: DeJson>(rt: &impl Abort, alloc: Global) {
         DeJsonTok::Bof,
         DeJsonTok::Eof,
     ] {
-        let mut state = DeJsonState::new(alloc);
-        state.tok = tok;
-        state.cur = '4';
-        assert!(rt; T::de_json(alloc, &mut state, &mut "".chars()).is_err());
-        assert_eq!(rt; (state.tok, state.cur), (DeJsonTok::Eof, '\0'));
+        let mut state = state_with(alloc, tok, '4');
+        holds(rt, is_refused::<T>(alloc, &mut state, &mut "".chars()), "4");
+        is_at_the_end(rt, &state);
     }
 }
 
@@ -99,31 +124,50 @@ fn tokens_that_begin_no_value(rt: HostRuntime) {
     nothing_begins::<Box<u8>>(&rt, alloc);
 }
 
+/// A state with this pending token and this current character.
+fn state_with(alloc: Global, tok: DeJsonTok, cur: char) -> DeJsonState {
+    let mut state = DeJsonState::new(alloc);
+    state.tok = tok;
+    state.cur = cur;
+    state
+}
+
 /// The pending token counts first, whatever the current character is.
 #[test]
-fn pending_tokens_count_first(rt: HostRuntime) -> Result<(), Fail> {
+fn pending_numbers_count_first(rt: HostRuntime) {
     let alloc = rt.alloc();
-    let mut state = DeJsonState::new(alloc);
-    state.tok = DeJsonTok::U64(7);
-    state.cur = '@';
-    assert!(rt; u32::de_json(alloc, &mut state, &mut "".chars()).is_err());
-    assert_eq!(rt; (state.tok, state.cur), (DeJsonTok::Eof, '\0'));
+    let mut state = state_with(alloc, DeJsonTok::U64(7), '@');
+    holds(
+        &rt,
+        is_refused::<u32>(alloc, &mut state, &mut "".chars()),
+        "@",
+    );
+    is_at_the_end(&rt, &state);
+}
 
-    // What the characters hold behind a NUL is not read.
-    let mut state = DeJsonState::new(alloc);
-    state.tok = DeJsonTok::U64(7);
+/// What the characters hold behind a NUL is not read.
+#[test]
+fn nothing_behind_nul_is_read(rt: HostRuntime) -> Result<(), Fail> {
+    let alloc = rt.alloc();
+    let mut state = state_with(alloc, DeJsonTok::U64(7), '\0');
     assert_eq!(rt; u32::de_json(alloc, &mut state, &mut "9".chars())?, 7);
     assert_eq!(rt; state.tok, DeJsonTok::Eof);
+    Ok(())
+}
 
-    let mut state = DeJsonState::new(alloc);
-    state.tok = DeJsonTok::BlockOpen;
-    state.cur = '1';
+#[test]
+fn pending_brackets_count_first(rt: HostRuntime) -> Result<(), Fail> {
+    let alloc = rt.alloc();
+    let mut state = state_with(alloc, DeJsonTok::BlockOpen, '1');
     let items = Vec::<u8>::de_json(alloc, &mut state, &mut "]".chars())?;
     assert_eq!(rt; items.as_slice(), [1].as_slice());
+    Ok(())
+}
 
-    let mut state = DeJsonState::new(alloc);
-    state.tok = DeJsonTok::CurlyOpen;
-    state.cur = '1';
+#[test]
+fn pending_curly_brackets_count_first(rt: HostRuntime) -> Result<(), Fail> {
+    let alloc = rt.alloc();
+    let mut state = state_with(alloc, DeJsonTok::CurlyOpen, '1');
     let entries = HashMap::<u8, u8>::de_json(alloc, &mut state, &mut ":2}]".chars())?;
     assert_eq!(rt; entries.len(), 1);
     assert_eq!(rt; state.tok, DeJsonTok::BlockClose);

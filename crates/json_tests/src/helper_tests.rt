@@ -1,5 +1,6 @@
 // What no clause says: that the definitions are the format's, the texts and places of faults, and
 // that calls succeed.
+use crate::checks::is_text;
 use crate::token_tests::{pending, state_of};
 use nano_json::{DeJsonErr, DeJsonState, DeJsonTok, SerJsonState};
 use std::alloc::{AllocError, Global};
@@ -60,43 +61,55 @@ fn answer(alloc: Global, text: &str, taken: usize, name: &str) -> Result<String,
     }
 }
 
+/// Each call answers what stands beside it.
+fn answers(rt: &impl Abort, alloc: Global, rows: &[(&str, usize, &str, &str)]) -> Result<(), Fail> {
+    for (text, taken, name, expected) in rows {
+        is_text(rt, answer(alloc, text, *taken, name)?.as_str(), expected);
+    }
+    Ok(())
+}
+
 #[test]
 fn helpers_take_tokens(rt: HostRuntime) -> Result<(), Fail> {
     let alloc = rt.alloc();
-    let rows = [
-        (": 1", 1, "colon", "U64(1)"),
-        (": 1", 0, "next_colon", "U64(1)"),
-        ("\"a\" \"b\"", 1, "string", "Str b"),
-        ("[1.5", 1, "block_open", "F64 1.5"),
-        ("]", 1, "block_close", "Eof"),
-        ("{{", 1, "curly_open", "CurlyOpen"),
-        ("}true", 1, "curly_close", "Bool(true)"),
-        (", -1", 1, "eat_comma_block", "I64(-1)"),
-        ("] 1", 1, "eat_comma_block", "BlockClose"),
-        (", null", 1, "eat_comma_curly", "Null"),
-        ("} 1", 1, "eat_comma_curly", "CurlyClose"),
-        ("[},", 1, "whole_field", "Comma"),
-        ("{\"a\":[1,{}],\"b\":2}]", 1, "whole_field", "BlockClose"),
-        ("1 2", 1, "whole_field", "U64(2)"),
-        ("\"\"", 1, "whole_field", "Eof"),
-        ("-1,", 1, "whole_field", "Comma"),
-        ("5.,", 1, "whole_field", "Comma"),
-        ("false}", 1, "whole_field", "CurlyClose"),
-        ("null:", 1, "whole_field", "Colon"),
-        ("5", 1, "u64_range", "U64(5)"),
-        ("-5", 1, "i64_range", "I64(-5)"),
-        ("5", 1, "i64_range", "U64(5)"),
-        ("true", 1, "as_bool", "Bool(true)"),
-        ("\"ab\"", 1, "as_string", "Str "),
-    ];
-    for (text, taken, name, expected) in rows {
-        assert_eq!(rt;
-            answer(alloc, text, taken, name)?.as_str(),
-            expected,
-            "{name} at {text}"
-        );
+    answers(
+        &rt,
+        alloc,
+        &[
+            (": 1", 1, "colon", "U64(1)"),
+            (": 1", 0, "next_colon", "U64(1)"),
+            ("\"a\" \"b\"", 1, "string", "Str b"),
+            ("[1.5", 1, "block_open", "F64 1.5"),
+            ("]", 1, "block_close", "Eof"),
+            ("{{", 1, "curly_open", "CurlyOpen"),
+            ("}true", 1, "curly_close", "Bool(true)"),
+            (", -1", 1, "eat_comma_block", "I64(-1)"),
+            ("] 1", 1, "eat_comma_block", "BlockClose"),
+            (", null", 1, "eat_comma_curly", "Null"),
+            ("} 1", 1, "eat_comma_curly", "CurlyClose"),
+            ("[},", 1, "whole_field", "Comma"),
+            ("{\"a\":[1,{}],\"b\":2}]", 1, "whole_field", "BlockClose"),
+            ("1 2", 1, "whole_field", "U64(2)"),
+            ("\"\"", 1, "whole_field", "Eof"),
+            ("-1,", 1, "whole_field", "Comma"),
+            ("5.,", 1, "whole_field", "Comma"),
+            ("false}", 1, "whole_field", "CurlyClose"),
+            ("null:", 1, "whole_field", "Colon"),
+            ("5", 1, "u64_range", "U64(5)"),
+            ("-5", 1, "i64_range", "I64(-5)"),
+            ("5", 1, "i64_range", "U64(5)"),
+            ("true", 1, "as_bool", "Bool(true)"),
+            ("\"ab\"", 1, "as_string", "Str "),
+        ],
+    )
+}
+
+/// The call is refused with this message.
+fn tells(rt: &impl Abort, told: Option<DeJsonErr>, expected: &str) {
+    match told {
+        None => assert!(rt; false, "{expected}"),
+        Some(e) => assert_eq!(rt; e.msg.as_str(), expected),
     }
-    Ok(())
 }
 
 #[test]
@@ -117,34 +130,64 @@ fn values_stay_in_their_range(rt: HostRuntime) -> Result<(), Fail> {
     ];
     for (tok, min, max, expected) in rows {
         state.tok = tok;
-        match state.i64_range(alloc, min, max) {
-            Ok(_value) => assert!(rt; false, "{expected}"),
-            Err(e) => assert_eq!(rt; e.msg.as_str(), expected),
-        }
+        tells(&rt, state.i64_range(alloc, min, max).err(), expected);
     }
     state.tok = DeJsonTok::U64(4);
-    match state.u64_range(alloc, 3) {
-        Ok(_value) => assert!(rt; false),
-        Err(e) => assert_eq!(rt; e.msg.as_str(), "Value out of range 4>3 "),
-    }
+    tells(
+        &rt,
+        state.u64_range(alloc, 3).err(),
+        "Value out of range 4>3 ",
+    );
     assert_eq!(rt; state.u64_range(alloc, 4)?, 4);
     state.tok = DeJsonTok::I64(i64::MIN);
     assert_eq!(rt; state.i64_range(alloc, i64::MIN, i64::MAX)?, i64::MIN);
     Ok(())
 }
 
+/// A state behind the only token of a text, which is the string "ab".
+fn behind_a_string(alloc: Global) -> Result<DeJsonState, DeJsonErr> {
+    let mut input = "\"ab\"".chars();
+    let mut state = state_of(alloc, &mut input);
+    state.next_tok(alloc, &mut input)?;
+    Ok(state)
+}
+
 #[test]
 fn strings_are_moved_out(rt: HostRuntime) -> Result<(), Fail> {
     let alloc = rt.alloc();
-    let mut input = "\"ab\"".chars();
-    let mut state = state_of(alloc, &mut input);
-    assert_eq!(rt; state.next_str(), None);
-    state.next_tok(alloc, &mut input)?;
-    assert_eq!(rt; state.next_str(), Some(()));
-    assert_eq!(rt; state.as_string(alloc)?.as_str(), "ab");
-    assert_eq!(rt; state.as_string(alloc)?.as_str(), "");
+    let mut state = behind_a_string(alloc)?;
+    is_text(&rt, state.as_string(alloc)?.as_str(), "ab");
+    is_text(&rt, state.as_string(alloc)?.as_str(), "");
     assert_eq!(rt; state.tok, DeJsonTok::Str);
     assert!(rt; state.as_bool(alloc).is_err());
+    Ok(())
+}
+
+#[test]
+fn strings_are_next(rt: HostRuntime) -> Result<(), Fail> {
+    let alloc = rt.alloc();
+    assert_eq!(rt; state_of(alloc, &mut "\"ab\"".chars()).next_str(), None);
+    assert_eq!(rt; behind_a_string(alloc)?.next_str(), Some(()));
+    Ok(())
+}
+
+/// The error tells this in the third line and the last column, and is printed so, as is its clone.
+fn says_where(rt: &impl Abort, alloc: Global, e: &DeJsonErr, expected: &str) -> Result<(), Fail> {
+    assert_eq!(rt;
+        (e.msg.as_str(), e.line, e.col, e.memory),
+        (expected, 2, usize::MAX, false)
+    );
+    let printed = format!(in alloc;
+        "Json Deserialize error: {expected}, line:3 col:18446744073709551615"
+    )?;
+    is_text(rt, format!(in alloc; "{e}")?.as_str(), printed.as_str());
+    let again = e.clone(alloc)?;
+    is_text(
+        rt,
+        format!(in alloc; "{again:?}")?.as_str(),
+        printed.as_str(),
+    );
+    assert_eq!(rt; again.memory, false);
     Ok(())
 }
 
@@ -167,19 +210,8 @@ fn errors_say_where(rt: HostRuntime) -> Result<(), Fail> {
         (state.err_type(alloc, "x"), "Token wrong type x "),
         (state.err_parse(alloc, "x"), "Cannot parse x "),
     ];
-    for (e, expected) in rows {
-        assert_eq!(rt;
-            (e.msg.as_str(), e.line, e.col, e.memory),
-            (expected, 2, usize::MAX, false)
-        );
-        let shown = format!(in alloc; "{e}")?;
-        let expected = format!(in alloc;
-            "Json Deserialize error: {expected}, line:3 col:18446744073709551615"
-        )?;
-        assert_eq!(rt; shown.as_str(), expected.as_str());
-        let again = e.clone(alloc)?;
-        assert_eq!(rt; format!(in alloc; "{again:?}")?.as_str(), expected.as_str());
-        assert_eq!(rt; again.memory, false);
+    for (e, expected) in &rows {
+        says_where(&rt, alloc, e, expected)?;
     }
     Ok(())
 }
@@ -231,6 +263,46 @@ fn wants_memory(rt: &impl Abort, e: &DeJsonErr) -> bool {
     e.memory
 }
 
+/// A call behind one token of a text answers, or wants memory and leaves the end.
+fn wants_memory_or_answers(rt: &impl Abort, alloc: Global, text: &str, name: &str) {
+    let mut input = text.chars();
+    let mut state = state_of(alloc, &mut input);
+    match state.next_tok(alloc, &mut input) {
+        Ok(()) => {
+            if let Err(e) = call(alloc, &mut state, &mut input, name) {
+                assert!(rt; wants_memory(rt, &e), "{name} at {text}");
+                assert_eq!(rt; (state.tok, state.cur), (DeJsonTok::Eof, '\0'));
+            }
+        }
+        Err(e) => assert!(rt; wants_memory(rt, &e), "{text}"),
+    }
+}
+
+/// A call behind one token of a text is refused with this message, or wants memory.
+fn wants_memory_or_tells(rt: &impl Abort, alloc: Global, text: &str, name: &str, expected: &str) {
+    let mut input = text.chars();
+    let mut state = state_of(alloc, &mut input);
+    match state.next_tok(alloc, &mut input) {
+        Ok(()) => match call(alloc, &mut state, &mut input, name) {
+            Ok(()) => assert!(rt; false, "{name} at {text}"),
+            Err(e) => assert!(rt;
+                wants_memory(rt, &e) || e.msg.as_str() == expected,
+                "{name} at {text}"
+            ),
+        },
+        Err(e) => assert!(rt; wants_memory(rt, &e), "{text}"),
+    }
+}
+
+/// The error tells this, or wants memory, and a clone is like it.
+fn is_made(rt: &impl Abort, alloc: Global, e: &DeJsonErr, expected: &str) {
+    assert!(rt; wants_memory(rt, e) || e.msg.as_str() == expected);
+    if let Ok(again) = e.clone(alloc) {
+        assert_eq!(rt; again.memory, e.memory);
+        assert!(rt; again.msg.as_str() == e.msg.as_str());
+    }
+}
+
 // With each allocation refused in turn, a call answers want of memory, or as it does with ample memory.
 #[test]
 fn no_refused_growth_is_told_as_another_fault(rt: HostRuntime) {
@@ -253,18 +325,13 @@ fn no_refused_growth_is_told_as_another_fault(rt: HostRuntime) {
         ("1 \"abc\"", "next_tok"),
     ];
     for (text, name) in taken {
-        let mut input = text.chars();
-        let mut state = state_of(alloc, &mut input);
-        match state.next_tok(alloc, &mut input) {
-            Ok(()) => {
-                if let Err(e) = call(alloc, &mut state, &mut input, name) {
-                    assert!(rt; wants_memory(&rt, &e), "{name} at {text}");
-                    assert_eq!(rt; (state.tok, state.cur), (DeJsonTok::Eof, '\0'));
-                }
-            }
-            Err(e) => assert!(rt; wants_memory(&rt, &e), "{text}"),
-        }
+        wants_memory_or_answers(&rt, alloc, text, name);
     }
+}
+
+#[test]
+fn no_refused_growth_hides_a_fault(rt: HostRuntime) {
+    let alloc = rt.alloc();
     let refused = [
         (",", "colon", "Unexpected token Comma expected : "),
         (", 1", "next_colon", "Unexpected token U64(1) expected : "),
@@ -302,19 +369,13 @@ fn no_refused_growth_is_told_as_another_fault(rt: HostRuntime) {
         ("1 \"a", "next_tok", "Cannot parse string "),
     ];
     for (text, name, expected) in refused {
-        let mut input = text.chars();
-        let mut state = state_of(alloc, &mut input);
-        match state.next_tok(alloc, &mut input) {
-            Ok(()) => match call(alloc, &mut state, &mut input, name) {
-                Ok(()) => assert!(rt; false, "{name} at {text}"),
-                Err(e) => assert!(rt;
-                    wants_memory(&rt, &e) || e.msg.as_str() == expected,
-                    "{name} at {text}"
-                ),
-            },
-            Err(e) => assert!(rt; wants_memory(&rt, &e), "{text}"),
-        }
+        wants_memory_or_tells(&rt, alloc, text, name, expected);
     }
+}
+
+#[test]
+fn no_refused_growth_is_another_error(rt: HostRuntime) {
+    let alloc = rt.alloc();
     let state = DeJsonState::new(alloc);
     let made = [
         (state.err_exp(alloc, "k"), "Unexpected key k"),
@@ -328,11 +389,7 @@ fn no_refused_growth_is_told_as_another_fault(rt: HostRuntime) {
         (state.err_type(alloc, "x"), "Token wrong type x "),
         (state.err_parse(alloc, "x"), "Cannot parse x "),
     ];
-    for (e, expected) in made {
-        assert!(rt; wants_memory(&rt, &e) || e.msg.as_str() == expected);
-        if let Ok(again) = e.clone(alloc) {
-            assert_eq!(rt; again.memory, e.memory);
-            assert!(rt; again.msg.as_str() == e.msg.as_str());
-        }
+    for (e, expected) in &made {
+        is_made(&rt, alloc, e, expected);
     }
 }

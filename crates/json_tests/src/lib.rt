@@ -5,6 +5,8 @@
 #[cfg(test)]
 mod bound_tests;
 #[cfg(test)]
+mod checks;
+#[cfg(test)]
 mod container_tests;
 #[cfg(test)]
 mod fault_tests;

@@ -1,7 +1,9 @@
 // What no clause of the readers says: that they succeed, that the definitions are the format's, and
 // the texts of faults.
+use crate::checks::{all_refused, is_text, refused_with, values};
 use nano_json::{DeJson, DeJsonErr};
 use std::alloc::{AllocError, Global};
+use std::process::Abort;
 use std::test::Fail;
 
 /// The answer for a list of small numbers, written plainly, or the fault's message.
@@ -18,133 +20,146 @@ fn numbers_in(alloc: Global, read: Result<Vec<u8>, DeJsonErr>) -> Result<String,
     }
 }
 
+/// The answer for each text is what stands beside it.
+fn all_are(rt: &impl Abort, alloc: Global, rows: &[(&str, &str)]) -> Result<(), Fail> {
+    for (text, expected) in rows {
+        let read = Vec::<u8>::deserialize_json(alloc, text);
+        is_text(rt, numbers_in(alloc, read)?.as_str(), expected);
+    }
+    Ok(())
+}
+
 #[test]
 fn lists_of_numbers(rt: HostRuntime) -> Result<(), Fail> {
     let alloc = rt.alloc();
-    let rows = [
-        ("[1,2,]", "1;2;"),
-        ("[1,2]", "1;2;"),
-        (" [ 1 , 2 ] ", "1;2;"),
-        ("[]", ""),
-        ("[1,] 2", "1;"),
-        ("[1]true", "1;"),
-        ("[1]]", "1;"),
-        ("[1,]\0@", "1;"),
-        ("[,]", "Unexpected token Comma expected unsigned integer "),
-        (
-            "[1,,2]",
-            "Unexpected token Comma expected unsigned integer ",
-        ),
-        ("[1 2]", "Unexpected token U64(2) expected , or ] "),
-        ("[1", "Unexpected token Eof expected , or ] "),
-        ("1", "Unexpected token U64(1) expected [ "),
-        ("", "Unexpected token Eof expected [ "),
-        ("[256,,", "Value out of range 256>255 "),
-        ("[1] @", "Unexpected token BlockClose expected tokenizer "),
-        ("[1]\"", "Cannot parse string "),
-        ("[1] -", "Cannot parse number "),
-        (
-            "[1]tru",
-            "Unexpected token BareIdent expected Got ##tru## needed true, false, null ",
-        ),
-    ];
-    for (text, expected) in rows {
-        let read = Vec::<u8>::deserialize_json(alloc, text);
-        assert_eq!(rt; numbers_in(alloc, read)?.as_str(), expected, "at {text}");
-    }
-    Ok(())
+    all_are(
+        &rt,
+        alloc,
+        &[
+            ("[1,2,]", "1;2;"),
+            ("[1,2]", "1;2;"),
+            (" [ 1 , 2 ] ", "1;2;"),
+            ("[]", ""),
+            ("[1,] 2", "1;"),
+            ("[1]true", "1;"),
+            ("[1]]", "1;"),
+            ("[1,]\0@", "1;"),
+            ("[,]", "Unexpected token Comma expected unsigned integer "),
+            (
+                "[1,,2]",
+                "Unexpected token Comma expected unsigned integer ",
+            ),
+            ("[1 2]", "Unexpected token U64(2) expected , or ] "),
+            ("[1", "Unexpected token Eof expected , or ] "),
+            ("1", "Unexpected token U64(1) expected [ "),
+            ("", "Unexpected token Eof expected [ "),
+            ("[256,,", "Value out of range 256>255 "),
+            ("[1] @", "Unexpected token BlockClose expected tokenizer "),
+            ("[1]\"", "Cannot parse string "),
+            ("[1] -", "Cannot parse number "),
+            (
+                "[1]tru",
+                "Unexpected token BareIdent expected Got ##tru## needed true, false, null ",
+            ),
+        ],
+    )
 }
 
 #[test]
 fn numbers_in_their_ranges(rt: HostRuntime) -> Result<(), Fail> {
     let alloc = rt.alloc();
-    assert_eq!(rt; u8::deserialize_json(alloc, "+5")?, 5);
-    assert_eq!(rt; u8::deserialize_json(alloc, "007")?, 7);
-    assert_eq!(rt; u16::deserialize_json(alloc, "65535")?, 65535);
-    assert_eq!(rt; u32::deserialize_json(alloc, "42 43")?, 42);
-    assert_eq!(rt; u32::deserialize_json(alloc, "42]")?, 42);
-    assert_eq!(rt; u32::deserialize_json(alloc, "42\0@")?, 42);
-    assert_eq!(rt; usize::deserialize_json(alloc, "42")?, 42);
-    assert_eq!(rt;
-        u64::deserialize_json(alloc, "18446744073709551615")?,
-        u64::MAX
+    values(&rt, alloc, &[("+5", 5u8), ("007", 7)])?;
+    values(&rt, alloc, &[("65535", 65535u16)])?;
+    values(&rt, alloc, &[("42 43", 42u32), ("42]", 42), ("42\0@", 42)])?;
+    values(&rt, alloc, &[("42", 42usize)])?;
+    values(&rt, alloc, &[("18446744073709551615", u64::MAX)])?;
+    values(&rt, alloc, &[("-128", -128i8)])?;
+    values(&rt, alloc, &[("-5", -5i16)])?;
+    values(&rt, alloc, &[("-0", 0i32)])?;
+    values(&rt, alloc, &[("-9223372036854775808", i64::MIN)])
+}
+
+#[test]
+fn numbers_out_of_their_ranges(rt: HostRuntime) {
+    let alloc = rt.alloc();
+    all_refused::<u32>(
+        &rt,
+        alloc,
+        &[
+            "42 @",
+            "",
+            "1e+2",
+            "-0",
+            "-",
+            "+",
+            "1.",
+            "true",
+            "4294967296",
+        ],
     );
-    assert_eq!(rt; i8::deserialize_json(alloc, "-128")?, -128);
-    assert_eq!(rt; i16::deserialize_json(alloc, "-5")?, -5);
-    assert_eq!(rt; i32::deserialize_json(alloc, "-0")?, 0);
-    assert_eq!(rt;
-        i64::deserialize_json(alloc, "-9223372036854775808")?,
-        i64::MIN
+    all_refused::<u64>(&rt, alloc, &["18446744073709551616"]);
+    all_refused::<i64>(&rt, alloc, &["-9223372036854775809"]);
+    refused_with::<i64>(
+        &rt,
+        alloc,
+        &[(
+            "18446744073709551615",
+            "Value out of range 18446744073709551615>9223372036854775807 ",
+        )],
     );
-    let refused = [
-        "42 @",
-        "",
-        "1e+2",
-        "-0",
-        "-",
-        "+",
-        "1.",
-        "true",
-        "4294967296",
-    ];
-    for text in refused {
-        assert!(rt; u32::deserialize_json(alloc, text).is_err(), "at {text}");
-    }
-    assert!(rt; u64::deserialize_json(alloc, "18446744073709551616").is_err());
-    assert!(rt; i64::deserialize_json(alloc, "-9223372036854775809").is_err());
-    match i64::deserialize_json(alloc, "18446744073709551615") {
-        Ok(_value) => assert!(rt; false),
-        Err(error) => assert_eq!(rt;
-            error.msg.as_str(),
-            "Value out of range 18446744073709551615>9223372036854775807 "
-        ),
-    }
+}
+
+#[test]
+fn words_and_options(rt: HostRuntime) -> Result<(), Fail> {
+    let alloc = rt.alloc();
+    values(&rt, alloc, &[("true1", true), (" false", false)])?;
+    all_refused::<bool>(&rt, alloc, &["1"]);
+    values(&rt, alloc, &[("null", ())])?;
+    all_refused::<()>(&rt, alloc, &["nul"]);
+    values(&rt, alloc, &[("null", None), ("5", Some(5u8))])?;
+    values(&rt, alloc, &[("5", Some(Some(5u8))), ("null", None)])?;
+    values(&rt, alloc, &[("null", None::<()>)])?;
+    values(&rt, alloc, &[("7", Box::new(alloc, 7u8)?)])
+}
+
+#[test]
+fn texts(rt: HostRuntime) -> Result<(), Fail> {
+    let alloc = rt.alloc();
+    let text = String::from_str(alloc, "\n\t \u{c}\u{8}\\\"/😋\r")?;
+    let lexeme = "\"\\n\\t\\u0020\\f\\b\\\\\\\"\\/\\ud83d\\uDE0B\\r\"";
+    values(&rt, alloc, &[(lexeme, text)])?;
+    all_refused::<String>(
+        &rt,
+        alloc,
+        &["\"\\ud83d\"", "\"\\udc00\"", "\"\\ud83d\\n\"", "\"ab", "1"],
+    );
     Ok(())
 }
 
 #[test]
-fn words_texts_and_options(rt: HostRuntime) -> Result<(), Fail> {
+fn lists_of_options_and_lists(rt: HostRuntime) -> Result<(), Fail> {
     let alloc = rt.alloc();
-    assert!(rt; bool::deserialize_json(alloc, "true1")?);
-    assert!(rt; !bool::deserialize_json(alloc, " false")?);
-    assert!(rt; bool::deserialize_json(alloc, "1").is_err());
-    assert!(rt; <()>::deserialize_json(alloc, "null").is_ok());
-    assert!(rt; <()>::deserialize_json(alloc, "nul").is_err());
-    assert!(rt; Option::<u8>::deserialize_json(alloc, "null")?.is_none());
-    assert_eq!(rt; Option::<u8>::deserialize_json(alloc, "5")?, Some(5));
-    assert_eq!(rt;
-        Option::<Option<u8>>::deserialize_json(alloc, "5")?,
-        Some(Some(5))
-    );
-    assert!(rt; Option::<Option<u8>>::deserialize_json(alloc, "null")?.is_none());
-    assert!(rt; Option::<()>::deserialize_json(alloc, "null")?.is_none());
-    assert_eq!(rt; *Box::<u8>::deserialize_json(alloc, "7")?, 7);
-    let text = String::deserialize_json(
+    values(
+        &rt,
         alloc,
-        "\"\\n\\t\\u0020\\f\\b\\\\\\\"\\/\\ud83d\\uDE0B\\r\"",
+        &[("[null,3,]", vec![in alloc; None, Some(3u8)]?)],
     )?;
-    assert_eq!(rt; text.as_str(), "\n\t \u{c}\u{8}\\\"/😋\r");
-    for text in ["\"\\ud83d\"", "\"\\udc00\"", "\"\\ud83d\\n\"", "\"ab", "1"] {
-        assert!(rt; String::deserialize_json(alloc, text).is_err(), "at {text}");
-    }
-    let options = Vec::<Option<u8>>::deserialize_json(alloc, "[null,3,]")?;
-    assert_eq!(rt; options.len(), 2);
-    assert_eq!(rt; (options[0], options[1]), (None, Some(3)));
-    let lists = Vec::<Vec<u8>>::deserialize_json(alloc, "[[],[1],]")?;
-    assert_eq!(rt; lists.len(), 2);
-    assert_eq!(rt; (lists[0].len(), lists[1].len()), (0, 1));
-    assert!(rt; Vec::<Vec<u8>>::deserialize_json(alloc, "[[1],,]").is_err());
+    let one = vec![in alloc; 1u8]?;
+    values(
+        &rt,
+        alloc,
+        &[("[[],[1],]", vec![in alloc; Vec::new(alloc), one]?)],
+    )?;
+    all_refused::<Vec<Vec<u8>>>(&rt, alloc, &["[[1],,]"]);
     Ok(())
 }
 
 #[test]
 fn arrays_of_a_count(rt: HostRuntime) -> Result<(), Fail> {
     let alloc = rt.alloc();
-    assert_eq!(rt; <[u8; 2]>::deserialize_json(alloc, "[1,2]")?, [1, 2]);
-    assert_eq!(rt; <[u8; 2]>::deserialize_json(alloc, "[1,2,]")?, [1, 2]);
-    assert!(rt; <[u8; 2]>::deserialize_json(alloc, "[1]").is_err());
-    assert!(rt; <[u8; 2]>::deserialize_json(alloc, "[1,2,3]").is_err());
-    assert!(rt; <[u8; 0]>::deserialize_json(alloc, "[]").is_ok());
-    assert!(rt; <[u8; 0]>::deserialize_json(alloc, "[,]").is_err());
+    values(&rt, alloc, &[("[1,2]", [1u8, 2]), ("[1,2,]", [1, 2])])?;
+    all_refused::<[u8; 2]>(&rt, alloc, &["[1]", "[1,2,3]"]);
+    values(&rt, alloc, &[("[]", [0u8; 0])])?;
+    all_refused::<[u8; 0]>(&rt, alloc, &["[,]"]);
     Ok(())
 }

@@ -1,4 +1,5 @@
 // What no clause of the writers says: that they succeed, and that the definitions are the format's.
+use crate::checks::{is_text, text_of, values};
 use nano_json::{BothJson, DeJson, SerJson, SerJsonState, laws};
 use std::alloc::Global;
 use std::collections::{BTreeSet, HashMap, HashSet, LinkedList};
@@ -8,26 +9,24 @@ use std::test::Fail;
 /// Each value is written as that text.
 fn written<T: SerJson>(rt: &impl Abort, alloc: Global, rows: &[(T, &str)]) -> Result<(), Fail> {
     for (value, expected) in rows {
-        assert_eq!(rt; value.serialize_json(alloc)?.as_str(), *expected);
+        is_text(rt, text_of(alloc, value)?.as_str(), expected);
     }
     Ok(())
+}
+
+/// What the value of a text is written as, and what the value that is read back from there is.
+fn texts_of<T: BothJson>(alloc: Global, text: &str) -> Result<(String, String), Fail> {
+    let value = T::deserialize_json(alloc, text)?;
+    let again = laws::read_back(alloc, &value)?;
+    Ok((text_of(alloc, &value)?, text_of(alloc, &again)?))
 }
 
 /// Each text is read, and then written as that other text.
 fn normal<T: BothJson>(rt: &impl Abort, alloc: Global, rows: &[(&str, &str)]) -> Result<(), Fail> {
     for (text, expected) in rows {
-        let value = T::deserialize_json(alloc, text)?;
-        assert_eq!(rt;
-            value.serialize_json(alloc)?.as_str(),
-            *expected,
-            "at {text}"
-        );
-        let again = laws::read_back(alloc, &value)?;
-        assert_eq!(rt;
-            again.serialize_json(alloc)?.as_str(),
-            *expected,
-            "at {text}"
-        );
+        let (written, again) = texts_of::<T>(alloc, text)?;
+        is_text(rt, written.as_str(), expected);
+        is_text(rt, again.as_str(), expected);
     }
     Ok(())
 }
@@ -53,11 +52,14 @@ fn unsigned_numbers_are_written(rt: HostRuntime) -> Result<(), Fail> {
 #[test]
 fn signed_numbers_are_written(rt: HostRuntime) -> Result<(), Fail> {
     let alloc = rt.alloc();
-    let wide = [
-        (i64::MIN, "-9223372036854775808"),
-        (i64::MAX, "9223372036854775807"),
-    ];
-    written(&rt, alloc, &wide)?;
+    written(
+        &rt,
+        alloc,
+        &[
+            (i64::MIN, "-9223372036854775808"),
+            (i64::MAX, "9223372036854775807"),
+        ],
+    )?;
     written(&rt, alloc, &[(i8::MIN, "-128"), (0, "0"), (127, "127")])?;
     written(&rt, alloc, &[(i16::MIN, "-32768")])?;
     written(&rt, alloc, &[(i32::MIN, "-2147483648"), (-1, "-1")])
@@ -77,6 +79,16 @@ fn words_and_options_are_written(rt: HostRuntime) -> Result<(), Fail> {
     )
 }
 
+/// Texts, and how they are written.
+const ESCAPED: &[(&str, &str)] = &[
+    ("", "\"\""),
+    ("abc", "\"abc\""),
+    ("ab\"cd", "\"ab\\\"cd\""),
+    ("\\", "\"\\\\\""),
+    ("\u{7f}", "\"\\u007f\""),
+    ("a\u{e9}\u{1f60b}/\u{80}", "\"a\u{e9}\u{1f60b}/\u{80}\""),
+];
+
 #[test]
 fn strings_are_written_with_escapes(rt: HostRuntime) -> Result<(), Fail> {
     let alloc = rt.alloc();
@@ -86,21 +98,12 @@ fn strings_are_written_with_escapes(rt: HostRuntime) -> Result<(), Fail> {
     }
     let expected =
         "\"\\u0000\\u0001\\u0002\\u0003\\u0004\\u0005\\u0006\\u0007\\b\\t\\n\\u000b\\f\\r\\u000e\\u000f\\u0010\\u0011\\u0012\\u0013\\u0014\\u0015\\u0016\\u0017\\u0018\\u0019\\u001a\\u001b\\u001c\\u001d\\u001e\\u001f \"";
-    assert_eq!(rt; low.serialize_json(alloc)?.as_str(), expected);
-    let rows = [
-        ("", "\"\""),
-        ("abc", "\"abc\""),
-        ("ab\"cd", "\"ab\\\"cd\""),
-        ("\\", "\"\\\\\""),
-        ("\u{7f}", "\"\\u007f\""),
-        ("a\u{e9}\u{1f60b}/\u{80}", "\"a\u{e9}\u{1f60b}/\u{80}\""),
-    ];
-    written(&rt, alloc, &rows)?;
-    for (text, expected) in rows {
+    is_text(&rt, text_of(alloc, &low)?.as_str(), expected);
+    written(&rt, alloc, ESCAPED)?;
+    for (text, lexeme) in ESCAPED {
         let owned = String::from_str(alloc, text)?;
-        assert_eq!(rt; owned.serialize_json(alloc)?.as_str(), expected);
-        let back = String::deserialize_json(alloc, expected)?;
-        assert_eq!(rt; back.as_str(), text);
+        is_text(&rt, text_of(alloc, &owned)?.as_str(), lexeme);
+        values(&rt, alloc, &[(lexeme, owned)])?;
     }
     Ok(())
 }
@@ -135,10 +138,16 @@ fn slices_are_written(rt: HostRuntime) -> Result<(), Fail> {
 #[test]
 fn maps_and_sets_are_read_and_written(rt: HostRuntime) -> Result<(), Fail> {
     let alloc = rt.alloc();
-    let truths = [("{2:true,1:false}", "{1:false,2:true}"), ("{}", "{}")];
-    normal::<HashMap<u8, bool>>(&rt, alloc, &truths)?;
-    let named = [("{\"b\":1,\"a\":2,\"b\":3,}", "{\"a\":2,\"b\":3}")];
-    normal::<HashMap<String, i32>>(&rt, alloc, &named)?;
+    normal::<HashMap<u8, bool>>(
+        &rt,
+        alloc,
+        &[("{2:true,1:false}", "{1:false,2:true}"), ("{}", "{}")],
+    )?;
+    normal::<HashMap<String, i32>>(
+        &rt,
+        alloc,
+        &[("{\"b\":1,\"a\":2,\"b\":3,}", "{\"a\":2,\"b\":3}")],
+    )?;
     normal::<HashSet<i32>>(&rt, alloc, &[("[3,1,3]", "[1,3]")])?;
     normal::<BTreeSet<i32>>(&rt, alloc, &[("[3,1,3]", "[1,3]")])
 }
@@ -148,19 +157,21 @@ fn tuples_are_read_and_written(rt: HostRuntime) -> Result<(), Fail> {
     let alloc = rt.alloc();
     normal::<(u8, u8)>(&rt, alloc, &[("[1,2,]", "[1,2]")])?;
     normal::<(u8, String)>(&rt, alloc, &[("[1,\"a\\n\",]", "[1,\"a\\n\"]")])?;
-    let three = [("[1,\"a\\n\",true]", "[1,\"a\\n\",true]")];
-    normal::<(u8, String, bool)>(&rt, alloc, &three)?;
+    normal::<(u8, String, bool)>(&rt, alloc, &[("[1,\"a\\n\",true]", "[1,\"a\\n\",true]")])?;
     normal::<(u8, i8, (), Option<u8>)>(&rt, alloc, &[("[1,-0,null,null]", "[1,0,null,null]")])
 }
 
 #[test]
 fn nested_types_are_read_and_written(rt: HostRuntime) -> Result<(), Fail> {
     let alloc = rt.alloc();
-    let rows = [(
-        "{[2,true]:[[\"b\",\"a\"]],[1,false]:[]}",
-        "{[1,false]:[],[2,true]:[[\"a\",\"b\"]]}",
-    )];
-    normal::<HashMap<(u8, bool), Vec<HashSet<String>>>>(&rt, alloc, &rows)
+    normal::<HashMap<(u8, bool), Vec<HashSet<String>>>>(
+        &rt,
+        alloc,
+        &[(
+            "{[2,true]:[[\"b\",\"a\"]],[1,false]:[]}",
+            "{[1,false]:[],[2,true]:[[\"a\",\"b\"]]}",
+        )],
+    )
 }
 
 #[test]

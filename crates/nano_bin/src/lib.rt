@@ -24,16 +24,3 @@ mod unsigned;
 pub use append::append_part;
 pub use bin_bytes::{DeBinErr, DeBinKind};
 pub use traits::{BinFormat, BothBin, DeBin, SerBin};
-
-#[cfg(test)]
-mod tests;
-#[cfg(test)]
-mod tests_large;
-#[cfg(test)]
-mod tests_laws;
-#[cfg(test)]
-mod tests_maps;
-#[cfg(test)]
-mod tests_memory;
-#[cfg(test)]
-mod tests_types;

@@ -21,10 +21,3 @@ pub use number::{Fault, Number, read_number};
 pub use place::Place;
 pub use string::read_string;
 pub use written::{Escaping, append_characters};
-
-#[cfg(test)]
-mod tests;
-#[cfg(test)]
-mod tests_calls;
-#[cfg(test)]
-mod tests_written;

@@ -21,10 +21,3 @@ pub use error::TomlErr;
 pub use parser::TomlParser;
 pub use token::TomlTok;
 pub use value::Toml;
-
-#[cfg(test)]
-mod law_tests;
-#[cfg(test)]
-mod list_tests;
-#[cfg(test)]
-mod tests;

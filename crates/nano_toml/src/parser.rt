@@ -118,10 +118,3 @@ impl TomlParser {
         }
     }
 }
-
-#[cfg(test)]
-mod fault_tests;
-#[cfg(test)]
-mod large_tests;
-#[cfg(test)]
-mod tests;

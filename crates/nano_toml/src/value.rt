@@ -259,6 +259,3 @@ impl Toml {
         }
     }
 }
-
-#[cfg(test)]
-mod tests;

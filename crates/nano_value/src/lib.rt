@@ -21,6 +21,3 @@ mod value;
 
 pub use ordered::{entries_in_order, items_in_order};
 pub use value::{Key, OrderedKey, Value};
-
-#[cfg(test)]
-mod tests;

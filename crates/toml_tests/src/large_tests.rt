@@ -1,6 +1,6 @@
 //! Large texts.
 
-use crate::{Toml, TomlParser};
+use nano_toml::{Toml, TomlParser};
 use std::alloc::Global;
 use std::test::Fail;
 

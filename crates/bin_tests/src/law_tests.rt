@@ -1,5 +1,5 @@
 // Laws and small calls, each made once.
-use crate::{DeBinKind, laws};
+use nano_bin::{DeBinKind, laws};
 use std::collections::{BTreeSet, HashSet};
 use std::test::Fail;
 

@@ -1,5 +1,5 @@
 // Digits, characters with escapes, and a text that is cut back.
-use crate::{Escaping, append_characters, append_signed, append_unsigned, keep_written};
+use nano_text::{Escaping, append_characters, append_signed, append_unsigned, keep_written};
 use std::alloc::AllocError;
 use std::test::Fail;
 

@@ -1,5 +1,5 @@
 // Values of many items are written and read back, and counts that are cut short are told.
-use crate::{BothBin, DeBin, DeBinKind};
+use nano_bin::{BothBin, DeBin, DeBinKind};
 use std::alloc::Global;
 use std::collections::{BTreeSet, HashMap, HashSet, LinkedList};
 use std::process::Abort;

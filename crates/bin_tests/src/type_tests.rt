@@ -1,20 +1,28 @@
 // Each type of the crate once through its bound, and what each container hands on of a part's
 // refusal.
-use crate::{BothBin, DeBin, DeBinKind, SerBin};
-use std::alloc::Global;
+use crate::checks::{is_back, is_refused, reads, refusal};
+use nano_bin::{BothBin, DeBin, DeBinKind, SerBin};
+use std::alloc::{AllocError, Global};
 use std::collections::{BTreeSet, HashMap, HashSet, LinkedList};
 use std::process::Abort;
 use std::test::Fail;
 
-/// The value is written behind what stands there, and read back from there.
-fn back<T: BothBin + PartialEq>(rt: &impl Abort, alloc: Global, value: &T) -> Result<(), Fail> {
+/// The code of a value between two bytes that stand there.
+fn code_between<T: SerBin>(alloc: Global, value: &T) -> Result<Vec<u8>, AllocError> {
     let mut code = vec![in alloc; 255u8]?;
     value.ser_bin(alloc, &mut code)?;
-    let length = code.len();
     code.push(255)?;
-    let mut offset = 1;
-    assert!(rt; T::de_bin(alloc, &mut offset, &code)? == *value);
-    assert_eq!(rt; offset, length);
+    Ok(code)
+}
+
+/// The value is written behind what stands there, and read back from there.
+fn back<T: BothBin + PartialEq>(rt: &impl Abort, alloc: Global, value: &T) -> Result<(), Fail> {
+    let code = code_between(alloc, value)?;
+    is_back(
+        rt,
+        reads(alloc, value, 1, &code)?,
+        code.len().saturating_sub(1),
+    );
     Ok(())
 }
 
@@ -75,6 +83,12 @@ fn other_types(rt: HostRuntime) -> Result<(), Fail> {
     all_back(&rt, alloc, &texts)?;
     all_back(&rt, alloc, &vec![in alloc; texts]?)?;
     all_back(&rt, alloc, &vec![in alloc; Some(5u8), None]?)?;
+    Ok(())
+}
+
+#[test]
+fn types_of_parts(rt: HostRuntime) -> Result<(), Fail> {
+    let alloc = rt.alloc();
     all_back(&rt, alloc, &vec![in alloc; [1u16, 2], [3, 4]]?)?;
     all_back(
         &rt,
@@ -92,80 +106,104 @@ fn other_types(rt: HostRuntime) -> Result<(), Fail> {
         alloc,
         &vec![in alloc; (1u8, true, 3i16, 4u64), (2, false, -3, 5)]?,
     )?;
-    let mut linked = LinkedList::new(alloc);
-    linked.push_back(1u16)?;
-    linked.push_back(2)?;
-    all_back(&rt, alloc, &vec![in alloc; linked, LinkedList::new(alloc)]?)?;
-    let mut hashed = HashSet::new(alloc);
-    hashed.insert(1u8)?;
-    hashed.insert(2)?;
-    all_back(&rt, alloc, &vec![in alloc; hashed, HashSet::new(alloc)]?)?;
-    let mut ordered = BTreeSet::new(alloc);
-    ordered.insert(1u8)?;
-    ordered.insert(2)?;
-    all_back(&rt, alloc, &vec![in alloc; ordered, BTreeSet::new(alloc)]?)?;
-    let mut map = HashMap::new(alloc);
-    map.insert(1u8, true)?;
-    map.insert(2, false)?;
-    all_back(&rt, alloc, &vec![in alloc; map, HashMap::new(alloc)]?)?;
-    Ok(())
-}
-
-/// The text of one byte 255 that stands at `place` is the fault, whatever stands around it.
-fn hands_on<T: DeBin>(
-    rt: &impl Abort,
-    alloc: Global,
-    front: &[u8],
-    place: usize,
-) -> Result<(), Fail> {
-    let mut bytes = vec![in alloc; 77u8]?;
-    bytes.extend_from_slice(front)?;
-    bytes.extend_from_slice(&[1, 0, 0, 0, 0, 0, 0, 0, 255, 7, 7])?;
-    let mut offset = 1;
-    match T::de_bin(alloc, &mut offset, &bytes) {
-        Ok(_) => assert!(rt; false, "not refused"),
-        Err(error) => {
-            assert_eq!(rt; error.kind, DeBinKind::NotUtf8);
-            assert_eq!(rt; (error.o, error.l, error.s), (place, 1, bytes.len()));
-        }
-    }
-    assert_eq!(rt; offset, 1);
     Ok(())
 }
 
 #[test]
-fn refusals_of_parts(rt: HostRuntime) -> Result<(), Fail> {
+fn linked_lists(rt: HostRuntime) -> Result<(), Fail> {
     let alloc = rt.alloc();
-    let one = [1u8, 0, 0, 0, 0, 0, 0, 0];
-    let one_byte = [1u8, 0, 0, 0, 0, 0, 0, 0, 9];
-    hands_on::<String>(&rt, alloc, &[], 9)?;
-    hands_on::<Box<String>>(&rt, alloc, &[], 9)?;
-    hands_on::<[String; 1]>(&rt, alloc, &[], 9)?;
-    hands_on::<Option<String>>(&rt, alloc, &[1], 10)?;
-    hands_on::<(String, u8)>(&rt, alloc, &[], 9)?;
-    hands_on::<(u8, String)>(&rt, alloc, &[9], 10)?;
-    hands_on::<(u8, u8, String)>(&rt, alloc, &[9, 9], 11)?;
-    hands_on::<(u8, u8, u8, String)>(&rt, alloc, &[9, 9, 9], 12)?;
-    hands_on::<Vec<String>>(&rt, alloc, &one, 17)?;
-    hands_on::<LinkedList<String>>(&rt, alloc, &one, 17)?;
-    hands_on::<HashSet<String>>(&rt, alloc, &one, 17)?;
-    hands_on::<BTreeSet<String>>(&rt, alloc, &one, 17)?;
-    hands_on::<HashMap<String, u8>>(&rt, alloc, &one, 17)?;
-    hands_on::<HashMap<u8, String>>(&rt, alloc, &one_byte, 18)?;
-    Ok(())
+    let mut linked = LinkedList::new(alloc);
+    linked.push_back(1u16)?;
+    linked.push_back(2)?;
+    all_back(&rt, alloc, &vec![in alloc; linked, LinkedList::new(alloc)]?)
+}
+
+#[test]
+fn hashed_sets(rt: HostRuntime) -> Result<(), Fail> {
+    let alloc = rt.alloc();
+    let mut hashed = HashSet::new(alloc);
+    hashed.insert(1u8)?;
+    hashed.insert(2)?;
+    all_back(&rt, alloc, &vec![in alloc; hashed, HashSet::new(alloc)]?)
+}
+
+#[test]
+fn ordered_sets(rt: HostRuntime) -> Result<(), Fail> {
+    let alloc = rt.alloc();
+    let mut ordered = BTreeSet::new(alloc);
+    ordered.insert(1u8)?;
+    ordered.insert(2)?;
+    all_back(&rt, alloc, &vec![in alloc; ordered, BTreeSet::new(alloc)]?)
+}
+
+#[test]
+fn maps(rt: HostRuntime) -> Result<(), Fail> {
+    let alloc = rt.alloc();
+    let mut map = HashMap::new(alloc);
+    map.insert(1u8, true)?;
+    map.insert(2, false)?;
+    all_back(&rt, alloc, &vec![in alloc; map, HashMap::new(alloc)]?)
+}
+
+/// The text of one byte 255, which stands at `place` behind a byte, is the fault, whatever stands
+/// around it.
+fn hands_on<T: DeBin>(rt: &impl Abort, alloc: Global, bytes: &[u8], place: usize) {
+    let told = refusal::<T>(alloc, 1, bytes);
+    is_refused(rt, told, DeBinKind::NotUtf8, (place, 1, bytes.len()), 1);
+}
+
+/// A byte, and that text with two bytes behind it.
+const FAULT: &[u8] = &[77, 1, 0, 0, 0, 0, 0, 0, 0, 255, 7, 7];
+/// The same behind a count.
+const COUNTED: &[u8] = &[
+    77, 1, 0, 0, 0, 0, 0, 0, 0, 1, 0, 0, 0, 0, 0, 0, 0, 255, 7, 7,
+];
+
+#[test]
+fn refusals_of_parts(rt: HostRuntime) {
+    let alloc = rt.alloc();
+    hands_on::<String>(&rt, alloc, FAULT, 9);
+    hands_on::<Box<String>>(&rt, alloc, FAULT, 9);
+    hands_on::<[String; 1]>(&rt, alloc, FAULT, 9);
+    hands_on::<Option<String>>(&rt, alloc, &[77, 1, 1, 0, 0, 0, 0, 0, 0, 0, 255, 7, 7], 10);
+    hands_on::<(String, u8)>(&rt, alloc, FAULT, 9);
+    hands_on::<(u8, String)>(&rt, alloc, &[77, 9, 1, 0, 0, 0, 0, 0, 0, 0, 255, 7, 7], 10);
+    hands_on::<(u8, u8, String)>(
+        &rt,
+        alloc,
+        &[77, 9, 9, 1, 0, 0, 0, 0, 0, 0, 0, 255, 7, 7],
+        11,
+    );
+    hands_on::<(u8, u8, u8, String)>(
+        &rt,
+        alloc,
+        &[77, 9, 9, 9, 1, 0, 0, 0, 0, 0, 0, 0, 255, 7, 7],
+        12,
+    );
+}
+
+#[test]
+fn refusals_of_items(rt: HostRuntime) {
+    let alloc = rt.alloc();
+    hands_on::<Vec<String>>(&rt, alloc, COUNTED, 17);
+    hands_on::<LinkedList<String>>(&rt, alloc, COUNTED, 17);
+    hands_on::<HashSet<String>>(&rt, alloc, COUNTED, 17);
+    hands_on::<BTreeSet<String>>(&rt, alloc, COUNTED, 17);
+    hands_on::<HashMap<String, u8>>(&rt, alloc, COUNTED, 17);
+    hands_on::<HashMap<u8, String>>(
+        &rt,
+        alloc,
+        &[
+            77, 1, 0, 0, 0, 0, 0, 0, 0, 9, 1, 0, 0, 0, 0, 0, 0, 0, 255, 7, 7,
+        ],
+        18,
+    );
 }
 
 /// A count that no memory could hold is refused for the first missing item, and reserves nothing.
 fn reserves_nothing<T: DeBin>(rt: &impl Abort, alloc: Global, wanted: usize) {
-    let mut offset = 0;
-    match T::de_bin(alloc, &mut offset, &[255; 8]) {
-        Ok(_) => assert!(rt; false, "not refused"),
-        Err(error) => {
-            assert_eq!(rt; error.kind, DeBinKind::TooShort);
-            assert_eq!(rt; (error.o, error.l, error.s), (8, wanted, 8));
-        }
-    }
-    assert_eq!(rt; offset, 0);
+    let told = refusal::<T>(alloc, 0, &[255; 8]);
+    is_refused(rt, told, DeBinKind::TooShort, (8, wanted, 8), 0);
 }
 
 #[test]

@@ -1,22 +1,33 @@
 //! The faults of texts: what is told, and at which place.
 
-use crate::TomlParser;
+use crate::table_tests::holds;
+use nano_toml::{TomlErr, TomlParser};
 use std::alloc::Global;
 use std::process::Abort;
 use std::test::Fail;
 
+// The error tells this, there.
+fn is_fault(rt: &impl Abort, error: &TomlErr, row: &(&str, &str, usize, usize)) {
+    let (text, message, line, col) = row;
+    assert_eq!(rt; error.msg.as_str(), *message, "of {text}");
+    assert_eq!(rt; (error.line, error.col), (*line, *col), "of {text}");
+}
+
 // Each text is refused with the message beside it. The numbers are how many line feeds, and how
 // many characters of their line, stand before the place.
-fn check(rt: &impl Abort, alloc: Global, rows: &[(&str, &str, usize, usize)]) -> Result<(), Fail> {
-    for (text, message, line, col) in rows {
-        match TomlParser::parse(alloc, text) {
-            Ok(_) => assert!(rt; false, "of {text}"),
+pub(crate) fn check(
+    rt: &impl Abort,
+    alloc: Global,
+    rows: &[(&str, &str, usize, usize)],
+) -> Result<(), Fail> {
+    for row in rows {
+        match TomlParser::parse(alloc, row.0) {
+            Ok(_) => holds(rt, false, row.0),
             Err(error) => {
                 if error.memory {
                     return Err(Fail::from(error));
                 }
-                assert_eq!(rt; error.msg.as_str(), *message, "of {text}");
-                assert_eq!(rt; (error.line, error.col), (*line, *col), "of {text}");
+                is_fault(rt, &error, row);
             }
         }
     }

@@ -1,6 +1,6 @@
 //! What worked texts give.
 
-use crate::{Toml, TomlErr, TomlParser, TomlTok};
+use nano_toml::{Toml, TomlErr, TomlParser, TomlTok};
 use std::alloc::{AllocError, Global};
 use std::collections::HashMap;
 use std::process::Abort;
@@ -70,11 +70,20 @@ fn show(alloc: Global, text: &str) -> Result<String, Fail> {
     Ok(out)
 }
 
+// The text is the expected one.
+fn is_text(rt: &impl Abort, text: &str, expected: &str, at: &str) {
+    assert_eq!(rt; text, expected, "of {at}");
+}
+
+// What is said of a key or a text holds.
+pub(crate) fn holds(rt: &impl Abort, is_so: bool, at: &str) {
+    assert!(rt; is_so, "of {at}");
+}
+
 // Each text gives what stands beside it.
-fn check(rt: &impl Abort, alloc: Global, rows: &[(&str, &str)]) -> Result<(), Fail> {
+pub(crate) fn check(rt: &impl Abort, alloc: Global, rows: &[(&str, &str)]) -> Result<(), Fail> {
     for (text, want) in rows {
-        let shown = show(alloc, text)?;
-        assert_eq!(rt; shown.as_str(), *want, "of {text}");
+        is_text(rt, show(alloc, text)?.as_str(), want, text);
     }
     Ok(())
 }
@@ -165,18 +174,18 @@ fn accessors(rt: HostRuntime) -> Result<(), Fail> {
     };
     for (key, value) in &table {
         match value {
-            Toml::Num(_) => assert_eq!(rt; value.num(), 5, "{key}"),
-            Toml::Str(_) => assert_eq!(rt; value.str(), "x", "{key}"),
-            Toml::Bool(_) => assert!(rt; value.boolean(), "{key}"),
-            Toml::Date(_) => assert_eq!(rt; value.date(alloc)?.as_str(), "1979-05-27", "{key}"),
-            Toml::SimpleArray(_) => assert_eq!(rt; value.simple_arr().len(), 2, "{key}"),
+            Toml::Num(_) => holds(&rt, value.num() == 5, key),
+            Toml::Str(_) => is_text(&rt, value.str(), "x", key),
+            Toml::Bool(_) => holds(&rt, value.boolean(), key),
+            Toml::Date(_) => is_text(&rt, value.date(alloc)?.as_str(), "1979-05-27", key),
+            Toml::SimpleArray(_) => holds(&rt, value.simple_arr().len() == 2, key),
             Toml::Array(tables) => {
-                assert_eq!(rt; value.arr().len(), 2, "{key}");
+                holds(&rt, value.arr().len() == 2, key);
                 if tables.len() > 1 {
-                    assert_eq!(rt; value.index(1).len(), 1, "{key}");
+                    holds(&rt, value.index(1).len() == 1, key);
                 }
             }
-            _ => assert!(rt; false, "{key}"),
+            _ => holds(&rt, false, key),
         }
     }
     assert_eq!(rt; table.len(), 6);
@@ -190,28 +199,36 @@ fn same(alloc: Global, one: &str, other: &str) -> Result<bool, Fail> {
     Ok(one == other)
 }
 
-#[test]
-fn equality(rt: HostRuntime) -> Result<(), Fail> {
-    for (one, other, want) in [
-        ("a = 1 b = 2", "b = 2 a = 1", true),
-        ("a = nan", "a = nan", true),
-        ("a = nan", "a = -nan", false),
-        ("a = 1", "a = 1.0", false),
-        ("a = 1.0", "a = 1.00", false),
-        ("a = [1, 2]", "a = [1 2]", true),
-        ("a = [1, 2]", "a = [2, 1]", false),
-        ("a = [1]", "a = 1", false),
-        ("a = 1", "a = 1 b = 1", false),
-        ("a = 1 b = 1", "a = 1", false),
-        ("[[a]] b = 1 [[a]]", "[[a]] b = 1 [[a]]", true),
-        ("[[a]] b = 1 [[a]]", "[[a]] [[a]] b = 1", false),
-        ("a = inf", "a = nan", false),
-        ("a = 1979-05-27", "a = \"1979-05-27\"", false),
-    ] {
-        let found = same(rt.alloc(), one, other)?;
-        assert_eq!(rt; found, want, "{one} and {other}");
+// Whether each two texts give the same table is as stands beside them.
+fn all_same(rt: &impl Abort, alloc: Global, rows: &[(&str, &str, bool)]) -> Result<(), Fail> {
+    for (one, other, want) in rows {
+        holds(rt, same(alloc, one, other)? == *want, one);
     }
     Ok(())
+}
+
+#[test]
+fn equality(rt: HostRuntime) -> Result<(), Fail> {
+    all_same(
+        &rt,
+        rt.alloc(),
+        &[
+            ("a = 1 b = 2", "b = 2 a = 1", true),
+            ("a = nan", "a = nan", true),
+            ("a = nan", "a = -nan", false),
+            ("a = 1", "a = 1.0", false),
+            ("a = 1.0", "a = 1.00", false),
+            ("a = [1, 2]", "a = [1 2]", true),
+            ("a = [1, 2]", "a = [2, 1]", false),
+            ("a = [1]", "a = 1", false),
+            ("a = 1", "a = 1 b = 1", false),
+            ("a = 1 b = 1", "a = 1", false),
+            ("[[a]] b = 1 [[a]]", "[[a]] b = 1 [[a]]", true),
+            ("[[a]] b = 1 [[a]]", "[[a]] [[a]] b = 1", false),
+            ("a = inf", "a = nan", false),
+            ("a = 1979-05-27", "a = \"1979-05-27\"", false),
+        ],
+    )
 }
 
 #[test]
@@ -227,23 +244,32 @@ fn derived(rt: HostRuntime) -> Result<(), Fail> {
 fn errors(rt: HostRuntime) -> Result<(), Fail> {
     let alloc = rt.alloc();
     match TomlParser::parse(alloc, "a = @") {
-        Ok(_) => assert!(rt; false),
+        Ok(_) => holds(&rt, false, "@"),
         Err(error) => {
             if error.memory {
                 return Err(Fail::from(AllocError));
             }
-            let copy = error.clone()?;
-            assert!(rt; !copy.memory);
-            assert_eq!(rt; copy.msg.as_str(), "Cannot parse toml tokenizer ");
-            assert_eq!(rt; copy.line, 0);
-            assert_eq!(rt; copy.col, 5);
-            let shown = format!(in alloc; "{copy:?}")?;
-            assert_eq!(rt;
-                shown.as_str(),
-                "Toml error: Cannot parse toml tokenizer , line:1 col:6"
-            );
+            is_cloned(&rt, alloc, &error)?;
         }
     }
+    Ok(())
+}
+
+// A clone of the error of "a = @" is like it.
+fn is_cloned(rt: &impl Abort, alloc: Global, error: &TomlErr) -> Result<(), Fail> {
+    let copy = error.clone()?;
+    holds(rt, !copy.memory, "memory");
+    is_text(rt, copy.msg.as_str(), "Cannot parse toml tokenizer ", "msg");
+    holds(rt, copy.line == 0 && copy.col == 5, "place");
+    let shown = format!(in alloc; "{copy:?}")?;
+    let expected = "Toml error: Cannot parse toml tokenizer , line:1 col:6";
+    is_text(rt, shown.as_str(), expected, "Debug");
+    Ok(())
+}
+
+#[test]
+fn an_error_in_the_last_line(rt: HostRuntime) -> Result<(), Fail> {
+    let alloc = rt.alloc();
     let last = TomlErr {
         msg: String::new(alloc),
         line: usize::MAX,
@@ -251,10 +277,8 @@ fn errors(rt: HostRuntime) -> Result<(), Fail> {
         memory: true,
     };
     let shown = format!(in alloc; "{last}")?;
-    assert_eq!(rt;
-        shown.as_str(),
-        "Toml error: , line:18446744073709551615 col:1"
-    );
+    let expected = "Toml error: , line:18446744073709551615 col:1";
+    is_text(&rt, shown.as_str(), expected, "Display");
     Ok(())
 }
 
@@ -276,7 +300,7 @@ fn deep_lists(rt: HostRuntime) -> Result<(), Fail> {
     for (open, close) in [("[", ""), ("[", "]"), ("[1,", "1]"), ("[[],", "[]]")] {
         let text = brackets(alloc, open, 100_000, close)?;
         let table = TomlParser::parse(alloc, text.as_str())?;
-        assert_eq!(rt; table.len(), 1, "of {open}");
+        holds(&rt, table.len() == 1, open);
     }
     Ok(())
 }
@@ -287,10 +311,8 @@ fn deep_lists_compared(rt: HostRuntime) -> Result<(), Fail> {
     for (open, close) in [("[", ""), ("[", "]"), ("[[],1,", "]")] {
         let text = brackets(alloc, open, 10_000, close)?;
         let other = brackets(alloc, open, 9_999, close)?;
-        let is_same = same(alloc, text.as_str(), text.as_str())?;
-        assert!(rt; is_same, "of {open}");
-        let is_other = !same(alloc, text.as_str(), other.as_str())?;
-        assert!(rt; is_other, "of {open}");
+        holds(&rt, same(alloc, text.as_str(), text.as_str())?, open);
+        holds(&rt, !same(alloc, text.as_str(), other.as_str())?, open);
     }
     Ok(())
 }
@@ -313,8 +335,8 @@ fn want_of_memory(rt: HostRuntime) -> Result<(), Fail> {
     }
     for text in ["a = 1 [[a]]", "a = @", "[s] = 1"] {
         match TomlParser::parse(alloc, text) {
-            Ok(_) => assert!(rt; false, "of {text}"),
-            Err(error) => assert_eq!(rt; error.memory, error.msg.is_empty(), "of {text}"),
+            Ok(_) => holds(&rt, false, text),
+            Err(error) => holds(&rt, error.memory == error.msg.is_empty(), text),
         }
     }
     Ok(())

@@ -3,7 +3,7 @@ use Rattle.nano_toml.specs.Data.{Data, tables}
 use Rattle.nano_toml.specs.Kinds.{index_of, table_at}
 use Rattle.nano_toml.specs.View.{view, tables_view}
 use Rattle.nano_toml.proofs.TableViews.{view-Array, Map}
-use Rattle.nano_toml.proofs.parser.tests.accessors.Goals as goal
+use Rattle.toml_tests.proofs.table_tests.accessors.Goals as goal
 
 -- there is a table at each place
 has_table : (ms : List Map) (i : ℕ) → i < length ms → IsSome (table_at (tables_view ms) i)

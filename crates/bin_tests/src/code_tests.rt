@@ -1,6 +1,7 @@
 // Codes as they stand in the crate's documents, and the errors of codes that are cut short or
 // refused.
-use crate::{BothBin, DeBin, DeBinErr, DeBinKind, SerBin};
+use crate::checks::{code_of, fronts_refused, is_back, is_code, is_refused, reads, refusal};
+use nano_bin::{BothBin, DeBin, DeBinErr, DeBinKind, SerBin};
 use nano_value::Value;
 use std::alloc::Global;
 use std::collections::LinkedList;
@@ -15,20 +16,23 @@ fn row<T: BothBin + PartialEq>(
     value: T,
     code: &[u8],
 ) -> Result<(), Fail> {
-    assert_eq!(rt; value.serialize_bin(alloc)?.as_slice(), code);
-    let mut offset = 0;
-    assert!(rt; T::de_bin(alloc, &mut offset, code)? == value);
-    assert_eq!(rt; offset, code.len());
-    assert!(rt; T::deserialize_bin(alloc, code)? == value);
-    for end in 0..code.len() {
-        let mut offset = 0;
-        match T::de_bin(alloc, &mut offset, &code[..end]) {
-            Ok(_) => assert!(rt; false, "a front of {end} bytes is read"),
-            Err(error) => assert_eq!(rt; error.kind, DeBinKind::TooShort),
-        }
-        assert_eq!(rt; offset, 0);
-    }
+    is_code(rt, &code_of(alloc, &value)?, code);
+    is_back(rt, reads(alloc, &value, 0, code)?, code.len());
+    assert!(rt; is_read_alone(alloc, &value, code)?);
+    fronts_refused::<T>(rt, alloc, code);
     Ok(())
+}
+
+/// Two numbers of two bytes, behind their count.
+const TWO: &[u8] = &[2, 0, 0, 0, 0, 0, 0, 0, 1, 0, 2, 0];
+
+/// Whether the value is read from the code alone.
+fn is_read_alone<T: DeBin + PartialEq>(
+    alloc: Global,
+    value: &T,
+    code: &[u8],
+) -> Result<bool, DeBinErr> {
+    Ok(T::deserialize_bin(alloc, code)? == *value)
 }
 
 /// The bytes from the offset on are refused, with these numbers, and the offset is kept.
@@ -40,17 +44,9 @@ fn refused<T: DeBin>(
     kind: DeBinKind,
     o: usize,
     l: usize,
-) -> Result<(), Fail> {
-    let mut offset = start;
-    match T::de_bin(alloc, &mut offset, bytes) {
-        Ok(_) => assert!(rt; false, "not refused"),
-        Err(error) => {
-            assert_eq!(rt; error.kind, kind);
-            assert_eq!(rt; (error.o, error.l, error.s), (o, l, bytes.len()));
-        }
-    }
-    assert_eq!(rt; offset, start);
-    Ok(())
+) {
+    let told = refusal::<T>(alloc, start, bytes);
+    is_refused(rt, told, kind, (o, l, bytes.len()), start);
 }
 
 #[test]
@@ -67,11 +63,23 @@ fn numbers(rt: HostRuntime) -> Result<(), Fail> {
         1u128,
         &[1, 0, 0, 0, 0, 0, 0, 0, 0, 0, 0, 0, 0, 0, 0, 0],
     )?;
+    Ok(())
+}
+
+#[test]
+fn signed_numbers(rt: HostRuntime) -> Result<(), Fail> {
+    let alloc = rt.alloc();
     row(&rt, alloc, -1i8, &[255])?;
     row(&rt, alloc, -2i16, &[254, 255])?;
     row(&rt, alloc, i32::MIN, &[0, 0, 0, 128])?;
     row(&rt, alloc, -1i64, &[255; 8])?;
     row(&rt, alloc, -1i128, &[255; 16])?;
+    Ok(())
+}
+
+#[test]
+fn truths_and_nothing(rt: HostRuntime) -> Result<(), Fail> {
+    let alloc = rt.alloc();
     row(&rt, alloc, true, &[1])?;
     row(&rt, alloc, false, &[0])?;
     row(&rt, alloc, (), &[])?;
@@ -94,19 +102,30 @@ fn texts(rt: HostRuntime) -> Result<(), Fail> {
 #[test]
 fn containers(rt: HostRuntime) -> Result<(), Fail> {
     let alloc = rt.alloc();
-    let two = [2u8, 0, 0, 0, 0, 0, 0, 0, 1, 0, 2, 0];
-    row(&rt, alloc, vec![in alloc; 1u16, 2]?, &two)?;
+    row(&rt, alloc, vec![in alloc; 1u16, 2]?, TWO)?;
     let mut linked = LinkedList::new(alloc);
     linked.push_back(1u16)?;
     linked.push_back(2)?;
-    row(&rt, alloc, linked, &two)?;
-    row(&rt, alloc, [1u16, 2], &two[8..])?;
-    row(&rt, alloc, Box::new(alloc, [1u16, 2])?, &two[8..])?;
+    row(&rt, alloc, linked, TWO)?;
+    row(&rt, alloc, [1u16, 2], &[1, 0, 2, 0])?;
+    row(&rt, alloc, Box::new(alloc, [1u16, 2])?, &[1, 0, 2, 0])?;
+    Ok(())
+}
+
+#[test]
+fn tuples_and_options(rt: HostRuntime) -> Result<(), Fail> {
+    let alloc = rt.alloc();
     row(&rt, alloc, (1u8, 2u8), &[1, 2])?;
     row(&rt, alloc, (7u8, true, -2i16), &[7, 1, 254, 255])?;
     row(&rt, alloc, (1u8, 2u8, 3u8, 4u8), &[1, 2, 3, 4])?;
     row(&rt, alloc, Some(5u8), &[1, 5])?;
     row(&rt, alloc, None::<u8>, &[0])?;
+    Ok(())
+}
+
+#[test]
+fn lists_of_numbers(rt: HostRuntime) -> Result<(), Fail> {
+    let alloc = rt.alloc();
     row(
         &rt,
         alloc,
@@ -132,7 +151,10 @@ fn containers(rt: HostRuntime) -> Result<(), Fail> {
         &[1, 0, 0, 0, 0, 0, 0, 0, 1, 0, 0, 0, 0, 0, 0, 0],
     )?;
     let slice: &[u16] = &[1, 2];
-    assert_eq!(rt; slice.serialize_bin(alloc)?.as_slice(), &two[8..]);
+    assert_eq!(rt;
+        slice.serialize_bin(alloc)?.as_slice(),
+        [1, 0, 2, 0].as_slice()
+    );
     let mut offset = 0;
     let units = Vec::<()>::de_bin(alloc, &mut offset, &[5, 0, 0, 0, 0, 0, 0, 0])?;
     assert_eq!(rt; (units.len(), offset), (5, 8));
@@ -144,10 +166,14 @@ fn nested(rt: HostRuntime) -> Result<(), Fail> {
     let alloc = rt.alloc();
     let inner = vec![in alloc; Some((1u8, [2u16; 2])), None]?;
     let value = vec![in alloc; Box::new(alloc, inner)?]?;
-    let code = [
-        1, 0, 0, 0, 0, 0, 0, 0, 2, 0, 0, 0, 0, 0, 0, 0, 1, 1, 2, 0, 2, 0, 0,
-    ];
-    row(&rt, alloc, value, &code)?;
+    row(
+        &rt,
+        alloc,
+        value,
+        &[
+            1, 0, 0, 0, 0, 0, 0, 0, 2, 0, 0, 0, 0, 0, 0, 0, 1, 1, 2, 0, 2, 0, 0,
+        ],
+    )?;
     let text = String::from_str(alloc, "a")?;
     row(
         &rt,
@@ -175,12 +201,19 @@ fn refusals(rt: HostRuntime) -> Result<(), Fail> {
     use DeBinKind::{NotUtf8, TooShort};
     let alloc = rt.alloc();
     let most = usize::MAX;
-    let ab = [3u8, 0, 0, 0, 0, 0, 0, 0, 97, 98];
-    refused::<String>(&rt, alloc, 0, &ab, TooShort, 8, 3)?;
-    refused::<String>(&rt, alloc, 0, &[1, 0, 0, 0, 0, 0, 0, 0, 255], NotUtf8, 8, 1)?;
-    refused::<String>(&rt, alloc, 0, &[255; 8], TooShort, 8, most)?;
-    refused::<Vec<u8>>(&rt, alloc, 0, &[255; 8], TooShort, 8, 1)?;
-    refused::<Vec<u64>>(&rt, alloc, 0, &[255; 8], TooShort, 8, 8)?;
+    refused::<String>(
+        &rt,
+        alloc,
+        0,
+        &[3, 0, 0, 0, 0, 0, 0, 0, 97, 98],
+        TooShort,
+        8,
+        3,
+    );
+    refused::<String>(&rt, alloc, 0, &[1, 0, 0, 0, 0, 0, 0, 0, 255], NotUtf8, 8, 1);
+    refused::<String>(&rt, alloc, 0, &[255; 8], TooShort, 8, most);
+    refused::<Vec<u8>>(&rt, alloc, 0, &[255; 8], TooShort, 8, 1);
+    refused::<Vec<u64>>(&rt, alloc, 0, &[255; 8], TooShort, 8, 8);
     refused::<Vec<u64>>(
         &rt,
         alloc,
@@ -189,7 +222,7 @@ fn refusals(rt: HostRuntime) -> Result<(), Fail> {
         TooShort,
         16,
         8,
-    )?;
+    );
     refused::<Vec<i16>>(
         &rt,
         alloc,
@@ -198,7 +231,7 @@ fn refusals(rt: HostRuntime) -> Result<(), Fail> {
         TooShort,
         10,
         2,
-    )?;
+    );
     refused::<LinkedList<u16>>(
         &rt,
         alloc,
@@ -207,14 +240,14 @@ fn refusals(rt: HostRuntime) -> Result<(), Fail> {
         TooShort,
         10,
         2,
-    )?;
-    refused::<[u16; 2]>(&rt, alloc, 0, &[1, 0, 2], TooShort, 2, 2)?;
-    refused::<Option<u8>>(&rt, alloc, 0, &[1], TooShort, 1, 1)?;
-    refused::<(u8, u16)>(&rt, alloc, 0, &[1, 2], TooShort, 1, 2)?;
-    refused::<Box<u16>>(&rt, alloc, 0, &[1], TooShort, 0, 2)?;
-    refused::<u8>(&rt, alloc, 100, &[], TooShort, 100, 1)?;
-    refused::<u64>(&rt, alloc, most, &[1], TooShort, most, 8)?;
-    refused::<Vec<u16>>(&rt, alloc, most, &[1], TooShort, most, 8)?;
+    );
+    refused::<[u16; 2]>(&rt, alloc, 0, &[1, 0, 2], TooShort, 2, 2);
+    refused::<Option<u8>>(&rt, alloc, 0, &[1], TooShort, 1, 1);
+    refused::<(u8, u16)>(&rt, alloc, 0, &[1, 2], TooShort, 1, 2);
+    refused::<Box<u16>>(&rt, alloc, 0, &[1], TooShort, 0, 2);
+    refused::<u8>(&rt, alloc, 100, &[], TooShort, 100, 1);
+    refused::<u64>(&rt, alloc, most, &[1], TooShort, most, 8);
+    refused::<Vec<u16>>(&rt, alloc, most, &[1], TooShort, most, 8);
     let mut offset = 100;
     <()>::de_bin(alloc, &mut offset, &[])?;
     assert_eq!(rt; offset, 100);
@@ -238,7 +271,7 @@ fn printed(rt: HostRuntime) -> Result<(), Fail> {
 
 #[test]
 fn laws_can_be_called(rt: HostRuntime) -> Result<(), Fail> {
-    use crate::laws;
+    use nano_bin::laws;
     let alloc = rt.alloc();
     let (one, two) = (vec![in alloc; 1u8]?, 2u16);
     let mut bytes = vec![in alloc; 77u8]?;

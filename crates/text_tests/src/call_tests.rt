@@ -1,5 +1,5 @@
 // Laws, and calls where nothing begins: they take no character.
-use crate::{Fault, Place, laws, read_number, read_string};
+use nano_text::{Fault, Place, laws, read_number, read_string};
 
 #[test]
 fn nothing_begins(rt: HostRuntime) {

@@ -1,5 +1,5 @@
 // Each function once, and `known` of each type through its bound.
-use crate::{OrderedKey, Value, entries_in_order, items_in_order, laws};
+use nano_value::{OrderedKey, Value, entries_in_order, items_in_order, laws};
 use std::collections::{BTreeSet, HashMap, HashSet, LinkedList};
 use std::process::Abort;
 use std::test::Fail;

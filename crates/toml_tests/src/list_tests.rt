@@ -1,6 +1,6 @@
 //! A list of many values.
 
-use crate::{Toml, TomlParser};
+use nano_toml::{Toml, TomlParser};
 use std::test::Fail;
 
 #[test]

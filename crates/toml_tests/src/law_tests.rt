@@ -1,6 +1,6 @@
 //! Each law is called once.
 
-use crate::laws;
+use nano_toml::laws;
 
 #[test]
 fn laws_can_be_called(_rt: HostRuntime) {

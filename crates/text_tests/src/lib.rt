@@ -1,0 +1,10 @@
+//! Tests of `nano_text` over its public surface. They stand in a crate of their own, so that they are
+//! proved beside it and not with it.
+#![tactic(auto)]
+
+#[cfg(test)]
+mod call_tests;
+#[cfg(test)]
+mod lexeme_tests;
+#[cfg(test)]
+mod written_tests;
