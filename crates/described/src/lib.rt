@@ -1,0 +1,17 @@
+//! Own structs described once, for every format: the names and types of the fields, how a value is
+//! taken apart to them, and how it is made from them.
+//!
+//! A format reads and writes the fields of a description; the struct's own impls are one term and
+//! one call each.
+#![tactic(auto)]
+
+mod fields;
+mod record;
+mod rows;
+
+pub use fields::{Borrowed, Optional, Required, Shape, may, must};
+pub use record::{Parts, Record, known_record};
+pub use rows::{
+    InEight, InFive, InFour, InSeven, InSix, InThree, InTwo, eight, eight_apart, five, five_apart,
+    four, four_apart, seven, seven_apart, six, six_apart, three, three_apart, two, two_apart,
+};
