@@ -1,0 +1,10 @@
+//! Examples: own types described once, in bytes and in JSON. Each file is one that a user copies.
+#![tactic(auto)]
+
+mod holder;
+mod item;
+mod server;
+
+pub use holder::Holder;
+pub use item::Item;
+pub use server::Server;
