@@ -4,6 +4,8 @@
 mod holder;
 mod item;
 mod server;
+#[cfg(test)]
+mod tests;
 
 pub use holder::Holder;
 pub use item::Item;
