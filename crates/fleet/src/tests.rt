@@ -1,7 +1,7 @@
 // Own types, written in both formats and read back, nested in others, and their laws at concrete
 // types.
-use crate::{Holder, Item, Server};
-use nano_bin::{BothBin, DeBin, SerBin};
+use crate::{Event, Holder, Item, Server};
+use nano_bin::{BothBin, DeBin, DeBinKind, SerBin};
 use nano_json::{BothJson, DeJson, SerJson};
 use std::alloc::Global;
 use std::collections::HashMap;
@@ -83,6 +83,30 @@ fn refused_by_name(rt: HostRuntime) -> Result<(), Fail> {
             Ok(_item) => assert!(rt; false, "{text} is read"),
             Err(error) => assert_eq!(rt; error.msg.as_str(), expected, "at {text}"),
         }
+    }
+    Ok(())
+}
+
+#[test]
+fn events_by_tag(rt: HostRuntime) -> Result<(), Fail> {
+    let alloc = rt.alloc();
+    let said = Event::Say {
+        text: String::from_str(alloc, "c")?,
+        times: 3,
+    };
+    let events = vec![in alloc; Event::Stop, Event::Move(2, String::new(alloc)), said]?;
+    let codes = vec![in alloc;
+        vec![in alloc; 0, 0]?,
+        vec![in alloc; 1, 0, 2, 0, 0, 0, 0, 0, 0, 0, 0, 0, 0, 0]?,
+        vec![in alloc; 2, 0, 1, 0, 0, 0, 0, 0, 0, 0, 99, 3, 0, 0, 0]?,
+    ]?;
+    for (event, code) in events.iter().zip(codes.iter()) {
+        assert_eq!(rt; event.serialize_bin(alloc)?.as_slice(), code.as_slice());
+        assert!(rt; Event::deserialize_bin(alloc, code.as_slice())? == *event);
+    }
+    match Event::deserialize_bin(alloc, [3, 0].as_slice()) {
+        Ok(_event) => assert!(rt; false, "a tag that no variant has is read"),
+        Err(error) => assert!(rt; error.kind == DeBinKind::Own),
     }
     Ok(())
 }
