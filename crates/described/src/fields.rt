@@ -1,0 +1,137 @@
+// Fields by their names and types.
+ghost use Rattle.std.specs.Prelude.{◌≡◌};
+ghost use Rattle.std.specs.Option.{option_map};
+ghost use Rattle.nano_value.specs.Meaning.{Meaning, optional, paired, pair_map};
+ghost use Rattle.nano_value.specs.Legal.{LegalOption, LegalPair};
+ghost use Rattle.described.specs.Names.{Names, name, names};
+
+use nano_value::Value;
+use std::marker::PhantomData;
+
+/// A field that must be there.
+#[derive(Drop)]
+pub struct Required<T> {
+    /// Its name.
+    pub name: &'static str,
+    /// The type of its value.
+    pub of: PhantomData<T>,
+}
+
+/// A field that may be missing, and is `None` then.
+#[derive(Drop)]
+pub struct Optional<T> {
+    /// Its name.
+    pub name: &'static str,
+    /// The type of its value, without the `Option`.
+    pub of: PhantomData<T>,
+}
+
+/// A field that must be there.
+pub fn must<T>(name: &'static str) -> Required<T>
+    ensures { result.name.now ≡ name.now }
+{
+    Required {
+        name,
+        of: PhantomData,
+    }
+}
+
+/// A field that may be missing.
+pub fn may<T>(name: &'static str) -> Optional<T>
+    ensures { result.name.now ≡ name.now }
+{
+    Optional {
+        name,
+        of: PhantomData,
+    }
+}
+
+/// One field, or fields and more fields.
+pub trait Shape {
+    /// The values of the fields.
+    type Values: Drop;
+
+    /// The fields' names.
+    ghost names_of: { Self → Names };
+
+    /// What the values mean.
+    ghost means: { Self.Values → Meaning };
+
+    /// Which meanings the values of a program have.
+    ghost legal: { Meaning → Type 0 };
+}
+
+/// Fields whose values are at hand by reference.
+pub trait Borrowed<'a>: Shape {
+    /// The references.
+    type Refs: Drop;
+
+    /// What they refer to.
+    ghost values: { Self.Refs → Self.Values };
+
+    /// Does nothing. Its contract says that what the values of a program mean is legal.
+    fn known(refs: &Self::Refs)
+        ensures { Self.legal (Self.means (values refs.now)) };
+}
+
+impl<T: Value + Drop> Shape for Required<T> {
+    type Values = T;
+
+    ghost names_of = { λ f. name f.name.now };
+
+    ghost means = { T.means };
+
+    ghost legal = { T.legal };
+}
+
+impl<'a, T: Value + Drop + 'a> Borrowed<'a> for Required<T> {
+    type Refs = &'a T;
+
+    ghost values = { λ r. r.now };
+
+    fn known(refs: &&'a T) {
+        refs.known();
+    }
+}
+
+impl<T: Value + Drop> Shape for Optional<T> {
+    type Values = Option<T>;
+
+    ghost names_of = { λ f. name f.name.now };
+
+    ghost means = { λ x. optional (option_map T.means x) };
+
+    ghost legal = { LegalOption T.legal };
+}
+
+impl<'a, T: Value + Drop + 'a> Borrowed<'a> for Optional<T> {
+    type Refs = &'a Option<T>;
+
+    ghost values = { λ r. r.now };
+
+    fn known(refs: &&'a Option<T>) {
+        refs.known();
+    }
+}
+
+impl<A: Shape, B: Shape> Shape for (A, B) {
+    type Values = (A::Values, B::Values);
+
+    ghost names_of = { λ f. names (A.names_of f.0) (B.names_of f.1) };
+
+    ghost means = { λ v. paired (pair_map A.means B.means v) };
+
+    ghost legal = { LegalPair A.legal B.legal };
+}
+
+impl<'a, A: Borrowed<'a>, B: Borrowed<'a>> Borrowed<'a> for (A, B) {
+    type Refs = (A::Refs, B::Refs);
+
+    ghost values = { λ r. (A.values r.0, B.values r.1) };
+
+    #[tactic(auto, using(nano_value::specs::Legal::pair_is_legal))]
+    fn known(refs: &(A::Refs, B::Refs)) {
+        A::known(&refs.0);
+        B::known(&refs.1);
+    }
+}

@@ -1,0 +1,132 @@
+// An enum with a variant of each shape, described once, and its bytes.
+ghost use Rattle.std.specs.Prelude.{[], codes, refl};
+ghost use Rattle.std.proofs.Common.{lit≤};
+ghost use Rattle.nano_value.specs.Sums.{LegalVariant};
+ghost use Rattle.nano_value.specs.Ties.{tied};
+ghost use Rattle.described.specs.Names.{name, names, two_names};
+ghost use Rattle.nano_bin.specs.Format.{format_as};
+ghost use Rattle.described_bin.specs.Choices.{choice_format};
+ghost use Rattle.fleet.specs.Event.{seen};
+
+use described::{
+    Alone, BorrowedChoices, Choice, ChoiceParts, Choices, Either, InTwo, Required, Tupled, Unnamed,
+    Variant, known_choice, must, part, two, two_apart,
+};
+use described_bin::{BinShapes, read_choice_bin, write_choice_bin};
+use nano_bin::{BinFormat, BothBin, DeBin, DeBinErr, SerBin};
+use nano_value::Value;
+use std::alloc::{AllocError, Global};
+
+/// What a device does.
+#[derive(PartialEq, Debug, Drop)]
+pub enum Event {
+    /// It stops.
+    Stop,
+    /// It moves by so many steps, under a name.
+    Move(u32, String),
+    /// It says something.
+    Say {
+        /// What.
+        text: String,
+        /// How often.
+        times: u32,
+    },
+}
+
+type EventVariants = (
+    Variant<Alone>,
+    (
+        Variant<Tupled<InTwo<Unnamed<u32>, Unnamed<String>>>>,
+        Variant<InTwo<Required<String>, Required<u32>>>,
+    ),
+);
+
+impl Choice for Event {
+    type Variants = EventVariants;
+
+    ghost the_names = { names (names (name (codes "Stop")) (name []))
+        (names (names (name (codes "Move")) (two_names [] []))
+        (names (name (codes "Say")) (two_names (codes "text") (codes "times")))) };
+
+    ghost view = { seen };
+
+    fn variants() -> EventVariants {
+        let moved = Tupled {
+            parts: two(part(), part()),
+        };
+        let said = two(must("text"), must("times"));
+        let stop = Variant {
+            name: "Stop",
+            content: Alone {},
+        };
+        let step = Variant {
+            name: "Move",
+            content: moved,
+        };
+        let say = Variant {
+            name: "Say",
+            content: said,
+        };
+        (stop, (step, say))
+    }
+
+    fn make(values: <EventVariants as Choices>::Values) -> Event {
+        match values {
+            Either::First(()) => Event::Stop,
+            Either::Later(more) => match more {
+                Either::First(parts) => {
+                    let (steps, name) = two_apart(parts);
+                    Event::Move(steps, name)
+                }
+                Either::Later(fields) => {
+                    let (text, times) = two_apart(fields);
+                    Event::Say { text, times }
+                }
+            },
+        }
+    }
+}
+
+impl<'a> ChoiceParts<'a> for Event {
+    fn refs(&'a self) -> <EventVariants as BorrowedChoices<'a>>::Refs {
+        match self {
+            Event::Stop => Either::First(()),
+            Event::Move(steps, name) => Either::Later(Either::First(two(steps, name))),
+            Event::Say { text, times } => Either::Later(Either::Later(two(text, times))),
+        }
+    }
+}
+
+impl Value for Event {
+    ghost means = { λ e. ⟦<EventVariants as Choices>⟧.means 0 (seen e) };
+
+    ghost legal = { LegalVariant ⟦<EventVariants as Choices>⟧.legals };
+
+    fn known(&self) {
+        known_choice(self);
+    }
+}
+
+// ---- bytes
+
+impl BinFormat for Event {
+    ghost bin = { format_as seen (choice_format ⟦<EventVariants as BinShapes>⟧.chosen (lit≤ tt)) };
+
+    ghost ties = { tied };
+}
+
+impl SerBin for Event {
+    fn ser_bin(&self, alloc: Global, output: &mut Vec<u8>) -> Result<(), AllocError> {
+        write_choice_bin(self, alloc, output)
+    }
+}
+
+impl DeBin for Event {
+    ghost is_read = { refl };
+
+    fn de_bin(alloc: Global, offset: &mut usize, bytes: &[u8]) -> Result<Event, DeBinErr> {
+        read_choice_bin(alloc, offset, bytes)
+    }
+}
+
+impl BothBin for Event {}

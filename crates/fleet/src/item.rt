@@ -1,0 +1,112 @@
+// A struct of two fields, in bytes and in JSON.
+ghost use Rattle.std.specs.Prelude.{codes, refl};
+ghost use Rattle.nano_value.specs.Ties.{tied};
+ghost use Rattle.described.specs.Names.{two_names, two_of};
+ghost use Rattle.nano_bin.specs.Format.{format_as};
+ghost use Rattle.described_json.specs.Record.{json_record};
+
+use described::{
+    Borrowed, InTwo, Parts, Record, Required, Shape, known_record, must, two, two_apart,
+};
+use described_bin::{BinShape, read_record_bin, write_record_bin};
+use described_json::{JsonShape, read_record, write_record};
+use nano_bin::{BinFormat, BothBin, DeBin, DeBinErr, SerBin};
+use nano_json::{BothJson, DeJson, DeJsonErr, DeJsonState, JsonFormat, SerJson, SerJsonState};
+use nano_value::Value;
+use std::alloc::{AllocError, Global};
+use std::str::Chars;
+
+/// An item of a list.
+#[derive(PartialEq, Debug, Drop)]
+pub struct Item {
+    /// Its number.
+    pub id: u32,
+    /// Its name.
+    pub name: String,
+}
+
+type ItemFields = InTwo<Required<u32>, Required<String>>;
+
+impl Record for Item {
+    type Fields = ItemFields;
+
+    ghost the_names = { two_names (codes "id") (codes "name") };
+
+    ghost view = { λ x. two_of x.id x.name };
+
+    fn fields() -> ItemFields {
+        two(must("id"), must("name"))
+    }
+
+    fn make(values: <ItemFields as Shape>::Values) -> Item {
+        let (id, name) = two_apart(values);
+        Item { id, name }
+    }
+}
+
+impl<'a> Parts<'a> for Item {
+    fn refs(&'a self) -> <ItemFields as Borrowed<'a>>::Refs {
+        two(&self.id, &self.name)
+    }
+}
+
+impl Value for Item {
+    ghost means = { λ x. ⟦<ItemFields as Shape>⟧.means (⟦<Item as Record>⟧.view x) };
+
+    ghost legal = { ⟦<ItemFields as Shape>⟧.legal };
+
+    fn known(&self) {
+        known_record(self);
+    }
+}
+
+// ---- bytes
+
+impl BinFormat for Item {
+    ghost bin = { format_as ⟦<Item as Record>⟧.view ⟦<ItemFields as BinShape>⟧.format };
+
+    ghost ties = { tied };
+}
+
+impl SerBin for Item {
+    fn ser_bin(&self, alloc: Global, output: &mut Vec<u8>) -> Result<(), AllocError> {
+        write_record_bin(self, alloc, output)
+    }
+}
+
+impl DeBin for Item {
+    ghost is_read = { refl };
+
+    fn de_bin(alloc: Global, offset: &mut usize, bytes: &[u8]) -> Result<Item, DeBinErr> {
+        read_record_bin(alloc, offset, bytes)
+    }
+}
+
+impl BothBin for Item {}
+
+// ---- JSON
+
+impl JsonFormat for Item {
+    ghost json = { json_record ⟦<Item as Record>⟧.view ⟦<ItemFields as JsonShape>⟧.format
+        ⟦<Item as Record>⟧.the_names refl refl };
+
+    ghost ties = { tied };
+}
+
+impl SerJson for Item {
+    fn ser_json(&self, alloc: Global, d: usize, s: &mut SerJsonState) -> Result<(), AllocError> {
+        write_record(self, alloc, d, s)
+    }
+}
+
+impl DeJson for Item {
+    fn de_json(
+        alloc: Global,
+        state: &mut DeJsonState,
+        input: &mut Chars<'_>,
+    ) -> Result<Item, DeJsonErr> {
+        read_record(alloc, state, input)
+    }
+}
+
+impl BothJson for Item {}

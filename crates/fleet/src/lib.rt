@@ -1,0 +1,14 @@
+//! Examples: own types described once, in bytes and in JSON. Each file is one that a user copies.
+#![tactic(auto)]
+
+mod event;
+mod holder;
+mod item;
+mod server;
+#[cfg(test)]
+mod tests;
+
+pub use event::Event;
+pub use holder::Holder;
+pub use item::Item;
+pub use server::Server;
