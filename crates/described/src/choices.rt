@@ -1,5 +1,5 @@
 // The variants of an enum, in their order.
-ghost use Rattle.std.specs.Prelude.{◌≡◌, ℕ, suc};
+ghost use Rattle.std.specs.Prelude.{ℕ, suc};
 ghost use Rattle.nano_value.specs.Meaning.{Meaning};
 ghost use Rattle.nano_value.specs.Sums.{Variants, no_variants, variant, tagged, LegalFrom};
 ghost use Rattle.described.specs.Names.{Names, name, names};
@@ -14,14 +14,6 @@ pub struct Variant<S> {
     pub name: &'static str,
     /// What it holds.
     pub content: S,
-}
-
-/// A variant of this name and content.
-pub fn called<S>(name: &'static str, content: S) -> Variant<S>
-    ensures name { result.name.now ≡ name.now }
-    ensures content { result.content ≡ content }
-{
-    Variant { name, content }
 }
 
 /// The content of the first of some variants, or of one of the later ones.

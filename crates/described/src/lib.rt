@@ -12,7 +12,7 @@ mod record;
 mod rows;
 
 pub use choice::{Choice, ChoiceParts, known_choice};
-pub use choices::{BorrowedChoices, Choices, Either, Variant, called};
+pub use choices::{BorrowedChoices, Choices, Either, Variant};
 pub use contents::{Alone, Tupled, Unnamed, part};
 pub use fields::{Borrowed, Optional, Required, Shape, may, must};
 pub use record::{Parts, Record, known_record};

@@ -96,9 +96,13 @@ fn strings_are_written_with_escapes(rt: HostRuntime) -> Result<(), Fail> {
     for code in 0..33u8 {
         low.push(char::from(code))?;
     }
-    let expected =
-        "\"\\u0000\\u0001\\u0002\\u0003\\u0004\\u0005\\u0006\\u0007\\b\\t\\n\\u000b\\f\\r\\u000e\\u000f\\u0010\\u0011\\u0012\\u0013\\u0014\\u0015\\u0016\\u0017\\u0018\\u0019\\u001a\\u001b\\u001c\\u001d\\u001e\\u001f \"";
-    is_text(&rt, text_of(alloc, &low)?.as_str(), expected);
+    let mut expected = String::from_str(
+        alloc,
+        "\"\\u0000\\u0001\\u0002\\u0003\\u0004\\u0005\\u0006\\u0007\\b\\t\\n\\u000b\\f\\r",
+    )?;
+    expected.push_str("\\u000e\\u000f\\u0010\\u0011\\u0012\\u0013\\u0014\\u0015\\u0016\\u0017")?;
+    expected.push_str("\\u0018\\u0019\\u001a\\u001b\\u001c\\u001d\\u001e\\u001f \"")?;
+    is_text(&rt, text_of(alloc, &low)?.as_str(), expected.as_str());
     written(&rt, alloc, ESCAPED)?;
     for (text, lexeme) in ESCAPED {
         let owned = String::from_str(alloc, text)?;
