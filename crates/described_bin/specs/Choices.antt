@@ -5,6 +5,9 @@ use Rattle.std.proofs.Common.{sym, ◌∙◌, subst, ap, arith}
 use Rattle.nano_value.specs.Meaning.{Meaning}
 use Rattle.nano_value.specs.Sums.{tagged, count_variants}
 use Rattle.bin_bytes.specs.LittleEndian.{little_endian}
+use Rattle.bin_bytes.specs.declared.error.DeBinErr.{DeBinErr}
+use Rattle.bin_bytes.specs.declared.error.DeBinKind.TheVariants.{Own}
+use Rattle.bin_bytes.specs.Errors.{refusal}
 use Rattle.bin_bytes.specs.Reading.{Reads}
 use Rattle.nano_bin.specs.Format.{Format}
 use Rattle.nano_bin.specs.Spelling.{Spelling}
@@ -114,6 +117,10 @@ module _ {A : Type 0} (c : Chosen A) where
     }
 
 -- ---- what is read
+
+-- the tag at this place is none of the variants'
+abbrev pub IsUnknownTag : ℕ → List ℕ → DeBinErr → Type 0
+IsUnknownTag start bytes error = error ≡ refusal Own start 0 bytes
 
 -- the content that this tag says is read from here to there
 pub record ReadsChoice {A : Type 0} (means : ℕ → A → Meaning) (vs : Variants) (tag : ℕ)

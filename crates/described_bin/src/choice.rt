@@ -10,8 +10,8 @@ use nano_bin::{DeBin, DeBinErr};
 use std::alloc::{AllocError, Global};
 
 /// Reads an own enum from `offset` on, and sets `offset` behind it. A tag that no variant has is
-/// refused by the kind `Own`. Every refusal leaves `offset` as it was; one that is not for memory
-/// says that no variant is spelled there.
+/// refused by the kind `Own`, with the tag's place and length 0. Every refusal leaves `offset` as it
+/// was; one that is not for memory says that no variant is spelled there.
 pub fn read_choice_bin<E: Choice>(
     alloc: Global,
     offset: &mut usize,
@@ -27,7 +27,7 @@ where
 {
     let mut at = *offset;
     let tag = u16::de_bin(alloc, &mut at, bytes)?;
-    let values = <E::Variants as BinChoices>::read(tag, alloc, &mut at, bytes)?;
+    let values = <E::Variants as BinChoices>::read(tag, *offset, alloc, &mut at, bytes)?;
     *offset = at;
     Ok(E::make(values))
 }

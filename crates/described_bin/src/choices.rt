@@ -5,7 +5,7 @@ ghost use Rattle.bin_bytes.specs.LittleEndian.{little_endian};
 ghost use Rattle.bin_bytes.specs.Reading.{Refuses};
 ghost use Rattle.nano_bin.specs.Variants.{spelling_at, legal_bodies};
 ghost use Rattle.described_bin.specs.Choices.{Chosen, ReadsChoice, last_choice, next_choice};
-ghost use Rattle.described_bin.specs.Choices.{written_from};
+ghost use Rattle.described_bin.specs.Choices.{written_from, IsUnknownTag};
 
 use crate::fields::{BinFields, BinRefs, BinShape};
 use described::{BorrowedChoices, Choices, Either, Shape, Variant};
@@ -20,11 +20,13 @@ pub trait BinShapes: Choices {
 
 /// Variants that are read from bytes.
 pub trait BinChoices: BinShapes {
-    /// Reads the content of the variant with this tag from `offset` on, and sets `offset` behind
-    /// it. A tag that no variant has is refused by the kind `Own`. Every refusal leaves `offset` as
-    /// it was; one that is not for memory says that no such content is spelled there.
+    /// Reads the content of the variant with this tag, which stands at `start`, from `offset` on,
+    /// and sets `offset` behind it. A tag that no variant has is refused by the kind `Own`, with the
+    /// tag's place and length 0. Every refusal leaves `offset` as it was; one that is not for memory
+    /// says that no such content is spelled there.
     fn read(
         tag: u16,
+        start: usize,
         alloc: Global,
         offset: &mut usize,
         bytes: &[u8],
@@ -33,6 +35,8 @@ pub trait BinChoices: BinShapes {
             bytes.now offset.old x offset.new) }
         ensures err { IfErr result
             (Refuses (spelling_at Self.chosen.bodies tag).spelled (drop offset.old bytes.now)) }
+        ensures own { count_variants (legal_bodies Self.chosen.bodies) ≤ tag
+            → IfErr result (IsUnknownTag start bytes.now) }
         ensures kept { OnErr result (offset.new ≡ offset.old) };
 }
 
@@ -80,13 +84,14 @@ impl<S: BinShape> BinShapes for Variant<S> {
 impl<S: BinFields> BinChoices for Variant<S> {
     fn read(
         tag: u16,
+        start: usize,
         alloc: Global,
         offset: &mut usize,
         bytes: &[u8],
     ) -> Result<S::Values, DeBinErr> {
         if tag != 0 {
             return Err(DeBinErr {
-                o: *offset,
+                o: start,
                 l: 0,
                 s: bytes.len(),
                 kind: DeBinKind::Own,
@@ -117,6 +122,7 @@ impl<S: BinShape, C: BinShapes> BinShapes for (Variant<S>, C) {
 impl<S: BinFields, C: BinChoices> BinChoices for (Variant<S>, C) {
     fn read(
         tag: u16,
+        start: usize,
         alloc: Global,
         offset: &mut usize,
         bytes: &[u8],
@@ -127,7 +133,7 @@ impl<S: BinFields, C: BinChoices> BinChoices for (Variant<S>, C) {
                 Err(error) => Err(error),
             };
         }
-        match C::read(tag - 1, alloc, offset, bytes) {
+        match C::read(tag - 1, start, alloc, offset, bytes) {
             Ok(later) => Ok(Either::Later(later)),
             Err(error) => Err(error),
         }

@@ -104,9 +104,13 @@ fn events_by_tag(rt: HostRuntime) -> Result<(), Fail> {
         assert_eq!(rt; event.serialize_bin(alloc)?.as_slice(), code.as_slice());
         assert!(rt; Event::deserialize_bin(alloc, code.as_slice())? == *event);
     }
-    match Event::deserialize_bin(alloc, [3, 0].as_slice()) {
+    let mut offset = 1;
+    match Event::de_bin(alloc, &mut offset, [0, 3, 0].as_slice()) {
         Ok(_event) => assert!(rt; false, "a tag that no variant has is read"),
-        Err(error) => assert!(rt; error.kind == DeBinKind::Own),
+        Err(error) => {
+            assert_eq!(rt; error.kind, DeBinKind::Own);
+            assert_eq!(rt; (error.o, error.l, error.s), (1, 0, 3));
+        }
     }
     Ok(())
 }
