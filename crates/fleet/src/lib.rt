@@ -4,6 +4,8 @@
 mod event;
 mod holder;
 mod item;
+#[cfg(test)]
+mod row_tests;
 mod server;
 #[cfg(test)]
 mod tests;

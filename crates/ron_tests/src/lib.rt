@@ -7,6 +7,8 @@ mod fault_tests;
 #[cfg(test)]
 mod helper_tests;
 #[cfg(test)]
+mod law_tests;
+#[cfg(test)]
 mod token_tests;
 #[cfg(test)]
 mod value_tests;
