@@ -1,5 +1,5 @@
 // Lists: vectors and linked lists between square brackets, slices and arrays between parentheses.
-ghost use Rattle.std.specs.Prelude.{◌≡◌, IfOk, OnOk, OnErr, map, length};
+ghost use Rattle.std.specs.Prelude.{◌≡◌, ◌∷◌, [], cond, IfOk, OnOk, OnErr, map, length};
 ghost use Rattle.nano_text.specs.Place.{counted};
 ghost use Rattle.nano_value.specs.Meaning.{listed};
 ghost use Rattle.nano_value.specs.Ties.{seen_ties, list_ties, array_ties};
@@ -151,6 +151,17 @@ impl<T: DeRon> DeRon for LinkedList<T> {
     }
 }
 
+/// Appends a comma unless an item is the first.
+fn append_comma(first: bool, s: &mut SerRonState) -> Result<(), AllocError>
+    ensures ok { OnOk result (Appends s.old.out s.new.out (cond first [] (44 ∷ []))) }
+    ensures err { OnErr result (AppendsPart s.old.out s.new.out) }
+{
+    if first {
+        return Ok(());
+    }
+    s.out.push(',')
+}
+
 /// Appends an item of a list at level `d` behind an indent, and behind a comma unless it is the
 /// first. A refused growth leaves what was written so far.
 pub(crate) fn append_indented<T: SerRon>(
@@ -164,9 +175,7 @@ pub(crate) fn append_indented<T: SerRon>(
         (behind_indent d first (T.ron.writing.text (counted d) item.now))) }
     ensures err { OnErr result (AppendsPart s.old.out s.new.out) }
 {
-    if !first {
-        s.out.push(',')?;
-    }
+    append_comma(first, s)?;
     let inner = d.saturating_add(1);
     s.indent(inner)?;
     item.ser_ron(alloc, inner, s)
