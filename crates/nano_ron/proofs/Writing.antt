@@ -13,8 +13,8 @@ use Rattle.nano_value.specs.InOrder.{ascending_items}
 use Rattle.nano_value.specs.OrderedSets.{sorted_marked}
 use Rattle.nano_value.specs.Sets.{marked, keys_of-marked}
 use Rattle.text_values.specs.Items.{ListMarks}
-use Rattle.text_values.specs.Layouts.{Gaps, items_laid_out, ended_item, left_in_list, closed}
-use Rattle.text_values.proofs.WrittenItems.{WritesSoFar, items_are_ended}
+use Rattle.text_values.specs.Layouts.{Gaps, items_laid_out, ended_item, left_in_list, laid_out, closed}
+use Rattle.text_values.proofs.WrittenItems.{WritesSoFar, items_are_ended, write_end}
 use Rattle.nano_text.specs.Place.{counted}
 use Rattle.ron_tokens.specs.Written.{indent}
 use Rattle.nano_ron.specs.Lists.{behind_indent}
@@ -105,11 +105,26 @@ line_written now one two three inner level W same e k l =
     indented_written now one three inner level (λ n. W n ++ (44 ∷ (10 ∷ []))) same e
     (both_written one two three (W inner) (44 ∷ (10 ∷ [])) k l)
 
--- a value behind a colon
-pub behind_colon : (now more after text : List ℕ) → more ≡ now ++ encode_utf8 58
-    → after ≡ more ++ encode_utf8_all text → after ≡ now ++ encode_utf8_all (58 ∷ text)
-behind_colon now more after text e k =
-    both_written now more after (58 ∷ []) text (one_written now more 58 e) k
+-- a text behind a mark
+pub behind_mark : (now more after : List ℕ) (c : ℕ) (text : List ℕ) → more ≡ now ++ encode_utf8 c
+    → after ≡ more ++ encode_utf8_all text → after ≡ now ++ encode_utf8_all (c ∷ text)
+behind_mark now more after c text e k =
+    both_written now more after (c ∷ []) text (one_written now more c e) k
+
+-- a part of a tuple, with a comma and a space behind it
+pub part_written : (now more after part : List ℕ) → more ≡ now ++ encode_utf8_all part
+    → after ≡ more ++ codes ", " → after ≡ now ++ encode_utf8_all (part ++ 44 ∷ (32 ∷ []))
+unfolding encode
+part_written now more after part e k = both_written now more after part (44 ∷ (32 ∷ [])) e k
+
+-- and the other parts behind it
+pub parts_written : (now more after part parts : List ℕ)
+    → more ≡ now ++ encode_utf8_all (part ++ 44 ∷ (32 ∷ []))
+    → after ≡ more ++ encode_utf8_all parts
+    → after ≡ now ++ encode_utf8_all (part ++ 44 ∷ (32 ∷ parts))
+parts_written now more after part parts e k =
+    both_written now more after (part ++ 44 ∷ (32 ∷ [])) parts e k
+    ∙ ap (λ l. now ++ encode_utf8_all l) (append_assoc part (44 ∷ (32 ∷ [])) parts)
 
 -- the opening brackets of lists with lines
 pub block_opened : (now after : List ℕ) → after ≡ now ++ codes "[\n"
@@ -123,7 +138,7 @@ unfolding encode
 curly_opened now after e = e
 
 -- the closing bracket of a list that has no gap before it, and no comma behind the last item
-pub behind_closing : {A : Type 0} (now after : List ℕ) (gaps : Gaps ℕ) (marks : ListMarks ℕ)
+behind_closing : {A : Type 0} (now after : List ℕ) (gaps : Gaps ℕ) (marks : ListMarks ℕ)
     (W : A → List ℕ) → gaps.before_closing ≡ [] → (first : Bool)
     → after ≡ now ++ encode_utf8 marks.closing
     → after ≡ now ++ encode_utf8_all (left_in_list false gaps marks W first [])
@@ -133,6 +148,16 @@ behind_closing now after gaps marks W none true e =
 behind_closing now after gaps marks W none false e =
     one_written now after marks.closing e
     ∙ ap (λ l. now ++ encode_utf8_all (l ++ marks.closing ∷ [])) (sym none)
+
+-- once that bracket is written
+pub list_ended : {A : Type 0} (gaps : Gaps ℕ) (marks : ListMarks ℕ) (W : A → List ℕ)
+    → gaps.before_closing ≡ [] → (before now after : List ℕ) (first : Bool) (left all : List A)
+    → WritesSoFar false gaps marks W before now first left all → left ≡ []
+    → after ≡ now ++ encode_utf8 marks.closing
+    → after ≡ before ++ encode_utf8_all (laid_out false gaps marks W all)
+list_ended gaps marks W none before now after first left all h empty e =
+    write_end false gaps marks W before now after first left all h empty
+    (behind_closing now after gaps marks W none first e)
 
 -- an item behind its indent, and behind a comma unless it is the first
 pub indented_in_list : (now mid after text : List ℕ) (d : ℕ) (first : Bool)

@@ -1,5 +1,5 @@
 // Tuples: two, three or four parts between parentheses.
-ghost use Rattle.std.specs.Prelude.{◌++◌, OnOk, OnErr};
+ghost use Rattle.std.specs.Prelude.{◌++◌, ◌∷◌, [], OnOk, OnErr};
 ghost use Rattle.nano_value.specs.Meaning.{paired};
 ghost use Rattle.nano_value.specs.Ties.{seen_ties, pair_ties};
 ghost use Rattle.nano_text.specs.Outcomes.{Appends, AppendsPart};
@@ -90,21 +90,36 @@ fn read_four<A: DeRon, B: DeRon, C: DeRon, D: DeRon>(
     Ok((first, rest.0, rest.1, rest.2))
 }
 
-/// Appends a part of a tuple and what stands behind it. A refused growth leaves what was written so
-/// far.
+/// Appends a part of a tuple that is not the last, and a comma and a space behind it. A refused
+/// growth leaves what was written so far.
 fn append_part<T: SerRon>(
     alloc: Global,
     part: &T,
-    mark: &str,
+    d: usize,
+    s: &mut SerRonState,
+) -> Result<(), AllocError>
+    ensures ok { OnOk result (Appends s.old.out s.new.out
+        (T.ron.writing.text d part.now ++ 44 ∷ (32 ∷ []))) }
+    ensures err { OnErr result (AppendsPart s.old.out s.new.out) }
+{
+    part.ser_ron(alloc, d, s)?;
+    s.out.push_str(", ")
+}
+
+/// Appends the last part of a tuple, and the closing parenthesis. A refused growth leaves what was
+/// written so far.
+fn append_last<T: SerRon>(
+    alloc: Global,
+    part: &T,
     d: usize,
     s: &mut SerRonState,
 ) -> Result<(), AllocError>
     ensures ok { OnOk result
-        (Appends s.old.out s.new.out (T.ron.writing.text d part.now ++ mark.now)) }
+        (Appends s.old.out s.new.out (T.ron.writing.text d part.now ++ 41 ∷ [])) }
     ensures err { OnErr result (AppendsPart s.old.out s.new.out) }
 {
     part.ser_ron(alloc, d, s)?;
-    s.out.push_str(mark)
+    s.out.push(')')
 }
 
 // ---- two parts
@@ -127,8 +142,8 @@ fn append_pair<A: SerRon, B: SerRon>(
     ensures err { OnErr result (AppendsPart s.old.out s.new.out) }
 {
     s.out.push('(')?;
-    append_part(alloc, &parts.0, ", ", d, s)?;
-    append_part(alloc, &parts.1, ")", d, s)
+    append_part(alloc, &parts.0, d, s)?;
+    append_last(alloc, &parts.1, d, s)
 }
 
 impl<A: SerRon, B: SerRon> SerRon for (A, B) {
@@ -189,9 +204,9 @@ fn append_triple<A: SerRon, B: SerRon, C: SerRon>(
     ensures err { OnErr result (AppendsPart s.old.out s.new.out) }
 {
     s.out.push('(')?;
-    append_part(alloc, &parts.0, ", ", d, s)?;
-    append_part(alloc, &parts.1, ", ", d, s)?;
-    append_part(alloc, &parts.2, ")", d, s)
+    append_part(alloc, &parts.0, d, s)?;
+    append_part(alloc, &parts.1, d, s)?;
+    append_last(alloc, &parts.2, d, s)
 }
 
 impl<A: SerRon, B: SerRon, C: SerRon> SerRon for (A, B, C) {
@@ -252,10 +267,10 @@ fn append_quadruple<A: SerRon, B: SerRon, C: SerRon, D: SerRon>(
     ensures err { OnErr result (AppendsPart s.old.out s.new.out) }
 {
     s.out.push('(')?;
-    append_part(alloc, &parts.0, ", ", d, s)?;
-    append_part(alloc, &parts.1, ", ", d, s)?;
-    append_part(alloc, &parts.2, ", ", d, s)?;
-    append_part(alloc, &parts.3, ")", d, s)
+    append_part(alloc, &parts.0, d, s)?;
+    append_part(alloc, &parts.1, d, s)?;
+    append_part(alloc, &parts.2, d, s)?;
+    append_last(alloc, &parts.3, d, s)
 }
 
 impl<A: SerRon, B: SerRon, C: SerRon, D: SerRon> SerRon for (A, B, C, D) {

@@ -1,10 +1,10 @@
 use Rattle.std.proofs.Common.{◌≡◌, rules, false, string_bytes, encode_utf8, refl}
 use Rattle.std.proofs.lemmas.Result.{on_ok_weaker}
 use Rattle.nano_text.specs.Place.{counted}
-use Rattle.text_values.proofs.WrittenItems.{write_start, write_step, write_end, pushed}
+use Rattle.text_values.proofs.WrittenItems.{write_start, write_step, pushed}
 use Rattle.ron_tokens.specs.Brackets.{block_marks}
 use Rattle.ron_tokens.specs.Styles.{indents}
-use Rattle.nano_ron.proofs.Writing.{one_written, behind_closing}
+use Rattle.nano_ron.proofs.Writing.{one_written, list_ended}
 use Rattle.nano_ron.proofs.lists.append_linked_list.Goals as goal
 
 pub loop-item-init : goal.loop-item-init
@@ -20,4 +20,4 @@ returns-clause-ok g c =
     let before = string_bytes c.args.s.now.out in
     let now = string_bytes c.loop-item.s.out in
     let after = string_bytes c.push-2.new.self in
-    on_ok_weaker c.push-2.result (λ last. write_end false (indents c.args.d) block_marks (g.T.RonFormat.ron.writing.text (counted c.args.d)) before now after c.loop-item.first c.loop-item.item-iterator c.args.items.now c.loop-item.invariant c.in-None.ensures.steps.0 (behind_closing now after (indents c.args.d) block_marks (g.T.RonFormat.ron.writing.text (counted c.args.d)) refl c.loop-item.first last)) (pushed c.push-2.result now after (encode_utf8 93) c.push-2.ensures.bytes)
+    on_ok_weaker c.push-2.result (λ last. list_ended (indents c.args.d) block_marks (g.T.RonFormat.ron.writing.text (counted c.args.d)) refl before now after c.loop-item.first c.loop-item.item-iterator c.args.items.now c.loop-item.invariant c.in-None.ensures.steps.0 last) (pushed c.push-2.result now after (encode_utf8 93) c.push-2.ensures.bytes)

@@ -3,10 +3,10 @@ use Rattle.std.proofs.lemmas.Result.{on_ok_weaker}
 use Rattle.std.proofs.lemmas.List.{drop_all}
 use Rattle.nano_text.specs.Place.{counted}
 use Rattle.text_values.specs.Layouts.{item_in_list}
-use Rattle.text_values.proofs.WrittenItems.{write_start, write_next, write_end, pushed}
+use Rattle.text_values.proofs.WrittenItems.{write_start, write_next, pushed}
 use Rattle.ron_tokens.specs.Brackets.{paren_marks}
 use Rattle.ron_tokens.specs.Styles.{spaces}
-use Rattle.nano_ron.proofs.Writing.{one_written, behind_closing}
+use Rattle.nano_ron.proofs.Writing.{one_written, list_ended}
 use Rattle.nano_ron.proofs.lists.append_slice.Goals as goal
 
 pub loop-item-init : goal.loop-item-init
@@ -25,4 +25,4 @@ returns-clause-ok g c =
     let before = string_bytes c.args.s.now.out in
     let now = string_bytes c.loop-item.s.out in
     let after = string_bytes c.push-2.new.self in
-    on_ok_weaker c.push-2.result (λ last. write_end false spaces paren_marks (g.T.RonFormat.ron.writing.text (counted c.args.d)) before now after c.loop-item.first (drop c.loop-item.item-index items) items c.loop-item.invariant (drop_all c.loop-item.item-index items (omega arith)) (behind_closing now after spaces paren_marks (g.T.RonFormat.ron.writing.text (counted c.args.d)) refl c.loop-item.first last)) (pushed c.push-2.result now after (encode_utf8 41) c.push-2.ensures.bytes)
+    on_ok_weaker c.push-2.result (λ last. list_ended spaces paren_marks (g.T.RonFormat.ron.writing.text (counted c.args.d)) refl before now after c.loop-item.first (drop c.loop-item.item-index items) items c.loop-item.invariant (drop_all c.loop-item.item-index items (omega arith)) last) (pushed c.push-2.result now after (encode_utf8 41) c.push-2.ensures.bytes)
