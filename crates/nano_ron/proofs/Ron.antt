@@ -1,7 +1,7 @@
 -- What the readers of RON know of its tokens.
 use Rattle.std.specs.declared.str.Chars.{Chars}
 use Rattle.std.specs.Str.Iter.{chars_rest}
-use Rattle.std.proofs.Common.{◌≡◌, ◌≢◌, ◌<◌, ◌≤◌, ◌^◌, Bool, true, false, cond, List, ℕ, [], length, codes, bytes_eq, inl, refl, ap, sym, ◌∙◌, arith}
+use Rattle.std.proofs.Common.{◌≡◌, ◌≢◌, ◌<◌, ◌≤◌, ◌^◌, Bool, true, false, cond, [], length, codes, inl, refl, ap, sym, ◌∙◌, arith}
 use Rattle.std.proofs.lemmas.Slice.Eq.{bytes_eq-Decides}
 use Rattle.nano_text.proofs.LiveText.{live_fewer}
 use Rattle.nano_value.specs.Meaning.{usize_bound}

@@ -1,4 +1,4 @@
-use Rattle.std.proofs.Common.{ℕ, false, drop, arith, ap, ◌∙◌, ◌++◌, sym, string_bytes, encode_utf8, encode_utf8_all, refl}
+use Rattle.std.proofs.Common.{ℕ, false, drop, arith, ap, ◌∙◌, ◌++◌, string_bytes, encode_utf8, encode_utf8_all, refl}
 use Rattle.std.proofs.lemmas.Result.{on_ok_weaker}
 use Rattle.std.proofs.lemmas.List.{drop_all}
 use Rattle.nano_text.specs.Place.{counted}
