@@ -1,7 +1,9 @@
-//! Tests of `ron_tokens` over its public surface. They stand in a crate of their own, so that they
-//! are proved beside it and not with it.
+//! Tests of `ron_tokens` and `nano_ron` over their public surfaces. They stand in a crate of their
+//! own, so that they are proved beside them and not with them.
 #![tactic(auto)]
 
+#[cfg(test)]
+mod checks;
 #[cfg(test)]
 mod fault_tests;
 #[cfg(test)]
@@ -10,5 +12,7 @@ mod helper_tests;
 mod law_tests;
 #[cfg(test)]
 mod token_tests;
+#[cfg(test)]
+mod type_tests;
 #[cfg(test)]
 mod value_tests;

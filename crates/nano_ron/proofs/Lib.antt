@@ -1,0 +1,4 @@
+pub mod Ron
+pub mod Integers
+pub mod Writing
+pub mod Arrays

@@ -1,0 +1,68 @@
+-- What the readers of RON know of its tokens.
+use Rattle.std.specs.declared.str.Chars.{Chars}
+use Rattle.std.specs.Str.Iter.{chars_rest}
+use Rattle.std.proofs.Common.{◌≡◌, ◌≢◌, ◌<◌, ◌≤◌, ◌^◌, Bool, true, false, cond, [], length, codes, inl, refl, ap, sym, ◌∙◌, arith}
+use Rattle.std.proofs.lemmas.Slice.Eq.{bytes_eq-Decides}
+use Rattle.nano_text.proofs.LiveText.{live_fewer}
+use Rattle.nano_value.specs.Meaning.{usize_bound}
+use Rattle.text_values.specs.CutLaws.{CutLaws}
+use Rattle.text_values.proofs.TokensLeft.{tokens_left}
+use Rattle.ron_tokens.specs.Cut.{Cut, nothing}
+use Rattle.ron_tokens.specs.Ron.{MayBegin, none, ron, ron_grammar, no_gap}
+use Rattle.ron_tokens.specs.Marks.{is_none, is_block_close, is_curly_close, is_end}
+use Rattle.ron_tokens.specs.State.{at}
+use Rattle.ron_tokens.specs.Token.{Token, ident, curly_close, block_close, end}
+use Rattle.ron_tokens.specs.declared.state.DeRonState.{DeRonState}
+use Rattle.ron_tokens.proofs.Cuts.{cut_one_way}
+use Rattle.ron_tokens.proofs.Shorter.{cut_takes}
+
+pub begins_no_end : (t : Token) → MayBegin t → is_end t ≡ false
+begins_no_end end h = absurd h
+begins_no_end _ h = refl
+
+pub nothing_is_cut : Cut [] end []
+nothing_is_cut = record { gap = []; body = []; split = refl; skipped = no_gap; lexeme = nothing (inl refl, refl) }
+
+abbrev pub ron_laws : CutLaws ron ron_grammar
+ron_laws = record {
+  one_way = cut_one_way;
+  is_end = is_end;
+  shorter = cut_takes;
+  begins_no_end = begins_no_end;
+  end = end;
+  end_is_cut = nothing_is_cut;
+  end_follows = tt;
+}
+
+zero_or_one : (b : Bool) → cond b 0 1 ≤ 1
+zero_or_one true = omega arith
+zero_or_one false = omega arith
+
+-- fewer tokens are left than a `usize` counts
+pub few_left : (s : DeRonState) (i : Chars) → length (chars_rest i) < 2 ^ 63
+    → tokens_left is_end (at s i) < usize_bound
+unfolding tokens_left
+few_left s i few = omega (arith, few, live_fewer s.cur i, zero_or_one (is_end (at s i).token))
+
+-- ---- what the tests of the pending token say
+
+pub is_the_none : (t : Token) → is_none t ≡ true → t ≡ none
+is_the_none (ident name) e = ap ident ((bytes_eq-Decides name (codes "None")).0 e)
+is_the_none _ e = cc e
+
+pub not_none : (t : Token) → is_none t ≡ false → t ≢ none
+not_none t e is = let x = sym e ∙ ap is_none is in cc x
+
+pub close_is : (t : Token) → is_block_close t ≡ true → t ≡ block_close
+close_is block_close e = refl
+close_is _ e = cc e
+
+pub not_close : (t : Token) → is_block_close t ≡ false → t ≢ block_close
+not_close t e is = let x = sym e ∙ ap is_block_close is in cc x
+
+pub curly_is : (t : Token) → is_curly_close t ≡ true → t ≡ curly_close
+curly_is curly_close e = refl
+curly_is _ e = cc e
+
+pub not_curly : (t : Token) → is_curly_close t ≡ false → t ≢ curly_close
+not_curly t e is = let x = sym e ∙ ap is_curly_close is in cc x

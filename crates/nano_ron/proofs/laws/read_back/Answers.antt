@@ -1,0 +1,36 @@
+use Rattle.std.proofs.Common.{◌∙◌, sym, subst}
+use Rattle.std.proofs.lemmas.Bool.{true_from_ne_false}
+use Rattle.std.proofs.lemmas.Result.{IfErr-weaker, IfOk-weaker}
+use Rattle.nano_value.specs.Meaning.{Meaning}
+use Rattle.nano_value.specs.Ties.{Ties}
+use Rattle.text_values.proofs.RoundTrip.{written_fits, one_fits_text}
+use Rattle.nano_ron.specs.Format.{Format}
+use Rattle.nano_ron.proofs.Ron.{ron_laws}
+use Rattle.nano_ron.proofs.laws.read_back.Goals as goal
+
+-- what is legal for the type is legal for the format
+legal_there : {A : Type 0} {means : A → Meaning} {legal : Meaning → Type 0} (f : Format A)
+    → Ties means legal f.writing.means f.spelling.legal → (x : A) → legal (means x)
+    → f.spelling.legal (f.writing.means x)
+legal_there {means = means} f t x h =
+    subst f.spelling.legal (λ i. sym t.means_is i x) (t.allows (means x) h)
+
+pub returns-in-Ok-clause-same : goal.returns-in-Ok-clause-same
+returns-in-Ok-clause-same g c =
+    let f = g.T.RonFormat.ron in
+    let w = f.writing in
+    let x = c.args.written.now in
+    let written = f.is_written x (legal_there f g.met.T.RonFormat.ties x c.known.ensures) 0 in
+    IfOk-weaker c.deserialize_ron.result _ _ (λ read found sound.
+    let fits = written_fits ron_laws f.spelling.spelled (w.tokens x) (w.text 0 x) c.as_str.result.now (g.T.Value.means x) written (c.as_str.ensures.value ∙ c.in-Ok.ensures) (c.written_tokens_spell_a_sound_value.ensures sound) in
+    one_fits_text ron_laws f.spelling.laws _ _ _ found fits) c.deserialize_ron.ensures.fits
+
+pub returns-in-Ok-clause-memory : goal.returns-in-Ok-clause-memory
+returns-in-Ok-clause-memory g c =
+    let f = g.T.RonFormat.ron in
+    let w = f.writing in
+    let x = c.args.written.now in
+    let written = f.is_written x (legal_there f g.met.T.RonFormat.ties x c.known.ensures) 0 in
+    IfErr-weaker c.deserialize_ron.result _ _ (λ e none sound.
+    let fits = written_fits ron_laws f.spelling.spelled (w.tokens x) (w.text 0 x) c.as_str.result.now (g.T.Value.means x) written (c.as_str.ensures.value ∙ c.in-Ok.ensures) (c.written_tokens_spell_a_sound_value.ensures sound) in
+    true_from_ne_false e.memory (λ known. none.0 known _ fits)) c.deserialize_ron.ensures.refused

@@ -1,0 +1,24 @@
+//! RON as the crate nanoserde reads and writes it: typed values to text and back. The tokens of a
+//! text, a reader's state with its helpers and errors, and a writer's state are passed on.
+#![tactic(auto)]
+
+mod bools;
+mod boxes;
+mod error;
+pub mod laws;
+mod lists;
+mod maps;
+mod numbers;
+mod options;
+mod room;
+mod sets;
+mod signed;
+mod texts;
+mod traits;
+mod tuples;
+mod undo;
+
+pub use error::{DeRonErr, DeRonState, DeRonTok, SerRonState};
+pub use nano_text::keep_written;
+pub use traits::{BothRon, DeRon, RonFormat, SerRon};
+pub use undo::end_if_refused;

@@ -1,0 +1,40 @@
+// Options: the word `None`, or the item.
+ghost use Rattle.nano_value.specs.Ties.{option_ties};
+ghost use Rattle.nano_ron.specs.Options.{option_format};
+
+use crate::traits::{BothRon, DeRon, RonFormat, SerRon};
+use ron_tokens::{DeRonErr, DeRonState, SerRonState};
+use std::alloc::{AllocError, Global};
+use std::str::Chars;
+
+impl<T: RonFormat> RonFormat for Option<T> {
+    ghost ron = { option_format T.ron };
+
+    ghost ties = { option_ties T.ties };
+}
+
+impl<T: SerRon> SerRon for Option<T> {
+    fn ser_ron(&self, alloc: Global, d: usize, s: &mut SerRonState) -> Result<(), AllocError> {
+        match self {
+            None => s.out.push_str("None"),
+            Some(value) => value.ser_ron(alloc, d, s),
+        }
+    }
+}
+
+impl<T: DeRon> DeRon for Option<T> {
+    fn de_ron(
+        alloc: Global,
+        state: &mut DeRonState,
+        input: &mut Chars<'_>,
+    ) -> Result<Option<T>, DeRonErr> {
+        if state.is_none() {
+            state.next_tok(alloc, input)?;
+            return Ok(None);
+        }
+        let value = T::de_ron(alloc, state, input)?;
+        Ok(Some(value))
+    }
+}
+
+impl<T: BothRon> BothRon for Option<T> {}

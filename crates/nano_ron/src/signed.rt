@@ -1,0 +1,196 @@
+// Signed integers: a whole number in the type's range, with or without a minus sign.
+// Their readers are inlined: what is read then passes through no answer with room for an error.
+ghost use Rattle.std.specs.Int.{w8, w16, w32, w64};
+ghost use Rattle.nano_value.specs.Meaning.{number};
+ghost use Rattle.nano_value.specs.Ties.{tied};
+ghost use Rattle.nano_ron.specs.Numbers.{IsRangeOf, signed, signed_format, within_8, within_16};
+ghost use Rattle.nano_ron.specs.Numbers.{within_32, within_64};
+ghost use Rattle.nano_ron.specs.Readers.{Reads, Refuses};
+ghost use Rattle.nano_ron.specs.State.{at};
+
+use crate::traits::{BothRon, DeRon, RonFormat, SerRon};
+use crate::undo::end_if_refused;
+use nano_text::append_signed;
+use ron_tokens::{DeRonErr, DeRonState, SerRonState};
+use std::alloc::{AllocError, Global};
+use std::str::Chars;
+
+/// A signed integer type of a width.
+trait Signed: Sized {
+    ghost use Rattle.std.specs.Prelude.{◌≡◌, ℤ, FitsSigned};
+    ghost use Rattle.std.specs.Int.{Width};
+
+    ghost width: { Width };
+
+    /// The number that a value is.
+    ghost value: { Self → ℤ };
+
+    /// The value that is this number.
+    fn narrow(number: i64) -> Self
+        requires { FitsSigned width number }
+        ensures { value result ≡ number };
+}
+
+/// Reads a whole number, with or without a minus sign, from `min` to `max`. Where it is refused, the
+/// state stands anywhere.
+#[inline(always)]
+fn read_signed<T: Signed>(
+    alloc: Global,
+    state: &mut DeRonState,
+    input: &mut Chars<'_>,
+    min: i64,
+    max: i64,
+) -> Result<T, DeRonErr>
+    requires { IsRangeOf T.width min max }
+    ensures fits { Reads (signed T.width).spelled (λ x. number (T.value x))
+        (at state.old input.old) (at state.new input.new) result }
+    ensures refused { Refuses (signed T.width).spelled (at state.old input.old) result }
+{
+    let number = state.i64_range(alloc, min, max)?;
+    state.next_tok(alloc, input)?;
+    Ok(T::narrow(number))
+}
+
+impl RonFormat for i8 {
+    ghost ron = { signed_format w8 within_8 };
+
+    ghost ties = { tied };
+}
+
+impl SerRon for i8 {
+    fn ser_ron(&self, _alloc: Global, _d: usize, s: &mut SerRonState) -> Result<(), AllocError> {
+        append_signed(&mut s.out, i64::from(*self))
+    }
+}
+
+impl Signed for i8 {
+    ghost width = { w8 };
+
+    ghost value = { λ x. x };
+
+    fn narrow(number: i64) -> i8 {
+        number as i8
+    }
+}
+
+impl DeRon for i8 {
+    #[inline(always)]
+    fn de_ron(
+        alloc: Global,
+        state: &mut DeRonState,
+        input: &mut Chars<'_>,
+    ) -> Result<i8, DeRonErr> {
+        let read = read_signed(alloc, state, input, i8::MIN as i64, i8::MAX as i64);
+        end_if_refused(state, read)
+    }
+}
+
+impl BothRon for i8 {}
+
+impl RonFormat for i16 {
+    ghost ron = { signed_format w16 within_16 };
+
+    ghost ties = { tied };
+}
+
+impl SerRon for i16 {
+    fn ser_ron(&self, _alloc: Global, _d: usize, s: &mut SerRonState) -> Result<(), AllocError> {
+        append_signed(&mut s.out, i64::from(*self))
+    }
+}
+
+impl Signed for i16 {
+    ghost width = { w16 };
+
+    ghost value = { λ x. x };
+
+    fn narrow(number: i64) -> i16 {
+        number as i16
+    }
+}
+
+impl DeRon for i16 {
+    #[inline(always)]
+    fn de_ron(
+        alloc: Global,
+        state: &mut DeRonState,
+        input: &mut Chars<'_>,
+    ) -> Result<i16, DeRonErr> {
+        let read = read_signed(alloc, state, input, i16::MIN as i64, i16::MAX as i64);
+        end_if_refused(state, read)
+    }
+}
+
+impl BothRon for i16 {}
+
+impl RonFormat for i32 {
+    ghost ron = { signed_format w32 within_32 };
+
+    ghost ties = { tied };
+}
+
+impl SerRon for i32 {
+    fn ser_ron(&self, _alloc: Global, _d: usize, s: &mut SerRonState) -> Result<(), AllocError> {
+        append_signed(&mut s.out, i64::from(*self))
+    }
+}
+
+impl Signed for i32 {
+    ghost width = { w32 };
+
+    ghost value = { λ x. x };
+
+    fn narrow(number: i64) -> i32 {
+        number as i32
+    }
+}
+
+impl DeRon for i32 {
+    #[inline(always)]
+    fn de_ron(
+        alloc: Global,
+        state: &mut DeRonState,
+        input: &mut Chars<'_>,
+    ) -> Result<i32, DeRonErr> {
+        let read = read_signed(alloc, state, input, i32::MIN as i64, i32::MAX as i64);
+        end_if_refused(state, read)
+    }
+}
+
+impl BothRon for i32 {}
+
+impl RonFormat for i64 {
+    ghost ron = { signed_format w64 within_64 };
+
+    ghost ties = { tied };
+}
+
+impl SerRon for i64 {
+    fn ser_ron(&self, _alloc: Global, _d: usize, s: &mut SerRonState) -> Result<(), AllocError> {
+        append_signed(&mut s.out, *self)
+    }
+}
+
+impl Signed for i64 {
+    ghost width = { w64 };
+
+    ghost value = { λ x. x };
+
+    fn narrow(number: i64) -> i64 {
+        number
+    }
+}
+
+impl DeRon for i64 {
+    #[inline(always)]
+    fn de_ron(
+        alloc: Global,
+        state: &mut DeRonState,
+        input: &mut Chars<'_>,
+    ) -> Result<i64, DeRonErr> {
+        let read = read_signed(alloc, state, input, i64::MIN, i64::MAX);
+        end_if_refused(state, read)
+    }
+}
+
+impl BothRon for i64 {}
