@@ -1,6 +1,6 @@
 //! The faults of texts: what is told, and at which place.
 
-use crate::table_tests::holds;
+use crate::table_tests::{holds, is_text};
 use nano_toml::{TomlErr, TomlParser};
 use std::alloc::Global;
 use std::process::Abort;
@@ -9,8 +9,8 @@ use std::test::Fail;
 // The error tells this, there.
 fn is_fault(rt: &impl Abort, error: &TomlErr, row: &(&str, &str, usize, usize)) {
     let (text, message, line, col) = row;
-    assert_eq!(rt; error.msg.as_str(), *message, "of {text}");
-    assert_eq!(rt; (error.line, error.col), (*line, *col), "of {text}");
+    is_text(rt, error.msg.as_str(), message, text);
+    holds(rt, error.line == *line && error.col == *col, text);
 }
 
 // Each text is refused with the message beside it. The numbers are how many line feeds, and how

@@ -1,7 +1,9 @@
 //! Large texts.
 
+use crate::table_tests::holds;
 use nano_toml::{Toml, TomlParser};
 use std::alloc::Global;
+use std::collections::HashMap;
 use std::test::Fail;
 
 // The text so many times.
@@ -13,56 +15,138 @@ fn repeated(alloc: Global, text: &str, times: usize) -> Result<String, Fail> {
     Ok(all)
 }
 
+// A key and its number, so many times.
+fn numbered_keys(alloc: Global, times: u32) -> Result<String, Fail> {
+    let mut text = String::new(alloc);
+    for i in 0..times {
+        let line = format!(in alloc; "\"key {i}\" = {i}\n")?;
+        text.push_str(line.as_str())?;
+    }
+    Ok(text)
+}
+
+// Whether the table has the key of this number, with it.
+fn has_key(alloc: Global, table: &HashMap<String, Toml>, number: u32) -> Result<bool, Fail> {
+    let key = format!(in alloc; "key {number}")?;
+    Ok(is_number(table.get(key.as_str()), i128::from(number)))
+}
+
+// Whether this number was found.
+fn is_number(found: Option<&Toml>, number: i128) -> bool {
+    match found {
+        Some(Toml::Num(value)) => *value == number,
+        _ => false,
+    }
+}
+
 #[test]
 fn many_keys(rt: HostRuntime) -> Result<(), Fail> {
     let alloc = rt.alloc();
-    let mut text = String::new(alloc);
-    for i in 0..20_000u32 {
-        text.push_str(format!(in alloc; "\"key {i}\" = {i}\n")?.as_str())?;
-    }
+    let text = numbered_keys(alloc, 20_000)?;
     let table = TomlParser::parse(alloc, text.as_str())?;
-    assert_eq!(rt; table.len(), 20_000);
+    holds(&rt, table.len() == 20_000, "keys");
     for i in 0..20_000u32 {
-        let key = format!(in alloc; "key {i}")?;
-        assert!(rt;
-            table.get(key.as_str()) == Some(&Toml::Num(i128::from(i))),
-            "{i}"
-        );
+        holds(&rt, has_key(alloc, &table, i)?, "key");
     }
     Ok(())
 }
 
-#[test]
-fn many_elements(rt: HostRuntime) -> Result<(), Fail> {
-    let alloc = rt.alloc();
+// A list of so many lists of one number each.
+fn lists_in_a_list(alloc: Global, times: u32) -> Result<String, Fail> {
     let mut text = String::from_str(alloc, "list = [")?;
-    for i in 0..5_000 {
-        text.push_str(format!(in alloc; "[{i}], ")?.as_str())?;
+    for i in 0..times {
+        let item = format!(in alloc; "[{i}], ")?;
+        text.push_str(item.as_str())?;
     }
     text.push_str("]\n")?;
-    for i in 0..5_000 {
-        text.push_str(format!(in alloc; "[[tables]]\nn = {i}\n")?.as_str())?;
+    Ok(text)
+}
+
+// So many tables of one number each.
+fn tables_of_one_key(alloc: Global, times: u32) -> Result<String, Fail> {
+    let mut text = String::new(alloc);
+    for i in 0..times {
+        let table = format!(in alloc; "[[tables]]\nn = {i}\n")?;
+        text.push_str(table.as_str())?;
     }
-    let table = TomlParser::parse(alloc, text.as_str())?;
-    assert_eq!(rt; table.len(), 2);
-    let mut counted = 0;
-    if let Some(Toml::SimpleArray(values)) = table.get("list") {
-        assert_eq!(rt; values.len(), 5_000);
+    Ok(text)
+}
+
+// Whether this is a list of this number alone.
+fn is_list_of(value: &Toml, number: i128) -> bool {
+    match value {
+        Toml::SimpleArray(values) => values.len() == 1 && is_number(values.first(), number),
+        _ => false,
+    }
+}
+
+// How many lists stand here, each of its own place alone.
+fn lists_of_their_places(value: &Toml) -> usize {
+    let mut counted = 0usize;
+    if let Toml::SimpleArray(values) = value {
         for (i, value) in values.iter().enumerate() {
-            let one = Toml::SimpleArray(vec![in alloc; Toml::Num(i as i128)]?);
-            assert!(rt; *value == one, "{i}");
+            if is_list_of(value, i as i128) {
+                counted = counted.saturating_add(1);
+            }
         }
-        counted += 1;
     }
-    if let Some(Toml::Array(tables)) = table.get("tables") {
-        assert_eq!(rt; tables.len(), 5_000);
+    counted
+}
+
+// How many tables stand here, each with its own place alone.
+fn tables_of_their_places(value: &Toml) -> usize {
+    let mut counted = 0usize;
+    if let Toml::Array(tables) = value {
         for (i, table) in tables.iter().enumerate() {
-            assert!(rt; table.get("n") == Some(&Toml::Num(i as i128)), "{i}");
+            if table.len() == 1 && is_number(table.get("n"), i as i128) {
+                counted = counted.saturating_add(1);
+            }
         }
-        counted += 1;
     }
-    assert_eq!(rt; counted, 2);
+    counted
+}
+
+#[test]
+fn many_lists(rt: HostRuntime) -> Result<(), Fail> {
+    let alloc = rt.alloc();
+    let text = lists_in_a_list(alloc, 5_000)?;
+    let table = TomlParser::parse(alloc, text.as_str())?;
+    holds(&rt, table.len() == 1, "keys");
+    let found = table
+        .get("list")
+        .map_or(0, |value| lists_of_their_places(value));
+    holds(&rt, found == 5_000, "lists");
     Ok(())
+}
+
+#[test]
+fn many_tables(rt: HostRuntime) -> Result<(), Fail> {
+    let alloc = rt.alloc();
+    let text = tables_of_one_key(alloc, 5_000)?;
+    let table = TomlParser::parse(alloc, text.as_str())?;
+    holds(&rt, table.len() == 1, "keys");
+    let found = table
+        .get("tables")
+        .map_or(0, |value| tables_of_their_places(value));
+    holds(&rt, found == 5_000, "tables");
+    Ok(())
+}
+
+// Whether a string of 20,000 such pieces between these quotes gives so many of what it stands for.
+fn is_long_string(alloc: Global, quotes: &str, piece: &str, gives: &str) -> Result<bool, Fail> {
+    let inside = repeated(alloc, piece, 20_000)?;
+    let text = format!(in alloc; "a = {quotes}{inside}{quotes}")?;
+    let table = TomlParser::parse(alloc, text.as_str())?;
+    let want = repeated(alloc, gives, 20_000)?;
+    Ok(is_string(table.get("a"), want.as_str()))
+}
+
+// Whether this string was found.
+fn is_string(found: Option<&Toml>, want: &str) -> bool {
+    match found {
+        Some(Toml::Str(text)) => text.as_str() == want,
+        _ => false,
+    }
 }
 
 #[test]
@@ -74,11 +158,7 @@ fn long_strings(rt: HostRuntime) -> Result<(), Fail> {
         ("\"\"\"", "\"\"x", "\"\"x"),
         ("\"\"\"", "\\\"\"\"x", "\"\"\"x"),
     ] {
-        let inside = repeated(alloc, piece, 20_000)?;
-        let text = format!(in alloc; "a = {quotes}{inside}{quotes}")?;
-        let table = TomlParser::parse(alloc, text.as_str())?;
-        let want = Toml::Str(repeated(alloc, gives, 20_000)?);
-        assert!(rt; table.get("a") == Some(&want), "of {piece}");
+        holds(&rt, is_long_string(alloc, quotes, piece, gives)?, piece);
     }
     Ok(())
 }

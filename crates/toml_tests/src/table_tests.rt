@@ -6,17 +6,24 @@ use std::collections::HashMap;
 use std::process::Abort;
 use std::test::Fail;
 
+// A value that holds no other, on one line.
+fn show_scalar(alloc: Global, value: &Toml) -> Result<String, AllocError> {
+    match value {
+        Toml::Str(text) => format!(in alloc; "{text:?}"),
+        Toml::Bool(value) => format!(in alloc; "{value}"),
+        Toml::Num(number) => format!(in alloc; "{number}"),
+        Toml::Dec(text) => format!(in alloc; "dec {text}"),
+        Toml::Nan(minus) => String::from_str(alloc, if *minus { "-nan" } else { "nan" }),
+        Toml::Inf(minus) => String::from_str(alloc, if *minus { "-inf" } else { "inf" }),
+        Toml::Date(text) => format!(in alloc; "date {text}"),
+        Toml::Array(_) | Toml::SimpleArray(_) => Ok(String::new(alloc)),
+    }
+}
+
 // A value on one line.
 #[cycle(show)]
 fn show_value(alloc: Global, out: &mut String, value: &Toml) -> Result<(), Fail> {
     match value {
-        Toml::Str(text) => out.push_str(format!(in alloc; "{text:?}")?.as_str())?,
-        Toml::Bool(value) => out.push_str(format!(in alloc; "{value}")?.as_str())?,
-        Toml::Num(number) => out.push_str(format!(in alloc; "{number}")?.as_str())?,
-        Toml::Dec(text) => out.push_str(format!(in alloc; "dec {text}")?.as_str())?,
-        Toml::Nan(minus) => out.push_str(if *minus { "-nan" } else { "nan" })?,
-        Toml::Inf(minus) => out.push_str(if *minus { "-inf" } else { "inf" })?,
-        Toml::Date(text) => out.push_str(format!(in alloc; "date {text}")?.as_str())?,
         Toml::Array(tables) => {
             out.push_str("tables")?;
             for table in tables {
@@ -24,34 +31,46 @@ fn show_value(alloc: Global, out: &mut String, value: &Toml) -> Result<(), Fail>
                 show_table(alloc, out, table)?;
                 out.push_str("}")?;
             }
+            Ok(())
         }
         Toml::SimpleArray(values) => {
             out.push_str("[")?;
             for (i, value) in values.iter().enumerate() {
-                if i > 0 {
-                    out.push_str(", ")?;
-                }
+                out.push_str(if i > 0 { ", " } else { "" })?;
                 show_value(alloc, out, value)?;
             }
             out.push_str("]")?;
+            Ok(())
+        }
+        _ => {
+            let text = show_scalar(alloc, value)?;
+            out.push_str(text.as_str())?;
+            Ok(())
         }
     }
-    Ok(())
 }
 
-// The pairs of a table, in the order of their keys.
-#[cycle(show)]
-fn show_table(alloc: Global, out: &mut String, table: &HashMap<String, Toml>) -> Result<(), Fail> {
+// The keys of a table, in their order.
+fn keys_in_order<'a>(
+    alloc: Global,
+    table: &'a HashMap<String, Toml>,
+) -> Result<Vec<&'a str>, Fail> {
     let mut keys = Vec::new(alloc);
     for (key, _) in table {
         keys.push(key.as_str())?;
     }
     keys.sort_unstable();
+    Ok(keys)
+}
+
+// The pairs of a table, in the order of their keys.
+#[cycle(show)]
+fn show_table(alloc: Global, out: &mut String, table: &HashMap<String, Toml>) -> Result<(), Fail> {
+    let keys = keys_in_order(alloc, table)?;
     for (i, key) in keys.iter().enumerate() {
-        if i > 0 {
-            out.push_str("; ")?;
-        }
-        out.push_str(format!(in alloc; "{key} = ")?.as_str())?;
+        out.push_str(if i > 0 { "; " } else { "" })?;
+        out.push_str(*key)?;
+        out.push_str(" = ")?;
         if let Some(value) = table.get(*key) {
             show_value(alloc, out, value)?;
         }
@@ -71,7 +90,7 @@ fn show(alloc: Global, text: &str) -> Result<String, Fail> {
 }
 
 // The text is the expected one.
-fn is_text(rt: &impl Abort, text: &str, expected: &str, at: &str) {
+pub(crate) fn is_text(rt: &impl Abort, text: &str, expected: &str, at: &str) {
     assert_eq!(rt; text, expected, "of {at}");
 }
 
@@ -294,47 +313,58 @@ fn brackets(alloc: Global, open: &str, depth: usize, close: &str) -> Result<Stri
     Ok(text)
 }
 
+// Whether a list of so many levels is read.
+fn is_deep_list(alloc: Global, open: &str, close: &str) -> Result<bool, Fail> {
+    let text = brackets(alloc, open, 100_000, close)?;
+    let table = TomlParser::parse(alloc, text.as_str())?;
+    Ok(table.len() == 1)
+}
+
 #[test]
 fn deep_lists(rt: HostRuntime) -> Result<(), Fail> {
     let alloc = rt.alloc();
     for (open, close) in [("[", ""), ("[", "]"), ("[1,", "1]"), ("[[],", "[]]")] {
-        let text = brackets(alloc, open, 100_000, close)?;
-        let table = TomlParser::parse(alloc, text.as_str())?;
-        holds(&rt, table.len() == 1, open);
+        holds(&rt, is_deep_list(alloc, open, close)?, open);
     }
     Ok(())
+}
+
+// Whether a list of 10,000 levels is equal to itself, and not to one of a level fewer.
+fn is_compared(alloc: Global, open: &str, close: &str) -> Result<bool, Fail> {
+    let text = brackets(alloc, open, 10_000, close)?;
+    let other = brackets(alloc, open, 9_999, close)?;
+    let is_itself = same(alloc, text.as_str(), text.as_str())?;
+    let is_other = same(alloc, text.as_str(), other.as_str())?;
+    Ok(is_itself && !is_other)
 }
 
 #[test]
 fn deep_lists_compared(rt: HostRuntime) -> Result<(), Fail> {
     let alloc = rt.alloc();
     for (open, close) in [("[", ""), ("[", "]"), ("[[],1,", "]")] {
-        let text = brackets(alloc, open, 10_000, close)?;
-        let other = brackets(alloc, open, 9_999, close)?;
-        holds(&rt, same(alloc, text.as_str(), text.as_str())?, open);
-        holds(&rt, !same(alloc, text.as_str(), other.as_str())?, open);
+        holds(&rt, is_compared(alloc, open, close)?, open);
     }
     Ok(())
 }
 
-// An answer in spite of a refused allocation: the same table or fault, or want of memory, which is
-// marked and has no message.
+// An answer in spite of a refused allocation: the same table, or want of memory, which is marked
+// and has no message.
 #[test]
 fn want_of_memory(rt: HostRuntime) -> Result<(), Fail> {
-    let alloc = rt.alloc();
     let text = "a = [1, \"x\", [2.5, -1]] [s] k = 1 [[b]] c = \"y\" [[b]] d = 1979-05-27";
-    match TomlParser::parse(alloc, text) {
-        Ok(table) => {
-            assert_eq!(rt; table.len(), 3);
-            assert!(rt; table.contains_key("s.k"));
-        }
-        Err(error) => {
-            assert!(rt; error.memory);
-            assert!(rt; error.msg.is_empty());
-        }
+    match TomlParser::parse(rt.alloc(), text) {
+        Ok(table) => holds(&rt, table.len() == 3 && table.contains_key("s.k"), text),
+        Err(error) => holds(&rt, error.memory && error.msg.is_empty(), text),
     }
+    Ok(())
+}
+
+// An error in spite of a refused allocation: the same fault, or want of memory, which is marked
+// and has no message.
+#[test]
+fn want_of_memory_for_a_message(rt: HostRuntime) -> Result<(), Fail> {
     for text in ["a = 1 [[a]]", "a = @", "[s] = 1"] {
-        match TomlParser::parse(alloc, text) {
+        match TomlParser::parse(rt.alloc(), text) {
             Ok(_) => holds(&rt, false, text),
             Err(error) => holds(&rt, error.memory == error.msg.is_empty(), text),
         }
