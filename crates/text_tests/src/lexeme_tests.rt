@@ -344,15 +344,22 @@ fn next_is(rt: &impl Abort, p: &mut Place, i: &mut Chars<'_>, expected: (char, u
     is_at(rt, p, expected, "next");
 }
 
+/// The places in "a\nb", one behind the other.
+const PLACES: &[(char, usize, usize)] = &[
+    ('a', 0, 1),
+    ('\n', 1, 0),
+    ('b', 1, 1),
+    ('\0', 1, 1),
+    ('\0', 1, 1),
+];
+
 #[test]
 fn places(rt: HostRuntime) {
     let mut i = "a\nb".chars();
     let mut p = before();
-    next_is(&rt, &mut p, &mut i, ('a', 0, 1));
-    next_is(&rt, &mut p, &mut i, ('\n', 1, 0));
-    next_is(&rt, &mut p, &mut i, ('b', 1, 1));
-    next_is(&rt, &mut p, &mut i, ('\0', 1, 1));
-    next_is(&rt, &mut p, &mut i, ('\0', 1, 1));
+    for expected in PLACES {
+        next_is(&rt, &mut p, &mut i, *expected);
+    }
 }
 
 /// The greatest line and the greatest column.
@@ -409,23 +416,29 @@ fn clones(rt: HostRuntime) -> Result<(), Fail> {
     Ok(())
 }
 
+/// What was read is this value, or there was no memory for it.
+fn is_or_wants_memory(rt: &impl Abort, read: Result<Number, Fault>, expected: Number) {
+    match read {
+        Ok(number) => assert_eq!(rt; number, expected),
+        Err(fault) => assert_eq!(rt; fault, Fault::Memory),
+    }
+}
+
 /// Where a growth is refused, the answer is want of memory and no other; an integer asks for none.
 #[test]
 fn want_of_memory(rt: HostRuntime) {
     let mut text = String::new(rt.alloc());
-    let mut i = "2 ".chars();
-    assert_eq!(rt;
-        read_number(&mut at('4'), &mut i, &mut text),
-        Ok(Number::U64(42))
-    );
+    let read = read_number(&mut at('4'), &mut "2 ".chars(), &mut text);
+    assert_eq!(rt; read, Ok(Number::U64(42)));
+}
 
-    let mut i = "1.25e-10]".chars();
-    match read_number(&mut at('-'), &mut i, &mut text) {
-        Ok(number) => {
-            assert_eq!(rt; number, Number::Dec);
-            is_held(&rt, text.as_str(), "-1.25e-10");
-        }
-        Err(fault) => assert_eq!(rt; fault, Fault::Memory),
+#[test]
+fn want_of_memory_in_a_number(rt: HostRuntime) {
+    let mut text = String::new(rt.alloc());
+    let read = read_number(&mut at('-'), &mut "1.25e-10]".chars(), &mut text);
+    is_or_wants_memory(&rt, read, Number::Dec);
+    if read.is_ok() {
+        is_held(&rt, text.as_str(), "-1.25e-10");
     }
 }
 
