@@ -116,8 +116,8 @@ fn many_characters_with_escapes(rt: HostRuntime) -> Result<(), Fail> {
     Ok(())
 }
 
-/// What is left of a text of which two bytes were there before a write with this answer, and what is
-/// answered.
+/// What is left of a text of which two bytes were there before a write with this answer, and what
+/// is answered.
 fn cut_back(
     alloc: Global,
     answer: Result<(), AllocError>,
