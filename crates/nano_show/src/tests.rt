@@ -122,44 +122,81 @@ fn words(alloc: Global, line: &str) -> Result<Vec<String>, AllocError> {
     Ok(words)
 }
 
+/// The count is the expected one.
+fn is_count(rt: &impl Abort, count: usize, expected: usize) {
+    assert_eq!(rt; count, expected);
+}
+
+/// The bytes are those of the text.
+fn are_bytes(rt: &impl Abort, bytes: &[u8], expected: &str) {
+    assert_eq!(rt; bytes, expected.as_bytes(), "{expected}");
+}
+
+/// What is said of a line holds.
+fn holds(rt: &impl Abort, is_so: bool, line: &str) {
+    assert!(rt; is_so, "{line}");
+}
+
+/// The fault ends so.
+fn is_ending(rt: &impl Abort, fault: &ShowFault, expected: (u8, &str)) {
+    assert_eq!(rt; ending(fault), expected);
+}
+
 /// Runs the words of a line over a reader that is not to be read.
 fn run_on<W: Write>(
-    rt: &(impl Abort + Alloc<A = Global>),
+    rt: &impl Abort,
+    alloc: Global,
     words: &[String],
     output: &mut W,
 ) -> Result<(), ShowFault> {
     let mut input = Closed { reads: 0 };
-    let result = run(rt.alloc(), words, &mut input, output);
-    assert_eq!(rt; input.reads, 0);
+    let result = run(alloc, words, &mut input, output);
+    is_count(rt, input.reads, 0);
     result
+}
+
+/// The line is answered, and this is written.
+fn is_answered(rt: &impl Abort, alloc: Global, line: &str, written: &str) -> Result<(), Fail> {
+    let words = words(alloc, line)?;
+    let mut output = Vec::new(alloc);
+    run_on(rt, alloc, words.as_slice(), &mut output)?;
+    are_bytes(rt, output.as_slice(), written);
+    Ok(())
 }
 
 #[test]
 fn answers(rt: HostRuntime) -> Result<(), Fail> {
     for (line, written) in ANSWERED {
-        let mut output = Vec::new(rt.alloc());
-        run_on(&rt, &words(rt.alloc(), line)?, &mut output)?;
-        assert_eq!(rt; output.as_slice(), written.as_bytes(), "{line}");
+        is_answered(&rt, rt.alloc(), line, written)?;
     }
+    Ok(())
+}
+
+/// The line asks for nothing, and nothing is written.
+fn is_unknown(rt: &impl Abort, alloc: Global, line: &str) -> Result<(), Fail> {
+    let words = words(alloc, line)?;
+    let mut output = Pipe::new(alloc, 64, 0, ErrorKind::Other)?;
+    match run_on(rt, alloc, words.as_slice(), &mut output) {
+        Ok(()) => holds(rt, false, line),
+        Err(fault) => is_ending(rt, &fault, (2, USAGE)),
+    }
+    is_count(rt, output.calls, 0);
     Ok(())
 }
 
 #[test]
 fn unknown_words_are_usage(rt: HostRuntime) -> Result<(), Fail> {
     for line in UNKNOWN {
-        let mut output = Pipe::new(rt.alloc(), 64, 0, ErrorKind::Other)?;
-        let fault = run_on(&rt, &words(rt.alloc(), line)?, &mut output)
-            .err()
-            .ok_or(line)?;
-        assert_eq!(rt; ending(&fault), (2, USAGE), "{line}");
-        assert_eq!(rt; output.calls, 0, "{line}");
+        is_unknown(&rt, rt.alloc(), line)?;
     }
     Ok(())
 }
 
 /// How a writer behaves, and what it has taken of `code u16s 1 2` in the end: bytes a call, the call that fails,
 /// its error, whether the answer is written, the bytes, the calls.
-const STREAMS: [(usize, usize, ErrorKind, bool, &str, usize); 6] = [
+type StreamRow = (usize, usize, ErrorKind, bool, &'static str, usize);
+
+const STREAMS: [StreamRow; 6] = [
     (64, 0, ErrorKind::Other, true, ONE_AND_TWO, 1),
     (1, 0, ErrorKind::Other, true, ONE_AND_TWO, 36),
     (1, 4, ErrorKind::Other, false, "02 ", 4),
@@ -168,57 +205,83 @@ const STREAMS: [(usize, usize, ErrorKind, bool, &str, usize); 6] = [
     (0, 0, ErrorKind::Other, false, "", 1),
 ];
 
-#[test]
-fn writers_that_are_slow_or_fail(rt: HostRuntime) -> Result<(), Fail> {
-    for (most, fails_at, kind, whole, taken, calls) in STREAMS {
-        let mut output = Pipe::new(rt.alloc(), most, fails_at, kind)?;
-        let result = run_on(&rt, &words(rt.alloc(), "code u16s 1 2")?, &mut output);
-        assert_eq!(rt; output.taken.as_slice(), taken.as_bytes());
-        assert_eq!(rt; output.calls, calls);
-        match result {
-            Ok(()) => assert!(rt; whole),
-            Err(fault) => {
-                assert!(rt; !whole);
-                assert_eq!(rt; ending(&fault), (3, "stream fault"));
-            }
+/// The writer has taken what the row says, and the answer is written where it says so.
+fn is_stream(rt: &impl Abort, alloc: Global, row: StreamRow) -> Result<(), Fail> {
+    let (most, fails_at, kind, whole, taken, calls) = row;
+    let words = words(alloc, "code u16s 1 2")?;
+    let mut output = Pipe::new(alloc, most, fails_at, kind)?;
+    match run_on(rt, alloc, words.as_slice(), &mut output) {
+        Ok(()) => holds(rt, whole, taken),
+        Err(fault) => {
+            holds(rt, !whole, taken);
+            is_ending(rt, &fault, (3, "stream fault"));
         }
     }
+    are_bytes(rt, output.taken.as_slice(), taken);
+    is_count(rt, output.calls, calls);
+    Ok(())
+}
+
+#[test]
+fn writers_that_are_slow_or_fail(rt: HostRuntime) -> Result<(), Fail> {
+    for row in STREAMS {
+        is_stream(&rt, rt.alloc(), row)?;
+    }
+    Ok(())
+}
+
+/// The fault ends so, and is printed so.
+fn is_printed(
+    rt: &impl Abort,
+    alloc: Global,
+    fault: &ShowFault,
+    expected: (u8, &str),
+) -> Result<(), Fail> {
+    is_ending(rt, fault, expected);
+    let text = fault.to_string(alloc)?;
+    are_bytes(rt, text.as_str().as_bytes(), expected.1);
     Ok(())
 }
 
 #[test]
 fn endings(rt: HostRuntime) -> Result<(), Fail> {
     let alloc = rt.alloc();
-    let reason = String::from_str(alloc, "not UTF-8")?;
-    for (fault, status, text) in [
-        (ShowFault::Refused(reason), 1, "not UTF-8"),
-        (ShowFault::Usage, 2, USAGE),
-        (ShowFault::Memory, 3, "no memory"),
-        (ShowFault::Stream, 3, "stream fault"),
-    ] {
-        assert_eq!(rt; ending(&fault), (status, text));
-        assert_eq!(rt; fault.to_string(alloc)?.as_str(), text);
+    is_printed(&rt, alloc, &ShowFault::Usage, (2, USAGE))?;
+    is_printed(&rt, alloc, &ShowFault::Memory, (3, "no memory"))?;
+    is_printed(&rt, alloc, &ShowFault::Stream, (3, "stream fault"))
+}
+
+#[test]
+fn refusals_end_with_their_reason(rt: HostRuntime) -> Result<(), Fail> {
+    let reason = String::from_str(rt.alloc(), "not UTF-8")?;
+    let fault = ShowFault::Refused(reason);
+    is_printed(&rt, rt.alloc(), &fault, (1, "not UTF-8"))
+}
+
+/// The line is answered, or there was no memory and nothing is written. A refused growth of this
+/// function's own is let be.
+fn is_answered_or_refused(
+    rt: &impl Abort,
+    alloc: Global,
+    line: &str,
+    written: &str,
+) -> Result<(), AllocError> {
+    let words = words(alloc, line)?;
+    let mut output = Pipe::new(alloc, 64, 0, ErrorKind::Other)?;
+    match run_on(rt, alloc, words.as_slice(), &mut output) {
+        Ok(()) => are_bytes(rt, output.taken.as_slice(), written),
+        Err(fault) => {
+            is_ending(rt, &fault, (3, "no memory"));
+            is_count(rt, output.calls, 0);
+        }
     }
     Ok(())
 }
 
-/// Passes with ample memory, and where any one growth is refused: those of the test's own are let be.
+/// Passes with ample memory, and where any one growth is refused.
 #[test]
-fn refused_growths(rt: HostRuntime) -> Result<(), Fail> {
+fn refused_growths(rt: HostRuntime) {
     for (line, written) in ANSWERED {
-        let Ok(words) = words(rt.alloc(), line) else {
-            continue;
-        };
-        let Ok(mut output) = Pipe::new(rt.alloc(), 64, 0, ErrorKind::Other) else {
-            continue;
-        };
-        match run_on(&rt, &words, &mut output) {
-            Ok(()) => assert_eq!(rt; output.taken.as_slice(), written.as_bytes(), "{line}"),
-            Err(fault) => {
-                assert_eq!(rt; ending(&fault), (3, "no memory"), "{line}");
-                assert_eq!(rt; output.calls, 0, "{line}");
-            }
-        }
+        let _own = is_answered_or_refused(&rt, rt.alloc(), line, written);
     }
-    Ok(())
 }

@@ -1,5 +1,12 @@
 // Laws, and calls where nothing begins: they take no character.
+use crate::lexeme_tests::is_held;
 use nano_text::{Fault, Place, laws, read_number, read_string};
+use std::process::Abort;
+
+/// The text is malformed there, and the place stays.
+fn is_malformed(rt: &impl Abort, fault: Option<Fault>, place: &Place, start: &Place) {
+    assert!(rt; fault == Some(Fault::Malformed) && *place == *start);
+}
 
 #[test]
 fn nothing_begins(rt: HostRuntime) {
@@ -11,11 +18,11 @@ fn nothing_begins(rt: HostRuntime) {
     };
     let mut place = start;
     let mut text = "xyz".chars();
-    let read = read_string(&mut place, &mut text, &mut buffer);
-    assert_eq!(rt; (read, place), (Err(Fault::Malformed), start));
-    let read = read_number(&mut place, &mut text, &mut buffer);
-    assert_eq!(rt; (read, place), (Err(Fault::Malformed), start));
-    assert_eq!(rt; text.as_str(), "xyz");
+    let fault = read_string(&mut place, &mut text, &mut buffer).err();
+    is_malformed(&rt, fault, &place, &start);
+    let fault = read_number(&mut place, &mut text, &mut buffer).err();
+    is_malformed(&rt, fault, &place, &start);
+    is_held(&rt, text.as_str(), "xyz");
 }
 
 #[test]

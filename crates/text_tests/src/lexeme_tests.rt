@@ -34,6 +34,16 @@ type NumberRow = (
     usize,
 );
 
+/// The number or the fault is the expected one.
+fn is_read(
+    rt: &impl Abort,
+    number: Result<Number, Fault>,
+    expected: Result<Number, Fault>,
+    numbuf: &str,
+) {
+    assert_eq!(rt; number, expected, "{numbuf}");
+}
+
 /// What was read is the expected number, and a decimal has this text.
 fn is_number(
     rt: &impl Abort,
@@ -42,9 +52,9 @@ fn is_number(
     expected: Result<Number, Fault>,
     kept: &str,
 ) {
-    assert_eq!(rt; number, expected, "{numbuf}");
+    is_read(rt, number, expected, numbuf);
     if number == Ok(Number::Dec) {
-        assert_eq!(rt; numbuf, kept);
+        is_held(rt, numbuf, kept);
     }
 }
 
@@ -54,7 +64,7 @@ fn is_at(rt: &impl Abort, p: &Place, expected: (char, usize, usize), text: &str)
 }
 
 /// What `Chars` holds is the expected text.
-fn is_held(rt: &impl Abort, held: &str, expected: &str) {
+pub(crate) fn is_held(rt: &impl Abort, held: &str, expected: &str) {
     assert_eq!(rt; held, expected);
 }
 
@@ -182,6 +192,11 @@ type StringRow = (
     usize,
 );
 
+/// The fault is the expected one.
+fn is_fault(rt: &impl Abort, fault: Option<Fault>, expected: Option<Fault>, strbuf: &str) {
+    assert_eq!(rt; fault, expected, "{strbuf}");
+}
+
 /// What was read is the expected string, or the expected fault.
 fn is_string(
     rt: &impl Abort,
@@ -189,9 +204,9 @@ fn is_string(
     strbuf: &str,
     expected: Result<&'static str, Fault>,
 ) {
-    assert_eq!(rt; fault, expected.err(), "{strbuf}");
+    is_fault(rt, fault, expected.err(), strbuf);
     if let Ok(string) = expected {
-        assert_eq!(rt; strbuf, string);
+        is_held(rt, strbuf, string);
     }
 }
 
@@ -289,12 +304,21 @@ fn a_long_string(rt: HostRuntime) -> Result<(), Fail> {
     let mut p = before();
     p.next(&mut i);
     let mut strbuf = String::new(rt.alloc());
-    assert_eq!(rt; read_string(&mut p, &mut i, &mut strbuf), Ok(()));
+    is_fault(
+        &rt,
+        read_string(&mut p, &mut i, &mut strbuf).err(),
+        None,
+        "a long string",
+    );
+    is_at(&rt, &p, ('\0', 1, 1004), "a long string");
+    is_held(&rt, i.as_str(), "");
     assert_eq!(rt; strbuf.chars().count(), 2003);
-    assert_eq!(rt; (p.line, p.col), (1, 1004));
-    assert_eq!(rt; p.cur, '\0');
-    assert_eq!(rt; i.as_str(), "");
     Ok(())
+}
+
+/// The current character is the expected one.
+fn is_current(rt: &impl Abort, p: &Place, expected: char) {
+    assert_eq!(rt; p.cur, expected);
 }
 
 /// The string that begins at the current character is this text, and this character is next.
@@ -302,9 +326,10 @@ fn reads_string(rt: &impl Abort, alloc: Global, cur: char, held: &str, row: (&st
     let mut text = String::new(alloc);
     let mut p = at(cur);
     let mut i = held.chars();
-    assert_eq!(rt; read_string(&mut p, &mut i, &mut text), Ok(()));
+    let fault = read_string(&mut p, &mut i, &mut text).err();
+    is_fault(rt, fault, None, held);
     is_held(rt, text.as_str(), row.0);
-    assert_eq!(rt; p.cur, row.1);
+    is_current(rt, &p, row.1);
 }
 
 /// The number that begins at the current character is this one, a decimal has this text, and this
@@ -319,9 +344,10 @@ fn reads_number(
     let mut text = String::new(alloc);
     let mut p = at(cur);
     let mut i = held.chars();
-    assert_eq!(rt; read_number(&mut p, &mut i, &mut text), row.0);
+    let read = read_number(&mut p, &mut i, &mut text);
+    is_read(rt, read, row.0, held);
     is_held(rt, text.as_str(), row.1);
-    assert_eq!(rt; p.cur, row.2);
+    is_current(rt, &p, row.2);
 }
 
 /// The current character counts first, also where it was never in `Chars`.
@@ -344,15 +370,22 @@ fn next_is(rt: &impl Abort, p: &mut Place, i: &mut Chars<'_>, expected: (char, u
     is_at(rt, p, expected, "next");
 }
 
+/// The places in "a\nb", one behind the other.
+const PLACES: &[(char, usize, usize)] = &[
+    ('a', 0, 1),
+    ('\n', 1, 0),
+    ('b', 1, 1),
+    ('\0', 1, 1),
+    ('\0', 1, 1),
+];
+
 #[test]
 fn places(rt: HostRuntime) {
     let mut i = "a\nb".chars();
     let mut p = before();
-    next_is(&rt, &mut p, &mut i, ('a', 0, 1));
-    next_is(&rt, &mut p, &mut i, ('\n', 1, 0));
-    next_is(&rt, &mut p, &mut i, ('b', 1, 1));
-    next_is(&rt, &mut p, &mut i, ('\0', 1, 1));
-    next_is(&rt, &mut p, &mut i, ('\0', 1, 1));
+    for expected in PLACES {
+        next_is(&rt, &mut p, &mut i, *expected);
+    }
 }
 
 /// The greatest line and the greatest column.
@@ -368,7 +401,8 @@ fn behind_a_string(rt: &impl Abort, alloc: Global, text: &str) -> Place {
     let mut i = text.chars();
     let mut p = LAST;
     p.next(&mut i);
-    assert_eq!(rt; read_string(&mut p, &mut i, &mut strbuf), Ok(()));
+    let fault = read_string(&mut p, &mut i, &mut strbuf).err();
+    is_fault(rt, fault, None, text);
     p
 }
 
@@ -378,19 +412,25 @@ fn behind_a_number(rt: &impl Abort, alloc: Global, text: &str, number: Number) -
     let mut i = text.chars();
     let mut p = LAST;
     p.next(&mut i);
-    assert_eq!(rt; read_number(&mut p, &mut i, &mut numbuf), Ok(number));
+    let read = read_number(&mut p, &mut i, &mut numbuf);
+    is_read(rt, read, Ok(number), text);
     p
 }
 
 /// Lines and columns stand still at the greatest value.
 #[test]
 fn the_last_place(rt: HostRuntime) {
-    let (alloc, last) = (rt.alloc(), usize::MAX);
+    let last = usize::MAX;
     let mut i = "a\n".chars();
     let mut p = LAST;
-    next_is(&rt, &mut p, &mut i, ('a', last, last));
-    next_is(&rt, &mut p, &mut i, ('\n', last, 0));
+    for expected in [('a', last, last), ('\n', last, 0)] {
+        next_is(&rt, &mut p, &mut i, expected);
+    }
+}
 
+#[test]
+fn the_last_places_behind_lexemes(rt: HostRuntime) {
+    let (alloc, last) = (rt.alloc(), usize::MAX);
     let p = behind_a_string(&rt, alloc, "\"abc\"");
     is_at(&rt, &p, ('\0', last, last), "abc");
     let p = behind_a_number(&rt, alloc, "1234 ", Number::U64(1234));
@@ -401,31 +441,45 @@ fn the_last_place(rt: HostRuntime) {
     is_at(&rt, &p, ('\0', last, 2), "a line feed");
 }
 
+/// Copies of a number, of a fault and of a place.
+fn copies() -> Result<(Number, Fault, Place), Fail> {
+    let number = Number::I64(-2).clone()?;
+    let fault = Fault::Memory.clone()?;
+    Ok((number, fault, before().clone()?))
+}
+
 #[test]
 fn clones(rt: HostRuntime) -> Result<(), Fail> {
-    assert_eq!(rt; Number::I64(-2).clone()?, Number::I64(-2));
-    assert_eq!(rt; Fault::Memory.clone()?, Fault::Memory);
-    assert_eq!(rt; before().clone()?, before());
+    let (number, fault, copy) = copies()?;
+    is_read(&rt, Ok(number), Ok(Number::I64(-2)), "a number");
+    is_fault(&rt, Some(fault), Some(Fault::Memory), "a fault");
+    is_at(&rt, &copy, place(&before()), "a place");
     Ok(())
+}
+
+/// What was read is this value, or there was no memory for it.
+fn is_or_wants_memory(rt: &impl Abort, read: Result<Number, Fault>, expected: Number) {
+    match read {
+        Ok(_number) => is_read(rt, read, Ok(expected), "a number"),
+        Err(fault) => is_fault(rt, Some(fault), Some(Fault::Memory), "a number"),
+    }
 }
 
 /// Where a growth is refused, the answer is want of memory and no other; an integer asks for none.
 #[test]
 fn want_of_memory(rt: HostRuntime) {
     let mut text = String::new(rt.alloc());
-    let mut i = "2 ".chars();
-    assert_eq!(rt;
-        read_number(&mut at('4'), &mut i, &mut text),
-        Ok(Number::U64(42))
-    );
+    let read = read_number(&mut at('4'), &mut "2 ".chars(), &mut text);
+    is_read(&rt, read, Ok(Number::U64(42)), "42");
+}
 
-    let mut i = "1.25e-10]".chars();
-    match read_number(&mut at('-'), &mut i, &mut text) {
-        Ok(number) => {
-            assert_eq!(rt; number, Number::Dec);
-            is_held(&rt, text.as_str(), "-1.25e-10");
-        }
-        Err(fault) => assert_eq!(rt; fault, Fault::Memory),
+#[test]
+fn want_of_memory_in_a_number(rt: HostRuntime) {
+    let mut text = String::new(rt.alloc());
+    let read = read_number(&mut at('-'), &mut "1.25e-10]".chars(), &mut text);
+    is_or_wants_memory(&rt, read, Number::Dec);
+    if read.is_ok() {
+        is_held(&rt, text.as_str(), "-1.25e-10");
     }
 }
 
@@ -436,6 +490,6 @@ fn want_of_memory_in_a_string(rt: HostRuntime) {
     let mut i = "a longer text\\n\\u00e9 than one growth holds\"".chars();
     match read_string(&mut at('"'), &mut i, &mut text) {
         Ok(()) => is_held(&rt, text.as_str(), "a longer text\né than one growth holds"),
-        Err(fault) => assert_eq!(rt; fault, Fault::Memory),
+        Err(fault) => is_fault(&rt, Some(fault), Some(Fault::Memory), "a string"),
     }
 }

@@ -1,28 +1,51 @@
 // Digits, characters with escapes, and a text that is cut back.
 use nano_text::{Escaping, append_characters, append_signed, append_unsigned, keep_written};
-use std::alloc::AllocError;
+use std::alloc::{AllocError, Global};
+use std::process::Abort;
 use std::test::Fail;
 
+/// The numbers as unsigned digits, with spaces between them.
+fn unsigned_digits(alloc: Global, values: &[u64]) -> Result<String, AllocError> {
+    let mut out = String::new(alloc);
+    for value in values {
+        if !out.is_empty() {
+            out.push(' ')?;
+        }
+        append_unsigned(&mut out, *value)?;
+    }
+    Ok(out)
+}
+
+/// The numbers as signed digits, with spaces between them.
+fn signed_digits(alloc: Global, values: &[i64]) -> Result<String, AllocError> {
+    let mut out = String::new(alloc);
+    for value in values {
+        if !out.is_empty() {
+            out.push(' ')?;
+        }
+        append_signed(&mut out, *value)?;
+    }
+    Ok(out)
+}
+
+/// There is a text, and it is the expected one.
+fn is_text(rt: &impl Abort, text: Result<String, AllocError>, expected: &str) {
+    match text {
+        Ok(text) => assert_eq!(rt; text.as_str(), expected),
+        Err(_refused) => assert!(rt; false, "no memory for {expected}"),
+    }
+}
+
 #[test]
-fn written_digits(rt: HostRuntime) -> Result<(), Fail> {
-    let mut out = String::new(rt.alloc());
-    append_unsigned(&mut out, 0)?;
-    for value in [9, 10, 1009, u64::MAX] {
-        out.push(' ')?;
-        append_unsigned(&mut out, value)?;
-    }
-    assert_eq!(rt; out.as_str(), "0 9 10 1009 18446744073709551615");
-    out.clear();
-    append_signed(&mut out, 0)?;
-    for value in [-1, 10, i64::MAX, i64::MIN] {
-        out.push(' ')?;
-        append_signed(&mut out, value)?;
-    }
-    assert_eq!(rt;
-        out.as_str(),
-        "0 -1 10 9223372036854775807 -9223372036854775808"
+fn written_digits(rt: HostRuntime) {
+    let digits = unsigned_digits(rt.alloc(), &[0, 9, 10, 1009, u64::MAX]);
+    is_text(&rt, digits, "0 9 10 1009 18446744073709551615");
+    let digits = signed_digits(rt.alloc(), &[0, -1, 10, i64::MAX, i64::MIN]);
+    is_text(
+        &rt,
+        digits,
+        "0 -1 10 9223372036854775807 -9223372036854775808",
     );
-    Ok(())
 }
 
 /// A format that writes a quote twice, and each other character as itself.
@@ -53,31 +76,72 @@ impl Escaping for TwoQuotes {
     ghost as_itself = { λ c h. Prim.grind (arith, nat_tests) };
 }
 
-#[test]
-fn characters_with_escapes(rt: HostRuntime) -> Result<(), Fail> {
-    let mut out = String::new(rt.alloc());
-    for text in ["", "a", "\"", "é\"x\"\"", "\"\"ab😋"] {
+/// The texts as the format writes them, each with a line behind it.
+fn escaped(alloc: Global, texts: &[&str]) -> Result<String, AllocError> {
+    let mut out = String::new(alloc);
+    for text in texts {
         append_characters::<TwoQuotes>(&mut out, text)?;
         out.push('|')?;
     }
-    assert_eq!(rt; out.as_str(), "|a|\"\"|é\"\"x\"\"\"\"|\"\"\"\"ab😋|");
-    let mut long = String::new(rt.alloc());
+    Ok(out)
+}
+
+/// A text of 3,000 quotes and letters.
+fn long_text(alloc: Global) -> Result<String, AllocError> {
+    let mut long = String::new(alloc);
     for _ in 0..3_000 {
         long.push_str("\"é")?;
     }
-    out.clear();
-    append_characters::<TwoQuotes>(&mut out, long.as_str())?;
-    assert_eq!(rt; out.len(), 3_000 * 4);
+    Ok(long)
+}
+
+/// How many bytes the format writes for a text.
+fn escaped_length(alloc: Global, text: &str) -> Result<usize, AllocError> {
+    let mut out = String::new(alloc);
+    append_characters::<TwoQuotes>(&mut out, text)?;
+    Ok(out.len())
+}
+
+#[test]
+fn characters_with_escapes(rt: HostRuntime) {
+    let out = escaped(rt.alloc(), &["", "a", "\"", "é\"x\"\"", "\"\"ab😋"]);
+    is_text(&rt, out, "|a|\"\"|é\"\"x\"\"\"\"|\"\"\"\"ab😋|");
+}
+
+#[test]
+fn many_characters_with_escapes(rt: HostRuntime) -> Result<(), Fail> {
+    let long = long_text(rt.alloc())?;
+    let length = escaped_length(rt.alloc(), long.as_str())?;
+    assert_eq!(rt; length, 3_000 * 4);
+    Ok(())
+}
+
+/// What is left of a text of which two bytes were there before a write with this answer, and what
+/// is answered.
+fn cut_back(
+    alloc: Global,
+    answer: Result<(), AllocError>,
+) -> Result<(String, Result<(), AllocError>), AllocError> {
+    let mut out = String::from_str(alloc, "é and more")?;
+    let kept = keep_written(&mut out, 2, answer);
+    Ok((out, kept))
+}
+
+/// This text is left, and the write's answer is handed on.
+fn is_left(
+    rt: &impl Abort,
+    alloc: Global,
+    answer: Result<(), AllocError>,
+    expected: &str,
+) -> Result<(), Fail> {
+    let (text, kept) = cut_back(alloc, answer)?;
+    assert_eq!(rt; kept, answer);
+    assert_eq!(rt; text.as_str(), expected);
     Ok(())
 }
 
 #[test]
 fn a_text_is_cut_back(rt: HostRuntime) -> Result<(), Fail> {
-    let mut out = String::new(rt.alloc());
-    out.push_str("é and more")?;
-    assert_eq!(rt; keep_written(&mut out, 2, Ok(())), Ok(()));
-    assert_eq!(rt; out.as_str(), "é and more");
-    assert_eq!(rt; keep_written(&mut out, 2, Err(AllocError)), Err(AllocError));
-    assert_eq!(rt; out.as_str(), "é");
-    Ok(())
+    is_left(&rt, rt.alloc(), Ok(()), "é and more")?;
+    is_left(&rt, rt.alloc(), Err(AllocError), "é")
 }
