@@ -4,7 +4,6 @@ use crate::checks::{all_refused, holds, refused_with, values};
 use nano_json::DeJson;
 use std::alloc::{AllocError, Global};
 use std::collections::{BTreeSet, HashMap, HashSet, LinkedList};
-use std::process::Abort;
 use std::test::Fail;
 
 /// Whether a text is read as the hashed set of 1 and 3.
@@ -179,19 +178,27 @@ fn nested(alloc: Global, text: &str) -> Option<HashMap<String, Vec<(u8, HashSet<
 }
 
 /// The pairs are of 1 with a set of one item, and of 3 with an empty set.
-fn are_pairs(rt: &impl Abort, pairs: &[(u8, HashSet<u8>)]) {
-    assert_eq!(rt; pairs.len(), 2);
-    assert_eq!(rt; (pairs[0].0, pairs[1].0), (1, 3));
-    assert_eq!(rt; (pairs[0].1.len(), pairs[1].1.len()), (1, 0));
+fn are_pairs(pairs: &[(u8, HashSet<u8>)]) -> bool {
+    match pairs {
+        [first, last] => { first.0 == 1 && first.1.len() == 1 && last.0 == 3 && last.1.len() == 0 }
+        _ => false,
+    }
+}
+
+/// How many keys the map has, and whether these pairs stand behind the key.
+fn has_pairs(map: &HashMap<String, Vec<(u8, HashSet<u8>)>>, key: &String) -> (usize, bool) {
+    match map.get(key) {
+        Some(pairs) => (map.len(), are_pairs(pairs.as_slice())),
+        None => (map.len(), false),
+    }
 }
 
 #[test]
 fn nested_containers(rt: HostRuntime) -> Result<(), Fail> {
     let alloc = rt.alloc();
+    let text = "{\"a\":[[1,[2,]],[3,[]],],\"b\":[]}";
     let key = String::from_str(alloc, "a")?;
-    let map = nested(alloc, "{\"a\":[[1,[2,]],[3,[]],],\"b\":[]}").ok_or("refused")?;
-    assert_eq!(rt; map.len(), 2);
-    let pairs = map.get(&key).ok_or("a key is lost")?;
-    are_pairs(&rt, pairs.as_slice());
+    let map = nested(alloc, text).ok_or("refused")?;
+    holds(&rt, has_pairs(&map, &key) == (2, true), text);
     Ok(())
 }
