@@ -1,9 +1,9 @@
 // What the tests share. Each call through a bound is a function of its own, and so is what is
-// asserted of its answer: a function that does both takes many times as long to prove.
+// asserted of its answer: a function that does both takes many times as long to prove. None answers
+// an error, so that a test may call many of them.
 use nano_json::{DeJson, DeJsonErr, SerJson};
-use std::alloc::{AllocError, Global};
+use std::alloc::Global;
 use std::process::Abort;
-use std::test::Fail;
 
 /// The refusal of a text, if it is refused.
 pub(crate) fn refusal<T: DeJson>(alloc: Global, text: &str) -> Option<DeJsonErr> {
@@ -11,7 +11,7 @@ pub(crate) fn refusal<T: DeJson>(alloc: Global, text: &str) -> Option<DeJsonErr>
 }
 
 /// The text was refused with this message.
-fn is_told(rt: &impl Abort, told: Option<DeJsonErr>, text: &str, expected: &str) {
+pub(crate) fn is_told(rt: &impl Abort, told: Option<DeJsonErr>, text: &str, expected: &str) {
     match told {
         None => assert!(rt; false, "{text} is read"),
         Some(error) => assert_eq!(rt; error.msg.as_str(), expected, "at {text}"),
@@ -38,32 +38,65 @@ pub(crate) fn holds(rt: &impl Abort, is_so: bool, text: &str) {
 }
 
 /// Whether a text is read as the value.
-fn is_value<T: DeJson + PartialEq>(
-    alloc: Global,
-    text: &str,
-    expected: &T,
-) -> Result<bool, DeJsonErr> {
-    Ok(T::deserialize_json(alloc, text)? == *expected)
+pub(crate) fn is_value<T: DeJson + PartialEq>(alloc: Global, text: &str, expected: &T) -> bool {
+    match T::deserialize_json(alloc, text) {
+        Ok(value) => value == *expected,
+        Err(_refused) => false,
+    }
 }
 
 /// Each text is read as the value beside it.
-pub(crate) fn values<T: DeJson + PartialEq>(
-    rt: &impl Abort,
-    alloc: Global,
-    rows: &[(&str, T)],
-) -> Result<(), Fail> {
+pub(crate) fn values<T: DeJson + PartialEq>(rt: &impl Abort, alloc: Global, rows: &[(&str, T)]) {
     for (text, expected) in rows {
-        holds(rt, is_value(alloc, text, expected)?, text);
+        holds(rt, is_value(alloc, text, expected), text);
     }
-    Ok(())
 }
 
-/// The written text.
-pub(crate) fn text_of<T: SerJson>(alloc: Global, value: &T) -> Result<String, AllocError> {
-    value.serialize_json(alloc)
+/// The written text, if there was memory for it.
+pub(crate) fn text_of<T: SerJson>(alloc: Global, value: &T) -> Option<String> {
+    value.serialize_json(alloc).ok()
 }
 
 /// The text is the expected one.
 pub(crate) fn is_text(rt: &impl Abort, text: &str, expected: &str) {
     assert_eq!(rt; text, expected);
+}
+
+/// There is a text, and it is the expected one.
+pub(crate) fn is_some_text(rt: &impl Abort, text: Option<String>, expected: &str) {
+    match text {
+        None => assert!(rt; false, "no memory for {expected}"),
+        Some(text) => is_text(rt, text.as_str(), expected),
+    }
+}
+
+/// A text, its refusal's message, and the line and column of that, both counted from 0.
+pub(crate) type FaultRow<'a> = (&'a str, &'a str, usize, usize);
+
+/// The refusal stands at that line and column, and is not for want of memory.
+fn is_fault_at(rt: &impl Abort, error: &DeJsonErr, place: (usize, usize), text: &str) {
+    assert_eq!(rt;
+        (error.line, error.col, error.memory),
+        (place.0, place.1, false),
+        "at {text}"
+    );
+}
+
+/// The text was refused with this message, in this line and this column.
+pub(crate) fn is_fault(rt: &impl Abort, told: Option<DeJsonErr>, row: &FaultRow<'_>) {
+    let (text, msg, line, col) = row;
+    match told {
+        None => holds(rt, false, text),
+        Some(error) => {
+            is_fault_at(rt, &error, (*line, *col), text);
+            is_text(rt, error.msg.as_str(), msg);
+        }
+    }
+}
+
+/// Each text is refused with its message, in its line and column.
+pub(crate) fn faults<T: DeJson>(rt: &impl Abort, alloc: Global, rows: &[FaultRow<'_>]) {
+    for row in rows {
+        is_fault(rt, refusal::<T>(alloc, row.0), row);
+    }
 }

@@ -5,7 +5,6 @@ use std::alloc::Global;
 use std::collections::{BTreeSet, HashMap, HashSet, LinkedList};
 use std::process::Abort;
 use std::str::Chars;
-use std::test::Fail;
 
 /// A state over a text, with its first token taken where it has one.
 fn first_token(alloc: Global, input: &mut Chars<'_>) -> DeJsonState {
@@ -39,47 +38,58 @@ fn front_refused<T: DeJson>(rt: &impl Abort, alloc: Global, text: &str) {
     );
 }
 
-/// Each proper front of a text that ends where its bracket or its quote closes is refused, and so is
-/// a second read on that state.
-fn fronts_refused<T: DeJson>(rt: &impl Abort, alloc: Global, text: &str) -> Result<(), Fail> {
-    let mut front = String::new(alloc);
-    for c in text.chars() {
-        front_refused::<T>(rt, alloc, front.as_str());
-        front.push(c)?;
+/// Each proper front of a text that ends where its bracket or its quote closes is refused, and so
+/// is a second read on that state.
+fn fronts_refused<T: DeJson>(rt: &impl Abort, alloc: Global, text: &str) {
+    for (end, _c) in text.char_indices() {
+        match text.get(..end) {
+            Some(front) => front_refused::<T>(rt, alloc, front),
+            None => holds(rt, false, text),
+        }
     }
-    holds(rt, refusal::<T>(alloc, front.as_str()).is_none(), text);
-    Ok(())
+    holds(rt, refusal::<T>(alloc, text).is_none(), text);
+}
+
+/// The same of a text that is a map from names. A type of many levels takes long to prove where it
+/// is named in one piece.
+fn fronts_of_maps_refused<V: DeJson>(rt: &impl Abort, alloc: Global, text: &str) {
+    fronts_refused::<HashMap<String, V>>(rt, alloc, text);
+}
+
+/// The same of a map from names to lists.
+fn fronts_of_lists_refused<V: DeJson>(rt: &impl Abort, alloc: Global, text: &str) {
+    fronts_of_maps_refused::<Vec<V>>(rt, alloc, text);
 }
 
 #[test]
-fn fronts_of_lists(rt: HostRuntime) -> Result<(), Fail> {
+fn fronts_of_lists(rt: HostRuntime) {
     let alloc = rt.alloc();
-    fronts_refused::<Vec<u8>>(&rt, alloc, "[1,2,]")?;
-    fronts_refused::<Vec<Option<u8>>>(&rt, alloc, "[null,3,]")?;
-    fronts_refused::<Vec<Vec<u8>>>(&rt, alloc, "[[],[1],]")?;
-    fronts_refused::<LinkedList<i8>>(&rt, alloc, "[ 1, -2 ,+3]")?;
-    fronts_refused::<HashSet<i32>>(&rt, alloc, "[3,1,3]")?;
-    fronts_refused::<BTreeSet<i32>>(&rt, alloc, "[3,1,3]")?;
-    fronts_refused::<HashSet<BTreeSet<u8>>>(&rt, alloc, "[[1,],[]]")
+    fronts_refused::<Vec<u8>>(&rt, alloc, "[1,2,]");
+    fronts_refused::<Vec<Option<u8>>>(&rt, alloc, "[null,3,]");
+    fronts_refused::<Vec<Vec<u8>>>(&rt, alloc, "[[],[1],]");
+    fronts_refused::<LinkedList<i8>>(&rt, alloc, "[ 1, -2 ,+3]");
+    fronts_refused::<HashSet<i32>>(&rt, alloc, "[3,1,3]");
+    fronts_refused::<BTreeSet<i32>>(&rt, alloc, "[3,1,3]");
+    fronts_refused::<HashSet<BTreeSet<u8>>>(&rt, alloc, "[[1,],[]]");
 }
 
 #[test]
-fn fronts_of_other_types(rt: HostRuntime) -> Result<(), Fail> {
+fn fronts_of_other_types(rt: HostRuntime) {
     let alloc = rt.alloc();
-    fronts_refused::<[u8; 0]>(&rt, alloc, "[]")?;
-    fronts_refused::<[u8; 2]>(&rt, alloc, "[1,2,]")?;
-    fronts_refused::<(u8, u8)>(&rt, alloc, "[1,2,]")?;
+    fronts_refused::<[u8; 0]>(&rt, alloc, "[]");
+    fronts_refused::<[u8; 2]>(&rt, alloc, "[1,2,]");
+    fronts_refused::<(u8, u8)>(&rt, alloc, "[1,2,]");
     fronts_refused::<(u8, (bool, (), Option<u8>), [u8; 2])>(
         &rt,
         alloc,
         "[1,[true,null,5],[1,2,],]",
-    )?;
-    fronts_refused::<HashMap<u8, bool>>(&rt, alloc, "{2:true,1:false}")?;
-    fronts_refused::<HashMap<String, i32>>(&rt, alloc, "{\"b\":1,\"a\":2,\"b\":3,}")?;
+    );
+    fronts_refused::<HashMap<u8, bool>>(&rt, alloc, "{2:true,1:false}");
+    fronts_of_maps_refused::<i32>(&rt, alloc, "{\"b\":1,\"a\":2,\"b\":3,}");
     let nested = "{\"a\":[[1,[2,]],[3,[]],],\"b\":[]}";
-    fronts_refused::<HashMap<String, Vec<(u8, HashSet<u8>)>>>(&rt, alloc, nested)?;
+    fronts_of_lists_refused::<(u8, HashSet<u8>)>(&rt, alloc, nested);
     let escapes = "\"\\n\\t\\u0020\\f\\b\\\\\\\"\\/\\ud83d\\uDE0B\\r\"";
-    fronts_refused::<String>(&rt, alloc, escapes)
+    fronts_refused::<String>(&rt, alloc, escapes);
 }
 
 /// No value of the type begins with a token that no text is cut into, nor with the end.
@@ -145,31 +155,49 @@ fn pending_numbers_count_first(rt: HostRuntime) {
     is_at_the_end(&rt, &state);
 }
 
+/// The value that a text continues on a state, if it is not refused.
+fn read_on<T: DeJson>(alloc: Global, state: &mut DeJsonState, text: &str) -> Option<T> {
+    T::de_json(alloc, state, &mut text.chars()).ok()
+}
+
 /// What the characters hold behind a NUL is not read.
 #[test]
-fn nothing_behind_nul_is_read(rt: HostRuntime) -> Result<(), Fail> {
+fn nothing_behind_nul_is_read(rt: HostRuntime) {
     let alloc = rt.alloc();
     let mut state = state_with(alloc, DeJsonTok::U64(7), '\0');
-    assert_eq!(rt; u32::de_json(alloc, &mut state, &mut "9".chars())?, 7);
-    assert_eq!(rt; state.tok, DeJsonTok::Eof);
-    Ok(())
+    let read = read_on::<u32>(alloc, &mut state, "9");
+    holds(&rt, read == Some(7) && state.tok == DeJsonTok::Eof, "9");
+}
+
+/// The list is that of 1.
+fn is_one(items: Option<Vec<u8>>) -> bool {
+    match items {
+        Some(items) => items.as_slice() == [1].as_slice(),
+        None => false,
+    }
 }
 
 #[test]
-fn pending_brackets_count_first(rt: HostRuntime) -> Result<(), Fail> {
+fn pending_brackets_count_first(rt: HostRuntime) {
     let alloc = rt.alloc();
     let mut state = state_with(alloc, DeJsonTok::BlockOpen, '1');
-    let items = Vec::<u8>::de_json(alloc, &mut state, &mut "]".chars())?;
-    assert_eq!(rt; items.as_slice(), [1].as_slice());
-    Ok(())
+    let items = read_on::<Vec<u8>>(alloc, &mut state, "]");
+    holds(&rt, is_one(items), "]");
+}
+
+/// How many entries there are.
+fn count_of(entries: Option<HashMap<u8, u8>>) -> usize {
+    match entries {
+        Some(entries) => entries.len(),
+        None => 0,
+    }
 }
 
 #[test]
-fn pending_curly_brackets_count_first(rt: HostRuntime) -> Result<(), Fail> {
+fn pending_curly_brackets_count_first(rt: HostRuntime) {
     let alloc = rt.alloc();
     let mut state = state_with(alloc, DeJsonTok::CurlyOpen, '1');
-    let entries = HashMap::<u8, u8>::de_json(alloc, &mut state, &mut ":2}]".chars())?;
-    assert_eq!(rt; entries.len(), 1);
-    assert_eq!(rt; state.tok, DeJsonTok::BlockClose);
-    Ok(())
+    let entries = read_on::<HashMap<u8, u8>>(alloc, &mut state, ":2}]");
+    holds(&rt, count_of(entries) == 1, ":2}]");
+    holds(&rt, state.tok == DeJsonTok::BlockClose, ":2}]");
 }

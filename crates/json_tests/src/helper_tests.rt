@@ -1,8 +1,8 @@
 // What no clause says: that the definitions are the format's, the texts and places of faults, and
 // that calls succeed.
-use crate::checks::is_text;
+use crate::checks::{holds, is_some_text, is_told};
 use crate::token_tests::{pending, state_of};
-use nano_json::{DeJsonErr, DeJsonState, DeJsonTok, SerJsonState};
+use nano_json::{DeJsonErr, DeJsonState, DeJsonTok};
 use std::alloc::{AllocError, Global};
 use std::process::Abort;
 use std::str::Chars;
@@ -26,6 +26,18 @@ pub(crate) fn call(
         "curly_close" => state.curly_close(alloc, input),
         "eat_comma_block" => state.eat_comma_block(alloc, input),
         "eat_comma_curly" => state.eat_comma_curly(alloc, input),
+        _ => value_call(alloc, state, input, name),
+    }
+}
+
+/// The call of this name, if it takes a value.
+fn value_call(
+    alloc: Global,
+    state: &mut DeJsonState,
+    input: &mut Chars<'_>,
+    name: &str,
+) -> Result<(), DeJsonErr> {
+    match name {
         "u64_range" => match state.u64_range(alloc, 5) {
             Ok(_value) => Ok(()),
             Err(e) => Err(e),
@@ -62,86 +74,104 @@ fn answer(alloc: Global, text: &str, taken: usize, name: &str) -> Result<String,
 }
 
 /// Each call answers what stands beside it.
-fn answers(rt: &impl Abort, alloc: Global, rows: &[(&str, usize, &str, &str)]) -> Result<(), Fail> {
+fn answers(rt: &impl Abort, alloc: Global, rows: &[(&str, usize, &str, &str)]) {
     for (text, taken, name, expected) in rows {
-        is_text(rt, answer(alloc, text, *taken, name)?.as_str(), expected);
-    }
-    Ok(())
-}
-
-#[test]
-fn helpers_take_tokens(rt: HostRuntime) -> Result<(), Fail> {
-    let alloc = rt.alloc();
-    answers(
-        &rt,
-        alloc,
-        &[
-            (": 1", 1, "colon", "U64(1)"),
-            (": 1", 0, "next_colon", "U64(1)"),
-            ("\"a\" \"b\"", 1, "string", "Str b"),
-            ("[1.5", 1, "block_open", "F64 1.5"),
-            ("]", 1, "block_close", "Eof"),
-            ("{{", 1, "curly_open", "CurlyOpen"),
-            ("}true", 1, "curly_close", "Bool(true)"),
-            (", -1", 1, "eat_comma_block", "I64(-1)"),
-            ("] 1", 1, "eat_comma_block", "BlockClose"),
-            (", null", 1, "eat_comma_curly", "Null"),
-            ("} 1", 1, "eat_comma_curly", "CurlyClose"),
-            ("[},", 1, "whole_field", "Comma"),
-            ("{\"a\":[1,{}],\"b\":2}]", 1, "whole_field", "BlockClose"),
-            ("1 2", 1, "whole_field", "U64(2)"),
-            ("\"\"", 1, "whole_field", "Eof"),
-            ("-1,", 1, "whole_field", "Comma"),
-            ("5.,", 1, "whole_field", "Comma"),
-            ("false}", 1, "whole_field", "CurlyClose"),
-            ("null:", 1, "whole_field", "Colon"),
-            ("5", 1, "u64_range", "U64(5)"),
-            ("-5", 1, "i64_range", "I64(-5)"),
-            ("5", 1, "i64_range", "U64(5)"),
-            ("true", 1, "as_bool", "Bool(true)"),
-            ("\"ab\"", 1, "as_string", "Str "),
-        ],
-    )
-}
-
-/// The call is refused with this message.
-fn tells(rt: &impl Abort, told: Option<DeJsonErr>, expected: &str) {
-    match told {
-        None => assert!(rt; false, "{expected}"),
-        Some(e) => assert_eq!(rt; e.msg.as_str(), expected),
+        is_some_text(rt, answer(alloc, text, *taken, name).ok(), expected);
     }
 }
 
+/// Texts, how many of their tokens are taken, a call, and the token behind it.
+const TAKEN: &[(&str, usize, &str, &str)] = &[
+    (": 1", 1, "colon", "U64(1)"),
+    (": 1", 0, "next_colon", "U64(1)"),
+    ("\"a\" \"b\"", 1, "string", "Str b"),
+    ("[1.5", 1, "block_open", "F64 1.5"),
+    ("]", 1, "block_close", "Eof"),
+    ("{{", 1, "curly_open", "CurlyOpen"),
+    ("}true", 1, "curly_close", "Bool(true)"),
+    (", -1", 1, "eat_comma_block", "I64(-1)"),
+    ("] 1", 1, "eat_comma_block", "BlockClose"),
+    (", null", 1, "eat_comma_curly", "Null"),
+    ("} 1", 1, "eat_comma_curly", "CurlyClose"),
+    ("[},", 1, "whole_field", "Comma"),
+    ("{\"a\":[1,{}],\"b\":2}]", 1, "whole_field", "BlockClose"),
+    ("1 2", 1, "whole_field", "U64(2)"),
+    ("\"\"", 1, "whole_field", "Eof"),
+    ("-1,", 1, "whole_field", "Comma"),
+    ("5.,", 1, "whole_field", "Comma"),
+    ("false}", 1, "whole_field", "CurlyClose"),
+    ("null:", 1, "whole_field", "Colon"),
+    ("5", 1, "u64_range", "U64(5)"),
+    ("-5", 1, "i64_range", "I64(-5)"),
+    ("5", 1, "i64_range", "U64(5)"),
+    ("true", 1, "as_bool", "Bool(true)"),
+    ("\"ab\"", 1, "as_string", "Str "),
+];
+
 #[test]
-fn values_stay_in_their_range(rt: HostRuntime) -> Result<(), Fail> {
+fn helpers_take_tokens(rt: HostRuntime) {
     let alloc = rt.alloc();
+    answers(&rt, alloc, TAKEN);
+}
+
+/// A pending signed number, a least and a greatest value, and the refusal's message.
+const SIGNED: &[(i64, i64, i64, &str)] = &[
+    (-6, -5, 5, "Value out of range -6<-5 "),
+    (6, -5, 5, "Value out of range 6>5 "),
+];
+
+/// The same of a pending unsigned number.
+const UNSIGNED: &[(u64, i64, i64, &str)] = &[
+    (6, -5, 5, "Value out of range 6>5 "),
+    (0, 5, -5, "Value out of range 0<5 "),
+    (
+        u64::MAX,
+        i64::MIN,
+        i64::MAX,
+        "Value out of range 18446744073709551615>9223372036854775807 ",
+    ),
+];
+
+/// A state with this pending token.
+fn state_at(alloc: Global, tok: DeJsonTok) -> DeJsonState {
     let mut state = DeJsonState::new(alloc);
-    let rows = [
-        (DeJsonTok::I64(-6), -5, 5, "Value out of range -6<-5 "),
-        (DeJsonTok::U64(6), -5, 5, "Value out of range 6>5 "),
-        (DeJsonTok::U64(0), 5, -5, "Value out of range 0<5 "),
-        (DeJsonTok::I64(6), -5, 5, "Value out of range 6>5 "),
-        (
-            DeJsonTok::U64(u64::MAX),
-            i64::MIN,
-            i64::MAX,
-            "Value out of range 18446744073709551615>9223372036854775807 ",
-        ),
-    ];
-    for (tok, min, max, expected) in rows {
-        state.tok = tok;
-        tells(&rt, state.i64_range(alloc, min, max).err(), expected);
+    state.tok = tok;
+    state
+}
+
+/// The refusal of a token that is read within a range.
+fn out_of(alloc: Global, tok: DeJsonTok, min: i64, max: i64) -> Option<DeJsonErr> {
+    state_at(alloc, tok).i64_range(alloc, min, max).err()
+}
+
+#[test]
+fn values_out_of_their_range(rt: HostRuntime) {
+    let alloc = rt.alloc();
+    for (value, min, max, expected) in SIGNED {
+        let told = out_of(alloc, DeJsonTok::I64(*value), *min, *max);
+        is_told(&rt, told, expected, expected);
     }
-    state.tok = DeJsonTok::U64(4);
-    tells(
+    for (value, min, max, expected) in UNSIGNED {
+        let told = out_of(alloc, DeJsonTok::U64(*value), *min, *max);
+        is_told(&rt, told, expected, expected);
+    }
+}
+
+#[test]
+fn values_at_the_end_of_their_range(rt: HostRuntime) {
+    let alloc = rt.alloc();
+    let state = state_at(alloc, DeJsonTok::U64(4));
+    is_told(
         &rt,
         state.u64_range(alloc, 3).err(),
+        "4",
         "Value out of range 4>3 ",
     );
-    assert_eq!(rt; state.u64_range(alloc, 4)?, 4);
-    state.tok = DeJsonTok::I64(i64::MIN);
-    assert_eq!(rt; state.i64_range(alloc, i64::MIN, i64::MAX)?, i64::MIN);
-    Ok(())
+    let read = state.u64_range(alloc, 4).ok();
+    holds(&rt, read == Some(4), "4");
+    let state = state_at(alloc, DeJsonTok::I64(i64::MIN));
+    let read = state.i64_range(alloc, i64::MIN, i64::MAX).ok();
+    holds(&rt, read == Some(i64::MIN), "the least value");
 }
 
 /// A state behind the only token of a text, which is the string "ab".
@@ -156,62 +186,115 @@ fn behind_a_string(alloc: Global) -> Result<DeJsonState, DeJsonErr> {
 fn strings_are_moved_out(rt: HostRuntime) -> Result<(), Fail> {
     let alloc = rt.alloc();
     let mut state = behind_a_string(alloc)?;
-    is_text(&rt, state.as_string(alloc)?.as_str(), "ab");
-    is_text(&rt, state.as_string(alloc)?.as_str(), "");
-    assert_eq!(rt; state.tok, DeJsonTok::Str);
-    assert!(rt; state.as_bool(alloc).is_err());
+    is_some_text(&rt, state.as_string(alloc).ok(), "ab");
+    is_some_text(&rt, state.as_string(alloc).ok(), "");
+    holds(&rt, state.tok == DeJsonTok::Str, "behind a string");
+    holds(&rt, state.as_bool(alloc).is_err(), "behind a string");
     Ok(())
 }
 
 #[test]
 fn strings_are_next(rt: HostRuntime) -> Result<(), Fail> {
     let alloc = rt.alloc();
-    assert_eq!(rt; state_of(alloc, &mut "\"ab\"".chars()).next_str(), None);
-    assert_eq!(rt; behind_a_string(alloc)?.next_str(), Some(()));
+    let before = state_of(alloc, &mut "\"ab\"".chars());
+    holds(&rt, before.next_str() == None, "before a string");
+    let behind = behind_a_string(alloc)?;
+    holds(&rt, behind.next_str() == Some(()), "behind a string");
     Ok(())
 }
 
-/// The error tells this in the third line and the last column, and is printed so, as is its clone.
-fn says_where(rt: &impl Abort, alloc: Global, e: &DeJsonErr, expected: &str) -> Result<(), Fail> {
+/// The error tells this in the third line and the last column.
+fn says_where(rt: &impl Abort, e: &DeJsonErr, expected: &str) {
     assert_eq!(rt;
         (e.msg.as_str(), e.line, e.col, e.memory),
         (expected, 2, usize::MAX, false)
     );
-    let printed = format!(in alloc;
-        "Json Deserialize error: {expected}, line:3 col:18446744073709551615"
-    )?;
-    is_text(rt, format!(in alloc; "{e}")?.as_str(), printed.as_str());
+}
+
+/// How an error with this message is printed there.
+fn printed(alloc: Global, msg: &str) -> Result<String, AllocError> {
+    format!(in alloc; "Json Deserialize error: {msg}, line:3 col:18446744073709551615")
+}
+
+/// How an error is printed.
+fn shown(alloc: Global, e: &DeJsonErr) -> Result<String, AllocError> {
+    format!(in alloc; "{e}")
+}
+
+/// How an error is printed for whom its form matters.
+fn debugged(alloc: Global, e: &DeJsonErr) -> Result<String, AllocError> {
+    format!(in alloc; "{e:?}")
+}
+
+/// The error is printed so, as is its clone.
+fn is_printed(rt: &impl Abort, alloc: Global, e: &DeJsonErr, msg: &str) -> Result<(), Fail> {
+    let expected = printed(alloc, msg)?;
+    is_some_text(rt, shown(alloc, e).ok(), expected.as_str());
     let again = e.clone(alloc)?;
-    is_text(
-        rt,
-        format!(in alloc; "{again:?}")?.as_str(),
-        printed.as_str(),
-    );
-    assert_eq!(rt; again.memory, false);
+    is_some_text(rt, debugged(alloc, &again).ok(), expected.as_str());
+    holds(rt, !again.memory, msg);
     Ok(())
+}
+
+/// What the call of this name makes of a word.
+fn made(alloc: Global, state: &DeJsonState, name: &str, word: &str) -> DeJsonErr {
+    match name {
+        "err_exp" => state.err_exp(alloc, word),
+        "err_nf" => state.err_nf(alloc, word),
+        "err_enum" => state.err_enum(alloc, word),
+        "err_token" => state.err_token(alloc, word),
+        "err_range" => state.err_range(alloc, word),
+        "err_type" => state.err_type(alloc, word),
+        _ => state.err_parse(alloc, word),
+    }
+}
+
+/// A call that makes an error, its word, and the message.
+type MadeRow = (&'static str, &'static str, &'static str);
+
+/// Errors that tell no token.
+const MADE: &[MadeRow] = &[
+    ("err_exp", "k", "Unexpected key k"),
+    ("err_nf", "k", "Key not found k"),
+    ("err_enum", "V", "Enum not defined V"),
+    ("err_range", "1>0", "Value out of range 1>0 "),
+    ("err_type", "x", "Token wrong type x "),
+    ("err_parse", "x", "Cannot parse x "),
+];
+
+/// An error that tells the token.
+const WITH_TOKEN: MadeRow = ("err_token", "x", "Unexpected token Char('\\'') expected x ");
+
+/// An error that tells that there was no token yet.
+const WITH_NO_TOKEN: MadeRow = ("err_token", "x", "Unexpected token Bof expected x ");
+
+/// A state behind a character, in the third line and the last column.
+fn far_state(alloc: Global) -> DeJsonState {
+    let mut state = state_at(alloc, DeJsonTok::Char('\''));
+    state.line = 2;
+    state.col = usize::MAX;
+    state
+}
+
+/// The error of a row says where that state is, and is printed so.
+fn row_says_where(rt: &impl Abort, alloc: Global, row: &MadeRow) -> Result<(), Fail> {
+    let e = made(alloc, &far_state(alloc), row.0, row.1);
+    says_where(rt, &e, row.2);
+    is_printed(rt, alloc, &e, row.2)
 }
 
 #[test]
 fn errors_say_where(rt: HostRuntime) -> Result<(), Fail> {
-    let alloc = rt.alloc();
-    let mut state = DeJsonState::new(alloc);
-    state.tok = DeJsonTok::Char('\'');
-    state.line = 2;
-    state.col = usize::MAX;
-    let rows = [
-        (state.err_exp(alloc, "k"), "Unexpected key k"),
-        (state.err_nf(alloc, "k"), "Key not found k"),
-        (state.err_enum(alloc, "V"), "Enum not defined V"),
-        (
-            state.err_token(alloc, "x"),
-            "Unexpected token Char('\\'') expected x ",
-        ),
-        (state.err_range(alloc, "1>0"), "Value out of range 1>0 "),
-        (state.err_type(alloc, "x"), "Token wrong type x "),
-        (state.err_parse(alloc, "x"), "Cannot parse x "),
-    ];
-    for (e, expected) in &rows {
-        says_where(&rt, alloc, e, expected)?;
+    for row in MADE {
+        row_says_where(&rt, rt.alloc(), row)?;
+    }
+    row_says_where(&rt, rt.alloc(), &WITH_TOKEN)
+}
+
+/// As many of a character.
+fn push_many(text: &mut String, c: char) -> Result<(), AllocError> {
+    for _ in 0..10000 {
+        text.push(c)?;
     }
     Ok(())
 }
@@ -220,176 +303,184 @@ fn errors_say_where(rt: HostRuntime) -> Result<(), Fail> {
 fn deep_brackets_are_counted(rt: HostRuntime) -> Result<(), Fail> {
     let alloc = rt.alloc();
     let mut text = String::new(alloc);
-    for _ in 0..10000 {
-        text.push('[')?;
-    }
-    assert_eq!(rt;
-        answer(alloc, text.as_str(), 1, "whole_field")?.as_str(),
-        "Json Deserialize error: Cannot parse field , line:1 col:10001"
+    push_many(&mut text, '[')?;
+    is_some_text(
+        &rt,
+        answer(alloc, text.as_str(), 1, "whole_field").ok(),
+        "Json Deserialize error: Cannot parse field , line:1 col:10001",
     );
-    for _ in 0..10000 {
-        text.push('}')?;
-    }
+    push_many(&mut text, '}')?;
     text.push_str("null")?;
-    assert_eq!(rt;
-        answer(alloc, text.as_str(), 1, "whole_field")?.as_str(),
-        "Null"
+    is_some_text(
+        &rt,
+        answer(alloc, text.as_str(), 1, "whole_field").ok(),
+        "Null",
     );
     Ok(())
 }
 
 #[test]
-fn a_writer_appends(rt: HostRuntime) -> Result<(), Fail> {
-    let alloc = rt.alloc();
-    let mut writer = SerJsonState {
-        out: String::new(alloc),
-    };
-    writer.st_pre()?;
-    writer.indent(1)?;
-    writer.field(1, "a")?;
-    writer.label("b")?;
-    writer.conl()?;
-    writer.st_post(1)?;
-    assert_eq!(rt; writer.out.as_str(), "{\"a\":\"b\",}");
+fn states_begin_at_no_token(rt: HostRuntime) {
     assert_eq!(rt; DeJsonTok::default(), DeJsonTok::Bof);
-    Ok(())
 }
 
-/// Whether an error is one for want of memory. Such an error has no message.
-fn wants_memory(rt: &impl Abort, e: &DeJsonErr) -> bool {
+/// The error is for want of memory, and has no message.
+fn is_want(e: &DeJsonErr) -> bool {
+    e.memory && e.msg.is_empty()
+}
+
+/// The error tells this, or is for want of memory, and then has no message.
+fn is_want_or_tells(e: &DeJsonErr, expected: &str) -> bool {
     if e.memory {
-        assert_eq!(rt; e.msg.as_str(), "");
+        return e.msg.is_empty();
     }
-    e.memory
+    e.msg.as_str() == expected
 }
 
-/// A call behind one token of a text answers, or wants memory and leaves the end.
-fn wants_memory_or_answers(rt: &impl Abort, alloc: Global, text: &str, name: &str) {
+/// The refusal of a call behind one token of a text, and whether it leaves the end, where that token
+/// is not refused.
+fn refused_behind(
+    alloc: Global,
+    text: &str,
+    name: &str,
+) -> Result<(Option<DeJsonErr>, bool), DeJsonErr> {
     let mut input = text.chars();
     let mut state = state_of(alloc, &mut input);
-    match state.next_tok(alloc, &mut input) {
-        Ok(()) => {
-            if let Err(e) = call(alloc, &mut state, &mut input, name) {
-                assert!(rt; wants_memory(rt, &e), "{name} at {text}");
-                assert_eq!(rt; (state.tok, state.cur), (DeJsonTok::Eof, '\0'));
-            }
-        }
-        Err(e) => assert!(rt; wants_memory(rt, &e), "{text}"),
+    state.next_tok(alloc, &mut input)?;
+    let told = call(alloc, &mut state, &mut input, name).err();
+    Ok((told, state.tok == DeJsonTok::Eof && state.cur == '\0'))
+}
+
+/// Nothing was refused, or memory was wanted and the end is left.
+fn is_none_or_want(behind: (Option<DeJsonErr>, bool)) -> bool {
+    let (told, ended) = behind;
+    match told {
+        None => true,
+        Some(e) => is_want(&e) && ended,
     }
 }
 
-/// A call behind one token of a text is refused with this message, or wants memory.
-fn wants_memory_or_tells(rt: &impl Abort, alloc: Global, text: &str, name: &str, expected: &str) {
-    let mut input = text.chars();
-    let mut state = state_of(alloc, &mut input);
-    match state.next_tok(alloc, &mut input) {
-        Ok(()) => match call(alloc, &mut state, &mut input, name) {
-            Ok(()) => assert!(rt; false, "{name} at {text}"),
-            Err(e) => assert!(rt;
-                wants_memory(rt, &e) || e.msg.as_str() == expected,
-                "{name} at {text}"
-            ),
-        },
-        Err(e) => assert!(rt; wants_memory(rt, &e), "{text}"),
+/// Whether a call behind one token of a text answers, or wants memory and leaves the end.
+fn wants_memory_or_answers(alloc: Global, text: &str, name: &str) -> bool {
+    match refused_behind(alloc, text, name) {
+        Ok(behind) => is_none_or_want(behind),
+        Err(e) => is_want(&e),
     }
 }
 
-/// The error tells this, or wants memory, and a clone is like it.
-fn is_made(rt: &impl Abort, alloc: Global, e: &DeJsonErr, expected: &str) {
-    assert!(rt; wants_memory(rt, e) || e.msg.as_str() == expected);
-    if let Ok(again) = e.clone(alloc) {
-        assert_eq!(rt; again.memory, e.memory);
-        assert!(rt; again.msg.as_str() == e.msg.as_str());
+/// It was refused with this message, or memory was wanted.
+fn is_told_or_want(behind: (Option<DeJsonErr>, bool), expected: &str) -> bool {
+    match behind.0 {
+        None => false,
+        Some(e) => is_want_or_tells(&e, expected),
     }
 }
+
+/// Whether a call behind one token of a text is refused with this message, or wants memory.
+fn wants_memory_or_tells(alloc: Global, text: &str, name: &str, expected: &str) -> bool {
+    match refused_behind(alloc, text, name) {
+        Ok(behind) => is_told_or_want(behind, expected),
+        Err(e) => is_want(&e),
+    }
+}
+
+/// Texts, and the calls that are answered behind one token of them.
+const ANSWERED: &[(&str, &str)] = &[
+    (": \"abc\"", "colon"),
+    ("null : 1.25e2", "next_colon"),
+    ("\"a\" \"bcd\"", "string"),
+    ("[ true", "block_open"),
+    ("] null", "block_close"),
+    ("{ false", "curly_open"),
+    ("} 1.5", "curly_close"),
+    (", \"\\u00e9\"", "eat_comma_block"),
+    (", -1.5", "eat_comma_curly"),
+    ("{\"a\":[1.5,null],\"b\":{}} true", "whole_field"),
+    ("5", "u64_range"),
+    ("-5", "i64_range"),
+    ("true", "as_bool"),
+    ("\"ab\"", "as_string"),
+    ("1 \"abc\"", "next_tok"),
+];
 
 // With each allocation refused in turn, a call answers want of memory, or as it does with ample memory.
 #[test]
 fn no_refused_growth_is_told_as_another_fault(rt: HostRuntime) {
     let alloc = rt.alloc();
-    let taken = [
-        (": \"abc\"", "colon"),
-        ("null : 1.25e2", "next_colon"),
-        ("\"a\" \"bcd\"", "string"),
-        ("[ true", "block_open"),
-        ("] null", "block_close"),
-        ("{ false", "curly_open"),
-        ("} 1.5", "curly_close"),
-        (", \"\\u00e9\"", "eat_comma_block"),
-        (", -1.5", "eat_comma_curly"),
-        ("{\"a\":[1.5,null],\"b\":{}} true", "whole_field"),
-        ("5", "u64_range"),
-        ("-5", "i64_range"),
-        ("true", "as_bool"),
-        ("\"ab\"", "as_string"),
-        ("1 \"abc\"", "next_tok"),
-    ];
-    for (text, name) in taken {
-        wants_memory_or_answers(&rt, alloc, text, name);
+    for (text, name) in ANSWERED {
+        holds(&rt, wants_memory_or_answers(alloc, text, name), text);
     }
 }
+
+/// Texts, the calls that are refused behind one token of them, and their messages.
+const REFUSED: &[(&str, &str, &str)] = &[
+    (",", "colon", "Unexpected token Comma expected : "),
+    (", 1", "next_colon", "Unexpected token U64(1) expected : "),
+    (",", "string", "Unexpected token Comma expected String "),
+    (",", "block_open", "Unexpected token Comma expected [ "),
+    (",", "block_close", "Unexpected token Comma expected ] "),
+    (",", "curly_open", "Unexpected token Comma expected { "),
+    (",", "curly_close", "Unexpected token Comma expected } "),
+    (
+        "1",
+        "eat_comma_block",
+        "Unexpected token U64(1) expected , or ] ",
+    ),
+    (
+        "1",
+        "eat_comma_curly",
+        "Unexpected token U64(1) expected , or } ",
+    ),
+    (",", "whole_field", "Unexpected token Comma expected field "),
+    ("6", "u64_range", "Value out of range 6>5 "),
+    ("-6", "i64_range", "Value out of range -6<-5 "),
+    ("1", "as_bool", "Unexpected token U64(1) expected boolean "),
+    ("1", "as_string", "Unexpected token U64(1) expected string "),
+    (
+        "1 @",
+        "next_tok",
+        "Unexpected token U64(1) expected tokenizer ",
+    ),
+    (
+        "1 a",
+        "next_tok",
+        "Unexpected token BareIdent expected Got ##a## needed true, false, null ",
+    ),
+    ("1 -", "next_tok", "Cannot parse number "),
+    ("1 \"a", "next_tok", "Cannot parse string "),
+];
 
 #[test]
 fn no_refused_growth_hides_a_fault(rt: HostRuntime) {
     let alloc = rt.alloc();
-    let refused = [
-        (",", "colon", "Unexpected token Comma expected : "),
-        (", 1", "next_colon", "Unexpected token U64(1) expected : "),
-        (",", "string", "Unexpected token Comma expected String "),
-        (",", "block_open", "Unexpected token Comma expected [ "),
-        (",", "block_close", "Unexpected token Comma expected ] "),
-        (",", "curly_open", "Unexpected token Comma expected { "),
-        (",", "curly_close", "Unexpected token Comma expected } "),
-        (
-            "1",
-            "eat_comma_block",
-            "Unexpected token U64(1) expected , or ] ",
-        ),
-        (
-            "1",
-            "eat_comma_curly",
-            "Unexpected token U64(1) expected , or } ",
-        ),
-        (",", "whole_field", "Unexpected token Comma expected field "),
-        ("6", "u64_range", "Value out of range 6>5 "),
-        ("-6", "i64_range", "Value out of range -6<-5 "),
-        ("1", "as_bool", "Unexpected token U64(1) expected boolean "),
-        ("1", "as_string", "Unexpected token U64(1) expected string "),
-        (
-            "1 @",
-            "next_tok",
-            "Unexpected token U64(1) expected tokenizer ",
-        ),
-        (
-            "1 a",
-            "next_tok",
-            "Unexpected token BareIdent expected Got ##a## needed true, false, null ",
-        ),
-        ("1 -", "next_tok", "Cannot parse number "),
-        ("1 \"a", "next_tok", "Cannot parse string "),
-    ];
-    for (text, name, expected) in refused {
-        wants_memory_or_tells(&rt, alloc, text, name, expected);
+    for (text, name, expected) in REFUSED {
+        holds(
+            &rt,
+            wants_memory_or_tells(alloc, text, name, expected),
+            text,
+        );
     }
+}
+
+/// Whether a clone, where there is memory for it, is like the error.
+fn clones_alike(alloc: Global, e: &DeJsonErr) -> bool {
+    match e.clone(alloc) {
+        Ok(again) => again.memory == e.memory && again.msg.as_str() == e.msg.as_str(),
+        Err(_refused) => true,
+    }
+}
+
+/// The error of a row tells its message, or wants memory, and a clone is like it.
+fn is_made(rt: &impl Abort, alloc: Global, row: &MadeRow) {
+    let e = made(alloc, &DeJsonState::new(alloc), row.0, row.1);
+    holds(rt, is_want_or_tells(&e, row.2), row.2);
+    holds(rt, clones_alike(alloc, &e), row.2);
 }
 
 #[test]
 fn no_refused_growth_is_another_error(rt: HostRuntime) {
-    let alloc = rt.alloc();
-    let state = DeJsonState::new(alloc);
-    let made = [
-        (state.err_exp(alloc, "k"), "Unexpected key k"),
-        (state.err_nf(alloc, "k"), "Key not found k"),
-        (state.err_enum(alloc, "V"), "Enum not defined V"),
-        (
-            state.err_token(alloc, "x"),
-            "Unexpected token Bof expected x ",
-        ),
-        (state.err_range(alloc, "1>0"), "Value out of range 1>0 "),
-        (state.err_type(alloc, "x"), "Token wrong type x "),
-        (state.err_parse(alloc, "x"), "Cannot parse x "),
-    ];
-    for (e, expected) in &made {
-        is_made(&rt, alloc, e, expected);
+    for row in MADE {
+        is_made(&rt, rt.alloc(), row);
     }
+    is_made(&rt, rt.alloc(), &WITH_NO_TOKEN);
 }

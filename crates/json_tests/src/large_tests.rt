@@ -1,40 +1,99 @@
 // Values of many items are written and read back.
+use crate::checks::{holds, is_value, text_of};
 use nano_json::{BothJson, SerJson};
-use std::alloc::Global;
+use std::alloc::{AllocError, Global};
 use std::collections::{BTreeSet, HashMap, HashSet, LinkedList};
 use std::process::Abort;
 use std::test::Fail;
 
+/// Whether the value is written and read back.
+fn is_read_back<T: BothJson + PartialEq>(alloc: Global, value: &T) -> bool {
+    match text_of(alloc, value) {
+        None => false,
+        Some(text) => is_value(alloc, text.as_str(), value),
+    }
+}
+
 /// The value is written and read back.
-fn back<T: BothJson + PartialEq>(rt: &impl Abort, alloc: Global, value: T) -> Result<(), Fail> {
-    let text = value.serialize_json(alloc)?;
-    assert!(rt; T::deserialize_json(alloc, text.as_str())? == value);
+fn back<T: BothJson + PartialEq>(rt: &impl Abort, alloc: Global, value: T) {
+    holds(rt, is_read_back(alloc, &value), "many items");
+}
+
+/// How many items each value has.
+const COUNT: i16 = 3_000;
+
+/// A text in which each item is a letter, an escape and a character of two bytes.
+fn long_text(alloc: Global) -> Result<String, AllocError> {
+    let mut text = String::new(alloc);
+    for _ in 0..COUNT {
+        text.push_str("a\n\u{e9}")?;
+    }
+    Ok(text)
+}
+
+fn numbers(alloc: Global) -> Result<Vec<i16>, AllocError> {
+    let mut numbers = Vec::new(alloc);
+    for i in 0..COUNT {
+        numbers.push(i)?;
+    }
+    Ok(numbers)
+}
+
+fn linked(alloc: Global) -> Result<LinkedList<i16>, AllocError> {
+    let mut linked = LinkedList::new(alloc);
+    for i in 0..COUNT {
+        linked.push_back(i)?;
+    }
+    Ok(linked)
+}
+
+fn hashed(alloc: Global) -> Result<HashSet<i16>, AllocError> {
+    let mut hashed = HashSet::new(alloc);
+    for i in 0..COUNT {
+        hashed.insert(i)?;
+    }
+    Ok(hashed)
+}
+
+fn ordered(alloc: Global) -> Result<BTreeSet<i16>, AllocError> {
+    let mut ordered = BTreeSet::new(alloc);
+    for i in 0..COUNT {
+        ordered.insert(i)?;
+    }
+    Ok(ordered)
+}
+
+fn mapped(alloc: Global) -> Result<HashMap<i16, bool>, AllocError> {
+    let mut map = HashMap::new(alloc);
+    for i in 0..COUNT {
+        map.insert(i, true)?;
+    }
+    Ok(map)
+}
+
+#[test]
+fn a_long_text(rt: HostRuntime) -> Result<(), Fail> {
+    let alloc = rt.alloc();
+    let text = long_text(alloc)?;
+    assert_eq!(rt; text.serialize_json(alloc)?.len(), 3_000 * 5 + 2);
+    back(&rt, alloc, text);
     Ok(())
 }
 
 #[test]
-fn many_items(rt: HostRuntime) -> Result<(), Fail> {
+fn many_items_in_lists(rt: HostRuntime) -> Result<(), Fail> {
     let alloc = rt.alloc();
-    let mut text = String::new(alloc);
-    let mut numbers = Vec::new(alloc);
-    let mut linked = LinkedList::new(alloc);
-    let mut hashed = HashSet::new(alloc);
-    let mut ordered = BTreeSet::new(alloc);
-    let mut map = HashMap::new(alloc);
-    for i in 0..3_000i16 {
-        text.push_str("a\n\u{e9}")?;
-        numbers.push(i)?;
-        linked.push_back(i)?;
-        hashed.insert(i)?;
-        ordered.insert(i)?;
-        map.insert(i, true)?;
-    }
-    assert_eq!(rt; text.serialize_json(alloc)?.len(), 3_000 * 5 + 2);
-    back(&rt, alloc, text)?;
-    back(&rt, alloc, numbers)?;
-    back(&rt, alloc, linked)?;
-    back(&rt, alloc, hashed)?;
-    back(&rt, alloc, ordered)?;
-    back(&rt, alloc, map)?;
-    back(&rt, alloc, [7i16; 300])
+    back(&rt, alloc, numbers(alloc)?);
+    back(&rt, alloc, linked(alloc)?);
+    back(&rt, alloc, [7i16; 300]);
+    Ok(())
+}
+
+#[test]
+fn many_items_in_sets_and_maps(rt: HostRuntime) -> Result<(), Fail> {
+    let alloc = rt.alloc();
+    back(&rt, alloc, hashed(alloc)?);
+    back(&rt, alloc, ordered(alloc)?);
+    back(&rt, alloc, mapped(alloc)?);
+    Ok(())
 }

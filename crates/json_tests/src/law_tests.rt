@@ -1,6 +1,8 @@
 // Laws and small calls, each made once.
+use crate::checks::{holds, is_text};
 use crate::token_tests::state_of;
-use nano_json::{DeJsonErr, SerJsonState, end_if_refused, keep_written, laws};
+use nano_json::{DeJsonErr, DeJsonState, SerJsonState, end_if_refused, keep_written, laws};
+use std::alloc::{AllocError, Global};
 use std::collections::{BTreeSet, HashSet};
 use std::test::Fail;
 
@@ -28,6 +30,12 @@ fn laws_of_values(rt: HostRuntime) -> Result<(), Fail> {
     laws::spelled_is_sound(&one);
     laws::null_stands_alone(&one);
     laws::same_meaning_same_text(&one, &one);
+    Ok(())
+}
+
+#[test]
+fn laws_of_sets(rt: HostRuntime) -> Result<(), Fail> {
+    let alloc = rt.alloc();
     let mut hashed = HashSet::new(alloc);
     let mut ordered = BTreeSet::new(alloc);
     hashed.insert(1u8)?;
@@ -36,30 +44,51 @@ fn laws_of_values(rt: HostRuntime) -> Result<(), Fail> {
     Ok(())
 }
 
-#[test]
-fn states_and_texts_are_set_back(rt: HostRuntime) -> Result<(), Fail> {
-    let alloc = rt.alloc();
+/// A state behind the first token of a text, which is a string, with a number behind it.
+fn behind_a_string(alloc: Global) -> Result<DeJsonState, DeJsonErr> {
     let mut input = "\"a\" 1".chars();
     let mut state = state_of(alloc, &mut input);
     state.next_tok(alloc, &mut input)?;
-    assert_eq!(rt; end_if_refused(&mut state, Ok::<u8, DeJsonErr>(7))?, 7);
-    assert!(rt; state.next_str().is_some() && state.cur == ' ');
+    Ok(state)
+}
+
+#[test]
+fn states_stay_behind_an_answer(rt: HostRuntime) -> Result<(), Fail> {
+    let mut state = behind_a_string(rt.alloc())?;
+    let answer = end_if_refused(&mut state, Ok::<u8, DeJsonErr>(7)).ok();
+    holds(&rt, answer == Some(7), "an answer");
+    let stays = state.next_str().is_some() && state.cur == ' ';
+    holds(&rt, stays, "an answer");
+    Ok(())
+}
+
+/// The error is for want of memory.
+fn is_want(e: &DeJsonErr) -> bool {
+    e.msg.is_empty() && e.memory && e.line == 0 && e.col == 4
+}
+
+#[test]
+fn states_end_behind_a_refusal(rt: HostRuntime) -> Result<(), Fail> {
+    let alloc = rt.alloc();
+    let mut state = behind_a_string(alloc)?;
     let error = state.err_memory(alloc);
-    assert_eq!(rt;
-        (error.msg.as_str(), error.memory, error.line, error.col),
-        ("", true, 0, 4)
-    );
-    match end_if_refused::<u8>(&mut state, Err(error)) {
-        Ok(_value) => assert!(rt; false),
-        Err(error) => assert!(rt; error.memory),
-    }
-    assert!(rt; state.next_str().is_none() && state.cur == '\0');
+    holds(&rt, is_want(&error), "an error");
+    let refused = end_if_refused::<u8>(&mut state, Err(error)).err();
+    holds(&rt, refused.is_some_and(|e| e.memory), "a refusal");
+    let ended = state.next_str().is_none() && state.cur == '\0';
+    holds(&rt, ended, "a refusal");
+    Ok(())
+}
+
+#[test]
+fn texts_are_set_back(rt: HostRuntime) -> Result<(), Fail> {
     let mut s = SerJsonState {
-        out: String::from_str(alloc, "ab")?,
+        out: String::from_str(rt.alloc(), "ab")?,
     };
     keep_written(&mut s.out, 1, Ok(()))?;
-    assert_eq!(rt; s.out.as_str(), "ab");
-    assert!(rt; keep_written(&mut s.out, 1, Err(std::alloc::AllocError)).is_err());
-    assert_eq!(rt; s.out.as_str(), "a");
+    is_text(&rt, s.out.as_str(), "ab");
+    let is_refused = keep_written(&mut s.out, 1, Err(AllocError)).is_err();
+    holds(&rt, is_refused, "a refused write");
+    is_text(&rt, s.out.as_str(), "a");
     Ok(())
 }

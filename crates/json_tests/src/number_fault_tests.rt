@@ -1,34 +1,59 @@
 // What no clause of the readers says: where the faults of each number and of longer tuples stand.
-use nano_json::DeJson;
-use std::alloc::Global;
-use std::process::Abort;
+use crate::checks::{FaultRow, faults};
 
-/// The text is refused with this message, in its second line and this column.
-fn told<T: DeJson>(rt: &impl Abort, alloc: Global, text: &str, msg: &str, col: usize) {
-    match T::deserialize_json(alloc, text) {
-        Ok(_value) => assert!(rt; false, "{text} is read"),
-        Err(error) => {
-            assert_eq!(rt; (error.msg.as_str(), error.memory), (msg, false));
-            assert_eq!(rt; (error.line, error.col), (1, col), "at {text}");
-        }
-    }
+/// No unsigned number.
+const UNSIGNED: &[FaultRow<'static>] = &[(
+    "\n -1",
+    "Unexpected token I64(-1) expected unsigned integer ",
+    1,
+    3,
+)];
+
+/// No signed number.
+const SIGNED: &[FaultRow<'static>] = &[(
+    "\n 1.5",
+    "Unexpected token F64 expected signed integer ",
+    1,
+    4,
+)];
+
+/// No number at all.
+const INFINITE: &[FaultRow<'static>] = &[(
+    "\n Infinity",
+    "Unexpected token BareIdent expected Got ##Infinity## needed true, false, null ",
+    1,
+    9,
+)];
+
+/// Too few items.
+const SHORT: &[FaultRow<'static>] = &[(
+    "\n [1,2]",
+    "Unexpected token BlockClose expected unsigned integer ",
+    1,
+    6,
+)];
+
+#[test]
+fn faults_of_unsigned_numbers(rt: HostRuntime) {
+    let alloc = rt.alloc();
+    faults::<u16>(&rt, alloc, UNSIGNED);
+    faults::<u32>(&rt, alloc, UNSIGNED);
+    faults::<u64>(&rt, alloc, UNSIGNED);
+    faults::<usize>(&rt, alloc, UNSIGNED);
 }
 
 #[test]
-fn faults_of_numbers(rt: HostRuntime) {
+fn faults_of_signed_numbers(rt: HostRuntime) {
     let alloc = rt.alloc();
-    let msg = "Unexpected token I64(-1) expected unsigned integer ";
-    told::<u16>(&rt, alloc, "\n -1", msg, 3);
-    told::<u32>(&rt, alloc, "\n -1", msg, 3);
-    told::<u64>(&rt, alloc, "\n -1", msg, 3);
-    told::<usize>(&rt, alloc, "\n -1", msg, 3);
-    let msg = "Unexpected token F64 expected signed integer ";
-    told::<i16>(&rt, alloc, "\n 1.5", msg, 4);
-    told::<i32>(&rt, alloc, "\n 1.5", msg, 4);
-    told::<i64>(&rt, alloc, "\n 1.5", msg, 4);
-    let msg = "Unexpected token BareIdent expected Got ##Infinity## needed true, false, null ";
-    told::<i64>(&rt, alloc, "\n Infinity", msg, 9);
-    let msg = "Unexpected token BlockClose expected unsigned integer ";
-    told::<(u8, u8, u8)>(&rt, alloc, "\n [1,2]", msg, 6);
-    told::<(u8, u8, u8, u8)>(&rt, alloc, "\n [1,2]", msg, 6);
+    faults::<i16>(&rt, alloc, SIGNED);
+    faults::<i32>(&rt, alloc, SIGNED);
+    faults::<i64>(&rt, alloc, SIGNED);
+    faults::<i64>(&rt, alloc, INFINITE);
+}
+
+#[test]
+fn faults_of_longer_tuples(rt: HostRuntime) {
+    let alloc = rt.alloc();
+    faults::<(u8, u8, u8)>(&rt, alloc, SHORT);
+    faults::<(u8, u8, u8, u8)>(&rt, alloc, SHORT);
 }

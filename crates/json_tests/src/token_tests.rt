@@ -1,4 +1,5 @@
 // Tokens and places: that the definitions are the format's.
+use crate::checks::holds;
 use nano_json::{DeJsonState, DeJsonTok};
 use std::alloc::{AllocError, Global};
 use std::process::Abort;
@@ -58,84 +59,83 @@ fn is_cut(rt: &impl Abort, tokens: &str, expected: &str, text: &str) {
     assert_eq!(rt; tokens, expected, "at {text}");
 }
 
+/// Texts, and the first tokens of each.
+const CUTS: &[(&str, usize, &str)] = &[
+    ("42]", 3, "U64(42) | BlockClose | Eof"),
+    ("1..2", 3, "F64 1. | refused | Eof"),
+    ("1-2", 4, "U64(1) | I64(-2) | Eof | Eof"),
+    ("--1", 2, "refused | Eof"),
+    ("nul", 2, "refused | Eof"),
+    ("Null", 2, "refused | Eof"),
+    ("nulls", 2, "refused | Eof"),
+    ("'", 2, "refused | Eof"),
+    (".5", 2, "refused | Eof"),
+    ("", 2, "Eof | Eof"),
+    (" \n\r\t", 2, "Eof | Eof"),
+    ("\u{b}1", 2, "refused | Eof"),
+    (
+        " { } [ ] : , ",
+        7,
+        "CurlyOpen | CurlyClose | BlockOpen | BlockClose | Colon | Comma | Eof",
+    ),
+    (
+        "true false null",
+        4,
+        "Bool(true) | Bool(false) | Null | Eof",
+    ),
+    ("true1", 2, "Bool(true) | U64(1)"),
+    ("-0", 2, "I64(0) | Eof"),
+    ("+5", 2, "U64(5) | Eof"),
+    ("007", 2, "U64(7) | Eof"),
+    ("-", 2, "refused | Eof"),
+    ("+", 2, "refused | Eof"),
+    ("00000000000000000000007", 2, "U64(7) | Eof"),
+    ("18446744073709551615", 2, "U64(18446744073709551615) | Eof"),
+    ("18446744073709551616", 2, "refused | Eof"),
+    ("-9223372036854775808", 2, "I64(-9223372036854775808) | Eof"),
+    ("-9223372036854775809", 2, "refused | Eof"),
+    ("99999999999999999999", 2, "refused | Eof"),
+    (
+        "99999999999999999999.5",
+        2,
+        "F64 99999999999999999999.5 | Eof",
+    ),
+    (
+        "99999999999999999999e0",
+        2,
+        "F64 99999999999999999999e0 | Eof",
+    ),
+    ("1.", 2, "F64 1. | Eof"),
+    ("-.5", 2, "F64 -.5 | Eof"),
+    ("1.e5", 2, "F64 1.e5 | Eof"),
+    ("1e-2", 2, "F64 1e-2 | Eof"),
+    ("1e+2", 2, "refused | Eof"),
+    ("1e", 2, "refused | Eof"),
+    ("42 43", 2, "U64(42) | U64(43)"),
+    ("42\0@", 3, "U64(42) | Eof | Eof"),
+    ("42 @", 3, "U64(42) | refused | Eof"),
+    ("\"\\x\\u00e9\"", 2, "Str xé | Eof"),
+    (
+        "\"\\n\\t\\u0020\\f\\b\\\\\\\"\\/\\ud83d\\uDE0B\\r\"",
+        2,
+        "Str \n\t \u{c}\u{8}\\\"/😋\r | Eof",
+    ),
+    ("\"\\0\"\"\"", 3, "Str \0 | Str  | Eof"),
+    ("\"\\ud83d\"", 2, "refused | Eof"),
+    ("\"\\udc00\"", 2, "refused | Eof"),
+    ("\"\\ud83d\\n\"", 2, "refused | Eof"),
+    ("\"\\ud83d\\ud83d\"", 2, "refused | Eof"),
+    ("\"\\uD800x\"", 2, "refused | Eof"),
+    ("\"\\u12\"", 2, "refused | Eof"),
+    ("\"\\u+123\"", 2, "refused | Eof"),
+    ("\"ab", 2, "refused | Eof"),
+    ("\"a\0\"", 2, "refused | Eof"),
+];
+
 #[test]
 fn texts_are_cut_into_tokens(rt: HostRuntime) -> Result<(), Fail> {
     let alloc = rt.alloc();
-    cuts(
-        &rt,
-        alloc,
-        &[
-            ("42]", 3, "U64(42) | BlockClose | Eof"),
-            ("1..2", 3, "F64 1. | refused | Eof"),
-            ("1-2", 4, "U64(1) | I64(-2) | Eof | Eof"),
-            ("--1", 2, "refused | Eof"),
-            ("nul", 2, "refused | Eof"),
-            ("Null", 2, "refused | Eof"),
-            ("nulls", 2, "refused | Eof"),
-            ("'", 2, "refused | Eof"),
-            (".5", 2, "refused | Eof"),
-            ("", 2, "Eof | Eof"),
-            (" \n\r\t", 2, "Eof | Eof"),
-            ("\u{b}1", 2, "refused | Eof"),
-            (
-                " { } [ ] : , ",
-                7,
-                "CurlyOpen | CurlyClose | BlockOpen | BlockClose | Colon | Comma | Eof",
-            ),
-            (
-                "true false null",
-                4,
-                "Bool(true) | Bool(false) | Null | Eof",
-            ),
-            ("true1", 2, "Bool(true) | U64(1)"),
-            ("-0", 2, "I64(0) | Eof"),
-            ("+5", 2, "U64(5) | Eof"),
-            ("007", 2, "U64(7) | Eof"),
-            ("-", 2, "refused | Eof"),
-            ("+", 2, "refused | Eof"),
-            ("00000000000000000000007", 2, "U64(7) | Eof"),
-            ("18446744073709551615", 2, "U64(18446744073709551615) | Eof"),
-            ("18446744073709551616", 2, "refused | Eof"),
-            ("-9223372036854775808", 2, "I64(-9223372036854775808) | Eof"),
-            ("-9223372036854775809", 2, "refused | Eof"),
-            ("99999999999999999999", 2, "refused | Eof"),
-            (
-                "99999999999999999999.5",
-                2,
-                "F64 99999999999999999999.5 | Eof",
-            ),
-            (
-                "99999999999999999999e0",
-                2,
-                "F64 99999999999999999999e0 | Eof",
-            ),
-            ("1.", 2, "F64 1. | Eof"),
-            ("-.5", 2, "F64 -.5 | Eof"),
-            ("1.e5", 2, "F64 1.e5 | Eof"),
-            ("1e-2", 2, "F64 1e-2 | Eof"),
-            ("1e+2", 2, "refused | Eof"),
-            ("1e", 2, "refused | Eof"),
-            ("42 43", 2, "U64(42) | U64(43)"),
-            ("42\0@", 3, "U64(42) | Eof | Eof"),
-            ("42 @", 3, "U64(42) | refused | Eof"),
-            ("\"\\x\\u00e9\"", 2, "Str xé | Eof"),
-            (
-                "\"\\n\\t\\u0020\\f\\b\\\\\\\"\\/\\ud83d\\uDE0B\\r\"",
-                2,
-                "Str \n\t \u{c}\u{8}\\\"/😋\r | Eof",
-            ),
-            ("\"\\0\"\"\"", 3, "Str \0 | Str  | Eof"),
-            ("\"\\ud83d\"", 2, "refused | Eof"),
-            ("\"\\udc00\"", 2, "refused | Eof"),
-            ("\"\\ud83d\\n\"", 2, "refused | Eof"),
-            ("\"\\ud83d\\ud83d\"", 2, "refused | Eof"),
-            ("\"\\uD800x\"", 2, "refused | Eof"),
-            ("\"\\u12\"", 2, "refused | Eof"),
-            ("\"\\u+123\"", 2, "refused | Eof"),
-            ("\"ab", 2, "refused | Eof"),
-            ("\"a\0\"", 2, "refused | Eof"),
-        ],
-    )
+    cuts(&rt, alloc, CUTS)
 }
 
 #[test]
@@ -180,8 +180,9 @@ fn long_strings(rt: HostRuntime) -> Result<(), Fail> {
     let mut input = text.chars();
     let mut state = state_of(alloc, &mut input);
     state.next_tok(alloc, &mut input)?;
-    assert_eq!(rt; state.tok, DeJsonTok::Str);
-    assert_eq!(rt; state.strbuf.as_str().chars().count(), 2003);
+    holds(&rt, state.tok == DeJsonTok::Str, "a long string");
+    let count = state.strbuf.as_str().chars().count();
+    holds(&rt, count == 2003, "a long string");
     is_at(&rt, &state, ('\0', 1, 1004));
     Ok(())
 }
@@ -204,8 +205,9 @@ fn current_characters_count_first(rt: HostRuntime) {
     let mut state = DeJsonState::new(alloc);
     state.tok = DeJsonTok::U64(7);
     state.cur = '@';
-    assert!(rt; state.next_tok(alloc, &mut "1".chars()).is_err());
-    assert_eq!(rt; (state.tok, state.cur), (DeJsonTok::Eof, '\0'));
+    let is_refused = state.next_tok(alloc, &mut "1".chars()).is_err();
+    let ended = state.tok == DeJsonTok::Eof && state.cur == '\0';
+    holds(&rt, is_refused && ended, "@1");
 }
 
 /// NUL is the end whatever they hold.
@@ -215,7 +217,7 @@ fn nul_is_the_end(rt: HostRuntime) -> Result<(), Fail> {
     let mut state = DeJsonState::new(alloc);
     state.tok = DeJsonTok::U64(7);
     state.next_tok(alloc, &mut "9".chars())?;
-    assert_eq!(rt; state.tok, DeJsonTok::Eof);
+    holds(&rt, state.tok == DeJsonTok::Eof, "9");
     Ok(())
 }
 
@@ -242,12 +244,13 @@ fn places_behind_a_token(rt: HostRuntime) -> Result<(), Fail> {
 
 #[test]
 fn the_last_place(rt: HostRuntime) {
-    let (last, mut input) = (usize::MAX, "a\n".chars());
+    let last = usize::MAX;
+    let mut input = "a\n".chars();
     let mut state = DeJsonState::new(rt.alloc());
     state.line = last;
     state.col = last;
-    state.next(&mut input);
-    is_at(&rt, &state, ('a', last, last));
-    state.next(&mut input);
-    is_at(&rt, &state, ('\n', last, 0));
+    for expected in [('a', last, last), ('\n', last, 0)] {
+        state.next(&mut input);
+        is_at(&rt, &state, expected);
+    }
 }

@@ -1,56 +1,59 @@
 // What no clause of the writers says: that they succeed, and that the definitions are the format's.
-use crate::checks::{is_text, text_of, values};
-use nano_json::{BothJson, DeJson, SerJson, SerJsonState, laws};
-use std::alloc::Global;
+use crate::checks::{is_some_text, is_text, text_of, values};
+use nano_json::{BothJson, SerJson, SerJsonState, laws};
+use std::alloc::{AllocError, Global};
 use std::collections::{BTreeSet, HashMap, HashSet, LinkedList};
 use std::process::Abort;
 use std::test::Fail;
 
 /// Each value is written as that text.
-fn written<T: SerJson>(rt: &impl Abort, alloc: Global, rows: &[(T, &str)]) -> Result<(), Fail> {
+fn written<T: SerJson>(rt: &impl Abort, alloc: Global, rows: &[(T, &str)]) {
     for (value, expected) in rows {
-        is_text(rt, text_of(alloc, value)?.as_str(), expected);
+        is_some_text(rt, text_of(alloc, value), expected);
     }
-    Ok(())
 }
 
-/// What the value of a text is written as, and what the value that is read back from there is.
-fn texts_of<T: BothJson>(alloc: Global, text: &str) -> Result<(String, String), Fail> {
-    let value = T::deserialize_json(alloc, text)?;
-    let again = laws::read_back(alloc, &value)?;
-    Ok((text_of(alloc, &value)?, text_of(alloc, &again)?))
+/// What the value of a text is written as.
+fn first_text<T: BothJson>(alloc: Global, text: &str) -> Option<String> {
+    let value = T::deserialize_json(alloc, text).ok()?;
+    text_of(alloc, &value)
+}
+
+/// What the value is written as that is read back from the text of a text's value.
+fn second_text<T: BothJson>(alloc: Global, text: &str) -> Option<String> {
+    let value = T::deserialize_json(alloc, text).ok()?;
+    let again = laws::read_back(alloc, &value).ok()?;
+    text_of(alloc, &again)
 }
 
 /// Each text is read, and then written as that other text.
-fn normal<T: BothJson>(rt: &impl Abort, alloc: Global, rows: &[(&str, &str)]) -> Result<(), Fail> {
+fn normal<T: BothJson>(rt: &impl Abort, alloc: Global, rows: &[(&str, &str)]) {
     for (text, expected) in rows {
-        let (written, again) = texts_of::<T>(alloc, text)?;
-        is_text(rt, written.as_str(), expected);
-        is_text(rt, again.as_str(), expected);
+        is_some_text(rt, first_text::<T>(alloc, text), expected);
+        is_some_text(rt, second_text::<T>(alloc, text), expected);
     }
-    Ok(())
 }
 
 #[test]
-fn unsigned_numbers_are_written(rt: HostRuntime) -> Result<(), Fail> {
+fn unsigned_numbers_are_written(rt: HostRuntime) {
     let alloc = rt.alloc();
     written(
         &rt,
         alloc,
         &[(0u8, "0"), (7, "7"), (10, "10"), (255, "255")],
-    )?;
-    written(&rt, alloc, &[(u16::MAX, "65535")])?;
-    written(&rt, alloc, &[(u32::MAX, "4294967295")])?;
+    );
+    written(&rt, alloc, &[(u16::MAX, "65535")]);
+    written(&rt, alloc, &[(u32::MAX, "4294967295")]);
     written(
         &rt,
         alloc,
         &[(1u64, "1"), (u64::MAX, "18446744073709551615")],
-    )?;
-    written(&rt, alloc, &[(12usize, "12")])
+    );
+    written(&rt, alloc, &[(12usize, "12")]);
 }
 
 #[test]
-fn signed_numbers_are_written(rt: HostRuntime) -> Result<(), Fail> {
+fn signed_numbers_are_written(rt: HostRuntime) {
     let alloc = rt.alloc();
     written(
         &rt,
@@ -59,24 +62,24 @@ fn signed_numbers_are_written(rt: HostRuntime) -> Result<(), Fail> {
             (i64::MIN, "-9223372036854775808"),
             (i64::MAX, "9223372036854775807"),
         ],
-    )?;
-    written(&rt, alloc, &[(i8::MIN, "-128"), (0, "0"), (127, "127")])?;
-    written(&rt, alloc, &[(i16::MIN, "-32768")])?;
-    written(&rt, alloc, &[(i32::MIN, "-2147483648"), (-1, "-1")])
+    );
+    written(&rt, alloc, &[(i8::MIN, "-128"), (0, "0"), (127, "127")]);
+    written(&rt, alloc, &[(i16::MIN, "-32768")]);
+    written(&rt, alloc, &[(i32::MIN, "-2147483648"), (-1, "-1")]);
 }
 
 #[test]
-fn words_and_options_are_written(rt: HostRuntime) -> Result<(), Fail> {
+fn words_and_options_are_written(rt: HostRuntime) {
     let alloc = rt.alloc();
-    written(&rt, alloc, &[(true, "true"), (false, "false")])?;
-    written(&rt, alloc, &[((), "null")])?;
-    written(&rt, alloc, &[(Some(3u8), "3"), (None, "null")])?;
-    written(&rt, alloc, &[(Some(()), "null")])?;
+    written(&rt, alloc, &[(true, "true"), (false, "false")]);
+    written(&rt, alloc, &[((), "null")]);
+    written(&rt, alloc, &[(Some(3u8), "3"), (None, "null")]);
+    written(&rt, alloc, &[(Some(()), "null")]);
     written(
         &rt,
         alloc,
         &[(Some(None::<u8>), "null"), (Some(Some(5)), "5")],
-    )
+    );
 }
 
 /// Texts, and how they are written.
@@ -89,98 +92,131 @@ const ESCAPED: &[(&str, &str)] = &[
     ("a\u{e9}\u{1f60b}/\u{80}", "\"a\u{e9}\u{1f60b}/\u{80}\""),
 ];
 
-#[test]
-fn strings_are_written_with_escapes(rt: HostRuntime) -> Result<(), Fail> {
-    let alloc = rt.alloc();
+/// The text of the characters with the codes below 33.
+fn low_characters(alloc: Global) -> Result<String, AllocError> {
     let mut low = String::new(alloc);
     for code in 0..33u8 {
         low.push(char::from(code))?;
     }
-    let mut expected = String::from_str(
-        alloc,
+    Ok(low)
+}
+
+/// How these characters are written.
+fn low_lexeme(alloc: Global) -> Result<String, AllocError> {
+    let mut expected = String::new(alloc);
+    for part in [
         "\"\\u0000\\u0001\\u0002\\u0003\\u0004\\u0005\\u0006\\u0007\\b\\t\\n\\u000b\\f\\r",
-    )?;
-    expected.push_str("\\u000e\\u000f\\u0010\\u0011\\u0012\\u0013\\u0014\\u0015\\u0016\\u0017")?;
-    expected.push_str("\\u0018\\u0019\\u001a\\u001b\\u001c\\u001d\\u001e\\u001f \"")?;
-    is_text(&rt, text_of(alloc, &low)?.as_str(), expected.as_str());
-    written(&rt, alloc, ESCAPED)?;
+        "\\u000e\\u000f\\u0010\\u0011\\u0012\\u0013\\u0014\\u0015\\u0016\\u0017",
+        "\\u0018\\u0019\\u001a\\u001b\\u001c\\u001d\\u001e\\u001f \"",
+    ] {
+        expected.push_str(part)?;
+    }
+    Ok(expected)
+}
+
+#[test]
+fn low_characters_are_escaped(rt: HostRuntime) -> Result<(), Fail> {
+    let low = low_characters(rt.alloc())?;
+    let lexeme = low_lexeme(rt.alloc())?;
+    is_some_text(&rt, text_of(rt.alloc(), &low), lexeme.as_str());
+    Ok(())
+}
+
+/// The text is written as the lexeme, which is read as the text.
+fn is_lexeme(rt: &impl Abort, alloc: Global, text: String, lexeme: &str) {
+    is_some_text(rt, text_of(alloc, &text), lexeme);
+    values(rt, alloc, &[(lexeme, text)]);
+}
+
+#[test]
+fn strings_are_written_with_escapes(rt: HostRuntime) -> Result<(), Fail> {
+    let alloc = rt.alloc();
+    written(&rt, alloc, ESCAPED);
     for (text, lexeme) in ESCAPED {
-        let owned = String::from_str(alloc, text)?;
-        is_text(&rt, text_of(alloc, &owned)?.as_str(), lexeme);
-        values(&rt, alloc, &[(lexeme, owned)])?;
+        is_lexeme(&rt, alloc, String::from_str(alloc, text)?, lexeme);
     }
     Ok(())
 }
 
 #[test]
-fn lists_are_read_and_written(rt: HostRuntime) -> Result<(), Fail> {
+fn lists_are_read_and_written(rt: HostRuntime) {
     let alloc = rt.alloc();
-    normal::<Vec<Option<u8>>>(&rt, alloc, &[("[null,3,]", "[null,3]"), ("[]", "[]")])?;
-    normal::<Vec<Vec<u8>>>(&rt, alloc, &[("[[],[1],]", "[[],[1]]")])?;
-    normal::<LinkedList<i8>>(&rt, alloc, &[("[ 1, -2 ,+3]", "[1,-2,3]")])
+    normal::<Vec<Option<u8>>>(&rt, alloc, &[("[null,3,]", "[null,3]"), ("[]", "[]")]);
+    normal::<Vec<Vec<u8>>>(&rt, alloc, &[("[[],[1],]", "[[],[1]]")]);
+    normal::<LinkedList<i8>>(&rt, alloc, &[("[ 1, -2 ,+3]", "[1,-2,3]")]);
 }
 
 #[test]
-fn arrays_and_boxes_are_read_and_written(rt: HostRuntime) -> Result<(), Fail> {
+fn arrays_and_boxes_are_read_and_written(rt: HostRuntime) {
     let alloc = rt.alloc();
-    normal::<[u8; 0]>(&rt, alloc, &[("[]", "[]")])?;
-    normal::<[u8; 2]>(&rt, alloc, &[("[1,2]", "[1,2]")])?;
-    normal::<Box<Option<Option<u8>>>>(&rt, alloc, &[("5", "5"), ("null", "null")])
+    normal::<[u8; 0]>(&rt, alloc, &[("[]", "[]")]);
+    normal::<[u8; 2]>(&rt, alloc, &[("[1,2]", "[1,2]")]);
+    normal::<Box<Option<Option<u8>>>>(&rt, alloc, &[("5", "5"), ("null", "null")]);
 }
 
 #[test]
-fn slices_are_written(rt: HostRuntime) -> Result<(), Fail> {
+fn slices_are_written(rt: HostRuntime) {
     let alloc = rt.alloc();
     let numbers = [1u16, 2, 3];
     written(
         &rt,
         alloc,
         &[(&numbers[..], "[1,2,3]"), (&numbers[..0], "[]")],
-    )
+    );
 }
 
 #[test]
-fn maps_and_sets_are_read_and_written(rt: HostRuntime) -> Result<(), Fail> {
+fn maps_and_sets_are_read_and_written(rt: HostRuntime) {
     let alloc = rt.alloc();
     normal::<HashMap<u8, bool>>(
         &rt,
         alloc,
         &[("{2:true,1:false}", "{1:false,2:true}"), ("{}", "{}")],
-    )?;
+    );
     normal::<HashMap<String, i32>>(
         &rt,
         alloc,
         &[("{\"b\":1,\"a\":2,\"b\":3,}", "{\"a\":2,\"b\":3}")],
-    )?;
-    normal::<HashSet<i32>>(&rt, alloc, &[("[3,1,3]", "[1,3]")])?;
-    normal::<BTreeSet<i32>>(&rt, alloc, &[("[3,1,3]", "[1,3]")])
+    );
+    normal::<HashSet<i32>>(&rt, alloc, &[("[3,1,3]", "[1,3]")]);
+    normal::<BTreeSet<i32>>(&rt, alloc, &[("[3,1,3]", "[1,3]")]);
 }
 
 #[test]
-fn tuples_are_read_and_written(rt: HostRuntime) -> Result<(), Fail> {
+fn tuples_are_read_and_written(rt: HostRuntime) {
     let alloc = rt.alloc();
-    normal::<(u8, u8)>(&rt, alloc, &[("[1,2,]", "[1,2]")])?;
-    normal::<(u8, String)>(&rt, alloc, &[("[1,\"a\\n\",]", "[1,\"a\\n\"]")])?;
-    normal::<(u8, String, bool)>(&rt, alloc, &[("[1,\"a\\n\",true]", "[1,\"a\\n\",true]")])?;
-    normal::<(u8, i8, (), Option<u8>)>(&rt, alloc, &[("[1,-0,null,null]", "[1,0,null,null]")])
+    normal::<(u8, u8)>(&rt, alloc, &[("[1,2,]", "[1,2]")]);
+    normal::<(u8, String)>(&rt, alloc, &[("[1,\"a\\n\",]", "[1,\"a\\n\"]")]);
+    normal::<(u8, String, bool)>(&rt, alloc, &[("[1,\"a\\n\",true]", "[1,\"a\\n\",true]")]);
+    normal::<(u8, i8, (), Option<u8>)>(&rt, alloc, &[("[1,-0,null,null]", "[1,0,null,null]")]);
+}
+
+/// Each text of a map from such keys is read, and then written as that other text. A type of many
+/// levels takes long to prove where it is named in one piece.
+fn normal_map<V: BothJson>(rt: &impl Abort, alloc: Global, rows: &[(&str, &str)]) {
+    normal::<HashMap<(u8, bool), V>>(rt, alloc, rows);
+}
+
+/// The same where the values are lists.
+fn normal_map_of_lists<V: BothJson>(rt: &impl Abort, alloc: Global, rows: &[(&str, &str)]) {
+    normal_map::<Vec<V>>(rt, alloc, rows);
 }
 
 #[test]
-fn nested_types_are_read_and_written(rt: HostRuntime) -> Result<(), Fail> {
+fn nested_types_are_read_and_written(rt: HostRuntime) {
     let alloc = rt.alloc();
-    normal::<HashMap<(u8, bool), Vec<HashSet<String>>>>(
+    normal_map_of_lists::<HashSet<String>>(
         &rt,
         alloc,
         &[(
             "{[2,true]:[[\"b\",\"a\"]],[1,false]:[]}",
             "{[1,false]:[],[2,true]:[[\"a\",\"b\"]]}",
         )],
-    )
+    );
 }
 
-#[test]
-fn text_is_appended_at_any_level(rt: HostRuntime) -> Result<(), Fail> {
-    let alloc = rt.alloc();
+/// A text that a writer has begun, with these values behind it.
+fn appended(alloc: Global) -> Result<String, AllocError> {
     let mut state = SerJsonState {
         out: String::from_str(alloc, "{")?,
     };
@@ -188,6 +224,37 @@ fn text_is_appended_at_any_level(rt: HostRuntime) -> Result<(), Fail> {
     let names = ["a", "b"];
     names.ser_json(alloc, usize::MAX, &mut state)?;
     (7u8, Some(true)).ser_json(alloc, 3, &mut state)?;
-    assert_eq!(rt; state.out.as_str(), "{[1][\"a\",\"b\"][7,true]");
+    Ok(state.out)
+}
+
+#[test]
+fn text_is_appended_at_any_level(rt: HostRuntime) -> Result<(), Fail> {
+    let text = appended(rt.alloc())?;
+    is_text(&rt, text.as_str(), "{[1][\"a\",\"b\"][7,true]");
+    Ok(())
+}
+
+/// A field and its name are begun.
+fn begin(writer: &mut SerJsonState) -> Result<(), AllocError> {
+    writer.st_pre()?;
+    writer.indent(1)?;
+    writer.field(1, "a")
+}
+
+/// A name stands for its value, and the brackets close.
+fn end(writer: &mut SerJsonState) -> Result<(), AllocError> {
+    writer.label("b")?;
+    writer.conl()?;
+    writer.st_post(1)
+}
+
+#[test]
+fn a_writer_appends(rt: HostRuntime) -> Result<(), Fail> {
+    let mut writer = SerJsonState {
+        out: String::new(rt.alloc()),
+    };
+    begin(&mut writer)?;
+    end(&mut writer)?;
+    is_text(&rt, writer.out.as_str(), "{\"a\":\"b\",}");
     Ok(())
 }
