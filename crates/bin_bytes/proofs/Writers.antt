@@ -1,10 +1,10 @@
 -- What a loop over items has written.
-use Rattle.std.proofs.Common.{◌≡◌, ◌≤◌, ◌<◌, ◌+◌, ℕ, List, [], ◌∷◌, ◌++◌, map, length, take, set, get_or, sym, ◌∙◌, ap, append_assoc, Result, Ok, Err, OnErr}
+use Rattle.std.proofs.Common.{◌≡◌, ◌≤◌, ◌<◌, ◌+◌, ℕ, List, [], ◌∷◌, ◌++◌, map, length, take, drop, set, get_or, sym, ◌∙◌, ap, append_assoc, Result, Ok, Err, OnErr}
 use Rattle.std.specs.List.{flat_map}
 use Rattle.std.proofs.lemmas.Grind.{flat_map-append}
 use Rattle.std.proofs.Math.Numerals.{add-one}
-use Rattle.std.proofs.Math.Seq.{take-suc}
-use Rattle.std.proofs.lemmas.List.{append-nil, take-append-le, take_more_set, map-append}
+use Rattle.std.proofs.Math.Seq.{take-suc, drop-cons}
+use Rattle.std.proofs.lemmas.List.{append-nil, take-append-le, take_more_set, map-append, drop_all}
 
 -- what is written behind the bytes that were there, and the items that are left, make all items
 pub record WritesSoFar {A : Type 0} (W : A → List ℕ) (before now : List ℕ) (left all : List A) : Type 0 where
@@ -37,6 +37,19 @@ module _ {A : Type 0} (W : A → List ℕ) where
   -- cutting back to where it began leaves what was there
   pub cut_back : (start : ℕ) (before now : List ℕ) (left all : List A) → start ≤ length before → WritesSoFar W before now left all → take start now ≡ take start before
   cut_back start before now left all h so_far = ap (take start) so_far.is ∙ take-append-le start before so_far.done h
+
+  -- the same for a loop over the places of a list: the items from the place on are left
+  pub write_place : (before now more : List ℕ) (all : List A) (i : ℕ) (x : A) → WritesSoFar W before now (drop i all) all → i < length all → x ≡ get_or all i x → more ≡ now ++ W x → WritesSoFar W before more (drop (i + 1) all) all
+  write_place before now more all i x h inside here e =
+      write_step before now more (drop i all) (drop (i + 1) all) all x h (drop-cons all i x inside ∙ (λ j. sym here j ∷ drop (sym (add-one i) j) all)) e
+
+  pub write_places : (before now : List ℕ) (all : List A) (i : ℕ) → WritesSoFar W before now (drop i all) all → length all ≤ i → now ≡ before ++ flat_map W all
+  write_places before now all i h none = write_end before now (drop i all) all h (drop_all i all none)
+
+  -- also where a part of the next item was written
+  pub cut_back_behind : (start : ℕ) (before now more part : List ℕ) (left all : List A) → start ≤ length before → WritesSoFar W before now left all → more ≡ now ++ part → take start more ≡ take start before
+  cut_back_behind start before now more part left all h so_far e =
+      ap (take start) (e ∙ (ap (λ l. l ++ part) so_far.is ∙ append_assoc before so_far.done part)) ∙ take-append-le start before (so_far.done ++ part) h
 
 -- one more item in its place
 pub gather_step : {A B : Type 0} (f : A → B) (xs : List A) (ys : List B) (i : ℕ) (x : A) (y : B) → i < length xs → i < length ys → take i ys ≡ map f (take i xs) → x ≡ get_or xs i x → y ≡ f x → take (i + 1) (set ys i y) ≡ map f (take (i + 1) xs)

@@ -23,3 +23,11 @@ returns-in_err-other-clause-memory g c =
     rw (p.1, p.2) (λ at.
     let moved = c.in_ok-one.ensures.moved (first_stands _ _ _ _ at) in
     c.in_err-other.ensures.memory (next_stands _ _ _ _ _ at moved))
+
+pub returns-in_err-one-clause-memory : goal.returns-in_err-one-clause-memory
+returns-in_err-one-clause-memory g c =
+    let p = err_from_is_err_and c.from_residual.result c.from_residual.ensures.1 in
+    rw (p.1, p.2) (λ at. c.in_err-one.ensures.memory (first_stands _ _ _ _ at))
+
+pub returns-clause-first : goal.returns-clause-first
+returns-clause-first g c at = c.in_ok-one.ensures.same (first_stands _ _ _ _ at)

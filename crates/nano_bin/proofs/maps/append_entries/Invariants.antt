@@ -1,9 +1,9 @@
--- the entries so far are appended
-use Rattle.std.proofs.Common.{◌≡◌, ◌++◌, map, take}
-use Rattle.std.specs.List.{flat_map}
+-- what is appended, and the entries that are left, are all
+use Rattle.std.proofs.Common.{drop}
 use Rattle.std.specs.Map.Iter.{deref_pair}
+use Rattle.bin_bytes.proofs.Writers.{WritesSoFar}
 use Rattle.nano_bin.specs.Tuples.{written_pair}
 use Rattle.nano_bin.proofs.maps.append_entries.Given as goal
 
 abbrev pub invariant-loop-key : goal.invariant-loop-key
-invariant-loop-key g l = l.output.items ≡ l.fn.output.items ++ flat_map (written_pair g.K.BinFormat.bin.writing.written g.V.BinFormat.bin.writing.written) (map deref_pair (take l.key-index l.entries))
+invariant-loop-key g l = WritesSoFar (λ e. written_pair g.K.BinFormat.bin.writing.written g.V.BinFormat.bin.writing.written (deref_pair e)) l.fn.output.items l.output.items (drop l.key-index l.entries) l.entries

@@ -1,10 +1,11 @@
-use Rattle.std.proofs.Common.{sym, ap}
+use Rattle.std.proofs.Common.{◌≡◌, sym, ap, subst, arith}
 use Rattle.std.proofs.lemmas.Result.{err_from_is_err_and}
 use Rattle.nano_value.specs.Tables.{table_of, table_of-insert}
 use Rattle.nano_value.proofs.Results.{was_ok}
 use Rattle.nano_bin.specs.Tuples.{SpellsPair, pair_spelling}
 use Rattle.nano_bin.proofs.Readers.{count_refused}
 use Rattle.nano_bin.proofs.MapReaders.{table_reads_none, table_reads_insert, no_pair}
+use Rattle.nano_bin.specs.Maps.{ReadsTable}
 use Rattle.nano_bin.proofs.maps.read_hash_map.Goals as goal
 
 pub loop-init : goal.loop-init
@@ -27,3 +28,10 @@ returns-in_err-key-clause-err g c =
     let R = g.V.BinFormat.bin.spelling in
     let p = err_from_is_err_and c.from_residual.result c.from_residual.ensures.1 in
     rw (p.1, p.2) (λ h. count_refused (SpellsPair S.spelled R.spelled) (pair_spelling S.laws R.laws) _ _ _ _ _ _ c.loop.invariant.reads.reads c.loop-test.true (no_pair S.spelled R.spelled _ (c.in_err-key.ensures.err h)))
+
+pub returns-clause-ok : goal.returns-clause-ok
+returns-clause-ok g c =
+    let less = c.loop.auto.counter-end in
+    let more = c.loop-test.false in
+    let all : c.loop.counter ≡ c.args.count = omega (arith, less, more) in
+    subst (λ n. ReadsTable g.K.BinFormat.bin.spelling.spelled g.V.BinFormat.bin.spelling.spelled n c.args.bytes.now c.args.offset.now (table_of g.K.Value.means g.V.Value.means c.loop.entries.entries) c.loop.at) all c.loop.invariant.reads

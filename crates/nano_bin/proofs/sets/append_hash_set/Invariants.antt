@@ -1,8 +1,8 @@
--- the items so far are appended
-use Rattle.std.proofs.Common.{◌≡◌, ◌++◌, map, take}
-use Rattle.std.specs.List.{flat_map}
+-- what is appended, and the items that are left, are all
+use Rattle.std.proofs.Common.{drop}
 use Rattle.std.specs.Map.Iter.{deref}
+use Rattle.bin_bytes.proofs.Writers.{WritesSoFar}
 use Rattle.nano_bin.proofs.sets.append_hash_set.Given as goal
 
 abbrev pub invariant-loop-item : goal.invariant-loop-item
-invariant-loop-item g l = l.output.items ≡ l.fn.output.items ++ flat_map g.T.BinFormat.bin.writing.written (map deref (take l.item-index l.items))
+invariant-loop-item g l = WritesSoFar (λ x. g.T.BinFormat.bin.writing.written (deref x)) l.fn.output.items l.output.items (drop l.item-index l.items) l.items

@@ -1,9 +1,10 @@
-use Rattle.std.proofs.Common.{sym, ap}
+use Rattle.std.proofs.Common.{sym, ap, ◌≡◌, subst, arith}
 use Rattle.std.proofs.lemmas.Result.{err_from_is_err_and}
 use Rattle.nano_value.specs.Sets.{item_set, item_set-insert}
 use Rattle.nano_value.proofs.Results.{was_ok}
 use Rattle.nano_bin.proofs.Readers.{count_refused}
 use Rattle.nano_bin.proofs.MapReaders.{set_reads_none, set_reads_insert}
+use Rattle.nano_bin.specs.Sets.{ReadsSet}
 use Rattle.nano_bin.proofs.sets.read_hash_set.Goals as goal
 
 pub loop-init : goal.loop-init
@@ -23,3 +24,10 @@ returns-in_err-item-clause-err g c =
     let S = g.T.BinFormat.bin.spelling in
     let p = err_from_is_err_and c.from_residual.result c.from_residual.ensures.1 in
     rw (p.1, p.2) (λ h. count_refused S.spelled S.laws _ _ _ _ _ _ c.loop.invariant.reads.reads c.loop-test.true (c.in_err-item.ensures.err h))
+
+pub returns-clause-ok : goal.returns-clause-ok
+returns-clause-ok g c =
+    let less = c.loop.auto.counter-end in
+    let more = c.loop-test.false in
+    let all : c.loop.counter ≡ c.args.count = omega (arith, less, more) in
+    subst (λ n. ReadsSet g.T.BinFormat.bin.spelling.spelled n c.args.bytes.now c.args.offset.now (item_set g.T.Value.means c.loop.items.keys) c.loop.at) all c.loop.invariant.reads

@@ -1,7 +1,7 @@
 use Rattle.std.proofs.lemmas.Result.{err_from_is_err_and}
 use Rattle.nano_value.specs.Meaning.{optional}
 use Rattle.nano_bin.specs.Options.{SpellsOption}
-use Rattle.nano_bin.proofs.Readers.{option_refused, some_refused, some_reads, unsigned_reads, unsigned_refused, image_reads, image_refused}
+use Rattle.nano_bin.proofs.Readers.{option_refused, some_refused, some_reads, none_reads, unsigned_reads, unsigned_refused, image_reads, image_refused}
 use Rattle.nano_bin.proofs.options.OptionDeBin.de_bin.Goals as goal
 
 pub returns-clause-ok : goal.returns-clause-ok
@@ -21,3 +21,7 @@ returns-in_err-value-clause-err g c =
     let tag = rw c.if-tag-ne1.false at (unsigned_reads 1 _ _ _ _ c.in_ok-tag.ensures.ok) in
     let p = err_from_is_err_and c.from_residual-in_err-value.result c.from_residual-in_err-value.ensures.1 in
     rw (p.1, p.2) (λ h. image_refused (SpellsOption S) optional _ (some_refused S _ _ _ tag (c.in_err-value.ensures.err h)))
+
+pub returns-then-tag-ne1-clause-ok : goal.returns-then-tag-ne1-clause-ok
+returns-then-tag-ne1-clause-ok g c =
+    image_reads optional _ _ _ _ (none_reads g.T.BinFormat.bin.spelling.spelled _ _ _ _ (unsigned_reads 1 _ _ _ _ c.in_ok-tag.ensures.ok) c.if-tag-ne1.true)
