@@ -8,7 +8,7 @@ use crate::token::TomlTok;
 use std::alloc::{AllocError, AllocFailed};
 
 /// What characters were taken for that begin no token.
-#[derive(Clone, Copy, Debug)]
+#[derive(Clone, Copy)]
 pub(crate) enum Lexeme {
     Number,
     Nan,
@@ -33,7 +33,7 @@ impl Lexeme {
 }
 
 /// Why the reader stopped: want of memory, or what is wrong with the text.
-#[derive(Drop, Debug)]
+#[derive(Drop)]
 pub(crate) enum Fault {
     Memory,
     /// The characters begin no token.

@@ -1,5 +1,7 @@
-use Rattle.std.proofs.Common.{◌-◌, sym, take, drop, take-append-drop, chars, length}
+use Rattle.std.proofs.Common.{◌-◌, sym, subst, take, drop, take-append-drop, chars, length}
 use Rattle.nano_toml.specs.LiveText.{held}
+use Rattle.nano_toml.specs.StatementTable.{SpellsTable}
+use Rattle.nano_toml.specs.View.{table_view}
 use Rattle.nano_toml.proofs.parser.TomlParser.parse.Goals as goal
 
 pub returns-in-Err-clause-place : goal.returns-in-Err-clause-place
@@ -7,3 +9,7 @@ returns-in-Err-clause-place c =
     let text = chars c.args.input.now in
     let count = length text - length (held c.read_table.new.reader.cursor.behind) in
     (take count text, drop count text, sym (take-append-drop count text), c.error_at.ensures.line, c.error_at.ensures.col)
+
+pub returns-in-Ok-clause-found : goal.returns-in-Ok-clause-found
+returns-in-Ok-clause-found c =
+    subst (λ text. SpellsTable text (table_view c.in-Ok.table.entries)) c.new-reader.ensures c.in-Ok.ensures.found
