@@ -1,4 +1,1 @@
 pub mod Json
-pub mod Integers
-pub mod Writing
-pub mod Arrays

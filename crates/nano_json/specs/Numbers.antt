@@ -1,20 +1,15 @@
 -- Integers: a whole number in the type's range, for signed types with or without a minus sign.
-use Rattle.std.specs.Prelude.{◌≡◌, ◌+◌, ◌<◌, ◌^◌, ℕ, ℤ, pos, negsuc, FitsSigned}
+use Rattle.std.specs.Prelude.{◌<◌, ◌^◌, ℕ, ℤ, FitsSigned}
 use Rattle.std.specs.Int.{Width, w64}
-use mir.Val.{hbits}
 use Rattle.nano_value.specs.Meaning.{number, whole}
 use Rattle.text_values.specs.Scalars.{one_of, one_format}
 use Rattle.json_tokens.specs.Scalars.{unsigned_tokens, unsigned_one, signed_tokens, signed_one}
 use Rattle.nano_json.specs.Format.{Format}
 use Rattle.nano_json.specs.Spelling.{Spelling}
--- numbers of each width are numbers of 64 bits
+-- the range of a width, and that numbers of each are numbers of 64 bits
+pub use Rattle.text_values.specs.Numbers.{IsRangeOf}
 pub use Rattle.text_values.specs.Numbers.{below_8, below_16, below_32, below_64}
 pub use Rattle.text_values.specs.Numbers.{within_8, within_16, within_32, within_64}
-
--- from the least number of a width to the greatest
-abbrev pub IsRangeOf : Width → ℤ → ℤ → Type 0
-IsRangeOf w (negsuc k) (pos n) = (k ≡ n) × (2 ^ hbits w ≡ n + 1)
-IsRangeOf w _ _ = ⊥
 
 -- unsigned numbers of so many bits
 abbrev pub unsigned : ℕ → Spelling

@@ -1,4 +1,2 @@
 pub mod Ron
-pub mod Integers
 pub mod Writing
-pub mod Arrays

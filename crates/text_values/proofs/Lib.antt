@@ -1,4 +1,6 @@
+pub mod ArrayReading
 pub mod Containers
+pub mod Integers
 pub mod JoinedLists
 pub mod ListReading
 pub mod MapReading
@@ -10,3 +12,4 @@ pub mod Tokens
 pub mod TokensLeft
 pub mod TupleReading
 pub mod WrittenItems
+pub mod WrittenLists

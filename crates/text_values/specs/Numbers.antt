@@ -1,7 +1,13 @@
 -- Numbers of each width are numbers of 64 bits, which the formats have tokens for.
-use Rattle.std.specs.Prelude.{ℕ, ◌<◌, ◌^◌, ℤ, FitsSigned}
-use Rattle.std.specs.Int.{w8, w16, w32, w64}
+use Rattle.std.specs.Prelude.{◌≡◌, ℕ, ◌+◌, ◌<◌, ◌^◌, ℤ, pos, negsuc, FitsSigned}
+use Rattle.std.specs.Int.{Width, w8, w16, w32, w64}
 use Rattle.std.proofs.Common.{arith}
+use mir.Val.{hbits}
+
+-- from the least number of a width to the greatest
+abbrev pub IsRangeOf : Width → ℤ → ℤ → Type 0
+IsRangeOf w (negsuc k) (pos n) = (k ≡ n) × (2 ^ hbits w ≡ n + 1)
+IsRangeOf w _ _ = ⊥
 
 pub below_8 : (n : ℕ) → n < 2 ^ 8 → n < 2 ^ 64
 below_8 n h = omega (arith, h)

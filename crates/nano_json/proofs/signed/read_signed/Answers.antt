@@ -11,7 +11,7 @@ use Rattle.json_tokens.specs.Json.{json}
 use Rattle.json_tokens.specs.Scalars.{signed_tokens}
 use Rattle.json_tokens.specs.State.{at}
 use Rattle.nano_json.specs.Numbers.{signed}
-use Rattle.nano_json.proofs.Integers.{inside, range_fits, fits_range}
+use Rattle.text_values.proofs.Integers.{inside, range_fits, fits_range}
 use Rattle.nano_json.proofs.signed.read_signed.Goals as goal
 
 pub narrow-requires : goal.narrow-requires

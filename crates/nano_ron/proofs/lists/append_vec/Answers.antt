@@ -5,7 +5,8 @@ use Rattle.nano_text.specs.Place.{counted}
 use Rattle.text_values.proofs.WrittenItems.{write_start, write_end, pushed}
 use Rattle.ron_tokens.specs.Brackets.{block_marks}
 use Rattle.ron_tokens.specs.Styles.{lines}
-use Rattle.nano_ron.proofs.Writing.{write_next_line, block_opened, closed_written}
+use Rattle.text_values.proofs.WrittenLists.{write_next_line}
+use Rattle.nano_ron.proofs.Writing.{block_opened, closed_written}
 use Rattle.nano_ron.proofs.lists.append_vec.Goals as goal
 
 pub loop-item-init : goal.loop-item-init

@@ -1,7 +1,8 @@
 use Rattle.std.proofs.Common.{ℕ, ◌++◌, ◌∷◌, string_bytes}
 use Rattle.std.proofs.lemmas.Result.{on_ok_weaker}
 use Rattle.nano_text.specs.Place.{counted}
-use Rattle.nano_ron.proofs.Writing.{both_written, behind_mark, line_written}
+use Rattle.text_values.proofs.WrittenLists.{both_written, behind_mark}
+use Rattle.nano_ron.proofs.Writing.{line_written}
 use Rattle.nano_ron.proofs.maps.append_entry.Goals as goal
 
 pub returns-clause-ok : goal.returns-clause-ok

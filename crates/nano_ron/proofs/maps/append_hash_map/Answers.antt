@@ -7,7 +7,8 @@ use Rattle.text_values.proofs.WrittenItems.{write_start, write_end, mapped_laid_
 use Rattle.ron_tokens.specs.Brackets.{curly_marks}
 use Rattle.ron_tokens.specs.Styles.{lines}
 use Rattle.nano_ron.specs.Maps.{written_entry}
-use Rattle.nano_ron.proofs.Writing.{write_next_line, curly_opened, closed_written}
+use Rattle.text_values.proofs.WrittenLists.{write_next_line}
+use Rattle.nano_ron.proofs.Writing.{curly_opened, closed_written}
 use Rattle.nano_ron.proofs.maps.append_hash_map.Goals as goal
 
 pub loop-key-init : goal.loop-key-init

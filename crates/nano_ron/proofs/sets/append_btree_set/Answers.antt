@@ -4,7 +4,7 @@ use Rattle.nano_text.specs.Place.{counted}
 use Rattle.text_values.proofs.WrittenItems.{write_start, write_step, pushed}
 use Rattle.ron_tokens.specs.Brackets.{block_marks}
 use Rattle.ron_tokens.specs.Styles.{indents}
-use Rattle.nano_ron.proofs.Writing.{one_written, list_ended}
+use Rattle.text_values.proofs.WrittenLists.{one_written, list_ended}
 use Rattle.nano_ron.proofs.sets.append_btree_set.Goals as goal
 
 pub loop-item-init : goal.loop-item-init

@@ -11,7 +11,7 @@ use Rattle.ron_tokens.specs.Ron.{ron}
 use Rattle.ron_tokens.specs.Scalars.{signed_tokens}
 use Rattle.ron_tokens.specs.State.{at}
 use Rattle.nano_ron.specs.Numbers.{signed}
-use Rattle.nano_ron.proofs.Integers.{inside, range_fits, fits_range}
+use Rattle.text_values.proofs.Integers.{inside, range_fits, fits_range}
 use Rattle.nano_ron.proofs.signed.read_signed.Goals as goal
 
 pub narrow-requires : goal.narrow-requires

@@ -1,10 +1,11 @@
 use Rattle.std.proofs.Common.{[], ◌∷◌, ◌++◌, string_bytes}
 use Rattle.std.proofs.lemmas.Result.{on_ok_weaker}
-use Rattle.nano_ron.proofs.Writing.{behind_mark, parts_written}
+use Rattle.text_values.proofs.WrittenLists.{behind_mark, parts_written}
 use Rattle.nano_ron.proofs.tuples.append_quadruple.Goals as goal
 
 pub returns-clause-ok : goal.returns-clause-ok
 returns-clause-ok g c =
+    let comma = 44 ∷ (32 ∷ []) in
     let after = string_bytes c.append_last.new.s.out in
     let m0 = string_bytes c.push.new.self in
     let m1 = string_bytes c.append_part.new.s.out in
@@ -14,4 +15,4 @@ returns-clause-ok g c =
     let t2 = (g.C.RonFormat.ron.writing.text c.args.d c.args.parts.now.2) ++ 44 ∷ (32 ∷ t3) in
     let t1 = (g.B.RonFormat.ron.writing.text c.args.d c.args.parts.now.1) ++ 44 ∷ (32 ∷ t2) in
     let t0 = (g.A.RonFormat.ron.writing.text c.args.d c.args.parts.now.0) ++ 44 ∷ (32 ∷ t1) in
-    on_ok_weaker c.append_last.result (λ last. behind_mark (string_bytes c.args.s.now.out) m0 after 40 t0 c.in_ok-push.ensures.bytes (parts_written m0 m1 after (g.A.RonFormat.ron.writing.text c.args.d c.args.parts.now.0) t1 c.in_ok-append_part.ensures.ok (parts_written m1 m2 after (g.B.RonFormat.ron.writing.text c.args.d c.args.parts.now.1) t2 c.in_ok-append_part-2.ensures.ok (parts_written m2 m3 after (g.C.RonFormat.ron.writing.text c.args.d c.args.parts.now.2) t3 c.in_ok-append_part-3.ensures.ok last)))) c.append_last.ensures.ok
+    on_ok_weaker c.append_last.result (λ last. behind_mark (string_bytes c.args.s.now.out) m0 after 40 t0 c.in_ok-push.ensures.bytes (parts_written m0 m1 after (g.A.RonFormat.ron.writing.text c.args.d c.args.parts.now.0) comma t1 c.in_ok-append_part.ensures.ok (parts_written m1 m2 after (g.B.RonFormat.ron.writing.text c.args.d c.args.parts.now.1) comma t2 c.in_ok-append_part-2.ensures.ok (parts_written m2 m3 after (g.C.RonFormat.ron.writing.text c.args.d c.args.parts.now.2) comma t3 c.in_ok-append_part-3.ensures.ok last)))) c.append_last.ensures.ok

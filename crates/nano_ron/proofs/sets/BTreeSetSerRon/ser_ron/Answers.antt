@@ -1,6 +1,6 @@
 use Rattle.std.proofs.Common.{arith, ◌≡◌, ◌∙◌, ap, ◌++◌, string_bytes, OnOk, sym, subst}
 use Rattle.std.specs.Str.{encode_utf8_all}
-use Rattle.nano_ron.proofs.Writing.{in_order}
+use Rattle.text_values.proofs.WrittenLists.{in_order}
 use Rattle.nano_value.specs.InOrder.{ascending_items}
 use Rattle.nano_value.specs.MeaningOrder.{by_meaning, followed}
 use Rattle.nano_text.specs.Place.{counted}

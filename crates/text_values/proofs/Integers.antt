@@ -3,7 +3,7 @@ use Rattle.std.proofs.Common.{◌≡◌, ℕ, ◌+◌, ◌^◌, ℤ, pos, negsuc
 use Rattle.std.specs.Int.{Width, w64}
 use Rattle.std.proofs.lemmas.Int.{ints}
 use mir.Val.{hbits}
-use Rattle.nano_ron.specs.Numbers.{IsRangeOf}
+use Rattle.text_values.specs.Numbers.{IsRangeOf}
 
 -- a number between the least and the greatest fits
 between : (w : Width) (k : ℕ) (z : ℤ) → 2 ^ hbits w ≡ k + 1 → negsuc k ≤ℤ z → z ≤ℤ pos k → FitsSigned w z

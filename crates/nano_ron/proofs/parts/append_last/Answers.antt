@@ -1,8 +1,8 @@
 use Rattle.std.proofs.Common.{[], ◌∷◌, string_bytes, encode_utf8}
 use Rattle.std.proofs.lemmas.Result.{on_ok_weaker}
 use Rattle.text_values.proofs.WrittenItems.{pushed}
-use Rattle.nano_ron.proofs.Writing.{both_written, one_written}
-use Rattle.nano_ron.proofs.tuples.append_last.Goals as goal
+use Rattle.text_values.proofs.WrittenLists.{both_written, one_written}
+use Rattle.nano_ron.proofs.parts.append_last.Goals as goal
 
 pub returns-clause-ok : goal.returns-clause-ok
 returns-clause-ok g c =

@@ -6,8 +6,8 @@ use Rattle.text_values.specs.Layouts.{item_in_list}
 use Rattle.text_values.proofs.WrittenItems.{write_start, write_next, pushed}
 use Rattle.ron_tokens.specs.Brackets.{paren_marks}
 use Rattle.ron_tokens.specs.Styles.{spaces}
-use Rattle.nano_ron.proofs.Writing.{one_written, list_ended}
-use Rattle.nano_ron.proofs.lists.append_slice.Goals as goal
+use Rattle.text_values.proofs.WrittenLists.{one_written, list_ended}
+use Rattle.nano_ron.proofs.slices.append_slice.Goals as goal
 
 pub loop-item-init : goal.loop-item-init
 loop-item-init g c = write_start false spaces paren_marks (g.T.RonFormat.ron.writing.text (counted c.args.d)) (string_bytes c.args.s.now.out) (string_bytes c.push.new.self) c.args.items.now c.args.items.now (one_written (string_bytes c.args.s.now.out) (string_bytes c.push.new.self) 40 c.in_ok-push.ensures.bytes) refl

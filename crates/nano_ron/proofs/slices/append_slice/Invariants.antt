@@ -4,7 +4,7 @@ use Rattle.nano_text.specs.Place.{counted}
 use Rattle.text_values.proofs.WrittenItems.{WritesSoFar}
 use Rattle.ron_tokens.specs.Brackets.{paren_marks}
 use Rattle.ron_tokens.specs.Styles.{spaces}
-use Rattle.nano_ron.proofs.lists.append_slice.Given as goal
+use Rattle.nano_ron.proofs.slices.append_slice.Given as goal
 
 abbrev pub invariant-loop-item : goal.invariant-loop-item
 invariant-loop-item g l =

@@ -4,7 +4,7 @@ use Rattle.ron_tokens.specs.Brackets.{parens}
 use Rattle.ron_tokens.specs.Ron.{paren_brackets}
 use Rattle.ron_tokens.specs.State.{at}
 use Rattle.nano_ron.proofs.Ron.{ron_laws}
-use Rattle.nano_ron.proofs.tuples.read_last.Goals as goal
+use Rattle.nano_ron.proofs.parts.read_last.Goals as goal
 
 pub returns-in_err-last-clause-refused : goal.returns-in_err-last-clause-refused
 returns-in_err-last-clause-refused g c =

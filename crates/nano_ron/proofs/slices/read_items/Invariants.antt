@@ -3,7 +3,7 @@ use Rattle.text_values.proofs.Containers.{ReadSoFar}
 use Rattle.ron_tokens.specs.Brackets.{parens}
 use Rattle.ron_tokens.specs.State.{at}
 use Rattle.nano_ron.proofs.Ron.{ron_laws}
-use Rattle.nano_ron.proofs.lists.read_items.Given as goal
+use Rattle.nano_ron.proofs.slices.read_items.Given as goal
 
 abbrev pub invariant-loop-index : goal.invariant-loop-index
 invariant-loop-index g l = record {

@@ -2,7 +2,7 @@ use Rattle.std.proofs.Common.{string_bytes, codes}
 use Rattle.std.proofs.lemmas.Result.{on_ok_weaker}
 use Rattle.text_values.proofs.WrittenItems.{pushed}
 use Rattle.nano_ron.proofs.Writing.{part_written}
-use Rattle.nano_ron.proofs.tuples.append_part.Goals as goal
+use Rattle.nano_ron.proofs.parts.append_part.Goals as goal
 
 pub returns-clause-ok : goal.returns-clause-ok
 returns-clause-ok g c =
