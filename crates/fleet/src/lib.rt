@@ -4,11 +4,7 @@
 mod event;
 mod holder;
 mod item;
-#[cfg(test)]
-mod row_tests;
 mod server;
-#[cfg(test)]
-mod tests;
 
 pub use event::Event;
 pub use holder::Holder;

@@ -1,6 +1,6 @@
 // Own types, written in both formats and read back, nested in others, and their laws at concrete
 // types.
-use crate::{Event, Holder, Item, Server};
+use fleet::{Event, Holder, Item, Server};
 use nano_bin::{BothBin, DeBin, DeBinKind, SerBin};
 use nano_json::{BothJson, DeJson, SerJson};
 use std::alloc::Global;
