@@ -1,0 +1,6 @@
+pub mod Names
+pub mod Fields
+pub mod Marks
+pub mod FieldReading
+pub mod FieldTexts
+pub mod Laws
