@@ -1,4 +1,5 @@
-//! Examples: own types described once, in bytes and in JSON. Each file is one that a user copies.
+//! Examples: own types described once, in bytes, in JSON and in RON. Each file is one that a user
+//! copies.
 #![tactic(auto)]
 
 mod event;
