@@ -1,5 +1,7 @@
 -- What is written of fields, one below the other, in bytes.
 use Rattle.std.proofs.Common.{◌≡◌, ℕ, List, [], ◌∷◌, ◌++◌, IsUtf8, chars, codes, encode_utf8_all}
+use Rattle.std.proofs.Common.{Result, Ok, Err, OnOk, if◌then◌else◌}
+use Rattle.std.specs.Result.{is_ok}
 use Rattle.std.proofs.Common.{refl, sym, ◌∙◌, ap, append_assoc, lit<}
 use Rattle.std.proofs.Math.Utf8.{encode}
 use Rattle.std.proofs.lemmas.Grind.{flat_map-append}
@@ -19,7 +21,7 @@ use Rattle.ron_records.specs.FieldTexts.{on_a_line, on_lines}
 label_bytes : (d : ℕ) (name : List ℕ) → IsUtf8 name
     → encode_utf8_all (indent d ++ (chars name ++ 58 ∷ [])) ≡ indent d ++ (name ++ 58 ∷ [])
 label_bytes d name utf8 =
-    let spaces : encode_utf8_all (indent d) ≡ indent d = sym (indent_written [] (indent d) d refl) in
+    let spaces = sym (indent_written [] (indent d) d refl) in
     let colon = encode_ascii 58 (lit< tt) in
     let named =
     encodes-append (chars name) (58 ∷ [])
@@ -79,3 +81,11 @@ struct_written d fs before opened inside after e h k =
     both_written before inside after (start ++ row) end opening closing
     ∙ ap (λ l. before ++ encode_utf8_all (40 ∷ (10 ∷ l)))
     (sym (items_are_ended (lines d) paren_marks each fs))
+
+-- a name that was pushed
+pub name_pushed : {T E : Type 0} (r : Result T E) (before after name : List ℕ) → IsUtf8 name
+    → after ≡ (if is_ok r then before ++ name else before)
+    → OnOk r (after ≡ before ++ encode_utf8_all (chars name))
+name_pushed (Ok x) before after name utf8 e =
+    e ∙ ap (λ l. before ++ l) (sym (encodes-chars name utf8))
+name_pushed (Err x) before after name utf8 e = tt

@@ -1,5 +1,5 @@
--- Named fields in RON: between parentheses, each on a line of its own with its name as it is. A field
--- whose name is not known is refused.
+-- Named fields in RON: between parentheses, each on a line of its own with its name as it is. A
+-- field whose name is not known is refused.
 use Rattle.std.specs.Prelude.{◌≡◌, ℕ, true, List, Option, chars}
 use Rattle.text_values.specs.Format.{Format}
 use Rattle.text_values.specs.Writing.{ListStyle}

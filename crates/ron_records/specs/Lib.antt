@@ -3,4 +3,5 @@ pub mod Fields
 pub mod Marks
 pub mod FieldReading
 pub mod FieldTexts
+pub mod Variants
 pub mod Laws

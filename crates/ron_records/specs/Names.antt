@@ -45,7 +45,7 @@ ascii_word : (name : List ℕ) → AllByRecursion (λ c. is_word c ≡ true) nam
 ascii_word [] h = IsAscii-nil
 ascii_word (c ∷ cs) h = IsAscii-cons c cs (word_byte c h.0) (ascii_word cs h.1)
 
-textual_word : (name : List ℕ) → AllByRecursion (λ c. is_word c ≡ true) name → AllTextual name
+pub textual_word : (name : List ℕ) → AllByRecursion (λ c. is_word c ≡ true) name → AllTextual name
 textual_word [] h = tt
 textual_word (c ∷ cs) h = (word_textual c h.0, textual_word cs h.1)
 
@@ -59,10 +59,13 @@ word_is_written name is = record {
 }
 
 -- its characters are its bytes
+pub name_characters : (name : List ℕ) → IsName name → chars name ≡ name
+name_characters name is = chars-IsAscii name (ascii_word name is.goes_on)
+
 pub name_is_written : (name : List ℕ) → IsName name
     → IsValueText ron (ident name ∷ []) (chars name)
 name_is_written name is =
-    subst (IsValueText ron (ident name ∷ [])) (sym (chars-IsAscii name (ascii_word name is.goes_on)))
+    subst (IsValueText ron (ident name ∷ [])) (sym (name_characters name is))
     (word_is_written name is)
 
 -- ---- what the test says
@@ -84,7 +87,8 @@ pub good_name : (name : List ℕ) → is_name name ≡ true → IsName name
 good_name name h =
     let no_true = not (bytes_eq name (codes "true")) in
     let no_false = not (bytes_eq name (codes "false")) in
-    let starts = and_parts (first_is starts_word name) (list_all is_word name && (no_true && no_false)) h in
+    let rest = list_all is_word name && (no_true && no_false) in
+    let starts = and_parts (first_is starts_word name) rest h in
     let goes_on = and_parts (list_all is_word name) (no_true && no_false) starts.1 in
     let others = and_parts no_true no_false goes_on.1 in
     record {
