@@ -27,7 +27,7 @@ fn row<T: BothBin + BothJson + PartialEq>(
     Ok(())
 }
 
-fn server(alloc: Global, note: Option<String>) -> Result<Server, Fail> {
+pub(crate) fn server(alloc: Global, note: Option<String>) -> Result<Server, Fail> {
     let mut limits = HashMap::new(alloc);
     limits.insert(String::from_str(alloc, "ann")?, 7)?;
     Ok(Server {

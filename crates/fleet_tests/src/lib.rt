@@ -5,4 +5,6 @@
 #[cfg(test)]
 mod format_tests;
 #[cfg(test)]
+mod ron_tests;
+#[cfg(test)]
 mod row_tests;
