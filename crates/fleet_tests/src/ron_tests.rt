@@ -156,3 +156,35 @@ fn refused_by_name(rt: HostRuntime) {
     ];
     all_refused(&rt, rt.alloc(), &rows);
 }
+
+#[test]
+fn refused_by_token(rt: HostRuntime) {
+    let rows = [
+        (
+            "(id:1,,name:\"c\")",
+            "Unexpected token Comma expected ) ",
+            (0, 8),
+        ),
+        (
+            "(id:1 name:\"c\")",
+            "Unexpected token Ident expected , or ) ",
+            (0, 11),
+        ),
+        (
+            "{id:1,name:\"c\"}",
+            "Unexpected token CurlyOpen expected ( ",
+            (0, 2),
+        ),
+        (
+            "(\"id\":1,name:\"c\")",
+            "Unexpected token Str expected ) ",
+            (0, 6),
+        ),
+        (
+            "(true:1)",
+            "Unexpected token Bool(true) expected ) ",
+            (0, 6),
+        ),
+    ];
+    all_refused(&rt, rt.alloc(), &rows);
+}
