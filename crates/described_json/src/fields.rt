@@ -2,7 +2,7 @@
 ghost use Rattle.std.specs.Prelude.{◌≡◌};
 ghost use Rattle.described.specs.Names.{Names, the_name, first, second};
 ghost use Rattle.text_fields.specs.FieldFormat.{FieldsFormat};
-ghost use Rattle.described_json.specs.Same.{SameFields};
+ghost use Rattle.text_fields.specs.Same.{SameFields};
 ghost use Rattle.json_records.specs.Fields.{json_fields, must, may, also};
 
 use described::{Borrowed, Optional, Required, Shape};
@@ -48,7 +48,7 @@ impl<T: JsonFormat + Drop> JsonShape for Required<T> {
 impl<T: DeJson> JsonFields for Required<T> {
     type Readers = json_records::Required<T>;
 
-    #[tactic(auto, using(crate::specs::Same::same_fields))]
+    #[tactic(auto, using(text_fields::specs::Same::same_fields))]
     fn readers(&self) -> json_records::Required<T> {
         json_records::Required {
             name: self.name,
@@ -79,7 +79,7 @@ impl<T: JsonFormat + Drop> JsonShape for Optional<T> {
 impl<T: DeJson> JsonFields for Optional<T> {
     type Readers = json_records::Optional<T>;
 
-    #[tactic(auto, using(crate::specs::Same::same_fields))]
+    #[tactic(auto, using(text_fields::specs::Same::same_fields))]
     fn readers(&self) -> json_records::Optional<T> {
         json_records::Optional {
             name: self.name,
@@ -110,7 +110,7 @@ impl<A: JsonShape, B: JsonShape> JsonShape for (A, B) {
 impl<A: JsonFields, B: JsonFields> JsonFields for (A, B) {
     type Readers = (A::Readers, B::Readers);
 
-    #[tactic(auto, using(crate::specs::Same::also_same))]
+    #[tactic(auto, using(text_fields::specs::Same::also_same))]
     fn readers(&self) -> (A::Readers, B::Readers) {
         (self.0.readers(), self.1.readers())
     }

@@ -1,15 +1,18 @@
-// A generic struct of one field, in bytes and in JSON.
+// A generic struct of one field, in bytes, in JSON and in RON.
 ghost use Rattle.std.specs.Prelude.{codes, refl};
 ghost use Rattle.nano_value.specs.Ties.{seen_ties};
 ghost use Rattle.described.specs.Names.{name};
 ghost use Rattle.nano_bin.specs.Format.{format_as};
 ghost use Rattle.described_json.specs.Record.{json_record};
+ghost use Rattle.described_ron.specs.Record.{ron_record};
 
 use described::{Borrowed, Parts, Record, Required, Shape, known_record, must};
 use described_bin::{BinShape, read_record_bin, write_record_bin};
 use described_json::{JsonShape, read_record, write_record};
+use described_ron::RonShape;
 use nano_bin::{BinFormat, BothBin, DeBin, DeBinErr, SerBin};
 use nano_json::{BothJson, DeJson, DeJsonErr, DeJsonState, JsonFormat, SerJson, SerJsonState};
+use nano_ron::{BothRon, DeRon, DeRonErr, DeRonState, RonFormat, SerRon, SerRonState};
 use nano_value::Value;
 use std::alloc::{AllocError, Global};
 use std::str::Chars;
@@ -103,3 +106,30 @@ impl<T: DeJson> DeJson for Holder<T> {
 }
 
 impl<T: BothJson> BothJson for Holder<T> {}
+
+// ---- RON
+
+impl<T: RonFormat + Drop> RonFormat for Holder<T> {
+    ghost ron = { ron_record (λ h. h.x) ⟦<Required<T> as RonShape>⟧.format
+        (name (codes "x")) refl refl };
+
+    ghost ties = { seen_ties T.ties (λ h. h.x) };
+}
+
+impl<T: SerRon + Drop> SerRon for Holder<T> {
+    fn ser_ron(&self, alloc: Global, d: usize, s: &mut SerRonState) -> Result<(), AllocError> {
+        described_ron::write_record(self, alloc, d, s)
+    }
+}
+
+impl<T: DeRon> DeRon for Holder<T> {
+    fn de_ron(
+        alloc: Global,
+        state: &mut DeRonState,
+        input: &mut Chars<'_>,
+    ) -> Result<Holder<T>, DeRonErr> {
+        described_ron::read_record(alloc, state, input)
+    }
+}
+
+impl<T: BothRon> BothRon for Holder<T> {}

@@ -1,17 +1,20 @@
-// A struct of two fields, in bytes and in JSON.
+// A struct of two fields, in bytes, in JSON and in RON.
 ghost use Rattle.std.specs.Prelude.{codes, refl};
 ghost use Rattle.nano_value.specs.Ties.{tied};
 ghost use Rattle.described.specs.Names.{two_names, two_of};
 ghost use Rattle.nano_bin.specs.Format.{format_as};
 ghost use Rattle.described_json.specs.Record.{json_record};
+ghost use Rattle.described_ron.specs.Record.{ron_record};
 
 use described::{
     Borrowed, InTwo, Parts, Record, Required, Shape, known_record, must, two, two_apart,
 };
 use described_bin::{BinShape, read_record_bin, write_record_bin};
 use described_json::{JsonShape, read_record, write_record};
+use described_ron::RonShape;
 use nano_bin::{BinFormat, BothBin, DeBin, DeBinErr, SerBin};
 use nano_json::{BothJson, DeJson, DeJsonErr, DeJsonState, JsonFormat, SerJson, SerJsonState};
+use nano_ron::{BothRon, DeRon, DeRonErr, DeRonState, RonFormat, SerRon, SerRonState};
 use nano_value::Value;
 use std::alloc::{AllocError, Global};
 use std::str::Chars;
@@ -110,3 +113,30 @@ impl DeJson for Item {
 }
 
 impl BothJson for Item {}
+
+// ---- RON
+
+impl RonFormat for Item {
+    ghost ron = { ron_record ⟦<Item as Record>⟧.view ⟦<ItemFields as RonShape>⟧.format
+        ⟦<Item as Record>⟧.the_names refl refl };
+
+    ghost ties = { tied };
+}
+
+impl SerRon for Item {
+    fn ser_ron(&self, alloc: Global, d: usize, s: &mut SerRonState) -> Result<(), AllocError> {
+        described_ron::write_record(self, alloc, d, s)
+    }
+}
+
+impl DeRon for Item {
+    fn de_ron(
+        alloc: Global,
+        state: &mut DeRonState,
+        input: &mut Chars<'_>,
+    ) -> Result<Item, DeRonErr> {
+        described_ron::read_record(alloc, state, input)
+    }
+}
+
+impl BothRon for Item {}

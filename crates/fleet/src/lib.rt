@@ -1,14 +1,11 @@
-//! Examples: own types described once, in bytes and in JSON. Each file is one that a user copies.
+//! Examples: own types described once, in bytes, in JSON and in RON. Each file is one that a user
+//! copies.
 #![tactic(auto)]
 
 mod event;
 mod holder;
 mod item;
-#[cfg(test)]
-mod row_tests;
 mod server;
-#[cfg(test)]
-mod tests;
 
 pub use event::Event;
 pub use holder::Holder;

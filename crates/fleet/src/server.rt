@@ -1,10 +1,11 @@
 // A struct of five fields, with a map and a field that may be missing: its description, and then
-// bytes and JSON.
+// bytes, JSON and RON.
 ghost use Rattle.std.specs.Prelude.{codes, refl};
 ghost use Rattle.nano_value.specs.Ties.{tied};
 ghost use Rattle.described.specs.Names.{five_names, five_of};
 ghost use Rattle.nano_bin.specs.Format.{format_as};
 ghost use Rattle.described_json.specs.Record.{json_record};
+ghost use Rattle.described_ron.specs.Record.{ron_record};
 
 use described::{
     Borrowed, InFive, Optional, Parts, Record, Required, Shape, five, five_apart, known_record,
@@ -12,8 +13,10 @@ use described::{
 };
 use described_bin::{BinShape, read_record_bin, write_record_bin};
 use described_json::{JsonShape, read_record, write_record};
+use described_ron::RonShape;
 use nano_bin::{BinFormat, BothBin, DeBin, DeBinErr, SerBin};
 use nano_json::{BothJson, DeJson, DeJsonErr, DeJsonState, JsonFormat, SerJson, SerJsonState};
+use nano_ron::{BothRon, DeRon, DeRonErr, DeRonState, RonFormat, SerRon, SerRonState};
 use nano_value::Value;
 use std::alloc::{AllocError, Global};
 use std::collections::HashMap;
@@ -138,3 +141,30 @@ impl DeJson for Server {
 }
 
 impl BothJson for Server {}
+
+// ---- RON
+
+impl RonFormat for Server {
+    ghost ron = { ron_record ⟦<Server as Record>⟧.view ⟦<ServerFields as RonShape>⟧.format
+        ⟦<Server as Record>⟧.the_names refl refl };
+
+    ghost ties = { tied };
+}
+
+impl SerRon for Server {
+    fn ser_ron(&self, alloc: Global, d: usize, s: &mut SerRonState) -> Result<(), AllocError> {
+        described_ron::write_record(self, alloc, d, s)
+    }
+}
+
+impl DeRon for Server {
+    fn de_ron(
+        alloc: Global,
+        state: &mut DeRonState,
+        input: &mut Chars<'_>,
+    ) -> Result<Server, DeRonErr> {
+        described_ron::read_record(alloc, state, input)
+    }
+}
+
+impl BothRon for Server {}

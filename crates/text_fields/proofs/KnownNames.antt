@@ -43,6 +43,15 @@ module _ {T : Type 0} {c : Cutting T} {g : Grammar T} (s : FieldStyle c g) (r : 
         refused_too s r name start e shape.takes (Allowed s shape)
         (λ us t. first_of (shape.knows name) (shape.takes name us) (s.Skipped us) known t) none
 
+  -- where nothing may stand behind a name that is not known, no field with the name does
+  pub unknown_refused : (shape : Shape T) → shape.knows name ≡ false
+      → ((us : List T) → s.Skipped us → ⊥) → NoField (Allowed s shape)
+  unknown_refused shape unknown none =
+      let only =
+      λ (us : List T) (t : Allowed s shape name us).
+      none us (second_of (shape.knows name) (shape.takes name us) (s.Skipped us) unknown t) in
+      refused_too s r name start e (λ _ _. ⊥) (Allowed s shape) only (λ f h. h.2.1)
+
   module _ (a b : Struct T) where
     -- a field that the first know is one of both
     pub first_field : a.shape.knows name ≡ true → (end : At T) (f : Field T)

@@ -7,6 +7,7 @@ pub mod FieldWriting
 pub mod FieldFormat
 pub mod BothFields
 pub mod StructFormat
+pub mod Same
 pub mod Laws
 pub mod Variants
 pub mod VariantLaws

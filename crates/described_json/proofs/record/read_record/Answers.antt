@@ -1,7 +1,7 @@
 use Rattle.json_tokens.specs.Cut.{Cut}
 use Rattle.json_records.specs.FieldReading.{fields_of}
 use Rattle.json_records.specs.Fields.{json_fields}
-use Rattle.described_json.specs.Same.{SameFields, fields_weaker, spans_weaker, refused_weaker}
+use Rattle.text_fields.specs.Same.{SameFields, fields_weaker, spans_weaker, refused_weaker}
 use Rattle.described_json.proofs.record.read_record.Goals as goal
 
 pub returns-in-Ok-clause-fits : goal.returns-in-Ok-clause-fits

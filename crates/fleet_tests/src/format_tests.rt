@@ -1,6 +1,6 @@
 // Own types, written in both formats and read back, nested in others, and their laws at concrete
 // types.
-use crate::{Event, Holder, Item, Server};
+use fleet::{Event, Holder, Item, Server};
 use nano_bin::{BothBin, DeBin, DeBinKind, SerBin};
 use nano_json::{BothJson, DeJson, SerJson};
 use std::alloc::Global;
@@ -27,7 +27,7 @@ fn row<T: BothBin + BothJson + PartialEq>(
     Ok(())
 }
 
-fn server(alloc: Global, note: Option<String>) -> Result<Server, Fail> {
+pub(crate) fn server(alloc: Global, note: Option<String>) -> Result<Server, Fail> {
     let mut limits = HashMap::new(alloc);
     limits.insert(String::from_str(alloc, "ann")?, 7)?;
     Ok(Server {

@@ -1,9 +1,9 @@
 // Rows are taken apart to the parts that they were made of, and variants have their names.
-use crate::Event;
 use described::{
     Choice, eight, eight_apart, four, four_apart, seven, seven_apart, six, six_apart, three,
     three_apart,
 };
+use fleet::Event;
 
 #[test]
 fn rows_are_taken_apart(rt: HostRuntime) {

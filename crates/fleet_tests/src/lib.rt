@@ -1,0 +1,10 @@
+//! Tests of `fleet` over its public surface. They stand in a crate of their own, so that they are
+//! proved beside it and not with it.
+#![tactic(auto)]
+
+#[cfg(test)]
+mod format_tests;
+#[cfg(test)]
+mod ron_tests;
+#[cfg(test)]
+mod row_tests;

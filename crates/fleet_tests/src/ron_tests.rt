@@ -1,0 +1,190 @@
+// Own structs in RON: written exactly, read back, read in any order, and refused by name at their
+// place. Each call is a function of its own, and so is what is asserted of its answer.
+use crate::format_tests::server;
+use fleet::{Holder, Item, Server};
+use nano_ron::{BothRon, DeRon, DeRonErr, SerRon};
+use std::alloc::{AllocError, Global};
+use std::process::Abort;
+use std::test::Fail;
+
+/// What is said of a text holds.
+fn holds(rt: &impl Abort, is_so: bool, text: &str) {
+    assert!(rt; is_so, "at {text}");
+}
+
+/// Whether the value is written as the text.
+fn is_written<T: SerRon>(alloc: Global, value: &T, text: &str) -> Result<bool, AllocError> {
+    Ok(value.serialize_ron(alloc)?.as_str() == text)
+}
+
+/// Whether a text is read as the value.
+fn is_value<T: DeRon + PartialEq>(alloc: Global, text: &str, value: &T) -> Result<bool, DeRonErr> {
+    Ok(T::deserialize_ron(alloc, text)? == *value)
+}
+
+/// The value is written as the text, and is read back from it.
+fn row<T: BothRon + PartialEq>(
+    rt: &impl Abort,
+    alloc: Global,
+    value: T,
+    text: &str,
+) -> Result<(), Fail> {
+    holds(rt, is_written(alloc, &value, text)?, text);
+    holds(rt, is_value(alloc, text, &value)?, text);
+    nano_ron::laws::written_text_is_cut_into_its_tokens(&value);
+    Ok(())
+}
+
+/// Each text is read as the value.
+fn values<T: DeRon + PartialEq>(
+    rt: &impl Abort,
+    alloc: Global,
+    texts: &[&str],
+    value: &T,
+) -> Result<(), Fail> {
+    for text in texts {
+        holds(rt, is_value(alloc, text, value)?, text);
+    }
+    Ok(())
+}
+
+/// The refusal of a text as an item, if it is refused.
+fn refusal(alloc: Global, text: &str) -> Option<DeRonErr> {
+    Item::deserialize_ron(alloc, text).err()
+}
+
+/// The text was refused with this message.
+fn is_told(rt: &impl Abort, told: &DeRonErr, text: &str, message: &str) {
+    assert_eq!(rt; told.msg.as_str(), message, "at {text}");
+}
+
+/// The text was refused there.
+fn stands_at(rt: &impl Abort, told: &DeRonErr, text: &str, place: (usize, usize)) {
+    assert_eq!(rt; (told.line, told.col), place, "at {text}");
+}
+
+/// The text is refused with this message, at this line and column.
+fn refused(rt: &impl Abort, alloc: Global, text: &str, message: &str, place: (usize, usize)) {
+    match refusal(alloc, text) {
+        None => holds(rt, false, text),
+        Some(told) => {
+            is_told(rt, &told, text, message);
+            stands_at(rt, &told, text, place);
+        }
+    }
+}
+
+/// Each text is refused with its message at its place.
+fn all_refused(rt: &impl Abort, alloc: Global, rows: &[(&str, &str, (usize, usize))]) {
+    for (text, message, place) in rows {
+        refused(rt, alloc, text, message, *place);
+    }
+}
+
+fn item(alloc: Global) -> Result<Item, AllocError> {
+    Ok(Item {
+        id: 1,
+        name: String::from_str(alloc, "c")?,
+    })
+}
+
+#[test]
+fn written_and_read_back(rt: HostRuntime) -> Result<(), Fail> {
+    let alloc = rt.alloc();
+    let text = "(\n    host:\"a\",\n    port:80,\n    tags:[\n        \"web\",\n    ],\n    \
+                limits:{\n        \"ann\":7,\n    },\n)";
+    row(&rt, alloc, server(alloc, None)?, text)
+}
+
+#[test]
+fn written_where_it_is_some(rt: HostRuntime) -> Result<(), Fail> {
+    let alloc = rt.alloc();
+    let text = "(\n    host:\"a\",\n    port:80,\n    tags:[\n        \"web\",\n    ],\n    \
+                limits:{\n        \"ann\":7,\n    },\n    note:\"b\",\n)";
+    let note = Some(String::from_str(alloc, "b")?);
+    row(&rt, alloc, server(alloc, note)?, text)
+}
+
+#[test]
+fn written_at_their_levels(rt: HostRuntime) -> Result<(), Fail> {
+    let alloc = rt.alloc();
+    let held = vec![in alloc; Some(Holder { x: item(alloc)? })]?;
+    let text = "[\n    (\n        x:(\n            id:1,\n            name:\"c\",\n        \
+                ),\n    ),\n]";
+    row(&rt, alloc, held, text)
+}
+
+#[test]
+fn read_in_any_order(rt: HostRuntime) -> Result<(), Fail> {
+    let alloc = rt.alloc();
+    let texts = [
+        "(id:1,name:\"c\")",
+        "(name: \"c\", id: 1,)",
+        "(id:2,name:\"d\",id:1,name:\"c\")",
+        "( /* ( */ name:\"c\" , // )\n id:1 )",
+    ];
+    values(&rt, alloc, &texts, &item(alloc)?)
+}
+
+#[test]
+fn may_be_missing(rt: HostRuntime) -> Result<(), Fail> {
+    let alloc = rt.alloc();
+    let texts = [
+        "(host:\"a\",port:80,tags:[\"web\"],limits:{\"ann\":7})",
+        "(note:None,host:\"a\",port:80,tags:[\"web\"],limits:{\"ann\":7})",
+        "(note:\"b\",limits:{\"ann\":7},tags:[\"web\"],port:80,host:\"a\",note:None)",
+    ];
+    let bare: Server = server(alloc, None)?;
+    values(&rt, alloc, &texts, &bare)
+}
+
+#[test]
+fn refused_by_name(rt: HostRuntime) {
+    let rows = [
+        (
+            "(id:1, other:2, name:\"c\")",
+            "Unexpected key other",
+            (0, 13),
+        ),
+        (
+            "(\n    name:\"c\",\n    nam:\"d\"\n)",
+            "Unexpected key nam",
+            (2, 8),
+        ),
+        ("(id:1)", "Key not found name", (0, 6)),
+        ("(\n    name:\"c\",\n)", "Key not found id", (2, 1)),
+    ];
+    all_refused(&rt, rt.alloc(), &rows);
+}
+
+#[test]
+fn refused_by_token(rt: HostRuntime) {
+    let rows = [
+        (
+            "(id:1,,name:\"c\")",
+            "Unexpected token Comma expected ) ",
+            (0, 8),
+        ),
+        (
+            "(id:1 name:\"c\")",
+            "Unexpected token Ident expected , or ) ",
+            (0, 11),
+        ),
+        (
+            "{id:1,name:\"c\"}",
+            "Unexpected token CurlyOpen expected ( ",
+            (0, 2),
+        ),
+        (
+            "(\"id\":1,name:\"c\")",
+            "Unexpected token Str expected ) ",
+            (0, 6),
+        ),
+        (
+            "(true:1)",
+            "Unexpected token Bool(true) expected ) ",
+            (0, 6),
+        ),
+    ];
+    all_refused(&rt, rt.alloc(), &rows);
+}

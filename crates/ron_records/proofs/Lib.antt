@@ -1,0 +1,3 @@
+pub mod Pending
+pub mod WrittenFields
+pub mod VariantReaders

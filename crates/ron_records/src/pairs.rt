@@ -1,0 +1,61 @@
+// Fields and more fields.
+ghost use Rattle.nano_value.specs.Meaning.{paired};
+ghost use Rattle.text_fields.specs.Fields.{others};
+ghost use Rattle.text_fields.specs.Struct.{also_read};
+ghost use Rattle.text_fields.specs.Slots.{both_skip};
+
+use crate::fields::Fields;
+use nano_ron::{DeRonErr, DeRonState};
+use std::alloc::Global;
+use std::str::Chars;
+
+impl<A: Fields, B: Fields> Fields for (A, B) {
+    type Slots = (A::Slots, B::Slots);
+
+    type Values = (A::Values, B::Values);
+
+    ghost named = { λ f. also_read (A.named f.0) (B.named f.1) };
+
+    ghost means = { λ v. paired (A.means v.0, B.means v.1) };
+
+    ghost holds = { λ f slots fs. A.holds f.0 slots.0 fs
+        × B.holds f.1 slots.1 (others (A.named f.0).shape.knows fs) };
+
+    ghost skips = { λ x slots fs f e h. both_skip (A.holds x.0 slots.0) (B.holds x.1 slots.1)
+        (A.named x.0).shape.knows (B.named x.1).shape.knows fs f e
+        (λ p. A.skips x.0 slots.0 fs f p h.0)
+        (λ q. B.skips x.1 slots.1 (others (A.named x.0).shape.knows fs) f q h.1) };
+
+    fn empty(&self) -> (A::Slots, B::Slots) {
+        (self.0.empty(), self.1.empty())
+    }
+
+    fn knows(&self, name: &str) -> bool {
+        self.0.knows(name) || self.1.knows(name)
+    }
+
+    fn read_field(
+        &self,
+        slots: &mut (A::Slots, B::Slots),
+        alloc: Global,
+        state: &mut DeRonState,
+        input: &mut Chars<'_>,
+    ) -> Result<(), DeRonErr> {
+        if self.0.knows(state.identbuf.as_str()) {
+            return self.0.read_field(&mut slots.0, alloc, state, input);
+        }
+        self.1.read_field(&mut slots.1, alloc, state, input)
+    }
+
+    fn values(
+        &self,
+        slots: (A::Slots, B::Slots),
+        alloc: Global,
+        state: &DeRonState,
+    ) -> Result<(A::Values, B::Values), DeRonErr> {
+        let (first, second) = slots;
+        let values = self.0.values(first, alloc, state)?;
+        let more = self.1.values(second, alloc, state)?;
+        Ok((values, more))
+    }
+}

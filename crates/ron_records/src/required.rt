@@ -1,0 +1,52 @@
+// A field that must be there.
+ghost use Rattle.std.specs.Option.{option_map};
+ghost use Rattle.text_fields.specs.Struct.{must_read};
+ghost use Rattle.text_fields.specs.Slots.{Holds, holds_skips};
+
+use crate::fields::{Fields, Required};
+use crate::named::read_named;
+use nano_ron::{DeRon, DeRonErr, DeRonState};
+use std::alloc::Global;
+use std::str::Chars;
+
+impl<T: DeRon> Fields for Required<T> {
+    type Slots = Option<T>;
+
+    type Values = T;
+
+    ghost named = { λ f. must_read f.name.now T.ron.spelling };
+
+    ghost means = { T.means };
+
+    ghost holds = { λ f slot. Holds f.name.now T.ron.spelling.spelled (option_map T.means slot) };
+
+    ghost skips = { λ f slot. holds_skips f.name.now T.ron.spelling.spelled
+        (option_map T.means slot) };
+
+    fn empty(&self) -> Option<T> {
+        None
+    }
+
+    fn knows(&self, name: &str) -> bool {
+        name == self.name
+    }
+
+    fn read_field(
+        &self,
+        slots: &mut Option<T>,
+        alloc: Global,
+        state: &mut DeRonState,
+        input: &mut Chars<'_>,
+    ) -> Result<(), DeRonErr> {
+        let value = read_named(alloc, state, input)?;
+        *slots = Some(value);
+        Ok(())
+    }
+
+    fn values(&self, slots: Option<T>, alloc: Global, state: &DeRonState) -> Result<T, DeRonErr> {
+        match slots {
+            Some(value) => Ok(value),
+            None => Err(state.err_nf(alloc, self.name)),
+        }
+    }
+}
