@@ -1,4 +1,5 @@
-//! The formats behind one function of C's calling convention, so that they run beside other programs in one process.
+//! The formats behind one function of C's calling convention, so that they run beside other
+//! programs in one process.
 #![tactic(auto)]
 
 ghost use Rattle.std.specs.Prelude.{◌≡◌, ◌<◌, ◌⊎◌, length};
@@ -8,6 +9,7 @@ mod item;
 use item::Item;
 use nano_bin::{BothBin, DeBinKind};
 use nano_json::BothJson;
+use nano_ron::BothRon;
 use std::alloc::Global;
 use std::collections::HashMap;
 
@@ -24,13 +26,17 @@ pub const NO_SUCH_CASE: i64 = -4;
 const BINARY: u32 = 0;
 /// The format number of JSON.
 const JSON: u32 = 1;
+/// The format number of RON.
+const RON: u32 = 2;
 /// So many bytes are copied at once.
 const BLOCK: usize = 1024;
 
-/// Reads a value of a kind in a format, and drops it (`op` 0) or writes it again into `output` (`op` 1).
+/// Reads a value of a kind in a format, and drops it (`op` 0) or writes it again into `output`
+/// (`op` 1).
 ///
-/// Formats: 0 is the binary one, 1 is JSON; others are not there yet. Kinds: 0 `Vec<u8>`, 1 `Vec<u64>`, 2 `Vec<String>`,
-/// 3 `HashMap<String, i32>`, 4 a list of records `{ value: i32, note: Option<String> }`. Answers 0 or the number of
+/// Formats: 0 is the binary one, 1 is JSON, 2 is RON; others are not there yet. Kinds:
+/// 0 `Vec<u8>`, 1 `Vec<u64>`, 2 `Vec<String>`, 3 `HashMap<String, i32>`, 4 a list of records
+/// `{ value: i32, note: Option<String> }`, which RON does not have yet. Answers 0 or the number of
 /// bytes written, or one of the negative constants of this crate.
 #[unsafe(no_mangle)]
 pub extern "C" fn nano_op(
@@ -41,7 +47,7 @@ pub extern "C" fn nano_op(
     input: &[u8],
     output: &mut [u8],
 ) -> i64
-    ensures { (JSON < format ⊎ 4 < kind) ⊎ 1 < op → result ≡ NO_SUCH_CASE }
+    ensures { (RON < format ⊎ 4 < kind) ⊎ 1 < op → result ≡ NO_SUCH_CASE }
 {
     if op > 1 {
         return NO_SUCH_CASE;
@@ -50,6 +56,7 @@ pub extern "C" fn nano_op(
     match format {
         BINARY => binary(alloc, kind, write, input, output),
         JSON => json(alloc, kind, write, input, output),
+        RON => ron(alloc, kind, write, input, output),
         _ => NO_SUCH_CASE,
     }
 }
@@ -85,6 +92,22 @@ fn json(alloc: Global, kind: u32, write: bool, input: &[u8], output: &mut [u8]) 
     }
 }
 
+/// One case of RON.
+fn ron(alloc: Global, kind: u32, write: bool, input: &[u8], output: &mut [u8]) -> i64
+    ensures { 4 < kind → result ≡ NO_SUCH_CASE }
+{
+    let Ok(text) = str::from_utf8(input) else {
+        return if kind > 4 { NO_SUCH_CASE } else { REFUSED };
+    };
+    match kind {
+        0 => ron_again::<Vec<u8>>(alloc, write, text, output),
+        1 => ron_again::<Vec<u64>>(alloc, write, text, output),
+        2 => ron_again::<Vec<String>>(alloc, write, text, output),
+        3 => ron_again::<HashMap<String, i32>>(alloc, write, text, output),
+        _ => NO_SUCH_CASE,
+    }
+}
+
 /// Reads a value from bytes and, where asked, writes it into `output`.
 fn binary_again<T: BothBin>(alloc: Global, write: bool, input: &[u8], output: &mut [u8]) -> i64 {
     let value = match T::deserialize_bin(alloc, input) {
@@ -106,7 +129,7 @@ fn binary_again<T: BothBin>(alloc: Global, write: bool, input: &[u8], output: &m
     }
 }
 
-/// Reads a value from a text and, where asked, writes it into `output`.
+/// Reads a value from a JSON text and, where asked, writes it into `output`.
 fn json_again<T: BothJson>(alloc: Global, write: bool, input: &str, output: &mut [u8]) -> i64 {
     let value = match T::deserialize_json(alloc, input) {
         Ok(value) => value,
@@ -121,6 +144,21 @@ fn json_again<T: BothJson>(alloc: Global, write: bool, input: &str, output: &mut
     }
 }
 
+/// Reads a value from a RON text and, where asked, writes it into `output`.
+fn ron_again<T: BothRon>(alloc: Global, write: bool, input: &str, output: &mut [u8]) -> i64 {
+    let value = match T::deserialize_ron(alloc, input) {
+        Ok(value) => value,
+        Err(error) => return if error.memory { NO_MEMORY } else { REFUSED },
+    };
+    if !write {
+        return 0;
+    }
+    match value.serialize_ron(alloc) {
+        Ok(text) => put(text.as_bytes(), output),
+        Err(_) => NO_MEMORY,
+    }
+}
+
 /// Copies bytes to the front of `output`, and answers how many.
 fn put(bytes: &[u8], output: &mut [u8]) -> i64 {
     match output.get_mut(..bytes.len()) {
@@ -130,7 +168,8 @@ fn put(bytes: &[u8], output: &mut [u8]) -> i64 {
     i64::try_from(bytes.len()).unwrap_or(TOO_SHORT)
 }
 
-/// Copies bytes in short blocks: what counts instructions counts one long copy as an instruction a byte.
+/// Copies bytes in short blocks: what counts instructions counts one long copy as an instruction a
+/// byte.
 fn copy(bytes: &[u8], front: &mut [u8])
     requires { length front.old ≡ length bytes.now }
 {

@@ -1,40 +1,64 @@
-// What the tests share. Each call through a bound is a function of its own, and so is what is
-// asserted of its answer: a function that does both takes many times as long to prove.
-use nano_ron::{DeRon, DeRonErr, SerRon};
+// What the tests share. Each call through a bound is a small function that answers with a plain
+// value, and what is asserted of the answer is another: a function that does both takes many times
+// as long to prove. So does each level of calls: a test calls a walker, which calls these two. Want
+// of memory is told as `no memory`, so that it can be told apart.
+use nano_ron::{BothRon, DeRon, DeRonErr, DeRonState, SerRon, laws};
 use std::alloc::{AllocError, Global};
 use std::process::Abort;
-use std::test::Fail;
 
 /// The refusal of a text, if it is refused.
 pub(crate) fn refusal<T: DeRon>(alloc: Global, text: &str) -> Option<DeRonErr> {
     T::deserialize_ron(alloc, text).err()
 }
 
-/// The text was refused with this message.
-fn is_told(rt: &impl Abort, told: Option<DeRonErr>, text: &str, expected: &str) {
+/// The text was refused with this message, in this line and this column, both counted from 0.
+fn is_fault(rt: &impl Abort, told: Option<DeRonErr>, row: &(&str, &str, usize, usize)) {
+    let (text, msg, line, col) = row;
     match told {
         None => assert!(rt; false, "{text} is read"),
-        Some(error) => assert_eq!(rt; error.msg.as_str(), expected, "at {text}"),
+        Some(error) => {
+            assert!(rt; !error.memory, "no memory at {text}");
+            let found = (error.msg.as_str(), error.line, error.col);
+            assert_eq!(rt; found, (*msg, *line, *col), "at {text}");
+        }
     }
 }
 
-/// The texts are refused with these messages.
-pub(crate) fn refused_with<T: DeRon>(rt: &impl Abort, alloc: Global, rows: &[(&str, &str)]) {
-    for (text, expected) in rows {
-        is_told(rt, refusal::<T>(alloc, text), text, expected);
+/// Each text is refused with its message, in its line and column.
+pub(crate) fn faults<T: DeRon>(
+    rt: &impl Abort,
+    alloc: Global,
+    rows: &[(&str, &str, usize, usize)],
+) {
+    for row in rows {
+        is_fault(rt, refusal::<T>(alloc, row.0), row);
+    }
+}
+
+/// The text was refused.
+pub(crate) fn is_refused(rt: &impl Abort, told: Option<DeRonErr>, text: &str) {
+    match told {
+        None => assert!(rt; false, "{text} is read"),
+        Some(error) => assert!(rt; !error.memory, "no memory at {text}"),
     }
 }
 
 /// The texts are refused.
 pub(crate) fn all_refused<T: DeRon>(rt: &impl Abort, alloc: Global, texts: &[&str]) {
     for text in texts {
-        holds(rt, refusal::<T>(alloc, text).is_some(), text);
+        is_refused(rt, refusal::<T>(alloc, text), text);
     }
 }
 
-/// What is said of a text holds.
-pub(crate) fn holds(rt: &impl Abort, is_so: bool, text: &str) {
-    assert!(rt; is_so, "at {text}");
+/// The text was read, and what is said of its value holds.
+pub(crate) fn is_read(rt: &impl Abort, read: Result<bool, DeRonErr>, text: &str) {
+    match read {
+        Ok(is_so) => assert!(rt; is_so, "at {text}"),
+        Err(error) => {
+            assert!(rt; !error.memory, "no memory at {text}");
+            assert_eq!(rt; error.msg.as_str(), "", "at {text}");
+        }
+    }
 }
 
 /// Whether a text is read as the value.
@@ -43,27 +67,68 @@ fn is_value<T: DeRon + PartialEq>(
     text: &str,
     expected: &T,
 ) -> Result<bool, DeRonErr> {
-    Ok(T::deserialize_ron(alloc, text)? == *expected)
+    match T::deserialize_ron(alloc, text) {
+        Ok(value) => Ok(value == *expected),
+        Err(error) => Err(error),
+    }
 }
 
 /// Each text is read as the value beside it.
-pub(crate) fn values<T: DeRon + PartialEq>(
-    rt: &impl Abort,
-    alloc: Global,
-    rows: &[(&str, T)],
-) -> Result<(), Fail> {
+pub(crate) fn values<T: DeRon + PartialEq>(rt: &impl Abort, alloc: Global, rows: &[(&str, T)]) {
     for (text, expected) in rows {
-        holds(rt, is_value(alloc, text, expected)?, text);
+        is_read(rt, is_value(alloc, text, expected), text);
     }
-    Ok(())
 }
 
-/// The written text.
-pub(crate) fn text_of<T: SerRon>(alloc: Global, value: &T) -> Result<String, AllocError> {
+/// The text that a value is written as.
+fn text_of<T: SerRon>(alloc: Global, value: &T) -> Result<String, AllocError> {
     value.serialize_ron(alloc)
 }
 
-/// The text is the expected one.
-pub(crate) fn is_text(rt: &impl Abort, text: &str, expected: &str) {
-    assert_eq!(rt; text, expected);
+/// The text was made, and is the expected one.
+pub(crate) fn is_made(rt: &impl Abort, made: Result<String, AllocError>, expected: &str) {
+    match made {
+        Ok(text) => assert_eq!(rt; text.as_str(), expected),
+        Err(_refused) => assert!(rt; false, "no memory at {expected}"),
+    }
+}
+
+/// Each value is written as the text beside it.
+pub(crate) fn written<T: SerRon>(rt: &impl Abort, alloc: Global, rows: &[(T, &str)]) {
+    for (value, expected) in rows {
+        is_made(rt, text_of(alloc, value), expected);
+    }
+}
+
+/// What the value of a text is written as, and what the value that is read back from there is.
+fn forms<T: BothRon>(alloc: Global, text: &str) -> Result<(String, String), DeRonErr> {
+    let value = T::deserialize_ron(alloc, text)?;
+    let again = laws::read_back(alloc, &value)?;
+    match (value.serialize_ron(alloc), again.serialize_ron(alloc)) {
+        (Ok(one), Ok(other)) => Ok((one, other)),
+        _ => Err(DeRonState::new(alloc).err_memory(alloc)),
+    }
+}
+
+/// The text was read, and was written twice as the expected text.
+fn are_forms(rt: &impl Abort, forms: Result<(String, String), DeRonErr>, row: &(&str, &str)) {
+    let (text, expected) = row;
+    match forms {
+        Ok((one, other)) => {
+            assert_eq!(rt; one.as_str(), *expected, "at {text}");
+            assert_eq!(rt; other.as_str(), *expected, "at {text}");
+        }
+        Err(error) => {
+            assert!(rt; !error.memory, "no memory at {text}");
+            assert_eq!(rt; error.msg.as_str(), *expected, "at {text}");
+        }
+    }
+}
+
+/// Each text is read, and then written as the text beside it; what is read back from there is
+/// written as that text too.
+pub(crate) fn normal<T: BothRon>(rt: &impl Abort, alloc: Global, rows: &[(&str, &str)]) {
+    for row in rows {
+        are_forms(rt, forms::<T>(alloc, row.0), row);
+    }
 }

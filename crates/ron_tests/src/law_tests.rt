@@ -1,5 +1,6 @@
-// Each law is called once.
-use nano_ron::laws;
+// Each law is called once, and so is what keeps a writer's text and ends a reader's state.
+use nano_ron::{DeRonErr, DeRonState, DeRonTok, end_if_refused, keep_written, laws};
+use std::alloc::AllocError;
 use std::collections::{BTreeSet, HashSet};
 use std::test::Fail;
 
@@ -27,10 +28,40 @@ fn laws_of_values(rt: HostRuntime) -> Result<(), Fail> {
     laws::spelled_is_sound(&one);
     laws::none_stands_alone(&one);
     laws::same_meaning_same_text(&one, &one);
+    Ok(())
+}
+
+#[test]
+fn laws_of_sets(rt: HostRuntime) -> Result<(), Fail> {
+    let alloc = rt.alloc();
     let mut hashed = HashSet::new(alloc);
     let mut ordered = BTreeSet::new(alloc);
     hashed.insert(1u8)?;
     ordered.insert(1u8)?;
     laws::sets_of_the_same_items_are_written_alike(&hashed, &ordered);
+    Ok(())
+}
+
+#[test]
+fn a_refused_read_ends_the_state(rt: HostRuntime) {
+    let alloc = rt.alloc();
+    let mut state = DeRonState::new(alloc);
+    state.tok = DeRonTok::Comma;
+    let read: Result<u8, DeRonErr> = end_if_refused(&mut state, Ok(7));
+    assert_eq!(rt; read.ok(), Some(7));
+    assert_eq!(rt; state.tok, DeRonTok::Comma);
+    let refused: Result<u8, DeRonErr> = Err(state.err_memory(alloc));
+    assert!(rt; end_if_refused(&mut state, refused).is_err());
+    assert_eq!(rt; state.tok, DeRonTok::Eof);
+}
+
+#[test]
+fn a_refused_write_is_cut_off(rt: HostRuntime) -> Result<(), Fail> {
+    let alloc = rt.alloc();
+    let mut out = String::from_str(alloc, "ab")?;
+    assert!(rt; keep_written(&mut out, 2, Ok(())).is_ok());
+    assert_eq!(rt; out.as_str(), "ab");
+    assert!(rt; keep_written(&mut out, 1, Err(AllocError)).is_err());
+    assert_eq!(rt; out.as_str(), "a");
     Ok(())
 }

@@ -3,16 +3,34 @@
 #![tactic(auto)]
 
 #[cfg(test)]
+mod bound_tests;
+#[cfg(test)]
 mod checks;
+#[cfg(test)]
+mod container_tests;
+#[cfg(test)]
+mod error_tests;
 #[cfg(test)]
 mod fault_tests;
 #[cfg(test)]
+mod front_tests;
+#[cfg(test)]
 mod helper_tests;
 #[cfg(test)]
+mod large_tests;
+#[cfg(test)]
 mod law_tests;
+#[cfg(test)]
+mod memory_tests;
+#[cfg(test)]
+mod place_tests;
+#[cfg(test)]
+mod state_tests;
 #[cfg(test)]
 mod token_tests;
 #[cfg(test)]
 mod type_tests;
 #[cfg(test)]
 mod value_tests;
+#[cfg(test)]
+mod write_tests;

@@ -1,0 +1,151 @@
+// What no clause says: the texts of errors.
+use crate::checks::is_made;
+use ron_tokens::{DeRonErr, DeRonState, DeRonTok};
+use std::alloc::{AllocError, Global};
+use std::process::Abort;
+
+/// The error made by the call of this name.
+fn made(alloc: Global, state: &DeRonState, name: &str, what: &str) -> DeRonErr {
+    match name {
+        "err_exp" => state.err_exp(alloc, what),
+        "err_nf" => state.err_nf(alloc, what),
+        "err_enum" => state.err_enum(alloc, what),
+        "err_token" => state.err_token(alloc, what),
+        "err_range" => state.err_range(alloc, what),
+        "err_type" => state.err_type(alloc, what),
+        "err_memory" => state.err_memory(alloc),
+        _ => state.err_parse(alloc, what),
+    }
+}
+
+/// A state in the third line and the last column, with an apostrophe pending.
+fn far_state(alloc: Global) -> DeRonState {
+    let mut state = DeRonState::new(alloc);
+    state.tok = DeRonTok::Char('\'');
+    state.line = 2;
+    state.col = usize::MAX;
+    state
+}
+
+/// What the error prints, what a clone of it prints for whom looks into it, and its mark.
+fn printed(alloc: Global, error: &DeRonErr) -> Result<(String, String, bool), AllocError> {
+    let again = error.clone(alloc)?;
+    let text = format!(in alloc; "{error}")?;
+    Ok((text, format!(in alloc; "{again:?}")?, again.memory))
+}
+
+/// The error tells this in the third line and the last column, with this mark for memory.
+fn says_where(rt: &impl Abort, error: &DeRonErr, expected: &str, memory: bool) {
+    assert!(rt; error.memory == memory, "no memory at {expected}");
+    let found = (error.msg.as_str(), error.line, error.col);
+    assert_eq!(rt; found, (expected, 2, usize::MAX));
+}
+
+/// The error was printed twice as this text, and its clone has the mark.
+fn is_printed(
+    rt: &impl Abort,
+    printed: Result<(String, String, bool), AllocError>,
+    expected: &str,
+    memory: bool,
+) {
+    match printed {
+        Ok((one, other, mark)) => {
+            assert_eq!(rt; one.as_str(), expected);
+            assert_eq!(rt; other.as_str(), expected);
+            assert!(rt; mark == memory, "at {expected}");
+        }
+        Err(_refused) => assert!(rt; false, "no memory at {expected}"),
+    }
+}
+
+/// A maker of errors, its word, and the message and the text that it makes.
+const MADE: &[(&str, &str, &str, &str)] = &[
+    (
+        "err_exp",
+        "k",
+        "Unexpected key k",
+        "Ron Deserialize error: Unexpected key k, line:3 col:18446744073709551615",
+    ),
+    (
+        "err_nf",
+        "k",
+        "Key not found k",
+        "Ron Deserialize error: Key not found k, line:3 col:18446744073709551615",
+    ),
+    (
+        "err_enum",
+        "V",
+        "Enum not defined V",
+        "Ron Deserialize error: Enum not defined V, line:3 col:18446744073709551615",
+    ),
+    (
+        "err_token",
+        "x",
+        "Unexpected token Char('\\'') expected x ",
+        "Ron Deserialize error: Unexpected token Char('\\'') expected x , line:3 col:18446744073709551615",
+    ),
+    (
+        "err_range",
+        "1>0",
+        "Value out of range 1>0 ",
+        "Ron Deserialize error: Value out of range 1>0 , line:3 col:18446744073709551615",
+    ),
+    (
+        "err_type",
+        "x",
+        "Token wrong type x ",
+        "Ron Deserialize error: Token wrong type x , line:3 col:18446744073709551615",
+    ),
+    (
+        "err_parse",
+        "x",
+        "Cannot parse x ",
+        "Ron Deserialize error: Cannot parse x , line:3 col:18446744073709551615",
+    ),
+    (
+        "err_memory",
+        "",
+        "",
+        "Ron Deserialize error: , line:3 col:18446744073709551615",
+    ),
+];
+
+#[test]
+fn errors_say_where(rt: HostRuntime) {
+    let alloc = rt.alloc();
+    let state = far_state(alloc);
+    for (name, what, msg, text) in MADE {
+        let error = made(alloc, &state, name, what);
+        let memory = *name == "err_memory";
+        says_where(&rt, &error, msg, memory);
+        is_printed(&rt, printed(alloc, &error), text, memory);
+    }
+}
+
+/// The pending token is told by its name, with its value where it has one.
+#[test]
+fn tokens_have_names(rt: HostRuntime) {
+    let alloc = rt.alloc();
+    let rows = [
+        (DeRonTok::Ident, "Ident"),
+        (DeRonTok::Str, "Str"),
+        (DeRonTok::U64(u64::MAX), "U64(18446744073709551615)"),
+        (DeRonTok::I64(i64::MIN), "I64(-9223372036854775808)"),
+        (DeRonTok::F64, "F64"),
+        (DeRonTok::Bool(false), "Bool(false)"),
+        (DeRonTok::Char('\n'), "Char('\\n')"),
+        (DeRonTok::Colon, "Colon"),
+        (DeRonTok::CurlyOpen, "CurlyOpen"),
+        (DeRonTok::CurlyClose, "CurlyClose"),
+        (DeRonTok::ParenOpen, "ParenOpen"),
+        (DeRonTok::ParenClose, "ParenClose"),
+        (DeRonTok::BlockOpen, "BlockOpen"),
+        (DeRonTok::BlockClose, "BlockClose"),
+        (DeRonTok::Comma, "Comma"),
+        (DeRonTok::Bof, "Bof"),
+        (DeRonTok::Eof, "Eof"),
+    ];
+    for (tok, expected) in rows {
+        is_made(&rt, format!(in alloc; "{tok:?}"), expected);
+    }
+}
