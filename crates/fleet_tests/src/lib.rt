@@ -7,4 +7,6 @@ mod format_tests;
 #[cfg(test)]
 mod ron_tests;
 #[cfg(test)]
+mod ron_variant_tests;
+#[cfg(test)]
 mod row_tests;
