@@ -13,7 +13,8 @@ use Rattle.ron_tokens.specs.Brackets.{paren_marks}
 use Rattle.ron_tokens.specs.Styles.{lines}
 use Rattle.ron_tokens.specs.Token.{Token}
 use Rattle.ron_tokens.specs.Written.{indent}
-use Rattle.nano_ron.proofs.Writing.{both_written, indent_written, closed_written}
+use Rattle.text_values.proofs.WrittenLists.{both_written}
+use Rattle.nano_ron.proofs.Writing.{indent_written, closed_written}
 use Rattle.ron_records.specs.Fields.{ron_fields}
 use Rattle.ron_records.specs.FieldTexts.{on_a_line, on_lines}
 

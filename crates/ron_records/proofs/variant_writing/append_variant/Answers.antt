@@ -1,6 +1,6 @@
 use Rattle.std.proofs.Common.{string_bytes, chars}
 use Rattle.std.proofs.lemmas.Result.{on_ok_weaker}
-use Rattle.nano_ron.proofs.Writing.{both_written}
+use Rattle.text_values.proofs.WrittenLists.{both_written}
 use Rattle.ron_records.proofs.variant_writing.append_variant.Goals as goal
 
 pub returns-clause-ok : goal.returns-clause-ok
