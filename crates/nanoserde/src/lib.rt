@@ -12,18 +12,18 @@ pub mod laws;
 mod normal;
 
 pub use convert::{json_to_bin, ron_to_bin};
-pub use nano_bin as bin;
+pub use nano_bin::laws as bin_laws;
 pub use nano_bin::{BinFormat, BothBin, DeBin, DeBinErr, DeBinKind, SerBin};
-pub use nano_json as json;
+pub use nano_json::laws as json_laws;
 pub use nano_json::{
     BothJson, DeJson, DeJsonErr, DeJsonState, DeJsonTok, JsonFormat, SerJson, SerJsonState,
 };
-pub use nano_ron as ron;
+pub use nano_ron::laws as ron_laws;
 pub use nano_ron::{
     BothRon, DeRon, DeRonErr, DeRonState, DeRonTok, RonFormat, SerRon, SerRonState,
 };
-pub use nano_toml as toml;
+pub use nano_toml::laws as toml_laws;
 pub use nano_toml::{Toml, TomlErr, TomlParser, TomlTok};
-pub use nano_value as value;
+pub use nano_value::laws as value_laws;
 pub use nano_value::{Key, OrderedKey, Value};
 pub use normal::{normal_bin, normal_json, normal_ron};
