@@ -1,5 +1,5 @@
 // What a variant holds: nothing, parts one behind the other, or named fields.
-ghost use Rattle.std.specs.Prelude.{[]};
+ghost use Rattle.std.specs.Prelude.{◌≡◌, []};
 ghost use Rattle.nano_value.specs.Meaning.{nothing};
 ghost use Rattle.nano_value.specs.Legal.{LegalUnit};
 ghost use Rattle.described.specs.Names.{name};
@@ -29,6 +29,18 @@ pub struct Tupled<P> {
 /// A part that has no name.
 pub fn part<T>() -> Unnamed<T> {
     Unnamed { of: PhantomData }
+}
+
+/// No content.
+pub fn no_content() -> Alone {
+    Alone {}
+}
+
+/// Parts without names, one behind the other.
+pub fn tuple<P>(parts: P) -> Tupled<P>
+    ensures { result.parts ≡ parts }
+{
+    Tupled { parts }
 }
 
 impl Shape for Alone {

@@ -5,9 +5,13 @@
 mod event;
 mod holder;
 mod item;
+mod plain;
+mod query;
 mod server;
 
 pub use event::Event;
 pub use holder::Holder;
 pub use item::Item;
+pub use plain::Plain;
+pub use query::Query;
 pub use server::Server;

@@ -1,0 +1,204 @@
+// What a variant holds, in JSON: nothing, a tuple between square brackets, or named fields between
+// curly ones.
+ghost use Rattle.std.specs.Prelude.{◌≡◌, OnOk, OnErr};
+ghost use Rattle.nano_text.specs.Outcomes.{Appends, Stays};
+ghost use Rattle.nano_json.specs.Readers.{Reads, Refuses};
+ghost use Rattle.nano_json.specs.State.{at, ended};
+ghost use Rattle.nano_json.specs.Tuples.{pair_format};
+ghost use Rattle.json_records.specs.Variants.{json_variants};
+ghost use Rattle.described.specs.Names.{Names};
+ghost use Rattle.described_json.specs.Choices.{Content, SpellsRest, stands_alone};
+ghost use Rattle.described_json.specs.Contents.{no_content, content_as, fields_content};
+
+use crate::fields::{JsonFields, JsonRefs, JsonShape};
+use described::{Alone, Borrowed, Shape, Tupled, Unnamed};
+use json_records::{
+    Part, read_content, read_fields_content, write_fields_variant, write_unit_variant,
+    write_variant,
+};
+use nano_json::{DeJson, DeJsonErr, DeJsonState, JsonFormat, SerJson, SerJsonState};
+use std::alloc::{AllocError, Global};
+use std::str::Chars;
+
+/// The content of a variant with a place in JSON.
+pub trait JsonContent: Shape {
+    /// How it is written and read under the names of its fields.
+    ghost content: { Names → Content json_variants Self.Values };
+}
+
+/// The content of a variant that is read from JSON.
+pub trait ReadContent: JsonContent {
+    /// Whether the name of the variant stands alone, with no content behind it.
+    fn stands_alone(&self) -> bool
+        ensures { result ≡ stands_alone (Self.content (Self.names_of self.now)).rest };
+
+    /// Reads what stands behind the name of the variant, with the `}` behind it; of a variant
+    /// without content that is nothing.
+    ///
+    /// An error that is not for want of memory says that no such content is spelled there, with one
+    /// more token or the end behind it. Every refusal leaves the state at the end of the text.
+    fn read(
+        &self,
+        alloc: Global,
+        state: &mut DeJsonState,
+        input: &mut Chars<'_>,
+    ) -> Result<<Self as Shape>::Values, DeJsonErr>
+        ensures fits { Reads (SpellsRest json_variants (Self.content (Self.names_of self.now)).rest)
+            Self.means (at state.old input.old) (at state.new input.new) result }
+        ensures refused { Refuses (SpellsRest json_variants (Self.content (Self.names_of self.now)).rest)
+            (at state.old input.old) result }
+        ensures ended { OnErr result (at state.new input.new ≡ ended) };
+}
+
+/// The content of a variant that is written as JSON.
+pub trait WriteContent<'a>: JsonContent + Borrowed<'a> {
+    /// What is written of it: its parts by reference, with their names where they have names.
+    type Parts: Drop;
+
+    /// Appends the variant of this name with the content at level `d`. A refused write leaves
+    /// `s.out` as it was.
+    fn write(
+        &self,
+        name: &str,
+        refs: Self::Refs,
+        alloc: Global,
+        d: usize,
+        s: &mut SerJsonState,
+    ) -> Result<(), AllocError>
+        ensures ok { OnOk result (Appends s.old.out s.new.out
+            ((Self.content (Self.names_of self.now)).text name.now d (Self.values refs))) }
+        ensures err { OnErr result (Stays s.old.out s.new.out) };
+}
+
+// ---- no content
+
+impl JsonContent for Alone {
+    ghost content = { λ n. no_content };
+}
+
+impl ReadContent for Alone {
+    fn stands_alone(&self) -> bool {
+        true
+    }
+
+    fn read(
+        &self,
+        _alloc: Global,
+        _state: &mut DeJsonState,
+        _input: &mut Chars<'_>,
+    ) -> Result<(), DeJsonErr> {
+        Ok(())
+    }
+}
+
+impl<'a> WriteContent<'a> for Alone {
+    type Parts = ();
+
+    fn write(
+        &self,
+        name: &str,
+        _refs: (),
+        alloc: Global,
+        _d: usize,
+        s: &mut SerJsonState,
+    ) -> Result<(), AllocError> {
+        write_unit_variant(alloc, name, s)
+    }
+}
+
+// ---- two parts
+
+impl<A: JsonFormat + Drop, B: JsonFormat + Drop> JsonContent for Tupled<(Unnamed<A>, Unnamed<B>)> {
+    ghost content = { λ n. content_as (pair_format A.json B.json) };
+}
+
+impl<A: DeJson, B: DeJson> ReadContent for Tupled<(Unnamed<A>, Unnamed<B>)> {
+    fn stands_alone(&self) -> bool {
+        false
+    }
+
+    fn read(
+        &self,
+        alloc: Global,
+        state: &mut DeJsonState,
+        input: &mut Chars<'_>,
+    ) -> Result<(A, B), DeJsonErr> {
+        read_content(alloc, state, input)
+    }
+}
+
+impl<'a, A: SerJson + Drop + 'a, B: SerJson + Drop + 'a> WriteContent<'a>
+    for Tupled<(Unnamed<A>, Unnamed<B>)> {
+    type Parts = (Part<'a, A>, Part<'a, B>);
+
+    fn write(
+        &self,
+        name: &str,
+        refs: (&'a A, &'a B),
+        alloc: Global,
+        d: usize,
+        s: &mut SerJsonState,
+    ) -> Result<(), AllocError> {
+        let parts = (Part { of: refs.0 }, Part { of: refs.1 });
+        write_variant(alloc, name, &parts, d, s)
+    }
+}
+
+// ---- named fields
+
+impl<A: JsonShape, B: JsonShape> JsonContent for (A, B) {
+    ghost content = { λ n. fields_content (⟦<(A, B) as JsonShape>⟧.format n) };
+}
+
+impl<A: JsonFields, B: JsonFields> ReadContent for (A, B) {
+    fn stands_alone(&self) -> bool {
+        false
+    }
+
+    fn read(
+        &self,
+        alloc: Global,
+        state: &mut DeJsonState,
+        input: &mut Chars<'_>,
+    ) -> Result<(A::Values, B::Values), DeJsonErr> {
+        read_named_fields(self, alloc, state, input)
+    }
+}
+
+impl<'a, A: JsonRefs<'a>, B: JsonRefs<'a>> WriteContent<'a> for (A, B) {
+    type Parts = (A::Parts, B::Parts);
+
+    fn write(
+        &self,
+        name: &str,
+        refs: (A::Refs, B::Refs),
+        alloc: Global,
+        d: usize,
+        s: &mut SerJsonState,
+    ) -> Result<(), AllocError> {
+        let parts = self.parts(refs);
+        write_fields_variant(alloc, name, &parts, d, s)
+    }
+}
+
+/// Reads named fields and the `}` behind them. Every refusal leaves the state at the end of the
+/// text.
+pub(crate) fn read_named_fields<F: JsonFields>(
+    fields: &F,
+    alloc: Global,
+    state: &mut DeJsonState,
+    input: &mut Chars<'_>,
+) -> Result<F::Values, DeJsonErr>
+    ensures fits { Reads (SpellsRest json_variants
+        (fields_content (F.format (F.names_of fields.now))).rest)
+        F.means (at state.old input.old) (at state.new input.new) result }
+    ensures refused { Refuses (SpellsRest json_variants
+        (fields_content (F.format (F.names_of fields.now))).rest) (at state.old input.old) result }
+    ensures ended { OnErr result (at state.new input.new ≡ ended) }
+{
+    let readers = fields.readers();
+    match read_fields_content(&readers, alloc, state, input) {
+        Ok(read) => Ok(F::values(read)),
+        Err(error) => Err(error),
+    }
+}

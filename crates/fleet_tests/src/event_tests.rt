@@ -1,0 +1,62 @@
+// An enum in JSON: each of its variants written and read back, nested in others, and refused.
+use fleet::{Event, Holder};
+use nano_json::{BothJson, DeJson, DeJsonErr, SerJson};
+use std::alloc::Global;
+use std::process::Abort;
+use std::test::Fail;
+
+/// What is written of the value that a text is read as.
+fn again<T: BothJson>(alloc: Global, text: &str) -> Result<String, DeJsonErr> {
+    let value = T::deserialize_json(alloc, text)?;
+    nano_json::laws::written_text_is_cut_into_its_tokens(&value);
+    Ok(value.serialize_json(alloc)?)
+}
+
+/// What is written of the event that a text is read as, or what the refusal says.
+fn outcome<T: BothJson>(alloc: Global, text: &str) -> String {
+    match again::<T>(alloc, text) {
+        Ok(written) => written,
+        Err(error) => error.msg,
+    }
+}
+
+fn check(rt: &impl Abort, found: &str, expected: &str, text: &str) {
+    assert_eq!(rt; found, expected, "of {text}");
+}
+
+#[test]
+fn events_by_name(rt: HostRuntime) -> Result<(), Fail> {
+    let rows = [
+        ("\"Stop\"", "\"Stop\""),
+        (" { \"Move\" : [ 2 , \"a\" , ] } ", "{\"Move\":[2,\"a\"]}"),
+        (
+            "{\"Say\":{\"times\":3,\"text\":\"c\"}}",
+            "{\"Say\":{\"text\":\"c\",\"times\":3}}",
+        ),
+        (
+            "{\"Say\":{\"text\":\"c\",\"x\":[{}],\"times\":3,}}",
+            "{\"Say\":{\"text\":\"c\",\"times\":3}}",
+        ),
+        ("\"Halt\"", "Enum not defined Halt"),
+        ("\"Move\"", "Enum not defined Move"),
+        ("{\"Stop\":null}", "Enum not defined Stop"),
+        ("{\"Say\":{\"text\":\"c\"}}", "Key not found times"),
+        (
+            "{\"Move\":[2,\"a\"],}",
+            "Unexpected token Comma expected } ",
+        ),
+    ];
+    for (text, expected) in rows {
+        let found = outcome::<Event>(rt.alloc(), text);
+        check(&rt, found.as_str(), expected, text);
+    }
+    Ok(())
+}
+
+#[test]
+fn events_in_others(rt: HostRuntime) -> Result<(), Fail> {
+    let text = "[{\"x\":\"Stop\"},{\"x\":{\"Move\":[0,\"\"]}},null]";
+    let found = outcome::<Vec<Option<Holder<Event>>>>(rt.alloc(), text);
+    check(&rt, found.as_str(), text, text);
+    Ok(())
+}
