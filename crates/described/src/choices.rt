@@ -1,19 +1,63 @@
 // The variants of an enum, in their order.
-ghost use Rattle.std.specs.Prelude.{ℕ, suc};
+ghost use Rattle.std.specs.Prelude.{◌≡◌, ℕ, suc, List};
 ghost use Rattle.nano_value.specs.Meaning.{Meaning};
-ghost use Rattle.nano_value.specs.Sums.{Variants, no_variants, variant, tagged, LegalFrom};
+ghost use Rattle.nano_value.specs.Sums.{Variants, no_variants, variant as sum};
+ghost use Rattle.nano_value.specs.Sums.{tagged, LegalFrom};
 ghost use Rattle.described.specs.Names.{Names, name, names};
 ghost use Rattle.described.specs.Choices.{either_is, either_map};
 
 use crate::fields::{Borrowed, Shape};
 
-/// A variant, by its name and its content: `Alone`, parts as a `Tupled`, or named fields.
+/// The name of a variant, as a program holds it.
+pub trait Label {
+    /// The name.
+    ghost label: { Self → List ℕ };
+
+    /// The name.
+    fn text(&self) -> &str
+        ensures { result.now ≡ label self.now };
+}
+
+/// A name that stands in the program.
 #[derive(Drop)]
-pub struct Variant<S> {
+pub struct Name {
+    /// The name.
+    pub text: &'static str,
+}
+
+impl Label for Name {
+    ghost label = { λ n. n.text.now };
+
+    fn text(&self) -> &str {
+        self.text
+    }
+}
+
+/// A variant, by its name and its content: `Alone`, a `OnePart`, a `Tupled`, or named fields.
+#[derive(Drop)]
+pub struct NamedVariant<N, S> {
     /// Its name.
-    pub name: &'static str,
+    pub name: N,
     /// What it holds.
     pub content: S,
+}
+
+/// A variant whose name stands in the program.
+pub type Variant<S> = NamedVariant<Name, S>;
+
+/// A name that stands in the program.
+pub fn called(text: &'static str) -> Name
+    ensures { result.text.now ≡ text.now }
+{
+    Name { text }
+}
+
+/// A variant of this name and content.
+pub fn variant<N, S>(name: N, content: S) -> NamedVariant<N, S>
+    ensures name { result.name ≡ name }
+    ensures content { result.content ≡ content }
+{
+    NamedVariant { name, content }
 }
 
 /// The content of the first of some variants, or of one of the later ones.
@@ -53,17 +97,17 @@ pub trait BorrowedChoices<'a>: Choices {
         ensures { (from : ℕ) → LegalFrom from Self.legals (Self.means from (values refs.now)) };
 }
 
-impl<S: Shape> Choices for Variant<S> {
+impl<N: Label, S: Shape> Choices for NamedVariant<N, S> {
     type Values = S::Values;
 
-    ghost names_of = { λ v. names (name v.name.now) (S.names_of v.content) };
+    ghost names_of = { λ v. names (name (N.label v.name)) (S.names_of v.content) };
 
     ghost means = { λ from x. tagged from (S.means x) };
 
-    ghost legals = { variant S.legal no_variants };
+    ghost legals = { sum S.legal no_variants };
 }
 
-impl<'a, S: Borrowed<'a>> BorrowedChoices<'a> for Variant<S> {
+impl<'a, N: Label, S: Borrowed<'a>> BorrowedChoices<'a> for NamedVariant<N, S> {
     type Refs = S::Refs;
 
     ghost values = { S.values };
@@ -74,17 +118,18 @@ impl<'a, S: Borrowed<'a>> BorrowedChoices<'a> for Variant<S> {
     }
 }
 
-impl<S: Shape, C: Choices> Choices for (Variant<S>, C) {
+impl<N: Label, S: Shape, C: Choices> Choices for (NamedVariant<N, S>, C) {
     type Values = Either<S::Values, C::Values>;
 
-    ghost names_of = { λ v. names (names (name v.0.name.now) (S.names_of v.0.content)) (C.names_of v.1) };
+    ghost names_of = { λ v. names (names (name (N.label v.0.name)) (S.names_of v.0.content)) (C.names_of v.1) };
 
     ghost means = { λ from. either_is (λ x. tagged from (S.means x)) (C.means (suc from)) };
 
-    ghost legals = { variant S.legal C.legals };
+    ghost legals = { sum S.legal C.legals };
 }
 
-impl<'a, S: Borrowed<'a>, C: BorrowedChoices<'a>> BorrowedChoices<'a> for (Variant<S>, C) {
+impl<'a, N: Label, S: Borrowed<'a>, C: BorrowedChoices<'a>> BorrowedChoices<'a>
+    for (NamedVariant<N, S>, C) {
     type Refs = Either<S::Refs, C::Refs>;
 
     ghost values = { either_map S.values C.values };

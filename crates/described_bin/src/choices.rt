@@ -8,7 +8,7 @@ ghost use Rattle.described_bin.specs.Choices.{Chosen, ReadsChoice, last_choice, 
 ghost use Rattle.described_bin.specs.Choices.{written_from, IsUnknownTag};
 
 use crate::fields::{BinFields, BinRefs, BinShape};
-use described::{BorrowedChoices, Choices, Either, Shape, Variant};
+use described::{BorrowedChoices, Choices, Either, Label, NamedVariant, Shape};
 use nano_bin::{DeBinErr, DeBinKind, SerBin};
 use std::alloc::{AllocError, Global};
 
@@ -77,11 +77,11 @@ fn write_content<'a, S: BinRefs<'a>>(
     written
 }
 
-impl<S: BinShape> BinShapes for Variant<S> {
+impl<N: Label, S: BinShape> BinShapes for NamedVariant<N, S> {
     ghost chosen = { last_choice S.format };
 }
 
-impl<S: BinFields> BinChoices for Variant<S> {
+impl<N: Label, S: BinFields> BinChoices for NamedVariant<N, S> {
     fn read(
         tag: u16,
         start: usize,
@@ -104,7 +104,7 @@ impl<S: BinFields> BinChoices for Variant<S> {
     }
 }
 
-impl<'a, S: BinRefs<'a>> BinChoiceRefs<'a> for Variant<S> {
+impl<'a, N: Label, S: BinRefs<'a>> BinChoiceRefs<'a> for NamedVariant<N, S> {
     fn write(
         refs: &S::Refs,
         from: u32,
@@ -115,11 +115,11 @@ impl<'a, S: BinRefs<'a>> BinChoiceRefs<'a> for Variant<S> {
     }
 }
 
-impl<S: BinShape, C: BinShapes> BinShapes for (Variant<S>, C) {
+impl<N: Label, S: BinShape, C: BinShapes> BinShapes for (NamedVariant<N, S>, C) {
     ghost chosen = { next_choice S.format C.chosen };
 }
 
-impl<S: BinFields, C: BinChoices> BinChoices for (Variant<S>, C) {
+impl<N: Label, S: BinFields, C: BinChoices> BinChoices for (NamedVariant<N, S>, C) {
     fn read(
         tag: u16,
         start: usize,
@@ -140,7 +140,8 @@ impl<S: BinFields, C: BinChoices> BinChoices for (Variant<S>, C) {
     }
 }
 
-impl<'a, S: BinRefs<'a>, C: BinChoiceRefs<'a>> BinChoiceRefs<'a> for (Variant<S>, C) {
+impl<'a, N: Label, S: BinRefs<'a>, C: BinChoiceRefs<'a>> BinChoiceRefs<'a>
+    for (NamedVariant<N, S>, C) {
     fn write(
         refs: &Either<S::Refs, C::Refs>,
         from: u32,

@@ -1,1 +1,4 @@
 pub mod Record
+pub mod Choices
+pub mod Contents
+pub mod Choice

@@ -1,9 +1,20 @@
-//! Own structs in JSON, from their description: named fields between curly brackets, in any order
-//! where they are read, in declared order where they are written.
+//! Own structs and enums in JSON, from their description. A struct is named fields between curly
+//! brackets, in any order where they are read, in declared order where they are written. An enum is
+//! the name of a variant alone, or between curly brackets a name with its content.
 #![tactic(auto)]
 
+mod brackets;
+mod choice;
+mod choices;
+mod contents;
 mod fields;
+mod one_field;
 mod record;
+mod tuples;
 
-pub use fields::{JsonFields, JsonRefs, JsonShape};
+pub use choice::{read_choice, write_choice};
+pub use choices::{JsonChoiceRefs, JsonChoices, JsonShapes};
+pub use contents::{JsonContent, ReadContent, WriteContent};
+pub use fields::JsonRefs;
+pub use json_records::{Fields as JsonFields, JsonShape};
 pub use record::{read_record, write_record};

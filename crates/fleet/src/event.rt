@@ -1,4 +1,4 @@
-// An enum with a variant of each shape, described once, and its bytes.
+// An enum with a variant of each shape: its description, and then bytes and JSON.
 ghost use Rattle.std.specs.Prelude.{[], codes, refl};
 ghost use Rattle.std.proofs.Common.{lit≤};
 ghost use Rattle.nano_value.specs.Sums.{LegalVariant};
@@ -6,16 +6,20 @@ ghost use Rattle.nano_value.specs.Ties.{tied};
 ghost use Rattle.described.specs.Names.{name, names, two_names};
 ghost use Rattle.nano_bin.specs.Format.{format_as};
 ghost use Rattle.described_bin.specs.Choices.{choice_format};
+ghost use Rattle.described_json.specs.Choice.{json_choice};
 ghost use Rattle.fleet.specs.Event.{seen};
 
 use described::{
-    Alone, BorrowedChoices, Choice, ChoiceParts, Choices, Either, InTwo, Required, Tupled, Unnamed,
-    Variant, known_choice, must, part, two, two_apart,
+    Alone, BorrowedChoices, Choice, ChoiceParts, Choices, Either, InTwo, Required, Tupled, Variant,
+    called, known_choice, must, no_content, tuple, two, variant,
 };
 use described_bin::{BinShapes, read_choice_bin, write_choice_bin};
+use described_json::{JsonShapes, read_choice, write_choice};
 use nano_bin::{BinFormat, BothBin, DeBin, DeBinErr, SerBin};
+use nano_json::{BothJson, DeJson, DeJsonErr, DeJsonState, JsonFormat, SerJson, SerJsonState};
 use nano_value::Value;
 use std::alloc::{AllocError, Global};
+use std::str::Chars;
 
 /// What a device does.
 #[derive(PartialEq, Debug, Drop)]
@@ -36,7 +40,7 @@ pub enum Event {
 type EventVariants = (
     Variant<Alone>,
     (
-        Variant<Tupled<InTwo<Unnamed<u32>, Unnamed<String>>>>,
+        Variant<Tupled<(u32, String)>>,
         Variant<InTwo<Required<String>, Required<u32>>>,
     ),
 );
@@ -45,44 +49,26 @@ impl Choice for Event {
     type Variants = EventVariants;
 
     ghost the_names = { names (names (name (codes "Stop")) (name []))
-        (names (names (name (codes "Move")) (two_names [] []))
+        (names (names (name (codes "Move")) (name []))
         (names (name (codes "Say")) (two_names (codes "text") (codes "times")))) };
 
     ghost view = { seen };
 
     fn variants() -> EventVariants {
-        let moved = Tupled {
-            parts: two(part(), part()),
-        };
-        let said = two(must("text"), must("times"));
-        let stop = Variant {
-            name: "Stop",
-            content: Alone {},
-        };
-        let step = Variant {
-            name: "Move",
-            content: moved,
-        };
-        let say = Variant {
-            name: "Say",
-            content: said,
-        };
-        (stop, (step, say))
+        (
+            variant(called("Stop"), no_content()),
+            (
+                variant(called("Move"), tuple()),
+                variant(called("Say"), two(must("text"), must("times"))),
+            ),
+        )
     }
 
     fn make(values: <EventVariants as Choices>::Values) -> Event {
         match values {
             Either::First(()) => Event::Stop,
-            Either::Later(more) => match more {
-                Either::First(parts) => {
-                    let (steps, name) = two_apart(parts);
-                    Event::Move(steps, name)
-                }
-                Either::Later(fields) => {
-                    let (text, times) = two_apart(fields);
-                    Event::Say { text, times }
-                }
-            },
+            Either::Later(Either::First((steps, name))) => Event::Move(steps, name),
+            Either::Later(Either::Later((text, times))) => Event::Say { text, times },
         }
     }
 }
@@ -91,7 +77,7 @@ impl<'a> ChoiceParts<'a> for Event {
     fn refs(&'a self) -> <EventVariants as BorrowedChoices<'a>>::Refs {
         match self {
             Event::Stop => Either::First(()),
-            Event::Move(steps, name) => Either::Later(Either::First(two(steps, name))),
+            Event::Move(steps, name) => Either::Later(Either::First((steps, name))),
             Event::Say { text, times } => Either::Later(Either::Later(two(text, times))),
         }
     }
@@ -130,3 +116,30 @@ impl DeBin for Event {
 }
 
 impl BothBin for Event {}
+
+// ---- JSON
+
+impl JsonFormat for Event {
+    ghost json = { json_choice seen ⟦<EventVariants as JsonShapes>⟧.format
+        ⟦<Event as Choice>⟧.the_names refl refl refl };
+
+    ghost ties = { tied };
+}
+
+impl SerJson for Event {
+    fn ser_json(&self, alloc: Global, d: usize, s: &mut SerJsonState) -> Result<(), AllocError> {
+        write_choice(self, alloc, d, s)
+    }
+}
+
+impl DeJson for Event {
+    fn de_json(
+        alloc: Global,
+        state: &mut DeJsonState,
+        input: &mut Chars<'_>,
+    ) -> Result<Event, DeJsonErr> {
+        read_choice(alloc, state, input)
+    }
+}
+
+impl BothJson for Event {}

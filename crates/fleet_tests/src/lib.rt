@@ -3,6 +3,8 @@
 #![tactic(auto)]
 
 #[cfg(test)]
+mod event_tests;
+#[cfg(test)]
 mod format_tests;
 #[cfg(test)]
 mod ron_tests;

@@ -20,6 +20,9 @@ fn rows_are_taken_apart(rt: HostRuntime) {
 #[test]
 fn variants_have_their_names(rt: HostRuntime) {
     let (stop, (step, say)) = Event::variants();
-    assert_eq!(rt; [stop.name, step.name, say.name], ["Stop", "Move", "Say"]);
+    assert_eq!(rt;
+        [stop.name.text, step.name.text, say.name.text],
+        ["Stop", "Move", "Say"]
+    );
     assert_eq!(rt; say.content.0.name, "text");
 }

@@ -2,7 +2,7 @@ use Rattle.std.proofs.Common.{◌≡◌, arith, rules}
 use Rattle.std.proofs.lemmas.Bool.Decides.{nat_tests}
 use Rattle.nano_bin.specs.Variants.{no_variants}
 use Rattle.described_bin.specs.Choices.{reads_last}
-use Rattle.described_bin.proofs.choices.VariantBinChoices.read.Goals as goal
+use Rattle.described_bin.proofs.choices.NamedVariantBinChoices.read.Goals as goal
 
 pub returns-in-Ok-clause-ok : goal.returns-in-Ok-clause-ok
 returns-in-Ok-clause-ok g c =

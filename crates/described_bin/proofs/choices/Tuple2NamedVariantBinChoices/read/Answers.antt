@@ -2,7 +2,7 @@ use Rattle.std.proofs.Common.{◌≡◌, ◌≢◌, drop, arith, rules}
 use Rattle.std.proofs.lemmas.Bool.Decides.{nat_tests}
 use Rattle.bin_bytes.specs.Reading.{Refuses}
 use Rattle.described_bin.specs.Choices.{reads_first, reads_later, at_later}
-use Rattle.described_bin.proofs.choices.Tuple2VariantBinChoices.read.Goals as goal
+use Rattle.described_bin.proofs.choices.Tuple2NamedVariantBinChoices.read.Goals as goal
 
 pub returns-in-Ok-clause-ok : goal.returns-in-Ok-clause-ok
 returns-in-Ok-clause-ok g c =

@@ -1,0 +1,187 @@
+// What a variant holds, in JSON: nothing, one part between square brackets, or named fields between
+// curly ones.
+ghost use Rattle.std.specs.Prelude.{◌≡◌, OnOk, OnErr};
+ghost use Rattle.nano_text.specs.Outcomes.{Appends, Stays};
+ghost use Rattle.nano_json.specs.Readers.{Reads, Refuses};
+ghost use Rattle.nano_json.specs.State.{at, ended};
+ghost use Rattle.json_records.specs.Formats.{single_format};
+ghost use Rattle.json_records.specs.Variants.{json_variants};
+ghost use Rattle.described.specs.Names.{Names};
+ghost use Rattle.described_json.specs.Choices.{Content, SpellsRest, stands_alone};
+ghost use Rattle.described_json.specs.Contents.{no_content, content_as, fields_content};
+
+use crate::brackets::InBrackets;
+use crate::fields::JsonRefs;
+use described::{Alone, Borrowed, OnePart, Shape};
+use json_records::{
+    Fields, JsonShape, Part, read_content, read_fields_content, write_fields_variant,
+    write_unit_variant, write_variant,
+};
+use nano_json::{DeJson, DeJsonErr, DeJsonState, JsonFormat, SerJson, SerJsonState};
+use std::alloc::{AllocError, Global};
+use std::str::Chars;
+
+/// The content of a variant with a place in JSON.
+pub trait JsonContent: Shape {
+    /// How it is written and read under the names of its fields.
+    ghost content: { Names → Content json_variants Self.Values };
+}
+
+/// The content of a variant that is read from JSON.
+pub trait ReadContent: JsonContent {
+    /// Whether the name of the variant stands alone, with no content behind it.
+    fn stands_alone(&self) -> bool
+        ensures { result ≡ stands_alone (Self.content (Self.names_of self.now)).rest };
+
+    /// Reads what stands behind the name of the variant, with the `}` behind it; of a variant
+    /// without content that is nothing.
+    ///
+    /// An error that is not for want of memory says that no such content is spelled there, with one
+    /// more token or the end behind it. Every refusal leaves the state at the end of the text.
+    fn read(
+        &self,
+        alloc: Global,
+        state: &mut DeJsonState,
+        input: &mut Chars<'_>,
+    ) -> Result<<Self as Shape>::Values, DeJsonErr>
+        ensures fits { Reads (SpellsRest json_variants (Self.content (Self.names_of self.now)).rest)
+            Self.means (at state.old input.old) (at state.new input.new) result }
+        ensures refused { Refuses (SpellsRest json_variants (Self.content (Self.names_of self.now)).rest)
+            (at state.old input.old) result }
+        ensures ended { OnErr result (at state.new input.new ≡ ended) };
+}
+
+/// The content of a variant that is written as JSON.
+pub trait WriteContent<'a>: JsonContent + Borrowed<'a> {
+    /// What is written of it: its parts by reference, with their names where they have names.
+    type Parts: Drop;
+
+    /// Appends the variant of this name with the content at level `d`. A refused write leaves
+    /// `s.out` as it was.
+    fn write(
+        &self,
+        name: &str,
+        refs: Self::Refs,
+        alloc: Global,
+        d: usize,
+        s: &mut SerJsonState,
+    ) -> Result<(), AllocError>
+        ensures ok { OnOk result (Appends s.old.out s.new.out
+            ((Self.content (Self.names_of self.now)).text name.now d (Self.values refs))) }
+        ensures err { OnErr result (Stays s.old.out s.new.out) };
+}
+
+// ---- no content
+
+impl JsonContent for Alone {
+    ghost content = { λ n. no_content };
+}
+
+impl ReadContent for Alone {
+    fn stands_alone(&self) -> bool {
+        true
+    }
+
+    fn read(
+        &self,
+        _alloc: Global,
+        _state: &mut DeJsonState,
+        _input: &mut Chars<'_>,
+    ) -> Result<(), DeJsonErr> {
+        Ok(())
+    }
+}
+
+impl<'a> WriteContent<'a> for Alone {
+    type Parts = ();
+
+    fn write(
+        &self,
+        name: &str,
+        _refs: (),
+        alloc: Global,
+        _d: usize,
+        s: &mut SerJsonState,
+    ) -> Result<(), AllocError> {
+        write_unit_variant(alloc, name, s)
+    }
+}
+
+// ---- one part
+
+impl<T: JsonFormat + Drop> JsonContent for OnePart<T> {
+    ghost content = { λ n. content_as (single_format T.json) };
+}
+
+impl<T: DeJson> ReadContent for OnePart<T> {
+    fn stands_alone(&self) -> bool {
+        false
+    }
+
+    fn read(
+        &self,
+        alloc: Global,
+        state: &mut DeJsonState,
+        input: &mut Chars<'_>,
+    ) -> Result<T, DeJsonErr> {
+        match read_content::<InBrackets<T>>(alloc, state, input) {
+            Ok(content) => Ok(content.part),
+            Err(error) => Err(error),
+        }
+    }
+}
+
+impl<'a, T: SerJson + Drop + 'a> WriteContent<'a> for OnePart<T> {
+    type Parts = Part<'a, T>;
+
+    fn write(
+        &self,
+        name: &str,
+        refs: &'a T,
+        alloc: Global,
+        d: usize,
+        s: &mut SerJsonState,
+    ) -> Result<(), AllocError> {
+        let content = InBrackets {
+            part: Part { of: refs },
+        };
+        write_variant(alloc, name, &content, d, s)
+    }
+}
+
+// ---- named fields
+
+impl<A: JsonShape, B: JsonShape> JsonContent for (A, B) {
+    ghost content = { λ n. fields_content (⟦<(A, B) as JsonShape>⟧.format n) };
+}
+
+impl<A: Fields, B: Fields> ReadContent for (A, B) {
+    fn stands_alone(&self) -> bool {
+        false
+    }
+
+    fn read(
+        &self,
+        alloc: Global,
+        state: &mut DeJsonState,
+        input: &mut Chars<'_>,
+    ) -> Result<(A::Values, B::Values), DeJsonErr> {
+        read_fields_content(self, alloc, state, input)
+    }
+}
+
+impl<'a, A: JsonRefs<'a>, B: JsonRefs<'a>> WriteContent<'a> for (A, B) {
+    type Parts = (A::Parts, B::Parts);
+
+    fn write(
+        &self,
+        name: &str,
+        refs: (A::Refs, B::Refs),
+        alloc: Global,
+        d: usize,
+        s: &mut SerJsonState,
+    ) -> Result<(), AllocError> {
+        let parts = self.parts(refs);
+        write_fields_variant(alloc, name, &parts, d, s)
+    }
+}

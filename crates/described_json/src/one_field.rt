@@ -1,0 +1,82 @@
+// A variant with one named field, in JSON.
+ghost use Rattle.described_json.specs.Contents.{fields_content};
+
+use crate::contents::{JsonContent, ReadContent, WriteContent};
+use crate::fields::JsonRefs;
+use described::{Optional, Required};
+use json_records::{
+    JsonShape, OptionalPart, RequiredPart, read_fields_content, write_fields_variant,
+};
+use nano_json::{DeJson, DeJsonErr, DeJsonState, JsonFormat, SerJson, SerJsonState};
+use std::alloc::{AllocError, Global};
+use std::str::Chars;
+
+impl<T: JsonFormat + Drop> JsonContent for Required<T> {
+    ghost content = { λ n. fields_content (⟦<Required<T> as JsonShape>⟧.format n) };
+}
+
+impl<T: DeJson> ReadContent for Required<T> {
+    fn stands_alone(&self) -> bool {
+        false
+    }
+
+    fn read(
+        &self,
+        alloc: Global,
+        state: &mut DeJsonState,
+        input: &mut Chars<'_>,
+    ) -> Result<T, DeJsonErr> {
+        read_fields_content(self, alloc, state, input)
+    }
+}
+
+impl<'a, T: SerJson + Drop + 'a> WriteContent<'a> for Required<T> {
+    type Parts = RequiredPart<'a, T>;
+
+    fn write(
+        &self,
+        name: &str,
+        refs: &'a T,
+        alloc: Global,
+        d: usize,
+        s: &mut SerJsonState,
+    ) -> Result<(), AllocError> {
+        let part = self.parts(refs);
+        write_fields_variant(alloc, name, &part, d, s)
+    }
+}
+
+impl<T: JsonFormat + Drop> JsonContent for Optional<T> {
+    ghost content = { λ n. fields_content (⟦<Optional<T> as JsonShape>⟧.format n) };
+}
+
+impl<T: DeJson> ReadContent for Optional<T> {
+    fn stands_alone(&self) -> bool {
+        false
+    }
+
+    fn read(
+        &self,
+        alloc: Global,
+        state: &mut DeJsonState,
+        input: &mut Chars<'_>,
+    ) -> Result<Option<T>, DeJsonErr> {
+        read_fields_content(self, alloc, state, input)
+    }
+}
+
+impl<'a, T: SerJson + Drop + 'a> WriteContent<'a> for Optional<T> {
+    type Parts = OptionalPart<'a, T>;
+
+    fn write(
+        &self,
+        name: &str,
+        refs: &'a Option<T>,
+        alloc: Global,
+        d: usize,
+        s: &mut SerJsonState,
+    ) -> Result<(), AllocError> {
+        let part = self.parts(refs);
+        write_fields_variant(alloc, name, &part, d, s)
+    }
+}
