@@ -1,0 +1,13 @@
+//! Own types in bytes, in JSON and in RON, each described once: the models of how an own type is
+//! written. Each file is one that a user copies.
+#![tactic(auto)]
+
+mod holder;
+mod item;
+mod plain;
+mod test;
+
+pub use holder::Holder;
+pub use item::Item;
+pub use plain::Plain;
+pub use test::Test;

@@ -1,0 +1,112 @@
+// A struct that is transparent: in every format it is what its one field is.
+ghost use Rattle.std.specs.Prelude.{refl};
+ghost use Rattle.nano_value.specs.Ties.{tied};
+ghost use Rattle.nano_bin.specs.Format.{format_as};
+ghost use Rattle.nano_json.specs.Format.{format_as as json_as};
+ghost use Rattle.nano_ron.specs.Format.{format_as as ron_as};
+
+use nano_bin::{BinFormat, BothBin, DeBin, DeBinErr, SerBin};
+use nano_json::{BothJson, DeJson, DeJsonErr, DeJsonState, JsonFormat, SerJson, SerJsonState};
+use nano_ron::{BothRon, DeRon, DeRonErr, DeRonState, RonFormat, SerRon, SerRonState};
+use nano_value::Value;
+use std::alloc::{AllocError, Global};
+use std::str::Chars;
+
+/// A number with a type of its own.
+#[derive(PartialEq, Debug, Drop)]
+pub struct Plain(pub i32);
+
+impl Value for Plain {
+    ghost means = { λ p. ⟦<i32 as Value>⟧.means p.0 };
+
+    ghost legal = { ⟦<i32 as Value>⟧.legal };
+
+    fn known(&self) {
+        self.0.known();
+    }
+}
+
+// ---- bytes
+
+impl BinFormat for Plain {
+    ghost bin = { format_as (λ p. p.0) ⟦<i32 as BinFormat>⟧.bin };
+
+    ghost ties = { tied };
+}
+
+impl SerBin for Plain {
+    fn ser_bin(&self, alloc: Global, output: &mut Vec<u8>) -> Result<(), AllocError> {
+        self.0.ser_bin(alloc, output)
+    }
+}
+
+impl DeBin for Plain {
+    ghost is_read = { refl };
+
+    fn de_bin(alloc: Global, offset: &mut usize, bytes: &[u8]) -> Result<Plain, DeBinErr> {
+        match i32::de_bin(alloc, offset, bytes) {
+            Ok(number) => Ok(Plain(number)),
+            Err(error) => Err(error),
+        }
+    }
+}
+
+impl BothBin for Plain {}
+
+// ---- JSON
+
+impl JsonFormat for Plain {
+    ghost json = { json_as (λ p. p.0) ⟦<i32 as JsonFormat>⟧.json };
+
+    ghost ties = { tied };
+}
+
+impl SerJson for Plain {
+    fn ser_json(&self, alloc: Global, d: usize, s: &mut SerJsonState) -> Result<(), AllocError> {
+        self.0.ser_json(alloc, d, s)
+    }
+}
+
+impl DeJson for Plain {
+    fn de_json(
+        alloc: Global,
+        state: &mut DeJsonState,
+        input: &mut Chars<'_>,
+    ) -> Result<Plain, DeJsonErr> {
+        match i32::de_json(alloc, state, input) {
+            Ok(read) => Ok(Plain(read)),
+            Err(error) => Err(error),
+        }
+    }
+}
+
+impl BothJson for Plain {}
+
+// ---- RON
+
+impl RonFormat for Plain {
+    ghost ron = { ron_as (λ p. p.0) ⟦<i32 as RonFormat>⟧.ron };
+
+    ghost ties = { tied };
+}
+
+impl SerRon for Plain {
+    fn ser_ron(&self, alloc: Global, d: usize, s: &mut SerRonState) -> Result<(), AllocError> {
+        self.0.ser_ron(alloc, d, s)
+    }
+}
+
+impl DeRon for Plain {
+    fn de_ron(
+        alloc: Global,
+        state: &mut DeRonState,
+        input: &mut Chars<'_>,
+    ) -> Result<Plain, DeRonErr> {
+        match i32::de_ron(alloc, state, input) {
+            Ok(read) => Ok(Plain(read)),
+            Err(error) => Err(error),
+        }
+    }
+}
+
+impl BothRon for Plain {}
