@@ -5,5 +5,6 @@
 mod fields;
 mod record;
 
-pub use fields::{RonFields, RonRefs, RonShape};
+pub use fields::RonRefs;
 pub use record::{read_record, write_record};
+pub use ron_records::{Fields as RonFields, RonShape};
