@@ -33,7 +33,7 @@ impl Label for Name {
     }
 }
 
-/// A variant, by its name and its content: `Alone`, parts as a `Tupled`, or named fields.
+/// A variant, by its name and its content: `Alone`, a `OnePart`, a `Tupled`, or named fields.
 #[derive(Drop)]
 pub struct NamedVariant<N, S> {
     /// Its name.
@@ -45,15 +45,19 @@ pub struct NamedVariant<N, S> {
 /// A variant whose name stands in the program.
 pub type Variant<S> = NamedVariant<Name, S>;
 
+/// A name that stands in the program.
+pub fn called(text: &'static str) -> Name
+    ensures { result.text.now ≡ text.now }
+{
+    Name { text }
+}
+
 /// A variant of this name and content.
-pub fn named<S>(name: &'static str, content: S) -> Variant<S>
-    ensures name { result.name.text.now ≡ name.now }
+pub fn variant<N, S>(name: N, content: S) -> NamedVariant<N, S>
+    ensures name { result.name ≡ name }
     ensures content { result.content ≡ content }
 {
-    NamedVariant {
-        name: Name { text: name },
-        content,
-    }
+    NamedVariant { name, content }
 }
 
 /// The content of the first of some variants, or of one of the later ones.

@@ -1,5 +1,5 @@
-// What a variant holds: nothing, parts one behind the other, or named fields.
-ghost use Rattle.std.specs.Prelude.{◌≡◌, []};
+// What a variant holds: nothing, one part, a tuple of parts, or named fields.
+ghost use Rattle.std.specs.Prelude.{[]};
 ghost use Rattle.nano_value.specs.Meaning.{nothing};
 ghost use Rattle.nano_value.specs.Legal.{LegalUnit};
 ghost use Rattle.described.specs.Names.{name};
@@ -12,23 +12,18 @@ use std::marker::PhantomData;
 #[derive(Drop)]
 pub struct Alone {}
 
-/// A part that has no name.
+/// One part without a name.
 #[derive(Drop)]
-pub struct Unnamed<T> {
+pub struct OnePart<T> {
     /// The type of its value.
     pub of: PhantomData<T>,
 }
 
-/// Parts without names, one behind the other.
+/// Two, three or four parts without names, one behind the other: `P` is their tuple.
 #[derive(Drop)]
 pub struct Tupled<P> {
-    /// The parts.
-    pub parts: P,
-}
-
-/// A part that has no name.
-pub fn part<T>() -> Unnamed<T> {
-    Unnamed { of: PhantomData }
+    /// The type of the tuple.
+    pub of: PhantomData<P>,
 }
 
 /// No content.
@@ -36,11 +31,14 @@ pub fn no_content() -> Alone {
     Alone {}
 }
 
-/// Parts without names, one behind the other.
-pub fn tuple<P>(parts: P) -> Tupled<P>
-    ensures { result.parts ≡ parts }
-{
-    Tupled { parts }
+/// One part without a name.
+pub fn one_part<T>() -> OnePart<T> {
+    OnePart { of: PhantomData }
+}
+
+/// Two, three or four parts without names, one behind the other.
+pub fn tuple<P>() -> Tupled<P> {
+    Tupled { of: PhantomData }
 }
 
 impl Shape for Alone {
@@ -61,7 +59,7 @@ impl<'a> Borrowed<'a> for Alone {
     fn known(_refs: &()) {}
 }
 
-impl<T: Value + Drop> Shape for Unnamed<T> {
+impl<T: Value + Drop> Shape for OnePart<T> {
     type Values = T;
 
     ghost names_of = { λ f. name [] };
@@ -71,7 +69,7 @@ impl<T: Value + Drop> Shape for Unnamed<T> {
     ghost legal = { T.legal };
 }
 
-impl<'a, T: Value + Drop + 'a> Borrowed<'a> for Unnamed<T> {
+impl<'a, T: Value + Drop + 'a> Borrowed<'a> for OnePart<T> {
     type Refs = &'a T;
 
     ghost values = { λ r. r.now };
@@ -81,22 +79,58 @@ impl<'a, T: Value + Drop + 'a> Borrowed<'a> for Unnamed<T> {
     }
 }
 
-impl<P: Shape> Shape for Tupled<P> {
-    type Values = P::Values;
+impl<P: Value + Drop> Shape for Tupled<P> {
+    type Values = P;
 
-    ghost names_of = { λ f. P.names_of f.parts };
+    ghost names_of = { λ f. name [] };
 
     ghost means = { P.means };
 
     ghost legal = { P.legal };
 }
 
-impl<'a, P: Borrowed<'a>> Borrowed<'a> for Tupled<P> {
-    type Refs = P::Refs;
+impl<'a, A: Value + Drop + 'a, B: Value + Drop + 'a> Borrowed<'a> for Tupled<(A, B)> {
+    type Refs = (&'a A, &'a B);
 
-    ghost values = { P.values };
+    ghost values = { λ r. (r.0.now, r.1.now) };
 
-    fn known(refs: &P::Refs) {
-        P::known(refs);
+    #[tactic(auto, using(nano_value::specs::Legal::pair_is_legal))]
+    fn known(refs: &(&'a A, &'a B)) {
+        refs.0.known();
+        refs.1.known();
+    }
+}
+
+impl<'a, A: Value + Drop + 'a, B: Value + Drop + 'a, C: Value + Drop + 'a> Borrowed<'a>
+    for Tupled<(A, B, C)> {
+    type Refs = (&'a A, &'a B, &'a C);
+
+    ghost values = { λ r. (r.0.now, r.1.now, r.2.now) };
+
+    #[tactic(auto, using(nano_value::specs::Legal::pair_is_legal))]
+    fn known(refs: &(&'a A, &'a B, &'a C)) {
+        refs.0.known();
+        refs.1.known();
+        refs.2.known();
+    }
+}
+
+impl<
+    'a,
+    A: Value + Drop + 'a,
+    B: Value + Drop + 'a,
+    C: Value + Drop + 'a,
+    D: Value + Drop + 'a,
+> Borrowed<'a> for Tupled<(A, B, C, D)> {
+    type Refs = (&'a A, &'a B, &'a C, &'a D);
+
+    ghost values = { λ r. (r.0.now, r.1.now, r.2.now, r.3.now) };
+
+    #[tactic(auto, using(nano_value::specs::Legal::pair_is_legal))]
+    fn known(refs: &(&'a A, &'a B, &'a C, &'a D)) {
+        refs.0.known();
+        refs.1.known();
+        refs.2.known();
+        refs.3.known();
     }
 }

@@ -12,8 +12,10 @@ mod record;
 mod rows;
 
 pub use choice::{Choice, ChoiceParts, known_choice};
-pub use choices::{BorrowedChoices, Choices, Either, Label, Name, NamedVariant, Variant, named};
-pub use contents::{Alone, Tupled, Unnamed, no_content, part, tuple};
+pub use choices::{
+    BorrowedChoices, Choices, Either, Label, Name, NamedVariant, Variant, called, variant,
+};
+pub use contents::{Alone, OnePart, Tupled, no_content, one_part, tuple};
 pub use fields::{Borrowed, Optional, Required, Shape, may, must};
 pub use record::{Parts, Record, known_record};
 pub use rows::{

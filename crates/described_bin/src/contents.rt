@@ -2,8 +2,8 @@
 ghost use Rattle.nano_bin.specs.Bools.{unit_format};
 
 use crate::fields::{BinFields, BinRefs, BinShape};
-use described::{Alone, Tupled, Unnamed};
-use nano_bin::{BinFormat, DeBin, DeBinErr, SerBin};
+use described::{Alone, OnePart, Tupled};
+use nano_bin::{BinFormat, DeBin, DeBinErr, SerBin, append_part};
 use std::alloc::{AllocError, Global};
 
 impl BinShape for Alone {
@@ -22,34 +22,65 @@ impl<'a> BinRefs<'a> for Alone {
     }
 }
 
-impl<T: BinFormat + Drop> BinShape for Unnamed<T> {
+impl<T: BinFormat + Drop> BinShape for OnePart<T> {
     ghost format = { T.bin };
 }
 
-impl<T: DeBin> BinFields for Unnamed<T> {
+impl<T: DeBin> BinFields for OnePart<T> {
     fn read(alloc: Global, offset: &mut usize, bytes: &[u8]) -> Result<T, DeBinErr> {
         T::de_bin(alloc, offset, bytes)
     }
 }
 
-impl<'a, T: SerBin + Drop + 'a> BinRefs<'a> for Unnamed<T> {
+impl<'a, T: SerBin + Drop + 'a> BinRefs<'a> for OnePart<T> {
     fn write(refs: &&'a T, alloc: Global, output: &mut Vec<u8>) -> Result<(), AllocError> {
         refs.ser_bin(alloc, output)
     }
 }
 
-impl<P: BinShape> BinShape for Tupled<P> {
-    ghost format = { P.format };
+impl<P: BinFormat + Drop> BinShape for Tupled<P> {
+    ghost format = { P.bin };
 }
 
-impl<P: BinFields> BinFields for Tupled<P> {
-    fn read(alloc: Global, offset: &mut usize, bytes: &[u8]) -> Result<P::Values, DeBinErr> {
-        P::read(alloc, offset, bytes)
+impl<P: DeBin> BinFields for Tupled<P> {
+    fn read(alloc: Global, offset: &mut usize, bytes: &[u8]) -> Result<P, DeBinErr> {
+        P::de_bin(alloc, offset, bytes)
     }
 }
 
-impl<'a, P: BinRefs<'a>> BinRefs<'a> for Tupled<P> {
-    fn write(refs: &P::Refs, alloc: Global, output: &mut Vec<u8>) -> Result<(), AllocError> {
-        P::write(refs, alloc, output)
+impl<'a, A: SerBin + Drop + 'a, B: SerBin + Drop + 'a> BinRefs<'a> for Tupled<(A, B)> {
+    fn write(refs: &(&'a A, &'a B), alloc: Global, output: &mut Vec<u8>) -> Result<(), AllocError> {
+        let start = output.len();
+        refs.0.ser_bin(alloc, output)?;
+        append_part(alloc, refs.1, output, start)
+    }
+}
+
+impl<'a, A: SerBin + Drop + 'a, B: SerBin + Drop + 'a, C: SerBin + Drop + 'a> BinRefs<'a>
+    for Tupled<(A, B, C)> {
+    fn write(
+        refs: &(&'a A, &'a B, &'a C),
+        alloc: Global,
+        output: &mut Vec<u8>,
+    ) -> Result<(), AllocError> {
+        let start = output.len();
+        refs.0.ser_bin(alloc, output)?;
+        append_part(alloc, refs.1, output, start)?;
+        append_part(alloc, refs.2, output, start)
+    }
+}
+
+impl<'a, A: SerBin + Drop + 'a, B: SerBin + Drop + 'a, C: SerBin + Drop + 'a, D: SerBin + Drop + 'a>
+    BinRefs<'a> for Tupled<(A, B, C, D)> {
+    fn write(
+        refs: &(&'a A, &'a B, &'a C, &'a D),
+        alloc: Global,
+        output: &mut Vec<u8>,
+    ) -> Result<(), AllocError> {
+        let start = output.len();
+        refs.0.ser_bin(alloc, output)?;
+        append_part(alloc, refs.1, output, start)?;
+        append_part(alloc, refs.2, output, start)?;
+        append_part(alloc, refs.3, output, start)
     }
 }

@@ -10,10 +10,10 @@ ghost use Rattle.described.specs.Names.{Names};
 ghost use Rattle.described_json.specs.Choices.{Content, SpellsRest, stands_alone};
 ghost use Rattle.described_json.specs.Contents.{no_content, content_as, fields_content};
 
-use crate::fields::{JsonFields, JsonRefs, JsonShape};
+use crate::fields::JsonRefs;
 use described::{Alone, Borrowed, Shape, Tupled, Unnamed};
 use json_records::{
-    Part, read_content, read_fields_content, write_fields_variant, write_unit_variant,
+    Fields, JsonShape, Part, read_content, read_fields_content, write_fields_variant, write_unit_variant,
     write_variant,
 };
 use nano_json::{DeJson, DeJsonErr, DeJsonState, JsonFormat, SerJson, SerJsonState};
@@ -150,7 +150,7 @@ impl<A: JsonShape, B: JsonShape> JsonContent for (A, B) {
     ghost content = { λ n. fields_content (⟦<(A, B) as JsonShape>⟧.format n) };
 }
 
-impl<A: JsonFields, B: JsonFields> ReadContent for (A, B) {
+impl<A: Fields, B: Fields> ReadContent for (A, B) {
     fn stands_alone(&self) -> bool {
         false
     }
@@ -161,7 +161,7 @@ impl<A: JsonFields, B: JsonFields> ReadContent for (A, B) {
         state: &mut DeJsonState,
         input: &mut Chars<'_>,
     ) -> Result<(A::Values, B::Values), DeJsonErr> {
-        read_named_fields(self, alloc, state, input)
+        read_fields_content(self, alloc, state, input)
     }
 }
 
@@ -178,27 +178,5 @@ impl<'a, A: JsonRefs<'a>, B: JsonRefs<'a>> WriteContent<'a> for (A, B) {
     ) -> Result<(), AllocError> {
         let parts = self.parts(refs);
         write_fields_variant(alloc, name, &parts, d, s)
-    }
-}
-
-/// Reads named fields and the `}` behind them. Every refusal leaves the state at the end of the
-/// text.
-pub(crate) fn read_named_fields<F: JsonFields>(
-    fields: &F,
-    alloc: Global,
-    state: &mut DeJsonState,
-    input: &mut Chars<'_>,
-) -> Result<F::Values, DeJsonErr>
-    ensures fits { Reads (SpellsRest json_variants
-        (fields_content (F.format (F.names_of fields.now))).rest)
-        F.means (at state.old input.old) (at state.new input.new) result }
-    ensures refused { Refuses (SpellsRest json_variants
-        (fields_content (F.format (F.names_of fields.now))).rest) (at state.old input.old) result }
-    ensures ended { OnErr result (at state.new input.new ≡ ended) }
-{
-    let readers = fields.readers();
-    match read_fields_content(&readers, alloc, state, input) {
-        Ok(read) => Ok(F::values(read)),
-        Err(error) => Err(error),
     }
 }

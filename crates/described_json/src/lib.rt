@@ -13,5 +13,6 @@ mod record;
 pub use choice::{read_choice, write_choice};
 pub use choices::{JsonChoiceRefs, JsonChoices, JsonShapes};
 pub use contents::{JsonContent, ReadContent, WriteContent};
-pub use fields::{JsonFields, JsonRefs, JsonShape};
+pub use fields::JsonRefs;
+pub use json_records::{Fields as JsonFields, JsonShape};
 pub use record::{read_record, write_record};

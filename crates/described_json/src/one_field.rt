@@ -1,10 +1,12 @@
 // A variant with one named field, in JSON.
 ghost use Rattle.described_json.specs.Contents.{fields_content};
 
-use crate::contents::{JsonContent, ReadContent, WriteContent, read_named_fields};
-use crate::fields::{JsonRefs, JsonShape};
+use crate::contents::{JsonContent, ReadContent, WriteContent};
+use crate::fields::JsonRefs;
 use described::{Optional, Required};
-use json_records::{OptionalPart, RequiredPart, write_fields_variant};
+use json_records::{
+    JsonShape, OptionalPart, RequiredPart, read_fields_content, write_fields_variant,
+};
 use nano_json::{DeJson, DeJsonErr, DeJsonState, JsonFormat, SerJson, SerJsonState};
 use std::alloc::{AllocError, Global};
 use std::str::Chars;
@@ -24,7 +26,7 @@ impl<T: DeJson> ReadContent for Required<T> {
         state: &mut DeJsonState,
         input: &mut Chars<'_>,
     ) -> Result<T, DeJsonErr> {
-        read_named_fields(self, alloc, state, input)
+        read_fields_content(self, alloc, state, input)
     }
 }
 
@@ -59,7 +61,7 @@ impl<T: DeJson> ReadContent for Optional<T> {
         state: &mut DeJsonState,
         input: &mut Chars<'_>,
     ) -> Result<Option<T>, DeJsonErr> {
-        read_named_fields(self, alloc, state, input)
+        read_fields_content(self, alloc, state, input)
     }
 }
 

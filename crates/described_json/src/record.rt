@@ -7,9 +7,9 @@ ghost use Rattle.text_fields.specs.FieldWriting.{fields_text};
 ghost use Rattle.json_records.specs.FieldReading.{fields_of};
 ghost use Rattle.json_records.specs.Fields.{json_fields};
 
-use crate::fields::{JsonFields, JsonRefs};
+use crate::fields::JsonRefs;
 use described::{Parts, Record};
-use json_records::{read_fields, write_fields};
+use json_records::{Fields, read_fields, write_fields};
 use nano_json::{DeJsonErr, DeJsonState, SerJsonState};
 use std::alloc::{AllocError, Global};
 use std::str::Chars;
@@ -24,7 +24,7 @@ pub fn read_record<R: Record>(
     input: &mut Chars<'_>,
 ) -> Result<R, DeJsonErr>
 where
-    R::Fields: JsonFields,
+    R::Fields: Fields,
     ensures fits { Reads (fields_of (R.Fields.format R.the_names).struct).spelled
         (λ value. R.Fields.Shape.means (R.view value))
         (at state.old input.old) (at state.new input.new) result }
@@ -32,9 +32,9 @@ where
         (at state.old input.old) result }
     ensures ended { OnErr result (at state.new input.new ≡ ended) }
 {
-    let fields = R::fields().readers();
+    let fields = R::fields();
     match read_fields(&fields, alloc, state, input) {
-        Ok(read) => Ok(R::make(<R::Fields as JsonFields>::values(read))),
+        Ok(values) => Ok(R::make(values)),
         Err(error) => Err(error),
     }
 }

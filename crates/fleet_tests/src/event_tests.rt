@@ -1,22 +1,18 @@
 // An enum in JSON: each of its variants written and read back, nested in others, and refused.
 use fleet::{Event, Holder};
-use nano_json::{BothJson, DeJson, DeJsonErr, SerJson};
-use std::alloc::Global;
+use nano_json::{BothJson, DeJson, SerJson};
+use std::alloc::{AllocError, Global};
 use std::process::Abort;
 use std::test::Fail;
 
-/// What is written of the value that a text is read as.
-fn again<T: BothJson>(alloc: Global, text: &str) -> Result<String, DeJsonErr> {
-    let value = T::deserialize_json(alloc, text)?;
-    nano_json::laws::written_text_is_cut_into_its_tokens(&value);
-    Ok(value.serialize_json(alloc)?)
-}
-
-/// What is written of the event that a text is read as, or what the refusal says.
-fn outcome<T: BothJson>(alloc: Global, text: &str) -> String {
-    match again::<T>(alloc, text) {
-        Ok(written) => written,
-        Err(error) => error.msg,
+/// What is written of the value that a text is read as, or what the refusal says.
+fn outcome<T: BothJson>(alloc: Global, text: &str) -> Result<String, AllocError> {
+    match T::deserialize_json(alloc, text) {
+        Ok(value) => {
+            nano_json::laws::written_text_is_cut_into_its_tokens(&value);
+            value.serialize_json(alloc)
+        }
+        Err(error) => Ok(error.msg),
     }
 }
 
@@ -47,7 +43,7 @@ fn events_by_name(rt: HostRuntime) -> Result<(), Fail> {
         ),
     ];
     for (text, expected) in rows {
-        let found = outcome::<Event>(rt.alloc(), text);
+        let found = outcome::<Event>(rt.alloc(), text)?;
         check(&rt, found.as_str(), expected, text);
     }
     Ok(())
@@ -56,7 +52,7 @@ fn events_by_name(rt: HostRuntime) -> Result<(), Fail> {
 #[test]
 fn events_in_others(rt: HostRuntime) -> Result<(), Fail> {
     let text = "[{\"x\":\"Stop\"},{\"x\":{\"Move\":[0,\"\"]}},null]";
-    let found = outcome::<Vec<Option<Holder<Event>>>>(rt.alloc(), text);
+    let found = outcome::<Vec<Option<Holder<Event>>>>(rt.alloc(), text)?;
     check(&rt, found.as_str(), text, text);
     Ok(())
 }

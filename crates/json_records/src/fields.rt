@@ -3,30 +3,31 @@
 ghost use Rattle.std.specs.Prelude.{◌≡◌, List, [], ◌∷◌, ◌++◌, true, false, IfOk, OnOk, IfErr};
 ghost use Rattle.std.specs.Prelude.{string_bytes};
 ghost use Rattle.nano_value.specs.Meaning.{Meaning};
-ghost use Rattle.json_records.specs.FieldReading.{Field, Struct, SpelledField, ReadsField};
+ghost use Rattle.text_fields.specs.FieldFormat.{FieldsFormat};
+ghost use Rattle.described.specs.Names.{Names};
+ghost use Rattle.json_records.specs.FieldReading.{Field, SpelledField, ReadsField};
+ghost use Rattle.json_records.specs.Fields.{json_fields};
 ghost use Rattle.nano_json.specs.Readers.{Refuses, Tells};
 ghost use Rattle.nano_json.specs.State.{at, pending};
 ghost use Rattle.nano_json.specs.Token.{IsStr};
 
+use described::Shape;
 use nano_json::{DeJsonErr, DeJsonState};
 use std::alloc::Global;
-use std::marker::PhantomData;
 use std::str::Chars;
+
+/// Fields with a place in JSON.
+pub trait JsonShape: Shape {
+    /// How they are written and read under these names.
+    ghost format: { Names → FieldsFormat json_fields Self.Values };
+}
 
 /// Named fields: one that must be there (`Required`), one that may be missing (`Optional`), or
 /// fields and more fields (a pair). Of a name that both of a pair know, the first has the values.
-pub trait Fields {
+/// Where an optional field is there, `null` is `None` too.
+pub trait Fields: JsonShape {
     /// What is read so far.
     type Slots: Drop;
-
-    /// The values of the fields, in nested pairs.
-    type Values: Drop;
-
-    /// What spells the fields.
-    ghost named: { Self → Struct };
-
-    /// What the values mean.
-    ghost means: { Self.Values → Meaning };
 
     /// The slots hold what is read of these fields of a text.
     ghost holds: { Self → Self.Slots → List Field → Type 0 };
@@ -37,7 +38,7 @@ pub trait Fields {
 
     /// Whether a field has this name. It takes no memory.
     fn knows(&self, name: &str) -> bool
-        ensures { result ≡ (named self.now).shape.knows name.now };
+        ensures { result ≡ (Self.format (Self.names_of self.now)).struct.shape.knows name.now };
 
     /// Reads the field whose name is pending, and puts its value in place of an earlier one.
     ///
@@ -51,11 +52,14 @@ pub trait Fields {
         input: &mut Chars<'_>,
     ) -> Result<(), DeJsonErr>
         requires text { IsStr (pending state.old) }
-        requires known { (named self.now).shape.knows (string_bytes state.old.strbuf) ≡ true }
-        ensures fits { OnOk result (ReadsField (named self.now).shape.takes
+        requires known { (Self.format (Self.names_of self.now)).struct.shape.knows
+            (string_bytes state.old.strbuf) ≡ true }
+        ensures fits { OnOk result (ReadsField
+            (Self.format (Self.names_of self.now)).struct.shape.takes
             (holds self.now slots.old) (holds self.now slots.new)
             (at state.old input.old) (at state.new input.new)) }
-        ensures refused { Refuses (SpelledField (named self.now).shape.takes)
+        ensures refused { Refuses
+            (SpelledField (Self.format (Self.names_of self.now)).struct.shape.takes)
             (at state.old input.old) result };
 
     /// The values that the slots hold. It is refused by `Key not found {name}` for the first field
@@ -65,32 +69,15 @@ pub trait Fields {
         slots: Self::Slots,
         alloc: Global,
         state: &DeJsonState,
-    ) -> Result<Self::Values, DeJsonErr>
+    ) -> Result<<Self as Shape>::Values, DeJsonErr>
         ensures all { IfOk result (λ values. (fs : List Field) → holds self.now slots fs
-            → (named self.now).shape.means fs (means values)) }
+            → (Self.format (Self.names_of self.now)).struct.shape.means fs (Self.means values)) }
         ensures missing { IfErr result (Tells ((fs : List Field) (m : Meaning)
-            → holds self.now slots fs → (named self.now).shape.means fs m → ⊥)) };
+            → holds self.now slots fs
+            → (Self.format (Self.names_of self.now)).struct.shape.means fs m → ⊥)) };
 
     /// A field whose name is not known changes nothing.
     ghost skips: { (fields : Self) (slots : Self.Slots) (fs : List Field) (f : Field)
-        → (named fields).shape.knows f.name ≡ false → holds fields slots fs
-        → holds fields slots (fs ++ f ∷ []) };
-}
-
-/// A field that must be there.
-#[derive(Drop)]
-pub struct Required<T> {
-    /// The name that it has in a text.
-    pub name: &'static str,
-    /// The type of its value.
-    pub of: PhantomData<T>,
-}
-
-/// A field that may be missing, and is `None` then. Where it is there, `null` is `None` too.
-#[derive(Drop)]
-pub struct Optional<T> {
-    /// The name that it has in a text.
-    pub name: &'static str,
-    /// The type of its value, without the `Option`.
-    pub of: PhantomData<T>,
+        → (Self.format (Self.names_of fields)).struct.shape.knows f.name ≡ false
+        → holds fields slots fs → holds fields slots (fs ++ f ∷ []) };
 }

@@ -2,22 +2,23 @@
 ghost use Rattle.std.specs.Option.{option_map};
 ghost use Rattle.nano_value.specs.Meaning.{optional};
 ghost use Rattle.text_fields.specs.Struct.{may_read};
+ghost use Rattle.described.specs.Names.{the_name};
+ghost use Rattle.json_records.specs.Fields.{may};
 ghost use Rattle.text_fields.specs.Slots.{optional_skips};
 
-use crate::fields::{Fields, Optional};
+use crate::fields::{Fields, JsonShape};
 use crate::named::read_named;
-use nano_json::{DeJson, DeJsonErr, DeJsonState};
+use described::Optional;
+use nano_json::{DeJson, DeJsonErr, DeJsonState, JsonFormat};
 use std::alloc::Global;
 use std::str::Chars;
 
+impl<T: JsonFormat + Drop> JsonShape for Optional<T> {
+    ghost format = { λ n. may (the_name n) T.json };
+}
+
 impl<T: DeJson> Fields for Optional<T> {
     type Slots = Option<T>;
-
-    type Values = Option<T>;
-
-    ghost named = { λ f. may_read f.name.now T.json.spelling };
-
-    ghost means = { λ value. optional (option_map T.means value) };
 
     ghost holds = { λ f slot fs. (may_read f.name.now T.json.spelling).shape.means fs
         (optional (option_map T.means slot)) };

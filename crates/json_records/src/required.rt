@@ -1,22 +1,22 @@
 // A field that must be there.
 ghost use Rattle.std.specs.Option.{option_map};
-ghost use Rattle.text_fields.specs.Struct.{must_read};
+ghost use Rattle.described.specs.Names.{the_name};
+ghost use Rattle.json_records.specs.Fields.{must};
 ghost use Rattle.text_fields.specs.Slots.{Holds, holds_skips};
 
-use crate::fields::{Fields, Required};
+use crate::fields::{Fields, JsonShape};
 use crate::named::read_named;
-use nano_json::{DeJson, DeJsonErr, DeJsonState};
+use described::Required;
+use nano_json::{DeJson, DeJsonErr, DeJsonState, JsonFormat};
 use std::alloc::Global;
 use std::str::Chars;
 
+impl<T: JsonFormat + Drop> JsonShape for Required<T> {
+    ghost format = { λ n. must (the_name n) T.json };
+}
+
 impl<T: DeJson> Fields for Required<T> {
     type Slots = Option<T>;
-
-    type Values = T;
-
-    ghost named = { λ f. must_read f.name.now T.json.spelling };
-
-    ghost means = { T.means };
 
     ghost holds = { λ f slot. Holds f.name.now T.json.spelling.spelled (option_map T.means slot) };
 

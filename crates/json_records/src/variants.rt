@@ -145,9 +145,9 @@ pub fn read_fields_content<F: Fields>(
     state: &mut DeJsonState,
     input: &mut Chars<'_>,
 ) -> Result<F::Values, DeJsonErr>
-    ensures fits { Reads (Closed (fields_of (F.named fields.now)).spelled) F.means
+    ensures fits { Reads (Closed (fields_of (F.format (F.names_of fields.now)).struct).spelled) F.means
         (at state.old input.old) (at state.new input.new) result }
-    ensures refused { Refuses (Closed (fields_of (F.named fields.now)).spelled)
+    ensures refused { Refuses (Closed (fields_of (F.format (F.names_of fields.now)).struct).spelled)
         (at state.old input.old) result }
     ensures ended { OnErr result (at state.new input.new ≡ ended) }
 {

@@ -14,7 +14,7 @@ use Rattle.json_records.proofs.read.read_any.Goals as goal
 
 pub returns-then-knows-clause-fits : goal.returns-then-knows-clause-fits
 returns-then-knows-clause-fits g c =
-    let shape = (g.F.Fields.named c.args.fields.now).shape in
+    let shape = (g.F.JsonShape.format (g.F.Shape.names_of c.args.fields.now)).struct.shape in
     let name = pending_name c.args.state.now c.requires in
     let known = ap shape.knows (sym c.as_str.ensures.value) ∙ sym c.if-knows.ensures in
     let bytes = string_bytes c.args.state.now.strbuf in
@@ -25,7 +25,7 @@ returns-then-knows-clause-fits g c =
 
 pub returns-then-knows-clause-refused : goal.returns-then-knows-clause-refused
 returns-then-knows-clause-refused g c =
-    let shape = (g.F.Fields.named c.args.fields.now).shape in
+    let shape = (g.F.JsonShape.format (g.F.Shape.names_of c.args.fields.now)).struct.shape in
     let name = pending_name c.args.state.now c.requires in
     let known = ap shape.knows (sym c.as_str.ensures.value) ∙ sym c.if-knows.ensures in
     let bytes = string_bytes c.args.state.now.strbuf in
@@ -37,7 +37,7 @@ returns-then-knows-clause-refused g c =
 pub returns-in_err-next_colon-clause-refused : goal.returns-in_err-next_colon-clause-refused
 returns-in_err-next_colon-clause-refused g c =
     let p = err_from_is_err_and c.from_residual.result c.from_residual.ensures.1 in
-    let shape = (g.F.Fields.named c.args.fields.now).shape in
+    let shape = (g.F.JsonShape.format (g.F.Shape.names_of c.args.fields.now)).struct.shape in
     let n = string_bytes c.args.state.now.strbuf in
     let start = at c.args.state.now c.args.input.now in
     let name = pending_name c.args.state.now c.requires in
@@ -56,7 +56,7 @@ returns-in_err-next_colon-clause-refused g c =
 
 pub returns-clause-fits : goal.returns-clause-fits
 returns-clause-fits g c =
-    let shape = (g.F.Fields.named c.args.fields.now).shape in
+    let shape = (g.F.JsonShape.format (g.F.Shape.names_of c.args.fields.now)).struct.shape in
     let n = string_bytes c.args.state.now.strbuf in
     let name = pending_name c.args.state.now c.requires in
     let unknown = ap shape.knows (sym c.as_str.ensures.value) ∙ sym c.if-knows.ensures in
@@ -73,7 +73,7 @@ returns-clause-fits g c =
 
 pub returns-clause-refused : goal.returns-clause-refused
 returns-clause-refused g c =
-    let shape = (g.F.Fields.named c.args.fields.now).shape in
+    let shape = (g.F.JsonShape.format (g.F.Shape.names_of c.args.fields.now)).struct.shape in
     let n = string_bytes c.args.state.now.strbuf in
     let start = at c.args.state.now c.args.input.now in
     let behind = at c.next_colon.new.self c.next_colon.new.i in
