@@ -1,18 +1,15 @@
 -- What a variant holds in RON.
-use Rattle.std.specs.Prelude.{◌≡◌, ◌&&◌, true, chars, refl}
+use Rattle.std.specs.Prelude.{ℕ, ◌&&◌, true, chars, refl}
 use Rattle.std.proofs.lemmas.Bool.{and_parts}
-use Rattle.text_values.specs.Pairs.{next_format}
-use Rattle.text_values.specs.Tuples.{part_style}
 use Rattle.text_fields.specs.FieldFormat.{FieldsFormat}
 use Rattle.text_fields.specs.FieldWriting.{fields_text}
 use Rattle.text_fields.specs.Names.{are_distinct}
-use Rattle.ron_tokens.specs.Ron.{paren_brackets}
-use Rattle.ron_tokens.specs.Styles.{tuple_style}
 use Rattle.nano_ron.specs.Format.{Format}
 use Rattle.ron_records.specs.FieldReading.{fields_of}
 use Rattle.ron_records.specs.Fields.{ron_fields, word_names, fields_format}
 use Rattle.ron_records.specs.Names.{are_names}
-use Rattle.ron_records.specs.Variants.{ron_variants, content_text, body, single_format}
+use Rattle.ron_records.specs.Variants.{ron_variants, content_text, body}
+use Rattle.ron_records.specs.Variants.{InParentheses}
 use Rattle.described_text.specs.Choices.{no_more, more, Content, alone_placed, body_placed}
 
 -- no content: nothing stands behind the name
@@ -24,20 +21,15 @@ no_content = record {
   placed = λ _. alone_placed ron_variants;
 }
 
--- parts, and more parts, with a comma between them
-abbrev pub also_parts : {A B : Type 0} → Format A → Format B → Format (A × B)
-also_parts f h = next_format (part_style tuple_style) paren_brackets.divides f h
-
--- parts between parentheses
-abbrev pub tuple_content : {A : Type 0} → Format A → Content ron_variants A
-tuple_content f =
-    let all = single_format f in
-    record {
-      rest = more all.spelling;
-      text = λ name d x. content_text name (all.writing.text d x);
-      good = true;
-      placed = λ _. body_placed ron_variants (body all (λ x d. refl));
-    }
+-- content of this format, which is written between parentheses, as `λ x d. refl` shows of a tuple
+abbrev pub content_as : {A : Type 0} → (f : Format A)
+    → ((x : A) (d : ℕ) → InParentheses (f.writing.text d x)) → Content ron_variants A
+content_as f fits = record {
+  rest = more f.spelling;
+  text = λ name d x. content_text name (f.writing.text d x);
+  good = true;
+  placed = λ _. body_placed ron_variants (body f fits);
+}
 
 -- named fields, of which each name is a word but `true` and `false`, and none stands twice
 abbrev pub fields_content : {A : Type 0} → FieldsFormat ron_fields A → Content ron_variants A

@@ -6,12 +6,10 @@ ghost use Rattle.nano_ron.specs.State.{at, ended};
 ghost use Rattle.ron_records.specs.Variants.{ron_variants};
 ghost use Rattle.described.specs.Names.{Names};
 ghost use Rattle.described_text.specs.Choices.{Content, SpellsRest, stands_alone};
-ghost use Rattle.described_ron.specs.Contents.{no_content, tuple_content, fields_content};
+ghost use Rattle.described_ron.specs.Contents.{no_content, fields_content};
 
 use crate::fields::RonRefs;
-use crate::parts::{ReadParts, RonParts, WriteParts};
-use crate::tupled::{read_tupled, write_tupled};
-use described::{Alone, Borrowed, Shape, Tupled};
+use described::{Alone, Borrowed, Shape};
 use nano_ron::{DeRonErr, DeRonState, SerRonState};
 use ron_records::{Fields, RonShape, read_fields, write_fields_variant, write_unit_variant};
 use std::alloc::{AllocError, Global};
@@ -49,6 +47,9 @@ pub trait ReadContent: RonContent {
 
 /// The content of a variant that is written as RON.
 pub trait WriteContent<'a>: RonContent + Borrowed<'a> {
+    /// What is written of it: its parts by reference, with their names where they have names.
+    type Parts: Drop;
+
     /// Appends the variant of this name with the content at level `d`. A refused write leaves
     /// `s.out` as it was.
     fn write(
@@ -86,6 +87,8 @@ impl ReadContent for Alone {
 }
 
 impl<'a> WriteContent<'a> for Alone {
+    type Parts = ();
+
     fn write(
         &self,
         name: &str,
@@ -95,40 +98,6 @@ impl<'a> WriteContent<'a> for Alone {
         s: &mut SerRonState,
     ) -> Result<(), AllocError> {
         write_unit_variant(name, s)
-    }
-}
-
-// ---- parts
-
-impl<P: RonParts> RonContent for Tupled<P> {
-    ghost content = { λ n. tuple_content P.parts };
-}
-
-impl<P: ReadParts> ReadContent for Tupled<P> {
-    fn stands_alone(&self) -> bool {
-        false
-    }
-
-    fn read(
-        &self,
-        alloc: Global,
-        state: &mut DeRonState,
-        input: &mut Chars<'_>,
-    ) -> Result<P::Values, DeRonErr> {
-        read_tupled::<P>(alloc, state, input)
-    }
-}
-
-impl<'a, P: WriteParts<'a>> WriteContent<'a> for Tupled<P> {
-    fn write(
-        &self,
-        name: &str,
-        refs: P::Refs,
-        alloc: Global,
-        d: usize,
-        s: &mut SerRonState,
-    ) -> Result<(), AllocError> {
-        write_tupled::<P>(name, refs, alloc, d, s)
     }
 }
 
@@ -154,6 +123,8 @@ impl<A: Fields, B: Fields> ReadContent for (A, B) {
 }
 
 impl<'a, A: RonRefs<'a>, B: RonRefs<'a>> WriteContent<'a> for (A, B) {
+    type Parts = (A::Parts, B::Parts);
+
     fn write(
         &self,
         name: &str,

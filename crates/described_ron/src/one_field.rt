@@ -1,11 +1,11 @@
 // A variant with one named field, in RON.
 ghost use Rattle.described_ron.specs.Contents.{fields_content};
 
-use crate::contents::{RonContent, ReadContent, WriteContent, read_named_fields};
+use crate::contents::{ReadContent, RonContent, WriteContent, read_named_fields};
 use crate::fields::RonRefs;
 use described::{Optional, Required};
-use ron_records::{RonShape, write_fields_variant};
 use nano_ron::{DeRon, DeRonErr, DeRonState, RonFormat, SerRon, SerRonState};
+use ron_records::{OptionalPart, RequiredPart, RonShape, write_fields_variant};
 use std::alloc::{AllocError, Global};
 use std::str::Chars;
 
@@ -29,6 +29,8 @@ impl<T: DeRon> ReadContent for Required<T> {
 }
 
 impl<'a, T: SerRon + Drop + 'a> WriteContent<'a> for Required<T> {
+    type Parts = RequiredPart<'a, T>;
+
     fn write(
         &self,
         name: &str,
@@ -62,6 +64,8 @@ impl<T: DeRon> ReadContent for Optional<T> {
 }
 
 impl<'a, T: SerRon + Drop + 'a> WriteContent<'a> for Optional<T> {
+    type Parts = OptionalPart<'a, T>;
+
     fn write(
         &self,
         name: &str,
