@@ -70,8 +70,13 @@ impl<'a, A: SerBin + Drop + 'a, B: SerBin + Drop + 'a, C: SerBin + Drop + 'a> Bi
     }
 }
 
-impl<'a, A: SerBin + Drop + 'a, B: SerBin + Drop + 'a, C: SerBin + Drop + 'a, D: SerBin + Drop + 'a>
-    BinRefs<'a> for Tupled<(A, B, C, D)> {
+impl<
+    'a,
+    A: SerBin + Drop + 'a,
+    B: SerBin + Drop + 'a,
+    C: SerBin + Drop + 'a,
+    D: SerBin + Drop + 'a,
+> BinRefs<'a> for Tupled<(A, B, C, D)> {
     fn write(
         refs: &(&'a A, &'a B, &'a C, &'a D),
         alloc: Global,

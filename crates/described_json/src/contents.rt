@@ -1,20 +1,21 @@
-// What a variant holds, in JSON: nothing, a tuple between square brackets, or named fields between
+// What a variant holds, in JSON: nothing, one part between square brackets, or named fields between
 // curly ones.
 ghost use Rattle.std.specs.Prelude.{◌≡◌, OnOk, OnErr};
 ghost use Rattle.nano_text.specs.Outcomes.{Appends, Stays};
 ghost use Rattle.nano_json.specs.Readers.{Reads, Refuses};
 ghost use Rattle.nano_json.specs.State.{at, ended};
-ghost use Rattle.nano_json.specs.Tuples.{pair_format};
+ghost use Rattle.json_records.specs.Formats.{single_format};
 ghost use Rattle.json_records.specs.Variants.{json_variants};
 ghost use Rattle.described.specs.Names.{Names};
 ghost use Rattle.described_json.specs.Choices.{Content, SpellsRest, stands_alone};
 ghost use Rattle.described_json.specs.Contents.{no_content, content_as, fields_content};
 
+use crate::brackets::InBrackets;
 use crate::fields::JsonRefs;
-use described::{Alone, Borrowed, Shape, Tupled, Unnamed};
+use described::{Alone, Borrowed, OnePart, Shape};
 use json_records::{
-    Fields, JsonShape, Part, read_content, read_fields_content, write_fields_variant, write_unit_variant,
-    write_variant,
+    Fields, JsonShape, Part, read_content, read_fields_content, write_fields_variant,
+    write_unit_variant, write_variant,
 };
 use nano_json::{DeJson, DeJsonErr, DeJsonState, JsonFormat, SerJson, SerJsonState};
 use std::alloc::{AllocError, Global};
@@ -106,13 +107,13 @@ impl<'a> WriteContent<'a> for Alone {
     }
 }
 
-// ---- two parts
+// ---- one part
 
-impl<A: JsonFormat + Drop, B: JsonFormat + Drop> JsonContent for Tupled<(Unnamed<A>, Unnamed<B>)> {
-    ghost content = { λ n. content_as (pair_format A.json B.json) };
+impl<T: JsonFormat + Drop> JsonContent for OnePart<T> {
+    ghost content = { λ n. content_as (single_format T.json) };
 }
 
-impl<A: DeJson, B: DeJson> ReadContent for Tupled<(Unnamed<A>, Unnamed<B>)> {
+impl<T: DeJson> ReadContent for OnePart<T> {
     fn stands_alone(&self) -> bool {
         false
     }
@@ -122,25 +123,29 @@ impl<A: DeJson, B: DeJson> ReadContent for Tupled<(Unnamed<A>, Unnamed<B>)> {
         alloc: Global,
         state: &mut DeJsonState,
         input: &mut Chars<'_>,
-    ) -> Result<(A, B), DeJsonErr> {
-        read_content(alloc, state, input)
+    ) -> Result<T, DeJsonErr> {
+        match read_content::<InBrackets<T>>(alloc, state, input) {
+            Ok(content) => Ok(content.part),
+            Err(error) => Err(error),
+        }
     }
 }
 
-impl<'a, A: SerJson + Drop + 'a, B: SerJson + Drop + 'a> WriteContent<'a>
-    for Tupled<(Unnamed<A>, Unnamed<B>)> {
-    type Parts = (Part<'a, A>, Part<'a, B>);
+impl<'a, T: SerJson + Drop + 'a> WriteContent<'a> for OnePart<T> {
+    type Parts = Part<'a, T>;
 
     fn write(
         &self,
         name: &str,
-        refs: (&'a A, &'a B),
+        refs: &'a T,
         alloc: Global,
         d: usize,
         s: &mut SerJsonState,
     ) -> Result<(), AllocError> {
-        let parts = (Part { of: refs.0 }, Part { of: refs.1 });
-        write_variant(alloc, name, &parts, d, s)
+        let content = InBrackets {
+            part: Part { of: refs },
+        };
+        write_variant(alloc, name, &content, d, s)
     }
 }
 

@@ -3,12 +3,14 @@
 //! the name of a variant alone, or between curly brackets a name with its content.
 #![tactic(auto)]
 
+mod brackets;
 mod choice;
 mod choices;
 mod contents;
 mod fields;
 mod one_field;
 mod record;
+mod tuples;
 
 pub use choice::{read_choice, write_choice};
 pub use choices::{JsonChoiceRefs, JsonChoices, JsonShapes};

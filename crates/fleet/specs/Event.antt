@@ -9,5 +9,5 @@ use Rattle.fleet.specs.declared.event.Event.TheVariants.{Stop, Move, Say}
 
 abbrev pub seen : Event → Either (Unit {0}) (Either (ℕ × String Global) (String Global × ℕ))
 seen Stop = First tt
-seen (Move steps name) = Later (First (two_of steps name))
+seen (Move steps name) = Later (First (steps, name))
 seen (Say text times) = Later (Later (two_of text times))

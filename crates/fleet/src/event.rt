@@ -10,8 +10,8 @@ ghost use Rattle.described_json.specs.Choice.{json_choice};
 ghost use Rattle.fleet.specs.Event.{seen};
 
 use described::{
-    Alone, BorrowedChoices, Choice, ChoiceParts, Choices, Either, InTwo, Required, Tupled, Unnamed,
-    Variant, known_choice, must, named, no_content, part, tuple, two, two_apart,
+    Alone, BorrowedChoices, Choice, ChoiceParts, Choices, Either, InTwo, Required, Tupled, Variant,
+    called, known_choice, must, no_content, tuple, two, variant,
 };
 use described_bin::{BinShapes, read_choice_bin, write_choice_bin};
 use described_json::{JsonShapes, read_choice, write_choice};
@@ -40,7 +40,7 @@ pub enum Event {
 type EventVariants = (
     Variant<Alone>,
     (
-        Variant<Tupled<InTwo<Unnamed<u32>, Unnamed<String>>>>,
+        Variant<Tupled<(u32, String)>>,
         Variant<InTwo<Required<String>, Required<u32>>>,
     ),
 );
@@ -49,17 +49,17 @@ impl Choice for Event {
     type Variants = EventVariants;
 
     ghost the_names = { names (names (name (codes "Stop")) (name []))
-        (names (names (name (codes "Move")) (two_names [] []))
+        (names (names (name (codes "Move")) (name []))
         (names (name (codes "Say")) (two_names (codes "text") (codes "times")))) };
 
     ghost view = { seen };
 
     fn variants() -> EventVariants {
         (
-            named("Stop", no_content()),
+            variant(called("Stop"), no_content()),
             (
-                named("Move", tuple(two(part(), part()))),
-                named("Say", two(must("text"), must("times"))),
+                variant(called("Move"), tuple()),
+                variant(called("Say"), two(must("text"), must("times"))),
             ),
         )
     }
@@ -67,16 +67,8 @@ impl Choice for Event {
     fn make(values: <EventVariants as Choices>::Values) -> Event {
         match values {
             Either::First(()) => Event::Stop,
-            Either::Later(more) => match more {
-                Either::First(parts) => {
-                    let (steps, name) = two_apart(parts);
-                    Event::Move(steps, name)
-                }
-                Either::Later(fields) => {
-                    let (text, times) = two_apart(fields);
-                    Event::Say { text, times }
-                }
-            },
+            Either::Later(Either::First((steps, name))) => Event::Move(steps, name),
+            Either::Later(Either::Later((text, times))) => Event::Say { text, times },
         }
     }
 }
@@ -85,7 +77,7 @@ impl<'a> ChoiceParts<'a> for Event {
     fn refs(&'a self) -> <EventVariants as BorrowedChoices<'a>>::Refs {
         match self {
             Event::Stop => Either::First(()),
-            Event::Move(steps, name) => Either::Later(Either::First(two(steps, name))),
+            Event::Move(steps, name) => Either::Later(Either::First((steps, name))),
             Event::Say { text, times } => Either::Later(Either::Later(two(text, times))),
         }
     }

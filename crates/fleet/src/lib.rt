@@ -8,6 +8,7 @@ mod item;
 mod plain;
 mod query;
 mod server;
+mod signal;
 
 pub use event::Event;
 pub use holder::Holder;
@@ -15,3 +16,4 @@ pub use item::Item;
 pub use plain::Plain;
 pub use query::Query;
 pub use server::Server;
+pub use signal::Signal;

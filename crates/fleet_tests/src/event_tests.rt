@@ -1,5 +1,5 @@
-// An enum in JSON: each of its variants written and read back, nested in others, and refused.
-use fleet::{Event, Holder};
+// Enums in JSON: each of its variants written and read back, nested in others, and refused.
+use fleet::{Event, Holder, Signal};
 use nano_json::{BothJson, DeJson, SerJson};
 use std::alloc::{AllocError, Global};
 use std::process::Abort;
@@ -54,5 +54,27 @@ fn events_in_others(rt: HostRuntime) -> Result<(), Fail> {
     let text = "[{\"x\":\"Stop\"},{\"x\":{\"Move\":[0,\"\"]}},null]";
     let found = outcome::<Vec<Option<Holder<Event>>>>(rt.alloc(), text)?;
     check(&rt, found.as_str(), text, text);
+    Ok(())
+}
+
+#[test]
+fn signals_by_name(rt: HostRuntime) -> Result<(), Fail> {
+    let rows = [
+        ("{\"Wait\":[5,]}", "{\"Wait\":[5]}"),
+        ("{\"Move\":[-1,2,\"a\"]}", "{\"Move\":[-1,2,\"a\"]}"),
+        ("{\"Light\":[1,2,3,true]}", "{\"Light\":[1,2,3,true]}"),
+        (
+            "{\"Plan\":{\"steps\":[1,2],\"title\":\"b\"}}",
+            "{\"Plan\":{\"title\":\"b\",\"steps\":[1,2]}}",
+        ),
+        ("{\"Wait\":5}", "Unexpected token U64(5) expected [ "),
+        ("{\"Wait\":[5,6]}", "Unexpected token U64(6) expected ] "),
+        ("{\"Wait\":[]}", "Unexpected token BlockClose expected unsigned integer "),
+        ("{\"Plan\":{\"title\":\"b\"}}", "Key not found steps"),
+    ];
+    for (text, expected) in rows {
+        let found = outcome::<Signal>(rt.alloc(), text)?;
+        check(&rt, found.as_str(), expected, text);
+    }
     Ok(())
 }

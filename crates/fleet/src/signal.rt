@@ -1,0 +1,172 @@
+// An enum with one part, with longer tuples and with more named fields: its description, and then
+// bytes and JSON.
+ghost use Rattle.std.specs.Prelude.{[], codes, refl};
+ghost use Rattle.std.proofs.Common.{lit≤};
+ghost use Rattle.nano_value.specs.Sums.{LegalVariant};
+ghost use Rattle.nano_value.specs.Ties.{tied};
+ghost use Rattle.described.specs.Names.{name, names, three_names};
+ghost use Rattle.nano_bin.specs.Format.{format_as};
+ghost use Rattle.described_bin.specs.Choices.{choice_format};
+ghost use Rattle.described_json.specs.Choice.{json_choice};
+ghost use Rattle.fleet.specs.Signal.{seen};
+
+use described::{
+    BorrowedChoices, Choice, ChoiceParts, Choices, Either, InThree, OnePart, Optional, Required,
+    Tupled, Variant, called, known_choice, may, must, one_part, three, three_apart, tuple, variant,
+};
+use described_bin::{BinShapes, read_choice_bin, write_choice_bin};
+use described_json::{JsonShapes, read_choice, write_choice};
+use nano_bin::{BinFormat, BothBin, DeBin, DeBinErr, SerBin};
+use nano_json::{BothJson, DeJson, DeJsonErr, DeJsonState, JsonFormat, SerJson, SerJsonState};
+use nano_value::Value;
+use std::alloc::{AllocError, Global};
+use std::str::Chars;
+
+/// What a crane is told.
+#[derive(PartialEq, Debug, Drop)]
+pub enum Signal {
+    /// It waits for so many milliseconds.
+    Wait(u64),
+    /// It moves to a place.
+    Move(i32, i32, String),
+    /// It takes a colour, and lights up or not.
+    Light(u8, u8, u8, bool),
+    /// It does one thing after the other.
+    Plan {
+        /// The plan's name.
+        title: String,
+        /// What it does.
+        steps: Vec<u32>,
+        /// What else there is to say of it.
+        note: Option<String>,
+    },
+}
+
+type SignalVariants = (
+    Variant<OnePart<u64>>,
+    (
+        Variant<Tupled<(i32, i32, String)>>,
+        (
+            Variant<Tupled<(u8, u8, u8, bool)>>,
+            Variant<InThree<Required<String>, Required<Vec<u32>>, Optional<String>>>,
+        ),
+    ),
+);
+
+impl Choice for Signal {
+    type Variants = SignalVariants;
+
+    ghost the_names = { names (names (name (codes "Wait")) (name []))
+        (names (names (name (codes "Move")) (name []))
+        (names (names (name (codes "Light")) (name []))
+        (names (name (codes "Plan"))
+        (three_names (codes "title") (codes "steps") (codes "note"))))) };
+
+    ghost view = { seen };
+
+    fn variants() -> SignalVariants {
+        (
+            variant(called("Wait"), one_part()),
+            (
+                variant(called("Move"), tuple()),
+                (
+                    variant(called("Light"), tuple()),
+                    variant(
+                        called("Plan"),
+                        three(must("title"), must("steps"), may("note")),
+                    ),
+                ),
+            ),
+        )
+    }
+
+    fn make(values: <SignalVariants as Choices>::Values) -> Signal {
+        match values {
+            Either::First(time) => Signal::Wait(time),
+            Either::Later(Either::First((x, y, name))) => Signal::Move(x, y, name),
+            Either::Later(Either::Later(Either::First((red, green, blue, on)))) => {
+                Signal::Light(red, green, blue, on)
+            }
+            Either::Later(Either::Later(Either::Later(fields))) => {
+                let (title, steps, note) = three_apart(fields);
+                Signal::Plan { title, steps, note }
+            }
+        }
+    }
+}
+
+impl<'a> ChoiceParts<'a> for Signal {
+    fn refs(&'a self) -> <SignalVariants as BorrowedChoices<'a>>::Refs {
+        match self {
+            Signal::Wait(time) => Either::First(time),
+            Signal::Move(x, y, name) => Either::Later(Either::First((x, y, name))),
+            Signal::Light(red, green, blue, on) => {
+                Either::Later(Either::Later(Either::First((red, green, blue, on))))
+            }
+            Signal::Plan { title, steps, note } => {
+                Either::Later(Either::Later(Either::Later(three(title, steps, note))))
+            }
+        }
+    }
+}
+
+impl Value for Signal {
+    ghost means = { λ e. ⟦<SignalVariants as Choices>⟧.means 0 (seen e) };
+
+    ghost legal = { LegalVariant ⟦<SignalVariants as Choices>⟧.legals };
+
+    fn known(&self) {
+        known_choice(self);
+    }
+}
+
+// ---- bytes
+
+impl BinFormat for Signal {
+    ghost bin = { format_as seen (choice_format ⟦<SignalVariants as BinShapes>⟧.chosen (lit≤ tt)) };
+
+    ghost ties = { tied };
+}
+
+impl SerBin for Signal {
+    fn ser_bin(&self, alloc: Global, output: &mut Vec<u8>) -> Result<(), AllocError> {
+        write_choice_bin(self, alloc, output)
+    }
+}
+
+impl DeBin for Signal {
+    ghost is_read = { refl };
+
+    fn de_bin(alloc: Global, offset: &mut usize, bytes: &[u8]) -> Result<Signal, DeBinErr> {
+        read_choice_bin(alloc, offset, bytes)
+    }
+}
+
+impl BothBin for Signal {}
+
+// ---- JSON
+
+impl JsonFormat for Signal {
+    ghost json = { json_choice seen ⟦<SignalVariants as JsonShapes>⟧.format
+        ⟦<Signal as Choice>⟧.the_names refl refl refl };
+
+    ghost ties = { tied };
+}
+
+impl SerJson for Signal {
+    fn ser_json(&self, alloc: Global, d: usize, s: &mut SerJsonState) -> Result<(), AllocError> {
+        write_choice(self, alloc, d, s)
+    }
+}
+
+impl DeJson for Signal {
+    fn de_json(
+        alloc: Global,
+        state: &mut DeJsonState,
+        input: &mut Chars<'_>,
+    ) -> Result<Signal, DeJsonErr> {
+        read_choice(alloc, state, input)
+    }
+}
+
+impl BothJson for Signal {}
