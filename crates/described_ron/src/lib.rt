@@ -1,9 +1,20 @@
-//! Own structs in RON, from their description: named fields between parentheses, in any order
-//! where they are read, in declared order where they are written.
+//! Own structs and enums in RON, from their description. A struct is named fields between
+//! parentheses, in any order where they are read, in declared order where they are written. An enum
+//! is the name of a variant, and directly behind it the content if it has one.
 #![tactic(auto)]
 
+mod choice;
+mod choices;
+mod contents;
 mod fields;
+mod one_field;
+mod one_part;
 mod record;
+mod tuples;
 
-pub use fields::{RonFields, RonRefs, RonShape};
+pub use choice::{read_choice, write_choice};
+pub use choices::{RonChoiceRefs, RonChoices, RonShapes};
+pub use contents::{ReadContent, RonContent, WriteContent};
+pub use fields::RonRefs;
 pub use record::{read_record, write_record};
+pub use ron_records::{Fields as RonFields, RonShape};

@@ -7,10 +7,10 @@ ghost use Rattle.text_fields.specs.FieldWriting.{fields_text};
 ghost use Rattle.ron_records.specs.FieldReading.{fields_of};
 ghost use Rattle.ron_records.specs.Fields.{ron_fields};
 
-use crate::fields::{RonFields, RonRefs};
+use crate::fields::RonRefs;
 use described::{Parts, Record};
 use nano_ron::{DeRonErr, DeRonState, SerRonState};
-use ron_records::{read_fields, write_fields};
+use ron_records::{Fields, read_fields, write_fields};
 use std::alloc::{AllocError, Global};
 use std::str::Chars;
 
@@ -24,7 +24,7 @@ pub fn read_record<R: Record>(
     input: &mut Chars<'_>,
 ) -> Result<R, DeRonErr>
 where
-    R::Fields: RonFields,
+    R::Fields: Fields,
     ensures fits { Reads (fields_of (R.Fields.format R.the_names).struct).spelled
         (λ value. R.Fields.Shape.means (R.view value))
         (at state.old input.old) (at state.new input.new) result }
@@ -32,9 +32,9 @@ where
         (at state.old input.old) result }
     ensures ended { OnErr result (at state.new input.new ≡ ended) }
 {
-    let fields = R::fields().readers();
+    let fields = R::fields();
     match read_fields(&fields, alloc, state, input) {
-        Ok(read) => Ok(R::make(<R::Fields as RonFields>::values(read))),
+        Ok(values) => Ok(R::make(values)),
         Err(error) => Err(error),
     }
 }

@@ -1,32 +1,32 @@
-// The fields of a struct: what tells their names, reads the value behind a name, and makes the
-// values of all.
+// The fields of a struct: what reads the value behind a name, and makes the values of all.
 ghost use Rattle.std.specs.Prelude.{◌≡◌, List, [], ◌∷◌, ◌++◌, true, false, IfOk, OnOk, IfErr};
 ghost use Rattle.std.specs.Prelude.{string_bytes};
 ghost use Rattle.nano_value.specs.Meaning.{Meaning};
-ghost use Rattle.ron_records.specs.FieldReading.{Field, Struct, SpelledField, ReadsField};
+ghost use Rattle.described.specs.Names.{Names, the_name, first, second};
+ghost use Rattle.text_fields.specs.FieldFormat.{FieldsFormat};
+ghost use Rattle.ron_records.specs.Fields.{ron_fields, must, may, also};
+ghost use Rattle.ron_records.specs.FieldReading.{Field, SpelledField, ReadsField};
 ghost use Rattle.nano_ron.specs.Readers.{Refuses, Tells};
 ghost use Rattle.nano_ron.specs.State.{at, pending};
 ghost use Rattle.nano_ron.specs.Token.{IsIdent};
 
-use nano_ron::{DeRonErr, DeRonState};
+use described::{Optional, Required, Shape};
+use nano_ron::{DeRonErr, DeRonState, RonFormat};
 use std::alloc::Global;
-use std::marker::PhantomData;
 use std::str::Chars;
 
-/// Named fields: one that must be there (`Required`), one that may be missing (`Optional`), or
-/// fields and more fields (a pair). Of a name that both of a pair know, the first has the values.
-pub trait Fields {
+/// Fields with a place in RON: one that must be there (`Required`), one that may be missing
+/// (`Optional`), or fields and more fields (a pair).
+pub trait RonShape: Shape {
+    /// How they are written and read under these names.
+    ghost format: { Names → FieldsFormat ron_fields Self.Values };
+}
+
+/// Fields that are read from RON. Where an `Optional` one is there, the word `None` is `None` too.
+/// Of a name that both of a pair know, the first has the values.
+pub trait Fields: RonShape {
     /// What is read so far.
     type Slots: Drop;
-
-    /// The values of the fields, in nested pairs.
-    type Values: Drop;
-
-    /// What spells the fields.
-    ghost named: { Self → Struct };
-
-    /// What the values mean.
-    ghost means: { Self.Values → Meaning };
 
     /// The slots hold what is read of these fields of a text.
     ghost holds: { Self → Self.Slots → List Field → Type 0 };
@@ -37,7 +37,7 @@ pub trait Fields {
 
     /// Whether a field has this name. It takes no memory.
     fn knows(&self, name: &str) -> bool
-        ensures { result ≡ (named self.now).shape.knows name.now };
+        ensures { result ≡ (Self.format (Self.names_of self.now)).struct.shape.knows name.now };
 
     /// Reads the field whose name is pending, and puts its value in place of an earlier one.
     ///
@@ -51,11 +51,14 @@ pub trait Fields {
         input: &mut Chars<'_>,
     ) -> Result<(), DeRonErr>
         requires text { IsIdent (pending state.old) }
-        requires known { (named self.now).shape.knows (string_bytes state.old.identbuf) ≡ true }
-        ensures fits { OnOk result (ReadsField (named self.now).shape.takes
+        requires known { (Self.format (Self.names_of self.now)).struct.shape.knows
+            (string_bytes state.old.identbuf) ≡ true }
+        ensures fits { OnOk result
+            (ReadsField (Self.format (Self.names_of self.now)).struct.shape.takes
             (holds self.now slots.old) (holds self.now slots.new)
             (at state.old input.old) (at state.new input.new)) }
-        ensures refused { Refuses (SpelledField (named self.now).shape.takes)
+        ensures refused { Refuses
+            (SpelledField (Self.format (Self.names_of self.now)).struct.shape.takes)
             (at state.old input.old) result };
 
     /// The values that the slots hold. It is refused by `Key not found {name}` for the first field
@@ -65,33 +68,27 @@ pub trait Fields {
         slots: Self::Slots,
         alloc: Global,
         state: &DeRonState,
-    ) -> Result<Self::Values, DeRonErr>
+    ) -> Result<<Self as Shape>::Values, DeRonErr>
         ensures all { IfOk result (λ values. (fs : List Field) → holds self.now slots fs
-            → (named self.now).shape.means fs (means values)) }
+            → (Self.format (Self.names_of self.now)).struct.shape.means fs (Self.means values)) }
         ensures missing { IfErr result (Tells ((fs : List Field) (m : Meaning)
-            → holds self.now slots fs → (named self.now).shape.means fs m → ⊥)) };
+            → holds self.now slots fs
+            → (Self.format (Self.names_of self.now)).struct.shape.means fs m → ⊥)) };
 
     /// A field of another name changes nothing.
     ghost skips: { (fields : Self) (slots : Self.Slots) (fs : List Field) (f : Field)
-        → (named fields).shape.knows f.name ≡ false → holds fields slots fs
-        → holds fields slots (fs ++ f ∷ []) };
+        → (Self.format (Self.names_of fields)).struct.shape.knows f.name ≡ false
+        → holds fields slots fs → holds fields slots (fs ++ f ∷ []) };
 }
 
-/// A field that must be there.
-#[derive(Drop)]
-pub struct Required<T> {
-    /// The name that it has in a text.
-    pub name: &'static str,
-    /// The type of its value.
-    pub of: PhantomData<T>,
+impl<T: RonFormat + Drop> RonShape for Required<T> {
+    ghost format = { λ n. must (the_name n) T.ron };
 }
 
-/// A field that may be missing, and is `None` then. Where it is there, the word `None` is `None`
-/// too.
-#[derive(Drop)]
-pub struct Optional<T> {
-    /// The name that it has in a text.
-    pub name: &'static str,
-    /// The type of its value, without the `Option`.
-    pub of: PhantomData<T>,
+impl<T: RonFormat + Drop> RonShape for Optional<T> {
+    ghost format = { λ n. may (the_name n) T.ron };
+}
+
+impl<A: RonShape, B: RonShape> RonShape for (A, B) {
+    ghost format = { λ n. also (A.format (first n)) (B.format (second n)) };
 }

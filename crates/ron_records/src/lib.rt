@@ -15,8 +15,9 @@ mod required;
 mod variant_writing;
 mod variants;
 
+pub use described::{Optional, Required};
 pub use field_writing::{OptionalPart, RequiredPart, WriteFields, write_fields};
-pub use fields::{Fields, Optional, Required};
+pub use fields::{Fields, RonShape};
 pub use part::Part;
 pub use read::read_fields;
 pub use variant_writing::{write_fields_variant, write_unit_variant, write_variant};

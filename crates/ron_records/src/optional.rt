@@ -4,20 +4,15 @@ ghost use Rattle.nano_value.specs.Meaning.{optional};
 ghost use Rattle.text_fields.specs.Struct.{may_read};
 ghost use Rattle.text_fields.specs.Slots.{optional_skips};
 
-use crate::fields::{Fields, Optional};
+use crate::fields::Fields;
 use crate::named::read_named;
+use described::Optional;
 use nano_ron::{DeRon, DeRonErr, DeRonState};
 use std::alloc::Global;
 use std::str::Chars;
 
 impl<T: DeRon> Fields for Optional<T> {
     type Slots = Option<T>;
-
-    type Values = Option<T>;
-
-    ghost named = { λ f. may_read f.name.now T.ron.spelling };
-
-    ghost means = { λ value. optional (option_map T.means value) };
 
     ghost holds = { λ f slot fs. (may_read f.name.now T.ron.spelling).shape.means fs
         (optional (option_map T.means slot)) };

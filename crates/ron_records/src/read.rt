@@ -26,9 +26,9 @@ pub fn read_fields<F: Fields>(
     state: &mut DeRonState,
     input: &mut Chars<'_>,
 ) -> Result<F::Values, DeRonErr>
-    ensures fits { Reads (fields_of (F.named fields.now)).spelled F.means
+    ensures fits { Reads (fields_of (F.format (F.names_of fields.now)).struct).spelled F.means
         (at state.old input.old) (at state.new input.new) result }
-    ensures refused { Refuses (fields_of (F.named fields.now)).spelled
+    ensures refused { Refuses (fields_of (F.format (F.names_of fields.now)).struct).spelled
         (at state.old input.old) result }
     ensures ended { OnErr result (at state.new input.new ≡ ended) }
 {
@@ -43,9 +43,9 @@ fn read_list<F: Fields>(
     state: &mut DeRonState,
     input: &mut Chars<'_>,
 ) -> Result<F::Values, DeRonErr>
-    ensures fits { Reads (fields_of (F.named fields.now)).spelled F.means
+    ensures fits { Reads (fields_of (F.format (F.names_of fields.now)).struct).spelled F.means
         (at state.old input.old) (at state.new input.new) result }
-    ensures refused { Refuses (fields_of (F.named fields.now)).spelled
+    ensures refused { Refuses (fields_of (F.format (F.names_of fields.now)).struct).spelled
         (at state.old input.old) result }
 {
     let mut slots = fields.empty();
@@ -69,10 +69,10 @@ fn read_any<F: Fields>(
     input: &mut Chars<'_>,
 ) -> Result<(), DeRonErr>
     requires { IsIdent (pending state.old) }
-    ensures fits { OnOk result (ReadsField (Allowed (F.named fields.now).shape)
+    ensures fits { OnOk result (ReadsField (Allowed (F.format (F.names_of fields.now)).struct.shape)
         (F.holds fields.now slots.old) (F.holds fields.now slots.new)
         (at state.old input.old) (at state.new input.new)) }
-    ensures refused { Refuses (SpelledField (Allowed (F.named fields.now).shape))
+    ensures refused { Refuses (SpelledField (Allowed (F.format (F.names_of fields.now)).struct.shape))
         (at state.old input.old) result }
 {
     if fields.knows(state.identbuf.as_str()) {

@@ -1,22 +1,16 @@
 // A field that must be there.
 ghost use Rattle.std.specs.Option.{option_map};
-ghost use Rattle.text_fields.specs.Struct.{must_read};
 ghost use Rattle.text_fields.specs.Slots.{Holds, holds_skips};
 
-use crate::fields::{Fields, Required};
+use crate::fields::Fields;
 use crate::named::read_named;
+use described::Required;
 use nano_ron::{DeRon, DeRonErr, DeRonState};
 use std::alloc::Global;
 use std::str::Chars;
 
 impl<T: DeRon> Fields for Required<T> {
     type Slots = Option<T>;
-
-    type Values = T;
-
-    ghost named = { λ f. must_read f.name.now T.ron.spelling };
-
-    ghost means = { T.means };
 
     ghost holds = { λ f slot. Holds f.name.now T.ron.spelling.spelled (option_map T.means slot) };
 

@@ -9,7 +9,7 @@ use Rattle.ron_records.proofs.read.read_any.Goals as goal
 
 pub returns-then-knows-clause-fits : goal.returns-then-knows-clause-fits
 returns-then-knows-clause-fits g c =
-    let shape = (g.F.Fields.named c.args.fields.now).shape in
+    let shape = ((g.F.RonShape.format (g.F.Shape.names_of c.args.fields.now)).struct).shape in
     let name = pending_name c.args.state.now c.requires in
     let known = ap shape.knows (sym c.as_str.ensures.value) ∙ sym c.if-knows.ensures in
     let bytes = string_bytes c.args.state.now.identbuf in
@@ -20,7 +20,7 @@ returns-then-knows-clause-fits g c =
 
 pub returns-then-knows-clause-refused : goal.returns-then-knows-clause-refused
 returns-then-knows-clause-refused g c =
-    let shape = (g.F.Fields.named c.args.fields.now).shape in
+    let shape = ((g.F.RonShape.format (g.F.Shape.names_of c.args.fields.now)).struct).shape in
     let name = pending_name c.args.state.now c.requires in
     let known = ap shape.knows (sym c.as_str.ensures.value) ∙ sym c.if-knows.ensures in
     let bytes = string_bytes c.args.state.now.identbuf in
@@ -31,7 +31,7 @@ returns-then-knows-clause-refused g c =
 
 pub returns-clause-refused : goal.returns-clause-refused
 returns-clause-refused g c =
-    let shape = (g.F.Fields.named c.args.fields.now).shape in
+    let shape = ((g.F.RonShape.format (g.F.Shape.names_of c.args.fields.now)).struct).shape in
     let name = pending_name c.args.state.now c.requires in
     let unknown = ap shape.knows (sym c.as_str.ensures.value) ∙ sym c.if-knows.ensures in
     let bytes = string_bytes c.args.state.now.identbuf in

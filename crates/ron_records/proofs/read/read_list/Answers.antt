@@ -13,7 +13,7 @@ use Rattle.ron_records.proofs.read.read_list.Goals as goal
 pub returns-in_err-paren_open-clause-refused : goal.returns-in_err-paren_open-clause-refused
 returns-in_err-paren_open-clause-refused g c =
     let p = err_from_is_err_and c.from_residual.result c.from_residual.ensures.1 in
-    let struct = g.F.Fields.named c.args.fields.now in
+    let struct = (g.F.RonShape.format (g.F.Shape.names_of c.args.fields.now)).struct in
     let start = at c.args.state.now c.args.input.now in
     let none = struct_open_refused ron_fields ron_laws struct start in
     let error = c.in_err-paren_open.ensures.refused in
@@ -21,7 +21,7 @@ returns-in_err-paren_open-clause-refused g c =
 
 pub fields-init : goal.fields-init
 fields-init g c =
-    let struct = g.F.Fields.named c.args.fields.now in
+    let struct = (g.F.RonShape.format (g.F.Shape.names_of c.args.fields.now)).struct in
     let holds = g.F.Fields.holds c.args.fields.now c.empty-slots.result in
     fields_start ron_fields ron_laws struct holds (at c.args.state.now c.args.input.now)
     (at c.paren_open.new.self c.paren_open.new.i) c.in_ok-paren_open.ensures.taken
@@ -30,7 +30,7 @@ fields-init g c =
 pub returns-in_err-read_any-clause-refused : goal.returns-in_err-read_any-clause-refused
 returns-in_err-read_any-clause-refused g c =
     let p = err_from_is_err_and c.from_residual-in_err-read_any.result c.from_residual-in_err-read_any.ensures.1 in
-    let struct = g.F.Fields.named c.args.fields.now in
+    let struct = (g.F.RonShape.format (g.F.Shape.names_of c.args.fields.now)).struct in
     let holds = g.F.Fields.holds c.args.fields.now c.fields.slots in
     let goes_on = name_goes_on (pending c.fields.state) (sym c.fields-test.ensures) in
     let none =
@@ -43,7 +43,7 @@ returns-in_err-read_any-clause-refused g c =
 pub fields-smaller : goal.fields-smaller
 fields-smaller g c =
     let read = c.in_ok-read_any.ensures.fits in
-    field_shorter ron_fields ron_laws (g.F.Fields.named c.args.fields.now)
+    field_shorter ron_fields ron_laws ((g.F.RonShape.format (g.F.Shape.names_of c.args.fields.now)).struct)
     (at c.fields.state c.fields.input) (at c.read_any.new.state c.read_any.new.input)
     (at c.eat_comma_paren.new.self c.eat_comma_paren.new.i) read.0 read.1
     c.in_ok-eat_comma_paren.ensures.taken
@@ -51,7 +51,7 @@ fields-smaller g c =
 pub fields-preserved : goal.fields-preserved
 fields-preserved g c =
     let goes_on = name_goes_on (pending c.fields.state) (sym c.fields-test.ensures) in
-    fields_next ron_fields ron_laws (g.F.Fields.named c.args.fields.now)
+    fields_next ron_fields ron_laws ((g.F.RonShape.format (g.F.Shape.names_of c.args.fields.now)).struct)
     (g.F.Fields.holds c.args.fields.now c.fields.slots)
     (g.F.Fields.holds c.args.fields.now c.read_any.new.slots)
     (at c.args.state.now c.args.input.now) (at c.fields.state c.fields.input)
@@ -63,7 +63,7 @@ pub returns-in_err-eat_comma_paren-clause-refused : goal.returns-in_err-eat_comm
 returns-in_err-eat_comma_paren-clause-refused g c =
     let p = err_from_is_err_and c.from_residual-in_err-eat_comma_paren.result c.from_residual-in_err-eat_comma_paren.ensures.1 in
     let read = c.in_ok-read_any.ensures.fits in
-    let struct = g.F.Fields.named c.args.fields.now in
+    let struct = (g.F.RonShape.format (g.F.Shape.names_of c.args.fields.now)).struct in
     let holds = g.F.Fields.holds c.args.fields.now c.fields.slots in
     let goes_on = name_goes_on (pending c.fields.state) (sym c.fields-test.ensures) in
     let none =
@@ -76,7 +76,7 @@ returns-in_err-eat_comma_paren-clause-refused g c =
 pub returns-in_err-paren_close-clause-refused : goal.returns-in_err-paren_close-clause-refused
 returns-in_err-paren_close-clause-refused g c =
     let p = err_from_is_err_and c.from_residual-in_err-paren_close.result c.from_residual-in_err-paren_close.ensures.1 in
-    let struct = g.F.Fields.named c.args.fields.now in
+    let struct = (g.F.RonShape.format (g.F.Shape.names_of c.args.fields.now)).struct in
     let holds = g.F.Fields.holds c.args.fields.now c.fields.slots in
     let no_name = no_name_pending (pending c.fields.state) (sym c.fields-test.ensures) in
     let none =
@@ -88,17 +88,17 @@ returns-in_err-paren_close-clause-refused g c =
 
 pub returns-clause-fits : goal.returns-clause-fits
 returns-clause-fits g c =
-    let struct = g.F.Fields.named c.args.fields.now in
+    let struct = (g.F.RonShape.format (g.F.Shape.names_of c.args.fields.now)).struct in
     let holds = g.F.Fields.holds c.args.fields.now c.fields.slots in
     IfOk-weaker c.values.result _ _ (λ v h.
     struct_found ron_fields ron_laws struct holds (at c.args.state.now c.args.input.now)
     (at c.fields.state c.fields.input) c.fields.invariant
     (at c.paren_close.new.self c.paren_close.new.i) c.in_ok-paren_close.ensures.taken
-    (g.F.Fields.means v) h) c.values.ensures.all
+    (g.F.Shape.means v) h) c.values.ensures.all
 
 pub returns-clause-refused : goal.returns-clause-refused
 returns-clause-refused g c =
-    let struct = g.F.Fields.named c.args.fields.now in
+    let struct = (g.F.RonShape.format (g.F.Shape.names_of c.args.fields.now)).struct in
     let holds = g.F.Fields.holds c.args.fields.now c.fields.slots in
     let none =
     struct_missing ron_fields ron_laws struct holds (at c.args.state.now c.args.input.now)

@@ -8,7 +8,7 @@ use Rattle.ron_records.proofs.read.read_list.Given as goal
 -- the slots hold the fields so far
 abbrev pub invariant-fields : goal.invariant-fields
 invariant-fields g l =
-    FieldsSoFar ron_fields ron_laws (g.F.Fields.named l.fn.fields)
+    FieldsSoFar ron_fields ron_laws ((g.F.RonShape.format (g.F.Shape.names_of l.fn.fields)).struct)
     (g.F.Fields.holds l.fn.fields l.slots) (at l.fn.state l.fn.input) (at l.state l.input)
 
 abbrev pub decreases-fields : goal.decreases-fields

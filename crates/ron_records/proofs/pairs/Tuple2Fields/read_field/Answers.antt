@@ -12,8 +12,8 @@ use Rattle.ron_records.proofs.pairs.Tuple2Fields.read_field.Goals as goal
 
 pub returns-then-knows-clause-fits : goal.returns-then-knows-clause-fits
 returns-then-knows-clause-fits g c =
-    let a = g.A.Fields.named c.args.self.now.0 in
-    let b = g.B.Fields.named c.args.self.now.1 in
+    let a = (g.A.RonShape.format (g.A.Shape.names_of c.args.self.now.0)).struct in
+    let b = (g.B.RonShape.format (g.B.Shape.names_of c.args.self.now.1)).struct in
     let name = pending_name c.args.state.now c.requires.text in
     let known = ap a.shape.knows (sym c.as_str.ensures.value) ∙ sym c.if-knows.ensures in
     let bytes = string_bytes c.args.state.now.identbuf in
@@ -27,8 +27,8 @@ returns-then-knows-clause-fits g c =
 
 pub returns-then-knows-clause-refused : goal.returns-then-knows-clause-refused
 returns-then-knows-clause-refused g c =
-    let a = g.A.Fields.named c.args.self.now.0 in
-    let b = g.B.Fields.named c.args.self.now.1 in
+    let a = (g.A.RonShape.format (g.A.Shape.names_of c.args.self.now.0)).struct in
+    let b = (g.B.RonShape.format (g.B.Shape.names_of c.args.self.now.1)).struct in
     let name = pending_name c.args.state.now c.requires.text in
     let known = ap a.shape.knows (sym c.as_str.ensures.value) ∙ sym c.if-knows.ensures in
     let bytes = string_bytes c.args.state.now.identbuf in
@@ -39,8 +39,8 @@ returns-then-knows-clause-refused g c =
 
 pub returns-clause-fits : goal.returns-clause-fits
 returns-clause-fits g c =
-    let a = g.A.Fields.named c.args.self.now.0 in
-    let b = g.B.Fields.named c.args.self.now.1 in
+    let a = (g.A.RonShape.format (g.A.Shape.names_of c.args.self.now.0)).struct in
+    let b = (g.B.RonShape.format (g.B.Shape.names_of c.args.self.now.1)).struct in
     let name = pending_name c.args.state.now c.requires.text in
     let unknown = ap a.shape.knows (sym c.as_str.ensures.value) ∙ sym c.if-knows.ensures in
     let bytes = string_bytes c.args.state.now.identbuf in
@@ -56,8 +56,8 @@ returns-clause-fits g c =
 
 pub returns-clause-refused : goal.returns-clause-refused
 returns-clause-refused g c =
-    let a = g.A.Fields.named c.args.self.now.0 in
-    let b = g.B.Fields.named c.args.self.now.1 in
+    let a = (g.A.RonShape.format (g.A.Shape.names_of c.args.self.now.0)).struct in
+    let b = (g.B.RonShape.format (g.B.Shape.names_of c.args.self.now.1)).struct in
     let name = pending_name c.args.state.now c.requires.text in
     let unknown = ap a.shape.knows (sym c.as_str.ensures.value) ∙ sym c.if-knows.ensures in
     let bytes = string_bytes c.args.state.now.identbuf in

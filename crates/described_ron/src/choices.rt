@@ -1,0 +1,166 @@
+// The variants of an enum in RON.
+ghost use Rattle.std.specs.Prelude.{◌≡◌, ℕ, OnOk, OnErr};
+ghost use Rattle.nano_text.specs.Outcomes.{Appends, Stays};
+ghost use Rattle.nano_ron.specs.Readers.{Reads, Refuses};
+ghost use Rattle.nano_ron.specs.State.{at, ended};
+ghost use Rattle.ron_records.specs.Variants.{ron_variants};
+ghost use Rattle.described.specs.Names.{Names, the_name, first, second};
+ghost use Rattle.described_text.specs.Choices.{ChoiceFormat, SpellsBehind, has_alone, is_named};
+ghost use Rattle.described_text.specs.Choices.{last_choice, next_choice};
+
+use crate::contents::{ReadContent, RonContent, WriteContent};
+use described::{BorrowedChoices, Choices, Either, Label, NamedVariant};
+use nano_ron::{DeRonErr, DeRonState, SerRonState};
+use ron_records::unknown_variant;
+use std::alloc::{AllocError, Global};
+use std::str::Chars;
+
+/// Variants with a place in RON.
+pub trait RonShapes: Choices {
+    /// How they are written and read under these names.
+    ghost format: { Names → ChoiceFormat ron_variants Self.Values };
+}
+
+/// Variants that are read from RON.
+pub trait RonChoices: RonShapes {
+    /// Whether a variant without content has this name. It takes no memory.
+    fn stands_alone(&self, name: &str) -> bool
+        ensures { result ≡ has_alone (Self.format (Self.names_of self.now)).spelled name.now };
+
+    /// Reads the content of the variant of this name: of one without content if it stands alone,
+    /// and else of one with content. A name that none of these has is refused by
+    /// `Enum not defined {name}`.
+    ///
+    /// An error that is not for want of memory says that no content of such a variant is spelled
+    /// there, with one more token or the end behind it. Every refusal leaves the state at the end of
+    /// the text.
+    fn read(
+        &self,
+        name: &str,
+        alone: bool,
+        alloc: Global,
+        state: &mut DeRonState,
+        input: &mut Chars<'_>,
+    ) -> Result<<Self as Choices>::Values, DeRonErr>
+        ensures fits { (from : ℕ) → Reads (SpellsBehind ron_variants from
+            (Self.format (Self.names_of self.now)).spelled alone name.now)
+            (Self.means from) (at state.old input.old) (at state.new input.new) result }
+        ensures refused { (from : ℕ) → Refuses (SpellsBehind ron_variants from
+            (Self.format (Self.names_of self.now)).spelled alone name.now)
+            (at state.old input.old) result }
+        ensures ended { OnErr result (at state.new input.new ≡ ended) };
+}
+
+/// Variants that are written as RON.
+pub trait RonChoiceRefs<'a>: RonShapes + BorrowedChoices<'a> {
+    /// What is written of the content of one of them: its parts by reference.
+    type Parts: Drop;
+
+    /// Appends the variant with its content at level `d`. A refused write leaves `s.out` as it was.
+    fn write(
+        &self,
+        refs: Self::Refs,
+        alloc: Global,
+        d: usize,
+        s: &mut SerRonState,
+    ) -> Result<(), AllocError>
+        ensures ok { OnOk result (Appends s.old.out s.new.out
+            ((Self.format (Self.names_of self.now)).text d (Self.values refs))) }
+        ensures err { OnErr result (Stays s.old.out s.new.out) };
+}
+
+/// Whether this is the name, and both stand alone or neither does.
+fn is_named(name: &str, alone: bool, variant: &str, stands_alone: bool) -> bool
+    ensures { result ≡ is_named alone stands_alone name.now variant.now }
+{
+    alone == stands_alone && name == variant
+}
+
+impl<N: Label, S: RonContent> RonShapes for NamedVariant<N, S> {
+    ghost format = { λ n. last_choice (the_name (first n)) (S.content (second n)) };
+}
+
+impl<N: Label, S: ReadContent> RonChoices for NamedVariant<N, S> {
+    fn stands_alone(&self, name: &str) -> bool {
+        self.content.stands_alone() && name == self.name.text()
+    }
+
+    fn read(
+        &self,
+        name: &str,
+        alone: bool,
+        alloc: Global,
+        state: &mut DeRonState,
+        input: &mut Chars<'_>,
+    ) -> Result<S::Values, DeRonErr> {
+        if is_named(name, alone, self.name.text(), self.content.stands_alone()) {
+            return self.content.read(alloc, state, input);
+        }
+        Err(unknown_variant(alloc, state, name))
+    }
+}
+
+impl<'a, N: Label, S: WriteContent<'a>> RonChoiceRefs<'a> for NamedVariant<N, S> {
+    type Parts = S::Parts;
+
+    fn write(
+        &self,
+        refs: S::Refs,
+        alloc: Global,
+        d: usize,
+        s: &mut SerRonState,
+    ) -> Result<(), AllocError> {
+        self.content.write(self.name.text(), refs, alloc, d, s)
+    }
+}
+
+impl<N: Label, S: RonContent, C: RonShapes> RonShapes for (NamedVariant<N, S>, C) {
+    ghost format = { λ n. next_choice (the_name (first (first n))) (S.content (second (first n)))
+        (C.format (second n)) };
+}
+
+impl<N: Label, S: ReadContent, C: RonChoices> RonChoices for (NamedVariant<N, S>, C) {
+    fn stands_alone(&self, name: &str) -> bool {
+        let first = &self.0;
+        (first.content.stands_alone() && name == first.name.text()) || self.1.stands_alone(name)
+    }
+
+    fn read(
+        &self,
+        name: &str,
+        alone: bool,
+        alloc: Global,
+        state: &mut DeRonState,
+        input: &mut Chars<'_>,
+    ) -> Result<Either<S::Values, C::Values>, DeRonErr> {
+        let first = &self.0;
+        if is_named(name, alone, first.name.text(), first.content.stands_alone()) {
+            return match first.content.read(alloc, state, input) {
+                Ok(content) => Ok(Either::First(content)),
+                Err(error) => Err(error),
+            };
+        }
+        match self.1.read(name, alone, alloc, state, input) {
+            Ok(later) => Ok(Either::Later(later)),
+            Err(error) => Err(error),
+        }
+    }
+}
+
+impl<'a, N: Label, S: WriteContent<'a>, C: RonChoiceRefs<'a>> RonChoiceRefs<'a>
+    for (NamedVariant<N, S>, C) {
+    type Parts = Either<S::Parts, C::Parts>;
+
+    fn write(
+        &self,
+        refs: Either<S::Refs, C::Refs>,
+        alloc: Global,
+        d: usize,
+        s: &mut SerRonState,
+    ) -> Result<(), AllocError> {
+        match refs {
+            Either::First(refs) => self.0.content.write(self.0.name.text(), refs, alloc, d, s),
+            Either::Later(refs) => self.1.write(refs, alloc, d, s),
+        }
+    }
+}

@@ -1,0 +1,157 @@
+// What a variant holds, in RON: nothing, parts between parentheses, or named fields between them.
+ghost use Rattle.std.specs.Prelude.{◌≡◌, OnOk, OnErr};
+ghost use Rattle.nano_text.specs.Outcomes.{Appends, Stays};
+ghost use Rattle.nano_ron.specs.Readers.{Reads, Refuses};
+ghost use Rattle.nano_ron.specs.State.{at, ended};
+ghost use Rattle.ron_records.specs.Variants.{ron_variants};
+ghost use Rattle.described.specs.Names.{Names};
+ghost use Rattle.described_text.specs.Choices.{Content, SpellsRest, stands_alone};
+ghost use Rattle.described_ron.specs.Contents.{no_content, fields_content};
+
+use crate::fields::RonRefs;
+use described::{Alone, Borrowed, Shape};
+use nano_ron::{DeRonErr, DeRonState, SerRonState};
+use ron_records::{Fields, RonShape, read_fields, write_fields_variant, write_unit_variant};
+use std::alloc::{AllocError, Global};
+use std::str::Chars;
+
+/// The content of a variant with a place in RON.
+pub trait RonContent: Shape {
+    /// How it is written and read under the names of its fields.
+    ghost content: { Names → Content ron_variants Self.Values };
+}
+
+/// The content of a variant that is read from RON.
+pub trait ReadContent: RonContent {
+    /// Whether the name of the variant stands alone, with no content behind it.
+    fn stands_alone(&self) -> bool
+        ensures { result ≡ stands_alone (Self.content (Self.names_of self.now)).rest };
+
+    /// Reads what stands behind the name of the variant; of a variant without content that is
+    /// nothing.
+    ///
+    /// An error that is not for want of memory says that no such content is spelled there, with one
+    /// more token or the end behind it. Every refusal leaves the state at the end of the text.
+    fn read(
+        &self,
+        alloc: Global,
+        state: &mut DeRonState,
+        input: &mut Chars<'_>,
+    ) -> Result<<Self as Shape>::Values, DeRonErr>
+        ensures fits { Reads (SpellsRest ron_variants (Self.content (Self.names_of self.now)).rest)
+            Self.means (at state.old input.old) (at state.new input.new) result }
+        ensures refused { Refuses (SpellsRest ron_variants (Self.content (Self.names_of self.now)).rest)
+            (at state.old input.old) result }
+        ensures ended { OnErr result (at state.new input.new ≡ ended) };
+}
+
+/// The content of a variant that is written as RON.
+pub trait WriteContent<'a>: RonContent + Borrowed<'a> {
+    /// What is written of it: its parts by reference, with their names where they have names.
+    type Parts: Drop;
+
+    /// Appends the variant of this name with the content at level `d`. A refused write leaves
+    /// `s.out` as it was.
+    fn write(
+        &self,
+        name: &str,
+        refs: Self::Refs,
+        alloc: Global,
+        d: usize,
+        s: &mut SerRonState,
+    ) -> Result<(), AllocError>
+        ensures ok { OnOk result (Appends s.old.out s.new.out
+            ((Self.content (Self.names_of self.now)).text name.now d (Self.values refs))) }
+        ensures err { OnErr result (Stays s.old.out s.new.out) };
+}
+
+// ---- no content
+
+impl RonContent for Alone {
+    ghost content = { λ n. no_content };
+}
+
+impl ReadContent for Alone {
+    fn stands_alone(&self) -> bool {
+        true
+    }
+
+    fn read(
+        &self,
+        _alloc: Global,
+        _state: &mut DeRonState,
+        _input: &mut Chars<'_>,
+    ) -> Result<(), DeRonErr> {
+        Ok(())
+    }
+}
+
+impl<'a> WriteContent<'a> for Alone {
+    type Parts = ();
+
+    fn write(
+        &self,
+        name: &str,
+        _refs: (),
+        _alloc: Global,
+        _d: usize,
+        s: &mut SerRonState,
+    ) -> Result<(), AllocError> {
+        write_unit_variant(name, s)
+    }
+}
+
+// ---- named fields
+
+impl<A: RonShape, B: RonShape> RonContent for (A, B) {
+    ghost content = { λ n. fields_content (⟦<(A, B) as RonShape>⟧.format n) };
+}
+
+impl<A: Fields, B: Fields> ReadContent for (A, B) {
+    fn stands_alone(&self) -> bool {
+        false
+    }
+
+    fn read(
+        &self,
+        alloc: Global,
+        state: &mut DeRonState,
+        input: &mut Chars<'_>,
+    ) -> Result<(A::Values, B::Values), DeRonErr> {
+        read_named_fields(self, alloc, state, input)
+    }
+}
+
+impl<'a, A: RonRefs<'a>, B: RonRefs<'a>> WriteContent<'a> for (A, B) {
+    type Parts = (A::Parts, B::Parts);
+
+    fn write(
+        &self,
+        name: &str,
+        refs: (A::Refs, B::Refs),
+        alloc: Global,
+        d: usize,
+        s: &mut SerRonState,
+    ) -> Result<(), AllocError> {
+        let parts = self.parts(refs);
+        write_fields_variant(alloc, name, &parts, d, s)
+    }
+}
+
+/// Reads named fields as the content of a variant. Every refusal leaves the state at the end of the
+/// text.
+pub(crate) fn read_named_fields<F: Fields>(
+    fields: &F,
+    alloc: Global,
+    state: &mut DeRonState,
+    input: &mut Chars<'_>,
+) -> Result<F::Values, DeRonErr>
+    ensures fits { Reads (SpellsRest ron_variants
+        (fields_content (F.format (F.names_of fields.now))).rest)
+        F.means (at state.old input.old) (at state.new input.new) result }
+    ensures refused { Refuses (SpellsRest ron_variants
+        (fields_content (F.format (F.names_of fields.now))).rest) (at state.old input.old) result }
+    ensures ended { OnErr result (at state.new input.new ≡ ended) }
+{
+    read_fields(fields, alloc, state, input)
+}

@@ -1,0 +1,161 @@
+// Two, three or four parts without names, as the content of a variant.
+ghost use Rattle.std.specs.Prelude.{◌≡◌, OnOk, OnErr, refl};
+ghost use Rattle.nano_text.specs.Outcomes.{Appends, Stays};
+ghost use Rattle.text_fields.specs.Variants.{Closed};
+ghost use Rattle.nano_ron.specs.Readers.{Reads, Refuses};
+ghost use Rattle.nano_ron.specs.State.{at, ended};
+ghost use Rattle.nano_ron.specs.Tuples.{pair_format, triple_format, quadruple_format};
+ghost use Rattle.ron_records.specs.Variants.{ron_variants};
+ghost use Rattle.described_ron.specs.Contents.{content_as};
+
+use crate::contents::{ReadContent, RonContent, WriteContent};
+use described::Tupled;
+use nano_ron::{DeRon, DeRonErr, DeRonState, RonFormat, SerRon, SerRonState};
+use ron_records::{Part, write_variant};
+use std::alloc::{AllocError, Global};
+use std::str::Chars;
+
+/// Reads the content of a variant whose name is taken. Every refusal leaves the state at the end of
+/// the text.
+fn read_content<T: DeRon>(
+    alloc: Global,
+    state: &mut DeRonState,
+    input: &mut Chars<'_>,
+) -> Result<T, DeRonErr>
+    ensures fits { Reads (Closed ron_variants T.ron.spelling.spelled) T.means
+        (at state.old input.old) (at state.new input.new) result }
+    ensures refused { Refuses (Closed ron_variants T.ron.spelling.spelled)
+        (at state.old input.old) result }
+    ensures ended { OnErr result (at state.new input.new ≡ ended) }
+{
+    T::de_ron(alloc, state, input)
+}
+
+// ---- two parts
+
+impl<A: RonFormat + Drop, B: RonFormat + Drop> RonContent for Tupled<(A, B)> {
+    ghost content = { λ n. content_as (pair_format A.ron B.ron) (λ x d. refl) };
+}
+
+impl<A: DeRon, B: DeRon> ReadContent for Tupled<(A, B)> {
+    fn stands_alone(&self) -> bool {
+        false
+    }
+
+    fn read(
+        &self,
+        alloc: Global,
+        state: &mut DeRonState,
+        input: &mut Chars<'_>,
+    ) -> Result<(A, B), DeRonErr> {
+        read_content(alloc, state, input)
+    }
+}
+
+impl<'a, A: SerRon + Drop + 'a, B: SerRon + Drop + 'a> WriteContent<'a> for Tupled<(A, B)> {
+    type Parts = (Part<'a, A>, Part<'a, B>);
+
+    fn write(
+        &self,
+        name: &str,
+        refs: (&'a A, &'a B),
+        alloc: Global,
+        d: usize,
+        s: &mut SerRonState,
+    ) -> Result<(), AllocError> {
+        let parts = (Part { of: refs.0 }, Part { of: refs.1 });
+        write_variant(alloc, name, &parts, d, s)
+    }
+}
+
+// ---- three parts
+
+impl<A: RonFormat + Drop, B: RonFormat + Drop, C: RonFormat + Drop> RonContent
+    for Tupled<(A, B, C)> {
+    ghost content = { λ n. content_as (triple_format A.ron B.ron C.ron) (λ x d. refl) };
+}
+
+impl<A: DeRon, B: DeRon, C: DeRon> ReadContent for Tupled<(A, B, C)> {
+    fn stands_alone(&self) -> bool {
+        false
+    }
+
+    fn read(
+        &self,
+        alloc: Global,
+        state: &mut DeRonState,
+        input: &mut Chars<'_>,
+    ) -> Result<(A, B, C), DeRonErr> {
+        read_content(alloc, state, input)
+    }
+}
+
+impl<'a, A: SerRon + Drop + 'a, B: SerRon + Drop + 'a, C: SerRon + Drop + 'a> WriteContent<'a>
+    for Tupled<(A, B, C)> {
+    type Parts = (Part<'a, A>, Part<'a, B>, Part<'a, C>);
+
+    fn write(
+        &self,
+        name: &str,
+        refs: (&'a A, &'a B, &'a C),
+        alloc: Global,
+        d: usize,
+        s: &mut SerRonState,
+    ) -> Result<(), AllocError> {
+        let parts = (
+            Part { of: refs.0 },
+            Part { of: refs.1 },
+            Part { of: refs.2 },
+        );
+        write_variant(alloc, name, &parts, d, s)
+    }
+}
+
+// ---- four parts
+
+impl<A: RonFormat + Drop, B: RonFormat + Drop, C: RonFormat + Drop, D: RonFormat + Drop> RonContent
+    for Tupled<(A, B, C, D)> {
+    ghost content = { λ n. content_as (quadruple_format A.ron B.ron C.ron D.ron) (λ x d. refl) };
+}
+
+impl<A: DeRon, B: DeRon, C: DeRon, D: DeRon> ReadContent for Tupled<(A, B, C, D)> {
+    fn stands_alone(&self) -> bool {
+        false
+    }
+
+    fn read(
+        &self,
+        alloc: Global,
+        state: &mut DeRonState,
+        input: &mut Chars<'_>,
+    ) -> Result<(A, B, C, D), DeRonErr> {
+        read_content(alloc, state, input)
+    }
+}
+
+impl<
+    'a,
+    A: SerRon + Drop + 'a,
+    B: SerRon + Drop + 'a,
+    C: SerRon + Drop + 'a,
+    D: SerRon + Drop + 'a,
+> WriteContent<'a> for Tupled<(A, B, C, D)> {
+    type Parts = (Part<'a, A>, Part<'a, B>, Part<'a, C>, Part<'a, D>);
+
+    fn write(
+        &self,
+        name: &str,
+        refs: (&'a A, &'a B, &'a C, &'a D),
+        alloc: Global,
+        d: usize,
+        s: &mut SerRonState,
+    ) -> Result<(), AllocError> {
+        let parts = (
+            Part { of: refs.0 },
+            Part { of: refs.1 },
+            Part { of: refs.2 },
+            Part { of: refs.3 },
+        );
+        write_variant(alloc, name, &parts, d, s)
+    }
+}
