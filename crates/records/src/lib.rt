@@ -2,11 +2,13 @@
 //! written. Each file is one that a user copies.
 #![tactic(auto)]
 
+mod choice;
 mod holder;
 mod item;
 mod plain;
 mod test;
 
+pub use choice::Choice;
 pub use holder::Holder;
 pub use item::Item;
 pub use plain::Plain;

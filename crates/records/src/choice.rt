@@ -1,0 +1,175 @@
+// An enum with a variant of each shape: its description, and then bytes, JSON and RON.
+ghost use Rattle.std.specs.Prelude.{[], codes, refl};
+ghost use Rattle.std.proofs.Common.{lit≤};
+ghost use Rattle.nano_value.specs.Sums.{LegalVariant};
+ghost use Rattle.nano_value.specs.Ties.{tied};
+ghost use Rattle.described.specs.Names.{name, names, two_names};
+ghost use Rattle.nano_bin.specs.Format.{format_as};
+ghost use Rattle.described_bin.specs.Choices.{choice_format};
+ghost use Rattle.described_json.specs.Choice.{json_choice};
+ghost use Rattle.described_ron.specs.Choice.{ron_choice};
+ghost use Rattle.records.specs.Choice.{seen};
+
+use described::{
+    Alone, BorrowedChoices, ChoiceParts, Choices, Either, InTwo, Required, Tupled, Variant, called,
+    known_choice, must, no_content, tuple, two, variant,
+};
+use described_bin::{BinShapes, read_choice_bin, write_choice_bin};
+use described_json::{JsonShapes, read_choice, write_choice};
+use described_ron::RonShapes;
+use nano_bin::{BinFormat, BothBin, DeBin, DeBinErr, SerBin};
+use nano_json::{BothJson, DeJson, DeJsonErr, DeJsonState, JsonFormat, SerJson, SerJsonState};
+use nano_ron::{BothRon, DeRon, DeRonErr, DeRonState, RonFormat, SerRon, SerRonState};
+use nano_value::Value;
+use std::alloc::{AllocError, Global};
+use std::str::Chars;
+
+/// One of three shapes.
+#[derive(PartialEq, Debug, Drop)]
+pub enum Choice {
+    /// Without content.
+    A,
+    /// A number and a text.
+    B(i32, String),
+    /// A number and a text by their names.
+    C {
+        /// The number.
+        a: i32,
+        /// The text.
+        b: String,
+    },
+}
+
+type ChoiceVariants = (
+    Variant<Alone>,
+    (
+        Variant<Tupled<(i32, String)>>,
+        Variant<InTwo<Required<i32>, Required<String>>>,
+    ),
+);
+
+impl described::Choice for Choice {
+    type Variants = ChoiceVariants;
+
+    ghost the_names = { names (names (name (codes "A")) (name []))
+        (names (names (name (codes "B")) (name []))
+        (names (name (codes "C")) (two_names (codes "a") (codes "b")))) };
+
+    ghost view = { seen };
+
+    fn variants() -> ChoiceVariants {
+        (
+            variant(called("A"), no_content()),
+            (
+                variant(called("B"), tuple()),
+                variant(called("C"), two(must("a"), must("b"))),
+            ),
+        )
+    }
+
+    fn make(values: <ChoiceVariants as Choices>::Values) -> Choice {
+        match values {
+            Either::First(()) => Choice::A,
+            Either::Later(Either::First((number, text))) => Choice::B(number, text),
+            Either::Later(Either::Later((a, b))) => Choice::C { a, b },
+        }
+    }
+}
+
+impl<'a> ChoiceParts<'a> for Choice {
+    fn refs(&'a self) -> <ChoiceVariants as BorrowedChoices<'a>>::Refs {
+        match self {
+            Choice::A => Either::First(()),
+            Choice::B(number, text) => Either::Later(Either::First((number, text))),
+            Choice::C { a, b } => Either::Later(Either::Later(two(a, b))),
+        }
+    }
+}
+
+impl Value for Choice {
+    ghost means = { λ c. ⟦<ChoiceVariants as Choices>⟧.means 0 (seen c) };
+
+    ghost legal = { LegalVariant ⟦<ChoiceVariants as Choices>⟧.legals };
+
+    fn known(&self) {
+        known_choice(self);
+    }
+}
+
+// ---- bytes
+
+impl BinFormat for Choice {
+    ghost bin = { format_as seen (choice_format ⟦<ChoiceVariants as BinShapes>⟧.chosen (lit≤ tt)) };
+
+    ghost ties = { tied };
+}
+
+impl SerBin for Choice {
+    fn ser_bin(&self, alloc: Global, output: &mut Vec<u8>) -> Result<(), AllocError> {
+        write_choice_bin(self, alloc, output)
+    }
+}
+
+impl DeBin for Choice {
+    ghost is_read = { refl };
+
+    fn de_bin(alloc: Global, offset: &mut usize, bytes: &[u8]) -> Result<Choice, DeBinErr> {
+        read_choice_bin(alloc, offset, bytes)
+    }
+}
+
+impl BothBin for Choice {}
+
+// ---- JSON
+
+impl JsonFormat for Choice {
+    ghost json = { json_choice seen ⟦<ChoiceVariants as JsonShapes>⟧.format
+        ⟦<Choice as described::Choice>⟧.the_names refl refl refl };
+
+    ghost ties = { tied };
+}
+
+impl SerJson for Choice {
+    fn ser_json(&self, alloc: Global, d: usize, s: &mut SerJsonState) -> Result<(), AllocError> {
+        write_choice(self, alloc, d, s)
+    }
+}
+
+impl DeJson for Choice {
+    fn de_json(
+        alloc: Global,
+        state: &mut DeJsonState,
+        input: &mut Chars<'_>,
+    ) -> Result<Choice, DeJsonErr> {
+        read_choice(alloc, state, input)
+    }
+}
+
+impl BothJson for Choice {}
+
+// ---- RON
+
+impl RonFormat for Choice {
+    ghost ron = { ron_choice seen ⟦<ChoiceVariants as RonShapes>⟧.format
+        ⟦<Choice as described::Choice>⟧.the_names refl refl refl };
+
+    ghost ties = { tied };
+}
+
+impl SerRon for Choice {
+    fn ser_ron(&self, alloc: Global, d: usize, s: &mut SerRonState) -> Result<(), AllocError> {
+        described_ron::write_choice(self, alloc, d, s)
+    }
+}
+
+impl DeRon for Choice {
+    fn de_ron(
+        alloc: Global,
+        state: &mut DeRonState,
+        input: &mut Chars<'_>,
+    ) -> Result<Choice, DeRonErr> {
+        described_ron::read_choice(alloc, state, input)
+    }
+}
+
+impl BothRon for Choice {}
