@@ -35,9 +35,9 @@ module _ {A : Type 0} {means : A → Meaning} {fits fits_written : List ℕ → 
   pub tell_values : FormsTellValues means fits written
   tell_values input other first second p q = (
     (λ e.
-    let there = subst (λ l. fits_written l (means p.value)) e (read_back input first p) in
-    f.one_written second (means p.value) (means q.value) there (read_back other second q)),
-    (λ e. p.is ∙ (f.same p.value q.value e ∙ sym q.is))
+        let there = subst (λ l. fits_written l (means p.value)) e (read_back input first p) in
+        f.one_written second (means p.value) (means q.value) there (read_back other second q)),
+    (λ e. p.is ∙ (f.same p.value q.value e ∙ sym q.is)),
   )
 
 module _ {A : Type 0} {means : A → Meaning} {fits : List ℕ → Meaning → Type 0}
@@ -47,7 +47,7 @@ module _ {A : Type 0} {means : A → Meaning} {fits : List ℕ → Meaning → T
       let own : NormalForm means (fits form) written form =
       record { value = p.value; fitting = read_back f input form p; is = p.is } in (
         (λ q. one_form f form form again own q),
-        (λ e. subst (λ l. NormalForm means (fits form) written l) e own)
+        (λ e. subst (λ l. NormalForm means (fits form) written l) e own),
       )
 
 -- ---- bytes
@@ -59,7 +59,7 @@ module _ {A : Type 0} {means : A → Meaning} {legal : Meaning → Type 0} (b : 
   one_in_bytes bytes m n h k =
       let s = b.spelling.laws in
       let one = s.one_front h.front k.front h.rest k.rest m n h.spells k.spells
-          (sym h.whole ∙ k.whole) in
+      (sym h.whole ∙ k.whole) in
       s.one_value k.front m n (subst (λ l. b.spelling.spelled l m) one h.spells) k.spells
 
   written_begins : (x : A) → legal (means x)

@@ -1,8 +1,14 @@
--- what the formats are said with, passed on
+-- what values mean, and what each format is said with, passed on
 pub use Rattle.nano_value.specs.Meaning
 pub use Rattle.nano_value.specs.Ties
-pub use Rattle.nano_bin.specs.Format as BinFormats
-pub use Rattle.nano_json.specs.Format as JsonFormats
--- the joined formats' own
+pub use Rattle.nano_value.specs.Sums
+pub use Rattle.nano_text.specs.Place
+pub use Rattle.bin_bytes.specs.Reading as BinReading
+pub use Rattle.nano_bin.specs.Format as BinFormat
+pub use Rattle.nano_json.specs.Format as JsonFormat
+pub use Rattle.nano_json.specs.Readers as JsonReaders
+pub use Rattle.nano_ron.specs.Format as RonFormat
+pub use Rattle.nano_ron.specs.Readers as RonReaders
+-- what joins the formats
 pub mod Normal
 pub mod Laws
