@@ -1,4 +1,5 @@
-// A record of a number and a note: in bytes the pair of them, in JSON named fields.
+// A record of a number and a note: in bytes the pair of them, in JSON named fields, as in RON
+// (`item_ron`).
 ghost use Rattle.std.specs.Prelude.{codes, refl};
 ghost use Rattle.nano_value.specs.Ties.{tied};
 ghost use Rattle.nano_bin.specs.Format.{format_as as seen_as};

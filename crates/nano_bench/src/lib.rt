@@ -5,6 +5,7 @@
 ghost use Rattle.std.specs.Prelude.{◌≡◌, ◌<◌, ◌⊎◌, length};
 
 mod item;
+mod item_ron;
 
 use item::Item;
 use nano_bin::{BothBin, DeBinKind};
@@ -36,8 +37,8 @@ const BLOCK: usize = 1024;
 ///
 /// Formats: 0 is the binary one, 1 is JSON, 2 is RON; others are not there yet. Kinds:
 /// 0 `Vec<u8>`, 1 `Vec<u64>`, 2 `Vec<String>`, 3 `HashMap<String, i32>`, 4 a list of records
-/// `{ value: i32, note: Option<String> }`, which RON does not have yet. Answers 0 or the number of
-/// bytes written, or one of the negative constants of this crate.
+/// `{ value: i32, note: Option<String> }`. Answers 0 or the number of bytes written, or one of the
+/// negative constants of this crate.
 #[unsafe(no_mangle)]
 pub extern "C" fn nano_op(
     alloc: Global,
@@ -104,6 +105,7 @@ fn ron(alloc: Global, kind: u32, write: bool, input: &[u8], output: &mut [u8]) -
         1 => ron_again::<Vec<u64>>(alloc, write, text, output),
         2 => ron_again::<Vec<String>>(alloc, write, text, output),
         3 => ron_again::<HashMap<String, i32>>(alloc, write, text, output),
+        4 => ron_again::<Vec<Item>>(alloc, write, text, output),
         _ => NO_SUCH_CASE,
     }
 }

@@ -1,6 +1,7 @@
 pub mod Telling
 pub mod Kept
 pub mod Skipping
+pub mod Blanks
 pub mod Comments
 pub mod LexemeKinds
 pub mod Cuts

@@ -1,11 +1,11 @@
 // How a reader's state passes over what stands between tokens: white space and comments.
-ghost use Rattle.std.specs.Prelude.{◌≡◌, true, false};
-ghost use Rattle.nano_text.specs.Front.{behind, first_is};
-ghost use Rattle.nano_text.specs.Place.{live};
+ghost use Rattle.std.specs.Prelude.{◌≡◌, true, false, length};
+ghost use Rattle.nano_text.specs.Front.{front, behind, first_is};
+ghost use Rattle.nano_text.specs.Place.{held, live, before_nul};
 ghost use Rattle.ron_tokens.specs.Gaps.{is_space};
 ghost use Rattle.ron_tokens.specs.Outcomes.{NothingCut, Counts, KeepsToken};
-ghost use Rattle.ron_tokens.specs.Scan.{starts_gap, BehindLine, BehindBlock, BehindComment};
-ghost use Rattle.ron_tokens.specs.Scan.{BeginsNoComment, BehindGap};
+ghost use Rattle.ron_tokens.specs.Scan.{is_blank, starts_gap, BehindLine, BehindBlock};
+ghost use Rattle.ron_tokens.specs.Scan.{BehindComment, BeginsNoComment, BehindGap};
 
 use crate::state::DeRonState;
 use std::str::Chars;
@@ -41,8 +41,25 @@ impl DeRonState {
         ensures kept { KeepsToken self.old self.new }
     {
         'space: while is_space(self.cur) {
-            self.next(i);
+            self.skip_blanks(i);
         }
+    }
+
+    /// Passes over the current character and the blanks behind it.
+    ///
+    /// The current character may never have been in `i`. The blanks are counted at once: each is
+    /// one byte and one column.
+    #[inline]
+    fn skip_blanks(&mut self, i: &mut Chars<'_>)
+        ensures live { live self.new.cur i.new ≡ behind is_blank (before_nul (held i.old)) }
+        ensures place { Counts self.old i.old self.new i.new }
+        ensures kept { KeepsToken self.old self.new }
+    {
+        let text = i.as_str();
+        let len = blanks_len(text.as_bytes());
+        self.col = self.col.saturating_add(len);
+        *i = text.split_at(len).1.chars();
+        self.next(i);
     }
 
     /// Passes over the comment that begins here, where a `/` stands. Answers whether one does.
@@ -107,4 +124,25 @@ fn is_space(c: char) -> bool
     ensures { result ≡ is_space c }
 {
     c == '\n' || c == '\r' || c == '\t' || c == ' '
+}
+
+/// How many of these bytes are blanks.
+#[inline]
+fn blanks_len(bytes: &[u8]) -> usize
+    ensures { result ≡ length (front is_blank bytes.now) }
+{
+    for (len, byte) in bytes.iter().enumerate() {
+        if !is_blank(*byte) {
+            return len;
+        }
+    }
+    bytes.len()
+}
+
+/// Whether a byte is white space that stays on its line.
+#[inline]
+fn is_blank(byte: u8) -> bool
+    ensures { result ≡ is_blank byte }
+{
+    byte == b' ' || byte == b'\t' || byte == b'\r'
 }

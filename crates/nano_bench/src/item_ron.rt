@@ -1,0 +1,56 @@
+// The record in RON: named fields between parentheses.
+ghost use Rattle.std.specs.Prelude.{codes, refl};
+ghost use Rattle.nano_value.specs.Ties.{tied};
+ghost use Rattle.nano_ron.specs.Format.{format_as};
+ghost use Rattle.ron_records.specs.Fields.{must, may, also, word_names, fields_format};
+
+use crate::item::Item;
+use nano_ron::{BothRon, DeRon, DeRonErr, DeRonState, RonFormat, SerRon, SerRonState};
+use ron_records::{Optional, OptionalPart, Required, RequiredPart, read_fields, write_fields};
+use std::alloc::{AllocError, Global};
+use std::marker::PhantomData;
+use std::str::Chars;
+
+impl RonFormat for Item {
+    ghost ron = { format_as (λ item. (item.value, item.note)) (fields_format
+        (also (must (codes "value") ⟦<i32 as RonFormat>⟧.ron)
+        (may (codes "note") ⟦<String as RonFormat>⟧.ron))
+        (word_names refl) refl) };
+
+    ghost ties = { tied };
+}
+
+impl SerRon for Item {
+    fn ser_ron(&self, alloc: Global, d: usize, s: &mut SerRonState) -> Result<(), AllocError> {
+        let value = RequiredPart {
+            name: "value",
+            value: &self.value,
+        };
+        let note = OptionalPart {
+            name: "note",
+            value: &self.note,
+        };
+        write_fields(alloc, &(value, note), d, s)
+    }
+}
+
+impl DeRon for Item {
+    fn de_ron(
+        alloc: Global,
+        state: &mut DeRonState,
+        input: &mut Chars<'_>,
+    ) -> Result<Item, DeRonErr> {
+        let value = Required {
+            name: "value",
+            of: PhantomData,
+        };
+        let note = Optional {
+            name: "note",
+            of: PhantomData,
+        };
+        let (value, note) = read_fields(&(value, note), alloc, state, input)?;
+        Ok(Item { value, note })
+    }
+}
+
+impl BothRon for Item {}
