@@ -5,7 +5,7 @@ use Rattle.text_fields.specs.VariantWriting.{names_are_good}
 use Rattle.nano_json.specs.Format.{Format, format_as}
 use Rattle.described.specs.Names.{Names}
 use Rattle.json_records.specs.Variants.{json_variants}
-use Rattle.described_json.specs.Choices.{ChoiceFormat, choice_format}
+use Rattle.described_text.specs.Choices.{ChoiceFormat, choice_format}
 
 -- an enum that is seen as the content of its variant, where the variants have these names. The last
 -- three are `refl` each: they show of names that are given that those of the fields are ASCII of

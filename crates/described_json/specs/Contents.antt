@@ -1,12 +1,10 @@
 -- What a variant holds in JSON, and how its name stands.
-use Rattle.std.specs.Prelude.{◌≡◌, ℕ, ◌&&◌, not, Bool, true, false, List, bytes_eq, string_bytes}
-use Rattle.std.specs.Prelude.{refl}
+use Rattle.std.specs.Prelude.{ℕ, ◌&&◌, Bool, true, false, List, string_bytes}
 use Rattle.std.proofs.lemmas.Bool.{and_parts}
 use Rattle.text_fields.specs.FieldFormat.{FieldsFormat}
 use Rattle.text_fields.specs.FieldWriting.{fields_text}
 use Rattle.text_fields.specs.Names.{are_distinct}
 use Rattle.nano_json.specs.Format.{Format}
-use Rattle.nano_json.specs.Tuples.{pair_format, triple_format}
 use Rattle.json_tokens.specs.Written.{written_text}
 use Rattle.json_records.specs.FieldReading.{fields_of}
 use Rattle.json_records.specs.Fields.{json_fields, ascii_names, fields_format}
@@ -15,7 +13,7 @@ use Rattle.json_records.specs.Variants.{json_variants, content_text, body}
 use Rattle.json_records.specs.declared.variants.VariantName.{VariantName}
 use Rattle.json_records.specs.declared.variants.VariantName.TheVariants.{Unit as Alone}
 use Rattle.json_records.specs.declared.variants.VariantName.TheVariants.{Content as Opened}
-use Rattle.described_json.specs.Choices.{Rest, no_more, more, Content, alone_placed, body_placed}
+use Rattle.described_text.specs.Choices.{no_more, more, Content, alone_placed, body_placed}
 
 -- no content: the name stands alone
 abbrev pub no_content : Content json_variants (Unit {0})
@@ -59,11 +57,3 @@ is_alone (Opened name) = false
 abbrev pub bytes_of : VariantName → List ℕ
 bytes_of (Alone name) = string_bytes name
 bytes_of (Opened name) = string_bytes name
-
-abbrev pub stands_so : Bool → Bool → Bool
-stands_so true alone = alone
-stands_so false alone = not alone
-
--- a name is that of a variant, and stood alone if the variant's does and only then
-abbrev pub is_named : Bool → Bool → List ℕ → List ℕ → Bool
-is_named stood alone bytes name = stands_so stood alone && bytes_eq bytes name

@@ -1,4 +1,3 @@
 pub mod Record
-pub mod Choices
 pub mod Contents
 pub mod Choice

@@ -6,8 +6,9 @@ ghost use Rattle.nano_json.specs.Readers.{Reads, Refuses};
 ghost use Rattle.nano_json.specs.State.{at, ended};
 ghost use Rattle.json_records.specs.Variants.{json_variants};
 ghost use Rattle.described.specs.Names.{Names, the_name, first, second};
-ghost use Rattle.described_json.specs.Choices.{ChoiceFormat, SpellsBehind, last_choice, next_choice};
-ghost use Rattle.described_json.specs.Contents.{is_alone, bytes_of, is_named};
+ghost use Rattle.described_text.specs.Choices.{ChoiceFormat, SpellsBehind, is_named};
+ghost use Rattle.described_text.specs.Choices.{last_choice, next_choice};
+ghost use Rattle.described_json.specs.Contents.{is_alone, bytes_of};
 
 use crate::contents::{JsonContent, ReadContent, WriteContent};
 use described::{BorrowedChoices, Choices, Either, Label, NamedVariant, Shape};

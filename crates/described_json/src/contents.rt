@@ -7,7 +7,7 @@ ghost use Rattle.nano_json.specs.State.{at, ended};
 ghost use Rattle.json_records.specs.Formats.{single_format};
 ghost use Rattle.json_records.specs.Variants.{json_variants};
 ghost use Rattle.described.specs.Names.{Names};
-ghost use Rattle.described_json.specs.Choices.{Content, SpellsRest, stands_alone};
+ghost use Rattle.described_text.specs.Choices.{Content, SpellsRest, stands_alone};
 ghost use Rattle.described_json.specs.Contents.{no_content, content_as, fields_content};
 
 use crate::brackets::InBrackets;

@@ -1,5 +1,5 @@
 -- What a reader of an enum answers, from what the readers of its contents answer.
-use Rattle.std.proofs.Common.{◌≡◌, ℕ, suc, List, [], ◌&&◌, ◌||◌, Bool, true, false, Option, Some, None}
+use Rattle.std.proofs.Common.{◌≡◌, ℕ, suc, List, ◌||◌, Bool, true, false, Some, None}
 use Rattle.std.proofs.Common.{cond, bytes_eq, refl, sym, ap, subst}
 use Rattle.std.proofs.lemmas.Bool.{and_parts}
 use Rattle.nano_value.specs.Meaning.{Meaning, nothing}

@@ -2,7 +2,7 @@ use Rattle.std.proofs.Common.{string_bytes}
 use Rattle.std.proofs.lemmas.Result.{err_from_is_err_and}
 use Rattle.nano_ron.specs.State.{at}
 use Rattle.ron_records.proofs.VariantReaders.{name_refused}
-use Rattle.described_ron.proofs.Behind.{choice_reads, choice_refused}
+use Rattle.described_ron.proofs.ChoiceReaders.{choice_reads, choice_refused}
 use Rattle.described_ron.proofs.choice.read_choice.Goals as goal
 
 pub returns-in_err-name-clause-refused : goal.returns-in_err-name-clause-refused

@@ -1,6 +1,6 @@
 use Rattle.std.proofs.lemmas.Result.{IfErr-weaker}
 use Rattle.nano_ron.specs.State.{at}
-use Rattle.described_ron.proofs.Behind.{closed_refused}
+use Rattle.described_ron.proofs.ChoiceReaders.{closed_refused}
 use Rattle.ron_records.specs.FieldReading.{fields_of}
 use Rattle.described_ron.proofs.contents.read_named_fields.Goals as goal
 

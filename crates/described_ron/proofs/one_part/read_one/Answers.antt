@@ -1,7 +1,7 @@
 use Rattle.std.proofs.lemmas.Result.{IfErr-weaker}
 use Rattle.nano_ron.specs.State.{at}
 use Rattle.ron_records.specs.Variants.{single_format}
-use Rattle.described_ron.proofs.Behind.{closed_refused}
+use Rattle.described_ron.proofs.ChoiceReaders.{closed_refused}
 use Rattle.described_ron.proofs.one_part.read_one.Goals as goal
 
 pub returns-clause-refused : goal.returns-clause-refused

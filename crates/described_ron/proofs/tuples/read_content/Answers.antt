@@ -1,6 +1,6 @@
 use Rattle.std.proofs.lemmas.Result.{IfErr-weaker}
 use Rattle.nano_ron.specs.State.{at}
-use Rattle.described_ron.proofs.Behind.{closed_refused}
+use Rattle.described_ron.proofs.ChoiceReaders.{closed_refused}
 use Rattle.described_ron.proofs.tuples.read_content.Goals as goal
 
 pub returns-clause-refused : goal.returns-clause-refused

@@ -1,9 +1,11 @@
 use Rattle.std.proofs.Common.{suc, sym, ◌∙◌}
 use Rattle.std.proofs.lemmas.Result.{IfOk-weaker, IfErr-weaker}
 use Rattle.text_fields.specs.Variants.{no_variants}
+use Rattle.json_tokens.specs.Cut.{Cut}
 use Rattle.nano_json.specs.State.{at}
+use Rattle.json_records.specs.Variants.{json_variants}
 use Rattle.described_json.specs.Contents.{is_alone, bytes_of}
-use Rattle.described_json.proofs.ChoiceReaders.{first_reads, first_refused, later_refused, none_named}
+use Rattle.described_text.proofs.ChoiceReaders.{first_reads, first_refused, later_refused, none_named}
 use Rattle.described_json.proofs.choices.NamedVariantJsonChoices.read.Goals as goal
 
 pub returns-then-is_named-clause-fits : goal.returns-then-is_named-clause-fits
@@ -13,7 +15,7 @@ returns-then-is_named-clause-fits g c = λ from.
     let rest = (g.S.JsonContent.content (g.S.Shape.names_of c.args.self.now.content)).rest in
     let start = at c.args.state.now c.args.input.now in
     let end = at c.read.new.state c.read.new.input in
-    IfOk-weaker c.read.result _ _ (λ x h. first_reads rest (g.N.Label.label c.args.self.now.name) no_variants (is_alone c.args.name.now) (bytes_of c.args.name.now) named from start end (g.S.Shape.means x) h) c.read.ensures.fits
+    IfOk-weaker c.read.result _ _ (λ x h. first_reads json_variants Cut rest (g.N.Label.label c.args.self.now.name) no_variants (is_alone c.args.name.now) (bytes_of c.args.name.now) named from start end (g.S.Shape.means x) h) c.read.ensures.fits
 
 pub returns-then-is_named-clause-refused : goal.returns-then-is_named-clause-refused
 returns-then-is_named-clause-refused g c = λ from.
@@ -21,7 +23,7 @@ returns-then-is_named-clause-refused g c = λ from.
     let named = rw (c.stands_alone.ensures, c.text.ensures) at it in
     let rest = (g.S.JsonContent.content (g.S.Shape.names_of c.args.self.now.content)).rest in
     let start = at c.args.state.now c.args.input.now in
-    IfErr-weaker c.read.result _ _ (λ e h. (λ known. first_refused rest (g.N.Label.label c.args.self.now.name) no_variants (is_alone c.args.name.now) (bytes_of c.args.name.now) named from start (h.0 known), h.1)) c.read.ensures.refused
+    IfErr-weaker c.read.result _ _ (λ e h. (λ known. first_refused json_variants Cut rest (g.N.Label.label c.args.self.now.name) no_variants (is_alone c.args.name.now) (bytes_of c.args.name.now) named from start (h.0 known), h.1)) c.read.ensures.refused
 
 pub returns-clause-refused : goal.returns-clause-refused
 returns-clause-refused g c = λ from.
@@ -31,4 +33,4 @@ returns-clause-refused g c = λ from.
     let start = at c.args.state.now c.args.input.now in
     let stood = is_alone c.args.name.now in
     let name = bytes_of c.args.name.now in
-    (λ known. later_refused rest (g.N.Label.label c.args.self.now.name) no_variants stood name other from start (none_named (suc from) stood name start), c.unknown.ensures.memory)
+    (λ known. later_refused json_variants Cut rest (g.N.Label.label c.args.self.now.name) no_variants stood name other from start (none_named json_variants Cut (suc from) stood name start), c.unknown.ensures.memory)

@@ -10,7 +10,7 @@ use Rattle.ron_tokens.specs.Cut.{Cut}
 use Rattle.ron_tokens.specs.Token.{Token}
 use Rattle.nano_ron.specs.Spelling.{NothingFits, Spelling}
 use Rattle.ron_records.specs.Variants.{ron_variants, named}
-use Rattle.ron_records.proofs.VariantReaders.{unit_reads, name_unknown, content_missing}
+use Rattle.ron_records.proofs.VariantReaders.{name_unknown, content_missing}
 use Rattle.text_values.proofs.Tokens.{leaves_append}
 use Rattle.described_text.specs.Choices.{SpellsBehind, has_alone}
 use Rattle.described_text.proofs.ChoiceReaders.{none_alone, some_alone}
