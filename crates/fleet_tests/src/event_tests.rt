@@ -1,6 +1,7 @@
 // Enums in JSON: each of its variants written and read back, nested in others, and refused.
-use fleet::{Event, Holder, Signal};
+use fleet::{Event, Signal};
 use nano_json::{BothJson, DeJson, SerJson};
+use records::Holder;
 use std::alloc::{AllocError, Global};
 use std::process::Abort;
 use std::test::Fail;
@@ -69,7 +70,10 @@ fn signals_by_name(rt: HostRuntime) -> Result<(), Fail> {
         ),
         ("{\"Wait\":5}", "Unexpected token U64(5) expected [ "),
         ("{\"Wait\":[5,6]}", "Unexpected token U64(6) expected ] "),
-        ("{\"Wait\":[]}", "Unexpected token BlockClose expected unsigned integer "),
+        (
+            "{\"Wait\":[]}",
+            "Unexpected token BlockClose expected unsigned integer ",
+        ),
         ("{\"Plan\":{\"title\":\"b\"}}", "Key not found steps"),
     ];
     for (text, expected) in rows {

@@ -1,8 +1,9 @@
 // Own types, written in both formats and read back, nested in others, and their laws at concrete
 // types.
-use fleet::{Event, Holder, Item, Server};
+use fleet::{Event, Server};
 use nano_bin::{BothBin, DeBin, DeBinKind, SerBin};
 use nano_json::{BothJson, DeJson, SerJson};
+use records::{Holder, Item};
 use std::alloc::Global;
 use std::collections::HashMap;
 use std::process::Abort;
@@ -49,41 +50,25 @@ fn written_and_read_back(rt: HostRuntime) -> Result<(), Fail> {
     let note = Some(String::from_str(alloc, "b")?);
     row(&rt, alloc, server(alloc, note)?, noted)?;
     let item = Item {
-        id: 1,
-        name: String::from_str(alloc, "c")?,
+        value: 1,
+        note: Some(String::from_str(alloc, "c")?),
     };
     let held = vec![in alloc; Some(Holder { x: item })]?;
-    row(&rt, alloc, held, "[{\"x\":{\"id\":1,\"name\":\"c\"}}]")
+    row(&rt, alloc, held, "[{\"x\":{\"value\":1,\"note\":\"c\"}}]")
 }
 
 #[test]
 fn bytes_in_declared_order(rt: HostRuntime) -> Result<(), Fail> {
     let alloc = rt.alloc();
     let item = Item {
-        id: 258,
-        name: String::from_str(alloc, "c")?,
+        value: 258,
+        note: Some(String::from_str(alloc, "c")?),
     };
     let bytes = item.serialize_bin(alloc)?;
     assert_eq!(rt;
         bytes.as_slice(),
-        [2, 1, 0, 0, 1, 0, 0, 0, 0, 0, 0, 0, 99].as_slice()
+        [2, 1, 0, 0, 1, 1, 0, 0, 0, 0, 0, 0, 0, 99].as_slice()
     );
-    Ok(())
-}
-
-#[test]
-fn refused_by_name(rt: HostRuntime) -> Result<(), Fail> {
-    let alloc = rt.alloc();
-    let rows = [
-        ("{\"id\":1}", "Key not found name"),
-        ("{\"name\":\"c\"}", "Key not found id"),
-    ];
-    for (text, expected) in rows {
-        match Item::deserialize_json(alloc, text) {
-            Ok(_item) => assert!(rt; false, "{text} is read"),
-            Err(error) => assert_eq!(rt; error.msg.as_str(), expected, "at {text}"),
-        }
-    }
     Ok(())
 }
 

@@ -1,8 +1,9 @@
 // Own structs in RON: written exactly, read back, read in any order, and refused by name at their
 // place. Each call is a function of its own, and so is what is asserted of its answer.
 use crate::format_tests::server;
-use fleet::{Holder, Item, Server};
+use fleet::Server;
 use nano_ron::{BothRon, DeRon, DeRonErr, SerRon};
+use records::{Holder, Item};
 use std::alloc::{AllocError, Global};
 use std::process::Abort;
 use std::test::Fail;
@@ -83,8 +84,8 @@ fn all_refused(rt: &impl Abort, alloc: Global, rows: &[(&str, &str, (usize, usiz
 
 fn item(alloc: Global) -> Result<Item, AllocError> {
     Ok(Item {
-        id: 1,
-        name: String::from_str(alloc, "c")?,
+        value: 1,
+        note: Some(String::from_str(alloc, "c")?),
     })
 }
 
@@ -109,7 +110,7 @@ fn written_where_it_is_some(rt: HostRuntime) -> Result<(), Fail> {
 fn written_at_their_levels(rt: HostRuntime) -> Result<(), Fail> {
     let alloc = rt.alloc();
     let held = vec![in alloc; Some(Holder { x: item(alloc)? })]?;
-    let text = "[\n    (\n        x:(\n            id:1,\n            name:\"c\",\n        \
+    let text = "[\n    (\n        x:(\n            value:1,\n            note:\"c\",\n        \
                 ),\n    ),\n]";
     row(&rt, alloc, held, text)
 }
@@ -118,10 +119,10 @@ fn written_at_their_levels(rt: HostRuntime) -> Result<(), Fail> {
 fn read_in_any_order(rt: HostRuntime) -> Result<(), Fail> {
     let alloc = rt.alloc();
     let texts = [
-        "(id:1,name:\"c\")",
-        "(name: \"c\", id: 1,)",
-        "(id:2,name:\"d\",id:1,name:\"c\")",
-        "( /* ( */ name:\"c\" , // )\n id:1 )",
+        "(value:1,note:\"c\")",
+        "(note: \"c\", value: 1,)",
+        "(value:2,note:\"d\",value:1,note:\"c\")",
+        "( /* ( */ note:\"c\" , // )\n value:1 )",
     ];
     values(&rt, alloc, &texts, &item(alloc)?)
 }
@@ -142,17 +143,17 @@ fn may_be_missing(rt: HostRuntime) -> Result<(), Fail> {
 fn refused_by_name(rt: HostRuntime) {
     let rows = [
         (
-            "(id:1, other:2, name:\"c\")",
+            "(value:1, other:2, note:\"c\")",
             "Unexpected key other",
-            (0, 13),
+            (0, 16),
         ),
         (
-            "(\n    name:\"c\",\n    nam:\"d\"\n)",
-            "Unexpected key nam",
+            "(\n    note:\"c\",\n    not:\"d\"\n)",
+            "Unexpected key not",
             (2, 8),
         ),
-        ("(id:1)", "Key not found name", (0, 6)),
-        ("(\n    name:\"c\",\n)", "Key not found id", (2, 1)),
+        ("(note:\"c\")", "Key not found value", (0, 10)),
+        ("(\n    note:\"c\",\n)", "Key not found value", (2, 1)),
     ];
     all_refused(&rt, rt.alloc(), &rows);
 }
@@ -161,24 +162,24 @@ fn refused_by_name(rt: HostRuntime) {
 fn refused_by_token(rt: HostRuntime) {
     let rows = [
         (
-            "(id:1,,name:\"c\")",
+            "(value:1,,note:\"c\")",
             "Unexpected token Comma expected ) ",
-            (0, 8),
-        ),
-        (
-            "(id:1 name:\"c\")",
-            "Unexpected token Ident expected , or ) ",
             (0, 11),
         ),
         (
-            "{id:1,name:\"c\"}",
+            "(value:1 note:\"c\")",
+            "Unexpected token Ident expected , or ) ",
+            (0, 14),
+        ),
+        (
+            "{value:1,note:\"c\"}",
             "Unexpected token CurlyOpen expected ( ",
             (0, 2),
         ),
         (
-            "(\"id\":1,name:\"c\")",
+            "(\"value\":1,note:\"c\")",
             "Unexpected token Str expected ) ",
-            (0, 6),
+            (0, 9),
         ),
         (
             "(true:1)",
