@@ -9,6 +9,14 @@ pub use Rattle.nano_json.specs.Format as JsonFormat
 pub use Rattle.nano_json.specs.Readers as JsonReaders
 pub use Rattle.nano_ron.specs.Format as RonFormat
 pub use Rattle.nano_ron.specs.Readers as RonReaders
+-- own types
+pub use Rattle.described.specs.Names
+pub use Rattle.described.specs.Choices
+pub use Rattle.described_bin.specs.Choices as BinChoice
+pub use Rattle.described_json.specs.Record as JsonRecord
+pub use Rattle.described_json.specs.Choice as JsonChoice
+pub use Rattle.described_ron.specs.Record as RonRecord
+pub use Rattle.described_ron.specs.Choice as RonChoice
 -- what joins the formats
 pub mod Normal
 pub mod Laws
