@@ -1,4 +1,4 @@
-// An enum with a variant of each shape: its description, and then bytes and JSON.
+// An enum with a variant of each shape: its description, and then bytes, JSON and RON.
 ghost use Rattle.std.specs.Prelude.{[], codes, refl};
 ghost use Rattle.std.proofs.Common.{lit≤};
 ghost use Rattle.nano_value.specs.Sums.{LegalVariant};
@@ -7,6 +7,7 @@ ghost use Rattle.described.specs.Names.{name, names, two_names};
 ghost use Rattle.nano_bin.specs.Format.{format_as};
 ghost use Rattle.described_bin.specs.Choices.{choice_format};
 ghost use Rattle.described_json.specs.Choice.{json_choice};
+ghost use Rattle.described_ron.specs.Choice.{ron_choice};
 ghost use Rattle.fleet.specs.Event.{seen};
 
 use described::{
@@ -15,8 +16,10 @@ use described::{
 };
 use described_bin::{BinShapes, read_choice_bin, write_choice_bin};
 use described_json::{JsonShapes, read_choice, write_choice};
+use described_ron::RonShapes;
 use nano_bin::{BinFormat, BothBin, DeBin, DeBinErr, SerBin};
 use nano_json::{BothJson, DeJson, DeJsonErr, DeJsonState, JsonFormat, SerJson, SerJsonState};
+use nano_ron::{BothRon, DeRon, DeRonErr, DeRonState, RonFormat, SerRon, SerRonState};
 use nano_value::Value;
 use std::alloc::{AllocError, Global};
 use std::str::Chars;
@@ -143,3 +146,30 @@ impl DeJson for Event {
 }
 
 impl BothJson for Event {}
+
+// ---- RON
+
+impl RonFormat for Event {
+    ghost ron = { ron_choice seen ⟦<EventVariants as RonShapes>⟧.format
+        ⟦<Event as Choice>⟧.the_names refl refl refl };
+
+    ghost ties = { tied };
+}
+
+impl SerRon for Event {
+    fn ser_ron(&self, alloc: Global, d: usize, s: &mut SerRonState) -> Result<(), AllocError> {
+        described_ron::write_choice(self, alloc, d, s)
+    }
+}
+
+impl DeRon for Event {
+    fn de_ron(
+        alloc: Global,
+        state: &mut DeRonState,
+        input: &mut Chars<'_>,
+    ) -> Result<Event, DeRonErr> {
+        described_ron::read_choice(alloc, state, input)
+    }
+}
+
+impl BothRon for Event {}

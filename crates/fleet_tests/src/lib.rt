@@ -7,6 +7,8 @@ mod event_tests;
 #[cfg(test)]
 mod format_tests;
 #[cfg(test)]
+mod ron_law_tests;
+#[cfg(test)]
 mod ron_tests;
 #[cfg(test)]
 mod ron_variant_tests;

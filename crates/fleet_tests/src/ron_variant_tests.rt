@@ -1,11 +1,81 @@
-// Variants in RON: a name, and content directly behind it.
-use nano_ron::{DeRon, DeRonErr, DeRonState, SerRonState};
+// Enums in RON: each variant written and read back, nested in others, and refused; and the calls
+// that read and write a name, and content directly behind it, by themselves.
+use fleet::{Event, Holder};
+use nano_ron::{BothRon, DeRon, DeRonErr, DeRonState, SerRon, SerRonState};
 use ron_records::{
     Part, RequiredPart, read_variant_name, unknown_variant, write_fields_variant,
     write_unit_variant, write_variant,
 };
 use std::alloc::{AllocError, Global};
+use std::process::Abort;
 use std::test::Fail;
+
+/// Texts, with what is written of the event that each is read as, or what its refusal says.
+const EVENTS: [(&str, &str); 15] = [
+    ("Stop", "Stop"),
+    (" /* Halt */ Stop // Halt", "Stop"),
+    ("Stop(1)", "Stop"),
+    ("Move (2, \"a\",)", "Move(2, \"a\")"),
+    (
+        "Say(times: 3, text: \"c\")",
+        "Say(\n    text:\"c\",\n    times:3,\n)",
+    ),
+    (
+        "Say(times: 3, text: \"c\", times: 4,)",
+        "Say(\n    text:\"c\",\n    times:4,\n)",
+    ),
+    ("Halt", "Enum not defined Halt"),
+    ("stop", "Enum not defined stop"),
+    ("Move", "Unexpected token Eof expected ( "),
+    ("Move(2)", "Unexpected token ParenClose expected string "),
+    ("Move(2, \"a\", 3)", "Unexpected token U64(3) expected ) "),
+    ("Say(text: \"c\")", "Key not found times"),
+    ("Say(text: \"c\", x: 1, times: 3)", "Unexpected key x"),
+    ("\"Stop\"", "Unexpected token Str expected Identifier "),
+    ("true", "Unexpected token Bool(true) expected Identifier "),
+];
+
+/// What is written of the value that a text is read as, or what the refusal says.
+fn outcome<T: BothRon>(alloc: Global, text: &str) -> Result<String, AllocError> {
+    match T::deserialize_ron(alloc, text) {
+        Ok(value) => {
+            nano_ron::laws::written_text_is_cut_into_its_tokens(&value);
+            value.serialize_ron(alloc)
+        }
+        Err(error) => Ok(error.msg),
+    }
+}
+
+fn check(rt: &impl Abort, found: &str, expected: &str, text: &str) {
+    assert_eq!(rt; found, expected, "of {text}");
+}
+
+#[test]
+fn events_by_name(rt: HostRuntime) -> Result<(), Fail> {
+    for (text, expected) in &EVENTS {
+        let found = outcome::<Event>(rt.alloc(), text)?;
+        check(&rt, found.as_str(), expected, text);
+    }
+    Ok(())
+}
+
+#[test]
+fn events_in_others(rt: HostRuntime) -> Result<(), Fail> {
+    let text = "[\n    (\n        x:Stop,\n    ),\n    (\n        x:Move(0, \"\"),\n    ),\n    \
+                (\n        x:Say(\n            text:\"c\",\n            times:3,\n        ),\n    ),\n    \
+                None,\n]";
+    let found = outcome::<Vec<Option<Holder<Event>>>>(rt.alloc(), text)?;
+    check(&rt, found.as_str(), text, text);
+    Ok(())
+}
+
+#[test]
+fn unknown_event_at_its_place(rt: HostRuntime) {
+    match Event::deserialize_ron(rt.alloc(), "\n Halt 1") {
+        Ok(_event) => assert!(rt; false, "a name that no variant has is read"),
+        Err(error) => assert_eq!(rt; (error.line, error.col), (1, 7)),
+    }
+}
 
 /// A writer that has written nothing.
 fn writer(alloc: Global) -> SerRonState {
