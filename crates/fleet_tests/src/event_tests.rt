@@ -69,7 +69,10 @@ fn signals_by_name(rt: HostRuntime) -> Result<(), Fail> {
         ),
         ("{\"Wait\":5}", "Unexpected token U64(5) expected [ "),
         ("{\"Wait\":[5,6]}", "Unexpected token U64(6) expected ] "),
-        ("{\"Wait\":[]}", "Unexpected token BlockClose expected unsigned integer "),
+        (
+            "{\"Wait\":[]}",
+            "Unexpected token BlockClose expected unsigned integer ",
+        ),
         ("{\"Plan\":{\"title\":\"b\"}}", "Key not found steps"),
     ];
     for (text, expected) in rows {
