@@ -32,8 +32,8 @@ pub trait RonChoices: RonShapes {
     /// `Enum not defined {name}`.
     ///
     /// An error that is not for want of memory says that no content of such a variant is spelled
-    /// there, with one more token or the end behind it. Every refusal leaves the state at the end of
-    /// the text.
+    /// there, with one more token or the end behind it. Every refusal leaves the state at the end
+    /// of the text.
     fn read(
         &self,
         name: &str,

@@ -40,7 +40,8 @@ pub trait ReadContent: RonContent {
     ) -> Result<<Self as Shape>::Values, DeRonErr>
         ensures fits { Reads (SpellsRest ron_variants (Self.content (Self.names_of self.now)).rest)
             Self.means (at state.old input.old) (at state.new input.new) result }
-        ensures refused { Refuses (SpellsRest ron_variants (Self.content (Self.names_of self.now)).rest)
+        ensures refused { Refuses
+            (SpellsRest ron_variants (Self.content (Self.names_of self.now)).rest)
             (at state.old input.old) result }
         ensures ended { OnErr result (at state.new input.new ≡ ended) };
 }

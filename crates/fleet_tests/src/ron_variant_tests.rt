@@ -62,8 +62,8 @@ fn events_by_name(rt: HostRuntime) -> Result<(), Fail> {
 #[test]
 fn events_in_others(rt: HostRuntime) -> Result<(), Fail> {
     let text = "[\n    (\n        x:Stop,\n    ),\n    (\n        x:Move(0, \"\"),\n    ),\n    \
-                (\n        x:Say(\n            text:\"c\",\n            times:3,\n        ),\n    ),\n    \
-                None,\n]";
+                (\n        x:Say(\n            text:\"c\",\n            times:3,\n        \
+                ),\n    ),\n    None,\n]";
     let found = outcome::<Vec<Option<Holder<Event>>>>(rt.alloc(), text)?;
     check(&rt, found.as_str(), text, text);
     Ok(())

@@ -24,7 +24,7 @@ impl<A: Fields, B: Fields> Fields for (A, B) {
         (B.format (B.names_of x.1)).struct.shape.knows fs f e
         (λ p. A.skips x.0 slots.0 fs f p h.0)
         (λ q. B.skips x.1 slots.1
-            (others (A.format (A.names_of x.0)).struct.shape.knows fs) f q h.1) };
+        (others (A.format (A.names_of x.0)).struct.shape.knows fs) f q h.1) };
 
     fn empty(&self) -> (A::Slots, B::Slots) {
         (self.0.empty(), self.1.empty())

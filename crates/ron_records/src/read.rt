@@ -72,7 +72,8 @@ fn read_any<F: Fields>(
     ensures fits { OnOk result (ReadsField (Allowed (F.format (F.names_of fields.now)).struct.shape)
         (F.holds fields.now slots.old) (F.holds fields.now slots.new)
         (at state.old input.old) (at state.new input.new)) }
-    ensures refused { Refuses (SpelledField (Allowed (F.format (F.names_of fields.now)).struct.shape))
+    ensures refused { Refuses
+        (SpelledField (Allowed (F.format (F.names_of fields.now)).struct.shape))
         (at state.old input.old) result }
 {
     if fields.knows(state.identbuf.as_str()) {
