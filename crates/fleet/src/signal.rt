@@ -1,23 +1,25 @@
-// An enum with one part, with longer tuples and with more named fields: its description, and then
-// bytes and JSON.
+// An enum with one part, three and four: its description, and then bytes, JSON and RON.
 ghost use Rattle.std.specs.Prelude.{[], codes, refl};
 ghost use Rattle.std.proofs.Common.{lit≤};
 ghost use Rattle.nano_value.specs.Sums.{LegalVariant};
 ghost use Rattle.nano_value.specs.Ties.{tied};
-ghost use Rattle.described.specs.Names.{name, names, three_names};
+ghost use Rattle.described.specs.Names.{name, names};
 ghost use Rattle.nano_bin.specs.Format.{format_as};
 ghost use Rattle.described_bin.specs.Choices.{choice_format};
 ghost use Rattle.described_json.specs.Choice.{json_choice};
+ghost use Rattle.described_ron.specs.Choice.{ron_choice};
 ghost use Rattle.fleet.specs.Signal.{seen};
 
 use described::{
-    BorrowedChoices, Choice, ChoiceParts, Choices, Either, InThree, OnePart, Optional, Required,
-    Tupled, Variant, called, known_choice, may, must, one_part, three, three_apart, tuple, variant,
+    BorrowedChoices, Choice, ChoiceParts, Choices, Either, OnePart, Tupled, Variant, called,
+    known_choice, one_part, tuple, variant,
 };
 use described_bin::{BinShapes, read_choice_bin, write_choice_bin};
 use described_json::{JsonShapes, read_choice, write_choice};
+use described_ron::RonShapes;
 use nano_bin::{BinFormat, BothBin, DeBin, DeBinErr, SerBin};
 use nano_json::{BothJson, DeJson, DeJsonErr, DeJsonState, JsonFormat, SerJson, SerJsonState};
+use nano_ron::{BothRon, DeRon, DeRonErr, DeRonState, RonFormat, SerRon, SerRonState};
 use nano_value::Value;
 use std::alloc::{AllocError, Global};
 use std::str::Chars;
@@ -28,28 +30,16 @@ pub enum Signal {
     /// It waits for so many milliseconds.
     Wait(u64),
     /// It moves to a place.
-    Move(i32, i32, String),
+    Move(u16, u16, u16),
     /// It takes a colour, and lights up or not.
     Light(u8, u8, u8, bool),
-    /// It does one thing after the other.
-    Plan {
-        /// The plan's name.
-        title: String,
-        /// What it does.
-        steps: Vec<u32>,
-        /// What else there is to say of it.
-        note: Option<String>,
-    },
 }
 
 type SignalVariants = (
     Variant<OnePart<u64>>,
     (
-        Variant<Tupled<(i32, i32, String)>>,
-        (
-            Variant<Tupled<(u8, u8, u8, bool)>>,
-            Variant<InThree<Required<String>, Required<Vec<u32>>, Optional<String>>>,
-        ),
+        Variant<Tupled<(u16, u16, u16)>>,
+        Variant<Tupled<(u8, u8, u8, bool)>>,
     ),
 );
 
@@ -58,9 +48,7 @@ impl Choice for Signal {
 
     ghost the_names = { names (names (name (codes "Wait")) (name []))
         (names (names (name (codes "Move")) (name []))
-        (names (names (name (codes "Light")) (name []))
-        (names (name (codes "Plan"))
-        (three_names (codes "title") (codes "steps") (codes "note"))))) };
+        (names (name (codes "Light")) (name []))) };
 
     ghost view = { seen };
 
@@ -69,13 +57,7 @@ impl Choice for Signal {
             variant(called("Wait"), one_part()),
             (
                 variant(called("Move"), tuple()),
-                (
-                    variant(called("Light"), tuple()),
-                    variant(
-                        called("Plan"),
-                        three(must("title"), must("steps"), may("note")),
-                    ),
-                ),
+                variant(called("Light"), tuple()),
             ),
         )
     }
@@ -83,13 +65,9 @@ impl Choice for Signal {
     fn make(values: <SignalVariants as Choices>::Values) -> Signal {
         match values {
             Either::First(time) => Signal::Wait(time),
-            Either::Later(Either::First((x, y, name))) => Signal::Move(x, y, name),
-            Either::Later(Either::Later(Either::First((red, green, blue, on)))) => {
+            Either::Later(Either::First((x, y, z))) => Signal::Move(x, y, z),
+            Either::Later(Either::Later((red, green, blue, on))) => {
                 Signal::Light(red, green, blue, on)
-            }
-            Either::Later(Either::Later(Either::Later(fields))) => {
-                let (title, steps, note) = three_apart(fields);
-                Signal::Plan { title, steps, note }
             }
         }
     }
@@ -99,12 +77,9 @@ impl<'a> ChoiceParts<'a> for Signal {
     fn refs(&'a self) -> <SignalVariants as BorrowedChoices<'a>>::Refs {
         match self {
             Signal::Wait(time) => Either::First(time),
-            Signal::Move(x, y, name) => Either::Later(Either::First((x, y, name))),
+            Signal::Move(x, y, z) => Either::Later(Either::First((x, y, z))),
             Signal::Light(red, green, blue, on) => {
-                Either::Later(Either::Later(Either::First((red, green, blue, on))))
-            }
-            Signal::Plan { title, steps, note } => {
-                Either::Later(Either::Later(Either::Later(three(title, steps, note))))
+                Either::Later(Either::Later((red, green, blue, on)))
             }
         }
     }
@@ -170,3 +145,30 @@ impl DeJson for Signal {
 }
 
 impl BothJson for Signal {}
+
+// ---- RON
+
+impl RonFormat for Signal {
+    ghost ron = { ron_choice seen ⟦<SignalVariants as RonShapes>⟧.format
+        ⟦<Signal as Choice>⟧.the_names refl refl refl };
+
+    ghost ties = { tied };
+}
+
+impl SerRon for Signal {
+    fn ser_ron(&self, alloc: Global, d: usize, s: &mut SerRonState) -> Result<(), AllocError> {
+        described_ron::write_choice(self, alloc, d, s)
+    }
+}
+
+impl DeRon for Signal {
+    fn de_ron(
+        alloc: Global,
+        state: &mut DeRonState,
+        input: &mut Chars<'_>,
+    ) -> Result<Signal, DeRonErr> {
+        described_ron::read_choice(alloc, state, input)
+    }
+}
+
+impl BothRon for Signal {}
