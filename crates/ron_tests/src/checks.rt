@@ -11,17 +11,22 @@ pub(crate) fn refusal<T: DeRon>(alloc: Global, text: &str) -> Option<DeRonErr> {
     T::deserialize_ron(alloc, text).err()
 }
 
-/// The text was refused with this message, in this line and this column, both counted from 0.
-fn is_fault(rt: &impl Abort, told: Option<DeRonErr>, row: &(&str, &str, usize, usize)) {
-    let (text, msg, line, col) = row;
-    match told {
-        None => assert!(rt; false, "{text} is read"),
-        Some(error) => {
-            assert!(rt; !error.memory, "no memory at {text}");
-            let found = (error.msg.as_str(), error.line, error.col);
-            assert_eq!(rt; found, (*msg, *line, *col), "at {text}");
-        }
+/// What an error tells.
+pub(crate) fn why(error: &DeRonErr) -> &str {
+    if error.memory {
+        "no memory"
+    } else {
+        error.msg.as_str()
     }
+}
+
+/// The text was refused with this message, in this line and this column, both counted from 0.
+fn is_fault(rt: &impl Abort, told: &Option<DeRonErr>, row: &(&str, &str, usize, usize)) {
+    let found = match told {
+        None => ("read", 0, 0),
+        Some(error) => (why(error), error.line, error.col),
+    };
+    assert_eq!(rt; found, (row.1, row.2, row.3), "at {}", row.0);
 }
 
 /// Each text is refused with its message, in its line and column.
@@ -31,16 +36,17 @@ pub(crate) fn faults<T: DeRon>(
     rows: &[(&str, &str, usize, usize)],
 ) {
     for row in rows {
-        is_fault(rt, refusal::<T>(alloc, row.0), row);
+        is_fault(rt, &refusal::<T>(alloc, row.0), row);
     }
 }
 
 /// The text was refused.
 pub(crate) fn is_refused(rt: &impl Abort, told: Option<DeRonErr>, text: &str) {
-    match told {
-        None => assert!(rt; false, "{text} is read"),
-        Some(error) => assert!(rt; !error.memory, "no memory at {text}"),
-    }
+    let found = match told {
+        None => "read",
+        Some(error) => if error.memory { "no memory" } else { "refused" },
+    };
+    assert_eq!(rt; found, "refused", "at {text}");
 }
 
 /// The texts are refused.
@@ -51,14 +57,12 @@ pub(crate) fn all_refused<T: DeRon>(rt: &impl Abort, alloc: Global, texts: &[&st
 }
 
 /// The text was read, and what is said of its value holds.
-pub(crate) fn is_read(rt: &impl Abort, read: Result<bool, DeRonErr>, text: &str) {
-    match read {
-        Ok(is_so) => assert!(rt; is_so, "at {text}"),
-        Err(error) => {
-            assert!(rt; !error.memory, "no memory at {text}");
-            assert_eq!(rt; error.msg.as_str(), "", "at {text}");
-        }
-    }
+pub(crate) fn is_read(rt: &impl Abort, read: &Result<bool, DeRonErr>, text: &str) {
+    let found = match read {
+        Ok(is_so) => if *is_so { "" } else { "another value" },
+        Err(error) => why(error),
+    };
+    assert_eq!(rt; found, "", "at {text}");
 }
 
 /// Whether a text is read as the value.
@@ -76,7 +80,7 @@ fn is_value<T: DeRon + PartialEq>(
 /// Each text is read as the value beside it.
 pub(crate) fn values<T: DeRon + PartialEq>(rt: &impl Abort, alloc: Global, rows: &[(&str, T)]) {
     for (text, expected) in rows {
-        is_read(rt, is_value(alloc, text, expected), text);
+        is_read(rt, &is_value(alloc, text, expected), text);
     }
 }
 
@@ -86,17 +90,18 @@ fn text_of<T: SerRon>(alloc: Global, value: &T) -> Result<String, AllocError> {
 }
 
 /// The text was made, and is the expected one.
-pub(crate) fn is_made(rt: &impl Abort, made: Result<String, AllocError>, expected: &str) {
-    match made {
-        Ok(text) => assert_eq!(rt; text.as_str(), expected),
-        Err(_refused) => assert!(rt; false, "no memory at {expected}"),
-    }
+pub(crate) fn is_made(rt: &impl Abort, made: &Result<String, AllocError>, expected: &str) {
+    let found = match made {
+        Ok(text) => text.as_str(),
+        Err(_refused) => "no memory",
+    };
+    assert_eq!(rt; found, expected);
 }
 
 /// Each value is written as the text beside it.
 pub(crate) fn written<T: SerRon>(rt: &impl Abort, alloc: Global, rows: &[(T, &str)]) {
     for (value, expected) in rows {
-        is_made(rt, text_of(alloc, value), expected);
+        is_made(rt, &text_of(alloc, value), expected);
     }
 }
 
@@ -111,24 +116,18 @@ fn forms<T: BothRon>(alloc: Global, text: &str) -> Result<(String, String), DeRo
 }
 
 /// The text was read, and was written twice as the expected text.
-fn are_forms(rt: &impl Abort, forms: Result<(String, String), DeRonErr>, row: &(&str, &str)) {
-    let (text, expected) = row;
-    match forms {
-        Ok((one, other)) => {
-            assert_eq!(rt; one.as_str(), *expected, "at {text}");
-            assert_eq!(rt; other.as_str(), *expected, "at {text}");
-        }
-        Err(error) => {
-            assert!(rt; !error.memory, "no memory at {text}");
-            assert_eq!(rt; error.msg.as_str(), *expected, "at {text}");
-        }
-    }
+fn are_forms(rt: &impl Abort, forms: &Result<(String, String), DeRonErr>, row: &(&str, &str)) {
+    let found = match forms {
+        Ok(texts) => (texts.0.as_str(), texts.1.as_str()),
+        Err(error) => (why(error), ""),
+    };
+    assert_eq!(rt; found, (row.1, row.1), "at {}", row.0);
 }
 
 /// Each text is read, and then written as the text beside it; what is read back from there is
 /// written as that text too.
 pub(crate) fn normal<T: BothRon>(rt: &impl Abort, alloc: Global, rows: &[(&str, &str)]) {
     for row in rows {
-        are_forms(rt, forms::<T>(alloc, row.0), row);
+        are_forms(rt, &forms::<T>(alloc, row.0), row);
     }
 }

@@ -36,26 +36,23 @@ fn printed(alloc: Global, error: &DeRonErr) -> Result<(String, String, bool), Al
 
 /// The error tells this in the third line and the last column, with this mark for memory.
 fn says_where(rt: &impl Abort, error: &DeRonErr, expected: &str, memory: bool) {
-    assert!(rt; error.memory == memory, "no memory at {expected}");
-    let found = (error.msg.as_str(), error.line, error.col);
-    assert_eq!(rt; found, (expected, 2, usize::MAX));
+    let found = (error.msg.as_str(), error.line, error.col, error.memory);
+    let far = (expected, 2, usize::MAX, memory);
+    assert_eq!(rt; found, far, "no memory at {expected}");
 }
 
 /// The error was printed twice as this text, and its clone has the mark.
 fn is_printed(
     rt: &impl Abort,
-    printed: Result<(String, String, bool), AllocError>,
+    printed: &Result<(String, String, bool), AllocError>,
     expected: &str,
     memory: bool,
 ) {
-    match printed {
-        Ok((one, other, mark)) => {
-            assert_eq!(rt; one.as_str(), expected);
-            assert_eq!(rt; other.as_str(), expected);
-            assert!(rt; mark == memory, "at {expected}");
-        }
-        Err(_refused) => assert!(rt; false, "no memory at {expected}"),
-    }
+    let found = match printed {
+        Ok(texts) => (texts.0.as_str(), texts.1.as_str(), texts.2),
+        Err(_refused) => ("no memory", "", false),
+    };
+    assert_eq!(rt; found, (expected, expected, memory));
 }
 
 /// A maker of errors, its word, and the message and the text that it makes.
@@ -118,34 +115,41 @@ fn errors_say_where(rt: HostRuntime) {
         let error = made(alloc, &state, name, what);
         let memory = *name == "err_memory";
         says_where(&rt, &error, msg, memory);
-        is_printed(&rt, printed(alloc, &error), text, memory);
+        is_printed(&rt, &printed(alloc, &error), text, memory);
     }
+}
+
+/// Each token, and its name with its value where it has one.
+const NAMES: &[(DeRonTok, &str)] = &[
+    (DeRonTok::Ident, "Ident"),
+    (DeRonTok::Str, "Str"),
+    (DeRonTok::U64(u64::MAX), "U64(18446744073709551615)"),
+    (DeRonTok::I64(i64::MIN), "I64(-9223372036854775808)"),
+    (DeRonTok::F64, "F64"),
+    (DeRonTok::Bool(false), "Bool(false)"),
+    (DeRonTok::Char('\n'), "Char('\\n')"),
+    (DeRonTok::Colon, "Colon"),
+    (DeRonTok::CurlyOpen, "CurlyOpen"),
+    (DeRonTok::CurlyClose, "CurlyClose"),
+    (DeRonTok::ParenOpen, "ParenOpen"),
+    (DeRonTok::ParenClose, "ParenClose"),
+    (DeRonTok::BlockOpen, "BlockOpen"),
+    (DeRonTok::BlockClose, "BlockClose"),
+    (DeRonTok::Comma, "Comma"),
+    (DeRonTok::Bof, "Bof"),
+    (DeRonTok::Eof, "Eof"),
+];
+
+/// The name of a token.
+fn name_of(alloc: Global, tok: &DeRonTok) -> Result<String, AllocError> {
+    format!(in alloc; "{tok:?}")
 }
 
 /// The pending token is told by its name, with its value where it has one.
 #[test]
 fn tokens_have_names(rt: HostRuntime) {
     let alloc = rt.alloc();
-    let rows = [
-        (DeRonTok::Ident, "Ident"),
-        (DeRonTok::Str, "Str"),
-        (DeRonTok::U64(u64::MAX), "U64(18446744073709551615)"),
-        (DeRonTok::I64(i64::MIN), "I64(-9223372036854775808)"),
-        (DeRonTok::F64, "F64"),
-        (DeRonTok::Bool(false), "Bool(false)"),
-        (DeRonTok::Char('\n'), "Char('\\n')"),
-        (DeRonTok::Colon, "Colon"),
-        (DeRonTok::CurlyOpen, "CurlyOpen"),
-        (DeRonTok::CurlyClose, "CurlyClose"),
-        (DeRonTok::ParenOpen, "ParenOpen"),
-        (DeRonTok::ParenClose, "ParenClose"),
-        (DeRonTok::BlockOpen, "BlockOpen"),
-        (DeRonTok::BlockClose, "BlockClose"),
-        (DeRonTok::Comma, "Comma"),
-        (DeRonTok::Bof, "Bof"),
-        (DeRonTok::Eof, "Eof"),
-    ];
-    for (tok, expected) in rows {
-        is_made(&rt, format!(in alloc; "{tok:?}"), expected);
+    for (tok, expected) in NAMES {
+        is_made(&rt, &name_of(alloc, tok), expected);
     }
 }

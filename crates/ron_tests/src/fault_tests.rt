@@ -1,5 +1,6 @@
 // Faults of tokens and of the calls that take them: what they tell, and the line and the column
 // where they are found, counted from 0.
+use crate::checks::why;
 use crate::helper_tests::call;
 use crate::place_tests::taken_of;
 use ron_tokens::DeRonErr;
@@ -392,26 +393,27 @@ fn fault(alloc: Global, text: &str, taken: usize, name: &str) -> (Option<DeRonEr
 /// The call told this, at the place where the state stands.
 fn is_told(
     rt: &impl Abort,
-    fault: (Option<DeRonErr>, usize, usize),
+    fault: &(Option<DeRonErr>, usize, usize),
     row: &(&str, usize, &str, &str, usize, usize),
 ) {
-    let (text, _taken, name, msg, line, col) = row;
-    let (told, at_line, at_col) = fault;
-    match told {
-        None => assert!(rt; false, "{name} at {text}"),
-        Some(error) => {
-            assert!(rt; !error.memory, "no memory at {text}");
-            let found = (error.msg.as_str(), error.line, error.col);
-            assert_eq!(rt; found, (*msg, *line, *col), "{name} at {text}");
-            assert_eq!(rt; (at_line, at_col), (*line, *col), "{name} at {text}");
-        }
-    }
+    let (told, line, col) = fault;
+    let found = match told {
+        None => ("taken", 0, 0, *line, *col),
+        Some(error) => (why(error), error.line, error.col, *line, *col),
+    };
+    assert_eq!(rt;
+        found,
+        (row.3, row.4, row.5, row.4, row.5),
+        "{} at {}",
+        row.2,
+        row.0
+    );
 }
 
 #[test]
 fn faults_are_told(rt: HostRuntime) {
     let alloc = rt.alloc();
     for row in FAULTS {
-        is_told(&rt, fault(alloc, row.0, row.1, row.2), row);
+        is_told(&rt, &fault(alloc, row.0, row.1, row.2), row);
     }
 }

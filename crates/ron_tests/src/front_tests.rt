@@ -39,7 +39,7 @@ fn whole<T: DeRon>(alloc: Global, text: &str) -> Result<bool, DeRonErr> {
 /// The text is read, and ends where its bracket or its quote closes: each proper front is refused,
 /// and so is a second read on that state.
 fn fronts_refused<T: DeRon>(rt: &impl Abort, alloc: Global, text: &str) {
-    is_read(rt, whole::<T>(alloc, text), text);
+    is_read(rt, &whole::<T>(alloc, text), text);
     for (at, _character) in text.char_indices() {
         let front = text.get(..at).unwrap_or(text);
         is_refused(rt, refusal::<T>(alloc, front), front);

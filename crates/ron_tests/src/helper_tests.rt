@@ -90,7 +90,7 @@ const ANSWERS: &[(&str, usize, &str, &str)] = &[
 fn helpers_take_tokens(rt: HostRuntime) {
     let alloc = rt.alloc();
     for (text, taken, name, expected) in ANSWERS {
-        is_made(&rt, answer(alloc, text, *taken, name), expected);
+        is_made(&rt, &answer(alloc, text, *taken, name), expected);
     }
 }
 
@@ -129,7 +129,7 @@ const LEFT: &[(&str, usize, &str, &str)] = &[
 fn refused_helpers_leave_the_token(rt: HostRuntime) {
     let alloc = rt.alloc();
     for (text, taken, name, expected) in LEFT {
-        is_made(&rt, left(alloc, text, *taken, name), expected);
+        is_made(&rt, &left(alloc, text, *taken, name), expected);
     }
 }
 
@@ -164,13 +164,12 @@ fn is_written(
     row: &(&str, usize, &str, bool, &str),
     out: &str,
 ) {
-    let (name, _level, _text, succeeds, expected) = row;
-    if *succeeds {
-        assert!(rt; ended.is_ok(), "no memory at {name}");
-    } else {
-        assert!(rt; ended.is_err(), "{name} is written");
-    }
-    assert_eq!(rt; out, *expected);
+    assert_eq!(rt;
+        (ended.is_ok(), out),
+        (row.3, row.4),
+        "no memory at {}",
+        row.0
+    );
 }
 
 #[test]
@@ -204,6 +203,6 @@ fn strings_are_appended(rt: HostRuntime) {
             "(\n    a:,\n)        \"a\\n\\r\\t\\0\\\\\\\"\u{1}\u{7f}é😋\"",
         ),
     ] {
-        is_made(&rt, quoted(alloc, text), expected);
+        is_made(&rt, &quoted(alloc, text), expected);
     }
 }

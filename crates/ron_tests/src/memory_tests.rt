@@ -57,22 +57,21 @@ fn told(alloc: Global, text: &str, name: &str) -> Option<DeRonErr> {
 
 /// The call succeeded where nothing is to be told, told what it should, or wanted memory, which has
 /// no message.
-fn is_told(rt: &impl Abort, told: Option<DeRonErr>, text: &str, expected: &str) {
-    match told {
-        None => assert_eq!(rt; expected, "", "at {text}"),
-        Some(error) => {
-            let message = if error.memory { "" } else { expected };
-            assert_eq!(rt; error.msg.as_str(), message, "at {text}");
-            assert!(rt; error.memory || expected != "", "at {text}");
-        }
-    }
+fn is_told(rt: &impl Abort, told: &Option<DeRonErr>, text: &str, expected: &str) {
+    let (found, memory) = match told {
+        None => ("", false),
+        Some(error) => (error.msg.as_str(), error.memory),
+    };
+    let refused = told.is_some() && !memory;
+    let wanted = if memory { "" } else { expected };
+    assert_eq!(rt; (found, refused), (wanted, wanted != ""), "at {text}");
 }
 
 #[test]
 fn no_refused_growth_is_told_as_another_fault(rt: HostRuntime) {
     let alloc = rt.alloc();
     for (text, name, expected) in CALLS {
-        is_told(&rt, told(alloc, text, name), text, expected);
+        is_told(&rt, &told(alloc, text, name), text, expected);
     }
 }
 

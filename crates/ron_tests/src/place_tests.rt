@@ -1,8 +1,8 @@
 // Places: lines and columns, and the current character.
-use crate::checks::is_made;
+use crate::checks::{is_made, why};
 use crate::token_tests::{pending, state_of};
 use ron_tokens::{DeRonErr, DeRonState, DeRonTok};
-use std::alloc::Global;
+use std::alloc::{AllocError, Global};
 use std::process::Abort;
 use std::str::Chars;
 
@@ -29,17 +29,15 @@ fn place(alloc: Global, text: &str) -> Result<(char, usize, usize), DeRonErr> {
 /// The state stands there.
 fn is_place(
     rt: &impl Abort,
-    found: Result<(char, usize, usize), DeRonErr>,
+    found: &Result<(char, usize, usize), DeRonErr>,
     text: &str,
     expected: (char, usize, usize),
 ) {
-    match found {
-        Ok(place) => assert_eq!(rt; place, expected, "at {text}"),
-        Err(error) => {
-            assert!(rt; !error.memory, "no memory at {text}");
-            assert!(rt; false, "{text} is refused");
-        }
-    }
+    let place = match found {
+        Ok(place) => (*place, ""),
+        Err(error) => ((' ', 0, 0), why(error)),
+    };
+    assert_eq!(rt; place, (expected, ""), "at {text}");
 }
 
 /// A text, and where the state stands behind its first token: the current character, line and
@@ -58,7 +56,7 @@ const PLACES: &[(&str, (char, usize, usize))] = &[
 fn places_are_counted(rt: HostRuntime) {
     let alloc = rt.alloc();
     for (text, expected) in PLACES {
-        is_place(&rt, place(alloc, text), text, *expected);
+        is_place(&rt, &place(alloc, text), text, *expected);
     }
 }
 
@@ -72,16 +70,16 @@ fn characters_are_taken(rt: HostRuntime) {
     let alloc = rt.alloc();
     let mut input = "a\nb".chars();
     let mut state = DeRonState::new(alloc);
-    assert_eq!(rt; shown(&state), ('\0', 0, 0));
     for expected in [
+        ('\0', 0, 0),
         ('a', 0, 1),
         ('\n', 1, 0),
         ('b', 1, 1),
         ('\0', 1, 1),
         ('\0', 1, 1),
     ] {
-        state.next(&mut input);
         assert_eq!(rt; shown(&state), expected);
+        state.next(&mut input);
     }
 }
 
@@ -98,20 +96,12 @@ fn the_greatest_place_stands_still(rt: HostRuntime) {
     }
 }
 
-/// What is pending once a state with this current character takes a token.
-fn cut_at(
-    rt: &impl Abort,
-    alloc: Global,
-    state: &mut DeRonState,
-    input: &mut Chars<'_>,
-    expected: &str,
-) {
+/// What is pending once a token is taken.
+fn cut(alloc: Global, state: &mut DeRonState, input: &mut Chars<'_>) -> Result<String, AllocError> {
     match state.next_tok(alloc, input) {
-        Ok(()) => is_made(rt, pending(alloc, state), expected),
-        Err(error) => {
-            assert!(rt; !error.memory, "no memory at {expected}");
-            assert!(rt; false, "{expected} is refused");
-        }
+        Ok(()) => pending(alloc, state),
+        Err(error) if error.memory => Err(AllocError),
+        Err(_refused) => String::from_str(alloc, "refused"),
     }
 }
 
@@ -119,28 +109,26 @@ fn cut_at(
 #[test]
 fn any_current_character(rt: HostRuntime) {
     let alloc = rt.alloc();
-    let mut state = DeRonState::new(alloc);
-    state.cur = 'a';
-    cut_at(&rt, alloc, &mut state, &mut "b1 /".chars(), "Ident ab1");
-    assert_eq!(rt; shown(&state), (' ', 0, 3));
-    let mut state = DeRonState::new(alloc);
-    state.cur = '"';
-    let mut input = "xy\"".chars();
-    cut_at(&rt, alloc, &mut state, &mut input, "Str xy");
-    assert_eq!(rt; shown(&state), ('\0', 0, 3));
+    for (cur, rest, expected, place) in [
+        ('a', "b1 /", "Ident ab1", (' ', 0, 3)),
+        ('"', "xy\"", "Str xy", ('\0', 0, 3)),
+        ('\0', "9", "Eof", ('\0', 0, 0)),
+    ] {
+        let mut state = DeRonState::new(alloc);
+        state.cur = cur;
+        is_made(&rt, &cut(alloc, &mut state, &mut rest.chars()), expected);
+        assert_eq!(rt; shown(&state), place);
+    }
 }
 
 /// NUL is the end whatever the characters hold, also where a comment comes to it.
 #[test]
 fn nothing_behind_nul_is_cut(rt: HostRuntime) {
     let alloc = rt.alloc();
-    let mut state = DeRonState::new(alloc);
-    cut_at(&rt, alloc, &mut state, &mut "9".chars(), "Eof");
     let mut input = "/* a\0*/ 1".chars();
     let mut state = state_of(alloc, &mut input);
-    cut_at(&rt, alloc, &mut state, &mut input, "Eof");
-    assert_eq!(rt; state.cur, '\0');
-    assert_eq!(rt; input.as_str(), "*/ 1");
+    is_made(&rt, &cut(alloc, &mut state, &mut input), "Eof");
+    assert_eq!(rt; (state.cur, input.as_str()), ('\0', "*/ 1"));
 }
 
 #[test]
@@ -148,9 +136,11 @@ fn a_failed_state_is_at_the_end(rt: HostRuntime) {
     let alloc = rt.alloc();
     let mut input = "a\nb 1".chars();
     let mut state = state_of(alloc, &mut input);
-    cut_at(&rt, alloc, &mut state, &mut input, "Ident a");
+    is_made(&rt, &cut(alloc, &mut state, &mut input), "Ident a");
     state.fail();
-    assert!(rt; state.tok == DeRonTok::Eof);
-    assert_eq!(rt; shown(&state), ('\0', 1, 0));
-    cut_at(&rt, alloc, &mut state, &mut input, "Eof");
+    assert_eq!(rt;
+        (shown(&state), state.tok == DeRonTok::Eof),
+        (('\0', 1, 0), true)
+    );
+    is_made(&rt, &cut(alloc, &mut state, &mut input), "Eof");
 }

@@ -106,6 +106,8 @@ const TOKENS: &[(&str, usize, &str)] = &[
     (" \n\r\t", 2, "Eof | Eof"),
     ("'\u{1f60b}''\"'", 3, "Char('😋') | Char('\"') | Eof"),
     ("'", 2, "refused | Eof"),
+    ("'x'", 2, "Char('x') | Eof"),
+    ("'\\''", 2, "Char('\\'') | Eof"),
     (
         "1. -.5 1.e5 1e-2",
         5,
@@ -135,6 +137,6 @@ const TOKENS: &[(&str, usize, &str)] = &[
 fn texts_are_cut_into_tokens(rt: HostRuntime) {
     let alloc = rt.alloc();
     for (text, count, expected) in TOKENS {
-        is_made(&rt, tokens_of(alloc, text, *count), expected);
+        is_made(&rt, &tokens_of(alloc, text, *count), expected);
     }
 }

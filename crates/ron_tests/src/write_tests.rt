@@ -88,6 +88,7 @@ fn sets_are_read_and_written(rt: HostRuntime) {
         ("[2,1,2]", "[    1,    2]"),
         ("[2,1,2,]", "[    1,    2]"),
         ("[3,-1,3]", "[    -1,    3]"),
+        ("[3,1,3]", "[    1,    3]"),
         ("[]", "[]"),
     ];
     normal::<HashSet<i32>>(&rt, alloc, &rows);
@@ -141,8 +142,8 @@ fn level_text<T: SerRon>(alloc: Global, level: usize, value: &T, out: String) ->
 fn is_level(rt: &impl Abort, found: (bool, String), expected: (bool, &str)) {
     let (written, text) = found;
     let (is_written, expected) = expected;
-    assert!(rt; written == is_written, "no memory at {expected}");
-    assert_eq!(rt; text.as_str(), expected);
+    let found = (written, text.as_str());
+    assert_eq!(rt; found, (is_written, expected), "no memory");
 }
 
 /// The value is written at the level as the text.
