@@ -20,13 +20,30 @@ pub(crate) fn why(error: &DeRonErr) -> &str {
     }
 }
 
+/// What is found of a text is the expected.
+pub(crate) fn is_told(rt: &impl Abort, found: &str, expected: &str, text: &str) {
+    assert_eq!(rt; found, expected, "at {text}");
+}
+
+/// The line and the column are these.
+pub(crate) fn is_there(
+    rt: &impl Abort,
+    found: (usize, usize),
+    expected: (usize, usize),
+    text: &str,
+) {
+    assert_eq!(rt; found, expected, "at {text}");
+}
+
 /// The text was refused with this message, in this line and this column, both counted from 0.
-fn is_fault(rt: &impl Abort, told: &Option<DeRonErr>, row: &(&str, &str, usize, usize)) {
-    let found = match told {
-        None => ("read", 0, 0),
-        Some(error) => (why(error), error.line, error.col),
-    };
-    assert_eq!(rt; found, (row.1, row.2, row.3), "at {}", row.0);
+pub(crate) fn is_fault(rt: &impl Abort, told: &Option<DeRonErr>, row: &(&str, &str, usize, usize)) {
+    match told {
+        None => is_told(rt, "read", row.1, row.0),
+        Some(error) => {
+            is_told(rt, why(error), row.1, row.0);
+            is_there(rt, (error.line, error.col), (row.2, row.3), row.0);
+        }
+    }
 }
 
 /// Each text is refused with its message, in its line and column.
@@ -46,7 +63,7 @@ pub(crate) fn is_refused(rt: &impl Abort, told: Option<DeRonErr>, text: &str) {
         None => "read",
         Some(error) => if error.memory { "no memory" } else { "refused" },
     };
-    assert_eq!(rt; found, "refused", "at {text}");
+    is_told(rt, found, "refused", text);
 }
 
 /// The texts are refused.
@@ -62,7 +79,7 @@ pub(crate) fn is_read(rt: &impl Abort, read: &Result<bool, DeRonErr>, text: &str
         Ok(is_so) => if *is_so { "" } else { "another value" },
         Err(error) => why(error),
     };
-    assert_eq!(rt; found, "", "at {text}");
+    is_told(rt, found, "", text);
 }
 
 /// Whether a text is read as the value.
@@ -95,7 +112,7 @@ pub(crate) fn is_made(rt: &impl Abort, made: &Result<String, AllocError>, expect
         Ok(text) => text.as_str(),
         Err(_refused) => "no memory",
     };
-    assert_eq!(rt; found, expected);
+    is_told(rt, found, expected, expected);
 }
 
 /// Each value is written as the text beside it.
@@ -117,11 +134,13 @@ fn forms<T: BothRon>(alloc: Global, text: &str) -> Result<(String, String), DeRo
 
 /// The text was read, and was written twice as the expected text.
 fn are_forms(rt: &impl Abort, forms: &Result<(String, String), DeRonErr>, row: &(&str, &str)) {
-    let found = match forms {
-        Ok(texts) => (texts.0.as_str(), texts.1.as_str()),
-        Err(error) => (why(error), ""),
-    };
-    assert_eq!(rt; found, (row.1, row.1), "at {}", row.0);
+    match forms {
+        Ok(texts) => {
+            is_told(rt, texts.0.as_str(), row.1, row.0);
+            is_told(rt, texts.1.as_str(), row.1, row.0);
+        }
+        Err(error) => is_told(rt, why(error), row.1, row.0),
+    }
 }
 
 /// Each text is read, and then written as the text beside it; what is read back from there is

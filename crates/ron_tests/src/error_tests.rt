@@ -1,5 +1,5 @@
 // What no clause says: the texts of errors.
-use crate::checks::is_made;
+use crate::checks::{is_made, is_there, is_told};
 use ron_tokens::{DeRonErr, DeRonState, DeRonTok};
 use std::alloc::{AllocError, Global};
 use std::process::Abort;
@@ -36,9 +36,9 @@ fn printed(alloc: Global, error: &DeRonErr) -> Result<(String, String, bool), Al
 
 /// The error tells this in the third line and the last column, with this mark for memory.
 fn says_where(rt: &impl Abort, error: &DeRonErr, expected: &str, memory: bool) {
-    let found = (error.msg.as_str(), error.line, error.col, error.memory);
-    let far = (expected, 2, usize::MAX, memory);
-    assert_eq!(rt; found, far, "no memory at {expected}");
+    is_there(rt, (error.line, error.col), (2, usize::MAX), expected);
+    is_told(rt, error.msg.as_str(), expected, "an error");
+    assert!(rt; error.memory == memory, "no memory at {expected}");
 }
 
 /// The error was printed twice as this text, and its clone has the mark.
@@ -48,11 +48,14 @@ fn is_printed(
     expected: &str,
     memory: bool,
 ) {
-    let found = match printed {
-        Ok(texts) => (texts.0.as_str(), texts.1.as_str(), texts.2),
-        Err(_refused) => ("no memory", "", false),
-    };
-    assert_eq!(rt; found, (expected, expected, memory));
+    match printed {
+        Ok(texts) => {
+            is_told(rt, texts.0.as_str(), expected, "an error");
+            is_told(rt, texts.1.as_str(), expected, "an error");
+            assert!(rt; texts.2 == memory);
+        }
+        Err(_refused) => is_told(rt, "no memory", expected, "an error"),
+    }
 }
 
 /// A maker of errors, its word, and the message and the text that it makes.
@@ -107,15 +110,18 @@ const MADE: &[(&str, &str, &str, &str)] = &[
     ),
 ];
 
+/// The error of the row tells what it says, and is printed so.
+fn row_says_where(rt: &impl Abort, alloc: Global, row: &(&str, &str, &str, &str)) {
+    let error = made(alloc, &far_state(alloc), row.0, row.1);
+    let memory = row.0 == "err_memory";
+    says_where(rt, &error, row.2, memory);
+    is_printed(rt, &printed(alloc, &error), row.3, memory);
+}
+
 #[test]
 fn errors_say_where(rt: HostRuntime) {
-    let alloc = rt.alloc();
-    let state = far_state(alloc);
-    for (name, what, msg, text) in MADE {
-        let error = made(alloc, &state, name, what);
-        let memory = *name == "err_memory";
-        says_where(&rt, &error, msg, memory);
-        is_printed(&rt, &printed(alloc, &error), text, memory);
+    for row in MADE {
+        row_says_where(&rt, rt.alloc(), row);
     }
 }
 

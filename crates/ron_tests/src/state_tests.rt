@@ -1,5 +1,5 @@
 // States that no text leaves: the pending token and the current character are set by hand.
-use crate::checks::why;
+use crate::checks::{is_told, why};
 use nano_ron::{BothRon, DeRon, DeRonErr, DeRonState, DeRonTok};
 use std::alloc::Global;
 use std::collections::{BTreeSet, HashMap, HashSet, LinkedList};
@@ -30,7 +30,8 @@ fn is_ended(rt: &impl Abort, read: (Option<DeRonErr>, bool)) {
         None => "read",
         Some(error) => if error.memory { "no memory" } else { "refused" },
     };
-    assert_eq!(rt; (found, ended), ("refused", true));
+    is_told(rt, found, "refused", "a state");
+    assert!(rt; ended);
 }
 
 /// No value of the type begins with one of these tokens: what no text is cut into, the end, and
@@ -109,7 +110,7 @@ fn is_form(rt: &impl Abort, form: &Result<String, DeRonErr>, expected: &str) {
         Ok(text) => text.as_str(),
         Err(error) => why(error),
     };
-    assert_eq!(rt; found, expected);
+    is_told(rt, found, expected, expected);
 }
 
 /// The value is read there, is written as this text, and leaves this token pending.
