@@ -1,6 +1,6 @@
 // What the tests share. Each call through a bound is a function of its own, and so is what is
-// asserted of its answer: a function that does both takes many times as long to prove. So a test is a
-// row of calls: what it needs is made by small functions, whose answers it hands on as they are.
+// asserted of its answer: a function that does both takes many times as long to prove. So a test is
+// a row of calls: what it needs is made by small functions, whose answers it hands on as they are.
 use nano_bin::{DeBin, DeBinErr, DeBinKind, SerBin};
 use std::alloc::{AllocError, Global};
 use std::process::Abort;

@@ -4,7 +4,7 @@ use crate::checks::{
     code_of, fronts_refused, is_alone, is_back, is_read_alone, is_refused, is_written, no_memory,
     reads, refusal,
 };
-use crate::made::{boxed, linked, list, only, text};
+use crate::made::{both, boxed, linked, list, only, text};
 use nano_bin::{BothBin, DeBin, DeBinErr, DeBinKind, SerBin, laws};
 use nano_value::Value;
 use std::alloc::{AllocError, Global};
@@ -162,13 +162,8 @@ fn box_in_list<T: Drop>(alloc: Global, value: T) -> Result<Vec<Box<T>>, AllocErr
 }
 
 /// A list of a box of a list of the value and of nothing has this code.
-fn nested_row<T: BothBin + PartialEq + Copy>(
-    rt: &impl Abort,
-    alloc: Global,
-    value: T,
-    code: &[u8],
-) {
-    boxed_row(rt, alloc, list(alloc, &[Some(value), None]), code);
+fn nested_row<T: BothBin + PartialEq>(rt: &impl Abort, alloc: Global, value: T, code: &[u8]) {
+    boxed_row(rt, alloc, both(alloc, Ok(Some(value)), Ok(None)), code);
 }
 
 /// The value within two options has this code.

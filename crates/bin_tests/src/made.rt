@@ -57,7 +57,9 @@ pub(crate) fn mapped<V: Copy>(
 
 /// A list of one value.
 pub(crate) fn only<T: Drop>(alloc: Global, item: T) -> Result<Vec<T>, AllocError> {
-    Ok(vec![in alloc; item]?)
+    let mut list = Vec::new(alloc);
+    list.push(item)?;
+    Ok(list)
 }
 
 /// A list of two values that were made.
@@ -66,7 +68,10 @@ pub(crate) fn both<T: Drop>(
     one: Result<T, AllocError>,
     other: Result<T, AllocError>,
 ) -> Result<Vec<T>, AllocError> {
-    Ok(vec![in alloc; one?, other?]?)
+    let mut list = Vec::new(alloc);
+    list.push(one?)?;
+    list.push(other?)?;
+    Ok(list)
 }
 
 /// A box of the value.

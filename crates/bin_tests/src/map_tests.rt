@@ -3,7 +3,7 @@
 use crate::checks::{
     code_of, fronts_refused, is_back, is_refused, is_written, no_memory, reads, refusal,
 };
-use crate::made::text;
+use crate::made::{only, text};
 use nano_bin::{BothBin, DeBin, DeBinErr, DeBinKind, SerBin};
 use nano_value::OrderedKey;
 use std::alloc::{AllocError, Global};
@@ -228,7 +228,7 @@ const NESTED: &[u8] = &[
 /// where it is named, so nested types are built up in steps.
 fn map_of_lists<T: Drop>(alloc: Global, item: T) -> Result<HashMap<String, Vec<T>>, AllocError> {
     let mut map = HashMap::new(alloc);
-    map.insert(String::from_str(alloc, "b")?, vec![in alloc; item]?)?;
+    map.insert(String::from_str(alloc, "b")?, only(alloc, item)?)?;
     map.insert(String::from_str(alloc, "ab")?, Vec::new(alloc))?;
     Ok(map)
 }
