@@ -96,7 +96,8 @@ pub(crate) fn is_place(
     assert_eq!(rt; found, expected, "at {text}");
 }
 
-/// The text was refused with this message, in this line and this column, and not for want of memory.
+/// The text was refused with this message, in this line and this column, and not for want of
+/// memory.
 pub(crate) fn is_fault(rt: &impl Abort, told: Option<DeJsonErr>, row: &FaultRow<'_>) {
     match told {
         None => holds(rt, false, row.0),
