@@ -1,5 +1,6 @@
 // What the tests share. Each call through a bound is a function of its own, and so is what is
-// asserted of its answer: a function that does both takes many times as long to prove.
+// asserted of its answer: a function that does both takes many times as long to prove. So a test is
+// a row of calls: what it needs is made by small functions, whose answers it hands on as they are.
 use nano_bin::{DeBin, DeBinErr, DeBinKind, SerBin};
 use std::alloc::{AllocError, Global};
 use std::process::Abort;
@@ -9,9 +10,22 @@ pub(crate) fn code_of<T: SerBin>(alloc: Global, value: &T) -> Result<Vec<u8>, Al
     value.serialize_bin(alloc)
 }
 
-/// The value is written as these bytes.
+/// The bytes are these.
 pub(crate) fn is_code(rt: &impl Abort, code: &[u8], expected: &[u8]) {
     assert_eq!(rt; code, expected);
+}
+
+/// The value was written as these bytes.
+pub(crate) fn is_written(rt: &impl Abort, code: &Result<Vec<u8>, AllocError>, expected: &[u8]) {
+    match code {
+        Ok(bytes) => is_code(rt, bytes, expected),
+        Err(_refused) => no_memory(rt),
+    }
+}
+
+/// Want of memory ends a test.
+pub(crate) fn no_memory(rt: &impl Abort) {
+    assert!(rt; false, "no memory");
 }
 
 /// Whether the value is read from the bytes from the offset on, and the offset afterwards.
@@ -27,9 +41,26 @@ pub(crate) fn reads<T: DeBin + PartialEq>(
 }
 
 /// The value was read up to the end.
-pub(crate) fn is_back(rt: &impl Abort, read: (bool, usize), end: usize) {
-    assert!(rt; read.0);
-    assert_eq!(rt; read.1, end);
+pub(crate) fn is_back(rt: &impl Abort, read: Result<(bool, usize), DeBinErr>, end: usize) {
+    let found = match read {
+        Ok((is_same, offset)) => (is_same, offset, None),
+        Err(error) => (false, end, Some(error.kind)),
+    };
+    assert_eq!(rt; found, (true, end, None));
+}
+
+/// Whether the value is read from the code alone.
+pub(crate) fn is_read_alone<T: DeBin + PartialEq>(
+    alloc: Global,
+    value: &T,
+    code: &[u8],
+) -> Result<bool, DeBinErr> {
+    Ok(T::deserialize_bin(alloc, code)? == *value)
+}
+
+/// The value was read.
+pub(crate) fn is_alone(rt: &impl Abort, read: Result<bool, DeBinErr>) {
+    assert!(rt; read.is_ok_and(|is_same| is_same));
 }
 
 /// The refusal of the bytes from the offset on, if they are refused, and the offset afterwards.
@@ -51,23 +82,24 @@ pub(crate) fn is_refused(
     numbers: (usize, usize, usize),
     start: usize,
 ) {
-    match told.0 {
-        None => assert!(rt; false, "not refused"),
-        Some(error) => {
-            assert_eq!(rt; error.kind, kind);
-            assert_eq!(rt; (error.o, error.l, error.s), numbers);
-        }
-    }
-    assert_eq!(rt; told.1, start);
+    let found = match told.0 {
+        None => (None, (0, 0, 0), told.1),
+        Some(error) => (Some(error.kind), (error.o, error.l, error.s), told.1),
+    };
+    assert_eq!(rt; found, (Some(kind), numbers, start));
 }
 
 /// A front of so many bytes is refused as too short, and the offset is kept.
 fn is_too_short(rt: &impl Abort, told: (Option<DeBinErr>, usize), end: usize) {
-    match told.0 {
-        None => assert!(rt; false, "a front of {end} bytes is read"),
-        Some(error) => assert_eq!(rt; error.kind, DeBinKind::TooShort),
-    }
-    assert_eq!(rt; told.1, 0);
+    let found = match told.0 {
+        None => (None, told.1),
+        Some(error) => (Some(error.kind), told.1),
+    };
+    assert_eq!(rt;
+        found,
+        (Some(DeBinKind::TooShort), 0),
+        "a front of {end} bytes"
+    );
 }
 
 /// Every proper front of the code is refused as too short, and leaves the offset.

@@ -1,6 +1,9 @@
 // Each function once, and `known` of each type through its bound.
+use crate::checks::no_memory;
+use crate::made::{boxed, list, ordered, text};
 use nano_value::{OrderedKey, Value, entries_in_order, items_in_order, laws};
-use std::collections::{BTreeSet, HashMap, HashSet, LinkedList};
+use std::alloc::{AllocError, Global};
+use std::collections::{HashMap, HashSet, LinkedList};
 use std::process::Abort;
 use std::test::Fail;
 
@@ -11,9 +14,20 @@ fn key<T: OrderedKey>(rt: &impl Abort, less: &T, more: &T) {
     assert!(rt; less == less && less < more && more != less);
 }
 
+/// Two keys that were made are what they mean, and order as they do.
+fn made_key<T: OrderedKey + Drop>(
+    rt: &impl Abort,
+    less: Result<T, AllocError>,
+    more: Result<T, AllocError>,
+) {
+    match (less, more) {
+        (Ok(less), Ok(more)) => key(rt, &less, &more),
+        _ => no_memory(rt),
+    }
+}
+
 #[test]
-fn keys(rt: HostRuntime) -> Result<(), Fail> {
-    let alloc = rt.alloc();
+fn keys(rt: HostRuntime) {
     key(&rt, &1u8, &2);
     key(&rt, &1u16, &2);
     key(&rt, &1u32, &2);
@@ -25,43 +39,84 @@ fn keys(rt: HostRuntime) -> Result<(), Fail> {
     key(&rt, &-1i32, &2);
     key(&rt, &-1i64, &2);
     key(&rt, &-1i128, &2);
-    key(&rt, &false, &true);
-    key(&rt, &"a", &"b");
-    key(
-        &rt,
-        &String::from_str(alloc, "a")?,
-        &String::from_str(alloc, "b")?,
-    );
-    key(&rt, &None, &Some(1u8));
-    key(&rt, &[1u8, 2], &[1, 3]);
-    key(&rt, &Box::new(alloc, 1u8)?, &Box::new(alloc, 2)?);
-    key(&rt, &vec![in alloc; 1u8]?, &vec![in alloc; 1u8, 0]?);
-    key(&rt, &(1u8, 2u8), &(1, 3));
-    key(&rt, &(1u8, 2u8, 3u8), &(1, 2, 4));
-    key(&rt, &(1u8, 2u8, 3u8, 4u8), &(1, 2, 3, 5));
-    let mut set = BTreeSet::new(alloc);
-    set.insert(1u8)?;
-    key(&rt, &BTreeSet::new(alloc), &set);
-    Ok(())
 }
 
 #[test]
-fn in_order(rt: HostRuntime) -> Result<(), Fail> {
+fn keys_of_other_types(rt: HostRuntime) {
+    key(&rt, &false, &true);
+    key(&rt, &"a", &"b");
+    key(&rt, &None, &Some(1u8));
+    key(&rt, &[1u8, 2], &[1, 3]);
+    key(&rt, &(1u8, 2u8), &(1, 3));
+    key(&rt, &(1u8, 2u8, 3u8), &(1, 2, 4));
+    key(&rt, &(1u8, 2u8, 3u8, 4u8), &(1, 2, 3, 5));
+}
+
+#[test]
+fn keys_that_take_memory(rt: HostRuntime) {
     let alloc = rt.alloc();
+    made_key(&rt, text(alloc, "a"), text(alloc, "b"));
+    made_key(&rt, boxed(alloc, 1u8), boxed(alloc, 2));
+    made_key(&rt, list(alloc, &[1u8]), list(alloc, &[1, 0]));
+    made_key(&rt, ordered(alloc, &[]), ordered(alloc, &[1]));
+}
+
+/// How many keys there are.
+const FIFTY: u8 = 50;
+
+/// A map of the numbers below fifty to what they lack, put in from the greatest on.
+fn falling(alloc: Global) -> Result<HashMap<u8, u8>, AllocError> {
     let mut map = HashMap::new(alloc);
-    let mut set = HashSet::new(alloc);
-    for number in 0..50u8 {
+    for number in 0..FIFTY {
         map.insert(49 - number, number)?;
+    }
+    Ok(map)
+}
+
+/// The set of the same numbers.
+fn falling_items(alloc: Global) -> Result<HashSet<u8>, AllocError> {
+    let mut set = HashSet::new(alloc);
+    for number in 0..FIFTY {
         set.insert(49 - number)?;
     }
-    let entries = entries_in_order(alloc, &map)?;
-    let items = items_in_order(alloc, &set)?;
-    assert_eq!(&rt; (entries.len(), items.len()), (50, 50));
-    assert!(&rt; (*entries[0].0, *entries[0].1, *items[0]) == (0, 49, 0));
-    assert!(&rt; (*entries[49].0, *entries[49].1, *items[49]) == (49, 0, 49));
+    Ok(set)
+}
+
+/// How many entries there are, the first and the last.
+fn entries(alloc: Global) -> Result<(usize, (u8, u8), (u8, u8)), AllocError> {
+    let map = falling(alloc)?;
     map.known();
+    let entries = entries_in_order(alloc, &map)?;
+    let (mut first, mut last) = ((0, 0), (0, 0));
+    if let Some(entry) = entries.first() {
+        first = (*entry.0, *entry.1);
+    }
+    if let Some(entry) = entries.last() {
+        last = (*entry.0, *entry.1);
+    }
+    Ok((entries.len(), first, last))
+}
+
+/// How many items there are, the first and the last.
+fn items(alloc: Global) -> Result<(usize, u8, u8), AllocError> {
+    let set = falling_items(alloc)?;
     set.known();
-    Ok(())
+    let items = items_in_order(alloc, &set)?;
+    let first = items.first().map_or(0, |item| **item);
+    let last = items.last().map_or(0, |item| **item);
+    Ok((items.len(), first, last))
+}
+
+#[test]
+fn in_order(rt: HostRuntime) {
+    let alloc = rt.alloc();
+    assert_eq!(&rt; entries(alloc).ok(), Some((50, (0, 49), (49, 0))));
+}
+
+#[test]
+fn items_are_in_order(rt: HostRuntime) {
+    let alloc = rt.alloc();
+    assert_eq!(&rt; items(alloc).ok(), Some((50, 0, 49)));
 }
 
 #[test]

@@ -1,59 +1,123 @@
 // Values of many items are written and read back, and counts that are cut short are told.
+use crate::checks::{code_of, is_alone, is_read_alone, is_refused, no_memory, refusal};
 use nano_bin::{BothBin, DeBin, DeBinKind};
-use std::alloc::Global;
+use std::alloc::{AllocError, Global};
 use std::collections::{BTreeSet, HashMap, HashSet, LinkedList};
 use std::process::Abort;
-use std::test::Fail;
 
 /// The value is written and read back.
-fn back<T: BothBin + PartialEq>(rt: &impl Abort, alloc: Global, value: T) -> Result<(), Fail> {
-    let code = value.serialize_bin(alloc)?;
-    assert!(rt; T::deserialize_bin(alloc, &code)? == value);
-    Ok(())
+fn value_back<T: BothBin + PartialEq>(rt: &impl Abort, alloc: Global, value: &T) {
+    match code_of(alloc, value) {
+        Ok(code) => is_alone(rt, is_read_alone(alloc, value, &code)),
+        Err(_refused) => no_memory(rt),
+    }
+}
+
+/// The value was made, and is written and read back.
+fn back<T: BothBin + PartialEq>(rt: &impl Abort, alloc: Global, made: Result<T, AllocError>) {
+    match made {
+        Ok(value) => value_back(rt, alloc, &value),
+        Err(_refused) => no_memory(rt),
+    }
+}
+
+/// How many items are many.
+const MANY: u16 = 3_000;
+
+/// A text of many characters.
+fn text(alloc: Global) -> Result<String, AllocError> {
+    let mut text = String::new(alloc);
+    for _ in 0..MANY {
+        text.push('a')?;
+    }
+    Ok(text)
+}
+
+/// A list of many bytes.
+fn bytes(alloc: Global) -> Result<Vec<u8>, AllocError> {
+    let mut bytes = Vec::new(alloc);
+    for _ in 0..MANY {
+        bytes.push(7)?;
+    }
+    Ok(bytes)
+}
+
+/// A list of many numbers.
+fn numbers(alloc: Global) -> Result<Vec<u16>, AllocError> {
+    let mut numbers = Vec::new(alloc);
+    for i in 0..MANY {
+        numbers.push(i)?;
+    }
+    Ok(numbers)
+}
+
+/// A list of many options.
+fn options(alloc: Global) -> Result<Vec<Option<u16>>, AllocError> {
+    let mut options = Vec::new(alloc);
+    for i in 0..MANY {
+        options.push(Some(i))?;
+    }
+    Ok(options)
+}
+
+/// A linked list of many numbers.
+fn linked(alloc: Global) -> Result<LinkedList<u16>, AllocError> {
+    let mut linked = LinkedList::new(alloc);
+    for i in 0..MANY {
+        linked.push_back(i)?;
+    }
+    Ok(linked)
+}
+
+/// A hashed set of many numbers.
+fn hashed(alloc: Global) -> Result<HashSet<u16>, AllocError> {
+    let mut hashed = HashSet::new(alloc);
+    for i in 0..MANY {
+        hashed.insert(i)?;
+    }
+    Ok(hashed)
+}
+
+/// An ordered set of many numbers.
+fn ordered(alloc: Global) -> Result<BTreeSet<u16>, AllocError> {
+    let mut ordered = BTreeSet::new(alloc);
+    for i in 0..MANY {
+        ordered.insert(i)?;
+    }
+    Ok(ordered)
+}
+
+/// A map of many numbers.
+fn mapped(alloc: Global) -> Result<HashMap<u16, bool>, AllocError> {
+    let mut map = HashMap::new(alloc);
+    for i in 0..MANY {
+        map.insert(i, true)?;
+    }
+    Ok(map)
 }
 
 #[test]
-fn many_items(rt: HostRuntime) -> Result<(), Fail> {
+fn many_items(rt: HostRuntime) {
     let alloc = rt.alloc();
-    let mut text = String::new(alloc);
-    let mut bytes = Vec::new(alloc);
-    let mut numbers = Vec::new(alloc);
-    let mut options = Vec::new(alloc);
-    let mut linked = LinkedList::new(alloc);
-    let mut hashed = HashSet::new(alloc);
-    let mut ordered = BTreeSet::new(alloc);
-    let mut map = HashMap::new(alloc);
-    for i in 0..3_000u16 {
-        text.push('a')?;
-        bytes.push(7u8)?;
-        numbers.push(i)?;
-        options.push(Some(i))?;
-        linked.push_back(i)?;
-        hashed.insert(i)?;
-        ordered.insert(i)?;
-        map.insert(i, true)?;
-    }
-    back(&rt, alloc, text)?;
-    back(&rt, alloc, bytes)?;
-    back(&rt, alloc, numbers)?;
-    back(&rt, alloc, options)?;
-    back(&rt, alloc, linked)?;
-    back(&rt, alloc, hashed)?;
-    back(&rt, alloc, ordered)?;
-    back(&rt, alloc, map)
+    back(&rt, alloc, text(alloc));
+    back(&rt, alloc, bytes(alloc));
+    back(&rt, alloc, numbers(alloc));
+    back(&rt, alloc, options(alloc));
+}
+
+#[test]
+fn many_items_of_other_containers(rt: HostRuntime) {
+    let alloc = rt.alloc();
+    back(&rt, alloc, linked(alloc));
+    back(&rt, alloc, hashed(alloc));
+    back(&rt, alloc, ordered(alloc));
+    back(&rt, alloc, mapped(alloc));
 }
 
 /// Three bytes are fewer than so many that are wanted first.
 fn cut_short<T: DeBin>(rt: &impl Abort, alloc: Global, wanted: usize) {
-    let mut offset = 1;
-    match T::de_bin(alloc, &mut offset, &[77, 1, 0, 0]) {
-        Ok(_) => assert!(rt; false, "not refused"),
-        Err(error) => {
-            assert_eq!(rt; error.kind, DeBinKind::TooShort);
-            assert_eq!(rt; (error.o, error.l, error.s), (1, wanted, 4));
-        }
-    }
-    assert_eq!(rt; offset, 1);
+    let told = refusal::<T>(alloc, 1, &[77, 1, 0, 0]);
+    is_refused(rt, told, DeBinKind::TooShort, (1, wanted, 4), 1);
 }
 
 #[test]

@@ -13,6 +13,8 @@ mod large_tests;
 #[cfg(test)]
 mod law_tests;
 #[cfg(test)]
+mod made;
+#[cfg(test)]
 mod map_tests;
 #[cfg(test)]
 mod memory_tests;

@@ -1,30 +1,37 @@
 // Maps and sets: repeated keys and items, the order in which they are written, cut codes, and
 // nested types.
-use crate::checks::{code_of, fronts_refused, is_back, is_code, is_refused, reads, refusal};
+use crate::checks::{
+    code_of, fronts_refused, is_back, is_refused, is_written, no_memory, reads, refusal,
+};
+use crate::made::{only, text};
 use nano_bin::{BothBin, DeBin, DeBinErr, DeBinKind, SerBin};
+use nano_value::OrderedKey;
 use std::alloc::{AllocError, Global};
 use std::collections::{BTreeSet, HashMap, HashSet};
+use std::hash::Hash;
 use std::process::Abort;
-use std::test::Fail;
+
+/// What a value is written as again.
+type Again = Result<(Result<Vec<u8>, AllocError>, usize), DeBinErr>;
 
 /// The code of the value that is read from the bytes, and where it ends.
-fn code_again<T: BothBin>(alloc: Global, bytes: &[u8]) -> Result<(Vec<u8>, usize), Fail> {
+fn code_again<T: BothBin>(alloc: Global, bytes: &[u8]) -> Again {
     let mut offset = 0;
     let value = T::de_bin(alloc, &mut offset, bytes)?;
-    Ok((value.serialize_bin(alloc)?, offset))
+    Ok((value.serialize_bin(alloc), offset))
+}
+
+/// The bytes were read up to the end, and written as these.
+fn is_again(rt: &impl Abort, again: &Again, end: usize, written: &[u8]) {
+    match again {
+        Ok((Ok(code), at)) => assert_eq!(rt; (code.as_slice(), *at), (written, end)),
+        _ => no_memory(rt),
+    }
 }
 
 /// The bytes are read as a value, whose code is `written`.
-fn normal<T: BothBin>(
-    rt: &impl Abort,
-    alloc: Global,
-    bytes: &[u8],
-    written: &[u8],
-) -> Result<(), Fail> {
-    let (code, end) = code_again::<T>(alloc, bytes)?;
-    assert_eq!(rt; end, bytes.len());
-    is_code(rt, &code, written);
-    Ok(())
+fn normal<T: BothBin>(rt: &impl Abort, alloc: Global, bytes: &[u8], written: &[u8]) {
+    is_again(rt, &code_again::<T>(alloc, bytes), bytes.len(), written);
 }
 
 /// The code of a value behind one byte that stands there.
@@ -34,18 +41,41 @@ fn code_behind<T: SerBin>(alloc: Global, value: &T) -> Result<Vec<u8>, AllocErro
     Ok(code)
 }
 
-/// A value is written behind what stands there, and read back.
-fn back<T: BothBin + PartialEq>(rt: &impl Abort, alloc: Global, value: T) -> Result<(), Fail> {
-    let code = code_behind(alloc, &value)?;
-    is_back(rt, reads(alloc, &value, 1, &code)?, code.len());
-    value_fronts_refused(rt, alloc, &value)
+/// What a read of the code behind that byte answers, and where the code ends.
+fn read_behind<T: BothBin + PartialEq>(
+    alloc: Global,
+    value: &T,
+) -> Result<(Result<(bool, usize), DeBinErr>, usize), AllocError> {
+    let code = code_behind(alloc, value)?;
+    let read = reads(alloc, value, 1, &code);
+    Ok((read, code.len()))
+}
+
+/// A value that was made is written behind what stands there, and read back, and the fronts of its
+/// code are refused.
+fn back<T: BothBin + PartialEq>(rt: &impl Abort, alloc: Global, made: Result<T, AllocError>) {
+    match made {
+        Ok(value) => value_back(rt, alloc, &value),
+        Err(_refused) => no_memory(rt),
+    }
+}
+
+/// A value is written behind what stands there, and read back, and the fronts of its code are
+/// refused.
+fn value_back<T: BothBin + PartialEq>(rt: &impl Abort, alloc: Global, value: &T) {
+    match read_behind(alloc, value) {
+        Ok((read, end)) => is_back(rt, read, end),
+        Err(_refused) => no_memory(rt),
+    }
+    value_fronts_refused(rt, alloc, value);
 }
 
 /// Every proper front of the code of a value is refused as too short, and leaves the offset.
-fn value_fronts_refused<T: BothBin>(rt: &impl Abort, alloc: Global, value: &T) -> Result<(), Fail> {
-    let code = code_of(alloc, value)?;
-    fronts_refused::<T>(rt, alloc, &code);
-    Ok(())
+fn value_fronts_refused<T: BothBin>(rt: &impl Abort, alloc: Global, value: &T) {
+    match code_of(alloc, value) {
+        Ok(code) => fronts_refused::<T>(rt, alloc, &code),
+        Err(_refused) => no_memory(rt),
+    }
 }
 
 /// Three items, of which two are the same.
@@ -54,32 +84,30 @@ const REPEATED: &[u8] = &[3, 0, 0, 0, 0, 0, 0, 0, 3, 1, 3];
 const EACH_ONCE: &[u8] = &[2, 0, 0, 0, 0, 0, 0, 0, 1, 3];
 
 #[test]
-fn repeated_items(rt: HostRuntime) -> Result<(), Fail> {
+fn repeated_items(rt: HostRuntime) {
     let alloc = rt.alloc();
-    normal::<HashSet<u8>>(&rt, alloc, REPEATED, EACH_ONCE)?;
-    normal::<BTreeSet<u8>>(&rt, alloc, REPEATED, EACH_ONCE)?;
-    normal::<HashSet<u8>>(&rt, alloc, &[0; 8], &[0; 8])?;
-    normal::<BTreeSet<u8>>(&rt, alloc, &[0; 8], &[0; 8])?;
-    Ok(())
+    normal::<HashSet<u8>>(&rt, alloc, REPEATED, EACH_ONCE);
+    normal::<BTreeSet<u8>>(&rt, alloc, REPEATED, EACH_ONCE);
+    normal::<HashSet<u8>>(&rt, alloc, &[0; 8], &[0; 8]);
+    normal::<BTreeSet<u8>>(&rt, alloc, &[0; 8], &[0; 8]);
 }
 
 #[test]
-fn last_values(rt: HostRuntime) -> Result<(), Fail> {
+fn last_values(rt: HostRuntime) {
     let alloc = rt.alloc();
     normal::<HashMap<u8, u8>>(
         &rt,
         alloc,
         &[2, 0, 0, 0, 0, 0, 0, 0, 5, 1, 5, 2],
         &[1, 0, 0, 0, 0, 0, 0, 0, 5, 2],
-    )?;
+    );
     normal::<HashMap<i8, bool>>(
         &rt,
         alloc,
         &[4, 0, 0, 0, 0, 0, 0, 0, 3, 1, 254, 0, 0, 9, 3, 0],
         &[3, 0, 0, 0, 0, 0, 0, 0, 254, 0, 0, 1, 3, 0],
-    )?;
-    normal::<HashMap<u8, u8>>(&rt, alloc, &[0; 8], &[0; 8])?;
-    Ok(())
+    );
+    normal::<HashMap<u8, u8>>(&rt, alloc, &[0; 8], &[0; 8]);
 }
 
 #[test]
@@ -142,23 +170,48 @@ fn ordered(alloc: Global) -> Result<BTreeSet<u16>, AllocError> {
     Ok(set)
 }
 
-#[test]
-fn equal_values_in_other_orders(rt: HostRuntime) -> Result<(), Fail> {
-    let alloc = rt.alloc();
-    let code = code_of(alloc, &rising(alloc)?)?;
-    assert_eq!(&rt; code.len(), 8 + 100 * 4);
-    is_code(&rt, &code_of(alloc, &falling(alloc)?)?, &code);
-    Ok(())
+/// The code of a value that was made.
+fn made_code<T: SerBin + Drop>(
+    made: Result<T, AllocError>,
+    alloc: Global,
+) -> Result<Vec<u8>, AllocError> {
+    code_of(alloc, &made?)
+}
+
+/// Both codes were made, have so many bytes, and are the same.
+fn are_alike(
+    rt: &impl Abort,
+    one: &Result<Vec<u8>, AllocError>,
+    other: &Result<Vec<u8>, AllocError>,
+    length: usize,
+) {
+    match (one, other) {
+        (Ok(one), Ok(other)) => {
+            assert_eq!(rt; (one.len(), one.as_slice()), (length, other.as_slice()));
+        }
+        _ => no_memory(rt),
+    }
 }
 
 #[test]
-fn sets_in_other_orders(rt: HostRuntime) -> Result<(), Fail> {
+fn equal_values_in_other_orders(rt: HostRuntime) {
     let alloc = rt.alloc();
-    let items = code_of(alloc, &ordered(alloc)?)?;
-    assert_eq!(&rt; items.len(), 8 + 100 * 2);
-    is_code(&rt, &code_of(alloc, &hashed(alloc)?)?, &items);
-    back(&rt, alloc, hashed(alloc)?)?;
-    back(&rt, alloc, ordered(alloc)?)
+    let one = made_code(rising(alloc), alloc);
+    are_alike(&rt, &one, &made_code(falling(alloc), alloc), 8 + 100 * 4);
+}
+
+#[test]
+fn sets_in_other_orders(rt: HostRuntime) {
+    let alloc = rt.alloc();
+    let one = made_code(ordered(alloc), alloc);
+    are_alike(&rt, &one, &made_code(hashed(alloc), alloc), 8 + 100 * 2);
+}
+
+#[test]
+fn sets_are_read_back(rt: HostRuntime) {
+    let alloc = rt.alloc();
+    back(&rt, alloc, hashed(alloc));
+    back(&rt, alloc, ordered(alloc));
 }
 
 /// The code of a map of lists of sets.
@@ -171,48 +224,107 @@ const NESTED: &[u8] = &[
     2, 0, 0, 0, 0, 0, 0, 0, 1, 0, 2, 1, // of two items
 ];
 
-/// A map of lists of sets.
-type Nested = HashMap<String, Vec<HashSet<u16>>>;
-
-/// The value of that code.
-fn nested_map(alloc: Global) -> Result<Nested, AllocError> {
-    let mut items = HashSet::new(alloc);
-    items.insert(258u16)?;
-    items.insert(1)?;
+/// A map of a list of the item, and of an empty list. A type of many levels takes long to prove
+/// where it is named, so nested types are built up in steps.
+fn map_of_lists<T: Drop>(alloc: Global, item: T) -> Result<HashMap<String, Vec<T>>, AllocError> {
     let mut map = HashMap::new(alloc);
-    map.insert(String::from_str(alloc, "b")?, vec![in alloc; items]?)?;
+    map.insert(String::from_str(alloc, "b")?, only(alloc, item)?)?;
     map.insert(String::from_str(alloc, "ab")?, Vec::new(alloc))?;
     Ok(map)
 }
 
+/// A value that was made is written as this code, which is read and written as itself, and its
+/// fronts are refused.
+fn has_code<T: BothBin>(rt: &impl Abort, alloc: Global, made: Result<T, AllocError>, code: &[u8]) {
+    match made {
+        Ok(value) => {
+            is_written(rt, &code_of(alloc, &value), code);
+            normal::<T>(rt, alloc, code, code);
+            value_fronts_refused(rt, alloc, &value);
+        }
+        Err(_refused) => no_memory(rt),
+    }
+}
+
+/// The map of lists of the item has this code.
+fn map_has_code<T: BothBin>(
+    rt: &impl Abort,
+    alloc: Global,
+    made: Result<T, AllocError>,
+    code: &[u8],
+) {
+    match made {
+        Ok(item) => has_code(rt, alloc, map_of_lists(alloc, item), code),
+        Err(_refused) => no_memory(rt),
+    }
+}
+
+/// A set of two numbers.
+fn two_numbers(alloc: Global) -> Result<HashSet<u16>, AllocError> {
+    let mut items = HashSet::new(alloc);
+    items.insert(258u16)?;
+    items.insert(1)?;
+    Ok(items)
+}
+
 #[test]
-fn nested_types(rt: HostRuntime) -> Result<(), Fail> {
+fn nested_types(rt: HostRuntime) {
     let alloc = rt.alloc();
-    let map = nested_map(alloc)?;
-    is_code(&rt, &code_of(alloc, &map)?, NESTED);
-    normal::<Nested>(&rt, alloc, NESTED, NESTED)?;
-    value_fronts_refused(&rt, alloc, &map)
+    map_has_code(&rt, alloc, two_numbers(alloc), NESTED);
 }
 
-/// A set of two pairs.
-fn pairs(alloc: Global) -> Result<BTreeSet<(u8, String)>, AllocError> {
-    let text = String::from_str(alloc, "x")?;
-    let mut pairs = BTreeSet::new(alloc);
-    pairs.insert((2u8, text))?;
-    pairs.insert((1, String::new(alloc)))?;
-    Ok(pairs)
+/// An ordered set of two items.
+fn pair_of<T: OrderedKey + Drop>(
+    alloc: Global,
+    one: T,
+    other: T,
+) -> Result<BTreeSet<T>, AllocError> {
+    let mut pair = BTreeSet::new(alloc);
+    pair.insert(one)?;
+    pair.insert(other)?;
+    Ok(pair)
 }
 
-/// A set of that set and the empty one.
-fn set_of_sets(alloc: Global) -> Result<HashSet<BTreeSet<(u8, String)>>, AllocError> {
-    let mut sets = HashSet::new(alloc);
-    sets.insert(pairs(alloc)?)?;
-    sets.insert(BTreeSet::new(alloc))?;
-    Ok(sets)
+/// A hashed set of two items.
+fn set_of<T: OrderedKey + Hash + Drop>(
+    alloc: Global,
+    one: T,
+    other: T,
+) -> Result<HashSet<T>, AllocError> {
+    let mut set = HashSet::new(alloc);
+    set.insert(one)?;
+    set.insert(other)?;
+    Ok(set)
+}
+
+/// A set of the item that was made and of another is read back.
+fn set_back<T: BothBin + OrderedKey + Hash>(
+    rt: &impl Abort,
+    alloc: Global,
+    made: Result<T, AllocError>,
+    other: T,
+) {
+    match made {
+        Ok(one) => back(rt, alloc, set_of(alloc, one, other)),
+        Err(_refused) => no_memory(rt),
+    }
+}
+
+/// A set of the set of two items and of the empty one is read back.
+fn sets_back<T: BothBin + OrderedKey + Hash>(rt: &impl Abort, alloc: Global, one: T, other: T) {
+    set_back(rt, alloc, pair_of(alloc, one, other), BTreeSet::new(alloc));
+}
+
+/// A set of sets of pairs of a number and a text is read back.
+fn texts_back(rt: &impl Abort, alloc: Global, made: Result<String, AllocError>) {
+    match made {
+        Ok(text) => sets_back(rt, alloc, (2u8, text), (1, String::new(alloc))),
+        Err(_refused) => no_memory(rt),
+    }
 }
 
 #[test]
-fn nested_sets(rt: HostRuntime) -> Result<(), Fail> {
+fn nested_sets(rt: HostRuntime) {
     let alloc = rt.alloc();
-    back(&rt, alloc, set_of_sets(alloc)?)
+    texts_back(&rt, alloc, text(alloc, "x"));
 }

@@ -1,11 +1,11 @@
 // Each type of the crate once through its bound, and what each container hands on of a part's
 // refusal.
-use crate::checks::{is_back, is_refused, reads, refusal};
-use nano_bin::{BothBin, DeBin, DeBinKind, SerBin};
+use crate::checks::{is_back, is_refused, no_memory, reads, refusal};
+use crate::made::{both, boxed, hashed, linked, list, mapped, only, ordered, text};
+use nano_bin::{BothBin, DeBin, DeBinErr, DeBinKind, SerBin};
 use std::alloc::{AllocError, Global};
 use std::collections::{BTreeSet, HashMap, HashSet, LinkedList};
 use std::process::Abort;
-use std::test::Fail;
 
 /// The code of a value between two bytes that stand there.
 fn code_between<T: SerBin>(alloc: Global, value: &T) -> Result<Vec<u8>, AllocError> {
@@ -15,134 +15,148 @@ fn code_between<T: SerBin>(alloc: Global, value: &T) -> Result<Vec<u8>, AllocErr
     Ok(code)
 }
 
-/// The value is written behind what stands there, and read back from there.
-fn back<T: BothBin + PartialEq>(rt: &impl Abort, alloc: Global, value: &T) -> Result<(), Fail> {
+/// What a read of the code between two bytes answers, and where the code ends.
+fn read_between<T: BothBin + PartialEq>(
+    alloc: Global,
+    value: &T,
+) -> Result<(Result<(bool, usize), DeBinErr>, usize), AllocError> {
     let code = code_between(alloc, value)?;
-    is_back(
-        rt,
-        reads(alloc, value, 1, &code)?,
-        code.len().saturating_sub(1),
-    );
-    Ok(())
+    let read = reads(alloc, value, 1, &code);
+    Ok((read, code.len().saturating_sub(1)))
 }
 
-/// Each of the values, and the list of them.
+/// The value is written behind what stands there, and read back from there.
+fn back<T: BothBin + PartialEq>(rt: &impl Abort, alloc: Global, value: &T) {
+    match read_between(alloc, value) {
+        Ok((read, end)) => is_back(rt, read, end),
+        Err(_refused) => no_memory(rt),
+    }
+}
+
+/// Each of the values that were made, and the list of them.
 fn all_back<T: BothBin + PartialEq>(
     rt: &impl Abort,
     alloc: Global,
-    values: &Vec<T>,
-) -> Result<(), Fail> {
-    for value in values {
-        back(rt, alloc, value)?;
+    made: Result<Vec<T>, AllocError>,
+) {
+    match made {
+        Ok(values) => list_back(rt, alloc, &values),
+        Err(_refused) => no_memory(rt),
     }
-    back(rt, alloc, values)
+}
+
+/// Each of the values, and the list of them.
+fn list_back<T: BothBin + PartialEq>(rt: &impl Abort, alloc: Global, values: &Vec<T>) {
+    for value in values {
+        back(rt, alloc, value);
+    }
+    back(rt, alloc, values);
+}
+
+/// Each of the values, the list of them and the array of them.
+fn array_back<T: BothBin + PartialEq + Copy, const N: usize>(
+    rt: &impl Abort,
+    alloc: Global,
+    values: &[T; N],
+) {
+    all_back(rt, alloc, list(alloc, values.as_slice()));
+    back(rt, alloc, values);
 }
 
 #[test]
-fn unsigned_integers(rt: HostRuntime) -> Result<(), Fail> {
+fn unsigned_integers(rt: HostRuntime) {
     let alloc = rt.alloc();
-    all_back(&rt, alloc, &vec![in alloc; 0u8, 1, u8::MAX]?)?;
-    back(&rt, alloc, &[0u8, 1, u8::MAX])?;
-    all_back(&rt, alloc, &vec![in alloc; 0u16, 258, u16::MAX]?)?;
-    back(&rt, alloc, &[0u16, 258, u16::MAX])?;
-    all_back(&rt, alloc, &vec![in alloc; 0u32, 258, u32::MAX]?)?;
-    back(&rt, alloc, &[0u32, 258, u32::MAX])?;
-    all_back(&rt, alloc, &vec![in alloc; 0u64, 258, u64::MAX]?)?;
-    back(&rt, alloc, &[0u64, 258, u64::MAX])?;
-    all_back(&rt, alloc, &vec![in alloc; 0usize, 258, usize::MAX]?)?;
-    back(&rt, alloc, &[0usize, 258, usize::MAX])?;
-    all_back(&rt, alloc, &vec![in alloc; 0u128, 258, u128::MAX]?)?;
-    back(&rt, alloc, &[0u128, 258, u128::MAX])?;
-    Ok(())
+    array_back(&rt, alloc, &[0u8, 1, u8::MAX]);
+    array_back(&rt, alloc, &[0u16, 258, u16::MAX]);
+    array_back(&rt, alloc, &[0u32, 258, u32::MAX]);
+    array_back(&rt, alloc, &[0u64, 258, u64::MAX]);
+    array_back(&rt, alloc, &[0usize, 258, usize::MAX]);
+    array_back(&rt, alloc, &[0u128, 258, u128::MAX]);
 }
 
 #[test]
-fn signed_integers(rt: HostRuntime) -> Result<(), Fail> {
+fn signed_integers(rt: HostRuntime) {
     let alloc = rt.alloc();
-    all_back(&rt, alloc, &vec![in alloc; i8::MIN, -1, i8::MAX]?)?;
-    back(&rt, alloc, &[i8::MIN, -1, i8::MAX])?;
-    all_back(&rt, alloc, &vec![in alloc; i16::MIN, -2, i16::MAX]?)?;
-    back(&rt, alloc, &[i16::MIN, -2, i16::MAX])?;
-    all_back(&rt, alloc, &vec![in alloc; i32::MIN, -2, i32::MAX]?)?;
-    back(&rt, alloc, &[i32::MIN, -2, i32::MAX])?;
-    all_back(&rt, alloc, &vec![in alloc; i64::MIN, -2, i64::MAX]?)?;
-    back(&rt, alloc, &[i64::MIN, -2, i64::MAX])?;
-    all_back(&rt, alloc, &vec![in alloc; i128::MIN, -2, i128::MAX]?)?;
-    back(&rt, alloc, &[i128::MIN, -2, i128::MAX])?;
-    Ok(())
+    array_back(&rt, alloc, &[i8::MIN, -1, i8::MAX]);
+    array_back(&rt, alloc, &[i16::MIN, -2, i16::MAX]);
+    array_back(&rt, alloc, &[i32::MIN, -2, i32::MAX]);
+    array_back(&rt, alloc, &[i64::MIN, -2, i64::MAX]);
+    array_back(&rt, alloc, &[i128::MIN, -2, i128::MAX]);
+}
+
+/// Two texts.
+fn texts(alloc: Global) -> Result<Vec<String>, AllocError> {
+    both(alloc, text(alloc, "ab"), text(alloc, ""))
+}
+
+/// A list of a list of two texts.
+fn lists_of_texts(alloc: Global) -> Result<Vec<Vec<String>>, AllocError> {
+    only(alloc, texts(alloc)?)
 }
 
 #[test]
-fn other_types(rt: HostRuntime) -> Result<(), Fail> {
+fn other_types(rt: HostRuntime) {
     let alloc = rt.alloc();
-    all_back(&rt, alloc, &vec![in alloc; true, false]?)?;
-    back(&rt, alloc, &[true, false])?;
-    all_back(&rt, alloc, &vec![in alloc; (), ()]?)?;
-    back(&rt, alloc, &[(), ()])?;
-    let texts = vec![in alloc; String::from_str(alloc, "ab")?, String::new(alloc)]?;
-    all_back(&rt, alloc, &texts)?;
-    all_back(&rt, alloc, &vec![in alloc; texts]?)?;
-    all_back(&rt, alloc, &vec![in alloc; Some(5u8), None]?)?;
-    Ok(())
+    array_back(&rt, alloc, &[true, false]);
+    array_back(&rt, alloc, &[(), ()]);
+    all_back(&rt, alloc, texts(alloc));
+    all_back(&rt, alloc, lists_of_texts(alloc));
+    all_back(&rt, alloc, list(alloc, &[Some(5u8), None]));
 }
 
 #[test]
-fn types_of_parts(rt: HostRuntime) -> Result<(), Fail> {
+fn types_of_parts(rt: HostRuntime) {
     let alloc = rt.alloc();
-    all_back(&rt, alloc, &vec![in alloc; [1u16, 2], [3, 4]]?)?;
+    all_back(&rt, alloc, list(alloc, &[[1u16, 2], [3, 4]]));
+    all_back(&rt, alloc, both(alloc, boxed(alloc, 1u8), boxed(alloc, 2)));
+    all_back(&rt, alloc, list(alloc, &[(1u8, true), (2, false)]));
     all_back(
         &rt,
         alloc,
-        &vec![in alloc; Box::new(alloc, 1u8)?, Box::new(alloc, 2)?]?,
-    )?;
-    all_back(&rt, alloc, &vec![in alloc; (1u8, true), (2, false)]?)?;
+        list(alloc, &[(1u8, true, 3i16), (2, false, -3)]),
+    );
     all_back(
         &rt,
         alloc,
-        &vec![in alloc; (1u8, true, 3i16), (2, false, -3)]?,
-    )?;
+        list(alloc, &[(1u8, true, 3i16, 4u64), (2, false, -3, 5)]),
+    );
+}
+
+#[test]
+fn linked_lists(rt: HostRuntime) {
+    let alloc = rt.alloc();
     all_back(
         &rt,
         alloc,
-        &vec![in alloc; (1u8, true, 3i16, 4u64), (2, false, -3, 5)]?,
-    )?;
-    Ok(())
+        both(alloc, linked(alloc, &[1u16, 2]), linked(alloc, &[])),
+    );
 }
 
 #[test]
-fn linked_lists(rt: HostRuntime) -> Result<(), Fail> {
+fn hashed_sets(rt: HostRuntime) {
     let alloc = rt.alloc();
-    let mut linked = LinkedList::new(alloc);
-    linked.push_back(1u16)?;
-    linked.push_back(2)?;
-    all_back(&rt, alloc, &vec![in alloc; linked, LinkedList::new(alloc)]?)
+    all_back(
+        &rt,
+        alloc,
+        both(alloc, hashed(alloc, &[1, 2]), hashed(alloc, &[])),
+    );
 }
 
 #[test]
-fn hashed_sets(rt: HostRuntime) -> Result<(), Fail> {
+fn ordered_sets(rt: HostRuntime) {
     let alloc = rt.alloc();
-    let mut hashed = HashSet::new(alloc);
-    hashed.insert(1u8)?;
-    hashed.insert(2)?;
-    all_back(&rt, alloc, &vec![in alloc; hashed, HashSet::new(alloc)]?)
+    all_back(
+        &rt,
+        alloc,
+        both(alloc, ordered(alloc, &[1, 2]), ordered(alloc, &[])),
+    );
 }
 
 #[test]
-fn ordered_sets(rt: HostRuntime) -> Result<(), Fail> {
+fn maps(rt: HostRuntime) {
     let alloc = rt.alloc();
-    let mut ordered = BTreeSet::new(alloc);
-    ordered.insert(1u8)?;
-    ordered.insert(2)?;
-    all_back(&rt, alloc, &vec![in alloc; ordered, BTreeSet::new(alloc)]?)
-}
-
-#[test]
-fn maps(rt: HostRuntime) -> Result<(), Fail> {
-    let alloc = rt.alloc();
-    let mut map = HashMap::new(alloc);
-    map.insert(1u8, true)?;
-    map.insert(2, false)?;
-    all_back(&rt, alloc, &vec![in alloc; map, HashMap::new(alloc)]?)
+    let map = mapped(alloc, &[(1, true), (2, false)]);
+    all_back(&rt, alloc, both(alloc, map, mapped(alloc, &[])));
 }
 
 /// The text of one byte 255, which stands at `place` behind a byte, is the fault, whatever stands

@@ -2,7 +2,7 @@
 // asserted of its answer: a function that does both takes many times as long to prove. None answers
 // an error, so that a test may call many of them.
 use nano_json::{DeJson, DeJsonErr, SerJson};
-use std::alloc::Global;
+use std::alloc::{AllocError, Global};
 use std::process::Abort;
 
 /// The refusal of a text, if it is refused.
@@ -13,8 +13,8 @@ pub(crate) fn refusal<T: DeJson>(alloc: Global, text: &str) -> Option<DeJsonErr>
 /// The text was refused with this message.
 pub(crate) fn is_told(rt: &impl Abort, told: Option<DeJsonErr>, text: &str, expected: &str) {
     match told {
-        None => assert!(rt; false, "{text} is read"),
-        Some(error) => assert_eq!(rt; error.msg.as_str(), expected, "at {text}"),
+        None => holds(rt, false, text),
+        Some(error) => is_text(rt, error.msg.as_str(), expected),
     }
 }
 
@@ -52,6 +52,19 @@ pub(crate) fn values<T: DeJson + PartialEq>(rt: &impl Abort, alloc: Global, rows
     }
 }
 
+/// A text is read as the value, where that was made.
+pub(crate) fn is_made_value<T: DeJson + PartialEq>(
+    rt: &impl Abort,
+    alloc: Global,
+    text: &str,
+    made: Result<T, AllocError>,
+) {
+    match made {
+        Ok(expected) => holds(rt, is_value(alloc, text, &expected), text),
+        Err(_refused) => holds(rt, false, "no memory"),
+    }
+}
+
 /// The written text, if there was memory for it.
 pub(crate) fn text_of<T: SerJson>(alloc: Global, value: &T) -> Option<String> {
     value.serialize_json(alloc).ok()
@@ -65,7 +78,7 @@ pub(crate) fn is_text(rt: &impl Abort, text: &str, expected: &str) {
 /// There is a text, and it is the expected one.
 pub(crate) fn is_some_text(rt: &impl Abort, text: Option<String>, expected: &str) {
     match text {
-        None => assert!(rt; false, "no memory for {expected}"),
+        None => holds(rt, false, expected),
         Some(text) => is_text(rt, text.as_str(), expected),
     }
 }
@@ -73,23 +86,25 @@ pub(crate) fn is_some_text(rt: &impl Abort, text: Option<String>, expected: &str
 /// A text, its refusal's message, and the line and column of that, both counted from 0.
 pub(crate) type FaultRow<'a> = (&'a str, &'a str, usize, usize);
 
-/// The refusal stands at that line and column, and is not for want of memory.
-fn is_fault_at(rt: &impl Abort, error: &DeJsonErr, place: (usize, usize), text: &str) {
-    assert_eq!(rt;
-        (error.line, error.col, error.memory),
-        (place.0, place.1, false),
-        "at {text}"
-    );
+/// The line and the column are these.
+pub(crate) fn is_place(
+    rt: &impl Abort,
+    found: (usize, usize),
+    expected: (usize, usize),
+    text: &str,
+) {
+    assert_eq!(rt; found, expected, "at {text}");
 }
 
-/// The text was refused with this message, in this line and this column.
+/// The text was refused with this message, in this line and this column, and not for want of
+/// memory.
 pub(crate) fn is_fault(rt: &impl Abort, told: Option<DeJsonErr>, row: &FaultRow<'_>) {
-    let (text, msg, line, col) = row;
     match told {
-        None => holds(rt, false, text),
+        None => holds(rt, false, row.0),
         Some(error) => {
-            is_fault_at(rt, &error, (*line, *col), text);
-            is_text(rt, error.msg.as_str(), msg);
+            holds(rt, !error.memory, row.0);
+            is_place(rt, (error.line, error.col), (row.2, row.3), row.0);
+            is_text(rt, error.msg.as_str(), row.1);
         }
     }
 }

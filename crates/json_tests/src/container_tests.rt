@@ -1,9 +1,10 @@
 // What no clause of the readers of sets, maps and tuples says: that they succeed, that the definitions
 // are the format's, and the texts of faults.
-use crate::checks::{all_refused, holds, refused_with, values};
+use crate::checks::{all_refused, holds, is_made_value, refused_with, values};
 use nano_json::DeJson;
 use std::alloc::{AllocError, Global};
 use std::collections::{BTreeSet, HashMap, HashSet, LinkedList};
+use std::process::Abort;
 use std::test::Fail;
 
 /// Whether a text is read as the hashed set of 1 and 3.
@@ -36,10 +37,13 @@ const OF_SETS: &[(&str, &str)] = &[
     ("[1] @", "Unexpected token BlockClose expected tokenizer "),
 ];
 
+/// Texts of the set of 1 and 3.
+const ONE_AND_THREE: &[&str] = &["[3,1,3]", "[3,1,3,]", " [ 1 , 3 ] ", "[1,3]]", "[3,1]\0@"];
+
 #[test]
 fn sets_of_numbers(rt: HostRuntime) {
     let alloc = rt.alloc();
-    for text in ["[3,1,3]", "[3,1,3,]", " [ 1 , 3 ] ", "[1,3]]", "[3,1]\0@"] {
+    for text in ONE_AND_THREE {
         holds(&rt, is_hashed(alloc, text), text);
         holds(&rt, is_ordered(alloc, text), text);
     }
@@ -48,9 +52,9 @@ fn sets_of_numbers(rt: HostRuntime) {
 #[test]
 fn empty_sets_and_maps(rt: HostRuntime) {
     let alloc = rt.alloc();
-    values(&rt, alloc, &[("[]", HashSet::<u8>::new(alloc))]);
-    values(&rt, alloc, &[("[]", BTreeSet::<u8>::new(alloc))]);
-    values(&rt, alloc, &[("{}", HashMap::<u8, u8>::new(alloc))]);
+    is_made_value(&rt, alloc, "[]", Ok(HashSet::<u8>::new(alloc)));
+    is_made_value(&rt, alloc, "[]", Ok(BTreeSet::<u8>::new(alloc)));
+    is_made_value(&rt, alloc, "{}", Ok(HashMap::<u8, u8>::new(alloc)));
 }
 
 #[test]
@@ -77,11 +81,10 @@ fn named(alloc: Global) -> Result<HashMap<String, i32>, AllocError> {
 }
 
 #[test]
-fn maps_with_last_values(rt: HostRuntime) -> Result<(), Fail> {
+fn maps_with_last_values(rt: HostRuntime) {
     let alloc = rt.alloc();
-    values(&rt, alloc, &[("{2:true,1:false}", truths(alloc)?)]);
-    values(&rt, alloc, &[("{\"b\":1,\"a\":2,\"b\":3,}", named(alloc)?)]);
-    Ok(())
+    is_made_value(&rt, alloc, "{2:true,1:false}", truths(alloc));
+    is_made_value(&rt, alloc, "{\"b\":1,\"a\":2,\"b\":3,}", named(alloc));
 }
 
 /// Faults of maps.
@@ -172,33 +175,40 @@ fn linked_lists_in_order(rt: HostRuntime) {
     assert!(rt; ends == Some((2, Some(1), Some(2))));
 }
 
-/// A text's map from names to pairs of a number and a set.
-fn nested(alloc: Global, text: &str) -> Option<HashMap<String, Vec<(u8, HashSet<u8>)>>> {
-    HashMap::<String, Vec<(u8, HashSet<u8>)>>::deserialize_json(alloc, text).ok()
+/// A map from names to lists: of two items, and of none.
+fn lists<V: Drop>(alloc: Global, first: V, last: V) -> Result<HashMap<String, Vec<V>>, AllocError> {
+    let mut list = Vec::new(alloc);
+    list.push(first)?;
+    list.push(last)?;
+    let mut map = HashMap::new(alloc);
+    map.insert(String::from_str(alloc, "a")?, list)?;
+    map.insert(String::from_str(alloc, "b")?, Vec::new(alloc))?;
+    Ok(map)
 }
 
-/// The pairs are of 1 with a set of one item, and of 3 with an empty set.
-fn are_pairs(pairs: &[(u8, HashSet<u8>)]) -> bool {
-    match pairs {
-        [first, last] => { first.0 == 1 && first.1.len() == 1 && last.0 == 3 && last.1.len() == 0 }
-        _ => false,
-    }
+/// The text is read as that map. A type of many levels takes long to prove where it is named in one
+/// piece.
+fn are_lists<V: DeJson + PartialEq>(rt: &impl Abort, alloc: Global, text: &str, first: V, last: V) {
+    is_made_value(rt, alloc, text, lists(alloc, first, last));
 }
 
-/// How many keys the map has, and whether these pairs stand behind the key.
-fn has_pairs(map: &HashMap<String, Vec<(u8, HashSet<u8>)>>, key: &String) -> (usize, bool) {
-    match map.get(key) {
-        Some(pairs) => (map.len(), are_pairs(pairs.as_slice())),
-        None => (map.len(), false),
-    }
+/// A set of one number.
+fn only(alloc: Global, item: u8) -> Result<HashSet<u8>, AllocError> {
+    let mut set = HashSet::new(alloc);
+    set.insert(item)?;
+    Ok(set)
 }
 
 #[test]
 fn nested_containers(rt: HostRuntime) -> Result<(), Fail> {
     let alloc = rt.alloc();
     let text = "{\"a\":[[1,[2,]],[3,[]],],\"b\":[]}";
-    let key = String::from_str(alloc, "a")?;
-    let map = nested(alloc, text).ok_or("refused")?;
-    holds(&rt, has_pairs(&map, &key) == (2, true), text);
+    are_lists(
+        &rt,
+        alloc,
+        text,
+        (1u8, only(alloc, 2)?),
+        (3, HashSet::new(alloc)),
+    );
     Ok(())
 }

@@ -1,60 +1,62 @@
 // Faults of tokens and of the calls that take them: what they tell, and the line and the column where
 // they are found, counted from 0.
-use crate::checks::{holds, is_fault};
+use crate::checks::{holds, is_fault, is_place};
 use crate::helper_tests::call;
-use crate::token_tests::state_of;
+use crate::token_tests::{state_of, take};
 use nano_json::DeJsonErr;
 use std::alloc::Global;
 use std::process::Abort;
-use std::test::Fail;
+
+/// What a call is refused with, if it is.
+type Told = Option<DeJsonErr>;
 
 /// What a call is refused with once some tokens of a text are taken, and the line and column
 /// afterwards.
-fn answer_of(
-    alloc: Global,
-    text: &str,
-    taken: usize,
-    name: &str,
-) -> Result<(Option<DeJsonErr>, (usize, usize)), DeJsonErr> {
+fn answer_of(alloc: Global, text: &str, taken: usize, name: &str) -> (Told, (usize, usize)) {
     let mut input = text.chars();
     let mut state = state_of(alloc, &mut input);
-    for _ in 0..taken {
-        state.next_tok(alloc, &mut input)?;
+    match take(alloc, &mut state, &mut input, taken) {
+        Ok(()) => {
+            let told = call(alloc, &mut state, &mut input, name).err();
+            (told, (state.line, state.col))
+        }
+        Err(error) => (Some(error), (0, 0)),
     }
-    let told = call(alloc, &mut state, &mut input, name).err();
-    Ok((told, (state.line, state.col)))
 }
 
 /// A text, how many of its tokens are taken, the call, and its fault: what it tells, in which line
 /// and column.
 type FaultRow<'a> = (&'a str, usize, &'a str, &'a str, usize, usize);
 
+/// The call answers the fault of its row.
+fn is_row(rt: &impl Abort, alloc: Global, row: &FaultRow<'_>) {
+    let (told, place) = answer_of(alloc, row.0, row.1, row.2);
+    is_place(rt, place, (row.4, row.5), row.0);
+    is_fault(rt, told, &(row.0, row.3, row.4, row.5));
+}
+
 /// Each call answers the fault of its row.
-fn faults(rt: &impl Abort, alloc: Global, rows: &[FaultRow<'_>]) -> Result<(), Fail> {
-    for (text, taken, name, msg, line, col) in rows {
-        let (told, place) = answer_of(alloc, text, *taken, name)?;
-        is_place(rt, place, (*line, *col), text);
-        is_fault(rt, told, &(*text, *msg, *line, *col));
+fn faults(rt: &impl Abort, alloc: Global, rows: &[FaultRow<'_>]) {
+    for row in rows {
+        is_row(rt, alloc, row);
     }
-    Ok(())
 }
 
 /// A text, how many of its tokens are taken, the call, and the line and column afterwards.
 type PlaceRow<'a> = (&'a str, usize, &'a str, usize, usize);
 
-/// Each call is answered, and leaves the line and the column of its row.
-fn places(rt: &impl Abort, alloc: Global, rows: &[PlaceRow<'_>]) -> Result<(), Fail> {
-    for (text, taken, name, line, col) in rows {
-        let (told, place) = answer_of(alloc, text, *taken, name)?;
-        holds(rt, told.is_none(), text);
-        is_place(rt, place, (*line, *col), text);
-    }
-    Ok(())
+/// The call is answered, and leaves the line and the column of its row.
+fn is_answered(rt: &impl Abort, alloc: Global, row: &PlaceRow<'_>) {
+    let (told, place) = answer_of(alloc, row.0, row.1, row.2);
+    holds(rt, told.is_none(), row.0);
+    is_place(rt, place, (row.3, row.4), row.0);
 }
 
-/// The line and the column are the expected ones.
-fn is_place(rt: &impl Abort, place: (usize, usize), expected: (usize, usize), text: &str) {
-    assert_eq!(rt; place, expected, "at {text}");
+/// Each call is answered, and leaves the line and the column of its row.
+fn places(rt: &impl Abort, alloc: Global, rows: &[PlaceRow<'_>]) {
+    for row in rows {
+        is_answered(rt, alloc, row);
+    }
 }
 
 /// Faults of tokens.
@@ -144,9 +146,9 @@ const OF_TOKENS: &[FaultRow<'static>] = &[
 // Columns count characters, of
 // which some stand in two bytes or four; a string may hold a line feed.
 #[test]
-fn faults_of_tokens(rt: HostRuntime) -> Result<(), Fail> {
+fn faults_of_tokens(rt: HostRuntime) {
     let alloc = rt.alloc();
-    faults(&rt, alloc, OF_TOKENS)
+    faults(&rt, alloc, OF_TOKENS);
 }
 
 /// Faults of the calls that take one token.
@@ -243,9 +245,9 @@ const OF_CALLS: &[FaultRow<'static>] = &[
 ];
 
 #[test]
-fn faults_where_a_token_is_taken(rt: HostRuntime) -> Result<(), Fail> {
+fn faults_where_a_token_is_taken(rt: HostRuntime) {
     let alloc = rt.alloc();
-    faults(&rt, alloc, OF_CALLS)
+    faults(&rt, alloc, OF_CALLS);
 }
 
 /// Faults behind items, and of skipped fields.
@@ -295,9 +297,9 @@ const OF_ITEMS: &[FaultRow<'static>] = &[
 ];
 
 #[test]
-fn faults_behind_items_and_in_fields(rt: HostRuntime) -> Result<(), Fail> {
+fn faults_behind_items_and_in_fields(rt: HostRuntime) {
     let alloc = rt.alloc();
-    faults(&rt, alloc, OF_ITEMS)
+    faults(&rt, alloc, OF_ITEMS);
 }
 
 /// Faults of values.
@@ -364,9 +366,9 @@ const OF_VALUES: &[FaultRow<'static>] = &[
 ];
 
 #[test]
-fn faults_of_values(rt: HostRuntime) -> Result<(), Fail> {
+fn faults_of_values(rt: HostRuntime) {
     let alloc = rt.alloc();
-    faults(&rt, alloc, OF_VALUES)
+    faults(&rt, alloc, OF_VALUES);
 }
 
 /// Calls that are answered, and the places behind them.
@@ -382,7 +384,7 @@ const PLACES: &[PlaceRow<'static>] = &[
 
 // Behind a token, line and column are those of the character that follows it.
 #[test]
-fn places_count_characters(rt: HostRuntime) -> Result<(), Fail> {
+fn places_count_characters(rt: HostRuntime) {
     let alloc = rt.alloc();
-    places(&rt, alloc, PLACES)
+    places(&rt, alloc, PLACES);
 }

@@ -1,7 +1,7 @@
 // What no clause says: that the definitions are the format's, the texts and places of faults, and
 // that calls succeed.
-use crate::checks::{holds, is_some_text, is_told};
-use crate::token_tests::{pending, state_of};
+use crate::checks::{holds, is_place, is_some_text, is_text, is_told};
+use crate::token_tests::{pending, state_of, take};
 use nano_json::{DeJsonErr, DeJsonState, DeJsonTok};
 use std::alloc::{AllocError, Global};
 use std::process::Abort;
@@ -62,22 +62,28 @@ fn value_call(
 fn answer(alloc: Global, text: &str, taken: usize, name: &str) -> Result<String, AllocError> {
     let mut input = text.chars();
     let mut state = state_of(alloc, &mut input);
-    for _ in 0..taken {
-        if let Err(e) = state.next_tok(alloc, &mut input) {
-            return format!(in alloc; "{e}");
-        }
-    }
-    match call(alloc, &mut state, &mut input, name) {
-        Ok(()) => pending(alloc, &state),
+    match take(alloc, &mut state, &mut input, taken) {
+        Ok(()) => answer_on(alloc, &mut state, &mut input, name),
         Err(e) => format!(in alloc; "{e}"),
     }
 }
 
-/// Each call answers what stands beside it.
-fn answers(rt: &impl Abort, alloc: Global, rows: &[(&str, usize, &str, &str)]) {
-    for (text, taken, name, expected) in rows {
-        is_some_text(rt, answer(alloc, text, *taken, name).ok(), expected);
+/// The same of a call on a state.
+fn answer_on(
+    alloc: Global,
+    state: &mut DeJsonState,
+    input: &mut Chars<'_>,
+    name: &str,
+) -> Result<String, AllocError> {
+    match call(alloc, state, input, name) {
+        Ok(()) => pending(alloc, state),
+        Err(e) => format!(in alloc; "{e}"),
     }
+}
+
+/// The call answers what stands beside it.
+fn is_answer(rt: &impl Abort, alloc: Global, row: &(&str, usize, &str, &str)) {
+    is_some_text(rt, answer(alloc, row.0, row.1, row.2).ok(), row.3);
 }
 
 /// Texts, how many of their tokens are taken, a call, and the token behind it.
@@ -110,8 +116,9 @@ const TAKEN: &[(&str, usize, &str, &str)] = &[
 
 #[test]
 fn helpers_take_tokens(rt: HostRuntime) {
-    let alloc = rt.alloc();
-    answers(&rt, alloc, TAKEN);
+    for row in TAKEN {
+        is_answer(&rt, rt.alloc(), row);
+    }
 }
 
 /// A pending signed number, a least and a greatest value, and the refusal's message.
@@ -147,31 +154,34 @@ fn out_of(alloc: Global, tok: DeJsonTok, min: i64, max: i64) -> Option<DeJsonErr
 #[test]
 fn values_out_of_their_range(rt: HostRuntime) {
     let alloc = rt.alloc();
-    for (value, min, max, expected) in SIGNED {
-        let told = out_of(alloc, DeJsonTok::I64(*value), *min, *max);
-        is_told(&rt, told, expected, expected);
+    for row in SIGNED {
+        let told = out_of(alloc, DeJsonTok::I64(row.0), row.1, row.2);
+        is_told(&rt, told, row.3, row.3);
     }
-    for (value, min, max, expected) in UNSIGNED {
-        let told = out_of(alloc, DeJsonTok::U64(*value), *min, *max);
-        is_told(&rt, told, expected, expected);
+    for row in UNSIGNED {
+        let told = out_of(alloc, DeJsonTok::U64(row.0), row.1, row.2);
+        is_told(&rt, told, row.3, row.3);
     }
+}
+
+/// What is told of four where three is the greatest value.
+fn over_three(alloc: Global) -> Option<DeJsonErr> {
+    state_at(alloc, DeJsonTok::U64(4)).u64_range(alloc, 3).err()
+}
+
+/// Whether the last values of their ranges are read.
+fn last_values_are_read(alloc: Global) -> bool {
+    let read = state_at(alloc, DeJsonTok::U64(4)).u64_range(alloc, 4).ok();
+    let state = state_at(alloc, DeJsonTok::I64(i64::MIN));
+    let least = state.i64_range(alloc, i64::MIN, i64::MAX).ok();
+    read == Some(4) && least == Some(i64::MIN)
 }
 
 #[test]
 fn values_at_the_end_of_their_range(rt: HostRuntime) {
     let alloc = rt.alloc();
-    let state = state_at(alloc, DeJsonTok::U64(4));
-    is_told(
-        &rt,
-        state.u64_range(alloc, 3).err(),
-        "4",
-        "Value out of range 4>3 ",
-    );
-    let read = state.u64_range(alloc, 4).ok();
-    holds(&rt, read == Some(4), "4");
-    let state = state_at(alloc, DeJsonTok::I64(i64::MIN));
-    let read = state.i64_range(alloc, i64::MIN, i64::MAX).ok();
-    holds(&rt, read == Some(i64::MIN), "the least value");
+    is_told(&rt, over_three(alloc), "4", "Value out of range 4>3 ");
+    holds(&rt, last_values_are_read(alloc), "the last values");
 }
 
 /// A state behind the only token of a text, which is the string "ab".
@@ -205,10 +215,9 @@ fn strings_are_next(rt: HostRuntime) -> Result<(), Fail> {
 
 /// The error tells this in the third line and the last column.
 fn says_where(rt: &impl Abort, e: &DeJsonErr, expected: &str) {
-    assert_eq!(rt;
-        (e.msg.as_str(), e.line, e.col, e.memory),
-        (expected, 2, usize::MAX, false)
-    );
+    is_text(rt, e.msg.as_str(), expected);
+    is_place(rt, (e.line, e.col), (2, usize::MAX), expected);
+    holds(rt, !e.memory, expected);
 }
 
 /// How an error with this message is printed there.
@@ -226,18 +235,34 @@ fn debugged(alloc: Global, e: &DeJsonErr) -> Result<String, AllocError> {
     format!(in alloc; "{e:?}")
 }
 
-/// The error is printed so, as is its clone.
-fn is_printed(rt: &impl Abort, alloc: Global, e: &DeJsonErr, msg: &str) -> Result<(), Fail> {
-    let expected = printed(alloc, msg)?;
-    is_some_text(rt, shown(alloc, e).ok(), expected.as_str());
+/// How a clone of an error is printed for whom its form matters, if the clone is not for want of
+/// memory.
+fn debugged_clone(alloc: Global, e: &DeJsonErr) -> Result<String, AllocError> {
     let again = e.clone(alloc)?;
-    is_some_text(rt, debugged(alloc, &again).ok(), expected.as_str());
-    holds(rt, !again.memory, msg);
-    Ok(())
+    if again.memory {
+        return Err(AllocError);
+    }
+    debugged(alloc, &again)
+}
+
+/// The error is printed so, as is its clone.
+fn is_printed(
+    rt: &impl Abort,
+    alloc: Global,
+    e: &DeJsonErr,
+    expected: &Result<String, AllocError>,
+) {
+    match expected {
+        Ok(text) => {
+            is_some_text(rt, shown(alloc, e).ok(), text.as_str());
+            is_some_text(rt, debugged_clone(alloc, e).ok(), text.as_str());
+        }
+        Err(_refused) => holds(rt, false, "no memory"),
+    }
 }
 
 /// What the call of this name makes of a word.
-fn made(alloc: Global, state: &DeJsonState, name: &str, word: &str) -> DeJsonErr {
+pub(crate) fn made(alloc: Global, state: &DeJsonState, name: &str, word: &str) -> DeJsonErr {
     match name {
         "err_exp" => state.err_exp(alloc, word),
         "err_nf" => state.err_nf(alloc, word),
@@ -250,10 +275,10 @@ fn made(alloc: Global, state: &DeJsonState, name: &str, word: &str) -> DeJsonErr
 }
 
 /// A call that makes an error, its word, and the message.
-type MadeRow = (&'static str, &'static str, &'static str);
+pub(crate) type MadeRow = (&'static str, &'static str, &'static str);
 
 /// Errors that tell no token.
-const MADE: &[MadeRow] = &[
+pub(crate) const MADE: &[MadeRow] = &[
     ("err_exp", "k", "Unexpected key k"),
     ("err_nf", "k", "Key not found k"),
     ("err_enum", "V", "Enum not defined V"),
@@ -265,9 +290,6 @@ const MADE: &[MadeRow] = &[
 /// An error that tells the token.
 const WITH_TOKEN: MadeRow = ("err_token", "x", "Unexpected token Char('\\'') expected x ");
 
-/// An error that tells that there was no token yet.
-const WITH_NO_TOKEN: MadeRow = ("err_token", "x", "Unexpected token Bof expected x ");
-
 /// A state behind a character, in the third line and the last column.
 fn far_state(alloc: Global) -> DeJsonState {
     let mut state = state_at(alloc, DeJsonTok::Char('\''));
@@ -277,18 +299,18 @@ fn far_state(alloc: Global) -> DeJsonState {
 }
 
 /// The error of a row says where that state is, and is printed so.
-fn row_says_where(rt: &impl Abort, alloc: Global, row: &MadeRow) -> Result<(), Fail> {
+fn row_says_where(rt: &impl Abort, alloc: Global, row: &MadeRow) {
     let e = made(alloc, &far_state(alloc), row.0, row.1);
     says_where(rt, &e, row.2);
-    is_printed(rt, alloc, &e, row.2)
+    is_printed(rt, alloc, &e, &printed(alloc, row.2));
 }
 
 #[test]
-fn errors_say_where(rt: HostRuntime) -> Result<(), Fail> {
+fn errors_say_where(rt: HostRuntime) {
     for row in MADE {
-        row_says_where(&rt, rt.alloc(), row)?;
+        row_says_where(&rt, rt.alloc(), row);
     }
-    row_says_where(&rt, rt.alloc(), &WITH_TOKEN)
+    row_says_where(&rt, rt.alloc(), &WITH_TOKEN);
 }
 
 /// As many of a character.
@@ -299,188 +321,38 @@ fn push_many(text: &mut String, c: char) -> Result<(), AllocError> {
     Ok(())
 }
 
-#[test]
-fn deep_brackets_are_counted(rt: HostRuntime) -> Result<(), Fail> {
-    let alloc = rt.alloc();
+/// Many open brackets.
+fn opened(alloc: Global) -> Result<String, AllocError> {
     let mut text = String::new(alloc);
     push_many(&mut text, '[')?;
-    is_some_text(
-        &rt,
-        answer(alloc, text.as_str(), 1, "whole_field").ok(),
-        "Json Deserialize error: Cannot parse field , line:1 col:10001",
-    );
+    Ok(text)
+}
+
+/// As many open brackets as closed ones, and a token behind them.
+fn closed(alloc: Global) -> Result<String, AllocError> {
+    let mut text = opened(alloc)?;
     push_many(&mut text, '}')?;
     text.push_str("null")?;
-    is_some_text(
-        &rt,
-        answer(alloc, text.as_str(), 1, "whole_field").ok(),
-        "Null",
-    );
-    Ok(())
+    Ok(text)
+}
+
+/// The whole field of a text answers this.
+fn is_field(rt: &impl Abort, alloc: Global, made: Result<String, AllocError>, expected: &str) {
+    match made {
+        Ok(text) => is_answer(rt, alloc, &(text.as_str(), 1, "whole_field", expected)),
+        Err(_refused) => holds(rt, false, "no memory"),
+    }
+}
+
+#[test]
+fn deep_brackets_are_counted(rt: HostRuntime) {
+    let alloc = rt.alloc();
+    let fault = "Json Deserialize error: Cannot parse field , line:1 col:10001";
+    is_field(&rt, alloc, opened(alloc), fault);
+    is_field(&rt, alloc, closed(alloc), "Null");
 }
 
 #[test]
 fn states_begin_at_no_token(rt: HostRuntime) {
     assert_eq!(rt; DeJsonTok::default(), DeJsonTok::Bof);
-}
-
-/// The error is for want of memory, and has no message.
-fn is_want(e: &DeJsonErr) -> bool {
-    e.memory && e.msg.is_empty()
-}
-
-/// The error tells this, or is for want of memory, and then has no message.
-fn is_want_or_tells(e: &DeJsonErr, expected: &str) -> bool {
-    if e.memory {
-        return e.msg.is_empty();
-    }
-    e.msg.as_str() == expected
-}
-
-/// The refusal of a call behind one token of a text, and whether it leaves the end, where that token
-/// is not refused.
-fn refused_behind(
-    alloc: Global,
-    text: &str,
-    name: &str,
-) -> Result<(Option<DeJsonErr>, bool), DeJsonErr> {
-    let mut input = text.chars();
-    let mut state = state_of(alloc, &mut input);
-    state.next_tok(alloc, &mut input)?;
-    let told = call(alloc, &mut state, &mut input, name).err();
-    Ok((told, state.tok == DeJsonTok::Eof && state.cur == '\0'))
-}
-
-/// Nothing was refused, or memory was wanted and the end is left.
-fn is_none_or_want(behind: (Option<DeJsonErr>, bool)) -> bool {
-    let (told, ended) = behind;
-    match told {
-        None => true,
-        Some(e) => is_want(&e) && ended,
-    }
-}
-
-/// Whether a call behind one token of a text answers, or wants memory and leaves the end.
-fn wants_memory_or_answers(alloc: Global, text: &str, name: &str) -> bool {
-    match refused_behind(alloc, text, name) {
-        Ok(behind) => is_none_or_want(behind),
-        Err(e) => is_want(&e),
-    }
-}
-
-/// It was refused with this message, or memory was wanted.
-fn is_told_or_want(behind: (Option<DeJsonErr>, bool), expected: &str) -> bool {
-    match behind.0 {
-        None => false,
-        Some(e) => is_want_or_tells(&e, expected),
-    }
-}
-
-/// Whether a call behind one token of a text is refused with this message, or wants memory.
-fn wants_memory_or_tells(alloc: Global, text: &str, name: &str, expected: &str) -> bool {
-    match refused_behind(alloc, text, name) {
-        Ok(behind) => is_told_or_want(behind, expected),
-        Err(e) => is_want(&e),
-    }
-}
-
-/// Texts, and the calls that are answered behind one token of them.
-const ANSWERED: &[(&str, &str)] = &[
-    (": \"abc\"", "colon"),
-    ("null : 1.25e2", "next_colon"),
-    ("\"a\" \"bcd\"", "string"),
-    ("[ true", "block_open"),
-    ("] null", "block_close"),
-    ("{ false", "curly_open"),
-    ("} 1.5", "curly_close"),
-    (", \"\\u00e9\"", "eat_comma_block"),
-    (", -1.5", "eat_comma_curly"),
-    ("{\"a\":[1.5,null],\"b\":{}} true", "whole_field"),
-    ("5", "u64_range"),
-    ("-5", "i64_range"),
-    ("true", "as_bool"),
-    ("\"ab\"", "as_string"),
-    ("1 \"abc\"", "next_tok"),
-];
-
-// With each allocation refused in turn, a call answers want of memory, or as it does with ample memory.
-#[test]
-fn no_refused_growth_is_told_as_another_fault(rt: HostRuntime) {
-    let alloc = rt.alloc();
-    for (text, name) in ANSWERED {
-        holds(&rt, wants_memory_or_answers(alloc, text, name), text);
-    }
-}
-
-/// Texts, the calls that are refused behind one token of them, and their messages.
-const REFUSED: &[(&str, &str, &str)] = &[
-    (",", "colon", "Unexpected token Comma expected : "),
-    (", 1", "next_colon", "Unexpected token U64(1) expected : "),
-    (",", "string", "Unexpected token Comma expected String "),
-    (",", "block_open", "Unexpected token Comma expected [ "),
-    (",", "block_close", "Unexpected token Comma expected ] "),
-    (",", "curly_open", "Unexpected token Comma expected { "),
-    (",", "curly_close", "Unexpected token Comma expected } "),
-    (
-        "1",
-        "eat_comma_block",
-        "Unexpected token U64(1) expected , or ] ",
-    ),
-    (
-        "1",
-        "eat_comma_curly",
-        "Unexpected token U64(1) expected , or } ",
-    ),
-    (",", "whole_field", "Unexpected token Comma expected field "),
-    ("6", "u64_range", "Value out of range 6>5 "),
-    ("-6", "i64_range", "Value out of range -6<-5 "),
-    ("1", "as_bool", "Unexpected token U64(1) expected boolean "),
-    ("1", "as_string", "Unexpected token U64(1) expected string "),
-    (
-        "1 @",
-        "next_tok",
-        "Unexpected token U64(1) expected tokenizer ",
-    ),
-    (
-        "1 a",
-        "next_tok",
-        "Unexpected token BareIdent expected Got ##a## needed true, false, null ",
-    ),
-    ("1 -", "next_tok", "Cannot parse number "),
-    ("1 \"a", "next_tok", "Cannot parse string "),
-];
-
-#[test]
-fn no_refused_growth_hides_a_fault(rt: HostRuntime) {
-    let alloc = rt.alloc();
-    for (text, name, expected) in REFUSED {
-        holds(
-            &rt,
-            wants_memory_or_tells(alloc, text, name, expected),
-            text,
-        );
-    }
-}
-
-/// Whether a clone, where there is memory for it, is like the error.
-fn clones_alike(alloc: Global, e: &DeJsonErr) -> bool {
-    match e.clone(alloc) {
-        Ok(again) => again.memory == e.memory && again.msg.as_str() == e.msg.as_str(),
-        Err(_refused) => true,
-    }
-}
-
-/// The error of a row tells its message, or wants memory, and a clone is like it.
-fn is_made(rt: &impl Abort, alloc: Global, row: &MadeRow) {
-    let e = made(alloc, &DeJsonState::new(alloc), row.0, row.1);
-    holds(rt, is_want_or_tells(&e, row.2), row.2);
-    holds(rt, clones_alike(alloc, &e), row.2);
-}
-
-#[test]
-fn no_refused_growth_is_another_error(rt: HostRuntime) {
-    for row in MADE {
-        is_made(&rt, rt.alloc(), row);
-    }
-    is_made(&rt, rt.alloc(), &WITH_NO_TOKEN);
 }

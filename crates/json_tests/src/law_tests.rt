@@ -1,5 +1,5 @@
 // Laws and small calls, each made once.
-use crate::checks::{holds, is_text};
+use crate::checks::holds;
 use crate::token_tests::state_of;
 use nano_json::{DeJsonErr, DeJsonState, SerJsonState, end_if_refused, keep_written, laws};
 use std::alloc::{AllocError, Global};
@@ -52,14 +52,16 @@ fn behind_a_string(alloc: Global) -> Result<DeJsonState, DeJsonErr> {
     Ok(state)
 }
 
-#[test]
-fn states_stay_behind_an_answer(rt: HostRuntime) -> Result<(), Fail> {
-    let mut state = behind_a_string(rt.alloc())?;
+/// Whether an answer is handed on, and leaves the state as it is.
+fn stays(alloc: Global) -> Result<bool, DeJsonErr> {
+    let mut state = behind_a_string(alloc)?;
     let answer = end_if_refused(&mut state, Ok::<u8, DeJsonErr>(7)).ok();
-    holds(&rt, answer == Some(7), "an answer");
-    let stays = state.next_str().is_some() && state.cur == ' ';
-    holds(&rt, stays, "an answer");
-    Ok(())
+    Ok(answer == Some(7) && state.next_str().is_some() && state.cur == ' ')
+}
+
+#[test]
+fn states_stay_behind_an_answer(rt: HostRuntime) {
+    holds(&rt, stays(rt.alloc()).is_ok_and(|is_so| is_so), "an answer");
 }
 
 /// The error is for want of memory.
@@ -67,28 +69,34 @@ fn is_want(e: &DeJsonErr) -> bool {
     e.msg.is_empty() && e.memory && e.line == 0 && e.col == 4
 }
 
-#[test]
-fn states_end_behind_a_refusal(rt: HostRuntime) -> Result<(), Fail> {
-    let alloc = rt.alloc();
+/// Whether a refusal for want of memory is handed on, and ends the state.
+fn ends(alloc: Global) -> Result<bool, DeJsonErr> {
     let mut state = behind_a_string(alloc)?;
     let error = state.err_memory(alloc);
-    holds(&rt, is_want(&error), "an error");
+    let is_made = is_want(&error);
     let refused = end_if_refused::<u8>(&mut state, Err(error)).err();
-    holds(&rt, refused.is_some_and(|e| e.memory), "a refusal");
-    let ended = state.next_str().is_none() && state.cur == '\0';
-    holds(&rt, ended, "a refusal");
-    Ok(())
+    let is_told = refused.is_some_and(|e| e.memory);
+    Ok(is_made && is_told && state.next_str().is_none() && state.cur == '\0')
 }
 
 #[test]
-fn texts_are_set_back(rt: HostRuntime) -> Result<(), Fail> {
+fn states_end_behind_a_refusal(rt: HostRuntime) {
+    holds(&rt, ends(rt.alloc()).is_ok_and(|is_so| is_so), "a refusal");
+}
+
+/// Whether a text stays behind an answer, and is set back behind a refusal.
+fn is_set_back(alloc: Global) -> Result<bool, AllocError> {
     let mut s = SerJsonState {
-        out: String::from_str(rt.alloc(), "ab")?,
+        out: String::from_str(alloc, "ab")?,
     };
     keep_written(&mut s.out, 1, Ok(()))?;
-    is_text(&rt, s.out.as_str(), "ab");
-    let is_refused = keep_written(&mut s.out, 1, Err(AllocError)).is_err();
-    holds(&rt, is_refused, "a refused write");
-    is_text(&rt, s.out.as_str(), "a");
-    Ok(())
+    let stays = s.out.as_str() == "ab";
+    let refused = keep_written(&mut s.out, 1, Err(AllocError)).is_err();
+    Ok(stays && refused && s.out.as_str() == "a")
+}
+
+#[test]
+fn texts_are_set_back(rt: HostRuntime) {
+    let is_so = is_set_back(rt.alloc()).is_ok_and(|is_so| is_so);
+    holds(&rt, is_so, "a refused write");
 }

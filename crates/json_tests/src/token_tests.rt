@@ -1,6 +1,6 @@
 // Tokens and places: that the definitions are the format's.
 use crate::checks::holds;
-use nano_json::{DeJsonState, DeJsonTok};
+use nano_json::{DeJsonErr, DeJsonState, DeJsonTok};
 use std::alloc::{AllocError, Global};
 use std::process::Abort;
 use std::str::Chars;
@@ -29,29 +29,54 @@ pub(crate) fn pending(alloc: Global, state: &DeJsonState) -> Result<String, Allo
     }
 }
 
+/// Takes so many tokens.
+pub(crate) fn take(
+    alloc: Global,
+    state: &mut DeJsonState,
+    input: &mut Chars<'_>,
+    count: usize,
+) -> Result<(), DeJsonErr> {
+    for _ in 0..count {
+        state.next_tok(alloc, input)?;
+    }
+    Ok(())
+}
+
+/// What is pending once a token is taken.
+fn cut(
+    alloc: Global,
+    state: &mut DeJsonState,
+    input: &mut Chars<'_>,
+) -> Result<String, AllocError> {
+    match state.next_tok(alloc, input) {
+        Ok(()) => pending(alloc, state),
+        Err(_refused) => String::from_str(alloc, "refused"),
+    }
+}
+
 /// The first tokens of a text, one behind the other.
 fn tokens_of(alloc: Global, text: &str, count: usize) -> Result<String, AllocError> {
     let mut out = String::new(alloc);
     let mut input = text.chars();
     let mut state = state_of(alloc, &mut input);
     for place in 0..count {
-        if place > 0 {
-            out.push_str(" | ")?;
-        }
-        match state.next_tok(alloc, &mut input) {
-            Ok(()) => out.push_str(pending(alloc, &state)?.as_str())?,
-            Err(_refused) => out.push_str("refused")?,
-        }
+        out.push_str(if place > 0 { " | " } else { "" })?;
+        out.push_str(cut(alloc, &mut state, &mut input)?.as_str())?;
     }
     Ok(out)
 }
 
-/// The first tokens of each text are those beside it.
-fn cuts(rt: &impl Abort, alloc: Global, rows: &[(&str, usize, &str)]) -> Result<(), Fail> {
-    for (text, count, expected) in rows {
-        is_cut(rt, tokens_of(alloc, text, *count)?.as_str(), expected, text);
+/// The first tokens of a text are those beside it.
+fn is_row(rt: &impl Abort, alloc: Global, row: &(&str, usize, &str)) {
+    is_some_cut(rt, &tokens_of(alloc, row.0, row.1), row.2, row.0);
+}
+
+/// What a text is cut into was made, and is the expected.
+fn is_some_cut(rt: &impl Abort, made: &Result<String, AllocError>, expected: &str, text: &str) {
+    match made {
+        Ok(tokens) => is_cut(rt, tokens.as_str(), expected, text),
+        Err(_refused) => is_cut(rt, "no memory", expected, text),
     }
-    Ok(())
 }
 
 /// What a text is cut into is the expected.
@@ -133,24 +158,25 @@ const CUTS: &[(&str, usize, &str)] = &[
 ];
 
 #[test]
-fn texts_are_cut_into_tokens(rt: HostRuntime) -> Result<(), Fail> {
-    let alloc = rt.alloc();
-    cuts(&rt, alloc, CUTS)
+fn texts_are_cut_into_tokens(rt: HostRuntime) {
+    for row in CUTS {
+        is_row(&rt, rt.alloc(), row);
+    }
+}
+
+/// The front is refused.
+fn is_no_string(rt: &impl Abort, alloc: Global, front: &str) {
+    is_row(rt, alloc, &(front, 2, "refused | Eof"));
 }
 
 #[test]
-fn no_front_of_a_string_is_one(rt: HostRuntime) -> Result<(), Fail> {
-    let alloc = rt.alloc();
+fn no_front_of_a_string_is_one(rt: HostRuntime) {
     let whole = "\"\\n\\t\\u0020\\f\\b\\\\\\\"\\/\\ud83d\\uDE0B\\r\"";
-    let mut front = String::new(alloc);
-    for c in whole.chars() {
-        if !front.is_empty() {
-            let tokens = tokens_of(alloc, front.as_str(), 2)?;
-            is_cut(&rt, tokens.as_str(), "refused | Eof", front.as_str());
+    for (end, _c) in whole.char_indices() {
+        if end > 0 {
+            is_no_string(&rt, rt.alloc(), whole.get(..end).unwrap_or(whole));
         }
-        front.push(c)?;
     }
-    Ok(())
 }
 
 /// The text of a quote, 1,000 `a`, a line feed, 1,000 `b`, `\n`, `c` and a quote.
@@ -173,29 +199,39 @@ fn is_at(rt: &impl Abort, state: &DeJsonState, expected: (char, usize, usize)) {
     assert_eq!(rt; (state.cur, state.line, state.col), expected);
 }
 
-#[test]
-fn long_strings(rt: HostRuntime) -> Result<(), Fail> {
-    let alloc = rt.alloc();
-    let text = long_text(alloc)?;
+/// How many characters the string holds that a text begins with, and where the state stands behind
+/// it.
+fn counted(alloc: Global, text: &str) -> Result<(usize, char, usize, usize), DeJsonErr> {
     let mut input = text.chars();
     let mut state = state_of(alloc, &mut input);
     state.next_tok(alloc, &mut input)?;
-    holds(&rt, state.tok == DeJsonTok::Str, "a long string");
-    let count = state.strbuf.as_str().chars().count();
-    holds(&rt, count == 2003, "a long string");
-    is_at(&rt, &state, ('\0', 1, 1004));
+    let count = match state.tok {
+        DeJsonTok::Str => state.strbuf.as_str().chars().count(),
+        _ => 0,
+    };
+    Ok((count, state.cur, state.line, state.col))
+}
+
+#[test]
+fn long_strings(rt: HostRuntime) -> Result<(), Fail> {
+    let text = long_text(rt.alloc())?;
+    let found = counted(rt.alloc(), text.as_str()).ok();
+    holds(&rt, found == Some((2003, '\0', 1, 1004)), "a long string");
     Ok(())
 }
 
 /// The current character may never have been in the text.
 #[test]
-fn any_current_character(rt: HostRuntime) -> Result<(), Fail> {
+fn any_current_character(rt: HostRuntime) {
     let alloc = rt.alloc();
     let mut state = DeJsonState::new(alloc);
     state.cur = '"';
-    state.next_tok(alloc, &mut "xy\"".chars())?;
-    is_cut(&rt, pending(alloc, &state)?.as_str(), "Str xy", "xy");
-    Ok(())
+    is_some_cut(
+        &rt,
+        &cut(alloc, &mut state, &mut "xy\"".chars()),
+        "Str xy",
+        "xy",
+    );
 }
 
 /// It counts before what the characters hold.
@@ -212,45 +248,48 @@ fn current_characters_count_first(rt: HostRuntime) {
 
 /// NUL is the end whatever they hold.
 #[test]
-fn nul_is_the_end(rt: HostRuntime) -> Result<(), Fail> {
+fn nul_is_the_end(rt: HostRuntime) {
     let alloc = rt.alloc();
     let mut state = DeJsonState::new(alloc);
     state.tok = DeJsonTok::U64(7);
-    state.next_tok(alloc, &mut "9".chars())?;
-    holds(&rt, state.tok == DeJsonTok::Eof, "9");
-    Ok(())
+    is_some_cut(&rt, &cut(alloc, &mut state, &mut "9".chars()), "Eof", "9");
 }
 
-#[test]
-fn places_are_counted(rt: HostRuntime) {
-    let mut input = "a\nb".chars();
-    let mut state = DeJsonState::new(rt.alloc());
-    for expected in [('a', 0, 1), ('\n', 1, 0), ('b', 1, 1), ('\0', 1, 1)] {
+/// The state stands at each of these places with the next character of a text.
+fn walks(rt: &impl Abort, state: &mut DeJsonState, text: &str, places: &[(char, usize, usize)]) {
+    let mut input = text.chars();
+    for place in places {
         state.next(&mut input);
-        is_at(&rt, &state, expected);
+        is_at(rt, state, *place);
     }
 }
 
 #[test]
-fn places_behind_a_token(rt: HostRuntime) -> Result<(), Fail> {
+fn places_are_counted(rt: HostRuntime) {
+    let places = [('a', 0, 1), ('\n', 1, 0), ('b', 1, 1), ('\0', 1, 1)];
+    walks(&rt, &mut DeJsonState::new(rt.alloc()), "a\nb", &places);
+}
+
+#[test]
+fn places_behind_a_token(rt: HostRuntime) {
     let alloc = rt.alloc();
     let mut input = "42]".chars();
     let mut state = state_of(alloc, &mut input);
-    state.next_tok(alloc, &mut input)?;
+    holds(&rt, state.next_tok(alloc, &mut input).is_ok(), "42]");
     is_at(&rt, &state, (']', 0, 3));
     is_cut(&rt, input.as_str(), "", "42]");
-    Ok(())
 }
 
 #[test]
 fn the_last_place(rt: HostRuntime) {
     let last = usize::MAX;
-    let mut input = "a\n".chars();
     let mut state = DeJsonState::new(rt.alloc());
     state.line = last;
     state.col = last;
-    for expected in [('a', last, last), ('\n', last, 0)] {
-        state.next(&mut input);
-        is_at(&rt, &state, expected);
-    }
+    walks(
+        &rt,
+        &mut state,
+        "a\n",
+        &[('a', last, last), ('\n', last, 0)],
+    );
 }

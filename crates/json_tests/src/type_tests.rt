@@ -1,10 +1,9 @@
 // What no clause of the readers says: that they succeed, that the definitions are the format's, and
 // the texts of faults.
-use crate::checks::{all_refused, is_some_text, refused_with, values};
+use crate::checks::{all_refused, is_made_value, is_some_text, refused_with, values};
 use nano_json::{DeJson, DeJsonErr};
 use std::alloc::{AllocError, Global};
 use std::process::Abort;
-use std::test::Fail;
 
 /// The answer for a list of small numbers, written plainly, or the fault's message.
 fn numbers_in(alloc: Global, read: Result<Vec<u8>, DeJsonErr>) -> Result<String, AllocError> {
@@ -123,20 +122,21 @@ fn options(rt: HostRuntime) {
     values(&rt, alloc, &[("null", None::<()>)]);
 }
 
-#[test]
-fn boxes(rt: HostRuntime) -> Result<(), Fail> {
-    let alloc = rt.alloc();
-    values(&rt, alloc, &[("7", Box::new(alloc, 7u8)?)]);
-    Ok(())
+/// A box of a number.
+fn boxed(alloc: Global) -> Result<Box<u8>, AllocError> {
+    Ok(Box::new(alloc, 7u8)?)
 }
 
 #[test]
-fn texts(rt: HostRuntime) -> Result<(), Fail> {
-    let alloc = rt.alloc();
-    let text = String::from_str(alloc, "\n\t \u{c}\u{8}\\\"/😋\r")?;
+fn boxes(rt: HostRuntime) {
+    is_made_value(&rt, rt.alloc(), "7", boxed(rt.alloc()));
+}
+
+#[test]
+fn texts(rt: HostRuntime) {
+    let text = String::from_str(rt.alloc(), "\n\t \u{c}\u{8}\\\"/😋\r");
     let lexeme = "\"\\n\\t\\u0020\\f\\b\\\\\\\"\\/\\ud83d\\uDE0B\\r\"";
-    values(&rt, alloc, &[(lexeme, text)]);
-    Ok(())
+    is_made_value(&rt, rt.alloc(), lexeme, text);
 }
 
 #[test]
@@ -148,22 +148,27 @@ fn texts_refused(rt: HostRuntime) {
     );
 }
 
-#[test]
-fn lists_of_options(rt: HostRuntime) -> Result<(), Fail> {
-    let alloc = rt.alloc();
-    let items = vec![in alloc; None, Some(3u8)]?;
-    values(&rt, alloc, &[("[null,3,]", items)]);
-    Ok(())
+/// A list of nothing and a number.
+fn optional(alloc: Global) -> Result<Vec<Option<u8>>, AllocError> {
+    Ok(vec![in alloc; None, Some(3u8)]?)
 }
 
 #[test]
-fn lists_of_lists(rt: HostRuntime) -> Result<(), Fail> {
-    let alloc = rt.alloc();
+fn lists_of_options(rt: HostRuntime) {
+    is_made_value(&rt, rt.alloc(), "[null,3,]", optional(rt.alloc()));
+}
+
+/// A list of an empty list and one of a number.
+fn listed(alloc: Global) -> Result<Vec<Vec<u8>>, AllocError> {
     let one = vec![in alloc; 1u8]?;
-    let lists = vec![in alloc; Vec::new(alloc), one]?;
-    values(&rt, alloc, &[("[[],[1],]", lists)]);
+    Ok(vec![in alloc; Vec::new(alloc), one]?)
+}
+
+#[test]
+fn lists_of_lists(rt: HostRuntime) {
+    let alloc = rt.alloc();
+    is_made_value(&rt, alloc, "[[],[1],]", listed(alloc));
     all_refused::<Vec<Vec<u8>>>(&rt, alloc, &["[[1],,]"]);
-    Ok(())
 }
 
 #[test]

@@ -1,5 +1,5 @@
 // What no clause of the writers says: that they succeed, and that the definitions are the format's.
-use crate::checks::{is_some_text, is_text, text_of, values};
+use crate::checks::{holds, is_some_text, is_text, is_value, text_of};
 use nano_json::{BothJson, SerJson, SerJsonState, laws};
 use std::alloc::{AllocError, Global};
 use std::collections::{BTreeSet, HashMap, HashSet, LinkedList};
@@ -122,20 +122,24 @@ fn low_characters_are_escaped(rt: HostRuntime) -> Result<(), Fail> {
     Ok(())
 }
 
-/// The text is written as the lexeme, which is read as the text.
-fn is_lexeme(rt: &impl Abort, alloc: Global, text: String, lexeme: &str) {
-    is_some_text(rt, text_of(alloc, &text), lexeme);
-    values(rt, alloc, &[(lexeme, text)]);
+/// The text was made, and is written as the lexeme, which is read as the text.
+fn is_lexeme(rt: &impl Abort, alloc: Global, made: Result<String, AllocError>, lexeme: &str) {
+    match made {
+        Ok(text) => {
+            is_some_text(rt, text_of(alloc, &text), lexeme);
+            holds(rt, is_value(alloc, lexeme, &text), lexeme);
+        }
+        Err(_refused) => holds(rt, false, "no memory"),
+    }
 }
 
 #[test]
-fn strings_are_written_with_escapes(rt: HostRuntime) -> Result<(), Fail> {
+fn strings_are_written_with_escapes(rt: HostRuntime) {
     let alloc = rt.alloc();
     written(&rt, alloc, ESCAPED);
     for (text, lexeme) in ESCAPED {
-        is_lexeme(&rt, alloc, String::from_str(alloc, text)?, lexeme);
+        is_lexeme(&rt, alloc, String::from_str(alloc, text), lexeme);
     }
-    Ok(())
 }
 
 #[test]
@@ -215,22 +219,22 @@ fn nested_types_are_read_and_written(rt: HostRuntime) {
     );
 }
 
-/// A text that a writer has begun, with these values behind it.
-fn appended(alloc: Global) -> Result<String, AllocError> {
-    let mut state = SerJsonState {
-        out: String::from_str(alloc, "{")?,
-    };
-    vec![in alloc; 1u8]?.ser_json(alloc, usize::MAX, &mut state)?;
-    let names = ["a", "b"];
-    names.ser_json(alloc, usize::MAX, &mut state)?;
-    (7u8, Some(true)).ser_json(alloc, 3, &mut state)?;
-    Ok(state.out)
+/// Appends a list and a slice at the greatest level, and a tuple at another.
+fn append(alloc: Global, state: &mut SerJsonState) -> Result<(), AllocError> {
+    let list = vec![in alloc; 1u8]?;
+    list.ser_json(alloc, usize::MAX, state)?;
+    ["a", "b"].ser_json(alloc, usize::MAX, state)?;
+    (7u8, Some(true)).ser_json(alloc, 3, state)
 }
 
 #[test]
 fn text_is_appended_at_any_level(rt: HostRuntime) -> Result<(), Fail> {
-    let text = appended(rt.alloc())?;
-    is_text(&rt, text.as_str(), "{[1][\"a\",\"b\"][7,true]");
+    let alloc = rt.alloc();
+    let mut state = SerJsonState {
+        out: String::from_str(alloc, "{")?,
+    };
+    holds(&rt, append(alloc, &mut state).is_ok(), "no memory");
+    is_text(&rt, state.out.as_str(), "{[1][\"a\",\"b\"][7,true]");
     Ok(())
 }
 
@@ -249,12 +253,11 @@ fn end(writer: &mut SerJsonState) -> Result<(), AllocError> {
 }
 
 #[test]
-fn a_writer_appends(rt: HostRuntime) -> Result<(), Fail> {
+fn a_writer_appends(rt: HostRuntime) {
     let mut writer = SerJsonState {
         out: String::new(rt.alloc()),
     };
-    begin(&mut writer)?;
-    end(&mut writer)?;
+    holds(&rt, begin(&mut writer).is_ok(), "no memory");
+    holds(&rt, end(&mut writer).is_ok(), "no memory");
     is_text(&rt, writer.out.as_str(), "{\"a\":\"b\",}");
-    Ok(())
 }

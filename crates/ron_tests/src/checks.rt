@@ -11,15 +11,37 @@ pub(crate) fn refusal<T: DeRon>(alloc: Global, text: &str) -> Option<DeRonErr> {
     T::deserialize_ron(alloc, text).err()
 }
 
+/// What an error tells.
+pub(crate) fn why(error: &DeRonErr) -> &str {
+    if error.memory {
+        "no memory"
+    } else {
+        error.msg.as_str()
+    }
+}
+
+/// What is found of a text is the expected.
+pub(crate) fn is_told(rt: &impl Abort, found: &str, expected: &str, text: &str) {
+    assert_eq!(rt; found, expected, "at {text}");
+}
+
+/// The line and the column are these.
+pub(crate) fn is_there(
+    rt: &impl Abort,
+    found: (usize, usize),
+    expected: (usize, usize),
+    text: &str,
+) {
+    assert_eq!(rt; found, expected, "at {text}");
+}
+
 /// The text was refused with this message, in this line and this column, both counted from 0.
-fn is_fault(rt: &impl Abort, told: Option<DeRonErr>, row: &(&str, &str, usize, usize)) {
-    let (text, msg, line, col) = row;
+pub(crate) fn is_fault(rt: &impl Abort, told: &Option<DeRonErr>, row: &(&str, &str, usize, usize)) {
     match told {
-        None => assert!(rt; false, "{text} is read"),
+        None => is_told(rt, "read", row.1, row.0),
         Some(error) => {
-            assert!(rt; !error.memory, "no memory at {text}");
-            let found = (error.msg.as_str(), error.line, error.col);
-            assert_eq!(rt; found, (*msg, *line, *col), "at {text}");
+            is_told(rt, why(error), row.1, row.0);
+            is_there(rt, (error.line, error.col), (row.2, row.3), row.0);
         }
     }
 }
@@ -31,16 +53,17 @@ pub(crate) fn faults<T: DeRon>(
     rows: &[(&str, &str, usize, usize)],
 ) {
     for row in rows {
-        is_fault(rt, refusal::<T>(alloc, row.0), row);
+        is_fault(rt, &refusal::<T>(alloc, row.0), row);
     }
 }
 
 /// The text was refused.
 pub(crate) fn is_refused(rt: &impl Abort, told: Option<DeRonErr>, text: &str) {
-    match told {
-        None => assert!(rt; false, "{text} is read"),
-        Some(error) => assert!(rt; !error.memory, "no memory at {text}"),
-    }
+    let found = match told {
+        None => "read",
+        Some(error) => if error.memory { "no memory" } else { "refused" },
+    };
+    is_told(rt, found, "refused", text);
 }
 
 /// The texts are refused.
@@ -51,14 +74,12 @@ pub(crate) fn all_refused<T: DeRon>(rt: &impl Abort, alloc: Global, texts: &[&st
 }
 
 /// The text was read, and what is said of its value holds.
-pub(crate) fn is_read(rt: &impl Abort, read: Result<bool, DeRonErr>, text: &str) {
-    match read {
-        Ok(is_so) => assert!(rt; is_so, "at {text}"),
-        Err(error) => {
-            assert!(rt; !error.memory, "no memory at {text}");
-            assert_eq!(rt; error.msg.as_str(), "", "at {text}");
-        }
-    }
+pub(crate) fn is_read(rt: &impl Abort, read: &Result<bool, DeRonErr>, text: &str) {
+    let found = match read {
+        Ok(is_so) => if *is_so { "" } else { "another value" },
+        Err(error) => why(error),
+    };
+    is_told(rt, found, "", text);
 }
 
 /// Whether a text is read as the value.
@@ -76,7 +97,7 @@ fn is_value<T: DeRon + PartialEq>(
 /// Each text is read as the value beside it.
 pub(crate) fn values<T: DeRon + PartialEq>(rt: &impl Abort, alloc: Global, rows: &[(&str, T)]) {
     for (text, expected) in rows {
-        is_read(rt, is_value(alloc, text, expected), text);
+        is_read(rt, &is_value(alloc, text, expected), text);
     }
 }
 
@@ -86,17 +107,18 @@ fn text_of<T: SerRon>(alloc: Global, value: &T) -> Result<String, AllocError> {
 }
 
 /// The text was made, and is the expected one.
-pub(crate) fn is_made(rt: &impl Abort, made: Result<String, AllocError>, expected: &str) {
-    match made {
-        Ok(text) => assert_eq!(rt; text.as_str(), expected),
-        Err(_refused) => assert!(rt; false, "no memory at {expected}"),
-    }
+pub(crate) fn is_made(rt: &impl Abort, made: &Result<String, AllocError>, expected: &str) {
+    let found = match made {
+        Ok(text) => text.as_str(),
+        Err(_refused) => "no memory",
+    };
+    is_told(rt, found, expected, expected);
 }
 
 /// Each value is written as the text beside it.
 pub(crate) fn written<T: SerRon>(rt: &impl Abort, alloc: Global, rows: &[(T, &str)]) {
     for (value, expected) in rows {
-        is_made(rt, text_of(alloc, value), expected);
+        is_made(rt, &text_of(alloc, value), expected);
     }
 }
 
@@ -111,17 +133,13 @@ fn forms<T: BothRon>(alloc: Global, text: &str) -> Result<(String, String), DeRo
 }
 
 /// The text was read, and was written twice as the expected text.
-fn are_forms(rt: &impl Abort, forms: Result<(String, String), DeRonErr>, row: &(&str, &str)) {
-    let (text, expected) = row;
+fn are_forms(rt: &impl Abort, forms: &Result<(String, String), DeRonErr>, row: &(&str, &str)) {
     match forms {
-        Ok((one, other)) => {
-            assert_eq!(rt; one.as_str(), *expected, "at {text}");
-            assert_eq!(rt; other.as_str(), *expected, "at {text}");
+        Ok(texts) => {
+            is_told(rt, texts.0.as_str(), row.1, row.0);
+            is_told(rt, texts.1.as_str(), row.1, row.0);
         }
-        Err(error) => {
-            assert!(rt; !error.memory, "no memory at {text}");
-            assert_eq!(rt; error.msg.as_str(), *expected, "at {text}");
-        }
+        Err(error) => is_told(rt, why(error), row.1, row.0),
     }
 }
 
@@ -129,6 +147,6 @@ fn are_forms(rt: &impl Abort, forms: Result<(String, String), DeRonErr>, row: &(
 /// written as that text too.
 pub(crate) fn normal<T: BothRon>(rt: &impl Abort, alloc: Global, rows: &[(&str, &str)]) {
     for row in rows {
-        are_forms(rt, forms::<T>(alloc, row.0), row);
+        are_forms(rt, &forms::<T>(alloc, row.0), row);
     }
 }

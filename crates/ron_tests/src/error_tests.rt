@@ -1,5 +1,5 @@
 // What no clause says: the texts of errors.
-use crate::checks::is_made;
+use crate::checks::{is_made, is_there, is_told};
 use ron_tokens::{DeRonErr, DeRonState, DeRonTok};
 use std::alloc::{AllocError, Global};
 use std::process::Abort;
@@ -36,25 +36,25 @@ fn printed(alloc: Global, error: &DeRonErr) -> Result<(String, String, bool), Al
 
 /// The error tells this in the third line and the last column, with this mark for memory.
 fn says_where(rt: &impl Abort, error: &DeRonErr, expected: &str, memory: bool) {
+    is_there(rt, (error.line, error.col), (2, usize::MAX), expected);
+    is_told(rt, error.msg.as_str(), expected, "an error");
     assert!(rt; error.memory == memory, "no memory at {expected}");
-    let found = (error.msg.as_str(), error.line, error.col);
-    assert_eq!(rt; found, (expected, 2, usize::MAX));
 }
 
 /// The error was printed twice as this text, and its clone has the mark.
 fn is_printed(
     rt: &impl Abort,
-    printed: Result<(String, String, bool), AllocError>,
+    printed: &Result<(String, String, bool), AllocError>,
     expected: &str,
     memory: bool,
 ) {
     match printed {
-        Ok((one, other, mark)) => {
-            assert_eq!(rt; one.as_str(), expected);
-            assert_eq!(rt; other.as_str(), expected);
-            assert!(rt; mark == memory, "at {expected}");
+        Ok(texts) => {
+            is_told(rt, texts.0.as_str(), expected, "an error");
+            is_told(rt, texts.1.as_str(), expected, "an error");
+            assert!(rt; texts.2 == memory);
         }
-        Err(_refused) => assert!(rt; false, "no memory at {expected}"),
+        Err(_refused) => is_told(rt, "no memory", expected, "an error"),
     }
 }
 
@@ -110,42 +110,52 @@ const MADE: &[(&str, &str, &str, &str)] = &[
     ),
 ];
 
+/// The error of the row tells what it says, and is printed so.
+fn row_says_where(rt: &impl Abort, alloc: Global, row: &(&str, &str, &str, &str)) {
+    let error = made(alloc, &far_state(alloc), row.0, row.1);
+    let memory = row.0 == "err_memory";
+    says_where(rt, &error, row.2, memory);
+    is_printed(rt, &printed(alloc, &error), row.3, memory);
+}
+
 #[test]
 fn errors_say_where(rt: HostRuntime) {
-    let alloc = rt.alloc();
-    let state = far_state(alloc);
-    for (name, what, msg, text) in MADE {
-        let error = made(alloc, &state, name, what);
-        let memory = *name == "err_memory";
-        says_where(&rt, &error, msg, memory);
-        is_printed(&rt, printed(alloc, &error), text, memory);
+    for row in MADE {
+        row_says_where(&rt, rt.alloc(), row);
     }
+}
+
+/// Each token, and its name with its value where it has one.
+const NAMES: &[(DeRonTok, &str)] = &[
+    (DeRonTok::Ident, "Ident"),
+    (DeRonTok::Str, "Str"),
+    (DeRonTok::U64(u64::MAX), "U64(18446744073709551615)"),
+    (DeRonTok::I64(i64::MIN), "I64(-9223372036854775808)"),
+    (DeRonTok::F64, "F64"),
+    (DeRonTok::Bool(false), "Bool(false)"),
+    (DeRonTok::Char('\n'), "Char('\\n')"),
+    (DeRonTok::Colon, "Colon"),
+    (DeRonTok::CurlyOpen, "CurlyOpen"),
+    (DeRonTok::CurlyClose, "CurlyClose"),
+    (DeRonTok::ParenOpen, "ParenOpen"),
+    (DeRonTok::ParenClose, "ParenClose"),
+    (DeRonTok::BlockOpen, "BlockOpen"),
+    (DeRonTok::BlockClose, "BlockClose"),
+    (DeRonTok::Comma, "Comma"),
+    (DeRonTok::Bof, "Bof"),
+    (DeRonTok::Eof, "Eof"),
+];
+
+/// The name of a token.
+fn name_of(alloc: Global, tok: &DeRonTok) -> Result<String, AllocError> {
+    format!(in alloc; "{tok:?}")
 }
 
 /// The pending token is told by its name, with its value where it has one.
 #[test]
 fn tokens_have_names(rt: HostRuntime) {
     let alloc = rt.alloc();
-    let rows = [
-        (DeRonTok::Ident, "Ident"),
-        (DeRonTok::Str, "Str"),
-        (DeRonTok::U64(u64::MAX), "U64(18446744073709551615)"),
-        (DeRonTok::I64(i64::MIN), "I64(-9223372036854775808)"),
-        (DeRonTok::F64, "F64"),
-        (DeRonTok::Bool(false), "Bool(false)"),
-        (DeRonTok::Char('\n'), "Char('\\n')"),
-        (DeRonTok::Colon, "Colon"),
-        (DeRonTok::CurlyOpen, "CurlyOpen"),
-        (DeRonTok::CurlyClose, "CurlyClose"),
-        (DeRonTok::ParenOpen, "ParenOpen"),
-        (DeRonTok::ParenClose, "ParenClose"),
-        (DeRonTok::BlockOpen, "BlockOpen"),
-        (DeRonTok::BlockClose, "BlockClose"),
-        (DeRonTok::Comma, "Comma"),
-        (DeRonTok::Bof, "Bof"),
-        (DeRonTok::Eof, "Eof"),
-    ];
-    for (tok, expected) in rows {
-        is_made(&rt, format!(in alloc; "{tok:?}"), expected);
+    for (tok, expected) in NAMES {
+        is_made(&rt, &name_of(alloc, tok), expected);
     }
 }

@@ -1,5 +1,6 @@
 // Faults of tokens and of the calls that take them: what they tell, and the line and the column
 // where they are found, counted from 0.
+use crate::checks::{is_fault, is_there};
 use crate::helper_tests::call;
 use crate::place_tests::taken_of;
 use ron_tokens::DeRonErr;
@@ -7,7 +8,7 @@ use std::alloc::Global;
 use std::process::Abort;
 
 /// A text, how many of its tokens are taken, the call, and its fault.
-const FAULTS: &[(&str, usize, &str, &str, usize, usize)] = &[
+const FAULTS: &[FaultRow] = &[
     (
         "@",
         0,
@@ -389,29 +390,26 @@ fn fault(alloc: Global, text: &str, taken: usize, name: &str) -> (Option<DeRonEr
     (told, state.line, state.col)
 }
 
-/// The call told this, at the place where the state stands.
-fn is_told(
-    rt: &impl Abort,
-    fault: (Option<DeRonErr>, usize, usize),
-    row: &(&str, usize, &str, &str, usize, usize),
-) {
-    let (text, _taken, name, msg, line, col) = row;
-    let (told, at_line, at_col) = fault;
-    match told {
-        None => assert!(rt; false, "{name} at {text}"),
-        Some(error) => {
-            assert!(rt; !error.memory, "no memory at {text}");
-            let found = (error.msg.as_str(), error.line, error.col);
-            assert_eq!(rt; found, (*msg, *line, *col), "{name} at {text}");
-            assert_eq!(rt; (at_line, at_col), (*line, *col), "{name} at {text}");
-        }
-    }
+/// A text, how many of its tokens are taken, the call, and what it tells in which line and column.
+type FaultRow = (
+    &'static str,
+    usize,
+    &'static str,
+    &'static str,
+    usize,
+    usize,
+);
+
+/// The call tells this, and the state stands at that place.
+fn is_row(rt: &impl Abort, alloc: Global, row: &FaultRow) {
+    let (told, line, col) = fault(alloc, row.0, row.1, row.2);
+    is_fault(rt, &told, &(row.0, row.3, row.4, row.5));
+    is_there(rt, (line, col), (row.4, row.5), row.0);
 }
 
 #[test]
 fn faults_are_told(rt: HostRuntime) {
-    let alloc = rt.alloc();
     for row in FAULTS {
-        is_told(&rt, fault(alloc, row.0, row.1, row.2), row);
+        is_row(&rt, rt.alloc(), row);
     }
 }

@@ -1,6 +1,6 @@
 // The calls of a reader's state that take tokens, and the calls of a writer's state: that they
 // succeed.
-use crate::checks::is_made;
+use crate::checks::{is_made, is_told};
 use crate::place_tests::taken_of;
 use crate::token_tests::pending;
 use ron_tokens::{DeRonErr, DeRonState, SerRonState, append_string};
@@ -23,12 +23,31 @@ pub(crate) fn call(
         "eat_comma_block" => state.eat_comma_block(alloc, input),
         "eat_comma_curly" => state.eat_comma_curly(alloc, input),
         "eat_comma_paren" => state.eat_comma_paren(alloc, input),
+        _ => bracket_call(alloc, state, input, name),
+    }
+}
+
+/// The call of this name, if it takes a bracket.
+fn bracket_call(
+    alloc: Global,
+    state: &mut DeRonState,
+    input: &mut Chars<'_>,
+    name: &str,
+) -> Result<(), DeRonErr> {
+    match name {
         "block_open" => state.block_open(alloc, input),
         "block_close" => state.block_close(alloc, input),
         "curly_open" => state.curly_open(alloc, input),
         "curly_close" => state.curly_close(alloc, input),
         "paren_open" => state.paren_open(alloc, input),
         "paren_close" => state.paren_close(alloc, input),
+        _ => value_call(alloc, state, name),
+    }
+}
+
+/// The call of this name, if it gives a value.
+fn value_call(alloc: Global, state: &mut DeRonState, name: &str) -> Result<(), DeRonErr> {
+    match name {
         "u64_range" => match state.u64_range(alloc, 5) {
             Ok(_value) => Ok(()),
             Err(e) => Err(e),
@@ -51,12 +70,21 @@ pub(crate) fn call(
 /// What a call answers once some tokens of a text are taken: the pending token, or the error.
 fn answer(alloc: Global, text: &str, taken: usize, name: &str) -> Result<String, AllocError> {
     let mut input = text.chars();
-    let mut state = match taken_of(alloc, &mut input, taken) {
-        Ok(state) => state,
-        Err(error) => return format!(in alloc; "{error}"),
-    };
-    match call(alloc, &mut state, &mut input, name) {
-        Ok(()) => pending(alloc, &state),
+    match taken_of(alloc, &mut input, taken) {
+        Ok(mut state) => answer_of(alloc, &mut state, &mut input, name),
+        Err(error) => format!(in alloc; "{error}"),
+    }
+}
+
+/// The same of a call on a state.
+fn answer_of(
+    alloc: Global,
+    state: &mut DeRonState,
+    input: &mut Chars<'_>,
+    name: &str,
+) -> Result<String, AllocError> {
+    match call(alloc, state, input, name) {
+        Ok(()) => pending(alloc, state),
         Err(error) => format!(in alloc; "{error}"),
     }
 }
@@ -86,25 +114,38 @@ const ANSWERS: &[(&str, usize, &str, &str)] = &[
     ("1 'c'", 1, "next_tok", "Char('c')"),
 ];
 
+/// The call answers what the row says.
+fn is_answer(rt: &impl Abort, alloc: Global, row: &(&str, usize, &str, &str)) {
+    is_made(rt, &answer(alloc, row.0, row.1, row.2), row.3);
+}
+
 #[test]
 fn helpers_take_tokens(rt: HostRuntime) {
-    let alloc = rt.alloc();
-    for (text, taken, name, expected) in ANSWERS {
-        is_made(&rt, answer(alloc, text, *taken, name), expected);
+    for row in ANSWERS {
+        is_answer(&rt, rt.alloc(), row);
     }
 }
 
 /// What is pending behind a call that is refused.
 fn left(alloc: Global, text: &str, taken: usize, name: &str) -> Result<String, AllocError> {
     let mut input = text.chars();
-    let mut state = match taken_of(alloc, &mut input, taken) {
-        Ok(state) => state,
-        Err(error) => return format!(in alloc; "{error}"),
-    };
-    match call(alloc, &mut state, &mut input, name) {
-        Ok(()) => format!(in alloc; "{name} takes {text}"),
+    match taken_of(alloc, &mut input, taken) {
+        Ok(mut state) => left_behind(alloc, &mut state, &mut input, name),
+        Err(error) => format!(in alloc; "{error}"),
+    }
+}
+
+/// The same behind a call on a state.
+fn left_behind(
+    alloc: Global,
+    state: &mut DeRonState,
+    input: &mut Chars<'_>,
+    name: &str,
+) -> Result<String, AllocError> {
+    match call(alloc, state, input, name) {
+        Ok(()) => String::from_str(alloc, "taken"),
         Err(error) if error.memory => Err(AllocError),
-        Err(_error) => pending(alloc, &state),
+        Err(_error) => pending(alloc, state),
     }
 }
 
@@ -125,11 +166,15 @@ const LEFT: &[(&str, usize, &str, &str)] = &[
     ("1 @", 1, "next_tok", "Eof"),
 ];
 
+/// The call leaves what the row says.
+fn is_left(rt: &impl Abort, alloc: Global, row: &(&str, usize, &str, &str)) {
+    is_made(rt, &left(alloc, row.0, row.1, row.2), row.3);
+}
+
 #[test]
 fn refused_helpers_leave_the_token(rt: HostRuntime) {
-    let alloc = rt.alloc();
-    for (text, taken, name, expected) in LEFT {
-        is_made(&rt, left(alloc, text, *taken, name), expected);
+    for row in LEFT {
+        is_left(&rt, rt.alloc(), row);
     }
 }
 
@@ -164,13 +209,17 @@ fn is_written(
     row: &(&str, usize, &str, bool, &str),
     out: &str,
 ) {
-    let (name, _level, _text, succeeds, expected) = row;
-    if *succeeds {
-        assert!(rt; ended.is_ok(), "no memory at {name}");
-    } else {
-        assert!(rt; ended.is_err(), "{name} is written");
-    }
-    assert_eq!(rt; out, *expected);
+    is_told(
+        rt,
+        if ended.is_ok() == row.3 {
+            ""
+        } else {
+            "no memory"
+        },
+        "",
+        row.0,
+    );
+    is_told(rt, out, row.4, row.0);
 }
 
 #[test]
@@ -192,18 +241,25 @@ fn quoted(alloc: Global, text: &str) -> Result<String, AllocError> {
     Ok(out)
 }
 
+/// Texts, and what is written of them as strings.
+const QUOTED: &[(&str, &str)] = &[
+    ("", "(\n    a:,\n)        \"\""),
+    ("ab\"cd", "(\n    a:,\n)        \"ab\\\"cd\""),
+    ("\n\nab\0", "(\n    a:,\n)        \"\\n\\nab\\0\""),
+    (
+        "a\n\r\t\0\\\"\u{1}\u{7f}é😋",
+        "(\n    a:,\n)        \"a\\n\\r\\t\\0\\\\\\\"\u{1}\u{7f}é😋\"",
+    ),
+];
+
+/// The text is written as the row says.
+fn is_quoted(rt: &impl Abort, alloc: Global, row: &(&str, &str)) {
+    is_made(rt, &quoted(alloc, row.0), row.1);
+}
+
 #[test]
 fn strings_are_appended(rt: HostRuntime) {
-    let alloc = rt.alloc();
-    for (text, expected) in [
-        ("", "(\n    a:,\n)        \"\""),
-        ("ab\"cd", "(\n    a:,\n)        \"ab\\\"cd\""),
-        ("\n\nab\0", "(\n    a:,\n)        \"\\n\\nab\\0\""),
-        (
-            "a\n\r\t\0\\\"\u{1}\u{7f}é😋",
-            "(\n    a:,\n)        \"a\\n\\r\\t\\0\\\\\\\"\u{1}\u{7f}é😋\"",
-        ),
-    ] {
-        is_made(&rt, quoted(alloc, text), expected);
+    for row in QUOTED {
+        is_quoted(&rt, rt.alloc(), row);
     }
 }

@@ -1,6 +1,6 @@
 // Each law is called once, and so is what keeps a writer's text and ends a reader's state.
 use nano_ron::{DeRonErr, DeRonState, DeRonTok, end_if_refused, keep_written, laws};
-use std::alloc::AllocError;
+use std::alloc::{AllocError, Global};
 use std::collections::{BTreeSet, HashSet};
 use std::test::Fail;
 
@@ -42,26 +42,38 @@ fn laws_of_sets(rt: HostRuntime) -> Result<(), Fail> {
     Ok(())
 }
 
+/// Whether an answer is handed on, and leaves the state as it is.
+fn stays_behind_an_answer(state: &mut DeRonState) -> bool {
+    let read: Result<u8, DeRonErr> = end_if_refused(state, Ok(7));
+    read.ok() == Some(7) && state.tok == DeRonTok::Comma
+}
+
+/// Whether a refusal is handed on, and ends the state.
+fn ends_behind_a_refusal(alloc: Global, state: &mut DeRonState) -> bool {
+    let refused: Result<u8, DeRonErr> = Err(state.err_memory(alloc));
+    end_if_refused(state, refused).is_err() && state.tok == DeRonTok::Eof
+}
+
 #[test]
 fn a_refused_read_ends_the_state(rt: HostRuntime) {
     let alloc = rt.alloc();
     let mut state = DeRonState::new(alloc);
     state.tok = DeRonTok::Comma;
-    let read: Result<u8, DeRonErr> = end_if_refused(&mut state, Ok(7));
-    assert_eq!(rt; read.ok(), Some(7));
-    assert_eq!(rt; state.tok, DeRonTok::Comma);
-    let refused: Result<u8, DeRonErr> = Err(state.err_memory(alloc));
-    assert!(rt; end_if_refused(&mut state, refused).is_err());
-    assert_eq!(rt; state.tok, DeRonTok::Eof);
+    let stays = stays_behind_an_answer(&mut state);
+    assert!(rt; stays && ends_behind_a_refusal(alloc, &mut state));
+}
+
+/// Whether what was written stays behind an answer, and is cut off behind a refusal.
+fn is_cut_off(alloc: Global) -> Result<bool, AllocError> {
+    let mut out = String::from_str(alloc, "ab")?;
+    keep_written(&mut out, 2, Ok(()))?;
+    let stays = out.as_str() == "ab";
+    let refused = keep_written(&mut out, 1, Err(AllocError)).is_err();
+    Ok(stays && refused && out.as_str() == "a")
 }
 
 #[test]
-fn a_refused_write_is_cut_off(rt: HostRuntime) -> Result<(), Fail> {
-    let alloc = rt.alloc();
-    let mut out = String::from_str(alloc, "ab")?;
-    assert!(rt; keep_written(&mut out, 2, Ok(())).is_ok());
-    assert_eq!(rt; out.as_str(), "ab");
-    assert!(rt; keep_written(&mut out, 1, Err(AllocError)).is_err());
-    assert_eq!(rt; out.as_str(), "a");
-    Ok(())
+fn a_refused_write_is_cut_off(rt: HostRuntime) {
+    let is_so = is_cut_off(rt.alloc()).is_ok_and(|is_so| is_so);
+    assert!(rt; is_so);
 }

@@ -1,5 +1,6 @@
 // With each allocation refused in turn, a call answers want of memory, or as it does with ample
 // memory.
+use crate::checks::is_told;
 use crate::helper_tests::call;
 use ron_tokens::{DeRonErr, DeRonState, SerRonState};
 use std::alloc::Global;
@@ -57,22 +58,26 @@ fn told(alloc: Global, text: &str, name: &str) -> Option<DeRonErr> {
 
 /// The call succeeded where nothing is to be told, told what it should, or wanted memory, which has
 /// no message.
-fn is_told(rt: &impl Abort, told: Option<DeRonErr>, text: &str, expected: &str) {
+fn is_row(rt: &impl Abort, told: &Option<DeRonErr>, text: &str, expected: &str) {
     match told {
-        None => assert_eq!(rt; expected, "", "at {text}"),
+        None => is_told(rt, "", expected, text),
+        Some(error) if error.memory => is_told(rt, error.msg.as_str(), "", text),
         Some(error) => {
-            let message = if error.memory { "" } else { expected };
-            assert_eq!(rt; error.msg.as_str(), message, "at {text}");
-            assert!(rt; error.memory || expected != "", "at {text}");
+            is_told(rt, error.msg.as_str(), expected, text);
+            assert!(rt; expected != "");
         }
     }
 }
 
+/// The same of the call of a row.
+fn row_is_told(rt: &impl Abort, alloc: Global, row: &(&str, &str, &str)) {
+    is_row(rt, &told(alloc, row.0, row.1), row.0, row.2);
+}
+
 #[test]
 fn no_refused_growth_is_told_as_another_fault(rt: HostRuntime) {
-    let alloc = rt.alloc();
-    for (text, name, expected) in CALLS {
-        is_told(&rt, told(alloc, text, name), text, expected);
+    for row in CALLS {
+        row_is_told(&rt, rt.alloc(), row);
     }
 }
 

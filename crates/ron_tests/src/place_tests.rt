@@ -1,7 +1,7 @@
 // Places: lines and columns, and the current character.
-use crate::checks::is_made;
-use crate::token_tests::{pending, state_of};
-use ron_tokens::{DeRonErr, DeRonState, DeRonTok};
+use crate::checks::{is_made, is_told, why};
+use crate::token_tests::{cut, pending, state_of};
+use ron_tokens::{DeRonErr, DeRonState};
 use std::alloc::Global;
 use std::process::Abort;
 use std::str::Chars;
@@ -29,17 +29,19 @@ fn place(alloc: Global, text: &str) -> Result<(char, usize, usize), DeRonErr> {
 /// The state stands there.
 fn is_place(
     rt: &impl Abort,
-    found: Result<(char, usize, usize), DeRonErr>,
+    found: &Result<(char, usize, usize), DeRonErr>,
     text: &str,
-    expected: (char, usize, usize),
+    expected: &(char, usize, usize),
 ) {
     match found {
-        Ok(place) => assert_eq!(rt; place, expected, "at {text}"),
-        Err(error) => {
-            assert!(rt; !error.memory, "no memory at {text}");
-            assert!(rt; false, "{text} is refused");
-        }
+        Ok(place) => is_shown(rt, *place, expected),
+        Err(error) => is_told(rt, why(error), "taken", text),
     }
+}
+
+/// The current character, the line and the column are these.
+fn is_shown(rt: &impl Abort, found: (char, usize, usize), expected: &(char, usize, usize)) {
+    assert_eq!(rt; found, *expected);
 }
 
 /// A text, and where the state stands behind its first token: the current character, line and
@@ -56,9 +58,8 @@ const PLACES: &[(&str, (char, usize, usize))] = &[
 
 #[test]
 fn places_are_counted(rt: HostRuntime) {
-    let alloc = rt.alloc();
-    for (text, expected) in PLACES {
-        is_place(&rt, place(alloc, text), text, *expected);
+    for row in PLACES {
+        is_place(&rt, &place(rt.alloc(), row.0), row.0, &row.1);
     }
 }
 
@@ -67,80 +68,92 @@ fn shown(state: &DeRonState) -> (char, usize, usize) {
     (state.cur, state.line, state.col)
 }
 
-#[test]
-fn characters_are_taken(rt: HostRuntime) {
-    let alloc = rt.alloc();
-    let mut input = "a\nb".chars();
-    let mut state = DeRonState::new(alloc);
-    assert_eq!(rt; shown(&state), ('\0', 0, 0));
-    for expected in [
-        ('a', 0, 1),
-        ('\n', 1, 0),
-        ('b', 1, 1),
-        ('\0', 1, 1),
-        ('\0', 1, 1),
-    ] {
+/// The state stands at the first of these places, and at the next with each character that it
+/// takes.
+fn walks(rt: &impl Abort, state: &mut DeRonState, text: &str, places: &[(char, usize, usize)]) {
+    let mut input = text.chars();
+    for place in places {
+        is_shown(rt, shown(state), place);
         state.next(&mut input);
-        assert_eq!(rt; shown(&state), expected);
     }
 }
+
+/// Where a state stands from its beginning on.
+const FROM_THE_FIRST: &[(char, usize, usize)] = &[
+    ('\0', 0, 0),
+    ('a', 0, 1),
+    ('\n', 1, 0),
+    ('b', 1, 1),
+    ('\0', 1, 1),
+    ('\0', 1, 1),
+];
+
+#[test]
+fn characters_are_taken(rt: HostRuntime) {
+    walks(
+        &rt,
+        &mut DeRonState::new(rt.alloc()),
+        "a\nb",
+        FROM_THE_FIRST,
+    );
+}
+
+/// Where a state stands from the last place on.
+const FROM_THE_LAST: &[(char, usize, usize)] = &[
+    ('\0', usize::MAX, usize::MAX),
+    ('a', usize::MAX, usize::MAX),
+    ('\n', usize::MAX, 0),
+];
 
 #[test]
 fn the_greatest_place_stands_still(rt: HostRuntime) {
-    let alloc = rt.alloc();
-    let mut input = "a\n".chars();
-    let mut state = DeRonState::new(alloc);
+    let mut state = DeRonState::new(rt.alloc());
     state.line = usize::MAX;
     state.col = usize::MAX;
-    for expected in [('a', usize::MAX, usize::MAX), ('\n', usize::MAX, 0)] {
-        state.next(&mut input);
-        assert_eq!(rt; shown(&state), expected);
-    }
+    walks(&rt, &mut state, "a\n", FROM_THE_LAST);
 }
 
-/// What is pending once a state with this current character takes a token.
-fn cut_at(
-    rt: &impl Abort,
-    alloc: Global,
-    state: &mut DeRonState,
-    input: &mut Chars<'_>,
-    expected: &str,
-) {
-    match state.next_tok(alloc, input) {
-        Ok(()) => is_made(rt, pending(alloc, state), expected),
-        Err(error) => {
-            assert!(rt; !error.memory, "no memory at {expected}");
-            assert!(rt; false, "{expected} is refused");
-        }
-    }
+/// A current character, what the characters hold, what is pending once a token is taken, and where
+/// the state stands then.
+type CurrentRow = (char, &'static str, &'static str, (char, usize, usize));
+
+/// The current character may never have been in the text. NUL is the end whatever the characters
+/// hold.
+const CURRENT: &[CurrentRow] = &[
+    ('a', "b1 /", "Ident ab1", (' ', 0, 3)),
+    ('"', "xy\"", "Str xy", ('\0', 0, 3)),
+    ('\0', "9", "Eof", ('\0', 0, 0)),
+];
+
+/// What the row says is pending, and the state stands where it says.
+fn is_current(rt: &impl Abort, alloc: Global, row: &CurrentRow) {
+    let mut state = DeRonState::new(alloc);
+    state.cur = row.0;
+    is_made(rt, &cut(alloc, &mut state, &mut row.1.chars()), row.2);
+    is_shown(rt, shown(&state), &row.3);
 }
 
-/// The current character may never have been in the text.
 #[test]
 fn any_current_character(rt: HostRuntime) {
-    let alloc = rt.alloc();
-    let mut state = DeRonState::new(alloc);
-    state.cur = 'a';
-    cut_at(&rt, alloc, &mut state, &mut "b1 /".chars(), "Ident ab1");
-    assert_eq!(rt; shown(&state), (' ', 0, 3));
-    let mut state = DeRonState::new(alloc);
-    state.cur = '"';
-    let mut input = "xy\"".chars();
-    cut_at(&rt, alloc, &mut state, &mut input, "Str xy");
-    assert_eq!(rt; shown(&state), ('\0', 0, 3));
+    for row in CURRENT {
+        is_current(&rt, rt.alloc(), row);
+    }
 }
 
-/// NUL is the end whatever the characters hold, also where a comment comes to it.
+/// NUL is the end, also where a comment comes to it.
 #[test]
 fn nothing_behind_nul_is_cut(rt: HostRuntime) {
     let alloc = rt.alloc();
-    let mut state = DeRonState::new(alloc);
-    cut_at(&rt, alloc, &mut state, &mut "9".chars(), "Eof");
     let mut input = "/* a\0*/ 1".chars();
     let mut state = state_of(alloc, &mut input);
-    cut_at(&rt, alloc, &mut state, &mut input, "Eof");
-    assert_eq!(rt; state.cur, '\0');
-    assert_eq!(rt; input.as_str(), "*/ 1");
+    is_made(&rt, &cut(alloc, &mut state, &mut input), "Eof");
+    is_told(
+        &rt,
+        if state.cur == '\0' { "" } else { "more" },
+        "",
+        "the end",
+    );
+    is_told(&rt, input.as_str(), "*/ 1", "the rest");
 }
 
 #[test]
@@ -148,9 +161,9 @@ fn a_failed_state_is_at_the_end(rt: HostRuntime) {
     let alloc = rt.alloc();
     let mut input = "a\nb 1".chars();
     let mut state = state_of(alloc, &mut input);
-    cut_at(&rt, alloc, &mut state, &mut input, "Ident a");
+    is_made(&rt, &cut(alloc, &mut state, &mut input), "Ident a");
     state.fail();
-    assert!(rt; state.tok == DeRonTok::Eof);
-    assert_eq!(rt; shown(&state), ('\0', 1, 0));
-    cut_at(&rt, alloc, &mut state, &mut input, "Eof");
+    is_made(&rt, &pending(alloc, &state), "Eof");
+    is_shown(&rt, shown(&state), &('\0', 1, 0));
+    is_made(&rt, &cut(alloc, &mut state, &mut input), "Eof");
 }

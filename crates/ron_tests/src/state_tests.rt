@@ -1,4 +1,5 @@
 // States that no text leaves: the pending token and the current character are set by hand.
+use crate::checks::{is_told, why};
 use nano_ron::{BothRon, DeRon, DeRonErr, DeRonState, DeRonTok};
 use std::alloc::Global;
 use std::collections::{BTreeSet, HashMap, HashSet, LinkedList};
@@ -25,11 +26,12 @@ fn read<T: DeRon>(alloc: Global, tok: DeRonTok, cur: char) -> (Option<DeRonErr>,
 /// The read was refused, and left the end.
 fn is_ended(rt: &impl Abort, read: (Option<DeRonErr>, bool)) {
     let (told, ended) = read;
-    match told {
-        None => assert!(rt; false, "a value is read"),
-        Some(error) => assert!(rt; !error.memory, "no memory"),
-    }
-    assert!(rt; ended, "the state is not at the end");
+    let found = match told {
+        None => "read",
+        Some(error) => if error.memory { "no memory" } else { "refused" },
+    };
+    is_told(rt, found, "refused", "a state");
+    assert!(rt; ended);
 }
 
 /// No value of the type begins with one of these tokens: what no text is cut into, the end, and
@@ -103,14 +105,12 @@ fn form<T: BothRon>(
 }
 
 /// The value was read, and was written as this text.
-fn is_form(rt: &impl Abort, form: Result<String, DeRonErr>, expected: &str) {
-    match form {
-        Ok(text) => assert_eq!(rt; text.as_str(), expected),
-        Err(error) => {
-            assert!(rt; !error.memory, "no memory at {expected}");
-            assert_eq!(rt; error.msg.as_str(), expected);
-        }
-    }
+fn is_form(rt: &impl Abort, form: &Result<String, DeRonErr>, expected: &str) {
+    let found = match form {
+        Ok(text) => text.as_str(),
+        Err(error) => why(error),
+    };
+    is_told(rt, found, expected, expected);
 }
 
 /// The value is read there, is written as this text, and leaves this token pending.
@@ -123,7 +123,7 @@ fn begins<T: BothRon>(
     tok: DeRonTok,
 ) {
     let mut state = state;
-    is_form(rt, form::<T>(alloc, &mut state, behind), expected);
+    is_form(rt, &form::<T>(alloc, &mut state, behind), expected);
     assert!(rt; state.tok == tok, "at {behind}");
 }
 

@@ -2,6 +2,7 @@
 use crate::checks::is_made;
 use ron_tokens::{DeRonState, DeRonTok};
 use std::alloc::{AllocError, Global};
+use std::process::Abort;
 use std::str::Chars;
 
 /// A state over a text, with its first character current.
@@ -23,20 +24,27 @@ pub(crate) fn pending(alloc: Global, state: &DeRonState) -> Result<String, Alloc
     format!(in alloc; "{tok:?} {text}")
 }
 
+/// What is pending once a token is taken.
+pub(crate) fn cut(
+    alloc: Global,
+    state: &mut DeRonState,
+    input: &mut Chars<'_>,
+) -> Result<String, AllocError> {
+    match state.next_tok(alloc, input) {
+        Ok(()) => pending(alloc, state),
+        Err(error) if error.memory => Err(AllocError),
+        Err(_refused) => String::from_str(alloc, "refused"),
+    }
+}
+
 /// The first tokens of a text, one behind the other.
 fn tokens_of(alloc: Global, text: &str, count: usize) -> Result<String, AllocError> {
     let mut out = String::new(alloc);
     let mut input = text.chars();
     let mut state = state_of(alloc, &mut input);
     for place in 0..count {
-        if place > 0 {
-            out.push_str(" | ")?;
-        }
-        match state.next_tok(alloc, &mut input) {
-            Ok(()) => out.push_str(pending(alloc, &state)?.as_str())?,
-            Err(error) if error.memory => return Err(AllocError),
-            Err(_refused) => out.push_str("refused")?,
-        }
+        out.push_str(if place > 0 { " | " } else { "" })?;
+        out.push_str(cut(alloc, &mut state, &mut input)?.as_str())?;
     }
     Ok(out)
 }
@@ -106,6 +114,8 @@ const TOKENS: &[(&str, usize, &str)] = &[
     (" \n\r\t", 2, "Eof | Eof"),
     ("'\u{1f60b}''\"'", 3, "Char('😋') | Char('\"') | Eof"),
     ("'", 2, "refused | Eof"),
+    ("'x'", 2, "Char('x') | Eof"),
+    ("'\\''", 2, "Char('\\'') | Eof"),
     (
         "1. -.5 1.e5 1e-2",
         5,
@@ -131,10 +141,14 @@ const TOKENS: &[(&str, usize, &str)] = &[
     ("+", 2, "refused | Eof"),
 ];
 
+/// The text is cut as the row says.
+fn is_cut(rt: &impl Abort, alloc: Global, row: &(&str, usize, &str)) {
+    is_made(rt, &tokens_of(alloc, row.0, row.1), row.2);
+}
+
 #[test]
 fn texts_are_cut_into_tokens(rt: HostRuntime) {
-    let alloc = rt.alloc();
-    for (text, count, expected) in TOKENS {
-        is_made(&rt, tokens_of(alloc, text, *count), expected);
+    for row in TOKENS {
+        is_cut(&rt, rt.alloc(), row);
     }
 }

@@ -1,5 +1,5 @@
 // The calls that give the value of the pending token, and the tests of it.
-use crate::checks::is_read;
+use crate::checks::{is_read, is_told, why};
 use crate::place_tests::taken_of;
 use ron_tokens::{DeRonErr, DeRonState, DeRonTok};
 use std::alloc::Global;
@@ -24,51 +24,84 @@ const TRUTHS: &[(&str, Option<bool>)] = &[
     ("True", None),
 ];
 
+/// The first token is what the row says.
+fn is_truth(rt: &impl Abort, alloc: Global, row: &(&str, Option<bool>)) {
+    match truth(alloc, row.0) {
+        Ok(found) => is_read(rt, &Ok(found == row.1), row.0),
+        Err(error) => is_read(rt, &Err(error), row.0),
+    }
+}
+
 #[test]
 fn truths_of_tokens(rt: HostRuntime) {
-    let alloc = rt.alloc();
-    for (text, expected) in TRUTHS {
-        match truth(alloc, text) {
-            Ok(found) => assert_eq!(rt; found, *expected, "at {text}"),
-            Err(error) => is_read(&rt, Err(error), text),
-        }
+    for row in TRUTHS {
+        is_truth(&rt, rt.alloc(), row);
     }
 }
 
 /// The call is refused with this message.
-fn tells(rt: &impl Abort, told: Option<DeRonErr>, expected: &str) {
-    match told {
-        None => assert!(rt; false, "{expected}"),
-        Some(error) => {
-            assert!(rt; !error.memory, "no memory at {expected}");
-            assert_eq!(rt; error.msg.as_str(), expected);
-        }
-    }
+fn tells(rt: &impl Abort, told: &Option<DeRonErr>, expected: &str) {
+    let found = match told {
+        None => "in range",
+        Some(error) => why(error),
+    };
+    is_told(rt, found, expected, expected);
+}
+
+/// A number that is pending with a minus sign, a least and a greatest value, and what is told.
+const SIGNED: &[(i64, i64, i64, &str)] = &[
+    (-6, -5, 5, "Value out of range -6<-5 "),
+    (6, -5, 5, "Value out of range 6>5 "),
+];
+
+/// The same of a number without one.
+const UNSIGNED: &[(u64, i64, i64, &str)] = &[
+    (6, -5, 5, "Value out of range 6>5 "),
+    (0, 5, -5, "Value out of range 0<5 "),
+    (
+        u64::MAX,
+        i64::MIN,
+        i64::MAX,
+        "Value out of range 18446744073709551615>9223372036854775807 ",
+    ),
+];
+
+/// What is told of a pending token that is read within a range.
+fn out_of(alloc: Global, tok: DeRonTok, min: i64, max: i64) -> Option<DeRonErr> {
+    let mut state = DeRonState::new(alloc);
+    state.tok = tok;
+    state.i64_range(alloc, min, max).err()
 }
 
 #[test]
 fn numbers_out_of_range(rt: HostRuntime) {
     let alloc = rt.alloc();
-    let mut state = DeRonState::new(alloc);
-    let rows = [
-        (DeRonTok::I64(-6), -5, 5, "Value out of range -6<-5 "),
-        (DeRonTok::U64(6), -5, 5, "Value out of range 6>5 "),
-        (DeRonTok::U64(0), 5, -5, "Value out of range 0<5 "),
-        (DeRonTok::I64(6), -5, 5, "Value out of range 6>5 "),
-        (
-            DeRonTok::U64(u64::MAX),
-            i64::MIN,
-            i64::MAX,
-            "Value out of range 18446744073709551615>9223372036854775807 ",
-        ),
-    ];
-    for (tok, min, max, expected) in rows {
-        state.tok = tok;
-        tells(&rt, state.i64_range(alloc, min, max).err(), expected);
+    for row in SIGNED {
+        tells(
+            &rt,
+            &out_of(alloc, DeRonTok::I64(row.0), row.1, row.2),
+            row.3,
+        );
     }
+    for row in UNSIGNED {
+        tells(
+            &rt,
+            &out_of(alloc, DeRonTok::U64(row.0), row.1, row.2),
+            row.3,
+        );
+    }
+}
+
+/// What is told of four where three is the greatest value.
+fn over_three(alloc: Global) -> Option<DeRonErr> {
+    let mut state = DeRonState::new(alloc);
     state.tok = DeRonTok::U64(4);
-    let told = state.u64_range(alloc, 3).err();
-    tells(&rt, told, "Value out of range 4>3 ");
+    state.u64_range(alloc, 3).err()
+}
+
+#[test]
+fn an_unsigned_number_out_of_range(rt: HostRuntime) {
+    tells(&rt, &over_three(rt.alloc()), "Value out of range 4>3 ");
 }
 
 #[test]
@@ -76,13 +109,12 @@ fn numbers_in_range(rt: HostRuntime) {
     let alloc = rt.alloc();
     let mut state = DeRonState::new(alloc);
     state.tok = DeRonTok::U64(4);
-    assert_eq!(rt; state.u64_range(alloc, 4).ok(), Some(4));
-    assert_eq!(rt; state.i64_range(alloc, 4, 4).ok(), Some(4));
+    let unsigned = state.u64_range(alloc, 4).ok();
+    let signed = state.i64_range(alloc, 4, 4).ok();
     state.tok = DeRonTok::I64(i64::MIN);
-    assert_eq!(rt;
-        state.i64_range(alloc, i64::MIN, i64::MAX).ok(),
-        Some(i64::MIN)
-    );
+    let least = state.i64_range(alloc, i64::MIN, i64::MAX).ok();
+    let found = (unsigned, signed, least);
+    assert_eq!(rt; found, (Some(4), Some(4), Some(i64::MIN)));
 }
 
 /// Whether a word is pending behind so many tokens of a text.
@@ -103,11 +135,11 @@ fn is_left_empty(alloc: Global, text: &str, expected: &str) -> Result<bool, DeRo
 #[test]
 fn texts_are_moved_out(rt: HostRuntime) {
     let alloc = rt.alloc();
-    is_read(&rt, is_left_empty(alloc, "\"ab\" c", "ab"), "ab");
-    is_read(&rt, is_word(alloc, "\"ab\" c", 2), "c");
+    is_read(&rt, &is_left_empty(alloc, "\"ab\" c", "ab"), "ab");
+    is_read(&rt, &is_word(alloc, "\"ab\" c", 2), "c");
     match is_word(alloc, "\"ab\" c", 1) {
-        Ok(found) => assert!(rt; !found),
-        Err(error) => is_read(&rt, Err(error), "ab"),
+        Ok(found) => is_read(&rt, &Ok(!found), "ab"),
+        Err(error) => is_read(&rt, &Err(error), "ab"),
     }
 }
 
@@ -122,24 +154,32 @@ fn marks(alloc: Global, text: &str, taken: usize) -> Result<(bool, bool, bool, b
     ))
 }
 
+/// The text of the marks.
+const MARKED: &str = "None ] } ) Nonee c";
+
+/// How many tokens are taken, and which marks are seen then.
+const MARKS: &[(usize, (bool, bool, bool, bool))] = &[
+    (0, (false, false, false, false)),
+    (1, (true, false, false, false)),
+    (2, (false, true, false, false)),
+    (3, (false, false, true, false)),
+    (4, (false, false, false, true)),
+    (5, (false, false, false, false)),
+    (6, (false, false, false, false)),
+];
+
+/// The marks are seen that the row says.
+fn are_marks(rt: &impl Abort, alloc: Global, row: &(usize, (bool, bool, bool, bool))) {
+    match marks(alloc, MARKED, row.0) {
+        Ok(found) => is_read(rt, &Ok(found == row.1), MARKED),
+        Err(error) => is_read(rt, &Err(error), MARKED),
+    }
+}
+
 #[test]
 fn marks_are_seen(rt: HostRuntime) {
-    let alloc = rt.alloc();
-    let text = "None ] } ) Nonee c";
-    let rows = [
-        (0, (false, false, false, false)),
-        (1, (true, false, false, false)),
-        (2, (false, true, false, false)),
-        (3, (false, false, true, false)),
-        (4, (false, false, false, true)),
-        (5, (false, false, false, false)),
-        (6, (false, false, false, false)),
-    ];
-    for (taken, expected) in rows {
-        match marks(alloc, text, taken) {
-            Ok(found) => assert_eq!(rt; found, expected),
-            Err(error) => is_read(&rt, Err(error), text),
-        }
+    for row in MARKS {
+        are_marks(&rt, rt.alloc(), row);
     }
     assert_eq!(rt; DeRonTok::default(), DeRonTok::Bof);
 }

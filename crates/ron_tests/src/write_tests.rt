@@ -1,5 +1,5 @@
 // What no clause of the writers says: that they succeed, and that the definitions are the format's.
-use crate::checks::{normal, written};
+use crate::checks::{is_told, normal, written};
 use nano_ron::{SerRon, SerRonState};
 use std::alloc::Global;
 use std::collections::{BTreeSet, HashMap, HashSet, LinkedList};
@@ -81,17 +81,20 @@ fn arrays_and_slices_are_written(rt: HostRuntime) {
     );
 }
 
+/// Texts of sets, and what they are written as again.
+const SETS: &[(&str, &str)] = &[
+    ("[2,1,2]", "[    1,    2]"),
+    ("[2,1,2,]", "[    1,    2]"),
+    ("[3,-1,3]", "[    -1,    3]"),
+    ("[3,1,3]", "[    1,    3]"),
+    ("[]", "[]"),
+];
+
 #[test]
 fn sets_are_read_and_written(rt: HostRuntime) {
     let alloc = rt.alloc();
-    let rows = [
-        ("[2,1,2]", "[    1,    2]"),
-        ("[2,1,2,]", "[    1,    2]"),
-        ("[3,-1,3]", "[    -1,    3]"),
-        ("[]", "[]"),
-    ];
-    normal::<HashSet<i32>>(&rt, alloc, &rows);
-    normal::<BTreeSet<i32>>(&rt, alloc, &rows);
+    normal::<HashSet<i32>>(&rt, alloc, SETS);
+    normal::<BTreeSet<i32>>(&rt, alloc, SETS);
 }
 
 #[test]
@@ -139,10 +142,13 @@ fn level_text<T: SerRon>(alloc: Global, level: usize, value: &T, out: String) ->
 
 /// The value was written as this text, or was not and left it.
 fn is_level(rt: &impl Abort, found: (bool, String), expected: (bool, &str)) {
-    let (written, text) = found;
-    let (is_written, expected) = expected;
-    assert!(rt; written == is_written, "no memory at {expected}");
-    assert_eq!(rt; text.as_str(), expected);
+    let told = if found.0 == expected.0 {
+        ""
+    } else {
+        "no memory"
+    };
+    is_told(rt, told, "", expected.1);
+    is_told(rt, found.1.as_str(), expected.1, "a level");
 }
 
 /// The value is written at the level as the text.
