@@ -62,19 +62,14 @@ fn events_in_others(rt: HostRuntime) -> Result<(), Fail> {
 fn signals_by_name(rt: HostRuntime) -> Result<(), Fail> {
     let rows = [
         ("{\"Wait\":[5,]}", "{\"Wait\":[5]}"),
-        ("{\"Move\":[-1,2,\"a\"]}", "{\"Move\":[-1,2,\"a\"]}"),
+        ("{\"Move\":[1,2,3]}", "{\"Move\":[1,2,3]}"),
         ("{\"Light\":[1,2,3,true]}", "{\"Light\":[1,2,3,true]}"),
-        (
-            "{\"Plan\":{\"steps\":[1,2],\"title\":\"b\"}}",
-            "{\"Plan\":{\"title\":\"b\",\"steps\":[1,2]}}",
-        ),
         ("{\"Wait\":5}", "Unexpected token U64(5) expected [ "),
         ("{\"Wait\":[5,6]}", "Unexpected token U64(6) expected ] "),
         (
             "{\"Wait\":[]}",
             "Unexpected token BlockClose expected unsigned integer ",
         ),
-        ("{\"Plan\":{\"title\":\"b\"}}", "Key not found steps"),
     ];
     for (text, expected) in rows {
         let found = outcome::<Signal>(rt.alloc(), text)?;

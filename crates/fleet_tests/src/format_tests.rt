@@ -1,6 +1,6 @@
 // Own types, written in both formats and read back, nested in others, and their laws at concrete
 // types.
-use fleet::{Event, Server};
+use fleet::{Event, Server, Signal};
 use nano_bin::{BothBin, DeBin, DeBinKind, SerBin};
 use nano_json::{BothJson, DeJson, SerJson};
 use records::{Holder, Item};
@@ -70,6 +70,32 @@ fn bytes_in_declared_order(rt: HostRuntime) -> Result<(), Fail> {
         [2, 1, 0, 0, 1, 1, 0, 0, 0, 0, 0, 0, 0, 99].as_slice()
     );
     Ok(())
+}
+
+/// The signal is written as these bytes, and is read back from them.
+fn is_signal(rt: &impl Abort, alloc: Global, signal: Signal, code: &[u8]) -> Result<(), Fail> {
+    assert!(rt;
+        signal.serialize_bin(alloc)?.as_slice() == code,
+        "a signal's bytes"
+    );
+    assert!(rt;
+        Signal::deserialize_bin(alloc, code)? == signal,
+        "a signal of bytes"
+    );
+    Ok(())
+}
+
+#[test]
+fn signals_by_tag(rt: HostRuntime) -> Result<(), Fail> {
+    let alloc = rt.alloc();
+    is_signal(&rt, alloc, Signal::Wait(5), &[0, 0, 5, 0, 0, 0, 0, 0, 0, 0])?;
+    is_signal(&rt, alloc, Signal::Move(1, 2, 3), &[1, 0, 1, 0, 2, 0, 3, 0])?;
+    is_signal(
+        &rt,
+        alloc,
+        Signal::Light(1, 2, 3, true),
+        &[2, 0, 1, 2, 3, 1],
+    )
 }
 
 #[test]

@@ -1,7 +1,8 @@
 // Enums in RON: each variant written and read back, nested in others, and refused; and the calls
 // that read and write a name, and content directly behind it, by themselves.
-use fleet::{Event, Holder};
+use fleet::{Event, Signal};
 use nano_ron::{BothRon, DeRon, DeRonErr, DeRonState, SerRon, SerRonState};
+use records::Holder;
 use ron_records::{
     Part, RequiredPart, read_variant_name, unknown_variant, write_fields_variant,
     write_unit_variant, write_variant,
@@ -54,6 +55,24 @@ fn check(rt: &impl Abort, found: &str, expected: &str, text: &str) {
 fn events_by_name(rt: HostRuntime) -> Result<(), Fail> {
     for (text, expected) in &EVENTS {
         let found = outcome::<Event>(rt.alloc(), text)?;
+        check(&rt, found.as_str(), expected, text);
+    }
+    Ok(())
+}
+
+/// Texts, with what is written of the signal that each is read as, or what its refusal says.
+const SIGNALS: [(&str, &str); 5] = [
+    ("Wait(5,)", "Wait(5)"),
+    ("Move(1, 2, 3)", "Move(1, 2, 3)"),
+    ("Light(1,2,3,true)", "Light(1, 2, 3, true)"),
+    ("Wait 5", "Unexpected token U64(5) expected ( "),
+    ("Wait(5,6)", "Unexpected token U64(6) expected ) "),
+];
+
+#[test]
+fn signals_by_name(rt: HostRuntime) -> Result<(), Fail> {
+    for (text, expected) in &SIGNALS {
+        let found = outcome::<Signal>(rt.alloc(), text)?;
         check(&rt, found.as_str(), expected, text);
     }
     Ok(())
