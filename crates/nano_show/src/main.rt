@@ -7,8 +7,10 @@ mod fault;
 #[cfg(test)]
 mod law_tests;
 pub mod laws;
+mod normal;
 mod pairs;
 mod run;
+mod shown;
 #[cfg(test)]
 mod tests;
 mod words;
