@@ -10,9 +10,10 @@ use Rattle.nanoserde.proofs.Forms.{texts_are_forms, bytes_are_forms, one_form}
 use Rattle.nano_show.specs.declared.words.Form.{Form}
 use Rattle.nano_show.specs.declared.words.Form.TheVariants.{Json, Ron, Bin}
 use Rattle.nano_show.specs.declared.words.Kind.{Kind}
-use Rattle.nano_show.specs.Shown.{Shown, IsTied}
+use Rattle.nano_show.specs.declared.words.Kind.TheVariants.{U8, U32, U64, I32, I64, Bool, Text, Bytes, Set, Map, Item, Choice}
+use Rattle.nano_show.specs.Shown.{Shown, IsTied, OfEachKind}
 use Rattle.nano_show.specs.Pairs.{line, hex_pairs}
-use Rattle.nano_show.specs.Answer.{IsTextLine, IsBytesLine, IsNormalLine, Answers, IsAnswerTo, IsAnswer, WritesUpTo, OneAnswer, AnswerOrRefusal}
+use Rattle.nano_show.specs.Answer.{IsTextLine, IsBytesLine, IsNormalLine, Answers, IsAnswerTo, HasNoAnswerTo, IsAnswer, HasNoAnswer, WritesUpTo, OneAnswer, AnswerOrRefusal}
 
 module _ (a b c : Option (List ℕ)) (bytes rest : List ℕ) (so_far : WritesUpTo rest a b bytes) where
   -- one more write took so many bytes of the rest
@@ -39,7 +40,30 @@ IsAnswerTo-any_input types known request answer answers = record {
   answers = answers (unwrap_or known []);
 }
 
+module _ {types : Kind → Shown} (words : List (List ℕ)) (known : Option (List ℕ)) (request : Request) (asked : AskFor words request) where
+  -- what answers what the words ask for is their answer
+  pub asked_answer : (answer : List ℕ) → IsAnswerTo types request known answer → IsAnswer types words known answer
+  asked_answer answer is = record { request = request; asked = asked; is = is }
+
+  -- and where nothing answers that, they have none
+  pub asked_nothing : HasNoAnswerTo types request known → HasNoAnswer types words known
+  asked_nothing is = record { request = request; asked = asked; is = is }
+
 -- ---- laws
+
+pub every_kind : (P : Kind → Type 0) → OfEachKind P → (kind : Kind) → P kind
+every_kind P p U8 = p.0
+every_kind P p U32 = p.1.0
+every_kind P p U64 = p.1.1.0
+every_kind P p I32 = p.1.1.1.0
+every_kind P p I64 = p.1.1.1.1.0
+every_kind P p Bool = p.1.1.1.1.1.0
+every_kind P p Text = p.1.1.1.1.1.1.0
+every_kind P p Bytes = p.1.1.1.1.1.1.1.0
+every_kind P p Set = p.1.1.1.1.1.1.1.1.0
+every_kind P p Map = p.1.1.1.1.1.1.1.1.1.0
+every_kind P p Item = p.1.1.1.1.1.1.1.1.1.1.0
+every_kind P p Choice = p.1.1.1.1.1.1.1.1.1.1.1
 
 module _ {normal : List ℕ → List ℕ → Type 0} (one : (input first second : List ℕ) → normal input first → normal input second → first ≡ second) where
   one_text_line : (input first second : List ℕ) → IsTextLine normal input first → IsTextLine normal input second → first ≡ second

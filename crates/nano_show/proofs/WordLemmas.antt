@@ -99,7 +99,7 @@ option_to_list-injective None (Some y) e = absurd (cc)
 option_to_list-injective (Some x) None e = absurd (cc)
 option_to_list-injective (Some x) (Some y) e = ap Some (head e)
 
-form_of : List ℕ → Form
+abbrev form_of : List ℕ → Form
 form_of word = cond (bytes_eq word (codes "json")) Json (cond (bytes_eq word (codes "ron")) Ron Bin)
 
 of_form_name : (form : Form) → form_of (form_name form) ≡ form
@@ -107,7 +107,7 @@ of_form_name Json = refl
 of_form_name Ron = refl
 of_form_name Bin = refl
 
-kind_of : List ℕ → Kind
+abbrev kind_of : List ℕ → Kind
 kind_of word =
     cond (bytes_eq word (codes "u8")) U8
     (cond (bytes_eq word (codes "u32")) U32

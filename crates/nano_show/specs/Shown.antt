@@ -29,16 +29,6 @@ pub record IsTied (type : Shown) : Type 0 where
 abbrev pub shown_as : {A : Type 0} → (A → Meaning) → (Meaning → Type 0) → BinFormat A → JsonFormat A → RonFormat A → Shown
 shown_as {A} means legal bin json ron = record { Value = A; means = means; legal = legal; bin = bin; json = json; ron = ron }
 
-pub tied_as :
-    {A : Type 0} {means : A → Meaning} {legal : Meaning → Type 0}
-    {bin : BinFormat A} {json : JsonFormat A} {ron : RonFormat A}
-    → Ties means legal bin.writing.means bin.spelling.legal
-    → Ties means legal json.writing.means json.spelling.legal
-    → Ties means legal ron.writing.means ron.spelling.legal
-    → bin.is_read ≡ true
-    → IsTied (shown_as means legal bin json ron)
-tied_as b j r is = record { bin = b; json = j; ron = r; bin_is_read = is }
-
 -- the normal form of an input in a format
 abbrev pub IsNormal : Form → Shown → List ℕ → List ℕ → Type 0
 IsNormal Json type input form = NormalJson type.means type.json input form
@@ -60,20 +50,6 @@ by_kind u8 u32 u64 i32 i64 bool text bytes set map item choice Map = map
 by_kind u8 u32 u64 i32 i64 bool text bytes set map item choice Item = item
 by_kind u8 u32 u64 i32 i64 bool text bytes set map item choice Choice = choice
 
--- what holds of each holds of all
-pub all_kinds :
-    {P : Shown → Type 0} {u8 u32 u64 i32 i64 bool text bytes set map item choice : Shown}
-    → P u8 → P u32 → P u64 → P i32 → P i64 → P bool → P text → P bytes → P set → P map → P item → P choice
-    → (kind : Kind) → P (by_kind u8 u32 u64 i32 i64 bool text bytes set map item choice kind)
-all_kinds a b c d e f g h i j k l U8 = a
-all_kinds a b c d e f g h i j k l U32 = b
-all_kinds a b c d e f g h i j k l U64 = c
-all_kinds a b c d e f g h i j k l I32 = d
-all_kinds a b c d e f g h i j k l I64 = e
-all_kinds a b c d e f g h i j k l Bool = f
-all_kinds a b c d e f g h i j k l Text = g
-all_kinds a b c d e f g h i j k l Bytes = h
-all_kinds a b c d e f g h i j k l Set = i
-all_kinds a b c d e f g h i j k l Map = j
-all_kinds a b c d e f g h i j k l Item = k
-all_kinds a b c d e f g h i j k l Choice = l
+-- it holds of each name
+abbrev pub OfEachKind : (Kind → Type 0) → Type 0
+OfEachKind P = P U8 × P U32 × P U64 × P I32 × P I64 × P Bool × P Text × P Bytes × P Set × P Map × P Item × P Choice

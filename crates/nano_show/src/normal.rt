@@ -95,8 +95,10 @@ fn bin_line<T: BothBin>(alloc: Global, input: &[u8]) -> Result<Vec<u8>, ShowFaul
 {
     match normal_bin::<T>(alloc, input) {
         Ok(normal) => Ok(hex_line(alloc, &normal)?),
-        Err(error) if error.kind == DeBinKind::Memory => Err(ShowFault::Memory),
-        Err(error) => Err(ShowFault::Refused(error.to_string(alloc)?)),
+        Err(error) => match error.kind {
+            DeBinKind::Memory => Err(ShowFault::Memory),
+            _ => Err(ShowFault::Refused(error.to_string(alloc)?)),
+        },
     }
 }
 

@@ -1,5 +1,5 @@
 // The types that are shown, and what their names stand for.
-ghost use Rattle.nano_show.specs.Shown.{Shown, IsTied};
+ghost use Rattle.nano_show.specs.Shown.{Shown, IsTied, OfEachKind};
 
 use nanoserde::records::{Choice, Item};
 use nanoserde::{BothBin, BothJson, BothRon};
@@ -9,17 +9,12 @@ use std::collections::{HashMap, HashSet};
 pub trait Show: BothBin + BothJson + BothRon {
     /// Its values and its formats.
     ghost shown: { Shown };
-
-    /// The formats are of these values.
-    ghost is_tied: { IsTied shown };
 }
 
 impl<T: BothBin + BothJson + BothRon> Show for T {
-    ghost use Rattle.nano_show.specs.Shown.{shown_as, tied_as};
+    ghost use Rattle.nano_show.specs.Shown.{shown_as};
 
     ghost shown = { shown_as T.means T.legal T.bin T.json T.ron };
-
-    ghost is_tied = { tied_as T.BinFormat.ties T.JsonFormat.ties T.RonFormat.ties T.is_read };
 }
 
 /// What the names of types stand for.
@@ -28,25 +23,39 @@ pub trait Named {
 
     /// The type that a name stands for.
     ghost types: { Kind → Shown };
-
-    /// Their formats are of their values.
-    ghost are_tied: { (kind : Kind) → IsTied (types kind) };
 }
 
 /// The types of the program.
 pub struct Types;
 
 impl Named for Types {
-    ghost use Rattle.nano_show.specs.Shown.{by_kind, all_kinds};
+    ghost use Rattle.nano_show.specs.Shown.{by_kind};
 
     ghost types = { by_kind ⟦<u8 as Show>⟧.shown ⟦<u32 as Show>⟧.shown ⟦<u64 as Show>⟧.shown
         ⟦<i32 as Show>⟧.shown ⟦<i64 as Show>⟧.shown ⟦<bool as Show>⟧.shown
         ⟦<String as Show>⟧.shown ⟦<Vec<u8> as Show>⟧.shown ⟦<HashSet<i32> as Show>⟧.shown
         ⟦<HashMap<String, i32> as Show>⟧.shown ⟦<Item as Show>⟧.shown ⟦<Choice as Show>⟧.shown };
+}
 
-    ghost are_tied = { all_kinds ⟦<u8 as Show>⟧.is_tied ⟦<u32 as Show>⟧.is_tied
-        ⟦<u64 as Show>⟧.is_tied ⟦<i32 as Show>⟧.is_tied ⟦<i64 as Show>⟧.is_tied
-        ⟦<bool as Show>⟧.is_tied ⟦<String as Show>⟧.is_tied ⟦<Vec<u8> as Show>⟧.is_tied
-        ⟦<HashSet<i32> as Show>⟧.is_tied ⟦<HashMap<String, i32> as Show>⟧.is_tied
-        ⟦<Item as Show>⟧.is_tied ⟦<Choice as Show>⟧.is_tied };
+/// The formats of a type are of its values.
+fn tied<T: BothBin + BothJson + BothRon>()
+    ensures { IsTied ⟦<T as Show>⟧.shown }
+{}
+
+/// The formats of each type are of its values.
+pub(crate) fn all_tied()
+    ensures { OfEachKind (λ kind. IsTied (⟦<Types as Named>⟧.types kind)) }
+{
+    tied::<u8>();
+    tied::<u32>();
+    tied::<u64>();
+    tied::<i32>();
+    tied::<i64>();
+    tied::<bool>();
+    tied::<String>();
+    tied::<Vec<u8>>();
+    tied::<HashSet<i32>>();
+    tied::<HashMap<String, i32>>();
+    tied::<Item>();
+    tied::<Choice>();
 }

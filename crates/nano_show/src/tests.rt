@@ -105,12 +105,36 @@ const REFUSED: [(&str, &[u8], &str); 12] = [
     ),
     ("json u8", &[255], "not UTF-8"),
     ("ron u8", &[255], "not UTF-8"),
-    ("json item", b"{\"note\":\"x\"}", ""),
-    ("json item", b"{\"value\":\"x\",\"value\":1}", ""),
-    ("json item", b"{\"value\": 2147483648 }", ""),
-    ("json choice", b"{\"B\":[1,\"asd\"],}", ""),
-    ("ron item", b"(value:7,z:1)", ""),
-    ("ron item", b"(value:\"string\")", ""),
+    (
+        "json item",
+        b"{\"note\":\"x\"}",
+        "Json Deserialize error: Key not found value, line:1 col:13",
+    ),
+    (
+        "json item",
+        b"{\"value\":\"x\",\"value\":1}",
+        "Json Deserialize error: Unexpected token Str expected signed integer , line:1 col:14",
+    ),
+    (
+        "json item",
+        b"{\"value\": 2147483648 }",
+        "Json Deserialize error: Value out of range 2147483648>2147483647 , line:1 col:22",
+    ),
+    (
+        "json choice",
+        b"{\"B\":[1,\"asd\"],}",
+        "Json Deserialize error: Unexpected token Comma expected } , line:1 col:17",
+    ),
+    (
+        "ron item",
+        b"(value:7,z:1)",
+        "Ron Deserialize error: Unexpected key z, line:1 col:12",
+    ),
+    (
+        "ron item",
+        b"(value:\"string\")",
+        "Ron Deserialize error: Unexpected token Str expected signed integer , line:1 col:17",
+    ),
     (
         "bin choice",
         &[3, 0],
