@@ -11,9 +11,14 @@ use Rattle.nano_show.specs.declared.words.Form.{Form}
 use Rattle.nano_show.specs.declared.words.Form.TheVariants.{Json, Ron, Bin}
 use Rattle.nano_show.specs.declared.words.Kind.{Kind}
 use Rattle.nano_show.specs.declared.words.Kind.TheVariants.{U8, U32, U64, I32, I64, Bool, Text, Bytes, Set, Map, Item, Choice}
+use Rattle.nano_show.specs.declared.words.Command.{Command}
+use Rattle.nano_show.specs.declared.fault.ShowFault.{ShowFault}
+use Rattle.nano_show.specs.Commands.{request_of}
+use Rattle.std.specs.Prelude.{Result, MatchResult, Vec}
+use Rattle.std.specs.Global.{Global}
 use Rattle.nano_show.specs.Shown.{Shown, IsTied, OfEachKind}
 use Rattle.nano_show.specs.Pairs.{line, hex_pairs}
-use Rattle.nano_show.specs.Answer.{IsTextLine, IsBytesLine, IsNormalLine, Answers, IsAnswerTo, HasNoAnswerTo, IsAnswer, HasNoAnswer, WritesUpTo, OneAnswer, AnswerOrRefusal}
+use Rattle.nano_show.specs.Answer.{IsFaultOf, IsTextLine, IsBytesLine, IsNormalLine, Answers, IsAnswerTo, HasNoAnswerTo, IsAnswer, HasNoAnswer, WritesUpTo, OneAnswer, AnswerOrRefusal}
 
 module _ (a b c : Option (List ℕ)) (bytes rest : List ℕ) (so_far : WritesUpTo rest a b bytes) where
   -- one more write took so many bytes of the rest
@@ -40,6 +45,24 @@ IsAnswerTo-any_input types known request answer answers = record {
   answers = answers (unwrap_or known []);
 }
 
+-- what answers a command is known by what the command is
+pub command_at : {types : Kind → Shown} {known : Option (List ℕ)} (command is : Command) → command ≡ is → (answer : List ℕ) → ((input : List ℕ) → Answers types (request_of is) input answer) → IsAnswerTo types (request_of command) known answer
+command_at {types} {known} command is e answer answers =
+    subst (λ c. IsAnswerTo types (request_of c) known answer) (sym e) (IsAnswerTo-any_input types known (request_of is) answer answers)
+
+-- and so it is for a format and for a type
+pub line_at_form : (type : Shown) (input : List ℕ) (form is : Form) → form ≡ is → (result : Result (Vec ℕ Global) ShowFault)
+    → MatchResult result (λ answer. IsNormalLine is type input answer.items) (IsFaultOf ((answer : List ℕ) → IsNormalLine is type input answer → ⊥))
+    → MatchResult result (λ answer. IsNormalLine form type input answer.items) (IsFaultOf ((answer : List ℕ) → IsNormalLine form type input answer → ⊥))
+line_at_form type input form is e result h =
+    subst (λ f. MatchResult result (λ answer. IsNormalLine f type input answer.items) (IsFaultOf ((answer : List ℕ) → IsNormalLine f type input answer → ⊥))) (sym e) h
+
+pub line_at_kind : (types : Kind → Shown) (form : Form) (input : List ℕ) (kind is : Kind) → kind ≡ is → (result : Result (Vec ℕ Global) ShowFault)
+    → MatchResult result (λ answer. IsNormalLine form (types is) input answer.items) (IsFaultOf ((answer : List ℕ) → IsNormalLine form (types is) input answer → ⊥))
+    → MatchResult result (λ answer. IsNormalLine form (types kind) input answer.items) (IsFaultOf ((answer : List ℕ) → IsNormalLine form (types kind) input answer → ⊥))
+line_at_kind types form input kind is e result h =
+    subst (λ k. MatchResult result (λ answer. IsNormalLine form (types k) input answer.items) (IsFaultOf ((answer : List ℕ) → IsNormalLine form (types k) input answer → ⊥))) (sym e) h
+
 module _ {types : Kind → Shown} (words : List (List ℕ)) (known : Option (List ℕ)) (request : Request) (asked : AskFor words request) where
   -- what answers what the words ask for is their answer
   pub asked_answer : (answer : List ℕ) → IsAnswerTo types request known answer → IsAnswer types words known answer
@@ -53,17 +76,17 @@ module _ {types : Kind → Shown} (words : List (List ℕ)) (known : Option (Lis
 
 pub every_kind : (P : Kind → Type 0) → OfEachKind P → (kind : Kind) → P kind
 every_kind P p U8 = p.0
-every_kind P p U32 = p.1.0
-every_kind P p U64 = p.1.1.0
-every_kind P p I32 = p.1.1.1.0
-every_kind P p I64 = p.1.1.1.1.0
-every_kind P p Bool = p.1.1.1.1.1.0
-every_kind P p Text = p.1.1.1.1.1.1.0
-every_kind P p Bytes = p.1.1.1.1.1.1.1.0
-every_kind P p Set = p.1.1.1.1.1.1.1.1.0
-every_kind P p Map = p.1.1.1.1.1.1.1.1.1.0
-every_kind P p Item = p.1.1.1.1.1.1.1.1.1.1.0
-every_kind P p Choice = p.1.1.1.1.1.1.1.1.1.1.1
+every_kind P p U32 = p.1
+every_kind P p U64 = p.2
+every_kind P p I32 = p.3
+every_kind P p I64 = p.4
+every_kind P p Bool = p.5
+every_kind P p Text = p.6
+every_kind P p Bytes = p.7
+every_kind P p Set = p.8
+every_kind P p Map = p.9
+every_kind P p Item = p.10
+every_kind P p Choice = p.11
 
 module _ {normal : List ℕ → List ℕ → Type 0} (one : (input first second : List ℕ) → normal input first → normal input second → first ≡ second) where
   one_text_line : (input first second : List ℕ) → IsTextLine normal input first → IsTextLine normal input second → first ≡ second

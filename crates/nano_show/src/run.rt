@@ -1,9 +1,14 @@
 // From words and input to the answer that is written.
 ghost use Rattle.std.specs.Prelude.{◌⊎◌, ◌≡◌, ◌≢◌, ◌↔◌, ℕ, List, IfSome, IfOk, IfErr, OnOk, OnErr, IsErrOf, option_map};
 ghost use Rattle.std.specs.Io.KnownBytes.{Appends, IsAtEnd};
-ghost use Rattle.nano_show.specs.Requests.{texts, AskForNothing, AskForNoInput};
+ghost use Rattle.nano_show.specs.Requests.{texts, IsU16, AskForNothing, AskForNoInput};
 ghost use Rattle.nano_show.specs.Answer.{Answers, IsAnswerTo, HasNoAnswerTo, IsFaultOf, HasNoAnswer};
 ghost use Rattle.nano_show.specs.Answer.{WritesAnswer, WritesUpTo, WritesBeginning};
+ghost use Rattle.std.specs.Prelude.{All, map};
+ghost use Rattle.std.specs.Str.Parse.{digits_value};
+ghost use Rattle.nano_bin.specs.LittleEndian.{little_endian};
+ghost use Rattle.nano_bin.specs.Lists.{written_list};
+ghost use Rattle.nano_show.specs.Pairs.{hex_pairs, line};
 ghost use Rattle.nano_bin.specs.Options.{written_option};
 ghost use Rattle.nano_bin.specs.Texts.{written_text};
 ghost use Rattle.nano_show.specs.Commands.{request_of, IsSound, TakesNoInput};
@@ -68,14 +73,8 @@ fn answer<R: Read>(alloc: Global, command: Command<'_>, input: &mut R) -> Result
     ensures unread { TakesNoInput command.entry → input.new ≡ input.old }
 {
     match command {
-        Command::CodeU16s(numerals) => {
-            let code = numbers(alloc, numerals)?.serialize_bin(alloc)?;
-            Ok(hex_line(alloc, &code)?)
-        }
-        Command::CodeText(text) => {
-            let code = text_code(alloc, text)?;
-            Ok(hex_line(alloc, &code)?)
-        }
+        Command::CodeU16s(numerals) => Ok(u16s_line(alloc, numerals)?),
+        Command::CodeText(text) => Ok(text_line(alloc, text)?),
         Command::Normal(form, kind) => {
             let bytes = read_whole(alloc, input)?;
             normal_line(alloc, form, kind, &bytes)
@@ -83,14 +82,26 @@ fn answer<R: Read>(alloc: Global, command: Command<'_>, input: &mut R) -> Result
     }
 }
 
-/// The code of a text that may be absent.
-fn text_code(alloc: Global, text: Option<&str>) -> Result<Vec<u8>, AllocError>
-    ensures { IfOk result (λ code. code.items ≡ written_option written_text (option_map (λ word. word.now) text.entry)) }
+/// The code of the numbers that these numerals write, in pairs.
+fn u16s_line(alloc: Global, numerals: &[String]) -> Result<Vec<u8>, AllocError>
+    requires { All IsU16 (texts numerals.now) }
+    ensures { IfOk result (λ answer. answer.items ≡ line (hex_pairs
+        (written_list (little_endian 2) (map (digits_value 10) (texts numerals.now))))) }
 {
-    match text {
-        Some(text) => Some(String::from_str(alloc, text)?).serialize_bin(alloc),
-        None => None::<String>.serialize_bin(alloc),
-    }
+    let code = numbers(alloc, numerals)?.serialize_bin(alloc)?;
+    hex_line(alloc, &code)
+}
+
+/// The code of a text that may be absent, in pairs.
+fn text_line(alloc: Global, text: Option<&str>) -> Result<Vec<u8>, AllocError>
+    ensures { IfOk result (λ answer. answer.items ≡ line (hex_pairs
+        (written_option written_text (option_map (λ word. word.now) text.entry)))) }
+{
+    let code = match text {
+        Some(text) => Some(String::from_str(alloc, text)?).serialize_bin(alloc)?,
+        None => None::<String>.serialize_bin(alloc)?,
+    };
+    hex_line(alloc, &code)
 }
 
 /// The input up to its end. A read that was interrupted is tried again.
