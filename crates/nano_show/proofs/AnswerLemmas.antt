@@ -2,9 +2,23 @@
 use Rattle.std.proofs.Common.{◌≡◌, ℕ, List, [], ◌++◌, take, drop, refl, sym, ap, ◌∙◌, append_assoc, take-append-drop, Option, Some, None, IfSome, unwrap_or, subst}
 use Rattle.std.specs.Io.KnownBytes.{Appends, Keeps}
 use Rattle.std.proofs.KnownBytes.{Appends-trans, Appends-kept}
-use Rattle.nano_show.specs.Requests.{Request, code_of_u16s, code_of_text, AskFor}
+use Rattle.nano_show.specs.Requests.{Request, code_of_u16s, code_of_text, normal_of_input, AskFor}
 use Rattle.nano_show.proofs.WordLemmas.{one_request}
-use Rattle.nano_show.specs.Answer.{Answers, IsAnswer, WritesUpTo, OneAnswer, AnswerOrRefusal}
+use Rattle.nano_json.proofs.Json.{json_laws}
+use Rattle.nano_ron.proofs.Ron.{ron_laws}
+use Rattle.nanoserde.proofs.Forms.{texts_are_forms, bytes_are_forms, one_form}
+use Rattle.nano_show.specs.declared.words.Form.{Form}
+use Rattle.nano_show.specs.declared.words.Form.TheVariants.{Json, Ron, Bin}
+use Rattle.nano_show.specs.declared.words.Kind.{Kind}
+use Rattle.nano_show.specs.declared.words.Kind.TheVariants.{U8, U32, U64, I32, I64, Bool, Text, Bytes, Set, Map, Item, Choice}
+use Rattle.nano_show.specs.declared.words.Command.{Command}
+use Rattle.nano_show.specs.declared.fault.ShowFault.{ShowFault}
+use Rattle.nano_show.specs.Commands.{request_of}
+use Rattle.std.specs.Prelude.{Result, MatchResult, Vec}
+use Rattle.std.specs.Global.{Global}
+use Rattle.nano_show.specs.Shown.{Shown, IsTied, OfEachKind}
+use Rattle.nano_show.specs.Pairs.{line, hex_pairs}
+use Rattle.nano_show.specs.Answer.{IsFaultOf, IsTextLine, IsBytesLine, IsNormalLine, Answers, IsAnswerTo, HasNoAnswerTo, IsAnswer, HasNoAnswer, WritesUpTo, OneAnswer, AnswerOrRefusal}
 
 module _ (a b c : Option (List ℕ)) (bytes rest : List ℕ) (so_far : WritesUpTo rest a b bytes) where
   -- one more write took so many bytes of the rest
@@ -24,28 +38,82 @@ given_input None = tt
 given_input (Some bytes) = refl
 
 -- what answers a request whatever the input is the answer
-pub IsAnswer-any_input : (words : List (List ℕ)) (known : Option (List ℕ)) (request : Request) (answer : List ℕ) → AskFor words request → ((input : List ℕ) → Answers request input answer) → IsAnswer words known answer
-IsAnswer-any_input words known request answer asked answers = record {
-  request = request;
+pub IsAnswerTo-any_input : (types : Kind → Shown) (known : Option (List ℕ)) (request : Request) (answer : List ℕ) → ((input : List ℕ) → Answers types request input answer) → IsAnswerTo types request known answer
+IsAnswerTo-any_input types known request answer answers = record {
   input = unwrap_or known [];
-  is = record { asked = asked; given = given_input known };
+  given = given_input known;
   answers = answers (unwrap_or known []);
 }
 
+-- what answers a command is known by what the command is
+pub command_at : {types : Kind → Shown} {known : Option (List ℕ)} (command is : Command) → command ≡ is → (answer : List ℕ) → ((input : List ℕ) → Answers types (request_of is) input answer) → IsAnswerTo types (request_of command) known answer
+command_at {types} {known} command is e answer answers =
+    subst (λ c. IsAnswerTo types (request_of c) known answer) (sym e) (IsAnswerTo-any_input types known (request_of is) answer answers)
+
+-- and so it is for a format and for a type
+pub line_at_form : (type : Shown) (input : List ℕ) (form is : Form) → form ≡ is → (result : Result (Vec ℕ Global) ShowFault)
+    → MatchResult result (λ answer. IsNormalLine is type input answer.items) (IsFaultOf ((answer : List ℕ) → IsNormalLine is type input answer → ⊥))
+    → MatchResult result (λ answer. IsNormalLine form type input answer.items) (IsFaultOf ((answer : List ℕ) → IsNormalLine form type input answer → ⊥))
+line_at_form type input form is e result h =
+    subst (λ f. MatchResult result (λ answer. IsNormalLine f type input answer.items) (IsFaultOf ((answer : List ℕ) → IsNormalLine f type input answer → ⊥))) (sym e) h
+
+pub line_at_kind : (types : Kind → Shown) (form : Form) (input : List ℕ) (kind is : Kind) → kind ≡ is → (result : Result (Vec ℕ Global) ShowFault)
+    → MatchResult result (λ answer. IsNormalLine form (types is) input answer.items) (IsFaultOf ((answer : List ℕ) → IsNormalLine form (types is) input answer → ⊥))
+    → MatchResult result (λ answer. IsNormalLine form (types kind) input answer.items) (IsFaultOf ((answer : List ℕ) → IsNormalLine form (types kind) input answer → ⊥))
+line_at_kind types form input kind is e result h =
+    subst (λ k. MatchResult result (λ answer. IsNormalLine form (types k) input answer.items) (IsFaultOf ((answer : List ℕ) → IsNormalLine form (types k) input answer → ⊥))) (sym e) h
+
+module _ {types : Kind → Shown} (words : List (List ℕ)) (known : Option (List ℕ)) (request : Request) (asked : AskFor words request) where
+  -- what answers what the words ask for is their answer
+  pub asked_answer : (answer : List ℕ) → IsAnswerTo types request known answer → IsAnswer types words known answer
+  asked_answer answer is = record { request = request; asked = asked; is = is }
+
+  -- and where nothing answers that, they have none
+  pub asked_nothing : HasNoAnswerTo types request known → HasNoAnswer types words known
+  asked_nothing is = record { request = request; asked = asked; is = is }
+
 -- ---- laws
 
-one_answer_of_request : (request : Request) (input first second : List ℕ) → Answers request input first → Answers request input second → first ≡ second
-one_answer_of_request (code_of_u16s numbers) input first second h j = h ∙ sym j
-one_answer_of_request (code_of_text text) input first second h j = h ∙ sym j
+pub every_kind : (P : Kind → Type 0) → OfEachKind P → (kind : Kind) → P kind
+every_kind P p U8 = p.0
+every_kind P p U32 = p.1
+every_kind P p U64 = p.2
+every_kind P p I32 = p.3
+every_kind P p I64 = p.4
+every_kind P p Bool = p.5
+every_kind P p Text = p.6
+every_kind P p Bytes = p.7
+every_kind P p Set = p.8
+every_kind P p Map = p.9
+every_kind P p Item = p.10
+every_kind P p Choice = p.11
 
-pub one_answer : OneAnswer
-one_answer words input first second h j =
-    let same = one_request words h.request j.request h.is.asked j.is.asked in
-    let given = h.is.given ∙ sym j.is.given in
-    one_answer_of_request j.request j.input first second (subst (λ bytes. Answers j.request bytes first) given (subst (λ request. Answers request h.input first) same h.answers)) j.answers
+module _ {normal : List ℕ → List ℕ → Type 0} (one : (input first second : List ℕ) → normal input first → normal input second → first ≡ second) where
+  one_text_line : (input first second : List ℕ) → IsTextLine normal input first → IsTextLine normal input second → first ≡ second
+  one_text_line input first second h j = h.is ∙ (ap line (one input h.text j.text h.is_normal j.is_normal) ∙ sym j.is)
 
-pub answer_or_refusal : AnswerOrRefusal
-answer_or_refusal words input answer h j =
-    let same = one_request words h.request j.request h.is.asked j.is.asked in
+  one_bytes_line : (input first second : List ℕ) → IsBytesLine normal input first → IsBytesLine normal input second → first ≡ second
+  one_bytes_line input first second h j = h.is ∙ (ap (λ bytes. line (hex_pairs bytes)) (one input h.bytes j.bytes h.is_normal j.is_normal) ∙ sym j.is)
+
+one_normal_line : (form : Form) (type : Shown) → IsTied type → (input first second : List ℕ) → IsNormalLine form type input first → IsNormalLine form type input second → first ≡ second
+one_normal_line Json type tied = one_text_line (one_form (texts_are_forms json_laws type.json tied.json))
+one_normal_line Ron type tied = one_text_line (one_form (texts_are_forms ron_laws type.ron tied.ron))
+one_normal_line Bin type tied = one_bytes_line (one_form (bytes_are_forms type.bin tied.bin tied.bin_is_read))
+
+module _ (types : Kind → Shown) (tied : (kind : Kind) → IsTied (types kind)) where
+  one_answer_of_request : (request : Request) (input first second : List ℕ) → Answers types request input first → Answers types request input second → first ≡ second
+  one_answer_of_request (code_of_u16s numbers) input first second h j = h ∙ sym j
+  one_answer_of_request (code_of_text text) input first second h j = h ∙ sym j
+  one_answer_of_request (normal_of_input form kind) input first second h j = one_normal_line form (types kind) (tied kind) input first second h j
+
+  pub one_answer : OneAnswer types
+  one_answer words input first second h j =
+      let same = one_request words h.request j.request h.asked j.asked in
+      let given = h.is.given ∙ sym j.is.given in
+      one_answer_of_request j.request j.is.input first second (subst (λ bytes. Answers types j.request bytes first) given (subst (λ request. Answers types request h.is.input first) same h.is.answers)) j.is.answers
+
+pub answer_or_refusal : (types : Kind → Shown) → AnswerOrRefusal types
+answer_or_refusal types words input answer h j =
+    let same = one_request words h.request j.request h.asked j.asked in
     let given = h.is.given ∙ sym j.is.given in
-    j.nothing answer (subst (λ bytes. Answers j.request bytes answer) given (subst (λ request. Answers request h.input answer) same h.answers))
+    j.is.nothing answer (subst (λ bytes. Answers types j.request bytes answer) given (subst (λ request. Answers types request h.is.input answer) same h.is.answers))

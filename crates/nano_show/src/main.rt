@@ -1,14 +1,18 @@
-//! Shows what the formats of nanoserde make of the words of a command line.
+//! Shows what the formats of nanoserde make of the words of a command line, and of standard input.
 //!
 //! `nano_show code u16s 1 2` prints the binary code of two numbers, `nano_show code text ab` that of a text.
+//! `nano_show json item` prints the normal form of a JSON text on standard input, `ron` and `bin` those of
+//! the other formats; see `run` for the types.
 #![tactic(auto)]
 
 mod fault;
 #[cfg(test)]
 mod law_tests;
 pub mod laws;
+mod normal;
 mod pairs;
 mod run;
+mod shown;
 #[cfg(test)]
 mod tests;
 mod words;

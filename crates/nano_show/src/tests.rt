@@ -32,8 +32,128 @@ const ANSWERED: [(&str, &str); 10] = [
     ("code text", "00\n"),
 ];
 
+/// Words, the input that they ask for, and the line that is written for them.
+const SHOWN: [(&str, &[u8], &str); 24] = [
+    ("json u8", b"+5", "5\n"),
+    ("json u32", b"42 43", "42\n"),
+    (
+        "json u64",
+        b"18446744073709551615",
+        "18446744073709551615\n",
+    ),
+    ("json i32", b"-0", "0\n"),
+    (
+        "json i64",
+        b"-9223372036854775808",
+        "-9223372036854775808\n",
+    ),
+    ("json bool", b"true1", "true\n"),
+    ("json string", b"\"\\ud83d\\uDE0B\"", "\"😋\"\n"),
+    ("json bytes", b"[1,2,]", "[1,2]\n"),
+    ("json set", b"[3,1,3]", "[1,3]\n"),
+    (
+        "json map",
+        b"{\"b\":1,\"a\":2,\"b\":3,}",
+        "{\"a\":2,\"b\":3}\n",
+    ),
+    (
+        "json item",
+        b"{\"value\":1,\"note\":\"x\",\"value\":2,\"note\":null}",
+        "{\"value\":2}\n",
+    ),
+    (
+        "json item",
+        b"{\"some\":{\"export\":{\"target\":\".\"}},\"note\":\"hello\",\"b_\":5.,\"x\":[1,{\"a\":1.}],\"value\":1,}",
+        "{\"value\":1,\"note\":\"hello\"}\n",
+    ),
+    (
+        "json choice",
+        b"{ \"B\": [ 1, \"asd\" ] }",
+        "{\"B\":[1,\"asd\"]}\n",
+    ),
+    ("ron u32", b"/*/ 7 */ 42 // x", "42\n"),
+    ("ron bool", b"2", "true\n"),
+    ("ron bytes", b"[1, 2]", "[\n    1,\n    2,\n]\n"),
+    ("ron set", b"[2, 1]", "[    1,    2]\n"),
+    (
+        "ron choice",
+        b"C(a: 2, b: \"qwe\")",
+        "C(\n    a:2,\n    b:\"qwe\",\n)\n",
+    ),
+    ("bin bool", &[9], "01\n"),
+    ("bin u32", &[42, 0, 0, 0, 9], "2a 00 00 00\n"),
+    (
+        "bin string",
+        &[1, 0, 0, 0, 0, 0, 0, 0, 97],
+        "01 00 00 00 00 00 00 00 61\n",
+    ),
+    (
+        "bin bytes",
+        &[0, 0, 0, 0, 0, 0, 0, 0],
+        "00 00 00 00 00 00 00 00\n",
+    ),
+    ("bin item", &[7, 0, 0, 0, 9], "07 00 00 00 00\n"),
+    ("bin choice", &[0, 0], "00 00\n"),
+];
+
+/// Words, an input that has no answer, and the reason.
+const REFUSED: [(&str, &[u8], &str); 12] = [
+    (
+        "json u32",
+        b"42 @",
+        "Json Deserialize error: Unexpected token U64(42) expected tokenizer , line:1 col:5",
+    ),
+    ("json u8", &[255], "not UTF-8"),
+    ("ron u8", &[255], "not UTF-8"),
+    (
+        "json item",
+        b"{\"note\":\"x\"}",
+        "Json Deserialize error: Key not found value, line:1 col:13",
+    ),
+    (
+        "json item",
+        b"{\"value\":\"x\",\"value\":1}",
+        "Json Deserialize error: Unexpected token Str expected signed integer , line:1 col:14",
+    ),
+    (
+        "json item",
+        b"{\"value\": 2147483648 }",
+        "Json Deserialize error: Value out of range 2147483648>2147483647 , line:1 col:22",
+    ),
+    (
+        "json choice",
+        b"{\"B\":[1,\"asd\"],}",
+        "Json Deserialize error: Unexpected token Comma expected } , line:1 col:17",
+    ),
+    (
+        "ron item",
+        b"(value:7,z:1)",
+        "Ron Deserialize error: Unexpected key z, line:1 col:12",
+    ),
+    (
+        "ron item",
+        b"(value:\"string\")",
+        "Ron Deserialize error: Unexpected token Str expected signed integer , line:1 col:17",
+    ),
+    (
+        "bin choice",
+        &[3, 0],
+        "Bin deserialize error at:0 wanted:0 bytes but max size is 2",
+    ),
+    (
+        "bin string",
+        &[3, 0, 0, 0, 0, 0, 0, 0, 97, 98],
+        "Bin deserialize error at:8 wanted:3 bytes but max size is 10",
+    ),
+    (
+        "bin u8",
+        &[],
+        "Bin deserialize error at:0 wanted:1 bytes but max size is 0",
+    ),
+];
+
 /// Words that ask for nothing; the last are no words at all.
-const UNKNOWN: [&str; 17] = [
+const UNKNOWN: [&str; 18] = [
     "code u16s 65536",
     "code u16s 99999999999999999999999",
     "code u16s +5",
@@ -46,9 +166,10 @@ const UNKNOWN: [&str; 17] = [
     "code u16",
     "Code u16s 1",
     "u16s 1",
-    "json u8",
-    "ron u8",
-    "bin u8",
+    "json",
+    "json float",
+    "ron u8 u8",
+    "bin Item",
     "toml",
     "",
 ];
@@ -63,6 +184,29 @@ impl Read for Closed {
     fn read(&mut self, _buf: &mut [u8]) -> io::Result<usize> {
         self.reads = self.reads.saturating_add(1);
         Err(ErrorKind::Other.into())
+    }
+}
+
+/// A reader that gives a few bytes a call, and fails at one of its calls with an error of this kind.
+#[derive(Drop)]
+struct Source<'a> {
+    rest: &'a [u8],
+    most: usize,
+    calls: usize,
+    fails_at: usize,
+    kind: ErrorKind,
+}
+
+impl Read for Source<'_> {
+    fn read(&mut self, buf: &mut [u8]) -> io::Result<usize> {
+        self.calls = self.calls.saturating_add(1);
+        if self.calls == self.fails_at {
+            return Err(self.kind.into());
+        }
+        let count = buf.len().min(self.rest.len()).min(self.most);
+        buf[..count].copy_from_slice(&self.rest[..count]);
+        self.rest = &self.rest[count..];
+        Ok(count)
     }
 }
 
@@ -168,6 +312,103 @@ fn is_answered(rt: &impl Abort, alloc: Global, line: &str, written: &str) -> Res
 fn answers(rt: HostRuntime) -> Result<(), Fail> {
     for (line, written) in ANSWERED {
         is_answered(&rt, rt.alloc(), line, written)?;
+    }
+    Ok(())
+}
+
+/// Words with their input are answered, and this is written.
+fn is_shown(
+    rt: &impl Abort,
+    alloc: Global,
+    line: &str,
+    input: &[u8],
+    written: &str,
+) -> Result<(), Fail> {
+    let words = words(alloc, line)?;
+    let mut rest = input;
+    let mut output = Vec::new(alloc);
+    run(alloc, &words, &mut rest, &mut output)?;
+    are_bytes(rt, output.as_slice(), written);
+    Ok(())
+}
+
+#[test]
+fn shows_normal_forms(rt: HostRuntime) -> Result<(), Fail> {
+    for (line, input, written) in SHOWN {
+        is_shown(&rt, rt.alloc(), line, input, written)?;
+    }
+    Ok(())
+}
+
+/// The input is refused for this reason, and nothing is written.
+fn is_refused(
+    rt: &impl Abort,
+    alloc: Global,
+    line: &str,
+    input: &[u8],
+    reason: &str,
+) -> Result<(), Fail> {
+    let words = words(alloc, line)?;
+    let mut rest = input;
+    let mut output = Pipe::new(alloc, 64, 0, ErrorKind::Other)?;
+    match run(alloc, &words, &mut rest, &mut output) {
+        Ok(()) => holds(rt, false, line),
+        Err(fault) => is_ending(rt, &fault, (1, reason)),
+    }
+    is_count(rt, output.calls, 0);
+    Ok(())
+}
+
+#[test]
+fn refuses_what_has_no_value(rt: HostRuntime) -> Result<(), Fail> {
+    for (line, input, reason) in REFUSED {
+        is_refused(&rt, rt.alloc(), line, input, reason)?;
+    }
+    Ok(())
+}
+
+/// How a reader of `[1]` behaves: bytes a call, the call that fails, its error, and how the run
+/// ends: the status, and what is written or told.
+type SourceRow = (usize, usize, ErrorKind, u8, &'static str);
+
+const SOURCES: [SourceRow; 9] = [
+    (64, 0, ErrorKind::Other, 0, "[1]\n"),
+    (1, 0, ErrorKind::Other, 0, "[1]\n"),
+    (1, 1, ErrorKind::Interrupted, 0, "[1]\n"),
+    (1, 4, ErrorKind::Interrupted, 0, "[1]\n"),
+    (1, 1, ErrorKind::Other, 3, "stream fault"),
+    (1, 2, ErrorKind::Other, 3, "stream fault"),
+    (1, 3, ErrorKind::BrokenPipe, 3, "stream fault"),
+    (1, 4, ErrorKind::Other, 3, "stream fault"),
+    (1, 2, ErrorKind::OutOfMemory, 3, "no memory"),
+];
+
+/// The run over such a reader ends as the row says.
+fn is_source(rt: &impl Abort, alloc: Global, row: SourceRow) -> Result<(), Fail> {
+    let (most, fails_at, kind, status, told) = row;
+    let words = words(alloc, "json bytes")?;
+    let mut input = Source {
+        rest: b"[1]",
+        most,
+        calls: 0,
+        fails_at,
+        kind,
+    };
+    let mut output = Vec::new(alloc);
+    match run(alloc, &words, &mut input, &mut output) {
+        Ok(()) => are_bytes(rt, output.as_slice(), told),
+        Err(fault) => {
+            is_ending(rt, &fault, (status, told));
+            is_count(rt, output.len(), 0);
+        }
+    }
+    Ok(())
+}
+
+#[test]
+fn readers_that_are_slow_or_fail(rt: HostRuntime) -> Result<(), Fail> {
+    for row in SOURCES {
+        is_source(&rt, rt.alloc(), row)?;
     }
     Ok(())
 }

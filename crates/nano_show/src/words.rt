@@ -1,11 +1,90 @@
 // Which words ask for what.
-ghost use Rattle.std.specs.Prelude.{◌≡◌, ◌≢◌, ◌↔◌, ℕ, List, ◌∷◌, map, All, IsTrue, IfOk, IfSome, IfNone};
+ghost use Rattle.std.specs.Prelude.{◌≡◌, ◌≢◌, ◌↔◌, ℕ, List, ◌∷◌, map, All, IsTrue, IfOk, IfSome, IfNone, codes};
 ghost use Rattle.std.specs.Option.{SomeIff};
 ghost use Rattle.std.specs.Str.Parse.{digits_value};
-ghost use Rattle.nano_show.specs.Requests.{texts, IsU16, AskFor, AskForNothing};
+ghost use Rattle.nano_show.specs.Requests.{texts, IsU16, AskFor, AskForNothing, form_name, kind_name};
 ghost use Rattle.nano_show.specs.Commands.{request_of, IsSound};
 
 use std::alloc::{AllocError, Global};
+
+/// A format that normal forms are shown in.
+#[derive(Clone, Copy)]
+pub enum Form {
+    /// JSON.
+    Json,
+    /// RON.
+    Ron,
+    /// Bytes.
+    Bin,
+}
+
+/// A type whose values are shown.
+#[derive(Clone, Copy)]
+pub enum Kind {
+    /// `u8`.
+    U8,
+    /// `u32`.
+    U32,
+    /// `u64`.
+    U64,
+    /// `i32`.
+    I32,
+    /// `i64`.
+    I64,
+    /// `bool`.
+    Bool,
+    /// `String`.
+    Text,
+    /// `Vec<u8>`.
+    Bytes,
+    /// `HashSet<i32>`.
+    Set,
+    /// `HashMap<String, i32>`.
+    Map,
+    /// `Item` of `nanoserde::records`.
+    Item,
+    /// `Choice` of `nanoserde::records`.
+    Choice,
+}
+
+impl Form {
+    /// The format of this name.
+    fn of(word: &str) -> Option<Form>
+        ensures some { IfSome result (λ form. word.now ≡ form_name form) }
+        ensures none { IfNone result ((form : _) → word.now ≢ form_name form) }
+    {
+        match word {
+            "json" => Some(Form::Json),
+            "ron" => Some(Form::Ron),
+            "bin" => Some(Form::Bin),
+            _ => None,
+        }
+    }
+}
+
+impl Kind {
+    /// The type of this name.
+    fn of(word: &str) -> Option<Kind>
+        ensures some { IfSome result (λ kind. word.now ≡ kind_name kind) }
+        ensures none { IfNone result ((kind : _) → word.now ≢ kind_name kind) }
+    {
+        match word {
+            "u8" => Some(Kind::U8),
+            "u32" => Some(Kind::U32),
+            "u64" => Some(Kind::U64),
+            "i32" => Some(Kind::I32),
+            "i64" => Some(Kind::I64),
+            "bool" => Some(Kind::Bool),
+            "string" => Some(Kind::Text),
+            "bytes" => Some(Kind::Bytes),
+            "set" => Some(Kind::Set),
+            "map" => Some(Kind::Map),
+            "item" => Some(Kind::Item),
+            "choice" => Some(Kind::Choice),
+            _ => None,
+        }
+    }
+}
 
 /// Words that were understood.
 #[derive(Clone, Copy)]
@@ -14,6 +93,8 @@ pub(crate) enum Command<'a> {
     CodeU16s(&'a [String]),
     /// The code of this text, or of none.
     CodeText(Option<&'a str>),
+    /// The normal form of the input, in this format and of this type.
+    Normal(Form, Kind),
 }
 
 impl<'a> Command<'a> {
@@ -24,7 +105,26 @@ impl<'a> Command<'a> {
         ensures sound { IfSome result IsSound }
         ensures unknown { IfNone result (AskForNothing (texts words.now)) }
     {
-        let words = behind(words, "code")?;
+        if let Some(rest) = behind(words, "code") {
+            return Command::parse_code(rest);
+        }
+        match words {
+            [form, kind] => {
+                let form = Form::of(form.as_str())?;
+                let kind = Kind::of(kind.as_str())?;
+                Some(Command::Normal(form, kind))
+            }
+            _ => None,
+        }
+    }
+
+    /// What `code` and these words behind it ask for.
+    fn parse_code(words: &'a [String]) -> Option<Command<'a>>
+        ensures known { IfSome result (λ command.
+            AskFor (codes "code" ∷ texts words.now) (request_of command)) }
+        ensures sound { IfSome result IsSound }
+        ensures unknown { IfNone result (AskForNothing (codes "code" ∷ texts words.now)) }
+    {
         if let Some(numerals) = behind(words, "u16s") {
             if are_u16s(numerals) {
                 return Some(Command::CodeU16s(numerals));
