@@ -1,7 +1,7 @@
 // Enums in JSON: each of its variants written and read back, nested in others, and refused.
 use fleet::{Event, Signal};
 use nano_json::{BothJson, DeJson, SerJson};
-use records::Holder;
+use nano_records::Holder;
 use std::alloc::{AllocError, Global};
 use std::process::Abort;
 use std::test::Fail;

@@ -3,7 +3,7 @@
 use fleet::{Event, Server, Signal};
 use nano_bin::{BothBin, DeBin, DeBinKind, SerBin};
 use nano_json::{BothJson, DeJson, SerJson};
-use records::{Holder, Item};
+use nano_records::{Holder, Item};
 use std::alloc::Global;
 use std::collections::HashMap;
 use std::process::Abort;

@@ -2,8 +2,8 @@
 // place. Each call is a function of its own, and so is what is asserted of its answer.
 use crate::format_tests::server;
 use fleet::Server;
+use nano_records::{Holder, Item};
 use nano_ron::{BothRon, DeRon, DeRonErr, SerRon};
-use records::{Holder, Item};
 use std::alloc::{AllocError, Global};
 use std::process::Abort;
 use std::test::Fail;

@@ -1,8 +1,8 @@
 // Enums in RON: each variant written and read back, nested in others, and refused; and the calls
 // that read and write a name, and content directly behind it, by themselves.
 use fleet::{Event, Signal};
+use nano_records::Holder;
 use nano_ron::{BothRon, DeRon, DeRonErr, DeRonState, SerRon, SerRonState};
-use records::Holder;
 use ron_records::{
     Part, RequiredPart, read_variant_name, unknown_variant, write_fields_variant,
     write_unit_variant, write_variant,

@@ -13,7 +13,7 @@ mod normal;
 
 /// Own types in the three formats: the models of how one is written.
 pub mod records {
-    pub use records::{Choice, Holder, Item, Plain, Test};
+    pub use nano_records::{Choice, Holder, Item, Plain, Test};
 }
 
 pub use convert::json_to_bin;

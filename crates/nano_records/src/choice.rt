@@ -8,7 +8,7 @@ ghost use Rattle.nano_bin.specs.Format.{format_as};
 ghost use Rattle.described_bin.specs.Choices.{choice_format};
 ghost use Rattle.described_json.specs.Choice.{json_choice};
 ghost use Rattle.described_ron.specs.Choice.{ron_choice};
-ghost use Rattle.records.specs.Choice.{seen};
+ghost use Rattle.nano_records.specs.Choice.{seen};
 
 use described::{
     Alone, BorrowedChoices, ChoiceParts, Choices, Either, InTwo, Required, Tupled, Variant, called,

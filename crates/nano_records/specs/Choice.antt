@@ -4,8 +4,8 @@ use Rattle.std.specs.Global.{Global}
 use Rattle.described.specs.Names.{two_of}
 use Rattle.described.specs.declared.choices.Either.{Either}
 use Rattle.described.specs.declared.choices.Either.TheVariants.{First, Later}
-use Rattle.records.specs.declared.choice.Choice.{Choice}
-use Rattle.records.specs.declared.choice.Choice.TheVariants.{A, B, C}
+use Rattle.nano_records.specs.declared.choice.Choice.{Choice}
+use Rattle.nano_records.specs.declared.choice.Choice.TheVariants.{A, B, C}
 
 abbrev pub seen : Choice → Either (Unit {0}) (Either (ℤ × String Global) (ℤ × String Global))
 seen A = First tt
