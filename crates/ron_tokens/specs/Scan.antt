@@ -54,9 +54,9 @@ word_token w =
 
 -- ---- what is passed over
 
--- white space that stays on its line: carriage return, tab, space
+-- what indents are made of: a space
 abbrev pub is_blank : ℕ → Bool
-is_blank c = ((c == 13) || (c == 9)) || (c == 32)
+is_blank c = c == 32
 
 -- a gap begins here, or a comment that has no end
 abbrev pub starts_gap : ℕ → Bool

@@ -47,8 +47,8 @@ impl DeRonState {
 
     /// Passes over the current character and the blanks behind it.
     ///
-    /// The current character may never have been in `i`. The blanks are counted at once: each is
-    /// one byte and one column.
+    /// The current character may never have been in `i`. The blanks are spaces, the white space of
+    /// indents, and are counted at once: each is one byte and one column.
     #[inline]
     fn skip_blanks(&mut self, i: &mut Chars<'_>)
         ensures live { live self.new.cur i.new ≡ behind is_blank (before_nul (held i.old)) }
@@ -139,10 +139,10 @@ fn blanks_len(bytes: &[u8]) -> usize
     bytes.len()
 }
 
-/// Whether a byte is white space that stays on its line.
+/// Whether a byte is what indents are made of.
 #[inline]
 fn is_blank(byte: u8) -> bool
     ensures { result ≡ is_blank byte }
 {
-    byte == b' ' || byte == b'\t' || byte == b'\r'
+    byte == b' '
 }
