@@ -1,5 +1,5 @@
 -- What the program answers to its words and its input.
-use Rattle.std.specs.Prelude.{◌≡◌, ℕ, List, ◌++◌, Option, Some, IfSome, IsUtf8, Result, MatchResult, vec_items}
+use Rattle.std.specs.Prelude.{◌≡◌, ℕ, List, ◌++◌, Option, Some, IfSome, IsUtf8}
 use Rattle.std.specs.Io.KnownBytes.{Appends, IsAtEnd}
 use Rattle.nano_bin.specs.LittleEndian.{little_endian}
 use Rattle.nano_bin.specs.Lists.{written_list}
