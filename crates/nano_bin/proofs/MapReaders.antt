@@ -6,8 +6,10 @@ use Rattle.std.specs.FinMap as table
 use Rattle.std.proofs.lemmas.List.{map-append}
 use Rattle.nano_value.specs.Meaning.{Meaning, paired, both_injective}
 use Rattle.nano_value.specs.Legal.{IsImage}
-use Rattle.nano_value.specs.Tables.{Table, table_means, last_values, insert_all-push}
+use Rattle.std.specs.Map.{keys_of}
+use Rattle.nano_value.specs.Tables.{Table, table_of, table_means, last_values, insert_all-push}
 use Rattle.nano_value.specs.Sets.{MeaningSet, item_set, set_means, marked}
+use Rattle.nano_value.specs.OrderedMaps.{ordered_map_means, ordered_map_means-sorted}
 use Rattle.nano_value.specs.OrderedSets.{ordered_means, ordered_means-sorted}
 use Rattle.bin_bytes.specs.Reading.{Reads, NothingFits}
 use Rattle.bin_bytes.specs.LittleEndian.{SpellsNumber}
@@ -41,6 +43,10 @@ module _ (S R : List ℕ → Meaning → Type 0) where
   pub map_reads : (bytes : List ℕ) (start mid end count : ℕ) (t : Table Meaning) → Reads (SpellsNumber 8) bytes start count mid → ReadsTable S R count bytes mid t end → Reads (SpellsMap S R) bytes start (table_means t) end
   map_reads bytes start mid end count t h r =
       subst (λ x. Reads (SpellsMap S R) bytes start (table_means x) end) (sym r.is) (image_reads map_means bytes start end r.pairs (list_reads (SpellsPair S R) bytes start mid end count r.pairs h r.reads))
+
+  pub ordered_map_reads : {K V : Type 0} (C : K → K → Ordering) (f : K → Meaning) (g : V → Meaning) (es : List (K × V)) → IsStrictlySortedBy C (keys_of es) → (bytes : List ℕ) (start mid end count : ℕ) → Reads (SpellsNumber 8) bytes start count mid → ReadsTable S R count bytes mid (table_of f g es) end → Reads (SpellsMap S R) bytes start (ordered_map_means C f g es) end
+  ordered_map_reads C f g es sorted bytes start mid end count h r =
+      subst (λ m. Reads (SpellsMap S R) bytes start m end) (sym (ordered_map_means-sorted C f g es sorted)) (map_reads bytes start mid end count (table_of f g es) h r)
 
 module _ (S : List ℕ → Meaning → Type 0) where
   -- before the first item

@@ -15,4 +15,5 @@ pub mod Tuples
 pub mod Lists
 pub mod Sets
 pub mod Maps
+pub mod OrderedMaps
 pub mod Variants

@@ -15,7 +15,7 @@ use crate::traits::{BinFormat, BothBin, DeBin, SerBin};
 use bin_bytes::DeBinErr;
 use nano_value::{Key, Value};
 use std::alloc::Global;
-use std::collections::{BTreeSet, HashSet};
+use std::collections::{BTreeMap, BTreeSet, HashMap, HashSet};
 use std::hash::Hash;
 
 /// Reads back what was written, at any offset where it stands and whatever bytes follow: the value
@@ -131,3 +131,22 @@ pub fn same_items_same_bytes<T: BinFormat + Key + Ord + Hash>(
         ⟦<HashSet<T> as BinFormat>⟧.bin.writing.written hashed.now
         ≡ ⟦<BTreeSet<T> as BinFormat>⟧.bin.writing.written ordered.now }
 {}
+
+/// A hashed and an ordered map of the same entries are written as the same bytes, and the same
+/// bytes spell both, so that each reads what the other wrote.
+pub fn same_map_same_bytes<K: BinFormat + Key + Ord + Hash, V: BinFormat>(
+    hashed: &HashMap<K, V>,
+    ordered: &BTreeMap<K, V>,
+)
+    ensures written { table_of K.means V.means hashed.now.entries ≡ table_of K.means V.means ordered.now.entries →
+        ⟦<HashMap<K, V> as BinFormat>⟧.bin.writing.written hashed.now
+        ≡ ⟦<BTreeMap<K, V> as BinFormat>⟧.bin.writing.written ordered.now }
+    ensures means { (table_of K.means V.means hashed.now.entries ≡ table_of K.means V.means ordered.now.entries)
+        ↔ (⟦<HashMap<K, V> as Value>⟧.means hashed.now
+        ≡ ⟦<BTreeMap<K, V> as Value>⟧.means ordered.now) }
+    ensures spelled { (bytes : List ℕ) (m : Meaning) →
+        ⟦<HashMap<K, V> as BinFormat>⟧.bin.spelling.spelled bytes m
+        ↔ ⟦<BTreeMap<K, V> as BinFormat>⟧.bin.spelling.spelled bytes m }
+{
+    let _ordered = ordered.len();
+}

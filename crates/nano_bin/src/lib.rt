@@ -13,6 +13,7 @@ pub mod laws;
 mod lists;
 mod maps;
 mod options;
+mod ordered_maps;
 mod read;
 mod sets;
 mod signed;

@@ -1,8 +1,9 @@
 //! Laws of the definitions that the contracts cite: each function but `read_back` does nothing, and
 //! its contract is the law.
-ghost use Rattle.std.specs.Prelude.{◌≡◌, ◌++◌, ℕ, List, true, IfOk, IfErr};
+ghost use Rattle.std.specs.Prelude.{◌≡◌, ◌↔◌, ◌++◌, ℕ, List, true, IfOk, IfErr};
 ghost use Rattle.nano_value.specs.Meaning.{Meaning};
 ghost use Rattle.nano_value.specs.Sets.{item_set};
+ghost use Rattle.nano_value.specs.Tables.{table_of};
 ghost use Rattle.nano_json.specs.Cut.{Cut};
 ghost use Rattle.nano_json.specs.Items.{OneValue};
 ghost use Rattle.nano_json.specs.SameText.{EntriesDecideText, ItemsDecideText};
@@ -17,9 +18,9 @@ pub use json_tokens::laws::{
     the_end_follows_white_space,
 };
 use json_tokens::{DeJsonErr, DeJsonState};
-use nano_value::Key;
+use nano_value::{Key, Value};
 use std::alloc::Global;
-use std::collections::{BTreeSet, HashSet};
+use std::collections::{BTreeMap, BTreeSet, HashMap, HashSet};
 use std::hash::Hash;
 
 /// What is spelled is legal: each number in its type's range, each count a `usize`.
@@ -119,3 +120,23 @@ pub fn the_items_decide_the_text<T: JsonFormat + Key>()
 pub fn the_entries_decide_the_text<K: JsonFormat + Key, V: JsonFormat>()
     ensures { EntriesDecideText K.means V.means K.order K.json V.json }
 {}
+
+/// A hashed and an ordered map of the same entries are written as the same text at each level, and
+/// the same tokens spell both, so that each reads what the other wrote.
+pub fn maps_of_the_same_entries_are_written_alike<K: JsonFormat + Key + Ord + Hash, V: JsonFormat>(
+    hashed: &HashMap<K, V>,
+    ordered: &BTreeMap<K, V>,
+)
+    ensures written { (d : ℕ)
+        → table_of K.means V.means hashed.now.entries ≡ table_of K.means V.means ordered.now.entries
+        → ⟦<HashMap<K, V> as JsonFormat>⟧.json.writing.text d hashed.now
+        ≡ ⟦<BTreeMap<K, V> as JsonFormat>⟧.json.writing.text d ordered.now }
+    ensures means { (table_of K.means V.means hashed.now.entries ≡ table_of K.means V.means ordered.now.entries)
+        ↔ (⟦<HashMap<K, V> as Value>⟧.means hashed.now
+        ≡ ⟦<BTreeMap<K, V> as Value>⟧.means ordered.now) }
+    ensures spelled { (ts : List Token) (m : Meaning) →
+        ⟦<HashMap<K, V> as JsonFormat>⟧.json.spelling.spelled ts m
+        ↔ ⟦<BTreeMap<K, V> as JsonFormat>⟧.json.spelling.spelled ts m }
+{
+    let _ordered = ordered.len();
+}

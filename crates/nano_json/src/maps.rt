@@ -58,7 +58,7 @@ fn read_hash_map<K: DeJson + Key + Hash, V: DeJson>(
 }
 
 /// Reads a key, a colon and a value. Where it is refused, the state stands anywhere.
-fn read_entry<K: DeJson, V: DeJson>(
+pub(crate) fn read_entry<K: DeJson, V: DeJson>(
     alloc: Global,
     state: &mut DeJsonState,
     input: &mut Chars<'_>,
@@ -87,7 +87,7 @@ impl<K: DeJson + Key + Hash, V: DeJson> DeJson for HashMap<K, V> {
 
 /// Appends a key, a colon and a value, behind a comma unless they are the first. A refused growth
 /// leaves what was written so far.
-fn append_entry<K: SerJson, V: SerJson>(
+pub(crate) fn append_entry<K: SerJson, V: SerJson>(
     alloc: Global,
     key: &K,
     value: &V,

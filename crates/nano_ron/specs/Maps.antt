@@ -1,11 +1,13 @@
 -- Maps: keys with their values between curly brackets. Of each key the last value counts. They are
 -- written in the order of their keys, each on a line of its own, with a comma behind the last.
 use Rattle.std.specs.Prelude.{ℕ, List, []}
+use Rattle.std.specs.declared.cmp.Ordering.{Ordering}
 use Rattle.nano_value.specs.Meaning.{Meaning}
 use Rattle.nano_value.specs.MeaningOrder.{MeaningOrder}
 use Rattle.text_values.specs.Layouts.{with_mark}
 use Rattle.text_values.specs.Maps.{SpellsEntry as SpellsEntryOf, SpellsMap as SpellsMapIn}
 use Rattle.text_values.specs.Maps.{map_of as of_parts, map_format as format_of_parts}
+use Rattle.text_values.specs.OrderedMaps.{ordered_map_format as ordered_format_of}
 use Rattle.ron_tokens.specs.Brackets.{curlies}
 use Rattle.ron_tokens.specs.Ron.{curly_brackets}
 use Rattle.ron_tokens.specs.Styles.{curly_style, entry_style}
@@ -37,3 +39,9 @@ map_of s t = of_parts curlies curly_brackets colon s t
 
 abbrev pub map_format : {K V : Type 0} → MeaningOrder → Format K → Format V → Format (List (K × V))
 map_format o k v = format_of_parts curly_style curly_brackets entry_style (λ h. h) o k v
+
+-- of maps that hold their entries in an order of the keys
+abbrev pub ordered_map_format : {K V : Type 0} → MeaningOrder → (K → K → Ordering) → Format K
+    → Format V → Format (List (K × V))
+ordered_map_format o R k v =
+    ordered_format_of curly_style curly_brackets entry_style (λ h. h) o k v R

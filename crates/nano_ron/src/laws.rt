@@ -1,8 +1,9 @@
 //! Laws of the definitions that the contracts cite: each function but `read_back` does nothing, and
 //! its contract is the law.
-ghost use Rattle.std.specs.Prelude.{◌≡◌, ◌++◌, ℕ, List, true, IfOk, IfErr};
+ghost use Rattle.std.specs.Prelude.{◌≡◌, ◌↔◌, ◌++◌, ℕ, List, true, IfOk, IfErr};
 ghost use Rattle.nano_value.specs.Meaning.{Meaning};
 ghost use Rattle.nano_value.specs.Sets.{item_set};
+ghost use Rattle.nano_value.specs.Tables.{table_of};
 ghost use Rattle.nano_ron.specs.Cut.{Cut};
 ghost use Rattle.nano_ron.specs.Items.{OneValue};
 ghost use Rattle.nano_ron.specs.SameText.{EntriesDecideText, ItemsDecideText};
@@ -13,13 +14,13 @@ ghost use Rattle.nano_ron.specs.Tokens.{At, Cuts, Fits, NoneBeginsAnother};
 ghost use Rattle.nano_ron.specs.Written.{MayFollow};
 
 use crate::traits::{BothRon, RonFormat};
-use nano_value::Key;
+use nano_value::{Key, Value};
 pub use ron_tokens::laws::{
     a_text_is_cut_in_one_way, gaps_are_skipped, taken_tokens_begin_the_text, the_end_follows_gaps,
 };
 use ron_tokens::{DeRonErr, DeRonState};
 use std::alloc::Global;
-use std::collections::{BTreeSet, HashSet};
+use std::collections::{BTreeMap, BTreeSet, HashMap, HashSet};
 use std::hash::Hash;
 
 /// What is spelled is legal: each number in its type's range, each count a `usize`.
@@ -119,3 +120,23 @@ pub fn the_items_decide_the_text<T: RonFormat + Key>()
 pub fn the_entries_decide_the_text<K: RonFormat + Key, V: RonFormat>()
     ensures { EntriesDecideText K.means V.means K.order K.ron V.ron }
 {}
+
+/// A hashed and an ordered map of the same entries are written as the same text at each level, and
+/// the same tokens spell both, so that each reads what the other wrote.
+pub fn maps_of_the_same_entries_are_written_alike<K: RonFormat + Key + Ord + Hash, V: RonFormat>(
+    hashed: &HashMap<K, V>,
+    ordered: &BTreeMap<K, V>,
+)
+    ensures written { (d : ℕ)
+        → table_of K.means V.means hashed.now.entries ≡ table_of K.means V.means ordered.now.entries
+        → ⟦<HashMap<K, V> as RonFormat>⟧.ron.writing.text d hashed.now
+        ≡ ⟦<BTreeMap<K, V> as RonFormat>⟧.ron.writing.text d ordered.now }
+    ensures means { (table_of K.means V.means hashed.now.entries ≡ table_of K.means V.means ordered.now.entries)
+        ↔ (⟦<HashMap<K, V> as Value>⟧.means hashed.now
+        ≡ ⟦<BTreeMap<K, V> as Value>⟧.means ordered.now) }
+    ensures spelled { (ts : List Token) (m : Meaning) →
+        ⟦<HashMap<K, V> as RonFormat>⟧.ron.spelling.spelled ts m
+        ↔ ⟦<BTreeMap<K, V> as RonFormat>⟧.ron.spelling.spelled ts m }
+{
+    let _ordered = ordered.len();
+}

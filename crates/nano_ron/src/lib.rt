@@ -10,6 +10,7 @@ mod lists;
 mod maps;
 mod numbers;
 mod options;
+mod ordered_maps;
 mod parts;
 mod room;
 mod sets;

@@ -60,7 +60,7 @@ fn read_hash_map<K: DeRon + Key + Hash, V: DeRon>(
 }
 
 /// Reads a key, a colon and a value. Where it is refused, the state stands anywhere.
-fn read_entry<K: DeRon, V: DeRon>(
+pub(crate) fn read_entry<K: DeRon, V: DeRon>(
     alloc: Global,
     state: &mut DeRonState,
     input: &mut Chars<'_>,
@@ -89,7 +89,7 @@ impl<K: DeRon + Key + Hash, V: DeRon> DeRon for HashMap<K, V> {
 
 /// Appends an entry of a map at level `d`, on a line of its own: a key, a colon, a value and a
 /// comma. A refused growth leaves what was written so far.
-fn append_entry<K: SerRon, V: SerRon>(
+pub(crate) fn append_entry<K: SerRon, V: SerRon>(
     alloc: Global,
     key: &K,
     value: &V,

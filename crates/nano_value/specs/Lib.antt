@@ -12,5 +12,7 @@ pub mod OrderedSets
 pub mod SetItems
 pub mod MeaningOrder
 pub mod SetOrder
+pub mod OrderedMaps
+pub mod MapOrder
 pub mod Sums
 pub mod LastValues

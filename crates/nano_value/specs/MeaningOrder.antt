@@ -110,7 +110,7 @@ item_of (text bytes) = None
 item_of nothing = None
 item_of (both a b) = Some a
 
-abbrev parts_of : Meaning → Meaning × Meaning
+abbrev pub parts_of : Meaning → Meaning × Meaning
 parts_of (number z) = (nothing, nothing)
 parts_of (text bytes) = (nothing, nothing)
 parts_of nothing = (nothing, nothing)

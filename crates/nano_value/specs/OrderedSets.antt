@@ -37,7 +37,7 @@ no_list_is_unordered (m ∷ ms) [] e = absurd (cc)
 no_list_is_unordered (m ∷ ms) (n ∷ ns) e =
     no_list_is_unordered ms ns (both_injective m (listed ms) n (unordered ns) e).1
 
-unordered_injective : (ms ns : List Meaning) → unordered ms ≡ unordered ns → ms ≡ ns
+pub unordered_injective : (ms ns : List Meaning) → unordered ms ≡ unordered ns → ms ≡ ns
 unordered_injective [] [] e = refl
 unordered_injective [] (n ∷ ns) e = absurd (cc)
 unordered_injective (m ∷ ms) [] e = absurd (cc)
@@ -102,7 +102,7 @@ module _ {K : Type 0} (R : K → K → Ordering) where
   sorted_marked [] h = tt
   sorted_marked (k ∷ ks) h = both_true _ _ (below_marked k ks h.0) (sorted_marked ks h.1)
 
-  is_true : (b : Bool) → T b → b ≡ true
+  pub is_true : (b : Bool) → T b → b ≡ true
   is_true true h = refl
   is_true false h = absurd h
 
@@ -136,7 +136,7 @@ module _ {K : Type 0} (R : K → K → Ordering) where
         let tail : map f xs ≡ map f ys = cc in
         λ i. is_lt (same_answer x z y w e head i) && same_below x y xs ys e tail i
 
-    same_sorted : (xs ys : List K) → map f xs ≡ map f ys
+    pub same_sorted : (xs ys : List K) → map f xs ≡ map f ys
         → is_sorted R (marked xs) ≡ is_sorted R (marked ys)
     same_sorted [] [] h = refl
     same_sorted [] (y ∷ ys) h = absurd (cc)

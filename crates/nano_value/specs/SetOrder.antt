@@ -20,27 +20,27 @@ use Rattle.nano_value.specs.MeaningOrder.{MeaningOrder, Follows, meanings, by_me
 use Rattle.nano_value.specs.MeaningOrder.{order_by, order_by-is, items_of, seen_items, lists_map}
 use Rattle.nano_value.specs.MeaningOrder.{followed}
 
-is_list : Meaning → Bool
+pub is_list : Meaning → Bool
 is_list (number z) = false
 is_list (text bytes) = false
 is_list nothing = true
 is_list (both a b) = is_list b
 
-listed_is_list : (ms : List Meaning) → is_list (listed ms) ≡ true
+pub listed_is_list : (ms : List Meaning) → is_list (listed ms) ≡ true
 unfolding is_list
 listed_is_list [] = refl
 listed_is_list (m ∷ ms) = listed_is_list ms
 
-unordered_is_none : (ms : List Meaning) → is_list (unordered ms) ≡ false
+pub unordered_is_none : (ms : List Meaning) → is_list (unordered ms) ≡ false
 unfolding is_list
 unordered_is_none [] = refl
 unordered_is_none (m ∷ ms) = unordered_is_none ms
 
-seen_unordered : (ms : List Meaning) → items_of (unordered ms) ≡ ms
+pub seen_unordered : (ms : List Meaning) → items_of (unordered ms) ≡ ms
 seen_unordered [] = refl
 seen_unordered (m ∷ ms) = ap (λ l. m ∷ l) (seen_unordered ms)
 
-map_itself : {A : Type 0} (xs : List A) → map (λ x. x) xs ≡ xs
+pub map_itself : {A : Type 0} (xs : List A) → map (λ x. x) xs ≡ xs
 map_itself [] = refl
 map_itself (x ∷ xs) = ap (λ l. x ∷ l) (map_itself xs)
 

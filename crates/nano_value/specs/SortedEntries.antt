@@ -1,6 +1,6 @@
 -- Entries in strict order: what is found in them, and that two lists which answer alike have the
 -- same values.
-use Rattle.std.specs.Prelude.{◌≡◌, ◌+◌, Bool, true, false, cond, ◌&&◌, T, refl, List, [], ◌∷◌, ◌++◌}
+use Rattle.std.specs.Prelude.{◌≡◌, Bool, true, false, cond, ◌&&◌, T, refl, List, [], ◌∷◌, ◌++◌}
 use Rattle.std.specs.Prelude.{map, Some, None, ◌≢◌}
 use Rattle.std.specs.List.{AllByRecursion}
 use Rattle.std.specs.Option.{unwrap_or}

@@ -53,7 +53,7 @@ LegalMap P Q = IsImage table_means (AllOfTable P Q)
 
 -- ---- different tables mean different things
 
-pairs_injective : (ps qs : List (Meaning × Meaning)) → map paired ps ≡ map paired qs → ps ≡ qs
+pub pairs_injective : (ps qs : List (Meaning × Meaning)) → map paired ps ≡ map paired qs → ps ≡ qs
 pairs_injective [] [] e = refl
 pairs_injective [] (q ∷ qs) e = absurd (cc)
 pairs_injective (p ∷ ps) [] e = absurd (cc)

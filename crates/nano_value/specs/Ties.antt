@@ -7,6 +7,7 @@ use Rattle.nano_value.specs.Legal.{LegalOption, LegalList, LegalArray, LegalPair
 use Rattle.nano_value.specs.Legal.{list_weaker, array_weaker, pair_weaker}
 use Rattle.nano_value.specs.Meaning.{Meaning, optional, listed, paired, pair_map}
 use Rattle.nano_value.specs.Sets.{LegalSet, item_set, set_means, set_weaker}
+use Rattle.nano_value.specs.OrderedMaps.{ordered_map_means}
 use Rattle.nano_value.specs.OrderedSets.{ordered_means}
 use Rattle.nano_value.specs.Tables.{LegalMap, table_of, table_means, map_weaker}
 
@@ -89,6 +90,17 @@ module _ {A B : Type 0} {means : A → Meaning} {legal : Meaning → Type 0} {se
       (λ es. table_means (table_of seen seen' es)) (LegalMap allowed allowed')
   map_ties = record {
     means_is = λ i es. table_means (table_of (t.means_is i) (u.means_is i) es);
+    allows = map_weaker legal allowed legal' allowed' t.allows u.allows;
+    is_legal = map_weaker allowed legal allowed' legal' t.is_legal u.is_legal;
+  }
+
+  -- the map that holds its entries in the order R of their keys
+  pub ordered_map_ties :
+      (R : A → A → Ordering)
+      → Ties (ordered_map_means R means means') (LegalMap legal legal')
+      (ordered_map_means R seen seen') (LegalMap allowed allowed')
+  ordered_map_ties R = record {
+    means_is = λ i. ordered_map_means R (t.means_is i) (u.means_is i);
     allows = map_weaker legal allowed legal' allowed' t.allows u.allows;
     is_legal = map_weaker allowed legal allowed' legal' t.is_legal u.is_legal;
   }

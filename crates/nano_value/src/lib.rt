@@ -12,6 +12,7 @@ mod maps;
 mod numbers;
 mod options;
 mod ordered;
+mod ordered_maps;
 mod ordered_sets;
 mod sets;
 mod texts;

@@ -1,9 +1,13 @@
 -- What readers of maps know at the head of the loop, and at its exits.
 use Rattle.std.specs.FinMap as table
+use Rattle.std.specs.declared.cmp.Ordering.{Ordering}
+use Rattle.std.specs.List.Sorted.{IsStrictlySortedBy}
+use Rattle.std.specs.Map.{keys_of}
 use Rattle.std.proofs.Common.{◌≡◌, ◌≢◌, ◌<◌, List, [], ◌∷◌, ◌++◌, ap, sym, ◌∙◌, subst}
 use Rattle.nano_value.specs.Legal.{BothOfPair}
 use Rattle.nano_value.specs.Meaning.{Meaning, usize_bound}
-use Rattle.nano_value.specs.Tables.{Table, table_means, last_values, insert_all-push}
+use Rattle.nano_value.specs.OrderedMaps.{ordered_map_means, ordered_map_means-sorted}
+use Rattle.nano_value.specs.Tables.{Table, table_of, table_means, last_values, insert_all-push}
 use Rattle.text_values.specs.CutLaws.{CutLaws}
 use Rattle.text_values.specs.Cutting.{Cutting}
 use Rattle.text_values.specs.Items.{ListMarks, SpelledList}
@@ -90,6 +94,17 @@ module _ {T : Type 0} {c : Cutting T} {g : Grammar T} (r : CutLaws c g) (marks :
         let all = list_spans r marks (SpellsEntry mark S R) start end h.pairs count list in
         subst (λ (z : Table Meaning). Spans c.cut (SpellsMap marks mark S R) start end (table_means z))
         (sym h.is) (image_spans c map_means start end h.pairs all)
+
+    -- the same of a map that holds its entries in order
+    pub ordered_table_found : {K V : Type 0} (C : K → K → Ordering) (f : K → Meaning)
+        (h : V → Meaning) (es : List (K × V)) → IsStrictlySortedBy C (keys_of es)
+        → (start here end : At T) → TableSoFar S R start here (table_of f h es)
+        → tokens_left r.is_end start < usize_bound → Leaves c.cut (marks.closing ∷ []) here end
+        → Spans c.cut (SpellsMap marks mark S R) start end (ordered_map_means C f h es)
+    ordered_table_found C f h es sorted start here end read few k =
+        subst (Spans c.cut (SpellsMap marks mark S R) start end)
+        (sym (ordered_map_means-sorted C f h es sorted))
+        (table_found start here end (table_of f h es) read few k)
 
     -- where no list of entries fits, no map does
     entries_refused : (start : At T) → NothingFits c.cut (SpelledList marks

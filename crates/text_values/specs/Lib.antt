@@ -9,6 +9,7 @@ pub mod Lists
 pub mod Maps
 pub mod Numbers
 pub mod Options
+pub mod OrderedMaps
 pub mod Pairs
 pub mod PartLaws
 pub mod Parts

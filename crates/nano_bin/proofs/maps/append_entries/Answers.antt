@@ -1,5 +1,4 @@
 use Rattle.std.proofs.Common.{◌∙◌, ◌++◌, sym, ap, append_assoc, refl}
-use Rattle.std.specs.List.{flat_map}
 use Rattle.std.specs.Map.Iter.{deref_pair}
 use Rattle.std.proofs.lemmas.List.Folds.{flat_map-map}
 use Rattle.bin_bytes.proofs.Writers.{write_start, write_place, write_places, cut_back, cut_back_behind, on_err_always}

@@ -1,0 +1,102 @@
+// Ordered maps: the count, and keys with their values, in the order of the keys. A hashed map of
+// the same entries is written alike.
+ghost use Rattle.std.specs.Prelude.{◌≡◌, ◌≤◌, ◌++◌, take, drop, length, IfOk, IfErr, OnOk, OnErr};
+ghost use Rattle.std.specs.BTreeMap.{IsOrdered};
+ghost use Rattle.std.specs.List.{flat_map};
+ghost use Rattle.nano_value.specs.Ascending.{ascending};
+ghost use Rattle.nano_value.specs.Tables.{table_of};
+ghost use Rattle.nano_value.specs.Ties.{ordered_map_ties, seen_ties};
+ghost use Rattle.bin_bytes.specs.Items.{SpellsCount};
+ghost use Rattle.bin_bytes.specs.Reading.{Refuses};
+ghost use Rattle.nano_bin.specs.Format.{format_as, both_are_read};
+ghost use Rattle.nano_bin.specs.Maps.{ReadsTable};
+ghost use Rattle.nano_bin.specs.OrderedMaps.{ordered_map_format};
+ghost use Rattle.nano_bin.specs.Tuples.{SpellsPair, written_pair};
+
+use crate::append::{append_count, append_part};
+use crate::read::read_count;
+use crate::traits::{BinFormat, BothBin, DeBin, SerBin};
+use bin_bytes::{DeBinErr, no_memory};
+use nano_value::{Key, OrderedKey};
+use std::alloc::{AllocError, Global};
+use std::collections::BTreeMap;
+
+impl<K: BinFormat + Key + Ord, V: BinFormat> BinFormat for BTreeMap<K, V> {
+    ghost bin = { format_as (λ x. x.entries) (ordered_map_format K.order K.cmp K.bin V.bin) };
+
+    ghost ties = { seen_ties (ordered_map_ties K.ties V.ties K.cmp) (λ x. x.entries) };
+}
+
+impl<K: SerBin + OrderedKey, V: SerBin> SerBin for BTreeMap<K, V> {
+    fn ser_bin(&self, alloc: Global, output: &mut Vec<u8>) -> Result<(), AllocError> {
+        let start = output.len();
+        append_count(alloc, self.len(), output)?;
+        append_btree_map(alloc, self, output, start)
+    }
+}
+
+/// Appends the entries of an ordered map, or cuts `output` back to its first `start` bytes where
+/// that is refused.
+fn append_btree_map<K: SerBin + Ord, V: SerBin>(
+    alloc: Global,
+    entries: &BTreeMap<K, V>,
+    output: &mut Vec<u8>,
+    start: usize,
+) -> Result<(), AllocError>
+    requires { start ≤ length output.old.items }
+    ensures ok { OnOk result
+        (output.new.items ≡ output.old.items
+        ++ flat_map (written_pair K.bin.writing.written V.bin.writing.written)
+        entries.now.entries) }
+    ensures ordered { OnOk result (ascending K.cmp entries.now.entries ≡ entries.now.entries) }
+    ensures err { OnErr result (output.new.items ≡ take start output.old.items) }
+{
+    for (key, value) in entries {
+        append_part(alloc, key, output, start)?;
+        append_part(alloc, value, output, start)?;
+    }
+    Ok(())
+}
+
+impl<K: DeBin + Key + Ord, V: DeBin> DeBin for BTreeMap<K, V> {
+    ghost is_read = { both_are_read K.is_read V.is_read };
+
+    fn de_bin(alloc: Global, offset: &mut usize, bytes: &[u8]) -> Result<BTreeMap<K, V>, DeBinErr> {
+        let mut at = *offset;
+        let count = read_count(alloc, &mut at, bytes)?;
+        let entries = read_btree_map(alloc, count, &mut at, bytes)?;
+        *offset = at;
+        Ok(entries)
+    }
+}
+
+/// Reads so many keys with their values, one behind the other, into a map. A key that comes again
+/// takes its last value.
+fn read_btree_map<K: DeBin + Key + Ord, V: DeBin>(
+    alloc: Global,
+    count: usize,
+    offset: &mut usize,
+    bytes: &[u8],
+) -> Result<BTreeMap<K, V>, DeBinErr>
+    ensures ok { IfOk result (λ entries.
+        ReadsTable K.bin.spelling.spelled V.bin.spelling.spelled count bytes.now offset.old
+        (table_of K.means V.means entries.entries) offset.new) }
+    ensures ordered { IfOk result (IsOrdered K.cmp) }
+    ensures err { IfErr result
+        (Refuses (SpellsCount count (SpellsPair K.bin.spelling.spelled V.bin.spelling.spelled))
+        (drop offset.old bytes.now)) }
+    ensures kept { OnErr result (offset.new ≡ offset.old) }
+{
+    let mut at = *offset;
+    let mut entries = BTreeMap::new(alloc);
+    for _ in 0..count {
+        let (key, value) = <(K, V)>::de_bin(alloc, &mut at, bytes)?;
+        if entries.insert(key, value).is_err() {
+            return Err(no_memory(at, bytes));
+        }
+    }
+    *offset = at;
+    Ok(entries)
+}
+
+impl<K: BothBin + OrderedKey, V: BothBin> BothBin for BTreeMap<K, V> {}
