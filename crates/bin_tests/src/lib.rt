@@ -19,4 +19,6 @@ mod map_tests;
 #[cfg(test)]
 mod memory_tests;
 #[cfg(test)]
+mod ordered_map_tests;
+#[cfg(test)]
 mod type_tests;

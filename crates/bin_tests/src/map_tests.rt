@@ -30,7 +30,7 @@ fn is_again(rt: &impl Abort, again: &Again, end: usize, written: &[u8]) {
 }
 
 /// The bytes are read as a value, whose code is `written`.
-fn normal<T: BothBin>(rt: &impl Abort, alloc: Global, bytes: &[u8], written: &[u8]) {
+pub(crate) fn normal<T: BothBin>(rt: &impl Abort, alloc: Global, bytes: &[u8], written: &[u8]) {
     is_again(rt, &code_again::<T>(alloc, bytes), bytes.len(), written);
 }
 

@@ -25,6 +25,8 @@ mod memory_tests;
 #[cfg(test)]
 mod number_fault_tests;
 #[cfg(test)]
+mod ordered_map_tests;
+#[cfg(test)]
 mod token_tests;
 #[cfg(test)]
 mod type_tests;

@@ -27,7 +27,7 @@ fn second_text<T: BothJson>(alloc: Global, text: &str) -> Option<String> {
 }
 
 /// Each text is read, and then written as that other text.
-fn normal<T: BothJson>(rt: &impl Abort, alloc: Global, rows: &[(&str, &str)]) {
+pub(crate) fn normal<T: BothJson>(rt: &impl Abort, alloc: Global, rows: &[(&str, &str)]) {
     for (text, expected) in rows {
         is_some_text(rt, first_text::<T>(alloc, text), expected);
         is_some_text(rt, second_text::<T>(alloc, text), expected);

@@ -23,6 +23,8 @@ mod law_tests;
 #[cfg(test)]
 mod memory_tests;
 #[cfg(test)]
+mod ordered_map_tests;
+#[cfg(test)]
 mod place_tests;
 #[cfg(test)]
 mod state_tests;
