@@ -4,7 +4,8 @@ use Rattle.std.specs.Prelude.{codes}
 use Rattle.std.specs.Fmt.{decimal}
 use Rattle.bin_bytes.specs.declared.error.DeBinErr.{DeBinErr}
 use Rattle.bin_bytes.specs.declared.error.DeBinKind.{DeBinKind}
-use Rattle.bin_bytes.specs.declared.error.DeBinKind.TheVariants.{TooShort, NotUtf8, Memory}
+use Rattle.bin_bytes.specs.declared.error.DeBinKind.TheVariants.{TooShort, NotUtf8, Memory, Own}
+use Rattle.bin_bytes.specs.declared.error.DeBinKind.TheVariants.{TrailingBytes}
 use Rattle.bin_bytes.specs.Reading.{Reads}
 use Rattle.bin_bytes.specs.LittleEndian.{SpellsNumber}
 
@@ -34,6 +35,14 @@ IsTextRefusal bytes place error =
     IsTooShort bytes place 8 error
     ⊎ ((count behind : ℕ) × Reads (SpellsNumber 8) bytes place count behind
     × (IsTooShort bytes behind count error ⊎ IsNotUtf8 bytes behind count error))
+
+-- the kind of a refusal of a value, where `TrailingBytes` speaks of what stands behind the value
+abbrev pub kind_within : DeBinKind → DeBinKind
+kind_within TrailingBytes = Own
+kind_within kind = kind
+
+abbrev pub own_within : DeBinErr → DeBinErr
+own_within error = record error { kind = kind_within error.kind }
 
 -- what Debug and Display print
 abbrev pub printed : DeBinErr → List ℕ

@@ -2,7 +2,7 @@
 ghost use Rattle.std.specs.Prelude.{◌≡◌};
 ghost use Rattle.std.specs.Result.{IsOkAnd};
 ghost use Rattle.bin_bytes.specs.declared.error.DeBinKind.{DeBinKind};
-ghost use Rattle.bin_bytes.specs.Errors.{refusal};
+ghost use Rattle.bin_bytes.specs.Errors.{refusal, own_within};
 
 use std::alloc::AllocError;
 use std::error::Error;
@@ -21,6 +21,9 @@ pub enum DeBinKind {
     Memory,
     /// Made by a reader of an own type alone: `o` and `l` are that reader's choice.
     Own,
+    /// Bytes stand behind the value that was to take all of them: `o` is the place behind its code,
+    /// `l` is 0.
+    TrailingBytes,
 }
 
 /// A refusal of a reader: where, how many bytes were wanted, how many there are in all, and why.
@@ -109,6 +112,36 @@ pub fn no_memory(offset: usize, bytes: &[u8]) -> DeBinErr
         l: 0,
         s: bytes.len(),
         kind: DeBinKind::Memory,
+    }
+}
+
+/// The refusal where the code of a value ends at the offset, and bytes stand behind it.
+#[cold]
+#[inline(never)]
+pub fn trailing_bytes(offset: usize, bytes: &[u8]) -> DeBinErr
+    ensures { result ≡ refusal DeBinKind.TrailingBytes offset 0 bytes.now }
+{
+    DeBinErr {
+        o: offset,
+        l: 0,
+        s: bytes.len(),
+        kind: DeBinKind::TrailingBytes,
+    }
+}
+
+/// The refusal of a value, as one of bytes that are to be one value and no more. `TrailingBytes` is
+/// kept for what stands behind the value: made by a reader of an own type, it is handed on as `Own`.
+#[cold]
+#[inline(never)]
+pub fn within_value(error: DeBinErr) -> DeBinErr
+    ensures { result ≡ own_within error }
+{
+    match error.kind {
+        DeBinKind::TrailingBytes => DeBinErr {
+            kind: DeBinKind::Own,
+            ..error
+        },
+        _ => error,
     }
 }
 

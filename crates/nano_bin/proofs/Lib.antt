@@ -3,3 +3,4 @@ pub mod Readers
 pub mod RoundTrip
 pub mod SameBytes
 pub mod Variants
+pub mod Whole

@@ -4,6 +4,7 @@ use Rattle.std.proofs.lemmas.List.{drop-drop}
 use Rattle.std.proofs.Math.Seq.{drop-append_seam}
 use Rattle.bin_bytes.specs.declared.error.DeBinKind.{DeBinKind}
 use Rattle.bin_bytes.specs.declared.error.DeBinKind.TheVariants.{TooShort, NotUtf8, TooLong, Memory, Own}
+use Rattle.bin_bytes.specs.declared.error.DeBinKind.TheVariants.{TrailingBytes}
 use Rattle.nano_bin.specs.Spelling.{IsSpelling, same_fronts}
 use Rattle.bin_bytes.specs.Reading.{NothingFits, Reads}
 use Rattle.nano_bin.specs.Promises.{StandsAt}
@@ -44,3 +45,4 @@ for_memory NotUtf8 h = absurd (h (λ e. cc))
 for_memory TooLong h = absurd (h (λ e. cc))
 for_memory Memory h = refl
 for_memory Own h = absurd (h (λ e. cc))
+for_memory TrailingBytes h = absurd (h (λ e. cc))

@@ -7,6 +7,7 @@ pub mod Spelling
 pub mod Writing
 pub mod Format
 pub mod Promises
+pub mod Whole
 pub mod Numbers
 pub mod Bools
 pub mod Texts

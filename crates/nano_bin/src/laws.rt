@@ -41,6 +41,18 @@ pub fn read_back<T: BothBin>(
     T::de_bin(alloc, offset, bytes)
 }
 
+/// Reads back what was written, where it is all of the bytes: the value that is read means what the
+/// written one does, and the only refusal is for memory.
+pub fn read_back_whole<T: BothBin>(alloc: Global, written: &T, d: &[u8]) -> Result<T, DeBinErr>
+    ensures same { IfOk result (λ read.
+        d.now ≡ T.bin.writing.written written.now → T.means read ≡ T.means written.now) }
+    ensures memory { IfErr result (λ e.
+        d.now ≡ T.bin.writing.written written.now → e.kind ≡ DeBinKind.Memory) }
+{
+    written.known();
+    T::deserialize_bin_whole(alloc, d)
+}
+
 /// Reads two values back whose codes were laid one behind the other.
 pub fn read_both_back<A: BothBin, B: BothBin>(
     alloc: Global,

@@ -1,5 +1,5 @@
 // The format of a type, its writer and its reader.
-use bin_bytes::{DeBinErr, no_memory};
+use bin_bytes::{DeBinErr, no_memory, trailing_bytes, within_value};
 use nano_value::Value;
 use std::alloc::{AllocError, Global};
 
@@ -61,6 +61,7 @@ pub trait DeBin: BinFormat + Drop {
     ghost use Rattle.std.specs.Prelude.{◌≡◌, true, map, drop, IfOk, IfErr, OnErr};
     ghost use Rattle.bin_bytes.specs.Reading.{Fits, Reads, Refuses};
     ghost use Rattle.bin_bytes.specs.Items.{SpellsCount};
+    ghost use Rattle.nano_bin.specs.Whole.{RefusesWhole, IsOfTrailing, NamesTrailing};
 
     /// Reads the value that a front of the bytes from `offset` on spells, and sets `offset` behind
     /// that front.
@@ -82,6 +83,31 @@ pub trait DeBin: BinFormat + Drop {
     {
         let mut offset = 0;
         Self::de_bin(alloc, &mut offset, d)
+    }
+
+    /// Reads the value that all the bytes of `d` together spell.
+    ///
+    /// Where a front of them spells a value, and bytes stand behind it, the refusal is
+    /// `TrailingBytes`, with the place behind that front and no bytes wanted there, or it is for
+    /// memory; nothing else is refused so. Any other refusal that is not for memory says that no
+    /// front of `d` spells a value.
+    fn deserialize_bin_whole(alloc: Global, d: &[u8]) -> Result<Self, DeBinErr>
+        ensures ok { IfOk result (λ value. Self.bin.spelling.spelled d.now (Self.means value)) }
+        ensures err { IfErr result (RefusesWhole Self.bin.spelling.spelled d.now) }
+        ensures trailing { IfErr result (IsOfTrailing Self.bin.spelling.spelled d.now) }
+        ensures behind { IfErr result (NamesTrailing Self.bin.spelling.spelled d.now) }
+    {
+        let mut end = 0;
+        match Self::de_bin(alloc, &mut end, d) {
+            Ok(value) => {
+                if end < d.len() {
+                    Err(trailing_bytes(end, d))
+                } else {
+                    Ok(value)
+                }
+            }
+            Err(error) => Err(within_value(error)),
+        }
     }
 
     /// Reads so many items, one behind the other, and sets `offset` behind the last. A refusal is

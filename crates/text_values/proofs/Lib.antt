@@ -11,5 +11,6 @@ pub mod TokenLaws
 pub mod Tokens
 pub mod TokensLeft
 pub mod TupleReading
+pub mod WholeInputs
 pub mod WrittenItems
 pub mod WrittenLists

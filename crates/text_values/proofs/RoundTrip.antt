@@ -13,7 +13,7 @@ use Rattle.text_values.specs.Tokens.{At, Cuts, Fits, FitsText, cuts_fit}
 use Rattle.text_values.proofs.Tokens.{same_at, same_end}
 
 -- characters that a text may hold are scalar values, and none is NUL
-textual_scalars : (cs : List ℕ) → AllTextual cs → scalars cs ≡ true
+pub textual_scalars : (cs : List ℕ) → AllTextual cs → scalars cs ≡ true
 textual_scalars [] h = refl
 textual_scalars (c ∷ cs) h =
     rw ((and_parts (scalar c) (not (c == 0)) h.0).0, textual_scalars cs h.1) refl

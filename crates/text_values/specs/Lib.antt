@@ -20,4 +20,5 @@ pub mod Textual
 pub mod Tokens
 pub mod Tuples
 pub mod Units
+pub mod Whole
 pub mod Writing
