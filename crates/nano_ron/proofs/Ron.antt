@@ -1,10 +1,11 @@
 -- What the readers of RON know of its tokens.
 use Rattle.std.specs.declared.str.Chars.{Chars}
 use Rattle.std.specs.Str.Iter.{chars_rest}
-use Rattle.std.proofs.Common.{◌≡◌, ◌≢◌, ◌<◌, ◌≤◌, ◌^◌, Bool, true, false, cond, [], length, codes, inl, refl, ap, sym, ◌∙◌, arith}
+use Rattle.std.proofs.Common.{◌≡◌, ◌≢◌, ◌<◌, ◌≤◌, ◌^◌, Bool, true, false, cond, [], length, codes, inl, refl, ap, sym, subst, ◌∙◌, arith}
 use Rattle.std.proofs.lemmas.Slice.Eq.{bytes_eq-Decides}
 use Rattle.nano_text.proofs.LiveText.{live_fewer}
-use Rattle.nano_value.specs.Meaning.{usize_bound}
+use Rattle.nano_value.specs.Meaning.{Meaning, usize_bound}
+use Rattle.nano_value.specs.Ties.{Ties}
 use Rattle.text_values.specs.CutLaws.{CutLaws}
 use Rattle.text_values.proofs.TokensLeft.{tokens_left}
 use Rattle.ron_tokens.specs.Cut.{Cut, nothing}
@@ -15,6 +16,7 @@ use Rattle.ron_tokens.specs.Token.{Token, ident, curly_close, block_close, end}
 use Rattle.ron_tokens.specs.declared.state.DeRonState.{DeRonState}
 use Rattle.ron_tokens.proofs.Cuts.{cut_one_way}
 use Rattle.ron_tokens.proofs.Shorter.{cut_takes}
+use Rattle.nano_ron.specs.Format.{Format}
 
 pub begins_no_end : (t : Token) → MayBegin t → is_end t ≡ false
 begins_no_end end h = absurd h
@@ -66,3 +68,12 @@ curly_is _ e = cc e
 
 pub not_curly : (t : Token) → is_curly_close t ≡ false → t ≢ curly_close
 not_curly t e is = let x = sym e ∙ ap is_curly_close is in cc x
+
+-- ---- what is written
+
+-- what is legal for the type is legal for the format
+pub legal_there : {A : Type 0} {means : A → Meaning} {legal : Meaning → Type 0} (f : Format A)
+    → Ties means legal f.writing.means f.spelling.legal → (x : A) → legal (means x)
+    → f.spelling.legal (f.writing.means x)
+legal_there {means = means} f t x h =
+    subst f.spelling.legal (λ i. sym t.means_is i x) (t.allows (means x) h)

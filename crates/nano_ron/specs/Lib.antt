@@ -22,6 +22,7 @@ pub use Rattle.text_values.specs.Tokens
 pub use Rattle.text_values.specs.Items
 pub use Rattle.text_values.specs.Parts
 pub use Rattle.text_values.specs.Layouts
+pub use Rattle.text_values.specs.Whole
 pub use Rattle.nano_value.specs.Ties
 -- RON's own
 pub mod Spelling

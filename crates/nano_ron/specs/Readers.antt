@@ -1,8 +1,9 @@
 -- What the readers of values answer.
-use Rattle.std.specs.Prelude.{◌≡◌, ℕ, List, [], true, false, Result, IfErr, string_bytes}
+use Rattle.std.specs.Prelude.{◌≡◌, ◌↔◌, ℕ, List, [], true, false, Result, IfOk, IfErr, string_bytes}
 use Rattle.text_values.specs.Tokens.{At, Reads as ReadsIn, ReadsText as ReadsTextIn}
+use Rattle.text_values.specs.Whole.{FitsWhole, GoesOn, NothingFitsWhole, end_message}
 use Rattle.ron_tokens.specs.Cut.{Cut}
-use Rattle.ron_tokens.specs.Token.{Token}
+use Rattle.ron_tokens.specs.Token.{Token, end as end_token}
 use Rattle.ron_tokens.specs.declared.error.DeRonErr.{DeRonErr}
 use Rattle.nano_ron.specs.Spelling.{NothingFits, NothingFitsText}
 
@@ -29,3 +30,21 @@ Refuses spelled start result = IfErr result (Tells (NothingFits spelled start))
 abbrev pub RefusesText : {V A : Type 0} → (List Token → V → Type 0) → List ℕ
     → Result A DeRonErr → Type 0
 RefusesText spelled text result = IfErr result (Tells (NothingFitsText spelled text))
+
+-- a value that is read is spelled by the whole input, by what it means
+abbrev pub ReadsWhole : {V A : Type 0} → (List Token → V → Type 0) → (A → V) → List ℕ
+    → Result A DeRonErr → Type 0
+ReadsWhole spelled means bytes result =
+    IfOk result (λ value. FitsWhole Cut spelled end_token bytes (means value))
+
+-- an error says that the whole input spells no value
+abbrev pub RefusesWhole : {V A : Type 0} → (List Token → V → Type 0) → List ℕ
+    → Result A DeRonErr → Type 0
+RefusesWhole spelled bytes result = IfErr result (Tells (NothingFitsWhole Cut spelled end_token bytes))
+
+-- an error that is not for want of memory has the message `Cannot parse end ` just where a value
+-- fits, and another token or a NUL stands behind it
+abbrev pub NamesTheEnd : {V A : Type 0} → (List Token → V → Type 0) → List ℕ
+    → Result A DeRonErr → Type 0
+NamesTheEnd spelled bytes result = IfErr result (λ e.
+    e.memory ≡ false → (string_bytes e.msg ≡ end_message) ↔ GoesOn Cut spelled end_token bytes)

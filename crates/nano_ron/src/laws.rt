@@ -1,5 +1,5 @@
-//! Laws of the definitions that the contracts cite: each function but `read_back` does nothing, and
-//! its contract is the law.
+//! Laws of the definitions that the contracts cite: each function but those that read a value back
+//! does nothing, and its contract is the law.
 ghost use Rattle.std.specs.Prelude.{◌≡◌, ◌↔◌, ◌++◌, ℕ, List, true, IfOk, IfErr};
 ghost use Rattle.nano_value.specs.Meaning.{Meaning};
 ghost use Rattle.nano_value.specs.Sets.{item_set};
@@ -9,8 +9,9 @@ ghost use Rattle.nano_ron.specs.Items.{OneValue};
 ghost use Rattle.nano_ron.specs.SameText.{EntriesDecideText, ItemsDecideText};
 ghost use Rattle.nano_ron.specs.Spelling.{BeginsValue, StartsWith};
 ghost use Rattle.nano_ron.specs.Ron.{none};
-ghost use Rattle.nano_ron.specs.Token.{Token};
+ghost use Rattle.nano_ron.specs.Token.{Token, end};
 ghost use Rattle.nano_ron.specs.Tokens.{At, Cuts, Fits, NoneBeginsAnother};
+ghost use Rattle.nano_ron.specs.Whole.{FitsWhole};
 ghost use Rattle.nano_ron.specs.Written.{MayFollow};
 
 use crate::traits::{BothRon, RonFormat};
@@ -47,6 +48,13 @@ pub fn each_spelling_begins_a_value<T: RonFormat>()
 pub fn at_most_one_fits<T: RonFormat>()
     ensures { (start : At Token) (m n : Meaning) → Fits Cut T.ron.spelling.spelled start m
         → Fits Cut T.ron.spelling.spelled start n → m ≡ n }
+{}
+
+/// A whole input spells at most one value.
+pub fn at_most_one_fits_whole<T: RonFormat>()
+    ensures { (bytes : List ℕ) (m n : Meaning)
+        → FitsWhole Cut T.ron.spelling.spelled end bytes m
+        → FitsWhole Cut T.ron.spelling.spelled end bytes n → m ≡ n }
 {}
 
 /// What is written of a value at a level, with anything behind it that may follow a value, is cut
@@ -97,6 +105,21 @@ pub fn read_back<T: BothRon>(alloc: Global, written: &T) -> Result<T, DeRonErr>
     written_tokens_spell_a_sound_value(written);
     match written.serialize_ron(alloc) {
         Ok(text) => T::deserialize_ron(alloc, text.as_str()),
+        Err(_refused) => Err(DeRonState::new(alloc).err_memory(alloc)),
+    }
+}
+
+/// Writes a value and reads it again as a whole input. A sound value is read back as one that means
+/// the same, and the only refusal is for memory.
+pub fn read_back_whole<T: BothRon>(alloc: Global, written: &T) -> Result<T, DeRonErr>
+    ensures same { IfOk result (λ read.
+        T.ron.sound written.now → T.means read ≡ T.means written.now) }
+    ensures memory { IfErr result (λ e. T.ron.sound written.now → e.memory ≡ true) }
+{
+    written.known();
+    written_tokens_spell_a_sound_value(written);
+    match written.serialize_ron(alloc) {
+        Ok(text) => T::deserialize_ron_whole(alloc, text.as_str()),
         Err(_refused) => Err(DeRonState::new(alloc).err_memory(alloc)),
     }
 }

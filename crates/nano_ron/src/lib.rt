@@ -5,6 +5,7 @@
 mod bools;
 mod boxes;
 mod error;
+mod input;
 pub mod laws;
 mod lists;
 mod maps;

@@ -1,4 +1,5 @@
 // The traits of values that can be written as RON and read from it.
+use crate::input::{expect_end, within_value};
 use nano_value::Value;
 use ron_tokens::{DeRonErr, DeRonState, SerRonState};
 use std::alloc::{AllocError, Global};
@@ -45,6 +46,7 @@ pub trait DeRon: RonFormat + Drop {
     ghost use Rattle.std.specs.Prelude.{◌≡◌, OnErr};
     ghost use Rattle.nano_text.specs.Place.{live_text};
     ghost use Rattle.nano_ron.specs.Readers.{Reads, Refuses, ReadsText, RefusesText};
+    ghost use Rattle.nano_ron.specs.Readers.{ReadsWhole, RefusesWhole, NamesTheEnd};
     ghost use Rattle.nano_ron.specs.State.{at, ended};
 
     /// Reads the value that the tokens from the pending one on spell. The token behind the value is
@@ -76,6 +78,34 @@ pub trait DeRon: RonFormat + Drop {
         state.next(&mut chars);
         state.next_tok(alloc, &mut chars)?;
         Self::de_ron(alloc, &mut state, &mut chars)
+    }
+
+    /// Reads the value that is the whole input: no token stands behind it, and no NUL anywhere.
+    /// White space and comments may stand around it and inside it.
+    ///
+    /// Where a value fits the beginning of the text, and another token or a NUL stands behind it,
+    /// the message of the error is `Cannot parse end `, or the error is for want of memory; nothing
+    /// else is refused so, and an error of the value's own reader that has this very message loses
+    /// the space at its end. Any other error that is not for want of memory says that no value is
+    /// spelled at the beginning of the text, with one more token or the end behind it.
+    fn deserialize_ron_whole(alloc: Global, input: &str) -> Result<Self, DeRonErr>
+        ensures fits { ReadsWhole Self.ron.spelling.spelled Self.means input.now result }
+        ensures refused { RefusesWhole Self.ron.spelling.spelled input.now result }
+        ensures trailing { NamesTheEnd Self.ron.spelling.spelled input.now result }
+    {
+        let mut state = DeRonState::new(alloc);
+        let mut characters = input.chars();
+        state.next(&mut characters);
+        if let Err(error) = state.next_tok(alloc, &mut characters) {
+            return Err(within_value(error));
+        }
+        match Self::de_ron(alloc, &mut state, &mut characters) {
+            Ok(value) => {
+                expect_end(alloc, &state, input)?;
+                Ok(value)
+            }
+            Err(error) => Err(within_value(error)),
+        }
     }
 }
 

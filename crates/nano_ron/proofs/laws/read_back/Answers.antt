@@ -1,19 +1,9 @@
-use Rattle.std.proofs.Common.{◌∙◌, sym, subst}
+use Rattle.std.proofs.Common.{◌∙◌}
 use Rattle.std.proofs.lemmas.Bool.{true_from_ne_false}
 use Rattle.std.proofs.lemmas.Result.{IfErr-weaker, IfOk-weaker}
-use Rattle.nano_value.specs.Meaning.{Meaning}
-use Rattle.nano_value.specs.Ties.{Ties}
 use Rattle.text_values.proofs.RoundTrip.{written_fits, one_fits_text}
-use Rattle.nano_ron.specs.Format.{Format}
-use Rattle.nano_ron.proofs.Ron.{ron_laws}
+use Rattle.nano_ron.proofs.Ron.{ron_laws, legal_there}
 use Rattle.nano_ron.proofs.laws.read_back.Goals as goal
-
--- what is legal for the type is legal for the format
-legal_there : {A : Type 0} {means : A → Meaning} {legal : Meaning → Type 0} (f : Format A)
-    → Ties means legal f.writing.means f.spelling.legal → (x : A) → legal (means x)
-    → f.spelling.legal (f.writing.means x)
-legal_there {means = means} f t x h =
-    subst f.spelling.legal (λ i. sym t.means_is i x) (t.allows (means x) h)
 
 pub returns-in-Ok-clause-same : goal.returns-in-Ok-clause-same
 returns-in-Ok-clause-same g c =
