@@ -22,3 +22,5 @@ mod memory_tests;
 mod ordered_map_tests;
 #[cfg(test)]
 mod type_tests;
+#[cfg(test)]
+mod whole_tests;

@@ -41,6 +41,11 @@ fn refusal_alone<T: DeBin>(alloc: Global, code: &[u8]) -> Option<DeBinErr> {
     T::deserialize_bin(alloc, code).err()
 }
 
+/// The refusal of the code as a whole input, if it is refused.
+fn refusal_whole<T: DeBin>(alloc: Global, code: &[u8]) -> Option<DeBinErr> {
+    T::deserialize_bin_whole(alloc, code).err()
+}
+
 /// The code was read, or refused for memory.
 fn is_read_or_refused(rt: &impl Abort, told: Option<DeBinErr>) {
     assert!(rt; told.is_none_or(|error| error.kind == DeBinKind::Memory));
@@ -67,6 +72,7 @@ fn whole_or_not<T: BothBin>(
         written_or_not(rt, alloc, &value, code.len());
         is_read_or_kept(rt, refusal::<T>(alloc, 0, code), code.len());
         is_read_or_refused(rt, refusal_alone::<T>(alloc, code));
+        is_read_or_refused(rt, refusal_whole::<T>(alloc, code));
     }
 }
 

@@ -31,4 +31,6 @@ mod token_tests;
 #[cfg(test)]
 mod type_tests;
 #[cfg(test)]
+mod whole_tests;
+#[cfg(test)]
 mod write_tests;

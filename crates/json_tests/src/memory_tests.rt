@@ -3,7 +3,7 @@
 use crate::checks::holds;
 use crate::helper_tests::{MADE, MadeRow, call, made};
 use crate::token_tests::state_of;
-use nano_json::{DeJsonErr, DeJsonState, DeJsonTok};
+use nano_json::{DeJson, DeJsonErr, DeJsonState, DeJsonTok};
 use std::alloc::Global;
 use std::process::Abort;
 
@@ -140,6 +140,34 @@ fn no_refused_growth_hides_a_fault(rt: HostRuntime) {
     for row in REFUSED {
         let is_so = wants_memory_or_tells(rt.alloc(), row.0, row.1, row.2);
         holds(&rt, is_so, row.0);
+    }
+}
+
+/// Whole texts, and the messages of their refusals.
+const WHOLE: &[(&str, &str)] = &[
+    ("[1,2,] ", ""),
+    ("[1] 2", "Cannot parse end "),
+    ("[1]\0", "Cannot parse end "),
+    ("[1 2]", "Unexpected token U64(2) expected , or ] "),
+];
+
+/// Whether a whole text is read where nothing is to be told, is refused with this message, or wants
+/// memory.
+fn is_whole_or_wants_memory(alloc: Global, text: &str, expected: &str) -> bool {
+    match Vec::<u8>::deserialize_json_whole(alloc, text) {
+        Ok(_value) => expected.is_empty(),
+        Err(e) => is_want_or_tells(&e, expected),
+    }
+}
+
+#[test]
+fn no_refused_growth_is_told_of_a_whole_input(rt: HostRuntime) {
+    for row in WHOLE {
+        holds(
+            &rt,
+            is_whole_or_wants_memory(rt.alloc(), row.0, row.1),
+            row.0,
+        );
     }
 }
 

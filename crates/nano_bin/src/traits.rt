@@ -89,8 +89,9 @@ pub trait DeBin: BinFormat + Drop {
     ///
     /// Where a front of them spells a value, and bytes stand behind it, the refusal is
     /// `TrailingBytes`, with the place behind that front and no bytes wanted there, or it is for
-    /// memory; nothing else is refused so. Any other refusal that is not for memory says that no
-    /// front of `d` spells a value.
+    /// memory; nothing else is refused so, and a refusal of the value's own reader that has this
+    /// kind is handed on as `Own`. Any other refusal that is not for memory says that no front of
+    /// `d` spells a value.
     fn deserialize_bin_whole(alloc: Global, d: &[u8]) -> Result<Self, DeBinErr>
         ensures ok { IfOk result (λ value. Self.bin.spelling.spelled d.now (Self.means value)) }
         ensures err { IfErr result (RefusesWhole Self.bin.spelling.spelled d.now) }

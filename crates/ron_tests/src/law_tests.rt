@@ -15,6 +15,7 @@ fn laws_of_texts_and_types(_rt: HostRuntime) {
     laws::no_spelling_begins_another::<Vec<u8>>();
     laws::each_spelling_begins_a_value::<Vec<u8>>();
     laws::at_most_one_fits::<Vec<u8>>();
+    laws::at_most_one_fits_whole::<Vec<u8>>();
     laws::the_items_decide_the_text::<u8>();
     laws::the_entries_decide_the_text::<u8, bool>();
 }

@@ -35,4 +35,6 @@ mod type_tests;
 #[cfg(test)]
 mod value_tests;
 #[cfg(test)]
+mod whole_tests;
+#[cfg(test)]
 mod write_tests;

@@ -2,6 +2,7 @@
 // memory.
 use crate::checks::is_told;
 use crate::helper_tests::call;
+use nano_ron::DeRon;
 use ron_tokens::{DeRonErr, DeRonState, SerRonState};
 use std::alloc::Global;
 use std::process::Abort;
@@ -78,6 +79,26 @@ fn row_is_told(rt: &impl Abort, alloc: Global, row: &(&str, &str, &str)) {
 fn no_refused_growth_is_told_as_another_fault(rt: HostRuntime) {
     for row in CALLS {
         row_is_told(&rt, rt.alloc(), row);
+    }
+}
+
+/// Whole texts, and what is told of them, if they are refused.
+const WHOLE: &[(&str, &str)] = &[
+    ("[1,2,] // x", ""),
+    ("[1] 2", "Cannot parse end "),
+    ("[1]\0", "Cannot parse end "),
+    ("[1 2]", "Unexpected token U64(2) expected , or ] "),
+];
+
+/// What is told of a whole text, if it is refused.
+fn told_whole(alloc: Global, text: &str) -> Option<DeRonErr> {
+    Vec::<u8>::deserialize_ron_whole(alloc, text).err()
+}
+
+#[test]
+fn no_refused_growth_is_told_of_a_whole_input(rt: HostRuntime) {
+    for row in WHOLE {
+        is_row(&rt, &told_whole(rt.alloc(), row.0), row.0, row.1);
     }
 }
 
