@@ -1,5 +1,9 @@
 -- The names of fields, as their pairs are nested; and parts that are told in a row.
-use Rattle.std.specs.Prelude.{ℕ, List, []}
+-- What an own type's file needs of `nano_value` is passed on.
+pub use Rattle.nano_value.specs.Ties.{tied}
+pub use Rattle.nano_value.specs.Sums.{LegalVariant}
+use Prim.Native.String.{String}
+use Rattle.std.specs.Prelude.{ℕ, List, [], codes}
 
 pub data Names : Type 0 where
   name : List ℕ → Names
@@ -19,38 +23,57 @@ abbrev pub second : Names → Names
 second (name n) = name n
 second (names a b) = b
 
+-- what is told of an own type: the names of its parts, and how a value is seen as what they hold
+pub record Description (A B : Type 0) : Type 0 where
+  pub the_names : Names
+  pub view : A → B
+
+abbrev pub description : {A B : Type 0} → Names → (A → B) → Description A B
+description told seen = record { the_names = told; view = seen }
+
 -- ---- so many names in a row
 
-abbrev pub two_names : List ℕ → List ℕ → Names
+abbrev pub one_name : String → Names
+one_name a = name (codes a)
+
+abbrev pub two_names : String → String → Names
 two_names a b =
-    names (name a) (name b)
+    names (one_name a) (one_name b)
 
-abbrev pub three_names : List ℕ → List ℕ → List ℕ → Names
+abbrev pub three_names : String → String → String → Names
 three_names a b c =
-    names (name a) (names (name b) (name c))
+    names (one_name a) (two_names b c)
 
-abbrev pub four_names : List ℕ → List ℕ → List ℕ → List ℕ → Names
+abbrev pub four_names : String → String → String → String → Names
 four_names a b c d =
-    names (names (name a) (name b)) (names (name c) (name d))
+    names (two_names a b) (two_names c d)
 
-abbrev pub five_names : List ℕ → List ℕ → List ℕ → List ℕ → List ℕ → Names
+abbrev pub five_names : String → String → String → String → String → Names
 five_names a b c d e =
-    names (names (name a) (name b)) (names (name c) (names (name d) (name e)))
+    names (two_names a b) (three_names c d e)
 
-abbrev pub six_names : List ℕ → List ℕ → List ℕ → List ℕ → List ℕ → List ℕ → Names
+abbrev pub six_names : String → String → String → String → String → String → Names
 six_names a b c d e f =
-    names (names (name a) (names (name b) (name c))) (names (name d) (names (name e) (name f)))
+    names (three_names a b c) (three_names d e f)
 
-abbrev pub seven_names : List ℕ → List ℕ → List ℕ → List ℕ → List ℕ → List ℕ → List ℕ → Names
+abbrev pub seven_names : String → String → String → String → String → String → String → Names
 seven_names a b c d e f g =
-    names (names (name a) (names (name b) (name c)))
-    (names (names (name d) (name e)) (names (name f) (name g)))
+    names (three_names a b c) (four_names d e f g)
 
-abbrev pub eight_names : List ℕ → List ℕ → List ℕ → List ℕ → List ℕ → List ℕ → List ℕ → List ℕ
+abbrev pub eight_names : String → String → String → String → String → String → String → String
     → Names
 eight_names a b c d e f g h =
-    names (names (names (name a) (name b)) (names (name c) (name d)))
-    (names (names (name e) (name f)) (names (name g) (name h)))
+    names (four_names a b c d) (four_names e f g h)
+
+-- ---- the name of a variant
+
+-- with no named fields behind it
+abbrev pub variant_name : String → Names
+variant_name a = names (one_name a) (name [])
+
+-- with the names of the fields behind it
+abbrev pub variant_names : String → Names → Names
+variant_names a inside = names (one_name a) inside
 
 -- ---- so many parts in a row
 

@@ -1,7 +1,7 @@
 // Own enums.
 ghost use Rattle.std.specs.Prelude.{◌≡◌};
 ghost use Rattle.nano_value.specs.Sums.{LegalVariant};
-ghost use Rattle.described.specs.Names.{Names};
+ghost use Rattle.described.specs.Names.{Description};
 
 use crate::choices::{BorrowedChoices, Choices};
 
@@ -10,19 +10,17 @@ pub trait Choice: Drop {
     /// The variants.
     type Variants: Choices + Drop;
 
-    /// The variants' names, each with those of its content.
-    ghost the_names: { Names };
-
-    /// The content of the variant that a value is.
-    ghost view: { Self → Self.Variants.Values };
+    /// The variants' names, each with those of its content, and how an enum is seen as the content
+    /// of the variant that it is.
+    ghost told: { Description Self Self.Variants.Values };
 
     /// The variants, with their names.
     fn variants() -> Self::Variants
-        ensures { Self.Variants.names_of result ≡ the_names };
+        ensures { Self.Variants.names_of result ≡ told.the_names };
 
     /// The enum of this content.
     fn make(values: <Self::Variants as Choices>::Values) -> Self
-        ensures { view result ≡ values };
+        ensures { told.view result ≡ values };
 }
 
 /// An own enum that is seen by references to the content of its variant.
@@ -32,7 +30,7 @@ where
 {
     /// The content, by reference.
     fn refs(&'a self) -> <Self::Variants as BorrowedChoices<'a>>::Refs
-        ensures { Self.Variants.BorrowedChoices.values result ≡ Self.view self.now };
+        ensures { Self.Variants.BorrowedChoices.values result ≡ Self.told.view self.now };
 }
 
 /// Does nothing. Its contract says that what the value means is legal.
@@ -40,7 +38,7 @@ pub fn known_choice<'a, E: ChoiceParts<'a>>(value: &'a E)
 where
     E::Variants: BorrowedChoices<'a>,
     ensures { LegalVariant E.Variants.Choices.legals
-        (E.Variants.Choices.means 0 (E.view value.now)) }
+        (E.Variants.Choices.means 0 (E.told.view value.now)) }
 {
     let refs = value.refs();
     <E::Variants as BorrowedChoices<'a>>::known(&refs);

@@ -26,26 +26,6 @@ pub struct Optional<T> {
     pub of: PhantomData<T>,
 }
 
-/// A field that must be there.
-pub fn must<T>(name: &'static str) -> Required<T>
-    ensures { result.name.now ≡ name.now }
-{
-    Required {
-        name,
-        of: PhantomData,
-    }
-}
-
-/// A field that may be missing.
-pub fn may<T>(name: &'static str) -> Optional<T>
-    ensures { result.name.now ≡ name.now }
-{
-    Optional {
-        name,
-        of: PhantomData,
-    }
-}
-
 /// One field, or fields and more fields.
 pub trait Shape {
     /// The values of the fields.
@@ -59,6 +39,26 @@ pub trait Shape {
 
     /// Which meanings the values of a program have.
     ghost legal: { Meaning → Type 0 };
+}
+
+/// Fields that are made of their names.
+pub trait FromNames: Shape {
+    /// The name of one field, or the names of fields and of more fields.
+    type Texts;
+
+    /// The fields' names.
+    ghost names_in: { Self.Texts → Names };
+
+    /// The fields of these names.
+    fn of_names(texts: Self::Texts) -> Self
+        ensures { Self.names_of result ≡ names_in texts };
+}
+
+/// The fields of these names: of one field its name, of more of them a row of names.
+pub fn named<F: FromNames>(texts: <F as FromNames>::Texts) -> F
+    ensures { F.Shape.names_of result ≡ F.FromNames.names_in texts }
+{
+    F::of_names(texts)
 }
 
 /// Fields whose values are at hand by reference.
@@ -84,6 +84,19 @@ impl<T: Value + Drop> Shape for Required<T> {
     ghost legal = { T.legal };
 }
 
+impl<T: Value + Drop> FromNames for Required<T> {
+    type Texts = &'static str;
+
+    ghost names_in = { λ t. name t.now };
+
+    fn of_names(texts: &'static str) -> Required<T> {
+        Required {
+            name: texts,
+            of: PhantomData,
+        }
+    }
+}
+
 impl<'a, T: Value + Drop + 'a> Borrowed<'a> for Required<T> {
     type Refs = &'a T;
 
@@ -104,6 +117,19 @@ impl<T: Value + Drop> Shape for Optional<T> {
     ghost legal = { LegalOption T.legal };
 }
 
+impl<T: Value + Drop> FromNames for Optional<T> {
+    type Texts = &'static str;
+
+    ghost names_in = { λ t. name t.now };
+
+    fn of_names(texts: &'static str) -> Optional<T> {
+        Optional {
+            name: texts,
+            of: PhantomData,
+        }
+    }
+}
+
 impl<'a, T: Value + Drop + 'a> Borrowed<'a> for Optional<T> {
     type Refs = &'a Option<T>;
 
@@ -122,6 +148,17 @@ impl<A: Shape, B: Shape> Shape for (A, B) {
     ghost means = { λ v. paired (pair_map A.means B.means v) };
 
     ghost legal = { LegalPair A.legal B.legal };
+}
+
+impl<A: FromNames, B: FromNames> FromNames for (A, B) {
+    type Texts = (A::Texts, B::Texts);
+
+    ghost names_in = { λ t. names (A.names_in t.0) (B.names_in t.1) };
+
+    fn of_names(texts: (A::Texts, B::Texts)) -> (A, B) {
+        let (first, second) = texts;
+        (A::of_names(first), B::of_names(second))
+    }
 }
 
 impl<'a, A: Borrowed<'a>, B: Borrowed<'a>> Borrowed<'a> for (A, B) {

@@ -16,7 +16,8 @@ pub use choices::{
     BorrowedChoices, Choices, Either, Label, Name, NamedVariant, Variant, called, variant,
 };
 pub use contents::{Alone, OnePart, Tupled, no_content, one_part, tuple};
-pub use fields::{Borrowed, Optional, Required, Shape, may, must};
+pub use fields::{Borrowed, FromNames, Optional, Required, Shape, named};
+pub use nano_value::Value;
 pub use record::{Parts, Record, known_record};
 pub use rows::{
     InEight, InFive, InFour, InSeven, InSix, InThree, InTwo, eight, eight_apart, five, five_apart,

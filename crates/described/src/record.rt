@@ -1,6 +1,6 @@
 // Own structs.
 ghost use Rattle.std.specs.Prelude.{◌≡◌};
-ghost use Rattle.described.specs.Names.{Names};
+ghost use Rattle.described.specs.Names.{Description};
 
 use crate::fields::{Borrowed, Shape};
 
@@ -9,19 +9,16 @@ pub trait Record: Drop {
     /// The fields.
     type Fields: Shape + Drop;
 
-    /// The fields' names.
-    ghost the_names: { Names };
-
-    /// The values of the fields.
-    ghost view: { Self → Self.Fields.Values };
+    /// The fields' names, and how a struct is seen as their values.
+    ghost told: { Description Self Self.Fields.Values };
 
     /// The fields, with their names.
     fn fields() -> Self::Fields
-        ensures { Self.Fields.names_of result ≡ the_names };
+        ensures { Self.Fields.names_of result ≡ told.the_names };
 
     /// The struct of these values.
     fn make(values: <Self::Fields as Shape>::Values) -> Self
-        ensures { view result ≡ values };
+        ensures { told.view result ≡ values };
 }
 
 /// An own struct that is seen by references to its fields.
@@ -31,14 +28,14 @@ where
 {
     /// The values, by reference.
     fn refs(&'a self) -> <Self::Fields as Borrowed<'a>>::Refs
-        ensures { Self.Fields.Borrowed.values result ≡ Self.view self.now };
+        ensures { Self.Fields.Borrowed.values result ≡ Self.told.view self.now };
 }
 
 /// Does nothing. Its contract says that what the values of the fields mean is legal.
 pub fn known_record<'a, R: Parts<'a>>(value: &'a R)
 where
     R::Fields: Borrowed<'a>,
-    ensures { R.Fields.Shape.legal (R.Fields.Shape.means (R.view value.now)) }
+    ensures { R.Fields.Shape.legal (R.Fields.Shape.means (R.told.view value.now)) }
 {
     let refs = value.refs();
     <R::Fields as Borrowed<'a>>::known(&refs);

@@ -1,1 +1,3 @@
 pub mod Choices
+pub mod Record
+pub mod Choice

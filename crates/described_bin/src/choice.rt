@@ -20,7 +20,7 @@ pub fn read_choice_bin<E: Choice>(
 where
     E::Variants: BinChoices,
     ensures ok { IfOk result (λ value. Reads (variants_of E.Variants.chosen.bodies).spelled
-        bytes.now offset.old (E.Variants.Choices.means 0 (E.view value)) offset.new) }
+        bytes.now offset.old (E.Variants.Choices.means 0 (E.told.view value)) offset.new) }
     ensures err { IfErr result
         (Refuses (variants_of E.Variants.chosen.bodies).spelled (drop offset.old bytes.now)) }
     ensures kept { OnErr result (offset.new ≡ offset.old) }
@@ -43,7 +43,7 @@ where
     E::Variants: BinChoiceRefs<'a>,
     requires { count_variants (legal_bodies E.Variants.chosen.bodies) ≤ 65536 }
     ensures ok { OnOk result (output.new.items ≡ output.old.items
-        ++ written_tagged E.Variants.chosen.bodies (E.Variants.chosen.by_tag (E.view value.now))) }
+        ++ written_tagged E.Variants.chosen.bodies (E.Variants.chosen.by_tag (E.told.view value.now))) }
     ensures err { OnErr result (output.new.items ≡ output.old.items) }
 {
     let refs = value.refs();

@@ -12,4 +12,5 @@ mod record;
 pub use choice::{read_choice_bin, write_choice_bin};
 pub use choices::{BinChoiceRefs, BinChoices, BinShapes};
 pub use fields::{BinFields, BinRefs, BinShape};
+pub use nano_bin::{BinFormat, BothBin, DeBin, DeBinErr, SerBin};
 pub use record::{read_record_bin, write_record_bin};

@@ -17,7 +17,7 @@ pub fn read_record_bin<R: Record>(
 where
     R::Fields: BinFields,
     ensures ok { IfOk result (λ value. Reads R.Fields.format.spelling.spelled
-        bytes.now offset.old (R.Fields.Shape.means (R.view value)) offset.new) }
+        bytes.now offset.old (R.Fields.Shape.means (R.told.view value)) offset.new) }
     ensures err { IfErr result
         (Refuses R.Fields.format.spelling.spelled (drop offset.old bytes.now)) }
     ensures kept { OnErr result (offset.new ≡ offset.old) }
@@ -37,7 +37,7 @@ pub fn write_record_bin<'a, R: Parts<'a>>(
 where
     R::Fields: BinRefs<'a>,
     ensures ok { OnOk result (output.new.items
-        ≡ output.old.items ++ R.Fields.format.writing.written (R.view value.now)) }
+        ≡ output.old.items ++ R.Fields.format.writing.written (R.told.view value.now)) }
     ensures err { OnErr result (output.new.items ≡ output.old.items) }
 {
     let refs = value.refs();

@@ -19,17 +19,17 @@ use std::str::Chars;
 ///
 /// An error that is not for want of memory says that no variant is spelled there, with one more
 /// token or the end behind it. Every refusal leaves the state at the end of the text.
-pub fn read_choice<E: Choice>(
+pub fn read_choice_json<E: Choice>(
     alloc: Global,
     state: &mut DeJsonState,
     input: &mut Chars<'_>,
 ) -> Result<E, DeJsonErr>
 where
     E::Variants: JsonChoices,
-    ensures fits { Reads (SpellsVariant json_variants (E.Variants.format E.the_names).spelled)
-        (λ value. E.Variants.Choices.means 0 (E.view value))
+    ensures fits { Reads (SpellsVariant json_variants (E.Variants.format E.told.the_names).spelled)
+        (λ value. E.Variants.Choices.means 0 (E.told.view value))
         (at state.old input.old) (at state.new input.new) result }
-    ensures refused { Refuses (SpellsVariant json_variants (E.Variants.format E.the_names).spelled)
+    ensures refused { Refuses (SpellsVariant json_variants (E.Variants.format E.told.the_names).spelled)
         (at state.old input.old) result }
     ensures ended { OnErr result (at state.new input.new ≡ ended) }
 {
@@ -42,7 +42,7 @@ where
 }
 
 /// Writes an own enum at level `d`. A refused write leaves `s.out` as it was.
-pub fn write_choice<'a, E: ChoiceParts<'a>>(
+pub fn write_choice_json<'a, E: ChoiceParts<'a>>(
     value: &'a E,
     alloc: Global,
     d: usize,
@@ -51,7 +51,7 @@ pub fn write_choice<'a, E: ChoiceParts<'a>>(
 where
     E::Variants: JsonChoiceRefs<'a>,
     ensures ok { OnOk result (Appends s.old.out s.new.out
-        ((E.Variants.format E.the_names).text d (E.view value.now))) }
+        ((E.Variants.format E.told.the_names).text d (E.told.view value.now))) }
     ensures err { OnErr result (Stays s.old.out s.new.out) }
 {
     let variants = E::variants();

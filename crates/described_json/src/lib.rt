@@ -12,9 +12,13 @@ mod one_field;
 mod record;
 mod tuples;
 
-pub use choice::{read_choice, write_choice};
+pub use choice::{read_choice_json, write_choice_json};
 pub use choices::{JsonChoiceRefs, JsonChoices, JsonShapes};
 pub use contents::{JsonContent, ReadContent, WriteContent};
 pub use fields::JsonRefs;
 pub use json_records::{Fields as JsonFields, JsonShape};
-pub use record::{read_record, write_record};
+pub use nano_json::{BothJson, DeJson, DeJsonErr, DeJsonState, JsonFormat, SerJson, SerJsonState};
+pub use record::{read_record_json, write_record_json};
+
+/// What a reader of JSON answers.
+pub type JsonResult<T> = Result<T, DeJsonErr>;

@@ -18,17 +18,17 @@ use std::str::Chars;
 ///
 /// An error that is not for want of memory says that no struct is spelled there, with one more token
 /// or the end behind it. Every refusal leaves the state at the end of the text.
-pub fn read_record<R: Record>(
+pub fn read_record_json<R: Record>(
     alloc: Global,
     state: &mut DeJsonState,
     input: &mut Chars<'_>,
 ) -> Result<R, DeJsonErr>
 where
     R::Fields: Fields,
-    ensures fits { Reads (fields_of (R.Fields.format R.the_names).struct).spelled
-        (λ value. R.Fields.Shape.means (R.view value))
+    ensures fits { Reads (fields_of (R.Fields.format R.told.the_names).struct).spelled
+        (λ value. R.Fields.Shape.means (R.told.view value))
         (at state.old input.old) (at state.new input.new) result }
-    ensures refused { Refuses (fields_of (R.Fields.format R.the_names).struct).spelled
+    ensures refused { Refuses (fields_of (R.Fields.format R.told.the_names).struct).spelled
         (at state.old input.old) result }
     ensures ended { OnErr result (at state.new input.new ≡ ended) }
 {
@@ -40,7 +40,7 @@ where
 }
 
 /// Writes an own struct at level `d`. A refused write leaves `s.out` as it was.
-pub fn write_record<'a, R: Parts<'a>>(
+pub fn write_record_json<'a, R: Parts<'a>>(
     value: &'a R,
     alloc: Global,
     d: usize,
@@ -49,7 +49,7 @@ pub fn write_record<'a, R: Parts<'a>>(
 where
     R::Fields: JsonRefs<'a>,
     ensures ok { OnOk result (Appends s.old.out s.new.out (fields_text json_fields d
-        ((R.Fields.format R.the_names).writing.fields (R.view value.now)))) }
+        ((R.Fields.format R.told.the_names).writing.fields (R.told.view value.now)))) }
     ensures err { OnErr result (Stays s.old.out s.new.out) }
 {
     let fields = R::fields();

@@ -12,9 +12,13 @@ mod one_part;
 mod record;
 mod tuples;
 
-pub use choice::{read_choice, write_choice};
+pub use choice::{read_choice_ron, write_choice_ron};
 pub use choices::{RonChoiceRefs, RonChoices, RonShapes};
 pub use contents::{ReadContent, RonContent, WriteContent};
 pub use fields::RonRefs;
-pub use record::{read_record, write_record};
+pub use nano_ron::{BothRon, DeRon, DeRonErr, DeRonState, RonFormat, SerRon, SerRonState};
+pub use record::{read_record_ron, write_record_ron};
 pub use ron_records::{Fields as RonFields, RonShape};
+
+/// What a reader of RON answers.
+pub type RonResult<T> = Result<T, DeRonErr>;

@@ -1,26 +1,27 @@
 // An enum with a variant of each shape: its description, and then bytes, JSON and RON.
-ghost use Rattle.std.specs.Prelude.{[], codes, refl};
-ghost use Rattle.std.proofs.Common.{lit≤};
-ghost use Rattle.nano_value.specs.Sums.{LegalVariant};
-ghost use Rattle.nano_value.specs.Ties.{tied};
-ghost use Rattle.described.specs.Names.{name, names, two_names};
-ghost use Rattle.nano_bin.specs.Format.{format_as};
-ghost use Rattle.described_bin.specs.Choices.{choice_format};
+ghost use Rattle.std.specs.Prelude.{refl};
+ghost use Rattle.described.specs.Names.{LegalVariant, description, names, two_names, variant_name};
+ghost use Rattle.described.specs.Names.{variant_names, tied};
+ghost use Rattle.described_bin.specs.Choice.{bin_choice};
 ghost use Rattle.described_json.specs.Choice.{json_choice};
 ghost use Rattle.described_ron.specs.Choice.{ron_choice};
 ghost use Rattle.nano_records.specs.Choice.{seen};
 
 use described::{
-    Alone, BorrowedChoices, ChoiceParts, Choices, Either, InTwo, Required, Tupled, Variant, called,
-    known_choice, must, no_content, tuple, two, variant,
+    Alone, BorrowedChoices, ChoiceParts, Choices, Either, InTwo, Required, Tupled, Value, Variant,
+    called, known_choice, named, no_content, tuple, two, variant,
 };
-use described_bin::{BinShapes, read_choice_bin, write_choice_bin};
-use described_json::{JsonShapes, read_choice, write_choice};
-use described_ron::RonShapes;
-use nano_bin::{BinFormat, BothBin, DeBin, DeBinErr, SerBin};
-use nano_json::{BothJson, DeJson, DeJsonErr, DeJsonState, JsonFormat, SerJson, SerJsonState};
-use nano_ron::{BothRon, DeRon, DeRonErr, DeRonState, RonFormat, SerRon, SerRonState};
-use nano_value::Value;
+use described_bin::{
+    BinFormat, BinShapes, BothBin, DeBin, DeBinErr, SerBin, read_choice_bin, write_choice_bin,
+};
+use described_json::{
+    BothJson, DeJson, DeJsonState, JsonFormat, JsonResult, JsonShapes, SerJson, SerJsonState,
+    read_choice_json, write_choice_json,
+};
+use described_ron::{
+    BothRon, DeRon, DeRonState, RonFormat, RonResult, RonShapes, SerRon, SerRonState,
+    read_choice_ron, write_choice_ron,
+};
 use std::alloc::{AllocError, Global};
 use std::str::Chars;
 
@@ -51,18 +52,15 @@ type ChoiceVariants = (
 impl described::Choice for Choice {
     type Variants = ChoiceVariants;
 
-    ghost the_names = { names (names (name (codes "A")) (name []))
-        (names (names (name (codes "B")) (name []))
-        (names (name (codes "C")) (two_names (codes "a") (codes "b")))) };
-
-    ghost view = { seen };
+    ghost told = { description (names (variant_name "A") (names (variant_name "B")
+        (variant_names "C" (two_names "a" "b")))) seen };
 
     fn variants() -> ChoiceVariants {
         (
             variant(called("A"), no_content()),
             (
                 variant(called("B"), tuple()),
-                variant(called("C"), two(must("a"), must("b"))),
+                variant(called("C"), named(two("a", "b"))),
             ),
         )
     }
@@ -99,7 +97,8 @@ impl Value for Choice {
 // ---- bytes
 
 impl BinFormat for Choice {
-    ghost bin = { format_as seen (choice_format ⟦<ChoiceVariants as BinShapes>⟧.chosen (lit≤ tt)) };
+    ghost bin = { bin_choice ⟦<Choice as described::Choice>⟧.told
+        ⟦<ChoiceVariants as BinShapes>⟧.chosen refl };
 
     ghost ties = { tied };
 }
@@ -123,25 +122,21 @@ impl BothBin for Choice {}
 // ---- JSON
 
 impl JsonFormat for Choice {
-    ghost json = { json_choice seen ⟦<ChoiceVariants as JsonShapes>⟧.format
-        ⟦<Choice as described::Choice>⟧.the_names refl refl refl };
+    ghost json = { json_choice ⟦<Choice as described::Choice>⟧.told
+        ⟦<ChoiceVariants as JsonShapes>⟧.format refl refl refl };
 
     ghost ties = { tied };
 }
 
 impl SerJson for Choice {
     fn ser_json(&self, alloc: Global, d: usize, s: &mut SerJsonState) -> Result<(), AllocError> {
-        write_choice(self, alloc, d, s)
+        write_choice_json(self, alloc, d, s)
     }
 }
 
 impl DeJson for Choice {
-    fn de_json(
-        alloc: Global,
-        state: &mut DeJsonState,
-        input: &mut Chars<'_>,
-    ) -> Result<Choice, DeJsonErr> {
-        read_choice(alloc, state, input)
+    fn de_json(alloc: Global, state: &mut DeJsonState, input: &mut Chars<'_>) -> JsonResult<Self> {
+        read_choice_json(alloc, state, input)
     }
 }
 
@@ -150,25 +145,21 @@ impl BothJson for Choice {}
 // ---- RON
 
 impl RonFormat for Choice {
-    ghost ron = { ron_choice seen ⟦<ChoiceVariants as RonShapes>⟧.format
-        ⟦<Choice as described::Choice>⟧.the_names refl refl refl };
+    ghost ron = { ron_choice ⟦<Choice as described::Choice>⟧.told
+        ⟦<ChoiceVariants as RonShapes>⟧.format refl refl refl };
 
     ghost ties = { tied };
 }
 
 impl SerRon for Choice {
     fn ser_ron(&self, alloc: Global, d: usize, s: &mut SerRonState) -> Result<(), AllocError> {
-        described_ron::write_choice(self, alloc, d, s)
+        write_choice_ron(self, alloc, d, s)
     }
 }
 
 impl DeRon for Choice {
-    fn de_ron(
-        alloc: Global,
-        state: &mut DeRonState,
-        input: &mut Chars<'_>,
-    ) -> Result<Choice, DeRonErr> {
-        described_ron::read_choice(alloc, state, input)
+    fn de_ron(alloc: Global, state: &mut DeRonState, input: &mut Chars<'_>) -> RonResult<Self> {
+        read_choice_ron(alloc, state, input)
     }
 }
 

@@ -1,19 +1,23 @@
 // A generic struct of one field, in bytes, in JSON and in RON.
-ghost use Rattle.std.specs.Prelude.{codes, refl};
+ghost use Rattle.std.specs.Prelude.{refl};
 ghost use Rattle.nano_value.specs.Ties.{seen_ties};
-ghost use Rattle.described.specs.Names.{name};
-ghost use Rattle.nano_bin.specs.Format.{format_as};
-ghost use Rattle.described_json.specs.Record.{json_record};
-ghost use Rattle.described_ron.specs.Record.{ron_record};
+ghost use Rattle.described.specs.Names.{description, one_name};
+ghost use Rattle.described_bin.specs.Record.{bin_of};
+ghost use Rattle.described_json.specs.Record.{json_of};
+ghost use Rattle.described_ron.specs.Record.{ron_of};
 
-use described::{Borrowed, Parts, Record, Required, Shape, known_record, must};
-use described_bin::{BinShape, read_record_bin, write_record_bin};
-use described_json::{JsonShape, read_record, write_record};
-use described_ron::RonShape;
-use nano_bin::{BinFormat, BothBin, DeBin, DeBinErr, SerBin};
-use nano_json::{BothJson, DeJson, DeJsonErr, DeJsonState, JsonFormat, SerJson, SerJsonState};
-use nano_ron::{BothRon, DeRon, DeRonErr, DeRonState, RonFormat, SerRon, SerRonState};
-use nano_value::Value;
+use described::{Parts, Record, Required, Value, known_record, named};
+use described_bin::{
+    BinFormat, BothBin, DeBin, DeBinErr, SerBin, read_record_bin, write_record_bin,
+};
+use described_json::{
+    BothJson, DeJson, DeJsonState, JsonFormat, JsonResult, JsonShape, SerJson, SerJsonState,
+    read_record_json, write_record_json,
+};
+use described_ron::{
+    BothRon, DeRon, DeRonState, RonFormat, RonResult, RonShape, SerRon, SerRonState,
+    read_record_ron, write_record_ron,
+};
 use std::alloc::{AllocError, Global};
 use std::str::Chars;
 
@@ -27,12 +31,10 @@ pub struct Holder<T> {
 impl<T: Value + Drop> Record for Holder<T> {
     type Fields = Required<T>;
 
-    ghost the_names = { name (codes "x") };
-
-    ghost view = { λ h. h.x };
+    ghost told = { description (one_name "x") (λ h. h.x) };
 
     fn fields() -> Required<T> {
-        must("x")
+        named("x")
     }
 
     fn make(values: T) -> Holder<T> {
@@ -59,7 +61,7 @@ impl<T: Value + Drop> Value for Holder<T> {
 // ---- bytes
 
 impl<T: BinFormat + Drop> BinFormat for Holder<T> {
-    ghost bin = { format_as (λ h. h.x) T.bin };
+    ghost bin = { bin_of ⟦<Holder<T> as Record>⟧.told T.bin };
 
     ghost ties = { seen_ties T.ties (λ h. h.x) };
 }
@@ -83,25 +85,21 @@ impl<T: BothBin> BothBin for Holder<T> {}
 // ---- JSON
 
 impl<T: JsonFormat + Drop> JsonFormat for Holder<T> {
-    ghost json = { json_record (λ h. h.x) ⟦<Required<T> as JsonShape>⟧.format
-        (name (codes "x")) refl refl };
+    ghost json = { json_of ⟦<Holder<T> as Record>⟧.told
+        ⟦<Required<T> as JsonShape>⟧.format refl };
 
     ghost ties = { seen_ties T.ties (λ h. h.x) };
 }
 
 impl<T: SerJson + Drop> SerJson for Holder<T> {
     fn ser_json(&self, alloc: Global, d: usize, s: &mut SerJsonState) -> Result<(), AllocError> {
-        write_record(self, alloc, d, s)
+        write_record_json(self, alloc, d, s)
     }
 }
 
 impl<T: DeJson> DeJson for Holder<T> {
-    fn de_json(
-        alloc: Global,
-        state: &mut DeJsonState,
-        input: &mut Chars<'_>,
-    ) -> Result<Holder<T>, DeJsonErr> {
-        read_record(alloc, state, input)
+    fn de_json(alloc: Global, state: &mut DeJsonState, input: &mut Chars<'_>) -> JsonResult<Self> {
+        read_record_json(alloc, state, input)
     }
 }
 
@@ -110,25 +108,21 @@ impl<T: BothJson> BothJson for Holder<T> {}
 // ---- RON
 
 impl<T: RonFormat + Drop> RonFormat for Holder<T> {
-    ghost ron = { ron_record (λ h. h.x) ⟦<Required<T> as RonShape>⟧.format
-        (name (codes "x")) refl refl };
+    ghost ron = { ron_of ⟦<Holder<T> as Record>⟧.told
+        ⟦<Required<T> as RonShape>⟧.format refl };
 
     ghost ties = { seen_ties T.ties (λ h. h.x) };
 }
 
 impl<T: SerRon + Drop> SerRon for Holder<T> {
     fn ser_ron(&self, alloc: Global, d: usize, s: &mut SerRonState) -> Result<(), AllocError> {
-        described_ron::write_record(self, alloc, d, s)
+        write_record_ron(self, alloc, d, s)
     }
 }
 
 impl<T: DeRon> DeRon for Holder<T> {
-    fn de_ron(
-        alloc: Global,
-        state: &mut DeRonState,
-        input: &mut Chars<'_>,
-    ) -> Result<Holder<T>, DeRonErr> {
-        described_ron::read_record(alloc, state, input)
+    fn de_ron(alloc: Global, state: &mut DeRonState, input: &mut Chars<'_>) -> RonResult<Self> {
+        read_record_ron(alloc, state, input)
     }
 }
 

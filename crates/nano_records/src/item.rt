@@ -1,22 +1,25 @@
 // A struct with a field that may be missing, in bytes, in JSON and in RON.
-ghost use Rattle.std.specs.Prelude.{codes, refl};
-ghost use Rattle.nano_value.specs.Ties.{tied};
-ghost use Rattle.described.specs.Names.{two_names, two_of};
-ghost use Rattle.nano_bin.specs.Format.{format_as};
-ghost use Rattle.described_json.specs.Record.{json_record};
-ghost use Rattle.described_ron.specs.Record.{ron_record};
+ghost use Rattle.std.specs.Prelude.{refl};
+ghost use Rattle.described.specs.Names.{description, two_names, two_of, tied};
+ghost use Rattle.described_bin.specs.Record.{bin_of};
+ghost use Rattle.described_json.specs.Record.{json_of};
+ghost use Rattle.described_ron.specs.Record.{ron_of};
 
 use described::{
-    Borrowed, InTwo, Optional, Parts, Record, Required, Shape, known_record, may, must, two,
+    Borrowed, InTwo, Optional, Parts, Record, Required, Shape, Value, known_record, named, two,
     two_apart,
 };
-use described_bin::{BinShape, read_record_bin, write_record_bin};
-use described_json::{JsonShape, read_record, write_record};
-use described_ron::RonShape;
-use nano_bin::{BinFormat, BothBin, DeBin, DeBinErr, SerBin};
-use nano_json::{BothJson, DeJson, DeJsonErr, DeJsonState, JsonFormat, SerJson, SerJsonState};
-use nano_ron::{BothRon, DeRon, DeRonErr, DeRonState, RonFormat, SerRon, SerRonState};
-use nano_value::Value;
+use described_bin::{
+    BinFormat, BinShape, BothBin, DeBin, DeBinErr, SerBin, read_record_bin, write_record_bin,
+};
+use described_json::{
+    BothJson, DeJson, DeJsonState, JsonFormat, JsonResult, JsonShape, SerJson, SerJsonState,
+    read_record_json, write_record_json,
+};
+use described_ron::{
+    BothRon, DeRon, DeRonState, RonFormat, RonResult, RonShape, SerRon, SerRonState,
+    read_record_ron, write_record_ron,
+};
 use std::alloc::{AllocError, Global};
 use std::str::Chars;
 
@@ -34,12 +37,10 @@ type ItemFields = InTwo<Required<i32>, Optional<String>>;
 impl Record for Item {
     type Fields = ItemFields;
 
-    ghost the_names = { two_names (codes "value") (codes "note") };
-
-    ghost view = { λ x. two_of x.value x.note };
+    ghost told = { description (two_names "value" "note") (λ x. two_of x.value x.note) };
 
     fn fields() -> ItemFields {
-        two(must("value"), may("note"))
+        named(two("value", "note"))
     }
 
     fn make(values: <ItemFields as Shape>::Values) -> Item {
@@ -55,7 +56,7 @@ impl<'a> Parts<'a> for Item {
 }
 
 impl Value for Item {
-    ghost means = { λ x. ⟦<ItemFields as Shape>⟧.means (⟦<Item as Record>⟧.view x) };
+    ghost means = { λ x. ⟦<ItemFields as Shape>⟧.means (⟦<Item as Record>⟧.told.view x) };
 
     ghost legal = { ⟦<ItemFields as Shape>⟧.legal };
 
@@ -67,7 +68,7 @@ impl Value for Item {
 // ---- bytes
 
 impl BinFormat for Item {
-    ghost bin = { format_as ⟦<Item as Record>⟧.view ⟦<ItemFields as BinShape>⟧.format };
+    ghost bin = { bin_of ⟦<Item as Record>⟧.told ⟦<ItemFields as BinShape>⟧.format };
 
     ghost ties = { tied };
 }
@@ -91,25 +92,20 @@ impl BothBin for Item {}
 // ---- JSON
 
 impl JsonFormat for Item {
-    ghost json = { json_record ⟦<Item as Record>⟧.view ⟦<ItemFields as JsonShape>⟧.format
-        ⟦<Item as Record>⟧.the_names refl refl };
+    ghost json = { json_of ⟦<Item as Record>⟧.told ⟦<ItemFields as JsonShape>⟧.format refl };
 
     ghost ties = { tied };
 }
 
 impl SerJson for Item {
     fn ser_json(&self, alloc: Global, d: usize, s: &mut SerJsonState) -> Result<(), AllocError> {
-        write_record(self, alloc, d, s)
+        write_record_json(self, alloc, d, s)
     }
 }
 
 impl DeJson for Item {
-    fn de_json(
-        alloc: Global,
-        state: &mut DeJsonState,
-        input: &mut Chars<'_>,
-    ) -> Result<Item, DeJsonErr> {
-        read_record(alloc, state, input)
+    fn de_json(alloc: Global, state: &mut DeJsonState, input: &mut Chars<'_>) -> JsonResult<Self> {
+        read_record_json(alloc, state, input)
     }
 }
 
@@ -118,25 +114,20 @@ impl BothJson for Item {}
 // ---- RON
 
 impl RonFormat for Item {
-    ghost ron = { ron_record ⟦<Item as Record>⟧.view ⟦<ItemFields as RonShape>⟧.format
-        ⟦<Item as Record>⟧.the_names refl refl };
+    ghost ron = { ron_of ⟦<Item as Record>⟧.told ⟦<ItemFields as RonShape>⟧.format refl };
 
     ghost ties = { tied };
 }
 
 impl SerRon for Item {
     fn ser_ron(&self, alloc: Global, d: usize, s: &mut SerRonState) -> Result<(), AllocError> {
-        described_ron::write_record(self, alloc, d, s)
+        write_record_ron(self, alloc, d, s)
     }
 }
 
 impl DeRon for Item {
-    fn de_ron(
-        alloc: Global,
-        state: &mut DeRonState,
-        input: &mut Chars<'_>,
-    ) -> Result<Item, DeRonErr> {
-        described_ron::read_record(alloc, state, input)
+    fn de_ron(alloc: Global, state: &mut DeRonState, input: &mut Chars<'_>) -> RonResult<Self> {
+        read_record_ron(alloc, state, input)
     }
 }
 

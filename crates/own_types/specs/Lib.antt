@@ -1,2 +1,4 @@
 pub mod Command
+pub mod Event
 pub mod Message
+pub mod Signal

@@ -1,28 +1,19 @@
-//! Examples: own types that join the formats by hand.
+//! Examples: own types in bytes, in JSON and in RON. Each file is one that a user copies.
+//!
+//! `Server`, `Event`, `Signal` and `Query` are described once, and join each format by that.
+//! `Command` joins bytes and `Message` joins JSON by hand, without a description.
 #![tactic(auto)]
 
-mod account;
-#[cfg(test)]
-mod account_tests;
 mod command;
-#[cfg(test)]
-mod field_writing_tests;
-mod holder;
-#[cfg(test)]
-mod law_tests;
+mod event;
 mod message;
-#[cfg(test)]
-mod message_tests;
-#[cfg(test)]
-mod place_tests;
-mod reading;
-mod tally;
-#[cfg(test)]
-mod tests;
+mod query;
+mod server;
+mod signal;
 
-pub use account::Account;
 pub use command::Command;
-pub use holder::Holder;
+pub use event::Event;
 pub use message::Message;
-pub use reading::Reading;
-pub use tally::Tally;
+pub use query::Query;
+pub use server::Server;
+pub use signal::Signal;
