@@ -2,7 +2,7 @@
 use Rattle.std.proofs.Common.{◌≡◌, ℕ, List, [], ◌++◌, take, drop, refl, sym, ap, ◌∙◌, append_assoc, take-append-drop, Option, Some, None, IfSome, unwrap_or, subst}
 use Rattle.std.specs.Io.KnownBytes.{Appends, Keeps}
 use Rattle.std.proofs.KnownBytes.{Appends-trans, Appends-kept}
-use Rattle.nano_show.specs.Requests.{Request, code_of_u16s, code_of_text, normal_of_input, AskFor}
+use Rattle.nano_show.specs.Requests.{Request, code_of_u16s, code_of_text, normal_of_input, listing_of_input, AskFor}
 use Rattle.nano_show.proofs.WordLemmas.{one_request}
 use Rattle.nano_json.proofs.Json.{json_laws}
 use Rattle.nano_ron.proofs.Ron.{ron_laws}
@@ -18,7 +18,10 @@ use Rattle.std.specs.Prelude.{Result, MatchResult, Vec}
 use Rattle.std.specs.Global.{Global}
 use Rattle.nano_show.specs.Shown.{Shown, IsTied, OfEachKind}
 use Rattle.nano_show.specs.Pairs.{line, hex_pairs}
-use Rattle.nano_show.specs.Answer.{IsFaultOf, IsTextLine, IsBytesLine, IsNormalLine, Answers, IsAnswerTo, HasNoAnswerTo, IsAnswer, HasNoAnswer, WritesUpTo, OneAnswer, AnswerOrRefusal}
+use Rattle.nano_show.specs.Listing.{listing}
+use Rattle.nano_toml.specs.LiveText.{live_text}
+use Rattle.nano_toml.proofs.OneTable.{spells_one_table}
+use Rattle.nano_show.specs.Answer.{IsFaultOf, IsListing, IsTextLine, IsBytesLine, IsNormalLine, Answers, IsAnswerTo, HasNoAnswerTo, IsAnswer, HasNoAnswer, WritesUpTo, OneAnswer, AnswerOrRefusal}
 
 module _ (a b c : Option (List ℕ)) (bytes rest : List ℕ) (so_far : WritesUpTo rest a b bytes) where
   -- one more write took so many bytes of the rest
@@ -100,11 +103,15 @@ one_normal_line Json type tied = one_text_line (one_form (texts_are_forms json_l
 one_normal_line Ron type tied = one_text_line (one_form (texts_are_forms ron_laws type.ron tied.ron))
 one_normal_line Bin type tied = one_bytes_line (one_form (bytes_are_forms type.bin tied.bin tied.bin_is_read))
 
+one_listing : (input first second : List ℕ) → IsListing input first → IsListing input second → first ≡ second
+one_listing input first second h j = h.is ∙ (ap listing (spells_one_table (live_text input) h.pairs j.pairs h.spells j.spells) ∙ sym j.is)
+
 module _ (types : Kind → Shown) (tied : (kind : Kind) → IsTied (types kind)) where
   one_answer_of_request : (request : Request) (input first second : List ℕ) → Answers types request input first → Answers types request input second → first ≡ second
   one_answer_of_request (code_of_u16s numbers) input first second h j = h ∙ sym j
   one_answer_of_request (code_of_text text) input first second h j = h ∙ sym j
   one_answer_of_request (normal_of_input form kind) input first second h j = one_normal_line form (types kind) (tied kind) input first second h j
+  one_answer_of_request listing_of_input input first second h j = one_listing input first second h j
 
   pub one_answer : OneAnswer types
   one_answer words input first second h j =

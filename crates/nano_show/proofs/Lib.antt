@@ -1,3 +1,5 @@
 pub mod PairLemmas
 pub mod WordLemmas
 pub mod AnswerLemmas
+pub mod ListingLemmas
+pub mod TableOrder

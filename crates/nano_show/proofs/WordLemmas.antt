@@ -6,7 +6,7 @@ use Rattle.std.specs.Str.Parse.{digits_value}
 use Rattle.std.proofs.Math.ListN.{length-map}
 use Rattle.std.proofs.lemmas.List.{get_or-map}
 use Rattle.std.specs.Prelude.{bytes_eq}
-use Rattle.nano_show.specs.Requests.{texts, Request, code_of_u16s, code_of_text, normal_of_input, form_name, kind_name, IsU16, AskFor, AskForNothing}
+use Rattle.nano_show.specs.Requests.{texts, Request, code_of_u16s, code_of_text, normal_of_input, listing_of_input, form_name, kind_name, IsU16, AskFor, AskForNothing}
 use Rattle.nano_show.specs.declared.words.Form.{Form}
 use Rattle.nano_show.specs.declared.words.Form.TheVariants.{Json, Ron, Bin}
 use Rattle.nano_show.specs.declared.words.Kind.{Kind}
@@ -50,25 +50,38 @@ code_is_no_form Json e = let heads : 99 ≡ 106 = first_letter e in omega (arith
 code_is_no_form Ron e = let heads : 99 ≡ 114 = first_letter e in omega (arith, heads)
 code_is_no_form Bin e = let heads : 99 ≡ 98 = first_letter e in omega (arith, heads)
 
-module _ (words : List (List ℕ)) (no_code : (rest : List (List ℕ)) → words ≢ codes "code" ∷ rest) where
-  -- behind no `code`, and no format with a type
-  pub nothing_else : ((form : Form) (kind : Kind) → words ≢ form_name form ∷ kind_name kind ∷ []) → AskForNothing words
-  nothing_else other (code_of_u16s numbers) asked = no_code (codes "u16s" ∷ asked.numerals) asked.are
-  nothing_else other (code_of_text text) asked = no_code (codes "text" ∷ option_to_list text) asked
-  nothing_else other (normal_of_input form kind) asked = other form kind asked
+-- `code` is not `toml`
+pub code_is_not_toml : codes "code" ≡ codes "toml" → ⊥
+code_is_not_toml e = let heads : 99 ≡ 116 = first_letter e in omega (arith, heads)
 
-  -- not two words
-  pub not_two : length words ≢ 2 → AskForNothing words
-  not_two other = nothing_else (λ form kind e. other (ap length e))
+two_are_not_one : (words : List (List ℕ)) (first second : List ℕ) → words ≡ first ∷ second ∷ [] → words ≡ codes "toml" ∷ [] → ⊥
+two_are_not_one words first second are e = let lengths : 2 ≡ 1 = ap length (sym are ∙ e) in omega (arith, lengths)
+
+module _ (words : List (List ℕ)) (no_code : (rest : List (List ℕ)) → words ≢ codes "code" ∷ rest) where
+  -- behind no `code`, no format with a type, and no `toml`
+  pub nothing_else : ((form : Form) (kind : Kind) → words ≢ form_name form ∷ kind_name kind ∷ []) → words ≢ codes "toml" ∷ [] → AskForNothing words
+  nothing_else other toml (code_of_u16s numbers) asked = no_code (codes "u16s" ∷ asked.numerals) asked.are
+  nothing_else other toml (code_of_text text) asked = no_code (codes "text" ∷ option_to_list text) asked
+  nothing_else other toml (normal_of_input form kind) asked = other form kind asked
+  nothing_else other toml listing_of_input asked = toml asked
+
+  -- neither one word nor two
+  pub not_one_or_two : length words ≢ 1 → length words ≢ 2 → AskForNothing words
+  not_one_or_two one two = nothing_else (λ form kind e. two (ap length e)) (λ e. one (ap length e))
+
+  -- one word that is not `toml`
+  pub no_toml : (word : List ℕ) → words ≡ word ∷ [] → word ≢ codes "toml" → AskForNothing words
+  no_toml word are other =
+      nothing_else (λ form kind e. let lengths : 1 ≡ 2 = ap length (sym are ∙ e) in omega (arith, lengths)) (λ e. other (head (sym are ∙ e)))
 
   module _ (first second : List ℕ) (are : words ≡ first ∷ second ∷ []) where
     -- the first is no format
     pub no_form : ((form : Form) → first ≢ form_name form) → AskForNothing words
-    no_form other = nothing_else (λ form kind e. other form (head (sym are ∙ e)))
+    no_form other = nothing_else (λ form kind e. other form (head (sym are ∙ e))) (two_are_not_one words first second are)
 
     -- the second is no type
     pub no_kind : ((kind : Kind) → second ≢ kind_name kind) → AskForNothing words
-    no_kind other = nothing_else (λ form kind e. other kind (head (tail (sym are ∙ e))))
+    no_kind other = nothing_else (λ form kind e. other kind (head (tail (sym are ∙ e)))) (two_are_not_one words first second are)
 
 -- behind `code`
 module _ (rest : List (List ℕ)) where
@@ -77,12 +90,14 @@ module _ (rest : List (List ℕ)) where
   no_other_code no_u16s no_text (code_of_u16s numbers) asked = no_u16s asked.numerals (tail asked.are)
   no_other_code no_u16s no_text (code_of_text text) asked = no_text (option_to_list text) (tail asked)
   no_other_code no_u16s no_text (normal_of_input form kind) asked = code_is_no_form form (head asked)
+  no_other_code no_u16s no_text listing_of_input asked = code_is_not_toml (head asked)
 
   -- a word behind `code u16s` is no numeral
   pub no_other_numbers : (numerals : List (List ℕ)) → rest ≡ codes "u16s" ∷ numerals → (All IsU16 numerals → ⊥) → AskForNothing (codes "code" ∷ rest)
   no_other_numbers numerals u16s wrong (code_of_u16s numbers) asked = wrong (subst (All IsU16) (tail (sym (tail asked.are) ∙ u16s)) asked.each)
   no_other_numbers numerals u16s wrong (code_of_text text) asked = u16s_is_not_text (head (sym u16s ∙ tail asked))
   no_other_numbers numerals u16s wrong (normal_of_input form kind) asked = code_is_no_form form (head asked)
+  no_other_numbers numerals u16s wrong listing_of_input asked = code_is_not_toml (head asked)
 
   -- more than one word behind `code text`
   pub no_more_text : (more : List (List ℕ)) → rest ≡ codes "text" ∷ more → 1 < length more → AskForNothing (codes "code" ∷ rest)
@@ -90,6 +105,7 @@ module _ (rest : List (List ℕ)) where
   no_more_text more text long (code_of_text None) asked = omega (arith, ap length (tail (sym text ∙ tail asked)))
   no_more_text more text long (code_of_text (Some word)) asked = omega (arith, ap length (tail (sym text ∙ tail asked)))
   no_more_text more text long (normal_of_input form kind) asked = code_is_no_form form (head asked)
+  no_more_text more text long listing_of_input asked = code_is_not_toml (head asked)
 
 -- ---- the words ask for one thing
 
@@ -152,3 +168,10 @@ one_request words (code_of_text text) (normal_of_input form kind) h j = absurd (
 one_request words (normal_of_input form kind) (code_of_u16s numbers) h j = absurd (code_is_no_form form (head (sym j.are ∙ h)))
 one_request words (normal_of_input form kind) (code_of_text text) h j = absurd (code_is_no_form form (head (sym j ∙ h)))
 one_request words (normal_of_input form kind) (normal_of_input other second) h j = one_normal form other kind second (sym h ∙ j)
+one_request words (code_of_u16s numbers) listing_of_input h j = absurd (code_is_not_toml (head (sym h.are ∙ j)))
+one_request words (code_of_text text) listing_of_input h j = absurd (code_is_not_toml (head (sym h ∙ j)))
+one_request words (normal_of_input form kind) listing_of_input h j = absurd (two_are_not_one words _ _ h j)
+one_request words listing_of_input (code_of_u16s numbers) h j = absurd (code_is_not_toml (head (sym j.are ∙ h)))
+one_request words listing_of_input (code_of_text text) h j = absurd (code_is_not_toml (head (sym j ∙ h)))
+one_request words listing_of_input (normal_of_input form kind) h j = absurd (two_are_not_one words _ _ j h)
+one_request words listing_of_input listing_of_input h j = refl

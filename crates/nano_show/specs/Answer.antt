@@ -5,12 +5,18 @@ use Rattle.nano_bin.specs.LittleEndian.{little_endian}
 use Rattle.nano_bin.specs.Lists.{written_list}
 use Rattle.nano_bin.specs.Options.{written_option}
 use Rattle.nano_bin.specs.Texts.{written_text}
+use Rattle.nano_toml.specs.LiveText.{live_text}
+use Rattle.nano_toml.specs.OneTable.{Pairs}
+use Rattle.nano_toml.specs.StatementTable.{SpellsTable}
+use Rattle.nano_toml.specs.View.{table_view}
 use Rattle.nano_show.specs.declared.words.Form.{Form}
 use Rattle.nano_show.specs.declared.words.Form.TheVariants.{Json, Ron, Bin}
 use Rattle.nano_show.specs.declared.words.Kind.{Kind}
 use Rattle.nano_show.specs.declared.fault.ShowFault.{ShowFault}
 use Rattle.nano_show.specs.declared.fault.ShowFault.TheVariants.{Refused, Usage, Memory, Stream}
-use Rattle.nano_show.specs.Requests.{Request, code_of_u16s, code_of_text, normal_of_input, AskFor, AskForNoInput}
+use Rattle.nano_show.specs.Requests.{Request, code_of_u16s, code_of_text, normal_of_input}
+use Rattle.nano_show.specs.Requests.{listing_of_input, AskFor, AskForNoInput}
+use Rattle.nano_show.specs.Listing.{listing}
 use Rattle.nano_show.specs.Pairs.{hex_pairs, line}
 use Rattle.nano_show.specs.Shown.{Shown, IsNormal}
 
@@ -32,6 +38,14 @@ IsNormalLine Json type input answer = IsTextLine (IsNormal Json type) input answ
 IsNormalLine Ron type input answer = IsTextLine (IsNormal Ron type) input answer
 IsNormalLine Bin type input answer = IsBytesLine (IsNormal Bin type) input answer
 
+-- the listing of the table that the input spells, which is one where it is a text; a table is what
+-- the pairs of some map mean, and a text ends before its first NUL
+pub record IsListing (input answer : List ℕ) : Type 0 where
+  pub utf8 : IsUtf8 input
+  pub pairs : Pairs
+  pub spells : SpellsTable (live_text input) (table_view pairs)
+  pub is : answer ≡ listing (table_view pairs)
+
 -- a fault of an answer: refused is only what has none, and the words are known
 abbrev pub IsFaultOf : Type 0 → ShowFault → Type 0
 IsFaultOf has_none (Refused reason) = has_none
@@ -44,9 +58,12 @@ module _ (types : Kind → Shown) where
   -- what is written for a request and the bytes of the input: for a code, its pairs on a line,
   -- whatever the input
   abbrev pub Answers : Request → List ℕ → List ℕ → Type 0
-  Answers (code_of_u16s numbers) input answer = answer ≡ line (hex_pairs (written_list (little_endian 2) numbers))
-  Answers (code_of_text text) input answer = answer ≡ line (hex_pairs (written_option written_text text))
+  Answers (code_of_u16s numbers) input answer =
+      answer ≡ line (hex_pairs (written_list (little_endian 2) numbers))
+  Answers (code_of_text text) input answer =
+      answer ≡ line (hex_pairs (written_option written_text text))
   Answers (normal_of_input form kind) input answer = IsNormalLine form (types kind) input answer
+  Answers listing_of_input input answer = IsListing input answer
 
   -- the answer to a request, by the bytes of the input: those that are known, or any where none are
   pub record IsAnswerTo (request : Request) (known : Option (List ℕ)) (answer : List ℕ) : Type 0 where
@@ -96,8 +113,12 @@ module _ (types : Kind → Shown) where
 
   -- words and the bytes of an input have at most one answer
   abbrev pub OneAnswer : Type 0
-  OneAnswer = (words : List (List ℕ)) (input first second : List ℕ) → IsAnswer types words (Some input) first → IsAnswer types words (Some input) second → first ≡ second
+  OneAnswer =
+      (words : List (List ℕ)) (input first second : List ℕ) → IsAnswer types words (Some input) first
+      → IsAnswer types words (Some input) second → first ≡ second
 
   -- and where they have one, they are not refused
   abbrev pub AnswerOrRefusal : Type 0
-  AnswerOrRefusal = (words : List (List ℕ)) (input answer : List ℕ) → IsAnswer types words (Some input) answer → HasNoAnswer types words (Some input) → ⊥
+  AnswerOrRefusal =
+      (words : List (List ℕ)) (input answer : List ℕ) → IsAnswer types words (Some input) answer
+      → HasNoAnswer types words (Some input) → ⊥

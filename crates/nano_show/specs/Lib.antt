@@ -1,6 +1,9 @@
 pub mod Requests
 pub mod Pairs
 pub mod Shown
+pub mod Listing
+pub mod OpenLists
+pub mod Chains
 pub mod Answer
 pub mod Ending
 pub mod Commands

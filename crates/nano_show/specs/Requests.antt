@@ -10,12 +10,13 @@ use Rattle.nano_show.specs.declared.words.Kind.TheVariants.{U8, U32, U64, I32, I
 abbrev pub texts : {Z : Type 0} → List (String Z) → List (List ℕ)
 texts words = map (λ word. string_bytes word) words
 
--- what can be asked for: the code of a list of numbers, or of a text that may be absent, and the
--- normal form of the input
+-- what can be asked for: the code of a list of numbers, or of a text that may be absent, the normal
+-- form of the input, and the listing of the table that it spells
 pub data Request : Type 0 where
   code_of_u16s : List ℕ → Request
   code_of_text : Option (List ℕ) → Request
   normal_of_input : Form → Kind → Request
+  listing_of_input : Request
 
 -- the word for each format
 abbrev pub form_name : Form → List ℕ
@@ -59,11 +60,19 @@ abbrev pub AskFor : List (List ℕ) → Request → Type 0
 AskFor words (code_of_u16s numbers) = AskForU16s words numbers
 AskFor words (code_of_text text) = AskForText words text
 AskFor words (normal_of_input form kind) = words ≡ form_name form ∷ kind_name kind ∷ []
+AskFor words listing_of_input = words ≡ codes "toml" ∷ []
 
 -- the words are none that the program knows
 abbrev pub AskForNothing : List (List ℕ) → Type 0
 AskForNothing words = (request : Request) → AskFor words request → ⊥
 
+-- it depends on the input
+abbrev pub DependsOnInput : Request → Type 0
+DependsOnInput (code_of_u16s numbers) = ⊥
+DependsOnInput (code_of_text text) = ⊥
+DependsOnInput (normal_of_input form kind) = Unit {0}
+DependsOnInput listing_of_input = Unit {0}
+
 -- the words ask for nothing that depends on the input
 abbrev pub AskForNoInput : List (List ℕ) → Type 0
-AskForNoInput words = (form : Form) (kind : Kind) → AskFor words (normal_of_input form kind) → ⊥
+AskForNoInput words = (request : Request) → AskFor words request → DependsOnInput request → ⊥

@@ -2,17 +2,27 @@
 //!
 //! `nano_show code u16s 1 2` prints the binary code of two numbers, `nano_show code text ab` that of a text.
 //! `nano_show json item` prints the normal form of a JSON text on standard input, `ron` and `bin` those of
-//! the other formats; see `run` for the types.
+//! the other formats; see `run` for the types. `nano_show toml` prints the listing of a TOML text.
 #![tactic(auto)]
 
 mod fault;
 #[cfg(test)]
 mod law_tests;
 pub mod laws;
+mod listed;
+mod listing;
+#[cfg(test)]
+mod listing_tests;
 mod normal;
 mod pairs;
+#[cfg(test)]
+mod refusal_tests;
 mod run;
 mod shown;
+#[cfg(test)]
+mod stream_tests;
+#[cfg(test)]
+mod testing;
 #[cfg(test)]
 mod tests;
 mod words;

@@ -103,7 +103,7 @@ fn bin_line<T: BothBin>(alloc: Global, input: &[u8]) -> Result<Vec<u8>, ShowFaul
 }
 
 /// The input as a text.
-fn text(alloc: Global, input: &[u8]) -> Result<&str, ShowFault>
+pub(crate) fn text(alloc: Global, input: &[u8]) -> Result<&str, ShowFault>
     ensures { MatchResult result
         (λ text. (text.now ≡ input.now) × IsUtf8 input.now)
         (IsFaultOf (IsUtf8 input.now → ⊥)) }

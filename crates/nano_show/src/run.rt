@@ -14,6 +14,7 @@ ghost use Rattle.nano_bin.specs.Texts.{written_text};
 ghost use Rattle.nano_show.specs.Commands.{request_of, IsSound, TakesNoInput};
 
 use crate::fault::ShowFault;
+use crate::listing::listing_of;
 use crate::normal::normal_line;
 use crate::pairs::hex_line;
 use crate::shown::{Named, Types};
@@ -30,14 +31,21 @@ use std::io::{ErrorKind, Read, Write};
 /// | `code text [WORD]` | not read | the code of `Some(WORD)`, or of `None` without a word, in pairs |
 /// | `json TYPE`, `ron TYPE` | a text | its normal form |
 /// | `bin TYPE` | bytes | their normal form, in pairs |
+/// | `toml` | a text | the listing of the table that it spells |
 ///
 /// `N` is one or more ASCII digits of value 0 to 65535; there may be none. `TYPE` is `u8`, `u32`, `u64`, `i32`,
 /// `i64`, `bool`, `string`, `bytes` (`Vec<u8>`), `set` (`HashSet<i32>`), `map` (`HashMap<String, i32>`), or `item`
 /// or `choice` of `nanoserde::records`. An input is read to its end, with no limit but memory.
 ///
+/// A listing has a line `KEY = VALUE` for each key of the table, in ascending order of their bytes; an empty
+/// table has none. A key and a text are written as JSON strings, a whole number in decimal, a decimal as
+/// `dec TEXT`, a date as `date TEXT`, the others as `true`, `false`, `nan`, `-nan`, `inf`, `-inf`, and a list as
+/// its values between `[` and `]`, with `, ` between them. Tables in an array are `tables COUNT`, and behind that
+/// line stand those of each table in order, as `KEY[I] SUBKEY = VALUE` with `I` from 0 on.
+///
 /// Faults are found in this order: `Usage` for words that stand in no row, `Stream` for a read that fails,
-/// `Refused` for a text that is not UTF-8 and then for an input that begins with no value of the type, `Stream` for
-/// a write that fails or takes nothing. `Memory` may come instead of an answer at any step before the first write.
+/// `Refused` for a text that is not UTF-8 and then for an input that begins with no value of the type or, for
+/// `toml`, spells no table, `Stream` for a write that fails or takes nothing. `Memory` may come instead of an answer at any step before the first write.
 /// Nothing is written before the answer is whole, so only behind `Stream` something may have been written: a
 /// beginning of the answer. A read or a write that was interrupted is tried again. `output` is not flushed.
 pub fn run<R: Read, W: Write>(
@@ -78,6 +86,10 @@ fn answer<R: Read>(alloc: Global, command: Command<'_>, input: &mut R) -> Result
         Command::Normal(form, kind) => {
             let bytes = read_whole(alloc, input)?;
             normal_line(alloc, form, kind, &bytes)
+        }
+        Command::Listing => {
+            let bytes = read_whole(alloc, input)?;
+            listing_of(alloc, &bytes)
         }
     }
 }

@@ -1,5 +1,5 @@
 // Which words ask for what.
-ghost use Rattle.std.specs.Prelude.{◌≡◌, ◌≢◌, ◌↔◌, ℕ, List, ◌∷◌, map, All, IsTrue, IfOk, IfSome, IfNone, codes};
+ghost use Rattle.std.specs.Prelude.{◌≡◌, ◌≢◌, ◌↔◌, ℕ, List, [], ◌∷◌, map, All, IsTrue, IfOk, IfSome, IfNone, codes};
 ghost use Rattle.std.specs.Option.{SomeIff};
 ghost use Rattle.std.specs.Str.Parse.{digits_value};
 ghost use Rattle.nano_show.specs.Requests.{texts, IsU16, AskFor, AskForNothing, form_name, kind_name};
@@ -95,6 +95,8 @@ pub(crate) enum Command<'a> {
     CodeText(Option<&'a str>),
     /// The normal form of the input, in this format and of this type.
     Normal(Form, Kind),
+    /// The listing of the table that the input spells.
+    Listing,
 }
 
 impl<'a> Command<'a> {
@@ -109,11 +111,24 @@ impl<'a> Command<'a> {
             return Command::parse_code(rest);
         }
         match words {
+            [word] => Command::parse_one(word.as_str()),
             [form, kind] => {
                 let form = Form::of(form.as_str())?;
                 let kind = Kind::of(kind.as_str())?;
                 Some(Command::Normal(form, kind))
             }
+            _ => None,
+        }
+    }
+
+    /// What this word alone asks for.
+    fn parse_one(word: &str) -> Option<Command<'a>>
+        ensures known { IfSome result (λ command. AskFor (word.now ∷ []) (request_of command)) }
+        ensures sound { IfSome result IsSound }
+        ensures unknown { IfNone result (word.now ≢ codes "toml") }
+    {
+        match word {
+            "toml" => Some(Command::Listing),
             _ => None,
         }
     }
