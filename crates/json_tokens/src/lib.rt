@@ -4,6 +4,7 @@
 
 mod error;
 mod helpers;
+mod input;
 pub mod laws;
 mod lexemes;
 mod marks;
@@ -11,12 +12,15 @@ mod skip;
 mod state;
 mod strings;
 mod token;
+mod undo;
 mod values;
 mod write_state;
 
 pub use error::DeJsonErr;
-pub use skip::bytes_left;
+pub use input::{expect_end, within_value};
+pub use nano_text::bytes_left;
 pub use state::DeJsonState;
 pub use strings::append_string;
 pub use token::DeJsonTok;
+pub use undo::end_if_refused;
 pub use write_state::SerJsonState;

@@ -1,7 +1,5 @@
 // Fields that are passed over.
 ghost use Rattle.std.specs.Prelude.{◌≡◌, ◌≢◌, ◌+◌, ◌<◌, ◌^◌, ℕ, List, true, OnOk, OnErr, IfErr};
-ghost use Rattle.std.specs.Prelude.{length};
-ghost use Rattle.std.specs.Str.Iter.{chars_rest};
 ghost use Rattle.json_tokens.specs.Outcomes.{Tells, Takes, NoneHere, Keeps, Counts};
 ghost use Rattle.json_tokens.specs.Scan.{is_opening};
 ghost use Rattle.json_tokens.specs.Skipped.{SkippedField, BeginsField, IsBracketed, opens, closes};
@@ -11,6 +9,7 @@ ghost use Rattle.json_tokens.specs.Token.{Token};
 use crate::error::DeJsonErr;
 use crate::lexemes::Refusal;
 use crate::state::DeJsonState;
+use nano_text::bytes_left;
 use std::alloc::Global;
 use std::str::Chars;
 
@@ -82,14 +81,4 @@ impl DeJsonState {
         }
         depth
     }
-}
-
-/// How many bytes the characters still hold.
-#[doc(hidden)]
-#[inline]
-pub fn bytes_left(i: &Chars<'_>) -> usize
-    ensures value { result ≡ length (chars_rest i.now) }
-    ensures small { result < 2 ^ 63 }
-{
-    i.as_str().len()
 }

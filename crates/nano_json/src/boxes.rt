@@ -5,8 +5,7 @@ ghost use Rattle.nano_json.specs.Readers.{Reads, Refuses};
 ghost use Rattle.nano_json.specs.State.{at};
 
 use crate::traits::{BothJson, DeJson, JsonFormat, SerJson};
-use crate::undo::end_if_refused;
-use json_tokens::{DeJsonErr, DeJsonState, SerJsonState};
+use json_tokens::{DeJsonErr, DeJsonState, SerJsonState, end_if_refused};
 use std::alloc::{AllocError, Global};
 use std::str::Chars;
 

@@ -5,7 +5,6 @@
 mod bools;
 mod boxes;
 mod error;
-mod input;
 pub mod laws;
 mod lists;
 mod maps;
@@ -17,9 +16,8 @@ mod signed;
 mod texts;
 mod traits;
 mod tuples;
-mod undo;
 
 pub use error::{DeJsonErr, DeJsonState, DeJsonTok, SerJsonState};
+pub use json_tokens::end_if_refused;
 pub use nano_text::keep_written;
 pub use traits::{BothJson, DeJson, JsonFormat, SerJson};
-pub use undo::end_if_refused;

@@ -14,8 +14,7 @@ ghost use Rattle.nano_json.specs.State.{at};
 
 use crate::lists::append_item;
 use crate::traits::{BothJson, DeJson, JsonFormat, SerJson};
-use crate::undo::end_if_refused;
-use json_tokens::{DeJsonErr, DeJsonState, SerJsonState, bytes_left};
+use json_tokens::{DeJsonErr, DeJsonState, SerJsonState, bytes_left, end_if_refused};
 use nano_text::keep_written;
 use nano_value::{Key, OrderedKey, entries_in_order};
 use std::alloc::{AllocError, Global};

@@ -9,8 +9,7 @@ ghost use Rattle.nano_json.specs.Numbers.{unsigned, unsigned_format, below_8, be
 ghost use Rattle.nano_json.specs.Numbers.{below_64};
 
 use crate::traits::{BothJson, DeJson, JsonFormat, SerJson};
-use crate::undo::end_if_refused;
-use json_tokens::{DeJsonErr, DeJsonState, SerJsonState};
+use json_tokens::{DeJsonErr, DeJsonState, SerJsonState, end_if_refused};
 use nano_text::append_unsigned;
 use std::alloc::{AllocError, Global};
 use std::str::Chars;

@@ -9,8 +9,7 @@ ghost use Rattle.nano_json.specs.Readers.{Reads, Refuses};
 ghost use Rattle.nano_json.specs.State.{at};
 
 use crate::traits::{BothJson, DeJson, JsonFormat, SerJson};
-use crate::undo::end_if_refused;
-use json_tokens::{DeJsonErr, DeJsonState, SerJsonState};
+use json_tokens::{DeJsonErr, DeJsonState, SerJsonState, end_if_refused};
 use nano_text::append_signed;
 use std::alloc::{AllocError, Global};
 use std::str::Chars;

@@ -9,8 +9,7 @@ ghost use Rattle.nano_json.specs.Texts.{texts, text_format};
 ghost use Rattle.nano_json.specs.State.{at};
 
 use crate::traits::{BothJson, DeJson, JsonFormat, SerJson};
-use crate::undo::end_if_refused;
-use json_tokens::{DeJsonErr, DeJsonState, SerJsonState, append_string};
+use json_tokens::{DeJsonErr, DeJsonState, SerJsonState, append_string, end_if_refused};
 use std::alloc::{AllocError, Global};
 use std::str::Chars;
 

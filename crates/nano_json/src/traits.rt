@@ -1,6 +1,5 @@
 // The traits of values that can be written as JSON and read from it.
-use crate::input::{expect_end, within_value};
-use json_tokens::{DeJsonErr, DeJsonState, SerJsonState};
+use json_tokens::{DeJsonErr, DeJsonState, SerJsonState, expect_end, within_value};
 use nano_value::Value;
 use std::alloc::{AllocError, Global};
 use std::str::Chars;

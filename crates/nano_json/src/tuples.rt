@@ -9,8 +9,7 @@ ghost use Rattle.nano_json.specs.Tuples.{last_format, two_parts, three_parts, fo
 ghost use Rattle.nano_json.specs.Tuples.{pair_format, triple_format, quadruple_format};
 
 use crate::traits::{BothJson, DeJson, JsonFormat, SerJson};
-use crate::undo::end_if_refused;
-use json_tokens::{DeJsonErr, DeJsonState, SerJsonState};
+use json_tokens::{DeJsonErr, DeJsonState, SerJsonState, end_if_refused};
 use nano_text::keep_written;
 use std::alloc::{AllocError, Global};
 use std::str::Chars;

@@ -5,7 +5,6 @@
 mod bools;
 mod boxes;
 mod error;
-mod input;
 pub mod laws;
 mod lists;
 mod maps;
@@ -13,16 +12,14 @@ mod numbers;
 mod options;
 mod ordered_maps;
 mod parts;
-mod room;
 mod sets;
 mod signed;
 mod slices;
 mod texts;
 mod traits;
 mod tuples;
-mod undo;
 
 pub use error::{DeRonErr, DeRonState, DeRonTok, SerRonState};
 pub use nano_text::keep_written;
+pub use ron_tokens::end_if_refused;
 pub use traits::{BothRon, DeRon, RonFormat, SerRon};
-pub use undo::end_if_refused;

@@ -1,5 +1,5 @@
 // Lists between square brackets: vectors and linked lists.
-ghost use Rattle.std.specs.Prelude.{◌∷◌, [], cond, OnOk, OnErr, map};
+ghost use Rattle.std.specs.Prelude.{OnOk, OnErr, map};
 ghost use Rattle.nano_text.specs.Place.{counted};
 ghost use Rattle.nano_value.specs.Meaning.{listed};
 ghost use Rattle.nano_value.specs.Ties.{seen_ties, list_ties};
@@ -12,9 +12,8 @@ ghost use Rattle.nano_ron.specs.Styles.{line_style, indent_style};
 ghost use Rattle.nano_ron.specs.State.{at};
 
 use crate::traits::{BothRon, DeRon, RonFormat, SerRon};
-use crate::undo::end_if_refused;
 use nano_text::keep_written;
-use ron_tokens::{DeRonErr, DeRonState, SerRonState};
+use ron_tokens::{DeRonErr, DeRonState, SerRonState, append_comma, end_if_refused};
 use std::alloc::{AllocError, Global};
 use std::collections::LinkedList;
 use std::str::Chars;
@@ -148,17 +147,6 @@ impl<T: DeRon> DeRon for LinkedList<T> {
         let read = read_linked_list(alloc, state, input);
         end_if_refused(state, read)
     }
-}
-
-/// Appends a comma unless an item is the first.
-fn append_comma(first: bool, s: &mut SerRonState) -> Result<(), AllocError>
-    ensures ok { OnOk result (Appends s.old.out s.new.out (cond first [] (44 ∷ []))) }
-    ensures err { OnErr result (AppendsPart s.old.out s.new.out) }
-{
-    if first {
-        return Ok(());
-    }
-    s.out.push(',')
 }
 
 /// Appends an item of a list at level `d` behind an indent, and behind a comma unless it is the

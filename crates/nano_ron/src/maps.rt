@@ -14,12 +14,10 @@ ghost use Rattle.nano_text.specs.Outcomes.{Appends, AppendsPart};
 ghost use Rattle.nano_ron.specs.Readers.{Reads, Refuses};
 ghost use Rattle.nano_ron.specs.State.{at};
 
-use crate::room::bytes_left;
 use crate::traits::{BothRon, DeRon, RonFormat, SerRon};
-use crate::undo::end_if_refused;
-use nano_text::keep_written;
+use nano_text::{bytes_left, keep_written};
 use nano_value::{Key, OrderedKey, entries_in_order};
-use ron_tokens::{DeRonErr, DeRonState, SerRonState};
+use ron_tokens::{DeRonErr, DeRonState, SerRonState, end_if_refused};
 use std::alloc::{AllocError, Global};
 use std::collections::HashMap;
 use std::hash::Hash;

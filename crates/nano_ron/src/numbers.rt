@@ -9,9 +9,8 @@ ghost use Rattle.nano_ron.specs.Numbers.{unsigned, unsigned_format, below_8, bel
 ghost use Rattle.nano_ron.specs.Numbers.{below_64};
 
 use crate::traits::{BothRon, DeRon, RonFormat, SerRon};
-use crate::undo::end_if_refused;
 use nano_text::append_unsigned;
-use ron_tokens::{DeRonErr, DeRonState, SerRonState};
+use ron_tokens::{DeRonErr, DeRonState, SerRonState, end_if_refused};
 use std::alloc::{AllocError, Global};
 use std::str::Chars;
 

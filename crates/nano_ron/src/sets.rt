@@ -15,12 +15,10 @@ ghost use Rattle.nano_ron.specs.Sets.{SpellsSet, set_format, ordered_format};
 ghost use Rattle.nano_ron.specs.State.{at};
 
 use crate::lists::append_indented;
-use crate::room::bytes_left;
 use crate::traits::{BothRon, DeRon, RonFormat, SerRon};
-use crate::undo::end_if_refused;
-use nano_text::keep_written;
+use nano_text::{bytes_left, keep_written};
 use nano_value::{Key, OrderedKey, items_in_order};
-use ron_tokens::{DeRonErr, DeRonState, SerRonState};
+use ron_tokens::{DeRonErr, DeRonState, SerRonState, end_if_refused};
 use std::alloc::{AllocError, Global};
 use std::collections::{BTreeSet, HashSet};
 use std::hash::Hash;

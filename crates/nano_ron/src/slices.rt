@@ -12,9 +12,8 @@ ghost use Rattle.nano_ron.specs.Styles.{paren_style};
 ghost use Rattle.nano_ron.specs.State.{at};
 
 use crate::traits::{BothRon, DeRon, RonFormat, SerRon};
-use crate::undo::end_if_refused;
 use nano_text::keep_written;
-use ron_tokens::{DeRonErr, DeRonState, SerRonState};
+use ron_tokens::{DeRonErr, DeRonState, SerRonState, end_if_refused};
 use std::alloc::{AllocError, Global};
 use std::str::Chars;
 

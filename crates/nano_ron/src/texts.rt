@@ -9,8 +9,7 @@ ghost use Rattle.nano_ron.specs.Texts.{texts, text_format};
 ghost use Rattle.nano_ron.specs.State.{at};
 
 use crate::traits::{BothRon, DeRon, RonFormat, SerRon};
-use crate::undo::end_if_refused;
-use ron_tokens::{DeRonErr, DeRonState, SerRonState, append_string};
+use ron_tokens::{DeRonErr, DeRonState, SerRonState, append_string, end_if_refused};
 use std::alloc::{AllocError, Global};
 use std::str::Chars;
 

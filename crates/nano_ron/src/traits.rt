@@ -1,7 +1,6 @@
 // The traits of values that can be written as RON and read from it.
-use crate::input::{expect_end, within_value};
 use nano_value::Value;
-use ron_tokens::{DeRonErr, DeRonState, SerRonState};
+use ron_tokens::{DeRonErr, DeRonState, SerRonState, expect_end, within_value};
 use std::alloc::{AllocError, Global};
 use std::str::Chars;
 

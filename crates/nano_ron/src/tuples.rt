@@ -10,9 +10,8 @@ ghost use Rattle.nano_ron.specs.Tuples.{pair_format, triple_format, quadruple_fo
 
 use crate::parts::{append_last, append_part, read_last};
 use crate::traits::{BothRon, DeRon, RonFormat, SerRon};
-use crate::undo::end_if_refused;
 use nano_text::keep_written;
-use ron_tokens::{DeRonErr, DeRonState, SerRonState};
+use ron_tokens::{DeRonErr, DeRonState, SerRonState, end_if_refused};
 use std::alloc::{AllocError, Global};
 use std::str::Chars;
 

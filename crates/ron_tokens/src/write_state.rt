@@ -1,6 +1,6 @@
 // The state of a writer.
-ghost use Rattle.std.specs.Prelude.{◌≡◌, ◌++◌, OnOk, OnErr, codes, string_bytes};
-ghost use Rattle.nano_text.specs.Outcomes.{AppendsPart, Stays};
+ghost use Rattle.std.specs.Prelude.{◌≡◌, ◌++◌, ◌∷◌, [], cond, OnOk, OnErr, codes, string_bytes};
+ghost use Rattle.nano_text.specs.Outcomes.{Appends, AppendsPart, Stays};
 ghost use Rattle.ron_tokens.specs.Outcomes.{Writes};
 ghost use Rattle.ron_tokens.specs.Written.{indent};
 
@@ -94,4 +94,15 @@ fn append_indent(out: &mut String, d: usize) -> Result<(), AllocError>
         out.push_str("    ")?;
     }
     Ok(())
+}
+
+/// Appends a comma unless an item is the first. A refused growth leaves what was written.
+pub fn append_comma(first: bool, s: &mut SerRonState) -> Result<(), AllocError>
+    ensures ok { OnOk result (Appends s.old.out s.new.out (cond first [] (44 ∷ []))) }
+    ensures err { OnErr result (AppendsPart s.old.out s.new.out) }
+{
+    if first {
+        return Ok(());
+    }
+    s.out.push(',')
 }

@@ -1,17 +1,19 @@
 // What a reader of a whole input needs: the end behind the value, and the errors of the value.
 ghost use Rattle.std.specs.Prelude.{◌≡◌, ◌≢◌, ◌⊎◌, IfErr, OnOk, OnErr, string_bytes};
-ghost use Rattle.nano_json.specs.Outcomes.{Says};
-ghost use Rattle.nano_json.specs.State.{pending};
-ghost use Rattle.nano_json.specs.Token.{end};
-ghost use Rattle.nano_json.specs.Whole.{HoldsNul, end_message};
+ghost use Rattle.json_tokens.specs.Outcomes.{Says};
+ghost use Rattle.json_tokens.specs.State.{pending};
+ghost use Rattle.json_tokens.specs.Token.{end};
+ghost use Rattle.text_values.specs.Whole.{HoldsNul, end_message};
 
-use json_tokens::{DeJsonErr, DeJsonState, DeJsonTok};
+use crate::error::DeJsonErr;
+use crate::state::DeJsonState;
+use crate::token::DeJsonTok;
 use std::alloc::Global;
 use text_values::{holds_nul, set_apart};
 
 /// Refuses with the message `Cannot parse end ` where another token than the end is pending, or a
 /// NUL stands anywhere in the input.
-pub(crate) fn expect_end(alloc: Global, state: &DeJsonState, input: &str) -> Result<(), DeJsonErr>
+pub fn expect_end(alloc: Global, state: &DeJsonState, input: &str) -> Result<(), DeJsonErr>
     ensures ends { OnOk result (pending state.now ≡ end) }
     ensures no_nul { OnOk result (HoldsNul input.now → ⊥) }
     ensures goes_on { OnErr result ((pending state.now ≢ end) ⊎ HoldsNul input.now) }
@@ -32,7 +34,7 @@ pub(crate) fn expect_end(alloc: Global, state: &DeJsonState, input: &str) -> Res
 /// behind the value, so where a reader of an own type answers this message, its last space is cut.
 #[cold]
 #[inline(never)]
-pub(crate) fn within_value(mut error: DeJsonErr) -> DeJsonErr
+pub fn within_value(mut error: DeJsonErr) -> DeJsonErr
     ensures memory { result.memory ≡ error.memory }
     ensures apart { string_bytes result.msg ≢ end_message }
     ensures kept { string_bytes error.msg ≢ end_message

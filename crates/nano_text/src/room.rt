@@ -6,7 +6,7 @@ use std::str::Chars;
 
 /// How many bytes the characters still hold.
 #[inline]
-pub(crate) fn bytes_left(i: &Chars<'_>) -> usize
+pub fn bytes_left(i: &Chars<'_>) -> usize
     ensures value { result ≡ length (chars_rest i.now) }
     ensures small { result < 2 ^ 63 }
 {

@@ -1,9 +1,10 @@
 // How readers leave the state where they are refused.
 ghost use Rattle.std.specs.Prelude.{◌≡◌, OnOk, OnErr};
 ghost use Rattle.std.specs.declared.str.Chars.{Chars};
-ghost use Rattle.nano_ron.specs.State.{at, ended};
+ghost use Rattle.ron_tokens.specs.State.{at, ended};
 
-use ron_tokens::{DeRonErr, DeRonState};
+use crate::error::DeRonErr;
+use crate::state::DeRonState;
 
 /// Hands on what was read, and leaves the state at the end of the text where nothing was: so a
 /// reader of several tokens may stop anywhere. It takes no memory.

@@ -1,9 +1,10 @@
 // How readers leave the state where they are refused.
 ghost use Rattle.std.specs.Prelude.{◌≡◌, OnOk, OnErr};
 ghost use Rattle.std.specs.declared.str.Chars.{Chars};
-ghost use Rattle.nano_json.specs.State.{at, ended};
+ghost use Rattle.json_tokens.specs.State.{at, ended};
 
-use json_tokens::{DeJsonErr, DeJsonState};
+use crate::error::DeJsonErr;
+use crate::state::DeJsonState;
 
 /// Hands on what was read, and leaves the state at the end of the text where nothing was: so a
 /// reader of several tokens may stop anywhere. It takes no memory.
