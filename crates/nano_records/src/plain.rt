@@ -1,5 +1,7 @@
-// A struct that is transparent: in every format it is what its one field is.
+// A struct that is transparent: in every format it is what its one field is. It can be a key.
 ghost use Rattle.std.specs.Prelude.{refl};
+ghost use Rattle.nano_value.specs.Exact.{signed_tell};
+ghost use Rattle.nano_value.specs.MeaningOrder.{signed_follow};
 ghost use Rattle.nano_value.specs.Ties.{tied};
 ghost use Rattle.nano_bin.specs.Format.{format_as};
 ghost use Rattle.nano_json.specs.Format.{format_as as json_as};
@@ -8,12 +10,12 @@ ghost use Rattle.nano_ron.specs.Format.{format_as as ron_as};
 use nano_bin::{BinFormat, BothBin, DeBin, DeBinErr, SerBin};
 use nano_json::{BothJson, DeJson, DeJsonErr, DeJsonState, JsonFormat, SerJson, SerJsonState};
 use nano_ron::{BothRon, DeRon, DeRonErr, DeRonState, RonFormat, SerRon, SerRonState};
-use nano_value::Value;
+use nano_value::{Key, OrderedKey, Value};
 use std::alloc::{AllocError, Global};
 use std::str::Chars;
 
 /// A number with a type of its own.
-#[derive(PartialEq, Debug, Drop)]
+#[derive(PartialEq, Eq, Hash, PartialOrd, Ord, Debug, Drop)]
 pub struct Plain(pub i32);
 
 impl Value for Plain {
@@ -24,6 +26,16 @@ impl Value for Plain {
     fn known(&self) {
         self.0.known();
     }
+}
+
+impl Key for Plain {
+    ghost order = { ⟦<i32 as Key>⟧.order };
+
+    ghost exact = { λ x y. signed_tell x.0 y.0 };
+}
+
+impl OrderedKey for Plain {
+    ghost follows = { λ x y. signed_follow x.0 y.0 };
 }
 
 // ---- bytes
