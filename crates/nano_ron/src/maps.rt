@@ -18,7 +18,7 @@ use crate::room::bytes_left;
 use crate::traits::{BothRon, DeRon, RonFormat, SerRon};
 use crate::undo::end_if_refused;
 use nano_text::keep_written;
-use nano_value::{Key, OrderedKey, entries_in_order};
+use nano_value::{Key, OrderedKey, entries_by_rank};
 use ron_tokens::{DeRonErr, DeRonState, SerRonState};
 use std::alloc::{AllocError, Global};
 use std::collections::HashMap;
@@ -132,7 +132,7 @@ fn append_hash_map<K: SerRon, V: SerRon>(
 impl<K: SerRon + OrderedKey + Hash, V: SerRon> SerRon for HashMap<K, V> {
     fn ser_ron(&self, alloc: Global, d: usize, s: &mut SerRonState) -> Result<(), AllocError> {
         let start = s.out.len();
-        let entries = entries_in_order(alloc, self)?;
+        let entries = entries_by_rank(alloc, self)?;
         let written = append_hash_map(alloc, &entries, d, s);
         keep_written(&mut s.out, start, written)
     }
