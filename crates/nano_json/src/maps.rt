@@ -16,7 +16,7 @@ use crate::lists::append_item;
 use crate::traits::{BothJson, DeJson, JsonFormat, SerJson};
 use json_tokens::{DeJsonErr, DeJsonState, SerJsonState, bytes_left, end_if_refused};
 use nano_text::keep_written;
-use nano_value::{Key, OrderedKey, entries_in_order};
+use nano_value::{Key, OrderedKey, entries_by_rank};
 use std::alloc::{AllocError, Global};
 use std::collections::HashMap;
 use std::hash::Hash;
@@ -126,7 +126,7 @@ fn append_hash_map<K: SerJson, V: SerJson>(
 impl<K: SerJson + OrderedKey + Hash, V: SerJson> SerJson for HashMap<K, V> {
     fn ser_json(&self, alloc: Global, d: usize, s: &mut SerJsonState) -> Result<(), AllocError> {
         let start = s.out.len();
-        let entries = entries_in_order(alloc, self)?;
+        let entries = entries_by_rank(alloc, self)?;
         let written = append_hash_map(alloc, &entries, d.saturating_add(1), s);
         keep_written(&mut s.out, start, written)
     }

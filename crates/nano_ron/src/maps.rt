@@ -16,7 +16,7 @@ ghost use Rattle.nano_ron.specs.State.{at};
 
 use crate::traits::{BothRon, DeRon, RonFormat, SerRon};
 use nano_text::{bytes_left, keep_written};
-use nano_value::{Key, OrderedKey, entries_in_order};
+use nano_value::{Key, OrderedKey, entries_by_rank};
 use ron_tokens::{DeRonErr, DeRonState, SerRonState, end_if_refused};
 use std::alloc::{AllocError, Global};
 use std::collections::HashMap;
@@ -130,7 +130,7 @@ fn append_hash_map<K: SerRon, V: SerRon>(
 impl<K: SerRon + OrderedKey + Hash, V: SerRon> SerRon for HashMap<K, V> {
     fn ser_ron(&self, alloc: Global, d: usize, s: &mut SerRonState) -> Result<(), AllocError> {
         let start = s.out.len();
-        let entries = entries_in_order(alloc, self)?;
+        let entries = entries_by_rank(alloc, self)?;
         let written = append_hash_map(alloc, &entries, d, s);
         keep_written(&mut s.out, start, written)
     }

@@ -1,6 +1,7 @@
 pub mod LiveText
 pub mod DigitValues
-pub mod PutDigits
+pub mod Decimals
+pub mod TripleText
 pub mod Escapes
 pub mod Fronts
 pub mod Stops

@@ -1,3 +1,4 @@
+pub mod Digits
 pub mod Each
 pub mod Front
 pub mod KeptWriting

@@ -1,67 +1,163 @@
 // Decimal digits of integers.
-ghost use Rattle.std.specs.Prelude.{◌≡◌, ◌++◌, ◌<◌, ◌≤◌, drop, OnOk, OnErr, string_bytes};
-ghost use Rattle.std.specs.Prelude.{encode_utf8_all};
+ghost use Rattle.std.specs.Prelude.{◌≡◌, ◌+◌, ◌/◌, ◌%◌, ◌<◌, ◌++◌, ◌∷◌, []};
+ghost use Rattle.std.specs.Prelude.{OnOk, OnErr, string_bytes};
 ghost use Rattle.std.specs.Fmt.{decimal, signed_decimal};
-ghost use Rattle.std.specs.Str.{IsAscii};
-ghost use Rattle.nano_text.specs.Outcomes.{Appends, Stays};
+ghost use Rattle.nano_text.specs.Digits.{three_digits};
+ghost use Rattle.nano_text.specs.Outcomes.{Appends, AppendsPart, Stays};
 
+use crate::keep::keep_written;
+use crate::triples::triple;
 use std::alloc::AllocError;
 
-/// The most characters of an integer: `u64::MAX` has twenty digits, and `i64::MIN` nineteen and a
-/// sign.
-const WIDTH: usize = 20;
+const MILLION: u64 = 1_000_000;
 
-/// Puts the decimal digits of a number at the end of the buffer, and answers where they begin.
-fn put_digits(value: u64, buffer: &mut [u8; WIDTH]) -> usize
-    ensures place { result < 20 }
-    ensures digits { drop result buffer.new ≡ decimal value }
-{
-    let mut rest = value;
-    let mut start = WIDTH - 1;
-    'digits: while rest > 9 {
-        buffer[start] = b'0' + (rest % 10) as u8;
-        rest /= 10;
-        start -= 1;
-    }
-    buffer[start] = b'0' + rest as u8;
-    start
-}
-
-/// Appends the characters from `start` on, which are ASCII.
-fn append_ascii(out: &mut String, buffer: &[u8; WIDTH], start: usize) -> Result<(), AllocError>
-    requires place { start ≤ 20 }
-    requires ascii { IsAscii (drop start buffer.now) }
-    ensures ok { OnOk result
-        (string_bytes out.new ≡ string_bytes out.old ++ drop start buffer.now) }
+/// Appends one digit. A refused growth leaves `out` as it was.
+#[inline(always)]
+fn append_digit(out: &mut String, number: u64) -> Result<(), AllocError>
+    requires { number < 10 }
+    ensures ok { OnOk result (string_bytes out.new ≡ string_bytes out.old ++ (48 + number) ∷ []) }
     ensures err { OnErr result (Stays out.old out.new) }
 {
-    match str::from_utf8(&buffer[start..]) {
-        Ok(characters) => out.push_str(characters),
-        Err(_error) => Ok(()),
+    out.push(char::from(b'0' + number as u8))
+}
+
+/// Appends two digits, a zero in front. A refused growth leaves the digit before.
+#[inline(always)]
+fn append_two(out: &mut String, number: u64) -> Result<(), AllocError>
+    requires { number < 100 }
+    ensures ok { OnOk result
+        (string_bytes out.new ≡ string_bytes out.old
+        ++ (48 + number / 10) ∷ (48 + number % 10) ∷ []) }
+    ensures err { OnErr result (AppendsPart out.old out.new) }
+{
+    append_digit(out, number / 10)?;
+    append_digit(out, number % 10)
+}
+
+/// Appends a number below 1,000. A refused growth leaves the digits before.
+#[inline(always)]
+fn append_short(out: &mut String, number: u64) -> Result<(), AllocError>
+    requires { number < 1000 }
+    ensures ok { OnOk result (string_bytes out.new ≡ string_bytes out.old ++ decimal number) }
+    ensures err { OnErr result (AppendsPart out.old out.new) }
+{
+    if number >= 100 {
+        append_digit(out, number / 100)?;
+        return append_two(out, number % 100);
     }
+    if number >= 10 {
+        return append_two(out, number);
+    }
+    append_digit(out, number)
+}
+
+/// Appends a number below 1,000 as three digits, zeros in front. A refused growth leaves `out` as
+/// it was.
+#[inline(always)]
+fn append_triple(out: &mut String, number: u64) -> Result<(), AllocError>
+    requires { number < 1000 }
+    ensures ok { OnOk result
+        (string_bytes out.new ≡ string_bytes out.old ++ three_digits number) }
+    ensures err { OnErr result (Stays out.old out.new) }
+{
+    out.push_str(triple(number))
+}
+
+/// Appends a number below a million. A refused growth leaves the digits before.
+#[inline(always)]
+fn append_front(out: &mut String, number: u64) -> Result<(), AllocError>
+    requires { number < 1000000 }
+    ensures ok { OnOk result (string_bytes out.new ≡ string_bytes out.old ++ decimal number) }
+    ensures err { OnErr result (AppendsPart out.old out.new) }
+{
+    if number < 1000 {
+        return append_short(out, number);
+    }
+    append_short(out, number / 1000)?;
+    append_triple(out, number % 1000)
+}
+
+/// Appends a number below a million as six digits, zeros in front. A refused growth leaves the
+/// digits before.
+#[inline(always)]
+fn append_six(out: &mut String, number: u64) -> Result<(), AllocError>
+    requires { number < 1000000 }
+    ensures ok { OnOk result
+        (string_bytes out.new ≡ string_bytes out.old
+        ++ (three_digits (number / 1000) ++ three_digits (number % 1000))) }
+    ensures err { OnErr result (AppendsPart out.old out.new) }
+{
+    append_triple(out, number / 1000)?;
+    append_triple(out, number % 1000)
+}
+
+/// Appends a number. A refused growth leaves the digits before.
+#[inline(never)]
+fn append_long(out: &mut String, number: u64) -> Result<(), AllocError>
+    ensures ok { OnOk result (string_bytes out.new ≡ string_bytes out.old ++ decimal number) }
+    ensures err { OnErr result (AppendsPart out.old out.new) }
+{
+    if number < MILLION {
+        return append_front(out, number);
+    }
+    append_long(out, number / MILLION)?;
+    append_six(out, number % MILLION)
+}
+
+/// Appends a number; those below 1,000 without a call. A refused growth leaves the digits before.
+#[inline(always)]
+fn append_digits(out: &mut String, number: u64) -> Result<(), AllocError>
+    ensures ok { OnOk result (string_bytes out.new ≡ string_bytes out.old ++ decimal number) }
+    ensures err { OnErr result (AppendsPart out.old out.new) }
+{
+    if number < 1000 {
+        return append_short(out, number);
+    }
+    append_long(out, number)
 }
 
 /// Appends a number in decimal digits. A refused growth leaves `out` as it was.
+#[inline]
 pub fn append_unsigned(out: &mut String, value: u64) -> Result<(), AllocError>
     ensures ok { OnOk result (Appends out.old out.new (decimal value)) }
     ensures err { OnErr result (Stays out.old out.new) }
 {
-    let mut buffer = [b'0'; WIDTH];
-    let start = put_digits(value, &mut buffer);
-    append_ascii(out, &buffer, start)
+    let start = out.len();
+    let written = append_digits(out, value);
+    keep_written(out, start, written)
+}
+
+/// Appends a minus sign. A refused growth leaves `out` as it was.
+#[inline(always)]
+fn append_minus(out: &mut String) -> Result<(), AllocError>
+    ensures ok { OnOk result (string_bytes out.new ≡ string_bytes out.old ++ 45 ∷ []) }
+    ensures err { OnErr result (Stays out.old out.new) }
+{
+    out.push('-')
+}
+
+/// Appends the sign of a negative number, and the digits. A refused growth leaves what was written
+/// before.
+#[inline(always)]
+fn append_sign_and_digits(out: &mut String, value: i64) -> Result<(), AllocError>
+    ensures ok { OnOk result (string_bytes out.new ≡ string_bytes out.old ++ signed_decimal value) }
+    ensures err { OnErr result (AppendsPart out.old out.new) }
+{
+    if value < 0 {
+        append_minus(out)?;
+        return append_digits(out, value.unsigned_abs());
+    }
+    append_digits(out, value.unsigned_abs())
 }
 
 /// Appends a number in decimal digits, with a minus sign where it is negative. A refused growth
 /// leaves `out` as it was.
+#[inline]
 pub fn append_signed(out: &mut String, value: i64) -> Result<(), AllocError>
     ensures ok { OnOk result (Appends out.old out.new (signed_decimal value)) }
     ensures err { OnErr result (Stays out.old out.new) }
 {
-    let mut buffer = [b'0'; WIDTH];
-    let start = put_digits(value.unsigned_abs(), &mut buffer);
-    if value < 0 {
-        buffer[start - 1] = b'-';
-        return append_ascii(out, &buffer, start - 1);
-    }
-    append_ascii(out, &buffer, start)
+    let start = out.len();
+    let written = append_sign_and_digits(out, value);
+    keep_written(out, start, written)
 }

@@ -14,6 +14,7 @@ mod place;
 mod room;
 mod run;
 mod string;
+mod triples;
 mod written;
 
 pub use digits::{append_signed, append_unsigned};

@@ -1,1 +1,3 @@
 pub mod Results
+pub mod ByRank
+pub mod TextRanks

@@ -16,3 +16,4 @@ pub mod OrderedMaps
 pub mod MapOrder
 pub mod Sums
 pub mod LastValues
+pub mod Ranks

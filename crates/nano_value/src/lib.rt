@@ -14,11 +14,12 @@ mod options;
 mod ordered;
 mod ordered_maps;
 mod ordered_sets;
+mod ranks;
 mod sets;
 mod texts;
 mod truths;
 mod tuples;
 mod value;
 
-pub use ordered::{entries_in_order, items_in_order};
+pub use ordered::{entries_by_rank, entries_in_order, items_in_order};
 pub use value::{Key, OrderedKey, Value};

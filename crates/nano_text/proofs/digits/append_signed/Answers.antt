@@ -1,47 +1,22 @@
-use Rattle.std.proofs.Common.{◌≡◌, ◌++◌, OnOk, string_bytes, true, false, pos, sym, ◌∙◌, ap, subst}
-use Rattle.std.specs.Fmt.{decimal}
-use Rattle.std.specs.Int.{w64}
-use Rattle.std.specs.Int.Signed.{lt_z}
-use Rattle.std.specs.Str.{IsAscii}
-use Rattle.std.proofs.Math.IntN.{nat_abs}
+use Rattle.std.proofs.Common.{◌≡◌, ◌++◌, OnOk, string_bytes, sym, subst, arith}
+use Rattle.std.specs.Fmt.{signed_decimal}
 use Rattle.std.proofs.lemmas.Fmt.{IsAscii-signed}
+use Rattle.std.specs.Int.{w64}
 use Rattle.std.proofs.lemmas.Int.{to_z-of_z}
 use Rattle.std.proofs.lemmas.Str.{encodes-IsAscii}
-use Rattle.nano_text.proofs.PutDigits.{sign_put, no_sign}
+use Rattle.nano_text.specs.KeptWriting.{kept_by, kept_ok, cut_back_err}
 use Rattle.nano_text.proofs.digits.append_signed.Goals as goal
 
-pub overflow_sub-buffer : goal.overflow_sub-buffer
-overflow_sub-buffer c =
-    let same = to_z-of_z w64 c.args.value c.ranges.value in
-    (sign_put c.args.value c.put_digits-start.result c.put_digits-start.new.buffer c.ranges.value (subst (λ z. lt_z z (pos 0) ≡ true) same c.if-value-lt0.true) c.put_digits-start.array_long (c.put_digits-start.ensures.digits ∙ ap decimal (c.unsigned_abs.ensures.value ∙ ap nat_abs same))).0
-
-pub overflow_sub-start : goal.overflow_sub-start
-overflow_sub-start c =
-    let same = to_z-of_z w64 c.args.value c.ranges.value in
-    (sign_put c.args.value c.put_digits-start.result c.put_digits-start.new.buffer c.ranges.value (subst (λ z. lt_z z (pos 0) ≡ true) same c.if-value-lt0.true) c.put_digits-start.array_long (c.put_digits-start.ensures.digits ∙ ap decimal (c.unsigned_abs.ensures.value ∙ ap nat_abs same))).0
-
-pub append_ascii-requires-clause-ascii : goal.append_ascii-requires-clause-ascii
-append_ascii-requires-clause-ascii c =
-    let same = to_z-of_z w64 c.args.value c.ranges.value in
-    let put = (sign_put c.args.value c.put_digits-start.result c.put_digits-start.new.buffer c.ranges.value (subst (λ z. lt_z z (pos 0) ≡ true) same c.if-value-lt0.true) c.put_digits-start.array_long (c.put_digits-start.ensures.digits ∙ ap decimal (c.unsigned_abs.ensures.value ∙ ap nat_abs same))).1 in
-    subst IsAscii (sym put) (IsAscii-signed c.args.value c.ranges.value.sfits)
-
-pub returns-then-value-lt0-clause-ok : goal.returns-then-value-lt0-clause-ok
-returns-then-value-lt0-clause-ok c =
-    let same = to_z-of_z w64 c.args.value c.ranges.value in
-    let put = (sign_put c.args.value c.put_digits-start.result c.put_digits-start.new.buffer c.ranges.value (subst (λ z. lt_z z (pos 0) ≡ true) same c.if-value-lt0.true) c.put_digits-start.array_long (c.put_digits-start.ensures.digits ∙ ap decimal (c.unsigned_abs.ensures.value ∙ ap nat_abs same))).1 in
-    let bytes = put ∙ sym (encodes-IsAscii _ (IsAscii-signed c.args.value c.ranges.value.sfits)) in
-    subst (λ l. OnOk c.append_ascii.result (string_bytes c.append_ascii.new.out ≡ string_bytes c.args.out.now ++ l)) bytes c.append_ascii.ensures.ok
-
-pub append_ascii-requires-2-clause-ascii : goal.append_ascii-requires-2-clause-ascii
-append_ascii-requires-2-clause-ascii c =
-    let same = to_z-of_z w64 c.args.value c.ranges.value in
-    let put = (c.put_digits-start.ensures.digits ∙ ap decimal (c.unsigned_abs.ensures.value ∙ ap nat_abs same)) ∙ no_sign c.args.value (subst (λ z. lt_z z (pos 0) ≡ false) same c.if-value-lt0.false) in
-    subst IsAscii (sym put) (IsAscii-signed c.args.value c.ranges.value.sfits)
+pub keep_written-requires : goal.keep_written-requires
+keep_written-requires c = kept_by c.append_sign_and_digits-written.result c.args.out.now c.append_sign_and_digits-written.new.out c.len-start.result _ c.len-start.ensures c.append_sign_and_digits-written.ensures.ok c.append_sign_and_digits-written.ensures.err
 
 pub returns-clause-ok : goal.returns-clause-ok
 returns-clause-ok c =
     let same = to_z-of_z w64 c.args.value c.ranges.value in
-    let put = (c.put_digits-start.ensures.digits ∙ ap decimal (c.unsigned_abs.ensures.value ∙ ap nat_abs same)) ∙ no_sign c.args.value (subst (λ z. lt_z z (pos 0) ≡ false) same c.if-value-lt0.false) in
-    let bytes = put ∙ sym (encodes-IsAscii _ (IsAscii-signed c.args.value c.ranges.value.sfits)) in
-    subst (λ l. OnOk c.append_ascii-2.result (string_bytes c.append_ascii-2.new.out ≡ string_bytes c.args.out.now ++ l)) bytes c.append_ascii-2.ensures.ok
+    let written = subst (λ z. OnOk c.append_sign_and_digits-written.result (string_bytes c.append_sign_and_digits-written.new.out ≡ string_bytes c.args.out.now ++ signed_decimal z)) same c.append_sign_and_digits-written.ensures.ok in
+    let bytes = sym (encodes-IsAscii _ (IsAscii-signed c.args.value c.ranges.value.sfits)) in
+    subst (λ l. OnOk c.keep_written.result (string_bytes c.keep_written.new.out ≡ string_bytes c.args.out.now ++ l)) bytes
+    (kept_ok c.keep_written.result c.append_sign_and_digits-written.result (string_bytes c.args.out.now) (string_bytes c.append_sign_and_digits-written.new.out) (string_bytes c.keep_written.new.out) (signed_decimal c.args.value) c.keep_written.ensures.same c.keep_written.ensures.ok written)
+
+pub returns-clause-err : goal.returns-clause-err
+returns-clause-err c = cut_back_err c.keep_written.result c.append_sign_and_digits-written.result (string_bytes c.args.out.now) (string_bytes c.append_sign_and_digits-written.new.out) (string_bytes c.keep_written.new.out) c.len-start.result (let at = c.len-start.ensures in let whole = c.args.out.now.bytes.ok.0 in omega (arith, at, whole)) c.keep_written.ensures.same c.keep_written.ensures.err c.append_sign_and_digits-written.ensures.err

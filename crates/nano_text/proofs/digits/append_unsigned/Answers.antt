@@ -1,13 +1,18 @@
-use Rattle.std.proofs.Common.{◌≡◌, ◌++◌, OnOk, string_bytes, sym, ◌∙◌, subst}
-use Rattle.std.specs.Str.{IsAscii}
+use Rattle.std.proofs.Common.{◌≡◌, ◌++◌, OnOk, string_bytes, sym, subst, arith}
+use Rattle.std.specs.Fmt.{decimal}
 use Rattle.std.proofs.lemmas.Fmt.{IsAscii-decimal}
 use Rattle.std.proofs.lemmas.Str.{encodes-IsAscii}
+use Rattle.nano_text.specs.KeptWriting.{kept_by, kept_ok, cut_back_err}
 use Rattle.nano_text.proofs.digits.append_unsigned.Goals as goal
 
-pub append_ascii-requires-clause-ascii : goal.append_ascii-requires-clause-ascii
-append_ascii-requires-clause-ascii c = subst IsAscii (sym c.put_digits-start.ensures.digits) (IsAscii-decimal c.args.value c.ranges.value.fits)
+pub keep_written-requires : goal.keep_written-requires
+keep_written-requires c = kept_by c.append_digits-written.result c.args.out.now c.append_digits-written.new.out c.len-start.result _ c.len-start.ensures c.append_digits-written.ensures.ok c.append_digits-written.ensures.err
 
 pub returns-clause-ok : goal.returns-clause-ok
 returns-clause-ok c =
-    let digits = c.put_digits-start.ensures.digits ∙ sym (encodes-IsAscii _ (IsAscii-decimal c.args.value c.ranges.value.fits)) in
-    subst (λ l. OnOk c.append_ascii.result (string_bytes c.append_ascii.new.out ≡ string_bytes c.args.out.now ++ l)) digits c.append_ascii.ensures.ok
+    let bytes = sym (encodes-IsAscii _ (IsAscii-decimal c.args.value c.ranges.value.fits)) in
+    subst (λ l. OnOk c.keep_written.result (string_bytes c.keep_written.new.out ≡ string_bytes c.args.out.now ++ l)) bytes
+    (kept_ok c.keep_written.result c.append_digits-written.result (string_bytes c.args.out.now) (string_bytes c.append_digits-written.new.out) (string_bytes c.keep_written.new.out) (decimal c.args.value) c.keep_written.ensures.same c.keep_written.ensures.ok c.append_digits-written.ensures.ok)
+
+pub returns-clause-err : goal.returns-clause-err
+returns-clause-err c = cut_back_err c.keep_written.result c.append_digits-written.result (string_bytes c.args.out.now) (string_bytes c.append_digits-written.new.out) (string_bytes c.keep_written.new.out) c.len-start.result (let at = c.len-start.ensures in let whole = c.args.out.now.bytes.ok.0 in omega (arith, at, whole)) c.keep_written.ensures.same c.keep_written.ensures.err c.append_digits-written.ensures.err
