@@ -13,6 +13,7 @@ mod number;
 mod place;
 mod run;
 mod string;
+mod whole;
 mod written;
 
 pub use digits::{append_signed, append_unsigned};
