@@ -1,5 +1,5 @@
 // How a reader's state takes the next token: white space, and one lexeme.
-ghost use Rattle.std.specs.Prelude.{◌≡◌, ◌≢◌, ◌<◌, ℕ, List, OnOk, OnErr, IfErr, Some, None, length};
+ghost use Rattle.std.specs.Prelude.{◌≡◌, ◌≢◌, ◌<◌, ℕ, List, OnOk, OnErr, IfErr, Some, None, length, false};
 ghost use Rattle.std.specs.Prelude.{string_bytes, string_capacity};
 ghost use Rattle.std.specs.Option.{option_map};
 ghost use Rattle.nano_text.specs.Front.{front, behind};
@@ -55,9 +55,24 @@ impl DeJsonState {
         self.take_lexeme(i)
     }
 
-    /// Passes over white space.
-    #[inline]
+    /// Passes over white space, of which most texts have none here.
+    #[inline(always)]
     fn skip_space(&mut self, i: &mut Chars<'_>)
+        ensures live { live self.new.cur i.new ≡ behind is_space (live self.old.cur i.old) }
+        ensures place { Counts self.old i.old self.new i.new }
+        ensures tok { self.new.tok ≡ self.old.tok }
+        ensures strbuf { self.new.strbuf ≡ self.old.strbuf }
+        ensures numbuf { self.new.numbuf ≡ self.old.numbuf }
+        ensures identbuf { self.new.identbuf ≡ self.old.identbuf }
+    {
+        if is_space(self.cur) {
+            self.skip_spaces(i);
+        }
+    }
+
+    /// Passes over white space, character by character.
+    #[inline(never)]
+    fn skip_spaces(&mut self, i: &mut Chars<'_>)
         ensures live { live self.new.cur i.new ≡ behind is_space (live self.old.cur i.old) }
         ensures place { Counts self.old i.old self.new i.new }
         ensures tok { self.new.tok ≡ self.old.tok }
@@ -70,7 +85,9 @@ impl DeJsonState {
         }
     }
 
-    /// Takes the token that begins here, where no white space stands.
+    /// Takes the token that begins here, where no white space stands: a number, a string or a mark,
+    /// of which most are, or another.
+    #[inline(always)]
     fn take_lexeme(&mut self, i: &mut Chars<'_>) -> Result<(), Refusal>
         ensures taken { OnOk result
             (IsLexeme (pending self.new) (live self.old.cur i.old) (live self.new.cur i.new)) }
@@ -81,17 +98,35 @@ impl DeJsonState {
         ensures room { IfErr result (λ r. r ≡ Refusal.Memory
             → NoRoomForLexeme self.old (live self.old.cur i.old)) }
     {
-        if let Some(tok) = mark(self.cur) {
-            self.next(i);
-            self.tok = tok;
-            return Ok(());
-        }
         if starts_number(self.cur) {
             return self.take_number(i);
         }
         if self.cur == '"' {
             return self.take_string(i);
         }
+        if let Some(tok) = mark(self.cur) {
+            self.next(i);
+            self.tok = tok;
+            return Ok(());
+        }
+        self.take_other(i)
+    }
+
+    /// Takes the word that begins here, or the end.
+    #[inline(never)]
+    fn take_other(&mut self, i: &mut Chars<'_>) -> Result<(), Refusal>
+        requires no_number { starts_number self.old.cur ≡ false }
+        requires no_string { self.old.cur ≢ 34 }
+        requires no_mark { mark_of self.old.cur ≡ None }
+        ensures taken { OnOk result
+            (IsLexeme (pending self.new) (live self.old.cur i.old) (live self.new.cur i.new)) }
+        ensures buffers { OnOk result (KeepsOtherBuffers self.old self.new) }
+        ensures place { OnOk result (Counts self.old i.old self.new i.new) }
+        ensures refused { IfErr result (λ r. r ≢ Refusal.Memory
+            → NoneLexeme (live self.old.cur i.old)) }
+        ensures room { IfErr result (λ r. r ≡ Refusal.Memory
+            → NoRoomForLexeme self.old (live self.old.cur i.old)) }
+    {
         if is_word(self.cur) {
             return self.take_word(i);
         }
@@ -103,6 +138,7 @@ impl DeJsonState {
     }
 
     /// Takes the number that begins here.
+    #[inline(always)]
     fn take_number(&mut self, i: &mut Chars<'_>) -> Result<(), Refusal>
         ensures taken { OnOk result
             (IsRunOf (pending self.new) (live self.old.cur i.old) (live self.new.cur i.new)) }
@@ -133,6 +169,7 @@ impl DeJsonState {
     }
 
     /// Takes the string that begins here.
+    #[inline(never)]
     fn take_string(&mut self, i: &mut Chars<'_>) -> Result<(), Refusal>
         ensures taken { OnOk result
             (IsQuoted (pending self.new) (live self.old.cur i.old) (live self.new.cur i.new)) }
@@ -230,7 +267,7 @@ fn is_word(c: char) -> bool
 fn starts_number(c: char) -> bool
     ensures { result ≡ starts_number c }
 {
-    c == '+' || c == '-' || c.is_ascii_digit()
+    c.is_ascii_digit() || c == '-' || c == '+'
 }
 
 /// The mark that a character is.

@@ -13,4 +13,5 @@ pub mod Numbers
 pub mod Strings
 pub mod Passing
 pub mod InLine
+pub mod WholeNumbers
 pub mod WrittenRuns

@@ -22,7 +22,7 @@ module _ (test : ℕ → Bool) (stops : test 0 ≡ false) (cut : (bytes : List �
   no_nul : (c : ℕ) → test c ≡ true → c ≢ 0
   no_nul c h e = let x : true ≡ false = sym h ∙ (ap test e ∙ stops) in cc x
 
-  drop_front : (text : List ℕ) → drop (length (front test text)) text ≡ behind test text
+  pub drop_front : (text : List ℕ) → drop (length (front test text)) text ≡ behind test text
   drop_front text = ap (drop (length (front test text))) (sym (front-append-behind test text)) ∙ drop-append_seam (front test text) (behind test text)
 
   take_front : (text : List ℕ) → take (length (front test text)) text ≡ front test text

@@ -15,6 +15,7 @@ mod room;
 mod run;
 mod string;
 mod triples;
+mod whole;
 mod written;
 
 pub use digits::{append_signed, append_unsigned};

@@ -1,6 +1,7 @@
 // Number lexemes.
 ghost use Rattle.std.specs.Prelude.{◌≡◌, ◌+◌, ◌^◌, ◌<◌, ◌≤◌, OnOk, IfOk, List, ℕ, pos, neg_ℤ};
 ghost use Rattle.std.specs.Prelude.{length, string_bytes, string_capacity, MatchOption, SomeIff};
+ghost use Rattle.std.specs.Prelude.{IfSome};
 ghost use Rattle.std.specs.Str.Parse.{digits_value};
 ghost use Rattle.nano_text.specs.Number.{IsNumber, AreGoodParts, number_from_parts, is_minus};
 ghost use Rattle.nano_text.specs.Number.{sign_text};
@@ -10,6 +11,7 @@ ghost use Rattle.nano_text.specs.Scan.{decimal_len, fraction_room, exponent_room
 
 use crate::place::Place;
 use crate::run::{Digits, ExponentLen, take_run};
+use crate::whole::{negative_ahead, stand_behind, unsigned_ahead};
 use std::alloc::AllocError;
 use std::str::Chars;
 
@@ -74,6 +76,15 @@ fn negated(value: u64) -> Option<i64>
     } else {
         None
     }
+}
+
+/// `-value` as a number, where 64 bits hold it.
+fn negative(value: u64) -> Option<Number>
+    ensures { IfSome result (λ number. (value ≤ 2 ^ 63)
+        × (number ≡ Number.I64 (neg_ℤ (pos value)))) }
+{
+    let value = negated(value)?;
+    Some(Number::I64(value))
 }
 
 /// The integer that a sign and digits write.
@@ -143,7 +154,53 @@ fn decimal_len(
 /// `Fault::Malformed` where no number lexeme begins here: no shorter part of a run that isn't good
 /// is one. `Fault::Memory` where `numbuf` could not grow for a decimal's text; an integer takes no
 /// memory. Afterwards the place stands behind the run.
+#[inline(always)]
 pub fn read_number(p: &mut Place, i: &mut Chars<'_>, numbuf: &mut String) -> Result<Number, Fault>
+    ensures found { IfOk result (λ number. (run : List ℕ)
+        × IsNumber (text_at p.old i.old) number run (text_at p.new i.new)
+        × (number ≡ Number.Dec → string_bytes numbuf.new ≡ run)) }
+    ensures place { OnOk result (Counts p.old i.old p.new i.new) }
+
+    // Memory is asked for only where the buffer has no room for a decimal's text.
+    ensures memory { result ≡ Err Fault.Memory → (run rest : List ℕ)
+        × IsNumber (text_at p.old i.old) Number.Dec run rest
+        × (string_capacity numbuf.old < length run) }
+    ensures malformed { result ≡ Err Fault.Malformed → (number : Number) (run rest : List ℕ)
+        → IsNumber (text_at p.old i.old) number run rest → ⊥ }
+{
+    if let Some(ahead) = unsigned_ahead(p.cur, i.as_str().as_bytes()) {
+        stand_behind(p, i, ahead);
+        return Ok(Number::U64(ahead.value));
+    }
+    read_other(p, i, numbuf)
+}
+
+/// Reads any number lexeme, of which few are whole numbers without a minus.
+#[inline(never)]
+fn read_other(p: &mut Place, i: &mut Chars<'_>, numbuf: &mut String) -> Result<Number, Fault>
+    ensures found { IfOk result (λ number. (run : List ℕ)
+        × IsNumber (text_at p.old i.old) number run (text_at p.new i.new)
+        × (number ≡ Number.Dec → string_bytes numbuf.new ≡ run)) }
+    ensures place { OnOk result (Counts p.old i.old p.new i.new) }
+
+    // Memory is asked for only where the buffer has no room for a decimal's text.
+    ensures memory { result ≡ Err Fault.Memory → (run rest : List ℕ)
+        × IsNumber (text_at p.old i.old) Number.Dec run rest
+        × (string_capacity numbuf.old < length run) }
+    ensures malformed { result ≡ Err Fault.Malformed → (number : Number) (run rest : List ℕ)
+        → IsNumber (text_at p.old i.old) number run rest → ⊥ }
+{
+    if let Some(ahead) = negative_ahead(p.cur, i.as_str().as_bytes()) {
+        if let Some(number) = negative(ahead.value) {
+            stand_behind(p, i, ahead);
+            return Ok(number);
+        }
+    }
+    read_run(p, i, numbuf)
+}
+
+/// Reads any number lexeme from the run that begins here.
+fn read_run(p: &mut Place, i: &mut Chars<'_>, numbuf: &mut String) -> Result<Number, Fault>
     ensures found { IfOk result (λ number. (run : List ℕ)
         × IsNumber (text_at p.old i.old) number run (text_at p.new i.new)
         × (number ≡ Number.Dec → string_bytes numbuf.new ≡ run)) }

@@ -59,6 +59,7 @@ fn plain_run(bytes: &[u8]) -> PlainRun
 ///
 /// Its first character is the current one, which may never have been in `i`. The others are
 /// appended at once.
+#[inline(always)]
 fn take_plain(p: &mut Place, i: &mut Chars<'_>, strbuf: &mut String) -> Result<(), AllocError>
     requires { is_plain p.old.cur ≡ true }
     ensures capacity { string_capacity strbuf.old ≤ string_capacity strbuf.new }
@@ -196,6 +197,7 @@ fn take_escape(p: &mut Place, i: &mut Chars<'_>) -> Option<char>
 /// `Fault::Malformed` where no string lexeme begins here, `Fault::Memory` where `strbuf` could not
 /// grow. Afterwards the place stands where the fault was found, and `strbuf` holds a front of the
 /// text.
+#[inline(always)]
 pub fn read_string(p: &mut Place, i: &mut Chars<'_>, strbuf: &mut String) -> Result<(), Fault>
     ensures found { OnOk result ((characters : List ℕ)
         × IsString (text_at p.old i.old) characters (text_at p.new i.new)

@@ -3,7 +3,7 @@ use Rattle.nano_text.specs.Place.{live}
 use Rattle.nano_text.specs.Front.{behind}
 use Rattle.json_tokens.specs.Cut.{is_space}
 use Rattle.json_tokens.specs.Outcomes.{Counts}
-use Rattle.json_tokens.proofs.state.DeJsonState.skip_space.Given as goal
+use Rattle.json_tokens.proofs.state.DeJsonState.skip_spaces.Given as goal
 
 abbrev pub invariant-space : goal.invariant-space
 invariant-space l = record {
