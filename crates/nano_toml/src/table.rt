@@ -98,7 +98,9 @@ fn full_key(alloc: Global, scope: &str, name: String) -> Result<String, AllocErr
     if scope.is_empty() {
         return Ok(name);
     }
-    let mut key = String::from_str(alloc, scope)?;
+    let room = scope.len().saturating_add(1).saturating_add(name.len());
+    let mut key = String::with_capacity(alloc, room)?;
+    key.push_str(scope)?;
     key.push('.')?;
     key.push_str(name.as_str())?;
     Ok(key)
@@ -117,14 +119,16 @@ impl Builder {
         }
     }
 
-    // Moves the table of the last element into the root.
+    // Moves the table of the last element into the root. The next table gets room for as many keys
+    // as this one has, since elements of one kind often have the same keys.
     fn end_element(&mut self, alloc: Global) -> Result<(), AllocError>
         requires { (done : List Stated) × IsBuilt done self.old }
         ensures { (done : List Stated) → IsBuilt done self.old
             → OnOk result (IsWhole done self.new) }
     {
         if let Some(key) = self.key.take() {
-            let table = mem::replace(&mut self.table, HashMap::new(alloc));
+            let next = HashMap::with_capacity(alloc, self.table.len())?;
+            let table = mem::replace(&mut self.table, next);
             push_table(alloc, &mut self.root, key, table)?;
         }
         Ok(())
