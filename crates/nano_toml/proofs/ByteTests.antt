@@ -1,5 +1,5 @@
 -- The tests that are made of bytes.
-use Rattle.std.proofs.Common.{◌≡◌, ◌≢◌, ℕ, ◌≤◌, ◌<◌, ◌==◌, Bool, true, false, not, eqb, refl, sym, ◌∙◌, ne_eqb, arith, inl, inr, nat_le}
+use Rattle.std.proofs.Common.{◌≡◌, ◌≢◌, ℕ, ◌≤◌, ◌<◌, ◌==◌, true, false, not, eqb, refl, sym, ◌∙◌, ne_eqb, arith, inl, inr, nat_le}
 use Rattle.std.proofs.lemmas.Bool.Decides.{leb_tells}
 use Rattle.nano_toml.specs.Characters.{IsByteTest, is_space, is_quote, is_sign, is_digit, starts_word, is_in_word, starts_number, is_in_digits, is_in_date}
 use Rattle.nano_toml.specs.Plain.{is_plain, is_in_line}

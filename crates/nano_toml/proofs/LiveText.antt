@@ -1,5 +1,5 @@
 -- What taking a character does to the live text.
-use Rattle.std.proofs.Common.{◌≡◌, ◌≢◌, ℕ, List, [], ◌∷◌, ◌++◌, Bool, true, false, cond, length, chars, encode_utf8, IsUtf8, refl, ap, sym, ◌∙◌, ne_eqb, eqb-true, ◌==◌, inl, inr, true≢false}
+use Rattle.std.proofs.Common.{◌≡◌, ◌≢◌, ℕ, List, [], ◌∷◌, ◌++◌, Bool, true, false, length, chars, encode_utf8, IsUtf8, refl, ap, sym, ◌∙◌, ne_eqb, eqb-true, ◌==◌, inl, inr, true≢false}
 use Rattle.std.proofs.lemmas.Bool.Decides.{eqb_tells}
 use Rattle.std.proofs.lemmas.Str.{chars_past_char}
 use Rattle.std.proofs.StrCases.{chars_of_empty}

@@ -1,5 +1,5 @@
 -- The first byte of what is left, and runs of it that are taken at once.
-use Rattle.std.proofs.Common.{◌≡◌, ℕ, List, [], ◌∷◌, ◌++◌, ◌==◌, ◌||◌, Bool, true, false, cond, not, Option, Some, None, nat_eq, drop, take, length, chars, encode_utf8_all, IsUtf8, refl, ap, sym, ◌∙◌, subst, eqb-true, ne_eqb, arith, true≢false}
+use Rattle.std.proofs.Common.{◌≡◌, ℕ, List, [], ◌∷◌, ◌==◌, ◌||◌, Bool, true, false, cond, not, Some, None, nat_eq, drop, take, length, chars, encode_utf8_all, IsUtf8, refl, ap, sym, ◌∙◌, subst, eqb-true, true≢false}
 use Rattle.std.proofs.Math.Seq.{drop-append_seam}
 use Rattle.std.proofs.StrCases.{chars_of_empty}
 use Rattle.std.proofs.lemmas.List.{take_at}
@@ -14,8 +14,8 @@ use Rattle.nano_toml.specs.Plain.{is_in_line}
 use Rattle.nano_toml.specs.Span.{begins, front, behind}
 use Rattle.nano_toml.proofs.LiveText.{live_none}
 use Rattle.nano_toml.proofs.Spans.{span_split}
-use Rattle.nano_toml.proofs.ByteTests.{line_test, some_test}
-use Rattle.nano_toml.proofs.Utf8Fronts.{begins_encodes, cut_behind_front, CutBehindFront, front_ascii, front_before_nul, behind_before_nul}
+use Rattle.nano_toml.proofs.ByteTests.{some_test}
+use Rattle.nano_toml.proofs.Utf8Fronts.{begins_encodes, cut_behind_front, front_ascii, front_before_nul, behind_before_nul}
 
 -- ---- the first byte
 

@@ -119,16 +119,14 @@ impl Builder {
         }
     }
 
-    // Moves the table of the last element into the root. The next table gets room for as many keys
-    // as this one has, since elements of one kind often have the same keys.
+    // Moves the table of the last element into the root.
     fn end_element(&mut self, alloc: Global) -> Result<(), AllocError>
         requires { (done : List Stated) × IsBuilt done self.old }
         ensures { (done : List Stated) → IsBuilt done self.old
             → OnOk result (IsWhole done self.new) }
     {
         if let Some(key) = self.key.take() {
-            let next = HashMap::with_capacity(alloc, self.table.len())?;
-            let table = mem::replace(&mut self.table, next);
+            let table = mem::replace(&mut self.table, HashMap::new(alloc));
             push_table(alloc, &mut self.root, key, table)?;
         }
         Ok(())

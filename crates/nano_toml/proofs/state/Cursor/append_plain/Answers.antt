@@ -1,4 +1,4 @@
-use Rattle.std.proofs.Common.{◌∙◌, ap, refl, length, arith}
+use Rattle.std.proofs.Common.{ap, refl, length, arith}
 use Rattle.nano_toml.specs.Plain.{is_plain}
 use Rattle.nano_toml.specs.LiveText.{live}
 use Rattle.nano_toml.proofs.ByteTests.{plain_test}

@@ -1,4 +1,4 @@
-use Rattle.std.proofs.Common.{ap, sym, ◌∙◌, refl}
+use Rattle.std.proofs.Common.{ap, sym, ◌∙◌}
 use Rattle.std.specs.Option.{option_copied}
 use Rattle.nano_toml.proofs.RunFronts.{first_byte, no_byte}
 use Rattle.nano_toml.proofs.state.Cursor.first.Goals as goal

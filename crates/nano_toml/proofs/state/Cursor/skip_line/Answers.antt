@@ -1,4 +1,4 @@
-use Rattle.std.proofs.Common.{◌∙◌, ap}
+use Rattle.std.proofs.Common.{◌∙◌}
 use Rattle.nano_toml.specs.Plain.{is_in_line}
 use Rattle.nano_toml.proofs.ByteTests.{line_test}
 use Rattle.nano_toml.proofs.RunFronts.{run_of, line_behind}

@@ -29,7 +29,7 @@ returns-in_ok-push_table c done built =
       none = c.take.ensures.after;
       root = Stands-whole done root (table_view c.push_table.new.root.entries) table (string_bytes c.in-Some.key)
           (Stands-at_key done root table c.args.self.now.key (Some c.in-Some.key) key built.stands) built.lawful puts;
-      empty = ap (λ (m : Map). table_view m.entries) c.replace-table.ensures.after ∙ ap table_view c.in_ok-next.ensures.empty;
+      empty = ap (λ (m : Map). table_view m.entries) c.replace-table.ensures.after ∙ ap table_view c.new.ensures.empty;
     }
 
 pub returns-in_default : goal.returns-in_default
