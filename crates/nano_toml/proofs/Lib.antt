@@ -1,6 +1,7 @@
 pub mod ArrayViews
 pub mod BuildLemmas
 pub mod BuilderSteps
+pub mod ByteTests
 pub mod CutLaws
 pub mod CutLength
 pub mod FrontLemmas
@@ -15,6 +16,7 @@ pub mod Places
 pub mod PlainFronts
 pub mod Quotes
 pub mod ReadLemmas
+pub mod RunFronts
 pub mod Signs
 pub mod Spans
 pub mod StatementLemmas

@@ -1,12 +1,13 @@
 -- What taking a character does to the live text.
-use Rattle.std.proofs.Common.{◌≡◌, ◌≢◌, ℕ, List, [], ◌∷◌, ◌++◌, Bool, true, false, cond, length, chars, encode_utf8, IsUtf8, refl, ap, sym, ◌∙◌, ne_eqb, eqb-true, nat_eq, not}
+use Rattle.std.proofs.Common.{◌≡◌, ◌≢◌, ℕ, List, [], ◌∷◌, ◌++◌, Bool, true, false, length, chars, encode_utf8, IsUtf8, refl, ap, sym, ◌∙◌, ne_eqb, eqb-true, ◌==◌, inl, inr, true≢false}
+use Rattle.std.proofs.lemmas.Bool.Decides.{eqb_tells}
 use Rattle.std.proofs.lemmas.Str.{chars_past_char}
 use Rattle.std.proofs.StrCases.{chars_of_empty}
 use Rattle.std.specs.Str.Iter.{chars_rest}
 use Rattle.std.specs.declared.str.Chars.{Chars}
-use Rattle.nano_toml.specs.LiveText.{held, live_from, before_nul}
-use Rattle.nano_toml.specs.Span.{begins, behind}
-use Rattle.nano_toml.specs.Characters.{is_line_feed}
+use Rattle.nano_toml.specs.LiveText.{held, live_of, before_nul}
+use Rattle.nano_toml.specs.Scan.{tail}
+use Rattle.nano_toml.specs.Span.{begins}
 
 -- one character comes off the front
 pub held_next : (s t : Chars) (c : ℕ) → IsUtf8 (chars_rest s) → chars_rest s ≡ encode_utf8 c ++ chars_rest t → held s ≡ c ∷ held t
@@ -15,54 +16,37 @@ held_next s t c text taken = chars_past_char (chars_rest s) (chars_rest t) c tex
 pub held_none : (s : Chars) → length (chars_rest s) ≡ 0 → held s ≡ []
 held_none s none = chars_of_empty (chars_rest s) none
 
--- the current character comes off the live text
-pub live_next : (cur c : ℕ) (s t : Chars) → held s ≡ c ∷ held t → cur ≢ 0 → live_from cur s ≡ cur ∷ live_from c t
-unfolding live_from
-live_next cur c s t e h = rw (ne_eqb cur 0 h, e) refl
+pub live_next : (s t : Chars) (c : ℕ) → held s ≡ c ∷ held t → c ≢ 0 → live_of s ≡ c ∷ live_of t
+unfolding live_of
+live_next s t c e h = rw (e, ne_eqb c 0 h) refl
 
-pub live_last : (cur : ℕ) (s t : Chars) → held s ≡ [] → cur ≢ 0 → live_from cur s ≡ cur ∷ live_from 0 t
-unfolding live_from
-live_last cur s t e h = rw (ne_eqb cur 0 h, e) refl
+-- at a NUL nothing is left, nor at the end
+pub live_nul : (s t : Chars) (c : ℕ) → held s ≡ c ∷ held t → c ≡ 0 → live_of s ≡ []
+unfolding live_of
+live_nul s t c e z = rw (e, z) refl
 
--- what is live once a character is taken
-pub live_taken : (c : ℕ) (s t : Chars) → held s ≡ c ∷ held t → live_from c t ≡ before_nul (held s)
-unfolding live_from
-live_taken c s t e = ap before_nul (sym e)
+pub live_none : (s : Chars) → held s ≡ [] → live_of s ≡ []
+unfolding live_of
+live_none s e = ap before_nul e
 
-pub live_none : (s t : Chars) → held s ≡ [] → live_from 0 t ≡ before_nul (held s)
-unfolding live_from
-live_none s t e = ap before_nul (sym e)
+-- the live text of a whole input
+pub live_whole : (s : Chars) (bytes : List ℕ) → chars_rest s ≡ bytes → live_of s ≡ before_nul (chars bytes)
+unfolding live_of
+live_whole s bytes e = ap (λ (bs : List ℕ). before_nul (chars bs)) e
 
--- at a NUL nothing is left
-pub live_end : (s : Chars) → live_from 0 s ≡ []
-unfolding live_from
-live_end s = refl
+-- a character that was taken, where one stood
+pub past_first : (p : ℕ → Bool) (text rest : List ℕ) (c : ℕ) → (c ≢ 0 → text ≡ c ∷ rest) → (c ≡ 0 → text ≡ []) → begins p text ≡ true → text ≡ c ∷ rest
+past_first p text rest c some none h = elim (eqb_tells c 0) [
+  | inl e ↦ let here : true ≡ false = sym h ∙ ap (begins p) (none e.1) in absurd (true≢false here)
+  | inr e ↦ some e.1
+]
 
--- a test that a NUL doesn't pass is a test of the current character
-pub begins_live : (p : ℕ → Bool) (cur : ℕ) (s : Chars) → p 0 ≡ false → begins p (live_from cur s) ≡ p cur
-unfolding live_from
-begins_live p cur s none = elim (nat_eq cur 0) as (λ b. nat_eq cur 0 ≡ b → begins p (cond b [] (cur ∷ before_nul (held s))) ≡ p cur) [
-  | true ↦ λ e. sym (ap p (eqb-true cur 0 e) ∙ none)
-  | false ↦ λ e. refl
-] refl
+pub tail_past : (p : ℕ → Bool) (text rest : List ℕ) (c : ℕ) → (c ≢ 0 → text ≡ c ∷ rest) → (c ≡ 0 → text ≡ []) → begins p text ≡ true → rest ≡ tail text
+tail_past p text rest c some none h = sym (ap tail (past_first p text rest c some none h))
 
--- two cursors at one place
-pub live_same : (cur : ℕ) (s t : Chars) → chars_rest s ≡ chars_rest t → live_from cur s ≡ live_from cur t
-unfolding live_from
-live_same cur s t e = ap (λ (bytes : List ℕ). before_nul (cur ∷ chars bytes)) e
-
-pub live_at_nul : (cur : ℕ) (s : Chars) → cur ≡ 0 → live_from cur s ≡ []
-unfolding live_from
-live_at_nul cur s e = rw e refl
-
-pub live_more : (cur : ℕ) (s : Chars) → cur ≢ 0 → live_from cur s ≡ cur ∷ before_nul (held s)
-unfolding live_from
-live_more cur s h = rw (ne_eqb cur 0 h) refl
-
--- a line stops at the end of the text, and at its line feed
-pub line_at_end : (cur : ℕ) (s : Chars) → cur ≡ 0 → behind (λ c. not (is_line_feed c)) (live_from cur s) ≡ live_from cur s
-line_at_end cur s e = rw (live_at_nul cur s e) refl
-
-pub line_at_feed : (cur : ℕ) (s : Chars) → cur ≡ 10 → behind (λ c. not (is_line_feed c)) (live_from cur s) ≡ live_from cur s
-unfolding live_from
-line_at_feed cur s e = rw e refl
+-- a known character was taken
+pub past_this : (k : ℕ) (text rest : List ℕ) (c : ℕ) → (c ≢ 0 → text ≡ c ∷ rest) → (c ≡ 0 → text ≡ []) → begins (λ d. d == k) text ≡ true → text ≡ k ∷ rest
+past_this k text rest c some none h =
+    let e = past_first (λ d. d == k) text rest c some none h in
+    let same : (c == k) ≡ true = sym (ap (begins (λ d. d == k)) e) ∙ h in
+    e ∙ ap (λ (d : ℕ). d ∷ rest) (eqb-true c k same)

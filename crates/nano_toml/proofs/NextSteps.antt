@@ -1,15 +1,16 @@
 -- The steps of the tokenizer, from the scan to what is cut.
-use Rattle.std.proofs.Common.{◌≡◌, ◌≢◌, ℕ, List, [], ◌∷◌, true, false, Option, Some, None, option_map, Result, Ok, Err, IfOk, IfErr, refl, ap, sym, ◌∙◌}
+use Rattle.std.proofs.Common.{◌≡◌, ◌≢◌, ℕ, List, [], ◌∷◌, ◌==◌, Bool, true, false, not, ne_eqb, Option, Some, None, option_map, Result, Ok, Err, IfOk, IfErr, refl, ap, sym, ◌∙◌}
 use Rattle.nano_toml.specs.declared.token.TomlTok.{TomlTok}
 use Rattle.nano_toml.specs.declared.fault.Fault.{Fault}
 use Rattle.nano_toml.specs.declared.fault.Fault.TheVariants.{Memory}
-use Rattle.nano_toml.specs.Characters.{starts_word, starts_number, is_quote, is_in_word}
+use Rattle.nano_toml.specs.Characters.{IsByteTest, starts_word, starts_number, is_quote, is_in_word}
 use Rattle.nano_toml.specs.Span.{begins, front, behind}
 use Rattle.nano_toml.specs.Token.{Token}
 use Rattle.nano_toml.specs.Taken.{Next, a_token, token_of, Took}
 use Rattle.nano_toml.specs.Word.{word_token}
 use Rattle.nano_toml.specs.Cut.{mark_token, CutsNothing}
 use Rattle.nano_toml.specs.Scan.{Taken, behind_one_quote, number_at, next_behind_gaps, next_at}
+use Rattle.nano_toml.proofs.ByteTests.{start_test, number_test, quote_test, comma_test, open_test, close_test, equals_test, some_test}
 use Rattle.nano_toml.proofs.WordCut.{at_word}
 use Rattle.nano_toml.proofs.LexemeCut.{at_number, at_quote, at_other, string_taken, mark_taken}
 use Rattle.nano_toml.proofs.CutLaws.{scanned_cut, scanned_nothing}
@@ -38,6 +39,25 @@ mark_none (Some t) rest h = cc h
 pub mark_some : (token : Option Token) (rest : List ℕ) (next : Next) → Some next ≡ option_map (λ t. a_token t) token → mark_taken token rest ≡ Some (record { next = next; rest = rest })
 mark_some None rest next h = cc h
 mark_some (Some t) rest next h = let same : next ≡ a_token t = cc h in ap (λ (n : Next). Some (record { next = n; rest = rest })) (sym same)
+
+-- a mark, or none, found by the first byte
+same_mark : (r b : ℕ) → (r == 44) ≡ (b == 44) → (r == 91) ≡ (b == 91) → (r == 93) ≡ (b == 93) → (r == 61) ≡ (b == 61) → mark_token r ≡ mark_token b
+same_mark r b c o s e = rw (c, o, s, e) refl
+
+pub mark_step : (text rest : List ℕ) (r b : ℕ) → text ≡ r ∷ rest → ((p : ℕ → Bool) → IsByteTest p → begins p text ≡ p b) → starts_word b ≡ false → starts_number b ≡ false → is_quote b ≡ false
+    → next_behind_gaps text ≡ mark_taken (mark_token b) rest
+mark_step text rest r b e test w n q =
+    let at : (p : ℕ → Bool) → IsByteTest p → p r ≡ p b = λ p h. sym (ap (begins p) e) ∙ test p h in
+    mark_next text rest r e (at starts_word start_test ∙ w) (at starts_number number_test ∙ n) (at is_quote quote_test ∙ q)
+    ∙ ap (λ (m : Option Token). mark_taken m rest) (same_mark r b (at (λ c. c == 44) comma_test) (at (λ c. c == 91) open_test) (at (λ c. c == 93) close_test) (at (λ c. c == 61) equals_test))
+
+pub no_mark_step : (text : List ℕ) (b : ℕ) → ((p : ℕ → Bool) → IsByteTest p → begins p text ≡ p b) → b ≢ 0 → starts_word b ≡ false → starts_number b ≡ false → is_quote b ≡ false
+    → None ≡ option_map (λ t. a_token t) (mark_token b) → next_behind_gaps text ≡ None
+no_mark_step [] b test some w n q m =
+    let here : false ≡ not (b == 0) = test (λ c. not (c == 0)) some_test in
+    let clash : false ≡ true = here ∙ rw (ne_eqb b 0 some) refl in
+    cc clash
+no_mark_step (r ∷ rest) b test some w n q m = mark_step (r ∷ rest) rest r b refl test w n q ∙ mark_none (mark_token b) rest m
 
 -- ---- a result, and what it says of the cut
 

@@ -1,5 +1,5 @@
 -- The kinds of characters that tokens are made of.
-use Rattle.std.specs.Prelude.{◌≡◌, ℕ, ◌==◌, ◌||◌, ◌&&◌, nat_le, Bool, true, false, List}
+use Rattle.std.specs.Prelude.{◌≡◌, ◌≤◌, ℕ, ◌==◌, ◌||◌, ◌&&◌, nat_le, Bool, true, false, List}
 use Rattle.std.specs.List.{AllByRecursion}
 
 abbrev pub is_space : ℕ → Bool
@@ -52,3 +52,8 @@ Each p cs = AllByRecursion (λ c. p c ≡ true) cs
 -- no character passes the test
 abbrev pub NoneOf : (ℕ → Bool) → List ℕ → Type 0
 NoneOf p cs = AllByRecursion (λ c. p c ≡ false) cs
+
+-- the test doesn't take a NUL, and all characters beyond ASCII answer it alike: so it can be made
+-- of the first byte of a character
+abbrev pub IsByteTest : (ℕ → Bool) → Type 0
+IsByteTest p = (p 0 ≡ false) × ((n : ℕ) → 128 ≤ n → p n ≡ p 128)

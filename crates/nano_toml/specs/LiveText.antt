@@ -13,17 +13,17 @@ abbrev pub before_nul : List ℕ → List ℕ
 before_nul [] = []
 before_nul (c ∷ cs) = if c == 0 then [] else (c ∷ before_nul cs)
 
--- the live text of a current character and what follows it
-unfoldable pub live_from : ℕ → Chars → List ℕ
-live_from cur behind = before_nul (cur ∷ held behind)
+-- the live text of what an iterator still holds
+unfoldable pub live_of : Chars → List ℕ
+live_of rest = before_nul (held rest)
 
 -- the live text of a cursor
 abbrev pub live : Cursor → List ℕ
-live cursor = live_from cursor.cur cursor.behind
+live cursor = live_of cursor.rest
 
--- the characters of a text that were taken, where this is left
+-- the characters of a text that were taken, where this is left, and the one that stands next
 abbrev pub taken : List ℕ → Chars → List ℕ
-taken bytes left = take (length (chars bytes) - length (held left)) (chars bytes)
+taken bytes left = take (length (chars bytes) - (length (held left) - 1)) (chars bytes)
 
 -- the live text of a whole input
 abbrev pub live_text : List ℕ → List ℕ

@@ -8,6 +8,7 @@ pub mod laws;
 mod numbers;
 mod parser;
 mod place;
+mod runs;
 mod same;
 mod state;
 mod statements;

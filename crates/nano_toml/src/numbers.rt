@@ -1,5 +1,5 @@
 // Numbers and dates.
-ghost use Rattle.std.specs.Prelude.{◌≡◌, ◌==◌, ◌^◌, pos, neg_ℤ, nat_le, true};
+ghost use Rattle.std.specs.Prelude.{◌≡◌, ◌==◌, ◌^◌, ◌++◌, pos, neg_ℤ, nat_le, true};
 ghost use Rattle.std.specs.Prelude.{Some, None, OnOk, OnErr, IfOk, IfErr, string_bytes};
 ghost use Rattle.std.specs.Prelude.{if◌then◌else◌};
 ghost use Rattle.nano_toml.specs.Characters.{is_sign, is_digit, starts_number, is_in_digits};
@@ -15,38 +15,39 @@ ghost use Rattle.nano_toml.specs.Taken.{token_of};
 ghost use Rattle.nano_toml.specs.Token.{nan, infinity};
 
 use crate::fault::{Fault, Lexeme};
+use crate::runs::{date_len, digits_len};
 use crate::state::Cursor;
 use crate::token::TomlTok;
 use std::alloc::{AllocError, Global};
 
-fn is_sign(c: char) -> bool
+fn is_sign(c: u8) -> bool
     ensures { result ≡ is_sign c }
 {
-    c == '+' || c == '-'
+    c == b'+' || c == b'-'
 }
 
-fn is_digit(c: char) -> bool
+fn is_digit(c: u8) -> bool
     ensures { result ≡ is_digit c }
 {
-    c >= '0' && c <= '9'
+    c >= b'0' && c <= b'9'
 }
 
-pub(crate) fn starts_number(c: char) -> bool
+pub(crate) fn starts_number(c: u8) -> bool
     ensures { result ≡ starts_number c }
 {
     is_sign(c) || is_digit(c)
 }
 
-fn is_in_digits(c: char) -> bool
+pub(crate) fn is_in_digits(c: u8) -> bool
     ensures { result ≡ is_in_digits c }
 {
-    is_digit(c) || c == '_'
+    is_digit(c) || c == b'_'
 }
 
-fn is_in_date(c: char) -> bool
+pub(crate) fn is_in_date(c: u8) -> bool
     ensures { result ≡ is_in_date c }
 {
-    is_digit(c) || c == ':' || c == '-' || c == 'T'
+    is_digit(c) || c == b':' || c == b'-' || c == b'T'
 }
 
 /// Digits with underscores: whether there is a digit, and their value, unless it is too great.
@@ -56,14 +57,52 @@ struct Digits {
     value: Option<u64>,
 }
 
+/// What digits with underscores say.
+fn digits_of(run: &str) -> Digits
+    ensures any { result.any ≡ any_digit run.now }
+    ensures value { result.value ≡ fitting (value run.now) }
+{
+    let mut any = false;
+    let mut value = Some(0);
+    for byte in run.as_bytes() {
+        if is_digit(*byte) {
+            any = true;
+            value = with_digit(value, *byte);
+        }
+    }
+    Digits { any, value }
+}
+
+/// Whether there is a digit.
+fn has_digit(run: &str) -> bool
+    ensures { result ≡ any_digit run.now }
+{
+    for byte in run.as_bytes() {
+        if is_digit(*byte) {
+            return true;
+        }
+    }
+    false
+}
+
+/// Puts the digits of a run behind the text.
+fn push_digits(text: &mut String, run: &str) -> Result<(), AllocError>
+    ensures { OnOk result (Appends text.old text.new (digits run.now)) }
+{
+    for byte in run.as_bytes() {
+        if is_digit(*byte) {
+            text.push(char::from(*byte))?;
+        }
+    }
+    Ok(())
+}
+
 /// The value with one more digit, unless it is too great.
-fn with_digit(value: Option<u64>, digit: char) -> Option<u64>
+fn with_digit(value: Option<u64>, digit: u8) -> Option<u64>
     requires { is_digit digit ≡ true }
     ensures { result ≡ more_value value digit }
 {
-    value?
-        .checked_mul(10)?
-        .checked_add(digit as u64 - '0' as u64)
+    value?.checked_mul(10)?.checked_add(u64::from(digit - b'0'))
 }
 
 /// The negative number of this size, where it is in range.
@@ -100,14 +139,16 @@ fn integer(minus: bool, digits: Digits) -> Result<TomlTok, Fault>
     }
 }
 
-/// The sign that is kept of a number's text.
-fn sign_text(alloc: Global, minus: bool) -> Result<String, AllocError>
-    ensures { IfOk result (λ text. string_bytes text ≡ kept_sign minus) }
+/// The sign that is kept of a number's text and the digits of a run, with room for more bytes.
+fn start_text(alloc: Global, minus: bool, run: &str, more: usize) -> Result<String, AllocError>
+    ensures { IfOk result (λ text. string_bytes text ≡ kept_sign minus ++ digits run.now) }
 {
-    let mut text = String::new(alloc);
+    let room = run.len().saturating_add(more).saturating_add(1);
+    let mut text = String::with_capacity(alloc, room)?;
     if minus {
         text.push('-')?;
     }
+    push_digits(&mut text, run)?;
     Ok(text)
 }
 
@@ -118,80 +159,45 @@ impl<'a> Cursor<'a> {
         ensures rest { live self.new
             ≡ (if begins is_sign (live self.old) then tail (live self.old) else live self.old) }
     {
-        let minus = self.cur == '-';
-        if is_sign(self.cur) {
+        let first = self.first();
+        let minus = first == b'-';
+        if is_sign(first) {
             self.next();
         }
         minus
     }
 
     /// Takes digits and underscores.
-    fn read_digits(&mut self) -> Digits
-        ensures any { result.any ≡ any_digit (front is_in_digits (live self.old)) }
-        ensures value { result.value ≡ fitting (value (front is_in_digits (live self.old))) }
+    fn read_digits(&mut self) -> &'a str
+        ensures text { result.now ≡ front is_in_digits (live self.old) }
         ensures rest { live self.new ≡ behind is_in_digits (live self.old) }
     {
-        let mut any = false;
-        let mut value = Some(0);
-        'digits: while is_in_digits(self.cur) {
-            if is_digit(self.cur) {
-                any = true;
-                value = with_digit(value, self.cur);
-            }
-            self.next();
-        }
-        Digits { any, value }
+        let held = self.rest.as_str();
+        self.cut(digits_len(held.as_bytes()))
     }
 
-    /// Takes digits and underscores, puts the digits behind the text, and answers whether there are
-    /// any.
-    fn append_digits(&mut self, text: &mut String) -> Result<bool, AllocError>
-        ensures any { IfOk result (λ any. any ≡ any_digit (front is_in_digits (live self.old))) }
-        ensures rest { OnOk result (live self.new ≡ behind is_in_digits (live self.old)) }
-        ensures text { OnOk result
-            (Appends text.old text.new (digits (front is_in_digits (live self.old)))) }
+    /// Takes digits, `:`, `-` and `T`.
+    fn read_rest_of_date(&mut self) -> &'a str
+        ensures text { result.now ≡ front is_in_date (live self.old) }
+        ensures rest { live self.new ≡ behind is_in_date (live self.old) }
     {
-        let mut any = false;
-        'kept: while is_in_digits(self.cur) {
-            if is_digit(self.cur) {
-                any = true;
-                text.push(self.cur)?;
-            }
-            self.next();
-        }
-        Ok(any)
+        let held = self.rest.as_str();
+        self.cut(date_len(held.as_bytes()))
     }
 
-    /// Takes digits, `:`, `-` and `T`, and puts them behind the text.
-    fn append_date(&mut self, text: &mut String) -> Result<(), AllocError>
-        ensures rest { OnOk result (live self.new ≡ behind is_in_date (live self.old)) }
-        ensures text { OnOk result (Appends text.old text.new (front is_in_date (live self.old))) }
-    {
-        'date: while is_in_date(self.cur) {
-            text.push(self.cur)?;
-            self.next();
-        }
-        Ok(())
-    }
-
-    /// Reads a decimal, behind its point. Its digits before the point begin at `whole`.
-    fn read_decimal(
-        &mut self,
-        alloc: Global,
-        minus: bool,
-        whole: &mut Cursor<'_>,
-    ) -> Result<TomlTok, Fault>
+    /// Reads a decimal, behind its point, with these digits before the point.
+    fn read_decimal(&mut self, alloc: Global, minus: bool, whole: &str) -> Result<TomlTok, Fault>
         ensures found { Takes result
-            (decimal_at minus (front is_in_digits (live whole.old)) (live self.old))
-            (live self.new) }
-        ensures refused { OnFault result
-            (decimal_at minus (front is_in_digits (live whole.old)) (live self.old) ≡ None) }
+            (decimal_at minus whole.now (live self.old)) (live self.new) }
+        ensures refused { OnFault result (decimal_at minus whole.now (live self.old) ≡ None) }
         ensures told { FaultIs result (Fault.Malformed Lexeme.Number) }
     {
-        let mut text = sign_text(alloc, minus)?;
-        let before = whole.append_digits(&mut text)?;
+        let part = self.read_digits();
+        let before = has_digit(whole);
+        let after = has_digit(part);
+        let mut text = start_text(alloc, minus, whole, part.len().saturating_add(1))?;
         text.push('.')?;
-        let after = self.append_digits(&mut text)?;
+        push_digits(&mut text, part)?;
         if before || after {
             Ok(TomlTok::F64(text))
         } else {
@@ -199,21 +205,14 @@ impl<'a> Cursor<'a> {
         }
     }
 
-    /// Reads a date, behind its first minus. Its first digits begin at `first`.
-    fn read_date(
-        &mut self,
-        alloc: Global,
-        minus: bool,
-        first: &mut Cursor<'_>,
-    ) -> Result<TomlTok, AllocError>
-        ensures { Takes result
-            (date_at minus (front is_in_digits (live first.old)) (live self.old))
-            (live self.new) }
+    /// Reads a date, behind its first minus, with these digits before it.
+    fn read_date(&mut self, alloc: Global, minus: bool, first: &str) -> Result<TomlTok, AllocError>
+        ensures { Takes result (date_at minus first.now (live self.old)) (live self.new) }
     {
-        let mut text = sign_text(alloc, minus)?;
-        let _any = first.append_digits(&mut text)?;
+        let more = self.read_rest_of_date();
+        let mut text = start_text(alloc, minus, first, more.len().saturating_add(1))?;
         text.push('-')?;
-        self.append_date(&mut text)?;
+        text.push_str(more)?;
         Ok(TomlTok::Date(text))
     }
 
@@ -223,7 +222,7 @@ impl<'a> Cursor<'a> {
         ensures refused { OnFault result (word_at (nan minus) n_a_n (live self.old) ≡ None) }
         ensures told { FaultIs result (Fault.Malformed Lexeme.Nan) }
     {
-        if self.take('n') && self.take('a') && self.take('n') {
+        if self.take(b'n') && self.take(b'a') && self.take(b'n') {
             Ok(TomlTok::Nan(minus))
         } else {
             Err(Fault::Malformed(Lexeme::Nan))
@@ -236,9 +235,9 @@ impl<'a> Cursor<'a> {
             (word_at (infinity minus) i_n_f (live self.old)) (live self.new) }
         ensures refused { OnFault result (word_at (infinity minus) i_n_f (live self.old) ≡ None) }
     {
-        if !self.take('i') || !self.take('n') {
+        if !self.take(b'i') || !self.take(b'n') {
             Err(Fault::Malformed(Lexeme::Nan))
-        } else if self.take('f') {
+        } else if self.take(b'f') {
             Ok(TomlTok::Inf(minus))
         } else {
             Err(Fault::Malformed(Lexeme::Infinity))
@@ -251,14 +250,13 @@ impl<'a> Cursor<'a> {
         ensures refused { OnFault result (number_from minus (live self.old) ≡ None) }
         ensures told { FaultIs result (Fault.Malformed Lexeme.Number) }
     {
-        let mut start = self.again();
-        let digits = self.read_digits();
-        if self.take('.') {
-            self.read_decimal(alloc, minus, &mut start)
-        } else if self.take('-') {
-            Ok(self.read_date(alloc, minus, &mut start)?)
+        let whole = self.read_digits();
+        if self.take(b'.') {
+            self.read_decimal(alloc, minus, whole)
+        } else if self.take(b'-') {
+            Ok(self.read_date(alloc, minus, whole)?)
         } else {
-            integer(minus, digits)
+            integer(minus, digits_of(whole))
         }
     }
 
@@ -268,10 +266,11 @@ impl<'a> Cursor<'a> {
         ensures refused { OnFault result (number_at (live self.old) ≡ None) }
     {
         let minus = self.read_sign();
-        if self.cur == 'n' {
+        let first = self.first();
+        if first == b'n' {
             return self.read_nan(minus);
         }
-        if self.cur == 'i' {
+        if first == b'i' {
             return self.read_infinity(minus);
         }
         self.read_from_digits(alloc, minus)

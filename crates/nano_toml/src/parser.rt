@@ -59,8 +59,8 @@ fn message(alloc: Global, fault: Fault) -> Result<String, AllocError>
 
 // The error of a fault that was found where the reader of the text stands.
 fn error_at(input: &str, reader: &Reader, fault: Fault) -> TomlErr
-    ensures line { result.line ≡ line_of (taken input.now reader.now.cursor.behind) }
-    ensures col { result.col ≡ column_of (taken input.now reader.now.cursor.behind) }
+    ensures line { result.line ≡ line_of (taken input.now reader.now.cursor.rest) }
+    ensures col { result.col ≡ column_of (taken input.now reader.now.cursor.rest) }
     ensures told { result.memory ≡ false → Tells fault (string_bytes result.msg) }
     ensures empty { result.memory ≡ true → string_bytes result.msg ≡ [] }
 {

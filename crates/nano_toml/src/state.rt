@@ -1,9 +1,11 @@
 // The place in a text, and the steps to the next character and to the next token.
-ghost use Rattle.std.specs.Prelude.{◌≡◌, ◌≢◌, ◌∷◌, ◌==◌, ◌-◌, chars, length, false, not};
-ghost use Rattle.std.specs.Prelude.{IfOk, option_map, if◌then◌else◌};
-ghost use Rattle.nano_toml.specs.Characters.{is_space, is_line_feed, starts_word, starts_number};
+ghost use Rattle.std.specs.Prelude.{◌≡◌, ◌≢◌, ℕ, Bool, [], ◌∷◌, ◌<◌, ◌==◌, ◌-◌, chars, length, false};
+ghost use Rattle.std.specs.Prelude.{IfOk, option_map, if◌then◌else◌, not, take as taken_of, drop};
+ghost use Rattle.std.specs.Str.{IsCharBoundary};
+ghost use Rattle.std.specs.Str.Iter.{chars_rest};
+ghost use Rattle.nano_toml.specs.Characters.{is_space, is_line_feed, IsByteTest};
 ghost use Rattle.nano_toml.specs.Cut.{mark_token, CutsNothing};
-ghost use Rattle.nano_toml.specs.LiveText.{live, live_text, held, before_nul};
+ghost use Rattle.nano_toml.specs.LiveText.{live, live_text, held};
 ghost use Rattle.nano_toml.specs.Outcomes.{OnFault};
 ghost use Rattle.nano_toml.specs.Scan.{behind_gaps, tail};
 ghost use Rattle.nano_toml.specs.Span.{begins, behind};
@@ -11,87 +13,99 @@ ghost use Rattle.nano_toml.specs.Taken.{a_token, token_of, Took};
 
 use crate::fault::{Fault, Lexeme};
 use crate::numbers::starts_number;
+use crate::runs::line_len;
 use crate::token::TomlTok;
 use crate::words::{starts_word, word_token};
 use std::alloc::Global;
 use std::str::Chars;
 
-/// A text as far as it was taken: the current character, NUL at the end, and what stands behind it.
+/// A text as far as it was taken: what is left of it, which goes up to its end or to a NUL.
 #[derive(Drop)]
 pub(crate) struct Cursor<'a> {
-    pub(crate) cur: char,
-    pub(crate) behind: Chars<'a>,
+    pub(crate) rest: Chars<'a>,
 }
 
-fn is_space(c: char) -> bool
+fn is_space(c: u8) -> bool
     ensures { result ≡ is_space c }
 {
-    c == '\n' || c == '\r' || c == '\t' || c == ' '
+    c == b'\n' || c == b'\r' || c == b'\t' || c == b' '
 }
 
 /// The token of one character, if it is one.
-fn mark(c: char) -> Option<TomlTok>
+fn mark(c: u8) -> Option<TomlTok>
     ensures { option_map (λ t. token_of t) result ≡ option_map (λ t. a_token t) (mark_token c) }
 {
     match c {
-        ',' => Some(TomlTok::Comma),
-        '[' => Some(TomlTok::BlockOpen),
-        ']' => Some(TomlTok::BlockClose),
-        '=' => Some(TomlTok::Equals),
+        b',' => Some(TomlTok::Comma),
+        b'[' => Some(TomlTok::BlockOpen),
+        b']' => Some(TomlTok::BlockClose),
+        b'=' => Some(TomlTok::Equals),
         _ => None,
     }
 }
 
 impl<'a> Cursor<'a> {
-    /// The first character of a text.
+    /// The start of a text.
     pub(crate) fn new(input: &'a str) -> Cursor<'a>
         ensures { live result ≡ live_text input.now }
     {
-        let mut cursor = Cursor {
-            cur: '\0',
-            behind: input.chars(),
-        };
-        cursor.next();
-        cursor
-    }
-
-    /// Another cursor at the same place.
-    pub(crate) fn again(&self) -> Cursor<'a>
-        ensures { live result ≡ live self.now }
-    {
         Cursor {
-            cur: self.cur,
-            behind: self.behind.as_str().chars(),
+            rest: input.chars(),
         }
     }
 
-    /// Takes one character.
-    pub(crate) fn next(&mut self)
-        ensures rest { live self.new ≡ before_nul (held self.old.behind) }
-        ensures taken { self.old.cur ≢ 0 → live self.old ≡ self.old.cur ∷ live self.new }
+    /// The first byte of what is left, or 0 at its end: a test of bytes can be made of it in place
+    /// of the character.
+    pub(crate) fn first(&self) -> u8
+        ensures end { result ≡ 0 → live self.now ≡ [] }
+        ensures test { (p : ℕ → Bool) → IsByteTest p → begins p (live self.now) ≡ p result }
     {
-        let _text = self.behind.as_str();
-        match self.behind.next() {
-            Some(c) => self.cur = c,
-            None => self.cur = '\0',
+        match self.rest.as_str().as_bytes().first() {
+            Some(byte) => *byte,
+            None => 0,
         }
     }
 
-    /// How many characters of the text were taken, the current one among them.
+    /// Takes one character, and answers it, or NUL at the end.
+    pub(crate) fn next(&mut self) -> char
+        ensures taken { result ≢ 0 → live self.old ≡ result ∷ live self.new }
+        ensures end { result ≡ 0 → live self.old ≡ [] }
+    {
+        let _text = self.rest.as_str();
+        match self.rest.next() {
+            Some(c) => c,
+            None => '\0',
+        }
+    }
+
+    /// Takes so many bytes, which are whole characters.
+    pub(crate) fn cut(&mut self, len: usize) -> &'a str
+        requires { IsCharBoundary (chars_rest self.old.rest) len }
+        ensures front { result.now ≡ taken_of len (chars_rest self.old.rest) }
+        ensures back { chars_rest self.new.rest ≡ drop len (chars_rest self.old.rest) }
+    {
+        let (front, back) = self.rest.as_str().split_at(len);
+        self.rest = back.chars();
+        front
+    }
+
+    /// How many characters of the text were taken, the one that stands here among them.
     pub(crate) fn taken(&self, text: &str) -> usize
-        ensures { result ≡ length (chars text.now) - length (held self.now.behind) }
+        ensures { result ≡ length (chars text.now) - (length (held self.now.rest) - 1) }
     {
-        let left = self.behind.as_str();
-        text.chars().count().saturating_sub(left.chars().count())
+        let left = self.rest.as_str();
+        let behind = left.chars().count().saturating_sub(1);
+        text.chars().count().saturating_sub(behind)
     }
 
-    /// Takes this character, if it stands here, and answers whether it does.
-    pub(crate) fn take(&mut self, wanted: char) -> bool
-        requires { wanted ≢ 0 }
+    /// Takes this character of ASCII, if it stands here, and answers whether it does.
+    pub(crate) fn take(&mut self, wanted: u8) -> bool
+        requires some { wanted ≢ 0 }
+        requires ascii { wanted < 128 }
         ensures found { result ≡ begins (λ c. c == wanted) (live self.old) }
         ensures rest { live self.new ≡ (if result then tail (live self.old) else live self.old) }
     {
-        let found = self.cur == wanted;
+        let found = self.first() == wanted;
         if found {
             self.next();
         }
@@ -102,9 +116,8 @@ impl<'a> Cursor<'a> {
     fn skip_line(&mut self)
         ensures { live self.new ≡ behind (λ c. not (is_line_feed c)) (live self.old) }
     {
-        'line: while self.cur != '\n' && self.cur != '\0' {
-            self.next();
-        }
+        let held = self.rest.as_str();
+        self.cut(line_len(held.as_bytes()));
     }
 
     /// Takes white space and comments.
@@ -112,10 +125,10 @@ impl<'a> Cursor<'a> {
         ensures { live self.new ≡ behind_gaps false (live self.old) }
     {
         'gaps: loop {
-            if self.cur == '#' {
-                self.next();
+            let first = self.first();
+            if first == b'#' {
                 self.skip_line();
-            } else if is_space(self.cur) {
+            } else if is_space(first) {
                 self.next();
             } else {
                 return;
@@ -129,20 +142,21 @@ impl<'a> Cursor<'a> {
         ensures refused { OnFault result (CutsNothing (live self.old)) }
     {
         self.skip();
-        if starts_word(self.cur) {
-            return Ok(word_token(self.read_word(alloc)?));
+        let first = self.first();
+        if starts_word(first) {
+            return Ok(word_token(alloc, self.read_word())?);
         }
-        if starts_number(self.cur) {
+        if starts_number(first) {
             return self.read_number(alloc);
         }
-        if self.cur == '"' {
+        if first == b'"' {
             self.next();
             return Ok(TomlTok::Str(self.read_string(alloc)?));
         }
-        if self.cur == '\0' {
+        if first == 0 {
             return Ok(TomlTok::Eof);
         }
-        match mark(self.cur) {
+        match mark(first) {
             Some(token) => {
                 self.next();
                 Ok(token)

@@ -98,7 +98,9 @@ fn full_key(alloc: Global, scope: &str, name: String) -> Result<String, AllocErr
     if scope.is_empty() {
         return Ok(name);
     }
-    let mut key = String::from_str(alloc, scope)?;
+    let room = scope.len().saturating_add(1).saturating_add(name.len());
+    let mut key = String::with_capacity(alloc, room)?;
+    key.push_str(scope)?;
     key.push('.')?;
     key.push_str(name.as_str())?;
     Ok(key)

@@ -1,51 +1,48 @@
 // Words.
-ghost use Rattle.std.specs.Prelude.{◌≡◌, OnOk, IfOk, string_bytes};
+ghost use Rattle.std.specs.Prelude.{◌≡◌, IfOk};
 ghost use Rattle.nano_toml.specs.Characters.{starts_word, is_in_word};
 ghost use Rattle.nano_toml.specs.LiveText.{live};
 ghost use Rattle.nano_toml.specs.Span.{front, behind};
 ghost use Rattle.nano_toml.specs.Taken.{token_of, a_token};
 ghost use Rattle.nano_toml.specs.Word.{word_token};
 
+use crate::runs::word_len;
 use crate::state::Cursor;
 use crate::token::TomlTok;
 use std::alloc::{AllocError, Global};
 
-pub(crate) fn starts_word(c: char) -> bool
+pub(crate) fn starts_word(c: u8) -> bool
     ensures { result ≡ starts_word c }
 {
-    c.is_ascii_alphabetic() || c == '_'
+    c.is_ascii_alphabetic() || c == b'_'
 }
 
-fn is_in_word(c: char) -> bool
+pub(crate) fn is_in_word(c: u8) -> bool
     ensures { result ≡ is_in_word c }
 {
-    starts_word(c) || c == '-' || c == '.'
+    starts_word(c) || c == b'-' || c == b'.'
 }
 
 /// What a word is.
-pub(crate) fn word_token(word: String) -> TomlTok
-    ensures { token_of result ≡ a_token (word_token (string_bytes word)) }
+pub(crate) fn word_token(alloc: Global, word: &str) -> Result<TomlTok, AllocError>
+    ensures { IfOk result (λ t. token_of t ≡ a_token (word_token word.now)) }
 {
-    match word.as_str() {
-        "true" => TomlTok::Bool(true),
-        "false" => TomlTok::Bool(false),
-        "inf" => TomlTok::Inf(false),
-        "nan" => TomlTok::Nan(false),
-        _ => TomlTok::Ident(word),
+    match word {
+        "true" => Ok(TomlTok::Bool(true)),
+        "false" => Ok(TomlTok::Bool(false)),
+        "inf" => Ok(TomlTok::Inf(false)),
+        "nan" => Ok(TomlTok::Nan(false)),
+        _ => Ok(TomlTok::Ident(String::from_str(alloc, word)?)),
     }
 }
 
 impl<'a> Cursor<'a> {
     /// Takes a word.
-    pub(crate) fn read_word(&mut self, alloc: Global) -> Result<String, AllocError>
-        ensures text { IfOk result (λ word. string_bytes word ≡ front is_in_word (live self.old)) }
-        ensures rest { OnOk result (live self.new ≡ behind is_in_word (live self.old)) }
+    pub(crate) fn read_word(&mut self) -> &'a str
+        ensures text { result.now ≡ front is_in_word (live self.old) }
+        ensures rest { live self.new ≡ behind is_in_word (live self.old) }
     {
-        let mut word = String::new(alloc);
-        'letters: while is_in_word(self.cur) {
-            word.push(self.cur)?;
-            self.next();
-        }
-        Ok(word)
+        let held = self.rest.as_str();
+        self.cut(word_len(held.as_bytes()))
     }
 }

@@ -7,7 +7,7 @@ use Rattle.nano_toml.proofs.parser.TomlParser.parse.Goals as goal
 pub returns-in-Err-clause-place : goal.returns-in-Err-clause-place
 returns-in-Err-clause-place c =
     let text = chars c.args.input.now in
-    let count = length text - length (held c.read_table.new.reader.cursor.behind) in
+    let count = length text - (length (held c.read_table.new.reader.cursor.rest) - 1) in
     (take count text, drop count text, sym (take-append-drop count text), c.error_at.ensures.line, c.error_at.ensures.col)
 
 pub returns-in-Ok-clause-found : goal.returns-in-Ok-clause-found

@@ -1,27 +1,20 @@
-use Rattle.std.proofs.Common.{sym, ◌∙◌, refl}
-use Rattle.std.proofs.Math.Bool.{or-false}
+use Rattle.std.proofs.Common.{refl, ◌∙◌}
 use Rattle.nano_toml.specs.Characters.{is_in_digits}
-use Rattle.nano_toml.proofs.LiveText.{begins_live}
-use Rattle.nano_toml.proofs.Spans.{front_stop, behind_stop}
-use Rattle.nano_toml.specs.Number.{digits}
-use Rattle.nano_toml.specs.Span.{front}
-use Rattle.nano_toml.specs.LiveText.{live}
-use Rattle.nano_toml.proofs.Values.{value_fitting}
+use Rattle.nano_toml.proofs.ByteTests.{digits_test}
+use Rattle.nano_toml.proofs.RunFronts.{run_of, ascii_front}
 use Rattle.nano_toml.proofs.state.Cursor.read_digits.Goals as goal
 
-pub returns-clause-any : goal.returns-clause-any
-returns-clause-any c =
-    let stop = begins_live is_in_digits c.digits.self.cur c.digits.self.behind refl ∙ sym c.digits-test.ensures in
-    let full = c.digits.invariant.any in
-    sym (or-false _) ∙ rw (front_stop is_in_digits _ stop) at full
+pub cut-requires : goal.cut-requires
+cut-requires c =
+    let run = run_of is_in_digits digits_test c.args.self.now.rest _ _ _ c.as_str-held.utf8 c.as_str-held.ensures c.as_bytes.ensures.value c.digits_len.ensures in
+    run.boundary
 
-pub returns-clause-value : goal.returns-clause-value
-returns-clause-value c =
-    let stop = begins_live is_in_digits c.digits.self.cur c.digits.self.behind refl ∙ sym c.digits-test.ensures in
-    let full = c.digits.invariant.value in
-    (rw (front_stop is_in_digits _ stop) at full) ∙ value_fitting 0 (digits (front is_in_digits (live c.args.self.now)))
+pub returns-clause-text : goal.returns-clause-text
+returns-clause-text c =
+    let run = run_of is_in_digits digits_test c.args.self.now.rest _ _ _ c.as_str-held.utf8 c.as_str-held.ensures c.as_bytes.ensures.value c.digits_len.ensures in
+    c.cut.ensures.front ∙ ascii_front is_in_digits c.args.self.now.rest c.digits_len.result digits_test refl run
 
 pub returns-clause-rest : goal.returns-clause-rest
 returns-clause-rest c =
-    let stop = begins_live is_in_digits c.digits.self.cur c.digits.self.behind refl ∙ sym c.digits-test.ensures in
-    sym (behind_stop is_in_digits _ stop) ∙ c.digits.invariant.rest
+    let run = run_of is_in_digits digits_test c.args.self.now.rest _ _ _ c.as_str-held.utf8 c.as_str-held.ensures c.as_bytes.ensures.value c.digits_len.ensures in
+    run.behind_is c.cut.new.self.rest c.cut.ensures.back

@@ -1,18 +1,22 @@
-use Rattle.std.proofs.Common.{ap, sym, ◌∙◌, refl, length, arith, string_bytes, eq-eqb}
+use Rattle.std.proofs.Common.{ap, sym, ◌∙◌, ◌==◌, ℕ, [], length, arith, string_bytes, eq-eqb}
 use Rattle.nano_toml.specs.Characters.{is_quote}
 use Rattle.nano_toml.specs.LiveText.{live}
-use Rattle.nano_toml.proofs.LiveText.{live_at_nul, begins_live}
+use Rattle.nano_toml.specs.Scan.{triple_at, some_quotes}
+use Rattle.nano_toml.proofs.ByteTests.{quote_test, backslash_test}
 use Rattle.nano_toml.proofs.PlainFronts.{triple_run}
 use Rattle.nano_toml.proofs.Quotes.{run_is_content, run_closes}
 use Rattle.nano_toml.proofs.Spans.{behind_shorter}
 use Rattle.nano_toml.proofs.state.Cursor.read_triple_string.Goals as goal
 
 pub returns-in-0-clause-refused : goal.returns-in-0-clause-refused
-returns-in-0-clause-refused c = λ _. sym c.pieces.invariant.same ∙ rw (live_at_nul c.pieces.self.cur c.pieces.self.behind c.in-0.is) refl
+returns-in-0-clause-refused c = λ _. sym c.pieces.invariant.same ∙ ap (triple_at (string_bytes c.pieces.text) (some_quotes [])) (c.first.ensures.end c.in-0.is)
+
+pub read_escaped-requires : goal.read_escaped-requires
+read_escaped-requires c = c.first.ensures.test (λ (d : ℕ). d == 92) backslash_test ∙ eq-eqb _ 92 c.in-92.is
 
 pub pieces-smaller-else-branch : goal.pieces-smaller-else-branch
 pieces-smaller-else-branch c =
-    let quote = begins_live is_quote c.pieces.self.cur c.pieces.self.behind refl ∙ eq-eqb _ 34 c.in-34.is in
+    let quote = c.first.ensures.test is_quote quote_test ∙ eq-eqb _ 34 c.in-34.is in
     omega (arith, ap length c.in_ok-closing_quotes-in-34.ensures.rest, behind_shorter is_quote (live c.pieces.self) quote)
 
 pub pieces-preserved-else-branch : goal.pieces-preserved-else-branch

@@ -1,16 +1,20 @@
-use Rattle.std.proofs.Common.{sym, ◌∙◌, refl, append-nil}
+use Rattle.std.proofs.Common.{refl, ◌∙◌}
 use Rattle.nano_toml.specs.Characters.{is_in_word}
-use Rattle.nano_toml.proofs.LiveText.{begins_live}
-use Rattle.nano_toml.proofs.Spans.{front_stop, behind_stop}
+use Rattle.nano_toml.proofs.ByteTests.{word_test}
+use Rattle.nano_toml.proofs.RunFronts.{run_of, ascii_front}
 use Rattle.nano_toml.proofs.state.Cursor.read_word.Goals as goal
+
+pub cut-requires : goal.cut-requires
+cut-requires c =
+    let run = run_of is_in_word word_test c.args.self.now.rest _ _ _ c.as_str-held.utf8 c.as_str-held.ensures c.as_bytes.ensures.value c.word_len.ensures in
+    run.boundary
 
 pub returns-clause-text : goal.returns-clause-text
 returns-clause-text c =
-    let stop = begins_live is_in_word c.letters.self.cur c.letters.self.behind refl ∙ sym c.letters-test.ensures in
-    let full = c.letters.invariant.text in
-    sym (append-nil _) ∙ rw (front_stop is_in_word _ stop) at full
+    let run = run_of is_in_word word_test c.args.self.now.rest _ _ _ c.as_str-held.utf8 c.as_str-held.ensures c.as_bytes.ensures.value c.word_len.ensures in
+    c.cut.ensures.front ∙ ascii_front is_in_word c.args.self.now.rest c.word_len.result word_test refl run
 
 pub returns-clause-rest : goal.returns-clause-rest
 returns-clause-rest c =
-    let stop = begins_live is_in_word c.letters.self.cur c.letters.self.behind refl ∙ sym c.letters-test.ensures in
-    sym (behind_stop is_in_word _ stop) ∙ c.letters.invariant.rest
+    let run = run_of is_in_word word_test c.args.self.now.rest _ _ _ c.as_str-held.utf8 c.as_str-held.ensures c.as_bytes.ensures.value c.word_len.ensures in
+    run.behind_is c.cut.new.self.rest c.cut.ensures.back

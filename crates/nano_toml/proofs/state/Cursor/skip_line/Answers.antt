@@ -1,9 +1,15 @@
-use Rattle.std.proofs.Common.{sym, ◌∙◌}
-use Rattle.nano_toml.proofs.LiveText.{line_at_end, line_at_feed}
+use Rattle.std.proofs.Common.{◌∙◌}
+use Rattle.nano_toml.specs.Plain.{is_in_line}
+use Rattle.nano_toml.proofs.ByteTests.{line_test}
+use Rattle.nano_toml.proofs.RunFronts.{run_of, line_behind}
 use Rattle.nano_toml.proofs.state.Cursor.skip_line.Goals as goal
 
-pub returns-else-self-ne0 : goal.returns-else-self-ne0
-returns-else-self-ne0 c = sym (line_at_end c.line.self.cur c.line.self.behind c.if-self-ne0.false) ∙ c.line.invariant.rest
+pub cut-requires : goal.cut-requires
+cut-requires c =
+    let run = run_of is_in_line line_test c.args.self.now.rest _ _ _ c.as_str-held.utf8 c.as_str-held.ensures c.as_bytes.ensures.value c.line_len.ensures in
+    run.boundary
 
-pub returns-after-line : goal.returns-after-line
-returns-after-line c = sym (line_at_feed c.line.self.cur c.line.self.behind c.line-test.false) ∙ c.line.invariant.rest
+pub returns : goal.returns
+returns c =
+    let run = run_of is_in_line line_test c.args.self.now.rest _ _ _ c.as_str-held.utf8 c.as_str-held.ensures c.as_bytes.ensures.value c.line_len.ensures in
+    run.behind_is c.cut.new.self.rest c.cut.ensures.back ∙ line_behind c.args.self.now.rest

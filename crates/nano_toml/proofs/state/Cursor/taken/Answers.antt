@@ -6,8 +6,8 @@ use Rattle.nano_toml.proofs.state.Cursor.taken.Goals as goal
 
 pub returns : goal.returns
 returns c =
-    let rest = chars_rest c.args.self.now.behind in
+    let rest = chars_rest c.args.self.now.rest in
     let utf8 = subst IsUtf8 c.as_str-left.ensures c.as_str-left.utf8 in
-    let all = count_from_yields_List c.chars.result c.count.result c.count.ensures.ran (YieldsList-from_chars c.args.text.now c.utf8.text (cc)) in
-    let left = count_from_yields_List c.chars-2.result c.count-2.result c.count-2.ensures.ran (YieldsList-from_chars rest utf8 (cc)) in
-    rw (c.saturating_sub.ensures, all, left) refl
+    let left = count_from_yields_List c.chars.result c.count.result c.count.ensures.ran (YieldsList-from_chars rest utf8 (cc)) in
+    let all = count_from_yields_List c.chars-2.result c.count-2.result c.count-2.ensures.ran (YieldsList-from_chars c.args.text.now c.utf8.text (cc)) in
+    rw (c.saturating_sub.ensures, c.saturating_sub-behind.ensures, all, left) refl
