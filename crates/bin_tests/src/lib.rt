@@ -3,6 +3,8 @@
 #![tactic(auto)]
 
 #[cfg(test)]
+mod byte_tests;
+#[cfg(test)]
 mod checks;
 #[cfg(test)]
 mod code_tests;

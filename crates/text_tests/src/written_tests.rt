@@ -108,6 +108,27 @@ fn characters_with_escapes(rt: HostRuntime) {
     is_text(&rt, out, "|a|\"\"|é\"\"x\"\"\"\"|\"\"\"\"ab😋|");
 }
 
+/// What is appended for each character, with a line behind it.
+fn escaped_alone(alloc: Global, characters: &[char]) -> Result<String, AllocError> {
+    let mut out = String::new(alloc);
+    for c in characters {
+        TwoQuotes::append_character(&mut out, *c)?;
+        out.push('|')?;
+    }
+    Ok(out)
+}
+
+/// Whether what the format says of itself is asked through its bound.
+fn asks<E: Escaping>(c: char) -> bool {
+    E::stands_as_itself(u32::from(c))
+}
+
+#[test]
+fn characters_alone(rt: HostRuntime) {
+    is_text(&rt, escaped_alone(rt.alloc(), &['a', '"', 'é']), "a|\"\"|é|");
+    assert!(rt; asks::<TwoQuotes>('a') && asks::<TwoQuotes>('é') && !asks::<TwoQuotes>('"'));
+}
+
 #[test]
 fn many_characters_with_escapes(rt: HostRuntime) -> Result<(), Fail> {
     let long = long_text(rt.alloc())?;
