@@ -6,7 +6,7 @@ use std::str::Chars;
 use std::test::Fail;
 
 /// The place before a text: nothing is taken yet.
-fn before() -> Place {
+pub(crate) fn before() -> Place {
     Place {
         cur: '\0',
         line: 0,
@@ -35,7 +35,7 @@ type NumberRow = (
 );
 
 /// The number or the fault is the expected one.
-fn is_read(
+pub(crate) fn is_read(
     rt: &impl Abort,
     number: Result<Number, Fault>,
     expected: Result<Number, Fault>,
@@ -59,7 +59,7 @@ fn is_number(
 }
 
 /// The place is the expected one.
-fn is_at(rt: &impl Abort, p: &Place, expected: (char, usize, usize), text: &str) {
+pub(crate) fn is_at(rt: &impl Abort, p: &Place, expected: (char, usize, usize), text: &str) {
     assert_eq!(rt; place(p), expected, "{text}");
 }
 
@@ -184,7 +184,7 @@ fn numbers(rt: HostRuntime) {
 
 /// A text, the text of the string that it begins with, and the current character, line and column
 /// afterwards.
-type StringRow = (
+pub(crate) type StringRow = (
     &'static str,
     Result<&'static str, Fault>,
     char,
@@ -210,7 +210,7 @@ fn is_string(
     }
 }
 
-fn check_string(rt: &impl Abort, row: &StringRow, strbuf: &mut String) {
+pub(crate) fn check_string(rt: &impl Abort, row: &StringRow, strbuf: &mut String) {
     let (text, expected, cur, line, col) = row;
     let mut i = text.chars();
     let mut p = before();

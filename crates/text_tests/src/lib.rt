@@ -5,6 +5,8 @@
 #[cfg(test)]
 mod call_tests;
 #[cfg(test)]
+mod ending_tests;
+#[cfg(test)]
 mod lexeme_tests;
 #[cfg(test)]
 mod written_tests;
