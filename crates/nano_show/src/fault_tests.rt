@@ -225,7 +225,7 @@ const JSON_RECORDS: &[Row] = &[
     (
         "choice",
         b"{\"B\":[1,\"a\",\"b\"]}",
-        "Unexpected token Str expected ] , line:1 col:18",
+        "Unexpected token Str expected ] , line:1 col:17",
     ),
     (
         "choice",
@@ -467,7 +467,7 @@ const BEHIND_JSON: &[Row] = &[
     ("u32", b"42]", "Cannot parse end , line:1 col:4"),
     ("u32", b"42\0", "Cannot parse end , line:1 col:4"),
     ("u32", b"\n42,", "Cannot parse end , line:2 col:4"),
-    ("tree", b"{}{}", "Cannot parse end , line:1 col:4"),
+    ("tree", b"{}{}", "Cannot parse end , line:1 col:5"),
 ];
 
 const BEHIND_RON: &[Row] = &[

@@ -35,7 +35,7 @@ const ROWS: &[Row] = &[
         "{\"a\":2,\"b\":1}\n",
     ),
     ("json-whole map", b"{\"a\":1}", 8, "{\"a\":1}\n"),
-    ("ron-whole choice", b"B(1,\"a\")", 10, "B(1, \"a\")\n"),
+    ("ron-whole choice", b"B(1,\"a\")", 9, "B(1, \"a\")\n"),
     (
         "bin-whole string",
         b"\x01\0\0\0\0\0\0\0a",
