@@ -11,6 +11,8 @@ mod fault;
 #[cfg(test)]
 mod fault_tests;
 #[cfg(test)]
+mod json_fault_tests;
+#[cfg(test)]
 mod law_tests;
 pub mod laws;
 mod listed;
@@ -21,6 +23,8 @@ mod normal;
 mod pairs;
 #[cfg(test)]
 mod refusal_tests;
+#[cfg(test)]
+mod ron_fault_tests;
 mod run;
 mod shown;
 #[cfg(test)]

@@ -151,3 +151,22 @@ pub(crate) fn is_refused(
     is_count(rt, output.calls, 0);
     Ok(())
 }
+
+/// Words, or the type behind a word, an input that has no answer, and what is told of it.
+pub(crate) type Refusal = (&'static str, &'static [u8], &'static str);
+
+/// Each row of a word is refused, with what the format's errors begin with before what is told.
+pub(crate) fn are_refused(
+    rt: &impl Abort,
+    alloc: Global,
+    word: &str,
+    begins: &str,
+    rows: &[Refusal],
+) -> Result<(), Fail> {
+    for (kind, input, told) in rows {
+        let line = format!(in alloc; "{word}{kind}")?;
+        let reason = format!(in alloc; "{begins}{told}")?;
+        is_refused(rt, alloc, &line, input, &reason)?;
+    }
+    Ok(())
+}
