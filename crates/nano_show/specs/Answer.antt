@@ -1,5 +1,7 @@
 -- What the program answers to its words and its input.
 use Rattle.std.specs.Prelude.{◌≡◌, ℕ, List, ◌++◌, Option, Some, IfSome, IsUtf8}
+use Rattle.std.specs.Prelude.{Result, MatchResult, Vec}
+use Rattle.std.specs.Global.{Global}
 use Rattle.std.specs.Io.KnownBytes.{Appends, IsAtEnd}
 use Rattle.nano_bin.specs.LittleEndian.{little_endian}
 use Rattle.nano_bin.specs.Lists.{written_list}
@@ -11,6 +13,7 @@ use Rattle.nano_toml.specs.StatementTable.{SpellsTable}
 use Rattle.nano_toml.specs.View.{table_view}
 use Rattle.nano_show.specs.declared.words.Form.{Form}
 use Rattle.nano_show.specs.declared.words.Form.TheVariants.{Json, Ron, Bin}
+use Rattle.nano_show.specs.declared.words.Form.TheVariants.{JsonWhole, RonWhole, BinWhole}
 use Rattle.nano_show.specs.declared.words.Kind.{Kind}
 use Rattle.nano_show.specs.declared.fault.ShowFault.{ShowFault}
 use Rattle.nano_show.specs.declared.fault.ShowFault.TheVariants.{Refused, Usage, Memory, Stream}
@@ -22,13 +25,15 @@ use Rattle.nano_show.specs.Shown.{Shown, IsNormal}
 
 -- the normal form that the input has, with a line feed behind: a text is shown as it is, of an
 -- input that is one, and bytes are shown in pairs
-pub record IsTextLine (normal : List ℕ → List ℕ → Type 0) (input answer : List ℕ) : Type 0 where
+pub record IsTextLine (normal : List ℕ → List ℕ → Type 0) (input answer : List ℕ)
+    : Type 0 where
   pub utf8 : IsUtf8 input
   pub text : List ℕ
   pub is_normal : normal input text
   pub is : answer ≡ line text
 
-pub record IsBytesLine (normal : List ℕ → List ℕ → Type 0) (input answer : List ℕ) : Type 0 where
+pub record IsBytesLine (normal : List ℕ → List ℕ → Type 0) (input answer : List ℕ)
+    : Type 0 where
   pub bytes : List ℕ
   pub is_normal : normal input bytes
   pub is : answer ≡ line (hex_pairs bytes)
@@ -37,6 +42,9 @@ abbrev pub IsNormalLine : Form → Shown → List ℕ → List ℕ → Type 0
 IsNormalLine Json type input answer = IsTextLine (IsNormal Json type) input answer
 IsNormalLine Ron type input answer = IsTextLine (IsNormal Ron type) input answer
 IsNormalLine Bin type input answer = IsBytesLine (IsNormal Bin type) input answer
+IsNormalLine JsonWhole type input answer = IsTextLine (IsNormal JsonWhole type) input answer
+IsNormalLine RonWhole type input answer = IsTextLine (IsNormal RonWhole type) input answer
+IsNormalLine BinWhole type input answer = IsBytesLine (IsNormal BinWhole type) input answer
 
 -- the listing of the table that the input spells, which is one where it is a text; a table is what
 -- the pairs of some map mean, and a text ends before its first NUL
@@ -53,6 +61,13 @@ IsFaultOf has_none Usage = ⊥
 IsFaultOf has_none Memory = Unit {0}
 IsFaultOf has_none Stream = Unit {0}
 
+-- what is answered is an answer to the input, and refused is only what has none
+abbrev pub AnswersInput : (List ℕ → List ℕ → Type 0) → List ℕ → Result (Vec ℕ Global) ShowFault
+    → Type 0
+AnswersInput is_answer input result =
+    MatchResult result (λ answer. is_answer input answer.items)
+    (IsFaultOf ((answer : List ℕ) → is_answer input answer → ⊥))
+
 -- by the types that the names stand for
 module _ (types : Kind → Shown) where
   -- what is written for a request and the bytes of the input: for a code, its pairs on a line,
@@ -66,7 +81,8 @@ module _ (types : Kind → Shown) where
   Answers listing_of_input input answer = IsListing input answer
 
   -- the answer to a request, by the bytes of the input: those that are known, or any where none are
-  pub record IsAnswerTo (request : Request) (known : Option (List ℕ)) (answer : List ℕ) : Type 0 where
+  pub record IsAnswerTo (request : Request) (known : Option (List ℕ)) (answer : List ℕ)
+      : Type 0 where
     pub input : List ℕ
     pub given : IfSome known (λ bytes. input ≡ bytes)
     pub answers : Answers request input answer
@@ -78,7 +94,8 @@ module _ (types : Kind → Shown) where
     pub nothing : (answer : List ℕ) → Answers request input answer → ⊥
 
   -- the words ask for something, and this is the answer to it
-  pub record IsAnswer (words : List (List ℕ)) (known : Option (List ℕ)) (answer : List ℕ) : Type 0 where
+  pub record IsAnswer (words : List (List ℕ)) (known : Option (List ℕ)) (answer : List ℕ)
+      : Type 0 where
     pub request : Request
     pub asked : AskFor words request
     pub is : IsAnswerTo request known answer
@@ -90,13 +107,15 @@ module _ (types : Kind → Shown) where
     pub is : HasNoAnswerTo request known
 
   -- a writer got the answer, and nothing else
-  pub record WritesAnswer (words : List (List ℕ)) (known old new : Option (List ℕ)) : Type 0 where
+  pub record WritesAnswer (words : List (List ℕ)) (known old new : Option (List ℕ))
+      : Type 0 where
     pub answer : List ℕ
     pub is : IsAnswer words known answer
     pub written : Appends old new answer
 
 -- a writer got the bytes up to a rest, and nothing else
-pub record WritesUpTo (rest : List ℕ) (old new : Option (List ℕ)) (bytes : List ℕ) : Type 0 where
+pub record WritesUpTo (rest : List ℕ) (old new : Option (List ℕ)) (bytes : List ℕ)
+    : Type 0 where
   pub front : List ℕ
   pub whole : bytes ≡ front ++ rest
   pub written : Appends old new front
@@ -104,7 +123,8 @@ pub record WritesUpTo (rest : List ℕ) (old new : Option (List ℕ)) (bytes : L
 module _ (types : Kind → Shown) where
   -- a writer got a beginning of the answer, and nothing else; what was asked of the input, with
   -- these bytes left, was read to its end
-  pub record WritesBeginning (words : List (List ℕ)) (known left old new : Option (List ℕ)) : Type 0 where
+  pub record WritesBeginning (words : List (List ℕ)) (known left old new : Option (List ℕ))
+      : Type 0 where
     pub answer : List ℕ
     pub is : IsAnswer types words known answer
     pub rest : List ℕ
@@ -114,8 +134,9 @@ module _ (types : Kind → Shown) where
   -- words and the bytes of an input have at most one answer
   abbrev pub OneAnswer : Type 0
   OneAnswer =
-      (words : List (List ℕ)) (input first second : List ℕ) → IsAnswer types words (Some input) first
-      → IsAnswer types words (Some input) second → first ≡ second
+      (words : List (List ℕ)) (input first second : List ℕ)
+      → IsAnswer types words (Some input) first → IsAnswer types words (Some input) second
+      → first ≡ second
 
   -- and where they have one, they are not refused
   abbrev pub AnswerOrRefusal : Type 0

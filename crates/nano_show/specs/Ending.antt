@@ -1,5 +1,5 @@
 -- How the program ends at a fault.
-use Rattle.std.specs.Prelude.{ℕ, List, codes, string_bytes}
+use Rattle.std.specs.Prelude.{ℕ, List, ◌++◌, codes, string_bytes}
 use Rattle.nano_show.specs.declared.fault.ShowFault.{ShowFault}
 use Rattle.nano_show.specs.declared.fault.ShowFault.TheVariants.{Refused, Usage, Memory, Stream}
 
@@ -13,6 +13,8 @@ status_of Stream = 3
 -- the line on standard error, without its line feed
 abbrev pub message_of : ShowFault → List ℕ
 message_of (Refused reason) = string_bytes reason
-message_of Usage = codes "usage: nano_show code u16s N.. | code text [WORD] | json TYPE | ron TYPE | bin TYPE | toml"
+message_of Usage =
+    codes "usage: nano_show code u16s N.. | code text [WORD] | json TYPE | ron TYPE | bin TYPE"
+    ++ codes " | toml | json-whole TYPE | ron-whole TYPE | bin-whole TYPE"
 message_of Memory = codes "no memory"
 message_of Stream = codes "stream fault"

@@ -1,5 +1,6 @@
 pub mod Requests
 pub mod Pairs
+pub mod Whole
 pub mod Shown
 pub mod Listing
 pub mod OpenLists

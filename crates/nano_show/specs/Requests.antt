@@ -1,10 +1,13 @@
 -- What the words of a command line ask for.
-use Rattle.std.specs.Prelude.{◌≡◌, ℕ, ◌<◌, ◌^◌, List, [], ◌∷◌, map, All, codes, Option, option_to_list, String, string_bytes}
+use Rattle.std.specs.Prelude.{◌≡◌, ℕ, ◌<◌, ◌^◌, List, [], ◌∷◌, map, All, codes, Option}
+use Rattle.std.specs.Prelude.{option_to_list, String, string_bytes}
 use Rattle.std.specs.Str.Parse.{IsNumeral, digits_value}
 use Rattle.nano_show.specs.declared.words.Form.{Form}
 use Rattle.nano_show.specs.declared.words.Form.TheVariants.{Json, Ron, Bin}
+use Rattle.nano_show.specs.declared.words.Form.TheVariants.{JsonWhole, RonWhole, BinWhole}
 use Rattle.nano_show.specs.declared.words.Kind.{Kind}
-use Rattle.nano_show.specs.declared.words.Kind.TheVariants.{U8, U32, U64, I32, I64, Bool, Text, Bytes, Set, Map, Item, Choice}
+use Rattle.nano_show.specs.declared.words.Kind.TheVariants.{U8, U32, U64, I32, I64, Bool, Text}
+use Rattle.nano_show.specs.declared.words.Kind.TheVariants.{Bytes, Set, Map, Tree, Item, Choice}
 
 -- the bytes of each word
 abbrev pub texts : {Z : Type 0} → List (String Z) → List (List ℕ)
@@ -18,11 +21,14 @@ pub data Request : Type 0 where
   normal_of_input : Form → Kind → Request
   listing_of_input : Request
 
--- the word for each format
+-- the word for each format, and for one that the whole input is to stand in
 abbrev pub form_name : Form → List ℕ
 form_name Json = codes "json"
 form_name Ron = codes "ron"
 form_name Bin = codes "bin"
+form_name JsonWhole = codes "json-whole"
+form_name RonWhole = codes "ron-whole"
+form_name BinWhole = codes "bin-whole"
 
 -- the word for each type
 abbrev pub kind_name : Kind → List ℕ
@@ -36,6 +42,7 @@ kind_name Text = codes "string"
 kind_name Bytes = codes "bytes"
 kind_name Set = codes "set"
 kind_name Map = codes "map"
+kind_name Tree = codes "tree"
 kind_name Item = codes "item"
 kind_name Choice = codes "choice"
 

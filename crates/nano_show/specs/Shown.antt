@@ -8,8 +8,11 @@ use Rattle.nanoserde.specs.RonFormat.{Format as RonFormat}
 use Rattle.nanoserde.specs.Normal.{NormalBytes, NormalJson, NormalRon}
 use Rattle.nano_show.specs.declared.words.Form.{Form}
 use Rattle.nano_show.specs.declared.words.Form.TheVariants.{Json, Ron, Bin}
+use Rattle.nano_show.specs.declared.words.Form.TheVariants.{JsonWhole, RonWhole, BinWhole}
 use Rattle.nano_show.specs.declared.words.Kind.{Kind}
-use Rattle.nano_show.specs.declared.words.Kind.TheVariants.{U8, U32, U64, I32, I64, Bool, Text, Bytes, Set, Map, Item, Choice}
+use Rattle.nano_show.specs.declared.words.Kind.TheVariants.{U8, U32, U64, I32, I64, Bool, Text}
+use Rattle.nano_show.specs.declared.words.Kind.TheVariants.{Bytes, Set, Map, Tree, Item, Choice}
+use Rattle.nano_show.specs.Whole.{WholeBytes, WholeJson, WholeRon}
 
 pub record Shown : Type 1 where
   pub Value : Type 0
@@ -26,30 +29,45 @@ pub record IsTied (type : Shown) : Type 0 where
   pub ron : Ties type.means type.legal type.ron.writing.means type.ron.spelling.legal
   pub bin_is_read : type.bin.is_read ≡ true
 
-abbrev pub shown_as : {A : Type 0} → (A → Meaning) → (Meaning → Type 0) → BinFormat A → JsonFormat A → RonFormat A → Shown
-shown_as {A} means legal bin json ron = record { Value = A; means = means; legal = legal; bin = bin; json = json; ron = ron }
+abbrev pub shown_as : {A : Type 0} → (A → Meaning) → (Meaning → Type 0) → BinFormat A
+    → JsonFormat A → RonFormat A → Shown
+shown_as {A} means legal bin json ron = record {
+  Value = A;
+  means = means;
+  legal = legal;
+  bin = bin;
+  json = json;
+  ron = ron;
+}
 
 -- the normal form of an input in a format
 abbrev pub IsNormal : Form → Shown → List ℕ → List ℕ → Type 0
 IsNormal Json type input form = NormalJson type.means type.json input form
 IsNormal Ron type input form = NormalRon type.means type.ron input form
 IsNormal Bin type input form = NormalBytes type.means type.bin input form
+IsNormal JsonWhole type input form = WholeJson type.means type.json input form
+IsNormal RonWhole type input form = WholeRon type.means type.ron input form
+IsNormal BinWhole type input form = WholeBytes type.means type.bin input form
 
 -- the type of each name
-abbrev pub by_kind : (u8 u32 u64 i32 i64 bool text bytes set map item choice : Shown) → Kind → Shown
-by_kind u8 u32 u64 i32 i64 bool text bytes set map item choice U8 = u8
-by_kind u8 u32 u64 i32 i64 bool text bytes set map item choice U32 = u32
-by_kind u8 u32 u64 i32 i64 bool text bytes set map item choice U64 = u64
-by_kind u8 u32 u64 i32 i64 bool text bytes set map item choice I32 = i32
-by_kind u8 u32 u64 i32 i64 bool text bytes set map item choice I64 = i64
-by_kind u8 u32 u64 i32 i64 bool text bytes set map item choice Bool = bool
-by_kind u8 u32 u64 i32 i64 bool text bytes set map item choice Text = text
-by_kind u8 u32 u64 i32 i64 bool text bytes set map item choice Bytes = bytes
-by_kind u8 u32 u64 i32 i64 bool text bytes set map item choice Set = set
-by_kind u8 u32 u64 i32 i64 bool text bytes set map item choice Map = map
-by_kind u8 u32 u64 i32 i64 bool text bytes set map item choice Item = item
-by_kind u8 u32 u64 i32 i64 bool text bytes set map item choice Choice = choice
+module _ (u8 u32 u64 i32 i64 bool text bytes set map tree item choice : Shown) where
+  abbrev pub by_kind : Kind → Shown
+  by_kind U8 = u8
+  by_kind U32 = u32
+  by_kind U64 = u64
+  by_kind I32 = i32
+  by_kind I64 = i64
+  by_kind Bool = bool
+  by_kind Text = text
+  by_kind Bytes = bytes
+  by_kind Set = set
+  by_kind Map = map
+  by_kind Tree = tree
+  by_kind Item = item
+  by_kind Choice = choice
 
 -- it holds of each name
 abbrev pub OfEachKind : (Kind → Type 0) → Type 0
-OfEachKind P = P U8 × P U32 × P U64 × P I32 × P I64 × P Bool × P Text × P Bytes × P Set × P Map × P Item × P Choice
+OfEachKind P =
+    P U8 × P U32 × P U64 × P I32 × P I64 × P Bool × P Text
+    × P Bytes × P Set × P Map × P Tree × P Item × P Choice

@@ -20,9 +20,11 @@ pub enum ShowFault {
 }
 
 const USAGE: &str =
-    "usage: nano_show code u16s N.. | code text [WORD] | json TYPE | ron TYPE | bin TYPE | toml";
+    "usage: nano_show code u16s N.. | code text [WORD] | json TYPE | ron TYPE | bin TYPE \
+    | toml | json-whole TYPE | ron-whole TYPE | bin-whole TYPE";
 
-/// The exit status of a fault, and the text for standard error, without its line feed. Takes no memory.
+/// The exit status of a fault, and the text for standard error, without its line feed. Takes no
+/// memory.
 pub fn ending(fault: &ShowFault) -> (u8, &str)
     ensures status { result.0 ≡ status_of fault.now }
     ensures text { result.1.now ≡ message_of fault.now }

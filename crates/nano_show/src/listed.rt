@@ -1,5 +1,6 @@
 // A value as it is listed.
-ghost use Rattle.std.specs.Prelude.{◌≡◌, ◌++◌, ◌<◌, [], ◌∷◌, length, IfOk, OnOk, option_map, string_bytes, codes};
+ghost use Rattle.std.specs.Prelude.{◌≡◌, ◌++◌, ◌<◌, [], ◌∷◌, length, IfOk, OnOk, option_map};
+ghost use Rattle.std.specs.Prelude.{string_bytes, codes};
 ghost use Rattle.std.specs.Fmt.{decimal, signed_decimal};
 ghost use Rattle.nano_toml.specs.View.{view};
 ghost use Rattle.nano_show.specs.Listing.{listed, minus_sign};
@@ -23,7 +24,8 @@ pub(crate) fn append_listed(
     value: &Toml,
     state: &mut SerJsonState,
 ) -> Result<(), AllocError>
-    ensures { OnOk result (string_bytes state.new.out ≡ string_bytes state.old.out ++ listed (view value.now)) }
+    ensures { OnOk result (string_bytes state.new.out
+        ≡ string_bytes state.old.out ++ listed (view value.now)) }
 {
     let mut lists = Vec::new(alloc);
     if let Some(values) = append_start(alloc, value, state)? {
@@ -38,8 +40,8 @@ pub(crate) fn append_listed(
     Ok(())
 }
 
-/// Appends the next value of a list, or its closing bracket. What is left of it, and the value where that
-/// is a list, are put behind the lists.
+/// Appends the next value of a list, or its closing bracket. What is left of it, and the value
+/// where that is a list, are put behind the lists.
 fn append_next<'a>(
     alloc: Global,
     list: OpenList<'a>,
@@ -48,7 +50,8 @@ fn append_next<'a>(
 ) -> Result<(), AllocError>
     ensures text { OnOk result (string_bytes state.new.out ++ closed_lists lists.new.items []
         ≡ string_bytes state.old.out ++ closed_lists (lists.old.items ++ list.entry ∷ []) []) }
-    ensures grows { OnOk result (length (string_bytes state.old.out) < length (string_bytes state.new.out)) }
+    ensures grows { OnOk result
+        (length (string_bytes state.old.out) < length (string_bytes state.new.out)) }
 {
     let Some((value, values)) = list.values.split_first() else {
         state.out.push_str("]")?;
@@ -81,9 +84,11 @@ fn append_start<'a>(
     value: &'a Toml,
     state: &mut SerJsonState,
 ) -> Result<Option<&'a [Toml]>, AllocError>
-    ensures text { IfOk result (λ values. string_bytes state.new.out ++ closed_if_opened (option_map (λ v. v.now) values)
+    ensures text { IfOk result (λ values.
+        string_bytes state.new.out ++ closed_if_opened (option_map (λ v. v.now) values)
         ≡ string_bytes state.old.out ++ listed (view value.now)) }
-    ensures grows { OnOk result (length (string_bytes state.old.out) < length (string_bytes state.new.out)) }
+    ensures grows { OnOk result
+        (length (string_bytes state.old.out) < length (string_bytes state.new.out)) }
 {
     match value {
         Toml::Str(text) => text.ser_json(alloc, 0, state)?,
@@ -104,7 +109,8 @@ fn append_start<'a>(
 
 /// Appends a number in decimal.
 fn append_number(alloc: Global, number: &i128, state: &mut SerJsonState) -> Result<(), AllocError>
-    ensures { OnOk result (string_bytes state.new.out ≡ string_bytes state.old.out ++ signed_decimal number.now) }
+    ensures { OnOk result (string_bytes state.new.out
+        ≡ string_bytes state.old.out ++ signed_decimal number.now) }
 {
     let digits = number.to_string(alloc)?;
     state.out.push_str(&digits)
@@ -121,7 +127,8 @@ fn append_count(alloc: Global, count: usize, state: &mut SerJsonState) -> Result
 
 /// Appends a text as it is, behind what it is named by.
 fn append_named(name: &str, text: &str, state: &mut SerJsonState) -> Result<(), AllocError>
-    ensures { OnOk result (string_bytes state.new.out ≡ string_bytes state.old.out ++ (name.now ++ text.now)) }
+    ensures { OnOk result (string_bytes state.new.out
+        ≡ string_bytes state.old.out ++ (name.now ++ text.now)) }
 {
     state.out.push_str(name)?;
     state.out.push_str(text)

@@ -1,24 +1,23 @@
 // The listing of the table that an input spells.
-ghost use Rattle.std.specs.Prelude.{◌≡◌, ◌++◌, ℕ, List, map, IfOk, OnOk, MatchResult, option_map, string_bytes};
+ghost use Rattle.std.specs.Prelude.{◌≡◌, ◌++◌, map, IfOk, OnOk, option_map, string_bytes};
 ghost use Rattle.std.specs.Map.Iter.{deref_pair};
 ghost use Rattle.nano_toml.specs.Kinds.{as_tables};
 ghost use Rattle.nano_toml.specs.View.{view, table_view, tables_view};
-ghost use Rattle.nano_show.specs.Answer.{IsFaultOf, IsListing};
+ghost use Rattle.nano_show.specs.Answer.{AnswersInput, IsListing};
 ghost use Rattle.nano_show.specs.Chains.{chain};
-ghost use Rattle.nano_show.specs.Listing.{element_lines, element_name, elements_lines, lines_behind, listing, pair_line};
+ghost use Rattle.nano_show.specs.Listing.{element_lines, element_name, elements_lines};
+ghost use Rattle.nano_show.specs.Listing.{lines_behind, listing, pair_line};
 
 use crate::fault::ShowFault;
 use crate::listed::append_listed;
-use crate::normal::text;
+use crate::texts::text;
 use nanoserde::{SerJson, SerJsonState, Toml, TomlParser, entries_in_order};
 use std::alloc::{AllocError, Global};
 use std::collections::HashMap;
 
 /// The listing of the table that the input spells.
 pub(crate) fn listing_of(alloc: Global, input: &[u8]) -> Result<Vec<u8>, ShowFault>
-    ensures { MatchResult result
-        (λ answer. IsListing input.now answer.items)
-        (IsFaultOf ((answer : List ℕ) → IsListing input.now answer → ⊥)) }
+    ensures { AnswersInput IsListing input.now result }
 {
     match TomlParser::parse(alloc, text(alloc, input)?) {
         Ok(table) => Ok(listing(alloc, &table)?),
@@ -73,7 +72,8 @@ fn append_entry(
 
 /// The tables of an array of them; any other value has none.
 fn tables_in(value: &Toml) -> Option<&Vec<HashMap<String, Toml>>>
-    ensures { as_tables (view value.now) ≡ option_map (λ array. tables_view array.now.items) result }
+    ensures { as_tables (view value.now)
+        ≡ option_map (λ array. tables_view array.now.items) result }
 {
     match value {
         Toml::Array(tables) => Some(tables),
@@ -95,8 +95,8 @@ fn append_elements(
     tables: &Vec<HashMap<String, Toml>>,
     state: &mut SerJsonState,
 ) -> Result<(), AllocError>
-    ensures { OnOk result (string_bytes state.new.out
-        ≡ string_bytes state.old.out ++ elements_lines (string_bytes key.now) 0 (tables_view tables.now.items)) }
+    ensures { OnOk result (string_bytes state.new.out ≡ string_bytes state.old.out
+        ++ elements_lines (string_bytes key.now) 0 (tables_view tables.now.items)) }
 {
     for place in 0..tables.len() {
         let name = element_name(alloc, key, place)?;

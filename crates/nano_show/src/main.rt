@@ -1,11 +1,17 @@
 //! Shows what the formats of nanoserde make of the words of a command line, and of standard input.
 //!
-//! `nano_show code u16s 1 2` prints the binary code of two numbers, `nano_show code text ab` that of a text.
-//! `nano_show json item` prints the normal form of a JSON text on standard input, `ron` and `bin` those of
-//! the other formats; see `run` for the types. `nano_show toml` prints the listing of a TOML text.
+//! `nano_show code u16s 1 2` prints the binary code of two numbers, `nano_show code text ab` that
+//! of a text. `nano_show json item` prints the normal form of the value that a JSON text on
+//! standard input begins with, `ron` and `bin` those of the other formats; `json-whole`,
+//! `ron-whole` and `bin-whole` want the input to be that value and nothing else. See `run` for the
+//! types. `nano_show toml` prints the listing of a TOML text.
 #![tactic(auto)]
 
 mod fault;
+#[cfg(test)]
+mod fault_tests;
+#[cfg(test)]
+mod json_fault_tests;
 #[cfg(test)]
 mod law_tests;
 pub mod laws;
@@ -17,6 +23,8 @@ mod normal;
 mod pairs;
 #[cfg(test)]
 mod refusal_tests;
+#[cfg(test)]
+mod ron_fault_tests;
 mod run;
 mod shown;
 #[cfg(test)]
@@ -25,6 +33,8 @@ mod stream_tests;
 mod testing;
 #[cfg(test)]
 mod tests;
+mod texts;
+mod whole_inputs;
 mod words;
 
 pub use fault::{ShowFault, ending};
@@ -33,7 +43,8 @@ use std::env;
 use std::io::ErrorKind;
 use std::process::ExitCode;
 
-/// The words behind the program's name. Arguments that are not UTF-8 are none that the program knows.
+/// The words behind the program's name. Arguments that are not UTF-8 are none that the program
+/// knows.
 fn arguments(rt: &HostRuntime) -> Result<Vec<String>, ShowFault> {
     match env::args(rt) {
         Ok(words) => Ok(words.skip(1).collect(rt.alloc())?),

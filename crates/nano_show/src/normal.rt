@@ -1,20 +1,20 @@
 // The line of a normal form.
-ghost use Rattle.std.specs.Prelude.{◌≡◌, ◌≢◌, ℕ, List, IfOk, IfErr, MatchResult, IsUtf8, string_bytes};
 ghost use Rattle.nanoserde.specs.Normal.{NormalBytes, NormalJson, NormalRon};
-ghost use Rattle.nano_show.specs.Answer.{IsTextLine, IsBytesLine, IsNormalLine, Answers, IsFaultOf};
-ghost use Rattle.nano_show.specs.Pairs.{line};
+ghost use Rattle.nano_show.specs.Answer.{AnswersInput, Answers, IsNormalLine};
+ghost use Rattle.nano_show.specs.Answer.{IsTextLine, IsBytesLine};
 ghost use Rattle.nano_show.specs.Requests.{normal_of_input};
 
 use crate::fault::ShowFault;
 use crate::pairs::hex_line;
 use crate::shown::{Named, Show, Types};
+use crate::texts::{end_line, text};
+use crate::whole_inputs::{whole_bin_line, whole_json_line, whole_ron_line};
 use crate::words::{Form, Kind};
 use nanoserde::records::{Choice, Item};
 use nanoserde::{BothBin, BothJson, BothRon, DeBinKind, normal_bin, normal_json, normal_ron};
-use std::alloc::{AllocError, Global};
-use std::collections::{HashMap, HashSet};
+use std::alloc::Global;
+use std::collections::{BTreeMap, HashMap, HashSet};
 use std::fmt::Display;
-use std::str;
 
 /// The normal form of the input of this type in this format, with a line feed behind.
 pub(crate) fn normal_line(
@@ -23,10 +23,8 @@ pub(crate) fn normal_line(
     kind: Kind,
     input: &[u8],
 ) -> Result<Vec<u8>, ShowFault>
-    ensures { MatchResult result
-        (λ answer. Answers ⟦<Types as Named>⟧.types (normal_of_input form kind) input.now answer.items)
-        (IsFaultOf ((answer : List ℕ) →
-        Answers ⟦<Types as Named>⟧.types (normal_of_input form kind) input.now answer → ⊥)) }
+    ensures { AnswersInput (Answers ⟦<Types as Named>⟧.types (normal_of_input form kind))
+        input.now result }
 {
     match kind {
         Kind::U8 => line_of::<u8>(alloc, form, input),
@@ -39,6 +37,7 @@ pub(crate) fn normal_line(
         Kind::Bytes => line_of::<Vec<u8>>(alloc, form, input),
         Kind::Set => line_of::<HashSet<i32>>(alloc, form, input),
         Kind::Map => line_of::<HashMap<String, i32>>(alloc, form, input),
+        Kind::Tree => line_of::<BTreeMap<String, i32>>(alloc, form, input),
         Kind::Item => line_of::<Item>(alloc, form, input),
         Kind::Choice => line_of::<Choice>(alloc, form, input),
     }
@@ -50,22 +49,21 @@ fn line_of<T: BothBin + BothJson + BothRon>(
     form: Form,
     input: &[u8],
 ) -> Result<Vec<u8>, ShowFault>
-    ensures { MatchResult result
-        (λ answer. IsNormalLine form ⟦<T as Show>⟧.shown input.now answer.items)
-        (IsFaultOf ((answer : List ℕ) → IsNormalLine form ⟦<T as Show>⟧.shown input.now answer → ⊥)) }
+    ensures { AnswersInput (IsNormalLine form ⟦<T as Show>⟧.shown) input.now result }
 {
     match form {
         Form::Json => json_line::<T>(alloc, input),
         Form::Ron => ron_line::<T>(alloc, input),
         Form::Bin => bin_line::<T>(alloc, input),
+        Form::JsonWhole => whole_json_line::<T>(alloc, input),
+        Form::RonWhole => whole_ron_line::<T>(alloc, input),
+        Form::BinWhole => whole_bin_line::<T>(alloc, input),
     }
 }
 
+/// The normal form of the value that a JSON text begins with.
 fn json_line<T: BothJson>(alloc: Global, input: &[u8]) -> Result<Vec<u8>, ShowFault>
-    ensures { MatchResult result
-        (λ answer. IsTextLine (NormalJson T.means T.json) input.now answer.items)
-        (IsFaultOf ((answer : List ℕ) →
-        IsTextLine (NormalJson T.means T.json) input.now answer → ⊥)) }
+    ensures { AnswersInput (IsTextLine (NormalJson T.means T.json)) input.now result }
 {
     match normal_json::<T>(alloc, text(alloc, input)?) {
         Ok(normal) => Ok(end_line(normal)?),
@@ -74,11 +72,9 @@ fn json_line<T: BothJson>(alloc: Global, input: &[u8]) -> Result<Vec<u8>, ShowFa
     }
 }
 
+/// The normal form of the value that a RON text begins with.
 fn ron_line<T: BothRon>(alloc: Global, input: &[u8]) -> Result<Vec<u8>, ShowFault>
-    ensures { MatchResult result
-        (λ answer. IsTextLine (NormalRon T.means T.ron) input.now answer.items)
-        (IsFaultOf ((answer : List ℕ) →
-        IsTextLine (NormalRon T.means T.ron) input.now answer → ⊥)) }
+    ensures { AnswersInput (IsTextLine (NormalRon T.means T.ron)) input.now result }
 {
     match normal_ron::<T>(alloc, text(alloc, input)?) {
         Ok(normal) => Ok(end_line(normal)?),
@@ -87,11 +83,9 @@ fn ron_line<T: BothRon>(alloc: Global, input: &[u8]) -> Result<Vec<u8>, ShowFaul
     }
 }
 
+/// The normal form of the value that the bytes begin with, in pairs.
 fn bin_line<T: BothBin>(alloc: Global, input: &[u8]) -> Result<Vec<u8>, ShowFault>
-    ensures { MatchResult result
-        (λ answer. IsBytesLine (NormalBytes T.means T.bin) input.now answer.items)
-        (IsFaultOf ((answer : List ℕ) →
-        IsBytesLine (NormalBytes T.means T.bin) input.now answer → ⊥)) }
+    ensures { AnswersInput (IsBytesLine (NormalBytes T.means T.bin)) input.now result }
 {
     match normal_bin::<T>(alloc, input) {
         Ok(normal) => Ok(hex_line(alloc, &normal)?),
@@ -100,25 +94,4 @@ fn bin_line<T: BothBin>(alloc: Global, input: &[u8]) -> Result<Vec<u8>, ShowFaul
             _ => Err(ShowFault::Refused(error.to_string(alloc)?)),
         },
     }
-}
-
-/// The input as a text.
-pub(crate) fn text(alloc: Global, input: &[u8]) -> Result<&str, ShowFault>
-    ensures { MatchResult result
-        (λ text. (text.now ≡ input.now) × IsUtf8 input.now)
-        (IsFaultOf (IsUtf8 input.now → ⊥)) }
-{
-    match str::from_utf8(input) {
-        Ok(text) => Ok(text),
-        Err(_) => Err(ShowFault::Refused(String::from_str(alloc, "not UTF-8")?)),
-    }
-}
-
-/// The text with a line feed behind, as bytes.
-fn end_line(text: String) -> Result<Vec<u8>, AllocError>
-    ensures { IfOk result (λ answer. answer.items ≡ line (string_bytes text)) }
-{
-    let mut bytes = text.into_bytes();
-    bytes.push(b'\n')?;
-    Ok(bytes)
 }

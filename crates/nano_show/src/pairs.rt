@@ -6,7 +6,8 @@ use std::alloc::{AllocError, Global};
 
 const DIGITS: &[u8; 16] = b"0123456789abcdef";
 
-/// The bytes as pairs of lower-case hexadecimal digits with one space between, and a line feed behind.
+/// The bytes as pairs of lower-case hexadecimal digits with one space between, and a line feed
+/// behind.
 pub(crate) fn hex_line(alloc: Global, bytes: &[u8]) -> Result<Vec<u8>, AllocError>
     ensures { IfOk result (λ text. text.items ≡ line (hex_pairs bytes.now)) }
 {

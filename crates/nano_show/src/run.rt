@@ -1,16 +1,16 @@
 // From words and input to the answer that is written.
-ghost use Rattle.std.specs.Prelude.{◌⊎◌, ◌≡◌, ◌≢◌, ◌↔◌, ℕ, List, IfSome, IfOk, IfErr, OnOk, OnErr, IsErrOf, option_map};
+ghost use Rattle.std.specs.Prelude.{◌⊎◌, ◌≡◌, ◌≢◌, ◌↔◌, ℕ, List, All, map, option_map};
+ghost use Rattle.std.specs.Prelude.{IfSome, IfOk, IfErr, OnOk, OnErr, IsErrOf};
 ghost use Rattle.std.specs.Io.KnownBytes.{Appends, IsAtEnd};
-ghost use Rattle.nano_show.specs.Requests.{texts, IsU16, AskForNothing, AskForNoInput};
-ghost use Rattle.nano_show.specs.Answer.{Answers, IsAnswerTo, HasNoAnswerTo, IsFaultOf, HasNoAnswer};
-ghost use Rattle.nano_show.specs.Answer.{WritesAnswer, WritesUpTo, WritesBeginning};
-ghost use Rattle.std.specs.Prelude.{All, map};
 ghost use Rattle.std.specs.Str.Parse.{digits_value};
 ghost use Rattle.nano_bin.specs.LittleEndian.{little_endian};
 ghost use Rattle.nano_bin.specs.Lists.{written_list};
-ghost use Rattle.nano_show.specs.Pairs.{hex_pairs, line};
 ghost use Rattle.nano_bin.specs.Options.{written_option};
 ghost use Rattle.nano_bin.specs.Texts.{written_text};
+ghost use Rattle.nano_show.specs.Requests.{texts, IsU16, AskForNothing, AskForNoInput};
+ghost use Rattle.nano_show.specs.Answer.{IsAnswerTo, HasNoAnswerTo, IsFaultOf, HasNoAnswer};
+ghost use Rattle.nano_show.specs.Answer.{WritesAnswer, WritesUpTo, WritesBeginning};
+ghost use Rattle.nano_show.specs.Pairs.{hex_pairs, line};
 ghost use Rattle.nano_show.specs.Commands.{request_of, IsSound, TakesNoInput};
 
 use crate::fault::ShowFault;
@@ -27,27 +27,37 @@ use std::io::{ErrorKind, Read, Write};
 ///
 /// | Words | Input | Written |
 /// |---|---|---|
-/// | `code u16s N..` | not read | the code of the numbers as a `Vec<u16>`, in pairs of hexadecimal digits |
-/// | `code text [WORD]` | not read | the code of `Some(WORD)`, or of `None` without a word, in pairs |
-/// | `json TYPE`, `ron TYPE` | a text | its normal form |
-/// | `bin TYPE` | bytes | their normal form, in pairs |
+/// | `code u16s N..` | not read | the code of the numbers as a `Vec<u16>`, in pairs |
+/// | `code text [WORD]` | not read | that of `Some(WORD)`, or of `None` without a word, in pairs |
+/// | `json TYPE`, `ron TYPE` | a text | the normal form of the value that it begins with |
+/// | `bin TYPE` | bytes | that of the value that they begin with, in pairs |
 /// | `toml` | a text | the listing of the table that it spells |
+/// | `json-whole TYPE`, `ron-whole TYPE` | a text | the normal form of the value that it is |
+/// | `bin-whole TYPE` | bytes | that of the value that they are, in pairs |
 ///
-/// `N` is one or more ASCII digits of value 0 to 65535; there may be none. `TYPE` is `u8`, `u32`, `u64`, `i32`,
-/// `i64`, `bool`, `string`, `bytes` (`Vec<u8>`), `set` (`HashSet<i32>`), `map` (`HashMap<String, i32>`), or `item`
-/// or `choice` of `nanoserde::records`. An input is read to its end, with no limit but memory.
+/// Bytes are shown in pairs of lower-case hexadecimal digits, with one space between. `N` is one or
+/// more ASCII digits of value 0 to 65535; there may be none. `TYPE` is `u8`, `u32`, `u64`, `i32`,
+/// `i64`, `bool`, `string`, `bytes` (`Vec<u8>`), `set` (`HashSet<i32>`),
+/// `map` (`HashMap<String, i32>`), `tree` (`BTreeMap<String, i32>`), or `item` or `choice` of
+/// `nanoserde::records`. An input is read to its end, with no limit but memory.
 ///
-/// A listing has a line `KEY = VALUE` for each key of the table, in ascending order of their bytes; an empty
-/// table has none. A key and a text are written as JSON strings, a whole number in decimal, a decimal as
-/// `dec TEXT`, a date as `date TEXT`, the others as `true`, `false`, `nan`, `-nan`, `inf`, `-inf`, and a list as
-/// its values between `[` and `]`, with `, ` between them. Tables in an array are `tables COUNT`, and behind that
-/// line stand those of each table in order, as `KEY[I] SUBKEY = VALUE` with `I` from 0 on.
+/// A text ends before its first NUL. Behind the value that it begins with one more token or the end
+/// is cut, so `json u32` answers `42` to `42 43`. A text that is a value holds no NUL, and the end
+/// stands behind the value; bytes that are one are used up.
 ///
-/// Faults are found in this order: `Usage` for words that stand in no row, `Stream` for a read that fails,
-/// `Refused` for a text that is not UTF-8 and then for an input that begins with no value of the type or, for
-/// `toml`, spells no table, `Stream` for a write that fails or takes nothing. `Memory` may come instead of an answer at any step before the first write.
-/// Nothing is written before the answer is whole, so only behind `Stream` something may have been written: a
-/// beginning of the answer. A read or a write that was interrupted is tried again. `output` is not flushed.
+/// A listing has a line `KEY = VALUE` for each key of the table, in ascending order of their bytes;
+/// an empty table has none. A key and a text are written as JSON strings, a whole number in
+/// decimal, a decimal as `dec TEXT`, a date as `date TEXT`, the others as `true`, `false`, `nan`,
+/// `-nan`, `inf`, `-inf`, and a list as its values between `[` and `]`, with `, ` between them.
+/// Tables in an array are `tables COUNT`, and behind that line stand those of each table in order,
+/// as `KEY[I] SUBKEY = VALUE` with `I` from 0 on.
+///
+/// Faults are found in this order: `Usage` for words that stand in no row, `Stream` for a read that
+/// fails, `Refused` for a text that is not UTF-8 and then for an input that begins with no value of
+/// the type, is none, or spells no table, `Stream` for a write that fails or takes nothing.
+/// `Memory` may come instead of an answer at any step before the first write. Nothing is written
+/// before the answer is whole, so only behind `Stream` something may have been written: a beginning
+/// of the answer. A read or a write that was interrupted is tried again. `output` is not flushed.
 pub fn run<R: Read, W: Write>(
     alloc: Global,
     words: &[String],
@@ -59,8 +69,8 @@ pub fn run<R: Read, W: Write>(
     ensures begun { IsErrOf result ShowFault.Stream → (output.new ≡ output.old)
         ⊎ WritesBeginning ⟦<Types as Named>⟧.types (texts words.now) (R.remaining input.old)
         (R.remaining input.new) (W.contents output.old) (W.contents output.new) }
-    ensures refused { IfErr result (λ fault. (reason : _) → fault ≡ ShowFault.Refused reason →
-        HasNoAnswer ⟦<Types as Named>⟧.types (texts words.now) (R.remaining input.old)) }
+    ensures refused { IfErr result (λ fault. (reason : _) → fault ≡ ShowFault.Refused reason
+        → HasNoAnswer ⟦<Types as Named>⟧.types (texts words.now) (R.remaining input.old)) }
     ensures usage { IsErrOf result ShowFault.Usage ↔ AskForNothing (texts words.now) }
     ensures unwritten { IfErr result (λ fault. fault ≢ ShowFault.Stream → output.new ≡ output.old) }
     ensures unread { AskForNoInput (texts words.now) → input.new ≡ input.old }
@@ -74,10 +84,13 @@ pub fn run<R: Read, W: Write>(
 fn answer<R: Read>(alloc: Global, command: Command<'_>, input: &mut R) -> Result<Vec<u8>, ShowFault>
     requires { IsSound command }
     ensures answered { IfOk result (λ answer.
-        IsAnswerTo ⟦<Types as Named>⟧.types (request_of command.entry) (R.remaining input.old) answer.items) }
+        IsAnswerTo ⟦<Types as Named>⟧.types (request_of command.entry) (R.remaining input.old)
+        answer.items) }
     ensures fault { IfErr result (IsFaultOf
-        (HasNoAnswerTo ⟦<Types as Named>⟧.types (request_of command.entry) (R.remaining input.old))) }
-    ensures ended { OnOk result ((TakesNoInput command.entry → ⊥) → IsAtEnd (R.remaining input.new)) }
+        (HasNoAnswerTo ⟦<Types as Named>⟧.types (request_of command.entry)
+        (R.remaining input.old))) }
+    ensures ended { OnOk result
+        ((TakesNoInput command.entry → ⊥) → IsAtEnd (R.remaining input.new)) }
     ensures unread { TakesNoInput command.entry → input.new ≡ input.old }
 {
     match command {
@@ -118,7 +131,8 @@ fn text_line(alloc: Global, text: Option<&str>) -> Result<Vec<u8>, AllocError>
 
 /// The input up to its end. A read that was interrupted is tried again.
 fn read_whole<R: Read>(alloc: Global, input: &mut R) -> Result<Vec<u8>, ShowFault>
-    ensures bytes { IfOk result (λ bytes. IfSome (R.remaining input.old) (λ known. bytes.items ≡ known)) }
+    ensures bytes { IfOk result (λ bytes.
+        IfSome (R.remaining input.old) (λ known. bytes.items ≡ known)) }
     ensures ended { OnOk result (IsAtEnd (R.remaining input.new)) }
     ensures fault { IfErr result (IsFaultOf ⊥) }
 {
@@ -130,10 +144,13 @@ fn read_whole<R: Read>(alloc: Global, input: &mut R) -> Result<Vec<u8>, ShowFaul
     }
 }
 
-/// Writes all of the bytes, in as many writes as it takes. Behind a fault a beginning of them was written.
+/// Writes all of the bytes, in as many writes as it takes. Behind a fault a beginning of them was
+/// written.
 fn write_whole<W: Write>(output: &mut W, bytes: &[u8]) -> Result<(), ShowFault>
-    ensures ok { OnOk result (Appends (W.contents output.old) (W.contents output.new) bytes.now) }
-    ensures err { OnErr result ((rest : List ℕ) × WritesUpTo rest (W.contents output.old) (W.contents output.new) bytes.now) }
+    ensures ok { OnOk result
+        (Appends (W.contents output.old) (W.contents output.new) bytes.now) }
+    ensures err { OnErr result ((rest : List ℕ)
+        × WritesUpTo rest (W.contents output.old) (W.contents output.new) bytes.now) }
     ensures stream { IfErr result (λ fault. fault ≡ ShowFault.Stream) }
 {
     let mut rest = bytes;

@@ -3,7 +3,7 @@ ghost use Rattle.nano_show.specs.Shown.{Shown, IsTied, OfEachKind};
 
 use nanoserde::records::{Choice, Item};
 use nanoserde::{BothBin, BothJson, BothRon};
-use std::collections::{HashMap, HashSet};
+use std::collections::{BTreeMap, HashMap, HashSet};
 
 /// A type with all three formats.
 pub trait Show: BothBin + BothJson + BothRon {
@@ -34,7 +34,8 @@ impl Named for Types {
     ghost types = { by_kind ⟦<u8 as Show>⟧.shown ⟦<u32 as Show>⟧.shown ⟦<u64 as Show>⟧.shown
         ⟦<i32 as Show>⟧.shown ⟦<i64 as Show>⟧.shown ⟦<bool as Show>⟧.shown
         ⟦<String as Show>⟧.shown ⟦<Vec<u8> as Show>⟧.shown ⟦<HashSet<i32> as Show>⟧.shown
-        ⟦<HashMap<String, i32> as Show>⟧.shown ⟦<Item as Show>⟧.shown ⟦<Choice as Show>⟧.shown };
+        ⟦<HashMap<String, i32> as Show>⟧.shown ⟦<BTreeMap<String, i32> as Show>⟧.shown
+        ⟦<Item as Show>⟧.shown ⟦<Choice as Show>⟧.shown };
 }
 
 /// The formats of a type are of its values.
@@ -56,6 +57,7 @@ pub(crate) fn all_tied()
     tied::<Vec<u8>>();
     tied::<HashSet<i32>>();
     tied::<HashMap<String, i32>>();
+    tied::<BTreeMap<String, i32>>();
     tied::<Item>();
     tied::<Choice>();
 }

@@ -1,6 +1,7 @@
-// Readers and writers that are slow, that fail at each of their calls in turn, or are interrupted there.
-use crate::run;
+// Readers and writers that are slow, that fail at each of their calls in turn, or are interrupted
+// there.
 use crate::testing::{Pipe, Source, are_bytes, holds, is_count, is_ending, words};
+use crate::{ShowFault, run};
 use std::alloc::{AllocError, Global};
 use std::io::ErrorKind;
 use std::process::Abort;
@@ -9,7 +10,7 @@ use std::test::Fail;
 /// Words, their input, how many reads of a byte each they take, and what is written for them.
 type Row = (&'static str, &'static [u8], usize, &'static str);
 
-const ROWS: [Row; 7] = [
+const ROWS: &[Row] = &[
     (
         "code u16s 1 2",
         b"",
@@ -27,10 +28,25 @@ const ROWS: [Row; 7] = [
         21,
         "\"a\" = tables 1\n\"a\"[0] \"c\" = \"\"\n\"b\" = [1]\n",
     ),
+    (
+        "json tree",
+        b"{\"b\":1,\"a\":2,}",
+        15,
+        "{\"a\":2,\"b\":1}\n",
+    ),
+    ("json-whole map", b"{\"a\":1}", 8, "{\"a\":1}\n"),
+    ("ron-whole choice", b"B(1,\"a\")", 9, "B(1, \"a\")\n"),
+    (
+        "bin-whole string",
+        b"\x01\0\0\0\0\0\0\0a",
+        10,
+        "01 00 00 00 00 00 00 00 61\n",
+    ),
 ];
 
-/// The words of a row over a reader that gives a byte a call, with such an error at one of its calls: they are
-/// answered where it was an interruption or none, and else nothing is read behind it and nothing is written.
+/// The words of a row over a reader that gives a byte a call, with such an error at one of its
+/// calls: they are answered where it was an interruption or none, and else nothing is read behind
+/// it and nothing is written.
 fn is_read_up_to(
     rt: &impl Abort,
     alloc: Global,
@@ -61,15 +77,16 @@ fn is_read_up_to(
 fn reads_that_fail_at_each_place(rt: HostRuntime) -> Result<(), Fail> {
     for row in ROWS {
         for fails_at in 0..=row.2 {
-            is_read_up_to(&rt, rt.alloc(), row, fails_at, ErrorKind::Other)?;
-            is_read_up_to(&rt, rt.alloc(), row, fails_at, ErrorKind::Interrupted)?;
+            is_read_up_to(&rt, rt.alloc(), *row, fails_at, ErrorKind::Other)?;
+            is_read_up_to(&rt, rt.alloc(), *row, fails_at, ErrorKind::Interrupted)?;
         }
     }
     Ok(())
 }
 
-/// The words of a row over a writer that takes a byte a call, with such an error at one of its calls: the answer
-/// is written where it was an interruption or none, and else what was taken before it is its beginning.
+/// The words of a row over a writer that takes a byte a call, with such an error at one of its
+/// calls: the answer is written where it was an interruption or none, and else what was taken
+/// before it is its beginning.
 fn is_written_up_to(
     rt: &impl Abort,
     alloc: Global,
@@ -105,8 +122,8 @@ fn is_written_up_to(
 fn writes_that_fail_at_each_place(rt: HostRuntime) -> Result<(), Fail> {
     for row in ROWS {
         for fails_at in 0..=row.3.len() {
-            is_written_up_to(&rt, rt.alloc(), row, fails_at, ErrorKind::BrokenPipe)?;
-            is_written_up_to(&rt, rt.alloc(), row, fails_at, ErrorKind::Interrupted)?;
+            is_written_up_to(&rt, rt.alloc(), *row, fails_at, ErrorKind::BrokenPipe)?;
+            is_written_up_to(&rt, rt.alloc(), *row, fails_at, ErrorKind::Interrupted)?;
         }
     }
     Ok(())
@@ -138,7 +155,7 @@ fn writers_that_take_nothing(rt: HostRuntime) -> Result<(), Fail> {
         is_stopped(
             &rt,
             rt.alloc(),
-            row,
+            *row,
             &mut input,
             &mut output,
             "stream fault",
@@ -158,8 +175,8 @@ fn a_reader_without_memory(rt: HostRuntime) -> Result<(), Fail> {
     Ok(())
 }
 
-/// The words of a row are answered, or there was no memory and nothing is written. A refused growth of this
-/// function's own is let be.
+/// The words of a row are answered, or there was no memory and nothing is written. A refused
+/// growth of this function's own is let be.
 fn is_answered_or_refused(rt: &impl Abort, alloc: Global, row: Row) -> Result<(), AllocError> {
     let words = words(alloc, row.0)?;
     let mut input = row.1;
@@ -174,10 +191,77 @@ fn is_answered_or_refused(rt: &impl Abort, alloc: Global, row: Row) -> Result<()
     Ok(())
 }
 
+/// Words, an input that has no answer, and the reason.
+const REFUSED: &[(&str, &[u8], &str)] = &[
+    (
+        "json item",
+        b"{\"note\":\"x\"}",
+        "Json Deserialize error: Key not found value, line:1 col:13",
+    ),
+    (
+        "ron item",
+        b"(value:7,z:1)",
+        "Ron Deserialize error: Unexpected key z, line:1 col:12",
+    ),
+    (
+        "bin choice",
+        &[3, 0],
+        "Bin deserialize error at:0 wanted:0 bytes but max size is 2",
+    ),
+    (
+        "toml",
+        b"a = [[b]]",
+        "Toml error: Unexpected token Ident(\"b\") , line:1 col:9",
+    ),
+    (
+        "json-whole tree",
+        b"{\"a\":1}\0",
+        "Json Deserialize error: Cannot parse end , line:1 col:9",
+    ),
+    (
+        "ron-whole u8",
+        b"7 7",
+        "Ron Deserialize error: Cannot parse end , line:1 col:4",
+    ),
+    (
+        "bin-whole bool",
+        &[1, 1],
+        "Bin deserialize error at:1 wanted:0 bytes but max size is 2",
+    ),
+    ("json u8", &[255], "not UTF-8"),
+];
+
+/// The words with their input are refused for the reason, or there was no memory, and nothing is
+/// written. A refused growth of this function's own is let be.
+fn is_refused_or_without_memory(
+    rt: &impl Abort,
+    alloc: Global,
+    row: &(&str, &[u8], &str),
+) -> Result<(), AllocError> {
+    let words = words(alloc, row.0)?;
+    let mut input = row.1;
+    let mut output = Pipe::new(alloc, 64, 0, ErrorKind::Other)?;
+    match run(alloc, &words, &mut input, &mut output) {
+        Ok(()) => holds(rt, false, row.0),
+        Err(ShowFault::Refused(reason)) => are_bytes(rt, reason.as_str().as_bytes(), row.2),
+        Err(fault) => is_ending(rt, &fault, (3, "no memory")),
+    }
+    is_count(rt, output.calls, 0);
+    Ok(())
+}
+
 /// Passes with ample memory, and where any one growth is refused.
 #[test]
 fn refused_growths(rt: HostRuntime) {
     for row in ROWS {
-        let _own = is_answered_or_refused(&rt, rt.alloc(), row);
+        let _own = is_answered_or_refused(&rt, rt.alloc(), *row);
+    }
+}
+
+/// Passes with ample memory, and where any one growth is refused.
+#[test]
+fn refused_growths_of_faults(rt: HostRuntime) {
+    for row in REFUSED {
+        let _own = is_refused_or_without_memory(&rt, rt.alloc(), row);
     }
 }

@@ -4,8 +4,10 @@ use std::alloc::{AllocError, Global};
 use std::io;
 use std::io::{ErrorKind, Read, Write};
 use std::process::Abort;
+use std::test::Fail;
 
-/// A reader that gives a few bytes a call, and fails at one of its calls with an error of this kind.
+/// A reader that gives a few bytes a call, and fails at one of its calls with an error of this
+/// kind.
 #[derive(Drop)]
 pub(crate) struct Source<'a> {
     rest: &'a [u8],
@@ -41,7 +43,8 @@ impl Read for Source<'_> {
     }
 }
 
-/// A writer that takes a few bytes a call, and fails at one of its calls with an error of this kind.
+/// A writer that takes a few bytes a call, and fails at one of its calls with an error of this
+/// kind.
 #[derive(Drop)]
 pub(crate) struct Pipe {
     pub(crate) taken: Vec<u8>,
@@ -128,4 +131,42 @@ pub(crate) fn run_without_input<W: Write>(
     let result = run(alloc, words, &mut input, output);
     is_count(rt, input.calls, 0);
     result
+}
+
+/// The input is refused for this reason, and nothing is written.
+pub(crate) fn is_refused(
+    rt: &impl Abort,
+    alloc: Global,
+    line: &str,
+    input: &[u8],
+    reason: &str,
+) -> Result<(), Fail> {
+    let words = words(alloc, line)?;
+    let mut rest = input;
+    let mut output = Pipe::new(alloc, 64, 0, ErrorKind::Other)?;
+    match run(alloc, &words, &mut rest, &mut output) {
+        Ok(()) => holds(rt, false, line),
+        Err(fault) => is_ending(rt, &fault, (1, reason)),
+    }
+    is_count(rt, output.calls, 0);
+    Ok(())
+}
+
+/// Words, or the type behind a word, an input that has no answer, and what is told of it.
+pub(crate) type Refusal = (&'static str, &'static [u8], &'static str);
+
+/// Each row of a word is refused, with what the format's errors begin with before what is told.
+pub(crate) fn are_refused(
+    rt: &impl Abort,
+    alloc: Global,
+    word: &str,
+    begins: &str,
+    rows: &[Refusal],
+) -> Result<(), Fail> {
+    for (kind, input, told) in rows {
+        let line = format!(in alloc; "{word}{kind}")?;
+        let reason = format!(in alloc; "{begins}{told}")?;
+        is_refused(rt, alloc, &line, input, &reason)?;
+    }
+    Ok(())
 }

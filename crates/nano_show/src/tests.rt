@@ -1,4 +1,4 @@
-// What is written for which words.
+// What is written for which words and inputs.
 use crate::run;
 use crate::testing::{are_bytes, run_without_input, words};
 use std::alloc::Global;
@@ -29,9 +29,14 @@ const ANSWERED: [(&str, &str); 10] = [
 ];
 
 /// Words, the input that they ask for, and the line that is written for them.
-const SHOWN: [(&str, &[u8], &str); 24] = [
+type Row = (&'static str, &'static [u8], &'static str);
+
+const OF_JSON: &[Row] = &[
     ("json u8", b"+5", "5\n"),
+    ("json u8", b"007", "7\n"),
     ("json u32", b"42 43", "42\n"),
+    ("json u32", b"42]", "42\n"),
+    ("json u32", b"42\0@", "42\n"),
     (
         "json u64",
         b"18446744073709551615",
@@ -45,7 +50,17 @@ const SHOWN: [(&str, &[u8], &str); 24] = [
     ),
     ("json bool", b"true1", "true\n"),
     ("json string", b"\"\\ud83d\\uDE0B\"", "\"😋\"\n"),
+    (
+        "json string",
+        b"\"\\n\\t\\u0020\\f\\b\\\\\\\"\\/\\r\\u0000\\u007f\"",
+        "\"\\n\\t \\f\\b\\\\\\\"/\\r\\u0000\\u007f\"\n",
+    ),
     ("json bytes", b"[1,2,]", "[1,2]\n"),
+    ("json bytes", b"[]", "[]\n"),
+    ("json bytes", b"[1,] 2", "[1]\n"),
+    ("json bytes", b"[1]true", "[1]\n"),
+    ("json bytes", b"[1]]", "[1]\n"),
+    ("json bytes", b"[1,]\0@", "[1]\n"),
     ("json set", b"[3,1,3]", "[1,3]\n"),
     (
         "json map",
@@ -53,13 +68,25 @@ const SHOWN: [(&str, &[u8], &str); 24] = [
         "{\"a\":2,\"b\":3}\n",
     ),
     (
+        "json tree",
+        b"{\"b\":1,\"a\":2,\"b\":3,}",
+        "{\"a\":2,\"b\":3}\n",
+    ),
+    ("json tree", b"{}", "{}\n"),
+    (
         "json item",
         b"{\"value\":1,\"note\":\"x\",\"value\":2,\"note\":null}",
         "{\"value\":2}\n",
     ),
     (
         "json item",
-        b"{\"some\":{\"export\":{\"target\":\".\"}},\"note\":\"hello\",\"b_\":5.,\"x\":[1,{\"a\":1.}],\"value\":1,}",
+        b"{\"z\":[1,{\"a\":2}],\"value\":7}",
+        "{\"value\":7}\n",
+    ),
+    (
+        "json item",
+        b"{\"some\":{\"export\":{\"target\":\".\"}},\"note\":\"hello\",\
+        \"b_\":5.,\"x\":[1,{\"a\":1.}],\"value\":1,}",
         "{\"value\":1,\"note\":\"hello\"}\n",
     ),
     (
@@ -67,17 +94,63 @@ const SHOWN: [(&str, &[u8], &str); 24] = [
         b"{ \"B\": [ 1, \"asd\" ] }",
         "{\"B\":[1,\"asd\"]}\n",
     ),
+    (
+        "json choice",
+        b"{\"C\":{\"b\":\"\",\"a\":2}}",
+        "{\"C\":{\"a\":2,\"b\":\"\"}}\n",
+    ),
+    ("json choice", b"\"A\"", "\"A\"\n"),
+];
+
+const OF_RON: &[Row] = &[
     ("ron u32", b"/*/ 7 */ 42 // x", "42\n"),
+    ("ron u8", b"/* a */ // b\n7", "7\n"),
+    (
+        "ron i64",
+        b"-9223372036854775808]",
+        "-9223372036854775808\n",
+    ),
     ("ron bool", b"2", "true\n"),
+    ("ron bool", b"+0", "false\n"),
+    (
+        "ron string",
+        b"\"\\ud83d\\uDE0B\\n\\u0001\\0\"",
+        "\"😋\\n\u{1}\\0\"\n",
+    ),
     ("ron bytes", b"[1, 2]", "[\n    1,\n    2,\n]\n"),
+    ("ron bytes", b"[]", "[\n]\n"),
+    ("ron bytes", b"[1] /* @", "[\n    1,\n]\n"),
     ("ron set", b"[2, 1]", "[    1,    2]\n"),
+    (
+        "ron map",
+        b"{ \"asd\": 1, \"qwe\": 2, }",
+        "{\n    \"asd\":1,\n    \"qwe\":2,\n}\n",
+    ),
+    (
+        "ron tree",
+        b"{\"b\":3,\"a\":2}",
+        "{\n    \"a\":2,\n    \"b\":3,\n}\n",
+    ),
+    ("ron tree", b"{}", "{\n}\n"),
+    (
+        "ron item",
+        b"(value:2147483647)",
+        "(\n    value:2147483647,\n)\n",
+    ),
+    ("ron choice", b"A", "A\n"),
+    ("ron choice", b"B(1, \"asd\",)", "B(1, \"asd\")\n"),
     (
         "ron choice",
         b"C(a: 2, b: \"qwe\")",
         "C(\n    a:2,\n    b:\"qwe\",\n)\n",
     ),
+];
+
+const OF_BYTES: &[Row] = &[
     ("bin bool", &[9], "01\n"),
+    ("bin u8", &[7, 8], "07\n"),
     ("bin u32", &[42, 0, 0, 0, 9], "2a 00 00 00\n"),
+    ("bin i32", &[255, 255, 255, 255], "ff ff ff ff\n"),
     (
         "bin string",
         &[1, 0, 0, 0, 0, 0, 0, 0, 97],
@@ -88,8 +161,58 @@ const SHOWN: [(&str, &[u8], &str); 24] = [
         &[0, 0, 0, 0, 0, 0, 0, 0],
         "00 00 00 00 00 00 00 00\n",
     ),
+    (
+        "bin set",
+        &[2, 0, 0, 0, 0, 0, 0, 0, 7, 0, 0, 0, 7, 0, 0, 0],
+        "01 00 00 00 00 00 00 00 07 00 00 00\n",
+    ),
+    (
+        "bin tree",
+        b"\x02\0\0\0\0\0\0\0\x01\0\0\0\0\0\0\0a\x01\0\0\0\x01\0\0\0\0\0\0\0a\x02\0\0\0",
+        "01 00 00 00 00 00 00 00 01 00 00 00 00 00 00 00 61 02 00 00 00\n",
+    ),
     ("bin item", &[7, 0, 0, 0, 9], "07 00 00 00 00\n"),
     ("bin choice", &[0, 0], "00 00\n"),
+    (
+        "bin choice",
+        b"\x01\0\x01\0\0\0\x03\0\0\0\0\0\0\0asd",
+        "01 00 01 00 00 00 03 00 00 00 00 00 00 00 61 73 64\n",
+    ),
+];
+
+/// Inputs that are one value and nothing else.
+const OF_WHOLE_INPUTS: &[Row] = &[
+    ("json-whole u32", b"42 ", "42\n"),
+    ("json-whole u32", b" 42", "42\n"),
+    ("json-whole bytes", b"[1,2,]", "[1,2]\n"),
+    ("json-whole string", b"\"\\u0000\"\n", "\"\\u0000\"\n"),
+    (
+        "json-whole tree",
+        b"{\"b\":1,\"a\":2,\"b\":3,}",
+        "{\"a\":2,\"b\":3}\n",
+    ),
+    (
+        "json-whole item",
+        b"{\"z\":{\"a\":[1.]},\"value\":7,}",
+        "{\"value\":7}\n",
+    ),
+    ("ron-whole u32", b"42 // x", "42\n"),
+    ("ron-whole u32", b"42 /* x", "42\n"),
+    ("ron-whole string", b"\"\\0\"", "\"\\0\"\n"),
+    ("ron-whole tree", b"{\"a\":2,}", "{\n    \"a\":2,\n}\n"),
+    (
+        "ron-whole choice",
+        b"B(1, \"asd\",) /* x */",
+        "B(1, \"asd\")\n",
+    ),
+    ("bin-whole u32", &[42, 0, 0, 0], "2a 00 00 00\n"),
+    ("bin-whole bool", &[9], "01\n"),
+    (
+        "bin-whole map",
+        &[0, 0, 0, 0, 0, 0, 0, 0],
+        "00 00 00 00 00 00 00 00\n",
+    ),
+    ("bin-whole choice", &[0, 0], "00 00\n"),
 ];
 
 /// The line is answered, and this is written.
@@ -125,10 +248,17 @@ fn is_shown(
     Ok(())
 }
 
-#[test]
-fn shows_normal_forms(rt: HostRuntime) -> Result<(), Fail> {
-    for (line, input, written) in SHOWN {
-        is_shown(&rt, rt.alloc(), line, input, written)?;
+fn are_shown(rt: &impl Abort, alloc: Global, rows: &[Row]) -> Result<(), Fail> {
+    for (line, input, written) in rows {
+        is_shown(rt, alloc, line, input, written)?;
     }
     Ok(())
+}
+
+#[test]
+fn shows_normal_forms(rt: HostRuntime) -> Result<(), Fail> {
+    are_shown(&rt, rt.alloc(), OF_JSON)?;
+    are_shown(&rt, rt.alloc(), OF_RON)?;
+    are_shown(&rt, rt.alloc(), OF_BYTES)?;
+    are_shown(&rt, rt.alloc(), OF_WHOLE_INPUTS)
 }

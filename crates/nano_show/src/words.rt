@@ -1,21 +1,29 @@
 // Which words ask for what.
-ghost use Rattle.std.specs.Prelude.{◌≡◌, ◌≢◌, ◌↔◌, ℕ, List, [], ◌∷◌, map, All, IsTrue, IfOk, IfSome, IfNone, codes};
+ghost use Rattle.std.specs.Prelude.{◌≡◌, ◌≢◌, ◌↔◌, ℕ, List, [], ◌∷◌, map, All, IsTrue, IfOk};
+ghost use Rattle.std.specs.Prelude.{IfSome, IfNone, codes};
 ghost use Rattle.std.specs.Option.{SomeIff};
 ghost use Rattle.std.specs.Str.Parse.{digits_value};
-ghost use Rattle.nano_show.specs.Requests.{texts, IsU16, AskFor, AskForNothing, form_name, kind_name};
+ghost use Rattle.nano_show.specs.Requests.{texts, IsU16, AskFor, AskForNothing};
+ghost use Rattle.nano_show.specs.Requests.{form_name, kind_name};
 ghost use Rattle.nano_show.specs.Commands.{request_of, IsSound};
 
 use std::alloc::{AllocError, Global};
 
-/// A format that normal forms are shown in.
+/// A format that normal forms are shown in, and how much of the input is to be a value.
 #[derive(Clone, Copy)]
 pub enum Form {
-    /// JSON.
+    /// JSON, whose beginning is a value.
     Json,
-    /// RON.
+    /// RON, whose beginning is a value.
     Ron,
-    /// Bytes.
+    /// Bytes, of which a front is a value.
     Bin,
+    /// JSON that is one value and nothing else.
+    JsonWhole,
+    /// RON that is one value and nothing else.
+    RonWhole,
+    /// Bytes that are one value and nothing else.
+    BinWhole,
 }
 
 /// A type whose values are shown.
@@ -41,6 +49,8 @@ pub enum Kind {
     Set,
     /// `HashMap<String, i32>`.
     Map,
+    /// `BTreeMap<String, i32>`.
+    Tree,
     /// `Item` of `nanoserde::records`.
     Item,
     /// `Choice` of `nanoserde::records`.
@@ -57,6 +67,9 @@ impl Form {
             "json" => Some(Form::Json),
             "ron" => Some(Form::Ron),
             "bin" => Some(Form::Bin),
+            "json-whole" => Some(Form::JsonWhole),
+            "ron-whole" => Some(Form::RonWhole),
+            "bin-whole" => Some(Form::BinWhole),
             _ => None,
         }
     }
@@ -79,6 +92,7 @@ impl Kind {
             "bytes" => Some(Kind::Bytes),
             "set" => Some(Kind::Set),
             "map" => Some(Kind::Map),
+            "tree" => Some(Kind::Tree),
             "item" => Some(Kind::Item),
             "choice" => Some(Kind::Choice),
             _ => None,
@@ -100,8 +114,8 @@ pub(crate) enum Command<'a> {
 }
 
 impl<'a> Command<'a> {
-    /// What the words ask for, or `None` where the program does not know them. It takes no memory, so wrong words
-    /// are found before a growth can be refused.
+    /// What the words ask for, or `None` where the program does not know them. It takes no
+    /// memory, so wrong words are found before a growth can be refused.
     pub(crate) fn parse(words: &'a [String]) -> Option<Command<'a>>
         ensures known { IfSome result (λ command. AskFor (texts words.now) (request_of command)) }
         ensures sound { IfSome result IsSound }

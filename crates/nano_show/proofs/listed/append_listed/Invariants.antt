@@ -6,7 +6,9 @@ use Rattle.nano_show.specs.OpenLists.{closed_lists}
 use Rattle.nano_show.proofs.listed.append_listed.Given as goal
 
 abbrev pub invariant-lists : goal.invariant-lists
-invariant-lists l = string_bytes l.state.out ++ closed_lists l.lists.items [] ≡ string_bytes l.fn.state.out ++ listed (view l.fn.value)
+invariant-lists l =
+    string_bytes l.state.out ++ closed_lists l.lists.items []
+    ≡ string_bytes l.fn.state.out ++ listed (view l.fn.value)
 
 abbrev pub decreases-lists : goal.decreases-lists
 decreases-lists l = length (closed_lists l.lists.items [])

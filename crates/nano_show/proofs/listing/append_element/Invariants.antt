@@ -8,5 +8,6 @@ use Rattle.nano_show.proofs.listing.append_element.Given as goal
 
 abbrev pub invariant-loop-key : goal.invariant-loop-key
 invariant-loop-key l =
-    string_bytes l.state.out ++ element_lines l.fn.name (chain (map deref_pair (drop l.key-index l.key-items)))
+    string_bytes l.state.out ++ element_lines l.fn.name
+    (chain (map deref_pair (drop l.key-index l.key-items)))
     ≡ string_bytes l.fn.state.out ++ element_lines l.fn.name (table_view l.fn.table.entries)

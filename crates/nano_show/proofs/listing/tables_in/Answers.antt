@@ -2,7 +2,8 @@ use Rattle.std.proofs.Common.{ap, ◌∙◌}
 use Rattle.nano_toml.specs.Kinds.{as_tables}
 use Rattle.nano_toml.specs.View.{view}
 use Rattle.nano_toml.proofs.TableViews.{view-Array, view-SimpleArray}
-use Rattle.nano_show.proofs.ListingLemmas.{view-Str, view-Bool, view-Num, view-Dec, view-Nan, view-Inf, view-Date}
+use Rattle.nano_show.proofs.ListingLemmas.{view-Str, view-Bool, view-Num, view-Dec, view-Nan}
+use Rattle.nano_show.proofs.ListingLemmas.{view-Inf, view-Date}
 use Rattle.nano_show.proofs.listing.tables_in.Goals as goal
 
 pub returns-in-Array : goal.returns-in-Array

@@ -9,9 +9,12 @@ pub writes-preserved : goal.writes-preserved
 writes-preserved g c =
     elim c.match-write.branch [
       | in-Ok w ↦
-          let left : c.match-write.rest.now ≡ drop w.in-Ok.count c.writes.rest.now = ap (λ rest. rest.now) w.rest-is ∙ take_rest c.writes.rest.now w.in-Ok.count in
+          let left : c.match-write.rest.now ≡ drop w.in-Ok.count c.writes.rest.now =
+          ap (λ rest. rest.now) w.rest-is ∙ take_rest c.writes.rest.now w.in-Ok.count in
           WritesUpTo-more _ _ _ _ _ c.writes.invariant w.in-Ok.count _ left w.in-Ok.ensures.bytes
       | in-Err+else-ne w ↦
-          subst (λ rest. WritesUpTo rest (g.W.Write.contents c.args.output.now) (g.W.Write.contents c.write.new.self) c.args.bytes.now) (sym (ap (λ rest. rest.now) w.rest-is))
+          subst (λ rest. WritesUpTo rest (g.W.Write.contents c.args.output.now)
+          (g.W.Write.contents c.write.new.self) c.args.bytes.now)
+          (sym (ap (λ rest. rest.now) w.rest-is))
           (WritesUpTo-kept _ _ _ _ _ c.writes.invariant w.in-Err.ensures.bytes)
     ]

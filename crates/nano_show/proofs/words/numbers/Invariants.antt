@@ -5,4 +5,5 @@ use Rattle.nano_show.specs.Requests.{texts}
 use Rattle.nano_show.proofs.words.numbers.Given as goal
 
 abbrev pub invariant-loop-numeral : goal.invariant-loop-numeral
-invariant-loop-numeral l = l.numbers.items ≡ map (digits_value 10) (texts (take l.numeral-index l.numerals))
+invariant-loop-numeral l =
+    l.numbers.items ≡ map (digits_value 10) (texts (take l.numeral-index l.numerals))
