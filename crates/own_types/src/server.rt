@@ -1,4 +1,4 @@
-// A struct of five fields, with a map and a field that may be missing: its description, and then
+// A struct of five fields, with maps and a field that may be missing: its description, and then
 // bytes, JSON and RON.
 ghost use Rattle.std.specs.Prelude.{refl};
 ghost use Rattle.described.specs.Names.{description, five_names, five_of, tied};
@@ -22,7 +22,7 @@ use described_ron::{
     read_record_ron, write_record_ron,
 };
 use std::alloc::{AllocError, Global};
-use std::collections::HashMap;
+use std::collections::{BTreeMap, HashMap};
 use std::str::Chars;
 
 /// A server.
@@ -32,8 +32,8 @@ pub struct Server {
     pub host: String,
     /// On which port.
     pub port: u16,
-    /// What it is for.
-    pub tags: Vec<String>,
+    /// What it is for, by kind.
+    pub tags: BTreeMap<String, Vec<String>>,
     /// How many requests, by user.
     pub limits: HashMap<String, u64>,
     /// What else there is to say of it.
@@ -43,7 +43,7 @@ pub struct Server {
 type ServerFields = InFive<
     Required<String>,
     Required<u16>,
-    Required<Vec<String>>,
+    Required<BTreeMap<String, Vec<String>>>,
     Required<HashMap<String, u64>>,
     Optional<String>,
 >;

@@ -80,12 +80,14 @@ const ITEMS: [(&str, &str); 25] = [
 
 const SERVERS: [(&str, &str); 4] = [
     (
-        "{\"host\":\"a\",\"port\":80,\"tags\":[\"web\"],\"limits\":{\"bob\":8,\"ann\":7}}",
-        "{\"host\":\"a\",\"port\":80,\"tags\":[\"web\"],\"limits\":{\"ann\":7,\"bob\":8}}",
+        "{\"host\":\"a\",\"port\":80,\"tags\":{\"os\":[],\"in\":[\"x\"],\"os\":[\"b\"]},\
+         \"limits\":{\"b\":8,\"a\":7}}",
+        "{\"host\":\"a\",\"port\":80,\"tags\":{\"in\":[\"x\"],\"os\":[\"b\"]},\
+         \"limits\":{\"a\":7,\"b\":8}}",
     ),
     (
-        "{\"note\":\"b\",\"limits\":{},\"tags\":[],\"port\":80,\"host\":\"a\"}",
-        "{\"host\":\"a\",\"port\":80,\"tags\":[],\"limits\":{},\"note\":\"b\"}",
+        "{\"note\":\"b\",\"limits\":{},\"tags\":{},\"port\":80,\"host\":\"a\"}",
+        "{\"host\":\"a\",\"port\":80,\"tags\":{},\"limits\":{},\"note\":\"b\"}",
     ),
     ("{\"host\":\"a\"}", "Key not found port"),
     ("{\"port\":65536}", "Value out of range 65536>65535 "),

@@ -49,13 +49,15 @@ const ITEMS: [(&str, &str); 16] = [
 
 const SERVERS: [(&str, &str); 3] = [
     (
-        "(host:\"a\",port:80,tags:[\"web\"],limits:{\"bob\":8,\"ann\":7})",
-        "(\n    host:\"a\",\n    port:80,\n    tags:[\n        \"web\",\n    ],\n    \
-         limits:{\n        \"ann\":7,\n        \"bob\":8,\n    },\n)",
+        "(host:\"a\",port:80,tags:{\"os\":[\"b\"],\"in\":[\"x\"],\"os\":[]},\
+         limits:{\"b\":8,\"a\":7})",
+        "(\n    host:\"a\",\n    port:80,\n    tags:{\n        \"in\":[\n            \"x\",\n\
+         \x20       ],\n        \"os\":[\n        ],\n    },\n    limits:{\n        \"a\":7,\n\
+         \x20       \"b\":8,\n    },\n)",
     ),
     (
-        "(note:\"b\",limits:{},tags:[],port:80,host:\"a\")",
-        "(\n    host:\"a\",\n    port:80,\n    tags:[\n    ],\n    limits:{\n    },\n    \
+        "(note:\"b\",limits:{},tags:{},port:80,host:\"a\")",
+        "(\n    host:\"a\",\n    port:80,\n    tags:{\n    },\n    limits:{\n    },\n    \
          note:\"b\",\n)",
     ),
     ("(host:\"a\")", "Key not found port"),
