@@ -3,6 +3,8 @@
 #![tactic(auto)]
 
 #[cfg(test)]
+mod end_tests;
+#[cfg(test)]
 mod fault_tests;
 #[cfg(test)]
 mod large_tests;
