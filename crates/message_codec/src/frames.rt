@@ -1,0 +1,176 @@
+// Messages of any type, each in a frame: the code of its code, as a list of bytes.
+ghost use Rattle.std.specs.Prelude.{◌≡◌, ◌<◌, ◌+◌, ◌≢◌, ◌≤◌, ◌++◌, List, ℕ, length, drop, Some, IfOk, IfErr, IfSome, IfNone, OnOk, OnErr, IsErrOf};
+ghost use Rattle.std.specs.Io.KnownBytes.{Keeps, IsAtEnd};
+ghost use Rattle.message_codec.specs.Frames.{IsFrame, AppendsFrame, ReadsBehind, TakesMessage, IsCut, HoldsNoMessage};
+ghost use Rattle.message_codec.specs.Faults.{IsOfStream};
+ghost use Rattle.bin_bytes.specs.Reading.{Reads, NothingFits};
+
+use nano_bin::{DeBin, DeBinErr, DeBinKind, SerBin};
+use nano_value::Value;
+use std::alloc::{AllocError, Global};
+use std::io::{self, ErrorKind, Read, Write};
+use thiserror::Error;
+
+/// Why a message was not read or not written.
+#[derive(Debug, Drop, Error)]
+pub enum Fault {
+    /// The stream ends within a frame.
+    #[error("the stream ends within a message")]
+    Cut,
+    /// The bytes of a frame are no message.
+    #[error("no message in a frame: {0}")]
+    Bad(DeBinErr),
+    /// A read or a write failed, or a growth was refused.
+    #[error("{0}")]
+    Stream(io::Error),
+}
+
+/// Writes a message behind those that were written. Behind a fault a beginning of it may be.
+pub fn put<T: SerBin, W: Write>(alloc: Global, message: &T, output: &mut W) -> io::Result<()>
+    ensures { OnOk result (AppendsFrame (T.bin.writing.written message.now)
+        (W.contents output.old) (W.contents output.new)) }
+{
+    let code = message.serialize_bin(alloc)?;
+    code.known();
+    output.write_all(&code.serialize_bin(alloc)?)
+}
+
+/// Messages read from a stream, one behind the other, in chunks of any size.
+#[derive(Drop)]
+pub struct Messages<R> {
+    input: R,
+    chunk: Vec<u8>,
+    bytes: Vec<u8>,
+    offset: usize,
+    ghost room: { 0 < length chunk.items },
+    ghost within: { offset ≤ length bytes.items },
+}
+
+impl<R: Read> Messages<R> {
+    ghost use Rattle.message_codec.specs.Left.{left};
+
+    /// Those that the reader gives. At most `chunk` bytes are read at a time, and at least one.
+    pub fn new(alloc: Global, input: R, chunk: usize) -> Result<Messages<R>, AllocError>
+    where
+        R: Drop,
+        ensures { IfOk result (λ messages.
+            Keeps (R.remaining input) (left R.remaining messages)) }
+    {
+        Ok(Messages {
+            input,
+            chunk: vec![in alloc; 0; chunk.max(1)]?,
+            bytes: Vec::new(alloc),
+            offset: 0,
+        })
+    }
+
+    /// The next message, or none where the stream is at its end. A fault takes nothing of what is
+    /// left.
+    pub fn next<T: DeBin>(&mut self, alloc: Global) -> Result<Option<T>, Fault>
+        ensures taken { IfOk result (λ answer. IfSome answer (λ message.
+            TakesMessage T.bin.spelling.spelled (left R.remaining self.old)
+            (left R.remaining self.new) (T.means message))) }
+        ensures ended { IfOk result (λ answer. IfNone answer (IsAtEnd (left R.remaining self.old))) }
+        ensures cut { IsErrOf result Fault.Cut → IfSome (left R.remaining self.old) IsCut }
+        ensures bad { IfErr result (λ fault. (error : _) → fault ≡ Fault.Bad error →
+            IfSome (left R.remaining self.old) (HoldsNoMessage T.bin.spelling.spelled)) }
+        ensures kept { OnErr result (Keeps (left R.remaining self.old) (left R.remaining self.new)) }
+    {
+        'reads: for _ in 0..u64::MAX {
+            if let Some((code, end)) = self.frame(alloc)? {
+                let message = message_of(alloc, &code)?;
+                self.offset = end;
+                return Ok(Some(message));
+            }
+            let count = self.fill()?;
+            if count == 0 {
+                if self.offset < self.bytes.len() {
+                    return Err(Fault::Cut);
+                }
+                return Ok(None);
+            }
+        }
+        Err(Fault::Stream(ErrorKind::Interrupted.into()))
+    }
+
+    /// The code in the frame that begins at the offset, and the place behind the frame.
+    fn frame(&self, alloc: Global) -> Result<Option<(Vec<u8>, usize)>, Fault>
+        ensures some { IfOk result (λ found. IfSome found (λ f.
+            Reads IsFrame self.now.bytes.items self.now.offset f.0.items f.1)) }
+        ensures none { IfOk result (λ found. IfNone found
+            (NothingFits IsFrame (drop self.now.offset self.now.bytes.items))) }
+        ensures fault { IfErr result IsOfStream }
+    {
+        let mut end = self.offset;
+        match Vec::de_bin(alloc, &mut end, &self.bytes) {
+            Ok(code) => Ok(Some((code, end))),
+            Err(error) => match error.kind {
+                DeBinKind::Memory => Err(no_memory()),
+                _ => Ok(None),
+            },
+        }
+    }
+
+    /// Reads a chunk behind the bytes that are left, and says how many came.
+    fn fill(&mut self) -> Result<usize, Fault>
+        ensures ok { IfOk result (ReadsBehind (R.remaining self.old.input) (R.remaining self.new.input)
+            (drop self.old.offset self.old.bytes.items) (drop self.new.offset self.new.bytes.items)) }
+        ensures err { OnErr result (Keeps (left R.remaining self.old) (left R.remaining self.new)) }
+        ensures fault { IfErr result IsOfStream }
+    {
+        self.forget();
+        match read_behind(&mut self.input, &mut self.chunk, &mut self.bytes) {
+            Ok(count) => Ok(count),
+            Err(error) => Err(Fault::Stream(error)),
+        }
+    }
+
+    /// Lets go of the bytes before the offset.
+    fn forget(&mut self)
+        ensures same { drop self.new.offset self.new.bytes.items
+            ≡ drop self.old.offset self.old.bytes.items }
+        ensures input { self.new.input ≡ self.old.input }
+        ensures offset { self.new.offset ≡ 0 }
+    {
+        let end = self.offset;
+        self.offset = 0;
+        self.bytes.drain(..end);
+    }
+}
+
+/// Reads a chunk behind the bytes that are there, and says how many came.
+fn read_behind<R: Read>(input: &mut R, chunk: &mut [u8], bytes: &mut Vec<u8>) -> io::Result<usize>
+    requires { 0 < length chunk.old }
+    ensures ok { IfOk result (ReadsBehind (R.remaining input.old) (R.remaining input.new)
+        bytes.old.items bytes.new.items) }
+    ensures err { OnErr result (bytes.new.items ≡ bytes.old.items) }
+    ensures kept { OnErr result (Keeps (R.remaining input.old) (R.remaining input.new)) }
+{
+    bytes.reserve(chunk.len())?;
+    let count = input.read(chunk)?;
+    bytes.extend_from_slice(&chunk[..count]).unwrap();
+    Ok(count)
+}
+
+/// The message whose code these bytes are.
+fn message_of<T: DeBin>(alloc: Global, code: &[u8]) -> Result<T, Fault>
+    ensures ok { IfOk result (λ message. T.bin.spelling.spelled code.now (T.means message)) }
+    ensures bad { IfErr result (λ fault. (error : _) → fault ≡ Fault.Bad error →
+        (m : _) → T.bin.spelling.spelled code.now m → ⊥) }
+    ensures cut { IfErr result (λ fault. fault ≢ Fault.Cut) }
+{
+    match T::deserialize_bin_whole(alloc, code) {
+        Ok(message) => Ok(message),
+        Err(error) => match error.kind {
+            DeBinKind::Memory => Err(no_memory()),
+            _ => Err(Fault::Bad(error)),
+        },
+    }
+}
+
+/// A growth was refused.
+fn no_memory() -> Fault
+    ensures { IsOfStream result }
+{
+    Fault::Stream(ErrorKind::OutOfMemory.into())
+}
