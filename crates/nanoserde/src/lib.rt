@@ -123,6 +123,7 @@ pub use nano_toml::laws as toml_laws;
 pub use nano_value::Key;
 pub use nano_value::OrderedKey;
 pub use nano_value::Value;
+pub use nano_value::entries_by_rank;
 pub use nano_value::entries_in_order;
 pub use nano_value::items_in_order;
 pub use nano_value::laws as value_laws;
