@@ -1,6 +1,6 @@
 // The calls of `bin_bytes` that own types of a fixed width are made of, and the items of a type:
 // each made once, with what it answers.
-use crate::checks::{is_refused, is_written};
+use crate::checks::{holds, is_refused, is_written};
 use bin_bytes::{
     DeBinErr, DeBinKind, FixedWidth, append_bytes, append_bytes_behind, append_number, append_run,
     no_memory, not_utf8, read_array, read_bytes, read_chunks, read_number, read_run, read_utf8,
@@ -9,11 +9,6 @@ use bin_bytes::{
 use nano_bin::{DeBin, SerBin, append_part};
 use std::alloc::{AllocError, Global};
 use std::process::Abort;
-
-/// What is said of a call holds.
-fn holds(rt: &impl Abort, is_so: bool, call: &str) {
-    assert!(rt; is_so, "{call}");
-}
 
 /// What the calls that append bytes and numbers append, one behind the other.
 fn appended(alloc: Global) -> Result<Vec<u8>, AllocError> {

@@ -5,6 +5,11 @@ use nano_bin::{DeBin, DeBinErr, DeBinKind, SerBin};
 use std::alloc::{AllocError, Global};
 use std::process::Abort;
 
+/// What is said of a call holds.
+pub(crate) fn holds(rt: &impl Abort, is_so: bool, call: &str) {
+    assert!(rt; is_so, "{call}");
+}
+
 /// The written bytes.
 pub(crate) fn code_of<T: SerBin>(alloc: Global, value: &T) -> Result<Vec<u8>, AllocError> {
     value.serialize_bin(alloc)

@@ -1,8 +1,8 @@
 // Codes as they stand in the crate's documents, and the errors of codes that are cut short or
 // refused.
 use crate::checks::{
-    code_of, fronts_refused, is_alone, is_back, is_read_alone, is_refused, is_written, no_memory,
-    reads, refusal,
+    code_of, fronts_refused, holds, is_alone, is_back, is_read_alone, is_refused, is_written,
+    no_memory, reads, refusal,
 };
 use crate::made::{both, boxed, linked, list, only, text};
 use nano_bin::{BothBin, DeBin, DeBinErr, DeBinKind, SerBin, laws};
@@ -139,7 +139,7 @@ fn units(alloc: Global, code: &[u8]) -> Result<(usize, usize), DeBinErr> {
 #[test]
 fn lists_of_units(rt: HostRuntime) {
     let found = units(rt.alloc(), &[5, 0, 0, 0, 0, 0, 0, 0]).ok();
-    assert!(rt; found == Some((5, 8)));
+    holds(&rt, found == Some((5, 8)), "units");
 }
 
 /// A list of a box of the value has this code. A type of many levels takes long to prove where it
@@ -192,11 +192,14 @@ fn nested(rt: HostRuntime) {
     optional_row(&rt, alloc, text(alloc, "a"), some);
 }
 
+/// Bytes of nothing, each with one behind it.
+const NONE: &[&[u8]] = &[&[0, 5], &[2, 5], &[7, 5], &[255, 5]];
+
 #[test]
 fn options_take_any_byte_but_one_as_none(rt: HostRuntime) {
     let alloc = rt.alloc();
-    for byte in [0u8, 2, 7, 255] {
-        is_back(&rt, reads(alloc, &None::<u8>, 0, &[byte, 5]), 1);
+    for bytes in NONE {
+        is_back(&rt, reads(alloc, &None::<u8>, 0, *bytes), 1);
     }
     is_written(&rt, &code_of(alloc, &None::<u8>), &[0]);
 }

@@ -1,14 +1,26 @@
 // Values of many items are written and read back, and counts that are cut short are told.
 use crate::checks::{code_of, is_alone, is_read_alone, is_refused, no_memory, refusal};
-use nano_bin::{BothBin, DeBin, DeBinKind};
+use nano_bin::{BothBin, DeBin, DeBinErr, DeBinKind};
 use std::alloc::{AllocError, Global};
-use std::collections::{BTreeSet, HashMap, HashSet, LinkedList};
+use std::collections::{BTreeMap, BTreeSet, HashMap, HashSet, LinkedList};
 use std::process::Abort;
 
-/// The value is written and read back.
+/// Whether the value is read from the code as a whole input.
+fn is_read_whole<T: DeBin + PartialEq>(
+    alloc: Global,
+    value: &T,
+    code: &[u8],
+) -> Result<bool, DeBinErr> {
+    Ok(T::deserialize_bin_whole(alloc, code)? == *value)
+}
+
+/// The value is written and read back, as a whole input too.
 fn value_back<T: BothBin + PartialEq>(rt: &impl Abort, alloc: Global, value: &T) {
     match code_of(alloc, value) {
-        Ok(code) => is_alone(rt, is_read_alone(alloc, value, &code)),
+        Ok(code) => {
+            is_alone(rt, is_read_alone(alloc, value, &code));
+            is_alone(rt, is_read_whole(alloc, value, &code));
+        }
         Err(_refused) => no_memory(rt),
     }
 }
@@ -96,6 +108,17 @@ fn mapped(alloc: Global) -> Result<HashMap<u16, bool>, AllocError> {
     Ok(map)
 }
 
+/// An ordered map of many numbers.
+fn ordered_map(alloc: Global) -> Result<BTreeMap<u16, bool>, AllocError> {
+    let mut map = BTreeMap::new(alloc);
+    for i in 0..MANY {
+        if map.insert(i, true).is_err() {
+            return Err(AllocError);
+        }
+    }
+    Ok(map)
+}
+
 #[test]
 fn many_items(rt: HostRuntime) {
     let alloc = rt.alloc();
@@ -112,6 +135,7 @@ fn many_items_of_other_containers(rt: HostRuntime) {
     back(&rt, alloc, hashed(alloc));
     back(&rt, alloc, ordered(alloc));
     back(&rt, alloc, mapped(alloc));
+    back(&rt, alloc, ordered_map(alloc));
 }
 
 /// Three bytes are fewer than so many that are wanted first.

@@ -1,4 +1,5 @@
 // Laws and small calls, each made once.
+use crate::checks::holds;
 use crate::made::{hashed, ordered};
 use nano_bin::{DeBinErr, DeBinKind, laws};
 use std::alloc::{AllocError, Global};
@@ -25,5 +26,6 @@ fn read_back(alloc: Global) -> Result<(u8, usize), DeBinErr> {
 #[test]
 fn laws_and_small_calls(rt: HostRuntime) {
     let kind = DeBinKind::TooLong.clone().ok();
-    assert!(rt; read_back(rt.alloc()).ok() == Some((7, 1)) && kind == Some(DeBinKind::TooLong));
+    holds(&rt, read_back(rt.alloc()).ok() == Some((7, 1)), "a value");
+    holds(&rt, kind == Some(DeBinKind::TooLong), "a copy");
 }

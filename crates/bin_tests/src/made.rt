@@ -1,6 +1,6 @@
 // Values that take memory.
 use std::alloc::{AllocError, Global};
-use std::collections::{BTreeSet, HashMap, HashSet, LinkedList};
+use std::collections::{BTreeMap, BTreeSet, HashMap, HashSet, LinkedList};
 
 /// A text.
 pub(crate) fn text(alloc: Global, text: &str) -> Result<String, AllocError> {
@@ -51,6 +51,20 @@ pub(crate) fn mapped<V: Copy>(
     let mut map = HashMap::new(alloc);
     for (key, value) in entries {
         map.insert(*key, *value)?;
+    }
+    Ok(map)
+}
+
+/// An ordered map of these entries.
+pub(crate) fn ordered_map<V: Copy>(
+    alloc: Global,
+    entries: &[(u8, V)],
+) -> Result<BTreeMap<u8, V>, AllocError> {
+    let mut map = BTreeMap::new(alloc);
+    for (key, value) in entries {
+        if map.insert(*key, *value).is_err() {
+            return Err(AllocError);
+        }
     }
     Ok(map)
 }

@@ -2,7 +2,7 @@
 // can refuse any one allocation, and then each call answers want of memory, or what it answers with
 // ample memory.
 use crate::checks::refusal;
-use crate::made::{boxed, hashed, linked, list, mapped, ordered, text};
+use crate::made::{boxed, hashed, linked, list, mapped, ordered, ordered_map, text};
 use nano_bin::{BothBin, DeBin, DeBinErr, DeBinKind, SerBin};
 use std::alloc::{AllocError, Global};
 use std::process::Abort;
@@ -76,6 +76,8 @@ fn whole_or_not<T: BothBin>(
     }
 }
 
+/// An entry behind the count.
+const ENTRY: &[u8] = &[1, 0, 0, 0, 0, 0, 0, 0, 1, 2];
 /// Two items behind their count.
 const TWO: &[u8] = &[2, 0, 0, 0, 0, 0, 0, 0, 1, 2];
 
@@ -107,10 +109,6 @@ fn refused_growths_of_containers(rt: HostRuntime) {
     whole_or_not(&rt, alloc, linked(alloc, &[1u8, 2]), TWO);
     whole_or_not(&rt, alloc, hashed(alloc, &[1, 2]), TWO);
     whole_or_not(&rt, alloc, ordered(alloc, &[1, 2]), TWO);
-    whole_or_not(
-        &rt,
-        alloc,
-        mapped(alloc, &[(1, 2u8)]),
-        &[1, 0, 0, 0, 0, 0, 0, 0, 1, 2],
-    );
+    whole_or_not(&rt, alloc, mapped(alloc, &[(1, 2u8)]), ENTRY);
+    whole_or_not(&rt, alloc, ordered_map(alloc, &[(1, 2u8)]), ENTRY);
 }

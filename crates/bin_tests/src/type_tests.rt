@@ -1,10 +1,10 @@
 // Each type of the crate once through its bound, and what each container hands on of a part's
 // refusal.
 use crate::checks::{is_back, is_refused, no_memory, reads, refusal};
-use crate::made::{both, boxed, hashed, linked, list, mapped, only, ordered, text};
+use crate::made::{both, boxed, hashed, linked, list, mapped, only, ordered, ordered_map, text};
 use nano_bin::{BothBin, DeBin, DeBinErr, DeBinKind, SerBin};
 use std::alloc::{AllocError, Global};
-use std::collections::{BTreeSet, HashMap, HashSet, LinkedList};
+use std::collections::{BTreeMap, BTreeSet, HashMap, HashSet, LinkedList};
 use std::process::Abort;
 
 /// The code of a value between two bytes that stand there.
@@ -159,6 +159,13 @@ fn maps(rt: HostRuntime) {
     all_back(&rt, alloc, both(alloc, map, mapped(alloc, &[])));
 }
 
+#[test]
+fn ordered_maps(rt: HostRuntime) {
+    let alloc = rt.alloc();
+    let map = ordered_map(alloc, &[(1, true), (2, false)]);
+    all_back(&rt, alloc, both(alloc, map, ordered_map(alloc, &[])));
+}
+
 /// The text of one byte 255, which stands at `place` behind a byte, is the fault, whatever stands
 /// around it.
 fn hands_on<T: DeBin>(rt: &impl Abort, alloc: Global, bytes: &[u8], place: usize) {
@@ -171,6 +178,10 @@ const FAULT: &[u8] = &[77, 1, 0, 0, 0, 0, 0, 0, 0, 255, 7, 7];
 /// The same behind a count.
 const COUNTED: &[u8] = &[
     77, 1, 0, 0, 0, 0, 0, 0, 0, 1, 0, 0, 0, 0, 0, 0, 0, 255, 7, 7,
+];
+/// The same behind a count and a key.
+const KEYED: &[u8] = &[
+    77, 1, 0, 0, 0, 0, 0, 0, 0, 9, 1, 0, 0, 0, 0, 0, 0, 0, 255, 7, 7,
 ];
 
 #[test]
@@ -204,14 +215,9 @@ fn refusals_of_items(rt: HostRuntime) {
     hands_on::<HashSet<String>>(&rt, alloc, COUNTED, 17);
     hands_on::<BTreeSet<String>>(&rt, alloc, COUNTED, 17);
     hands_on::<HashMap<String, u8>>(&rt, alloc, COUNTED, 17);
-    hands_on::<HashMap<u8, String>>(
-        &rt,
-        alloc,
-        &[
-            77, 1, 0, 0, 0, 0, 0, 0, 0, 9, 1, 0, 0, 0, 0, 0, 0, 0, 255, 7, 7,
-        ],
-        18,
-    );
+    hands_on::<HashMap<u8, String>>(&rt, alloc, KEYED, 18);
+    hands_on::<BTreeMap<String, u8>>(&rt, alloc, COUNTED, 17);
+    hands_on::<BTreeMap<u8, String>>(&rt, alloc, KEYED, 18);
 }
 
 /// A count that no memory could hold is refused for the first missing item, and reserves nothing.
@@ -231,4 +237,5 @@ fn greatest_counts(rt: HostRuntime) {
     reserves_nothing::<HashSet<u8>>(&rt, alloc, 1);
     reserves_nothing::<BTreeSet<u8>>(&rt, alloc, 1);
     reserves_nothing::<HashMap<u8, u8>>(&rt, alloc, 1);
+    reserves_nothing::<BTreeMap<u8, u8>>(&rt, alloc, 1);
 }

@@ -125,7 +125,11 @@ fn asks<E: Escaping>(c: char) -> bool {
 
 #[test]
 fn characters_alone(rt: HostRuntime) {
-    is_text(&rt, escaped_alone(rt.alloc(), &['a', '"', 'é']), "a|\"\"|é|");
+    is_text(
+        &rt,
+        escaped_alone(rt.alloc(), &['a', '"', 'é']),
+        "a|\"\"|é|",
+    );
     assert!(rt; asks::<TwoQuotes>('a') && asks::<TwoQuotes>('é') && !asks::<TwoQuotes>('"'));
 }
 
