@@ -10,11 +10,20 @@ pub(crate) fn refusal<T: DeJson>(alloc: Global, text: &str) -> Option<DeJsonErr>
     T::deserialize_json(alloc, text).err()
 }
 
+/// What an error tells.
+pub(crate) fn why(error: &DeJsonErr) -> &str {
+    if error.memory {
+        "no memory"
+    } else {
+        error.msg.as_str()
+    }
+}
+
 /// The text was refused with this message.
 pub(crate) fn is_told(rt: &impl Abort, told: Option<DeJsonErr>, text: &str, expected: &str) {
     match told {
-        None => holds(rt, false, text),
-        Some(error) => is_text(rt, error.msg.as_str(), expected),
+        None => is_found(rt, "read", expected, text),
+        Some(error) => is_found(rt, why(&error), expected, text),
     }
 }
 
@@ -25,11 +34,25 @@ pub(crate) fn refused_with<T: DeJson>(rt: &impl Abort, alloc: Global, rows: &[(&
     }
 }
 
+/// The text was refused.
+fn is_refused(rt: &impl Abort, told: &Option<DeJsonErr>, text: &str) {
+    let found = match told {
+        None => "read",
+        Some(error) => if error.memory { "no memory" } else { "refused" },
+    };
+    is_found(rt, found, "refused", text);
+}
+
 /// The texts are refused.
 pub(crate) fn all_refused<T: DeJson>(rt: &impl Abort, alloc: Global, texts: &[&str]) {
     for text in texts {
-        holds(rt, refusal::<T>(alloc, text).is_some(), text);
+        is_refused(rt, &refusal::<T>(alloc, text), text);
     }
+}
+
+/// What is found of a text is the expected.
+pub(crate) fn is_found(rt: &impl Abort, found: &str, expected: &str, text: &str) {
+    assert_eq!(rt; found, expected, "at {text}");
 }
 
 /// What is said of a text holds.
@@ -37,18 +60,36 @@ pub(crate) fn holds(rt: &impl Abort, is_so: bool, text: &str) {
     assert!(rt; is_so, "at {text}");
 }
 
-/// Whether a text is read as the value.
-pub(crate) fn is_value<T: DeJson + PartialEq>(alloc: Global, text: &str, expected: &T) -> bool {
-    match T::deserialize_json(alloc, text) {
-        Ok(value) => value == *expected,
-        Err(_refused) => false,
+/// Whether what was read is the value.
+pub(crate) fn read_as<T: PartialEq + Drop>(
+    read: Result<T, DeJsonErr>,
+    expected: &T,
+) -> &'static str {
+    match read {
+        Ok(value) => if value == *expected {
+            "the value"
+        } else {
+            "another value"
+        },
+        Err(error) => if error.memory { "no memory" } else { "refused" },
     }
+}
+
+/// A text is read as the value.
+pub(crate) fn is_value<T: DeJson + PartialEq>(
+    rt: &impl Abort,
+    alloc: Global,
+    text: &str,
+    expected: &T,
+) {
+    let read = T::deserialize_json(alloc, text);
+    is_found(rt, read_as(read, expected), "the value", text);
 }
 
 /// Each text is read as the value beside it.
 pub(crate) fn values<T: DeJson + PartialEq>(rt: &impl Abort, alloc: Global, rows: &[(&str, T)]) {
     for (text, expected) in rows {
-        holds(rt, is_value(alloc, text, expected), text);
+        is_value(rt, alloc, text, expected);
     }
 }
 
@@ -60,8 +101,8 @@ pub(crate) fn is_made_value<T: DeJson + PartialEq>(
     made: Result<T, AllocError>,
 ) {
     match made {
-        Ok(expected) => holds(rt, is_value(alloc, text, &expected), text),
-        Err(_refused) => holds(rt, false, "no memory"),
+        Ok(expected) => is_value(rt, alloc, text, &expected),
+        Err(_refused) => is_found(rt, "no memory", "the value", text),
     }
 }
 
@@ -75,12 +116,17 @@ pub(crate) fn is_text(rt: &impl Abort, text: &str, expected: &str) {
     assert_eq!(rt; text, expected);
 }
 
+/// What was made.
+fn made_text(text: &Option<String>) -> &str {
+    match text {
+        None => "no memory",
+        Some(text) => text.as_str(),
+    }
+}
+
 /// There is a text, and it is the expected one.
 pub(crate) fn is_some_text(rt: &impl Abort, text: Option<String>, expected: &str) {
-    match text {
-        None => holds(rt, false, expected),
-        Some(text) => is_text(rt, text.as_str(), expected),
-    }
+    is_text(rt, made_text(&text), expected);
 }
 
 /// A text, its refusal's message, and the line and column of that, both counted from 0.
@@ -96,15 +142,13 @@ pub(crate) fn is_place(
     assert_eq!(rt; found, expected, "at {text}");
 }
 
-/// The text was refused with this message, in this line and this column, and not for want of
-/// memory.
+/// The text was refused with this message, in this line and this column.
 pub(crate) fn is_fault(rt: &impl Abort, told: Option<DeJsonErr>, row: &FaultRow<'_>) {
     match told {
-        None => holds(rt, false, row.0),
+        None => is_found(rt, "read", row.1, row.0),
         Some(error) => {
-            holds(rt, !error.memory, row.0);
+            is_found(rt, why(&error), row.1, row.0);
             is_place(rt, (error.line, error.col), (row.2, row.3), row.0);
-            is_text(rt, error.msg.as_str(), row.1);
         }
     }
 }

@@ -1,9 +1,9 @@
 // What no clause of the readers of sets, maps and tuples says: that they succeed, that the definitions
 // are the format's, and the texts of faults.
-use crate::checks::{all_refused, holds, is_made_value, refused_with, values};
+use crate::checks::{all_refused, holds, is_made_value, is_value, refused_with, values};
 use nano_json::DeJson;
 use std::alloc::{AllocError, Global};
-use std::collections::{BTreeSet, HashMap, HashSet, LinkedList};
+use std::collections::{BTreeMap, BTreeSet, HashMap, HashSet, LinkedList};
 use std::process::Abort;
 use std::test::Fail;
 
@@ -40,21 +40,25 @@ const OF_SETS: &[(&str, &str)] = &[
 /// Texts of the set of 1 and 3.
 const ONE_AND_THREE: &[&str] = &["[3,1,3]", "[3,1,3,]", " [ 1 , 3 ] ", "[1,3]]", "[3,1]\0@"];
 
+/// The text is read as both sets of 1 and 3.
+fn are_sets(rt: &impl Abort, alloc: Global, text: &str) {
+    holds(rt, is_hashed(alloc, text), text);
+    holds(rt, is_ordered(alloc, text), text);
+}
+
 #[test]
 fn sets_of_numbers(rt: HostRuntime) {
-    let alloc = rt.alloc();
     for text in ONE_AND_THREE {
-        holds(&rt, is_hashed(alloc, text), text);
-        holds(&rt, is_ordered(alloc, text), text);
+        are_sets(&rt, rt.alloc(), text);
     }
 }
 
 #[test]
 fn empty_sets_and_maps(rt: HostRuntime) {
     let alloc = rt.alloc();
-    is_made_value(&rt, alloc, "[]", Ok(HashSet::<u8>::new(alloc)));
-    is_made_value(&rt, alloc, "[]", Ok(BTreeSet::<u8>::new(alloc)));
-    is_made_value(&rt, alloc, "{}", Ok(HashMap::<u8, u8>::new(alloc)));
+    is_value(&rt, alloc, "[]", &HashSet::<u8>::new(alloc));
+    is_value(&rt, alloc, "[]", &BTreeSet::<u8>::new(alloc));
+    is_value(&rt, alloc, "{}", &HashMap::<u8, u8>::new(alloc));
 }
 
 #[test]
@@ -110,6 +114,7 @@ const OF_MAPS: &[(&str, &str)] = &[
 fn maps_refused(rt: HostRuntime) {
     let alloc = rt.alloc();
     refused_with::<HashMap<u8, u8>>(&rt, alloc, OF_MAPS);
+    refused_with::<BTreeMap<u8, u8>>(&rt, alloc, OF_MAPS);
     refused_with::<HashMap<String, Vec<u8>>>(
         &rt,
         alloc,
@@ -163,16 +168,17 @@ fn tuples_refused(rt: HostRuntime) {
     all_refused::<(u8, u8, u8, u8)>(&rt, alloc, &["[1,2,3]", "[1,2,3,4,5]"]);
 }
 
-/// The length, the first and the last item of a text's list.
-fn ends_of(alloc: Global, text: &str) -> Option<(usize, Option<u8>, Option<u8>)> {
-    let items = LinkedList::<u8>::deserialize_json(alloc, text).ok()?;
-    Some((items.len(), items.front().copied(), items.back().copied()))
+/// A linked list of 1 and 2.
+fn linked(alloc: Global) -> Result<LinkedList<u8>, AllocError> {
+    let mut items = LinkedList::new(alloc);
+    items.push_back(1u8)?;
+    items.push_back(2)?;
+    Ok(items)
 }
 
 #[test]
 fn linked_lists_in_order(rt: HostRuntime) {
-    let ends = ends_of(rt.alloc(), "[1,2,]");
-    assert!(rt; ends == Some((2, Some(1), Some(2))));
+    is_made_value(&rt, rt.alloc(), "[1,2,]", linked(rt.alloc()));
 }
 
 /// A map from names to lists: of two items, and of none.

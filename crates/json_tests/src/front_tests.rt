@@ -2,7 +2,7 @@
 use crate::checks::{holds, refusal};
 use nano_json::{DeJson, DeJsonState, DeJsonTok};
 use std::alloc::Global;
-use std::collections::{BTreeSet, HashMap, HashSet, LinkedList};
+use std::collections::{BTreeMap, BTreeSet, HashMap, HashSet, LinkedList};
 use std::process::Abort;
 use std::str::Chars;
 
@@ -25,13 +25,22 @@ fn is_ended<T: DeJson>(alloc: Global, state: &mut DeJsonState, input: &mut Chars
     refused && state.tok == DeJsonTok::Eof && state.cur == '\0'
 }
 
+/// Whether an optional value is refused there.
+fn is_refused_as_option<T: DeJson>(
+    alloc: Global,
+    state: &mut DeJsonState,
+    input: &mut Chars<'_>,
+) -> bool {
+    is_refused::<Option<T>>(alloc, state, input)
+}
+
 /// Whether a read behind the first token of a text is refused and leaves the end, and so a second
 /// read on that state.
 fn is_refused_twice<T: DeJson>(alloc: Global, text: &str) -> bool {
     let mut input = text.chars();
     let mut state = first_token(alloc, &mut input);
-    is_ended::<T>(alloc, &mut state, &mut input)
-        && is_refused::<Option<T>>(alloc, &mut state, &mut input)
+    let ended = is_ended::<T>(alloc, &mut state, &mut input);
+    ended && is_refused_as_option::<T>(alloc, &mut state, &mut input)
 }
 
 /// The text is refused, and so is a second read on that state.
@@ -97,6 +106,7 @@ fn fronts_of_other_types(rt: HostRuntime) {
 fn fronts_of_maps_and_texts(rt: HostRuntime) {
     let alloc = rt.alloc();
     fronts_refused::<HashMap<u8, bool>>(&rt, alloc, "{2:true,1:false}");
+    fronts_refused::<BTreeMap<u8, bool>>(&rt, alloc, "{2:true,1:false}");
     fronts_of_maps_refused::<i32>(&rt, alloc, "{\"b\":1,\"a\":2,\"b\":3,}");
     let nested = "{\"a\":[[1,[2,]],[3,[]],],\"b\":[]}";
     fronts_of_lists_refused::<(u8, HashSet<u8>)>(&rt, alloc, nested);
@@ -104,17 +114,22 @@ fn fronts_of_maps_and_texts(rt: HostRuntime) {
     fronts_refused::<String>(&rt, alloc, escapes);
 }
 
+/// Whether a value that is to begin with the token is refused, and leaves the end.
+fn begins_nothing<T: DeJson>(alloc: Global, tok: DeJsonTok) -> bool {
+    let mut state = state_with(alloc, tok, '4');
+    is_ended::<T>(alloc, &mut state, &mut "".chars())
+}
+
 /// No value of the type begins with a token that no text is cut into, nor with the end.
 fn nothing_begins<T: DeJson>(rt: &impl Abort, alloc: Global) {
-    for tok in [
-        DeJsonTok::Char('4'),
-        DeJsonTok::BareIdent,
-        DeJsonTok::Bof,
-        DeJsonTok::Eof,
-    ] {
-        let mut state = state_with(alloc, tok, '4');
-        holds(rt, is_ended::<T>(alloc, &mut state, &mut "".chars()), "4");
-    }
+    holds(rt, begins_nothing::<T>(alloc, DeJsonTok::Char('4')), "4");
+    holds(
+        rt,
+        begins_nothing::<T>(alloc, DeJsonTok::BareIdent),
+        "a word",
+    );
+    holds(rt, begins_nothing::<T>(alloc, DeJsonTok::Bof), "no token");
+    holds(rt, begins_nothing::<T>(alloc, DeJsonTok::Eof), "the end");
 }
 
 #[test]
@@ -151,6 +166,7 @@ fn tokens_that_begin_no_container(rt: HostRuntime) {
     nothing_begins::<Vec<u8>>(&rt, alloc);
     nothing_begins::<LinkedList<u8>>(&rt, alloc);
     nothing_begins::<HashMap<u8, u8>>(&rt, alloc);
+    nothing_begins::<BTreeMap<u8, u8>>(&rt, alloc);
     nothing_begins::<HashSet<u8>>(&rt, alloc);
     nothing_begins::<BTreeSet<u8>>(&rt, alloc);
 }

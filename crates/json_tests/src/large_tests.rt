@@ -1,23 +1,32 @@
 // Values of many items are written and read back.
-use crate::checks::{holds, is_value, text_of};
-use nano_json::{BothJson, SerJson};
+use crate::checks::{holds, is_found, is_text, is_value, read_as, text_of};
+use crate::token_tests::state_of;
+use nano_json::{BothJson, DeJsonErr, SerJson};
 use std::alloc::{AllocError, Global};
-use std::collections::{BTreeSet, HashMap, HashSet, LinkedList};
+use std::collections::{BTreeMap, BTreeSet, HashMap, HashSet, LinkedList};
 use std::process::Abort;
+use std::test::Fail;
 
-/// Whether the value is written and read back.
-fn is_read_back<T: BothJson + PartialEq>(alloc: Global, value: &T) -> bool {
+/// The text is read as the value, as a whole input too.
+fn is_read<T: BothJson + PartialEq>(rt: &impl Abort, alloc: Global, text: &str, value: &T) {
+    is_value(rt, alloc, text, value);
+    let read = T::deserialize_json_whole(alloc, text);
+    is_found(rt, read_as(read, value), "the value", text);
+}
+
+/// The value is written and read back.
+fn is_read_back<T: BothJson + PartialEq>(rt: &impl Abort, alloc: Global, value: &T) {
     match text_of(alloc, value) {
-        None => false,
-        Some(text) => is_value(alloc, text.as_str(), value),
+        None => is_text(rt, "no memory", "many items"),
+        Some(text) => is_read(rt, alloc, text.as_str(), value),
     }
 }
 
 /// The value was made, and is written and read back.
 fn back<T: BothJson + PartialEq>(rt: &impl Abort, alloc: Global, made: Result<T, AllocError>) {
     match made {
-        Ok(value) => holds(rt, is_read_back(alloc, &value), "many items"),
-        Err(_refused) => holds(rt, false, "no memory"),
+        Ok(value) => is_read_back(rt, alloc, &value),
+        Err(_refused) => is_text(rt, "no memory", "many items"),
     }
 }
 
@@ -73,6 +82,33 @@ fn mapped(alloc: Global) -> Result<HashMap<i16, bool>, AllocError> {
     Ok(map)
 }
 
+fn ordered_map(alloc: Global) -> Result<BTreeMap<i16, bool>, AllocError> {
+    let mut map = BTreeMap::new(alloc);
+    for i in 0..COUNT {
+        if map.insert(i, true).is_err() {
+            return Err(AllocError);
+        }
+    }
+    Ok(map)
+}
+
+/// A decimal of many digits.
+fn long_decimal(alloc: Global) -> Result<String, AllocError> {
+    let mut text = String::from_str(alloc, "1.")?;
+    for _ in 0..COUNT {
+        text.push('5')?;
+    }
+    Ok(text)
+}
+
+/// How long the number is that a text begins with.
+fn number_length(alloc: Global, text: &str) -> Result<usize, DeJsonErr> {
+    let mut input = text.chars();
+    let mut state = state_of(alloc, &mut input);
+    state.next_tok(alloc, &mut input)?;
+    Ok(state.numbuf.len())
+}
+
 /// How long the long text is as it is written, if there was memory for it.
 fn written_length(alloc: Global) -> Result<usize, AllocError> {
     let text = long_text(alloc)?;
@@ -104,4 +140,13 @@ fn many_items_in_sets_and_maps(rt: HostRuntime) {
     back(&rt, alloc, hashed(alloc));
     back(&rt, alloc, ordered(alloc));
     back(&rt, alloc, mapped(alloc));
+    back(&rt, alloc, ordered_map(alloc));
+}
+
+#[test]
+fn a_long_decimal(rt: HostRuntime) -> Result<(), Fail> {
+    let alloc = rt.alloc();
+    let length = number_length(alloc, long_decimal(alloc)?.as_str()).ok();
+    holds(&rt, length == Some(3_002), "a long decimal");
+    Ok(())
 }

@@ -21,6 +21,8 @@ mod large_tests;
 #[cfg(test)]
 mod law_tests;
 #[cfg(test)]
+mod mark_tests;
+#[cfg(test)]
 mod memory_tests;
 #[cfg(test)]
 mod number_fault_tests;

@@ -1,21 +1,14 @@
 // Readers of whole inputs.
-use crate::checks::{FaultRow, holds, is_fault, is_value};
+use crate::checks::{FaultRow, is_fault, is_found, is_value, read_as};
 use nano_json::{BothJson, DeJson, DeJsonErr, laws};
 use std::alloc::Global;
 use std::process::Abort;
 
-/// Whether a whole text is read as the value.
-fn is_whole<T: DeJson + PartialEq>(alloc: Global, text: &str, expected: &T) -> bool {
-    match T::deserialize_json_whole(alloc, text) {
-        Ok(value) => value == *expected,
-        Err(_refused) => false,
-    }
-}
-
 /// Each whole text is read as the value.
 fn all_whole<T: DeJson + PartialEq>(rt: &impl Abort, alloc: Global, texts: &[&str], expected: &T) {
     for text in texts {
-        holds(rt, is_whole(alloc, text, expected), text);
+        let read = T::deserialize_json_whole(alloc, text);
+        is_found(rt, read_as(read, expected), "the value", text);
     }
 }
 
@@ -31,12 +24,10 @@ fn faults_whole<T: DeJson>(rt: &impl Abort, alloc: Global, rows: &[FaultRow<'_>]
     }
 }
 
-/// Whether a value is read back from its own text.
-fn is_back<T: BothJson + PartialEq>(alloc: Global, value: &T) -> bool {
-    match laws::read_back_whole(alloc, value) {
-        Ok(read) => read == *value,
-        Err(_refused) => false,
-    }
+/// A value is read back from its own text.
+fn is_back<T: BothJson + PartialEq>(rt: &impl Abort, alloc: Global, value: &T, name: &str) {
+    let read = laws::read_back_whole(alloc, value);
+    is_found(rt, read_as(read, value), "the value", name);
 }
 
 /// Texts that are no number as a whole.
@@ -63,6 +54,6 @@ fn whole_inputs(rt: HostRuntime) {
     all_whole(&rt, alloc, &["42", "42 ", " 42", "\t42\r\n"], &42u32);
     all_whole(&rt, alloc, &["[1,2]", "[1,2,]", "[1,2,] \n"], &[1u8, 2]);
     faults_whole::<u32>(&rt, alloc, REFUSED);
-    holds(&rt, is_value(alloc, "42 43", &42u32), "42 43");
-    holds(&rt, is_back(alloc, &(Some(1u8), [true, false])), "a pair");
+    is_value(&rt, alloc, "42 43", &42u32);
+    is_back(&rt, alloc, &(Some(1u8), [true, false]), "a pair");
 }

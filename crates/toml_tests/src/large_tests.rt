@@ -149,16 +149,76 @@ fn is_string(found: Option<&Toml>, want: &str) -> bool {
     }
 }
 
+// The quotes of a string, a piece of it, and what that stands for.
+const PIECES: &[(&str, &str, &str)] = &[
+    ("\"", "long\n\u{e9}", "long\n\u{e9}"),
+    ("\"", "\\\"x", "\"x"),
+    ("\"\"\"", "\"\"x", "\"\"x"),
+    ("\"\"\"", "\\\"\"\"x", "\"\"\"x"),
+];
+
 #[test]
 fn long_strings(rt: HostRuntime) -> Result<(), Fail> {
     let alloc = rt.alloc();
-    for (quotes, piece, gives) in [
-        ("\"", "long\n\u{e9}", "long\n\u{e9}"),
-        ("\"", "\\\"x", "\"x"),
-        ("\"\"\"", "\"\"x", "\"\"x"),
-        ("\"\"\"", "\\\"\"\"x", "\"\"\"x"),
-    ] {
+    for (quotes, piece, gives) in PIECES {
         holds(&rt, is_long_string(alloc, quotes, piece, gives)?, piece);
     }
+    Ok(())
+}
+
+// Whether this decimal was found.
+fn is_decimal(found: Option<&Toml>, want: &str) -> bool {
+    match found {
+        Some(Toml::Dec(text)) => text.as_str() == want,
+        _ => false,
+    }
+}
+
+// Whether a long word is a key, with a decimal of many digits.
+fn is_long_pair(alloc: Global) -> Result<bool, Fail> {
+    let word = repeated(alloc, "word", 5_000)?;
+    let digits = repeated(alloc, "15", 5_000)?;
+    let decimal = format!(in alloc; "-0.{digits}")?;
+    let text = format!(in alloc; "{word} = {decimal}")?;
+    let table = TomlParser::parse(alloc, text.as_str())?;
+    Ok(is_decimal(table.get(word.as_str()), decimal.as_str()))
+}
+
+#[test]
+fn long_words_and_decimals(rt: HostRuntime) -> Result<(), Fail> {
+    holds(&rt, is_long_pair(rt.alloc())?, "a long pair");
+    Ok(())
+}
+
+// Many keys behind the header of a scope, and then behind that of an element.
+fn keys_behind_headers(alloc: Global, times: u32) -> Result<String, Fail> {
+    let keys = numbered_keys(alloc, times)?;
+    Ok(format!(in alloc; "[scope]\n{keys}[[tables]]\n{keys}")?)
+}
+
+// How many keys the only element has.
+fn keys_of_the_element(found: Option<&Toml>) -> usize {
+    match found {
+        Some(Toml::Array(tables)) if tables.len() == 1 => tables[0].len(),
+        _ => 0,
+    }
+}
+
+#[test]
+fn many_keys_behind_headers(rt: HostRuntime) -> Result<(), Fail> {
+    let alloc = rt.alloc();
+    let text = keys_behind_headers(alloc, 3_000)?;
+    let table = TomlParser::parse(alloc, text.as_str())?;
+    holds(&rt, table.len() == 3_001, "keys of the scope");
+    holds(
+        &rt,
+        is_number(table.get("scope.key 2999"), 2_999),
+        "the last key",
+    );
+    holds(
+        &rt,
+        keys_of_the_element(table.get("tables")) == 3_000,
+        "keys of the element",
+    );
     Ok(())
 }

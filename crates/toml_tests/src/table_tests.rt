@@ -320,10 +320,13 @@ fn is_deep_list(alloc: Global, open: &str, close: &str) -> Result<bool, Fail> {
     Ok(table.len() == 1)
 }
 
+// What opens a level of a list, and what closes it.
+const DEEP: &[(&str, &str)] = &[("[", ""), ("[", "]"), ("[1,", "1]"), ("[[],", "[]]")];
+
 #[test]
 fn deep_lists(rt: HostRuntime) -> Result<(), Fail> {
     let alloc = rt.alloc();
-    for (open, close) in [("[", ""), ("[", "]"), ("[1,", "1]"), ("[[],", "[]]")] {
+    for (open, close) in DEEP {
         holds(&rt, is_deep_list(alloc, open, close)?, open);
     }
     Ok(())
@@ -338,10 +341,13 @@ fn is_compared(alloc: Global, open: &str, close: &str) -> Result<bool, Fail> {
     Ok(is_itself && !is_other)
 }
 
+// What opens a level of a list that is compared, and what closes it.
+const COMPARED: &[(&str, &str)] = &[("[", ""), ("[", "]"), ("[[],1,", "]")];
+
 #[test]
 fn deep_lists_compared(rt: HostRuntime) -> Result<(), Fail> {
     let alloc = rt.alloc();
-    for (open, close) in [("[", ""), ("[", "]"), ("[[],1,", "]")] {
+    for (open, close) in COMPARED {
         holds(&rt, is_compared(alloc, open, close)?, open);
     }
     Ok(())
@@ -359,11 +365,14 @@ fn want_of_memory(rt: HostRuntime) -> Result<(), Fail> {
     Ok(())
 }
 
+// Texts with a fault.
+const FAULTY: &[&str] = &["a = 1 [[a]]", "a = @", "[s] = 1"];
+
 // An error in spite of a refused allocation: the same fault, or want of memory, which is marked
 // and has no message.
 #[test]
 fn want_of_memory_for_a_message(rt: HostRuntime) -> Result<(), Fail> {
-    for text in ["a = 1 [[a]]", "a = @", "[s] = 1"] {
+    for text in FAULTY {
         match TomlParser::parse(rt.alloc(), text) {
             Ok(_) => holds(&rt, false, text),
             Err(error) => holds(&rt, error.memory == error.msg.is_empty(), text),
