@@ -1,16 +1,19 @@
 // The calls by which the formats take own types apart, read their fields and make them: each made
 // once, over a struct and an enum, with what it answers.
 use crate::checks::holds;
+use described::Label;
 use described_json::ReadContent as JsonContent;
 use described_ron::{ReadContent as RonContent, RonChoices};
-use json_records::WriteFields as WriteJson;
+use json_records::{
+    WriteFields as WriteJson, read_fields as read_json, write_fields as write_json,
+};
 use nanoserde::records::{Choice, Item};
 use nanoserde::{
     BinFields, BinRefs, ChoiceParts, DeBinErr, DeJsonState, DeJsonTok, DeRonState, DeRonTok,
     Either, FromNames, InTwo, JsonFields, JsonRefs, JsonResult, Optional, Parts, Record, Required,
     RonFields, RonRefs, RonResult, SerJsonState, SerRonState, two,
 };
-use ron_records::WriteFields as WriteRon;
+use ron_records::{WriteFields as WriteRon, read_fields as read_ron, write_fields as write_ron};
 use std::alloc::{AllocError, Global};
 use std::process::Abort;
 use std::str::Chars;
@@ -54,7 +57,8 @@ fn stand_alone() -> bool {
     let second = &variants.1.0.content;
     let alone = JsonContent::stands_alone(first) && RonContent::stands_alone(first);
     let other = JsonContent::stands_alone(second) || RonContent::stands_alone(second);
-    alone && !other && RonChoices::stands_alone(&variants, "A")
+    let named = variants.0.name.text() == "A" && variants.1.0.name.text() == "B";
+    alone && !other && named && RonChoices::stands_alone(&variants, "A")
 }
 
 #[test]
@@ -89,6 +93,39 @@ fn ron_fields(alloc: Global) -> Result<String, AllocError> {
     };
     WriteRon::append_fields(&parts, alloc, 1, &mut state)?;
     Ok(state.out)
+}
+
+/// The item between its brackets as JSON.
+fn json_struct(alloc: Global) -> Result<String, AllocError> {
+    let item = item(alloc)?;
+    let parts = JsonRefs::parts(&Item::fields(), item.refs());
+    let mut state = SerJsonState {
+        out: String::new(alloc),
+    };
+    write_json(alloc, &parts, 0, &mut state)?;
+    Ok(state.out)
+}
+
+/// The item between its brackets as RON.
+fn ron_struct(alloc: Global) -> Result<String, AllocError> {
+    let item = item(alloc)?;
+    let parts = RonRefs::parts(&Item::fields(), item.refs());
+    let mut state = SerRonState {
+        out: String::new(alloc),
+    };
+    write_ron(alloc, &parts, 0, &mut state)?;
+    Ok(state.out)
+}
+
+#[test]
+fn structs_are_appended(rt: HostRuntime) {
+    let alloc = rt.alloc();
+    is_text(&rt, json_struct(alloc), "{\"value\":7,\"note\":\"x\"}");
+    is_text(
+        &rt,
+        ron_struct(alloc),
+        "(\n    value:7,\n    note:\"x\",\n)",
+    );
 }
 
 /// The fields of the item as bytes.
@@ -201,6 +238,35 @@ fn ron_item(alloc: Global, text: &str, count: usize) -> RonResult<Item> {
         state.eat_comma_paren(alloc, &mut input)?;
     }
     Ok(Item::make(RonFields::values(&fields, slots, alloc, &state)?))
+}
+
+/// The item of a text between its brackets.
+fn json_item_of(alloc: Global, text: &str) -> JsonResult<Item> {
+    let mut input = text.chars();
+    let mut state = DeJsonState::new(alloc);
+    state.next(&mut input);
+    state.next_tok(alloc, &mut input)?;
+    let values = read_json(&<Item as Record>::fields(), alloc, &mut state, &mut input)?;
+    Ok(Item::make(values))
+}
+
+/// The same of RON.
+fn ron_item_of(alloc: Global, text: &str) -> RonResult<Item> {
+    let mut input = text.chars();
+    let mut state = DeRonState::new(alloc);
+    state.next(&mut input);
+    state.next_tok(alloc, &mut input)?;
+    let values = read_ron(&<Item as Record>::fields(), alloc, &mut state, &mut input)?;
+    Ok(Item::make(values))
+}
+
+#[test]
+fn structs_are_read(rt: HostRuntime) {
+    let alloc = rt.alloc();
+    let read = json_item_of(alloc, "{\"note\":\"x\",\"z\":[1],\"value\":7}");
+    is_text(&rt, json_answer(read, alloc), "the item");
+    let read = ron_item_of(alloc, "(note:\"x\",value:7)");
+    is_text(&rt, ron_answer(read, alloc), "the item");
 }
 
 /// The item of the fields' bytes from an offset on, and where the offset stands then.
