@@ -67,20 +67,21 @@ fn bin_reader_laws<T: DeBin>() {
     bin_laws::at_most_one_fits::<T>();
 }
 
-/// What is read back of a value's bytes: from their front, as a whole input, and twice, the one
-/// behind the other.
-fn bin_back<T: BothBin>(alloc: Global, value: &T) -> Result<[T; 4], Fail> {
-    bin_reader_laws::<T>();
-    bin_laws::same_bytes_same_meaning(value, value);
-    bin_laws::same_meaning_same_bytes(value, value);
-    let mut code = value.serialize_bin(alloc)?;
+/// What is read back of a value's bytes: from their front, and as a whole input.
+fn bin_back<T: BothBin>(alloc: Global, value: &T) -> Result<(T, T), Fail> {
+    let code = value.serialize_bin(alloc)?;
     let whole = bin_laws::read_back_whole(alloc, value, &code)?;
-    value.ser_bin(alloc, &mut code)?;
     let mut offset = 0;
     let front = bin_laws::read_back(alloc, value, &mut offset, &code)?;
-    offset = 0;
-    let both = bin_laws::read_both_back(alloc, value, value, &mut offset, &code)?;
-    Ok([front, whole, both.0, both.1])
+    Ok((front, whole))
+}
+
+/// What is read back of a value's bytes that stand twice, the one behind the other.
+fn bin_twice<T: BothBin>(alloc: Global, value: &T) -> Result<(T, T), Fail> {
+    let mut code = value.serialize_bin(alloc)?;
+    value.ser_bin(alloc, &mut code)?;
+    let mut offset = 0;
+    Ok(bin_laws::read_both_back(alloc, value, value, &mut offset, &code)?)
 }
 
 /// The value keeps the laws of bytes, and is read back from what is written of it.
@@ -89,9 +90,15 @@ pub(crate) fn bin_again<T: BothBin + PartialEq>(
     alloc: Global,
     value: &T,
 ) -> Result<(), Fail> {
-    for read in &bin_back(alloc, value)? {
-        holds(rt, read == value, "bytes");
-    }
+    bin_reader_laws::<T>();
+    bin_laws::same_bytes_same_meaning(value, value);
+    bin_laws::same_meaning_same_bytes(value, value);
+    let (front, whole) = bin_back(alloc, value)?;
+    holds(rt, front == *value, "bytes");
+    holds(rt, whole == *value, "the whole of bytes");
+    let (first, second) = bin_twice(alloc, value)?;
+    holds(rt, first == *value, "bytes before others");
+    holds(rt, second == *value, "bytes behind others");
     Ok(())
 }
 
