@@ -29,6 +29,14 @@ abbrev pub IsTextFault : List ℕ → ℕ → ℕ → DeBinErr → Type 0
 IsTextFault bytes place count error =
     error.kind ≢ Memory → IsTooShort bytes place count error ⊎ IsNotUtf8 bytes place count error
 
+-- where memory was refused: nothing is wanted of the bytes at the place
+abbrev pub IsMemoryFault : List ℕ → ℕ → DeBinErr → Type 0
+IsMemoryFault bytes place error = error.kind ≡ Memory → error ≡ refusal Memory place 0 bytes
+
+-- a run of numbers is cut short: the first that is not whole stands at the place
+abbrev pub IsRunFault : List ℕ → ℕ → ℕ → DeBinErr → Type 0
+IsRunFault bytes place width error = error.kind ≢ Memory → IsTooShort bytes place width error
+
 -- no text stands at the place: its length is cut short, or its bytes are, or they are no UTF-8
 abbrev pub IsTextRefusal : List ℕ → ℕ → DeBinErr → Type 0
 IsTextRefusal bytes place error =

@@ -4,7 +4,7 @@ ghost use Rattle.std.specs.Prelude.{IfOk, IfErr, OnOk, OnErr};
 ghost use Rattle.std.specs.List.{flat_map};
 ghost use Rattle.bin_bytes.specs.Reading.{Reads, NothingFits, Refuses};
 ghost use Rattle.bin_bytes.specs.Items.{SpellsCount};
-ghost use Rattle.bin_bytes.specs.Errors.{IsTooShort};
+ghost use Rattle.bin_bytes.specs.Errors.{IsTooShort, IsRunFault, IsMemoryFault};
 
 use crate::append::{append_bytes, append_bytes_behind};
 use crate::error::{DeBinErr, no_memory};
@@ -94,6 +94,9 @@ pub fn read_run<T: FixedWidth<N>, const N: usize>(
         Reads (SpellsCount count T.spelled) bytes.now offset.old
         (map T.means numbers.items) offset.new) }
     ensures err { IfErr result (Refuses (SpellsCount count T.spelled) (drop offset.old bytes.now)) }
+    ensures short { IfErr result (IsRunFault bytes.now
+        (offset.old + length (drop offset.old bytes.now) / N * N) N) }
+    ensures memory { IfErr result (IsMemoryFault bytes.now (offset.old + count * N)) }
     ensures kept { OnErr result (offset.new ≡ offset.old) }
 {
     let mut at = *offset;

@@ -1,11 +1,11 @@
 // Reading bytes from an offset on.
 ghost use Rattle.std.specs.Prelude.{◌≡◌, ◌+◌, ◌*◌, ◌/◌, ◌<◌, ◌++◌, ◌⊎◌, map, length, drop};
-ghost use Rattle.std.specs.Prelude.{string_bytes, IfOk, IfErr, OnErr};
+ghost use Rattle.std.specs.Prelude.{string_bytes, IfOk, IfErr, OnOk, OnErr};
 ghost use Rattle.nano_value.specs.Meaning.{whole};
 ghost use Rattle.bin_bytes.specs.Reading.{Reads, NothingFits, Refuses};
 ghost use Rattle.bin_bytes.specs.Numbers.{SpellsUnsigned};
 ghost use Rattle.bin_bytes.specs.Items.{SpellsCount, IsChunk, IsTextOf};
-ghost use Rattle.bin_bytes.specs.Errors.{IsTooShort, IsTextFault};
+ghost use Rattle.bin_bytes.specs.Errors.{IsTooShort, IsTextFault, IsMemoryFault};
 
 use crate::error::{DeBinErr, no_memory, not_utf8, too_short};
 use std::alloc::Global;
@@ -52,6 +52,7 @@ pub fn read_chunks<'a, const N: usize>(
     requires { 0 < N }
     ensures ok { IfOk result (λ read.
         Reads (SpellsCount count (IsChunk N)) bytes.now offset.old read.now offset.new) }
+    ensures moved { OnOk result (offset.new ≡ offset.old + count * N) }
     ensures err { IfErr result (λ e.
         NothingFits (SpellsCount count (IsChunk N)) (drop offset.old bytes.now)) }
     ensures short { IfErr result
@@ -106,6 +107,7 @@ pub fn read_utf8(
         Reads (IsTextOf count) bytes.now offset.old (string_bytes text) offset.new) }
     ensures err { IfErr result (Refuses (IsTextOf count) (drop offset.old bytes.now)) }
     ensures when { IfErr result (IsTextFault bytes.now offset.old count) }
+    ensures memory { IfErr result (IsMemoryFault bytes.now offset.old) }
     ensures kept { OnErr result (offset.new ≡ offset.old) }
 {
     let rest = rest(bytes, *offset);

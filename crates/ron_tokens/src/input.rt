@@ -39,6 +39,7 @@ pub fn within_value(mut error: DeRonErr) -> DeRonErr
     ensures apart { string_bytes result.msg ≢ end_message }
     ensures kept { string_bytes error.msg ≢ end_message
         → string_bytes result.msg ≡ string_bytes error.msg }
+    ensures place { (result.line ≡ error.line) × (result.col ≡ error.col) }
 {
     set_apart(&mut error.msg);
     error

@@ -1,6 +1,8 @@
 use Rattle.std.proofs.Common.{arith, ap, map, ◌∙◌}
 use Rattle.std.proofs.lemmas.Simd.{map-map}
 use Rattle.std.proofs.lemmas.Result.{err_from_is_err_and}
+use Rattle.bin_bytes.specs.declared.error.DeBinKind.TheVariants.{Memory}
+use Rattle.bin_bytes.specs.Errors.{refusal}
 use Rattle.bin_bytes.proofs.Runs.{run_reads, run_refused}
 use Rattle.bin_bytes.proofs.numbers.read_run.Goals as goal
 
@@ -16,3 +18,8 @@ returns-clause-ok g c =
     let chunks = c.in_ok-chunks.chunks.now in
     let items = ap (map means) c.in-Ok.ensures ∙ map-map means of_bytes chunks in
     rw items (run_reads g.row.N g.met.T.FixedWidth.has_width _ _ _ _ _ (λ i. omega (arith, c.type_inv.bytes i)) c.in_ok-chunks.ensures.ok)
+
+pub returns-in_default-clause-memory : goal.returns-in_default-clause-memory
+returns-in_default-clause-memory g c memory =
+    c.no_memory.ensures
+    ∙ ap (λ place. refusal Memory place 0 c.args.bytes.now) c.in_ok-chunks.ensures.moved
