@@ -5,6 +5,8 @@
 #[cfg(test)]
 mod checks;
 #[cfg(test)]
+mod part_tests;
+#[cfg(test)]
 mod record_tests;
 #[cfg(test)]
 mod row_tests;
