@@ -121,7 +121,7 @@ impl<'a> Cursor<'a> {
     }
 
     /// Takes white space and comments.
-    fn skip(&mut self)
+    pub(crate) fn skip(&mut self)
         ensures { live self.new ≡ behind_gaps false (live self.old) }
     {
         'gaps: loop {
