@@ -34,6 +34,8 @@ fn read_table(reader: &mut Reader) -> Result<Table, Fault>
     'statements: loop {
         if let Some((name, value)) = reader.read_word_pair()? {
             builder.add_pair(reader.alloc, name, value)?;
+        } else if let Some(header) = reader.cursor.next_header() {
+            builder.add_header(reader.alloc, header)?;
         } else if let Some(statement) = reader.read_statement()? {
             builder.add(reader.alloc, statement)?;
         } else {

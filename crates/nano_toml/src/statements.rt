@@ -1,7 +1,7 @@
 //! Reads values and statements, token by token.
 
-ghost use Rattle.std.specs.Prelude.{◌≡◌, ◌<◌, ℕ, List, [], IfOk, IfNone, IfErr, IfSome, OnOk, length};
-ghost use Rattle.std.specs.Prelude.{string_bytes, option_map, Some, None};
+ghost use Rattle.std.specs.Prelude.{◌≡◌, ◌<◌, ℕ, List, [], IfOk, IfErr, IfSome, IfNone, OnOk};
+ghost use Rattle.std.specs.Prelude.{string_bytes, option_map, Some, None, length};
 ghost use Rattle.nano_toml.specs.Built.{IsPlain};
 ghost use Rattle.nano_toml.specs.Cut.{Cut, CutsNothing};
 ghost use Rattle.nano_toml.specs.Data.{no_values};

@@ -5,12 +5,13 @@ ghost use Rattle.std.specs.Prelude.{IfOk, string_bytes};
 ghost use Rattle.nano_toml.specs.Built.{IsBuilt, IsWhole, IsPlain, IsTables, CanPush, Puts, pushed};
 ghost use Rattle.nano_toml.specs.Data.{at};
 ghost use Rattle.nano_toml.specs.Outcomes.{OnFault, FaultIs};
-ghost use Rattle.nano_toml.specs.Reading.{statement_view};
+ghost use Rattle.nano_toml.specs.Reading.{statement_view, header_view};
 ghost use Rattle.nano_toml.specs.StatementTable.{IsLawful, IsTableOf, full_key as key_in};
 ghost use Rattle.nano_toml.specs.Statements.{Statement as Stated, element, pair};
 ghost use Rattle.nano_toml.specs.View.{view, table_view};
 
 use crate::fault::Fault;
+use crate::headers::Header;
 use crate::statements::Statement;
 use crate::value::Toml;
 use std::alloc::{AllocError, Global};
@@ -189,6 +190,28 @@ impl Builder {
             Statement::Pair(name, value) => {
                 self.add_pair(alloc, name.as_str(), value)?;
                 Ok(())
+            }
+        }
+    }
+
+    /// Adds a header. A fault but want of memory is one that names a key which a pair gave.
+    pub(crate) fn add_header(&mut self, alloc: Global, header: Header) -> Result<(), Fault>
+        requires { (done : List Stated) × IsBuilt done self.old }
+        ensures built { (done : List Stated) → IsBuilt done self.old
+            → OnOk result (IsBuilt (done ++ header_view header.entry ∷ []) self.new) }
+        ensures refused { (done : List Stated) → IsBuilt done self.old
+            → OnFault result
+            ((more : List Stated) → IsLawful (done ++ header_view header.entry ∷ more) → ⊥) }
+    {
+        match header {
+            Header::Scope(name) => {
+                self.scope.clear();
+                self.scope.push_str(name)?;
+                Ok(())
+            }
+            Header::Element(key) => {
+                let key = String::from_str(alloc, key)?;
+                self.start_element(alloc, key)
             }
         }
     }

@@ -67,9 +67,7 @@ impl<'a> Cursor<'a> {
         ensures cut { IfSome result (λ name. Cut (live self.old) (ident name.now) (live self.new)) }
         ensures none { IfNone result (live self.new ≡ live self.old) }
     {
-        let mut ahead = Cursor {
-            rest: self.rest.as_str().chars(),
-        };
+        let mut ahead = self.again();
         ahead.skip();
         let first = ahead.first();
         if !starts_word(first) {
