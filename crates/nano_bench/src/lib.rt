@@ -11,6 +11,7 @@ use item::Item;
 use nano_bin::{BothBin, DeBinKind};
 use nano_json::BothJson;
 use nano_ron::BothRon;
+use nano_toml::TomlParser;
 use std::alloc::Global;
 use std::collections::HashMap;
 
@@ -29,16 +30,18 @@ const BINARY: u32 = 0;
 const JSON: u32 = 1;
 /// The format number of RON.
 const RON: u32 = 2;
+/// The format number of TOML.
+const TOML: u32 = 3;
 /// So many bytes are copied at once.
 const BLOCK: usize = 1024;
 
 /// Reads a value of a kind in a format, and drops it (`op` 0) or writes it again into `output`
 /// (`op` 1).
 ///
-/// Formats: 0 is the binary one, 1 is JSON, 2 is RON; others are not there yet. Kinds:
-/// 0 `Vec<u8>`, 1 `Vec<u64>`, 2 `Vec<String>`, 3 `HashMap<String, i32>`, 4 a list of records
-/// `{ value: i32, note: Option<String> }`. Answers 0 or the number of bytes written, or one of the
-/// negative constants of this crate.
+/// Formats: 0 is the binary one, 1 is JSON, 2 is RON, 3 is TOML. Kinds: 0 `Vec<u8>`, 1 `Vec<u64>`,
+/// 2 `Vec<String>`, 3 `HashMap<String, i32>`, 4 a list of records
+/// `{ value: i32, note: Option<String> }`. TOML has kind 0 alone, its tables, and only reads.
+/// Answers 0 or the number of bytes written, or one of the negative constants of this crate.
 #[unsafe(no_mangle)]
 pub extern "C" fn nano_op(
     alloc: Global,
@@ -48,7 +51,8 @@ pub extern "C" fn nano_op(
     input: &[u8],
     output: &mut [u8],
 ) -> i64
-    ensures { (RON < format ⊎ 4 < kind) ⊎ 1 < op → result ≡ NO_SUCH_CASE }
+    ensures no_case { (TOML < format ⊎ 4 < kind) ⊎ 1 < op → result ≡ NO_SUCH_CASE }
+    ensures only_reads { format ≡ TOML → 0 < kind ⊎ 0 < op → result ≡ NO_SUCH_CASE }
 {
     if op > 1 {
         return NO_SUCH_CASE;
@@ -58,6 +62,7 @@ pub extern "C" fn nano_op(
         BINARY => binary(alloc, kind, write, input, output),
         JSON => json(alloc, kind, write, input, output),
         RON => ron(alloc, kind, write, input, output),
+        TOML if kind == 0 && !write => toml(alloc, input),
         _ => NO_SUCH_CASE,
     }
 }
@@ -107,6 +112,18 @@ fn ron(alloc: Global, kind: u32, write: bool, input: &[u8], output: &mut [u8]) -
         3 => ron_again::<HashMap<String, i32>>(alloc, write, text, output),
         4 => ron_again::<Vec<Item>>(alloc, write, text, output),
         _ => NO_SUCH_CASE,
+    }
+}
+
+/// Reads a TOML text, and drops its table.
+fn toml(alloc: Global, input: &[u8]) -> i64 {
+    let Ok(text) = str::from_utf8(input) else {
+        return REFUSED;
+    };
+    match TomlParser::parse(alloc, text) {
+        Ok(_) => 0,
+        Err(error) if error.memory => NO_MEMORY,
+        Err(_) => REFUSED,
     }
 }
 

@@ -7,6 +7,7 @@ pub mod CutLength
 pub mod FrontLemmas
 pub mod GapCut
 pub mod Gaps
+pub mod HeaderCuts
 pub mod LexemeCut
 pub mod LiveText
 pub mod NextSteps

@@ -34,6 +34,11 @@ pub live_whole : (s : Chars) (bytes : List ℕ) → chars_rest s ≡ bytes → l
 unfolding live_of
 live_whole s bytes e = ap (λ (bs : List ℕ). before_nul (chars bs)) e
 
+-- two cursors at one place
+pub live_same : (s t : Chars) → chars_rest s ≡ chars_rest t → live_of s ≡ live_of t
+unfolding live_of
+live_same s t e = ap (λ (bytes : List ℕ). before_nul (chars bytes)) e
+
 -- a character that was taken, where one stood
 pub past_first : (p : ℕ → Bool) (text rest : List ℕ) (c : ℕ) → (c ≢ 0 → text ≡ c ∷ rest) → (c ≡ 0 → text ≡ []) → begins p text ≡ true → text ≡ c ∷ rest
 past_first p text rest c some none h = elim (eqb_tells c 0) [

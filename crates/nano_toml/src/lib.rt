@@ -4,6 +4,7 @@
 
 pub mod error;
 mod fault;
+mod headers;
 pub mod laws;
 mod numbers;
 mod parser;

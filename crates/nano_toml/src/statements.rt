@@ -1,7 +1,7 @@
 //! Reads values and statements, token by token.
 
-ghost use Rattle.std.specs.Prelude.{◌≡◌, ◌<◌, [], IfOk, IfErr, IfSome, OnOk, length};
-ghost use Rattle.std.specs.Prelude.{string_bytes, option_map, Some, None};
+ghost use Rattle.std.specs.Prelude.{◌≡◌, ◌<◌, ℕ, List, [], IfOk, IfErr, IfSome, IfNone, OnOk};
+ghost use Rattle.std.specs.Prelude.{string_bytes, option_map, Some, None, length};
 ghost use Rattle.nano_toml.specs.Built.{IsPlain};
 ghost use Rattle.nano_toml.specs.Cut.{Cut, CutsNothing};
 ghost use Rattle.nano_toml.specs.Data.{no_values};
@@ -12,6 +12,7 @@ ghost use Rattle.nano_toml.specs.LiveText.{live, live_text};
 ghost use Rattle.nano_toml.specs.Outcomes.{OnFault, ReadsValue, ReadsStatement};
 ghost use Rattle.nano_toml.specs.Reading.{statement_view, scalar_at, arrays_view, IsNext};
 ghost use Rattle.nano_toml.specs.Reading.{SpellsNothing};
+ghost use Rattle.nano_toml.specs.Statements.{pair};
 ghost use Rattle.nano_toml.specs.Taken.{token_of, Took};
 ghost use Rattle.nano_toml.specs.Token.{close_bracket};
 ghost use Rattle.nano_toml.specs.View.{view, values_view};
@@ -150,6 +151,19 @@ impl<'a> Reader<'a> {
         }
     }
 
+    // The value of a pair, whatever its name is, and the equals sign before it.
+    fn read_pair_value(&mut self) -> Result<Toml, Fault>
+        ensures found { (name : List ℕ) → IfOk result (λ value. Reads (pair_front name)
+            (live self.old.cursor) (pair name (view value)) (live self.new.cursor)) }
+        ensures refused { (name : List ℕ) → OnFault result
+            (ReadsNothing (pair_front name) (live self.old.cursor)) }
+    {
+        match self.read_token()? {
+            TomlTok::Equals => self.read_value(),
+            tok => Err(Fault::Unexpected(tok)),
+        }
+    }
+
     // The rest of a pair behind its name.
     fn read_pair(&mut self, name: String) -> Result<Statement, Fault>
         ensures found { ReadsStatement result (pair_front (string_bytes name))
@@ -157,12 +171,28 @@ impl<'a> Reader<'a> {
         ensures refused { OnFault result
             (ReadsNothing (pair_front (string_bytes name)) (live self.old.cursor)) }
     {
-        match self.read_token()? {
-            TomlTok::Equals => {
-                let value = self.read_value()?;
-                Ok(Statement::Pair(name, value))
+        let value = self.read_pair_value()?;
+        Ok(Statement::Pair(name, value))
+    }
+
+    /// The next statement, if it is a pair whose name is a word: that word of the text, and the
+    /// value. If not, nothing is taken.
+    pub(crate) fn read_word_pair(&mut self) -> Result<Option<(&'a str, Toml)>, Fault>
+        ensures found { IfOk result (λ s. IfSome s (λ p. IsNext (live self.old.cursor)
+            (Some (pair p.0.now (view p.1))) (live self.new.cursor))) }
+        ensures refused { OnFault result (SpellsNothing (live self.old.cursor)) }
+        ensures plain { IfOk result (λ s. IfSome s (λ p. IsPlain (pair p.0.now (view p.1)))) }
+        ensures shorter { IfOk result (λ s. IfSome s
+            (λ _. length (live self.new.cursor) < length (live self.old.cursor))) }
+        ensures none { IfOk result (λ s. IfNone s
+            (live self.new.cursor ≡ live self.old.cursor)) }
+    {
+        match self.cursor.next_name() {
+            Some(name) => {
+                let value = self.read_pair_value()?;
+                Ok(Some((name, value)))
             }
-            tok => Err(Fault::Unexpected(tok)),
+            None => Ok(None),
         }
     }
 

@@ -5,12 +5,13 @@ ghost use Rattle.std.specs.Prelude.{IfOk, string_bytes};
 ghost use Rattle.nano_toml.specs.Built.{IsBuilt, IsWhole, IsPlain, IsTables, CanPush, Puts, pushed};
 ghost use Rattle.nano_toml.specs.Data.{at};
 ghost use Rattle.nano_toml.specs.Outcomes.{OnFault, FaultIs};
-ghost use Rattle.nano_toml.specs.Reading.{statement_view};
+ghost use Rattle.nano_toml.specs.Reading.{statement_view, header_view};
 ghost use Rattle.nano_toml.specs.StatementTable.{IsLawful, IsTableOf, full_key as key_in};
 ghost use Rattle.nano_toml.specs.Statements.{Statement as Stated, element, pair};
 ghost use Rattle.nano_toml.specs.View.{view, table_view};
 
 use crate::fault::Fault;
+use crate::headers::Header;
 use crate::statements::Statement;
 use crate::value::Toml;
 use std::alloc::{AllocError, Global};
@@ -92,17 +93,17 @@ fn push_table(alloc: Global, root: &mut Table, key: String, table: Table) -> Res
 }
 
 // The key of a name in a scope. In the empty scope it is the name itself.
-fn full_key(alloc: Global, scope: &str, name: String) -> Result<String, AllocError>
-    ensures { IfOk result (λ key. string_bytes key ≡ key_in scope.now (string_bytes name)) }
+fn full_key(alloc: Global, scope: &str, name: &str) -> Result<String, AllocError>
+    ensures { IfOk result (λ key. string_bytes key ≡ key_in scope.now name.now) }
 {
     if scope.is_empty() {
-        return Ok(name);
+        return String::from_str(alloc, name);
     }
     let room = scope.len().saturating_add(1).saturating_add(name.len());
     let mut key = String::with_capacity(alloc, room)?;
     key.push_str(scope)?;
     key.push('.')?;
-    key.push_str(name.as_str())?;
+    key.push_str(name)?;
     Ok(key)
 }
 
@@ -150,13 +151,17 @@ impl Builder {
         Ok(())
     }
 
-    // Adds a pair to the element, or to the root where there is none.
-    fn add_pair(&mut self, alloc: Global, name: String, value: Toml) -> Result<(), AllocError>
+    /// Adds a pair to the element, or to the root where there is none.
+    pub(crate) fn add_pair(
+        &mut self,
+        alloc: Global,
+        name: &str,
+        value: Toml,
+    ) -> Result<(), AllocError>
         requires { (done : List Stated) × IsBuilt done self.old }
         ensures { (done : List Stated) → IsBuilt done self.old
-            → IsPlain (pair (string_bytes name) (view value))
-            → OnOk result
-            (IsBuilt (done ++ pair (string_bytes name) (view value) ∷ []) self.new) }
+            → IsPlain (pair name.now (view value))
+            → OnOk result (IsBuilt (done ++ pair name.now (view value) ∷ []) self.new) }
     {
         let key = full_key(alloc, self.scope.as_str(), name)?;
         if self.key.is_some() {
@@ -183,8 +188,30 @@ impl Builder {
             }
             Statement::Element(key) => self.start_element(alloc, key),
             Statement::Pair(name, value) => {
-                self.add_pair(alloc, name, value)?;
+                self.add_pair(alloc, name.as_str(), value)?;
                 Ok(())
+            }
+        }
+    }
+
+    /// Adds a header. A fault but want of memory is one that names a key which a pair gave.
+    pub(crate) fn add_header(&mut self, alloc: Global, header: Header) -> Result<(), Fault>
+        requires { (done : List Stated) × IsBuilt done self.old }
+        ensures built { (done : List Stated) → IsBuilt done self.old
+            → OnOk result (IsBuilt (done ++ header_view header.entry ∷ []) self.new) }
+        ensures refused { (done : List Stated) → IsBuilt done self.old
+            → OnFault result
+            ((more : List Stated) → IsLawful (done ++ header_view header.entry ∷ more) → ⊥) }
+    {
+        match header {
+            Header::Scope(name) => {
+                self.scope.clear();
+                self.scope.push_str(name)?;
+                Ok(())
+            }
+            Header::Element(key) => {
+                let key = String::from_str(alloc, key)?;
+                self.start_element(alloc, key)
             }
         }
     }

@@ -10,7 +10,7 @@ use Rattle.nano_toml.proofs.table.Builder.add_pair.Goals as goal
 
 pub returns-then-is_some : goal.returns-then-is_some
 returns-then-is_some c done built plain =
-    let name = string_bytes c.args.name in
+    let name = c.args.name.now in
     let means = view c.args.value in
     let root = table_view c.args.self.now.root.entries in
     let old = table_view c.args.self.now.table.entries in
@@ -27,7 +27,7 @@ returns-then-is_some c done built plain =
 
 pub returns-else-is_some : goal.returns-else-is_some
 returns-else-is_some c done built plain =
-    let name = string_bytes c.args.name in
+    let name = c.args.name.now in
     let means = view c.args.value in
     let old = table_view c.args.self.now.root.entries in
     let new = table_view c.put-else-is_some.new.table.entries in

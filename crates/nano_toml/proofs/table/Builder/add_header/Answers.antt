@@ -1,0 +1,17 @@
+use Rattle.std.proofs.Common.{List, ℕ, ◌++◌, option_map, string_bytes, ap, sym, ◌∙◌}
+use Rattle.nano_toml.specs.Statements.{scope}
+use Rattle.nano_toml.specs.View.{table_view}
+use Rattle.nano_toml.proofs.BuildLemmas.{Stands-scope, NoneNamed-scope, plain_push, scope_of-scope}
+use Rattle.nano_toml.proofs.table.Builder.add_header.Goals as goal
+
+pub returns-in_ok-push_str-in-Scope-clause-built : goal.returns-in_ok-push_str-in-Scope-clause-built
+returns-in_ok-push_str-in-Scope-clause-built c done built =
+    let name = c.in-Scope.name.now in
+    let root = table_view c.args.self.now.root.entries in
+    let table = table_view c.args.self.now.table.entries in
+    rw c.in-Scope.is (record {
+      in_scope = c.in_ok-push_str-in-Scope.ensures.bytes ∙ (ap (λ (bytes : List ℕ). bytes ++ name) c.clear.ensures.bytes ∙ sym (scope_of-scope done name));
+      lawful = NoneNamed-scope done name built.lawful;
+      plain = plain_push done (scope name) built.plain tt;
+      stands = Stands-scope done root (option_map string_bytes c.args.self.now.key) table name built.stands;
+    })
