@@ -1,0 +1,64 @@
+#!/bin/sh
+# Counts what docs/SPEED.md says: builds the port's side, and runs it beside its peers.
+#
+#     sh docs/measure/measure.sh HARNESS OUT [FILTER]
+#
+# HARNESS is the folder of the peers' harness (its build.sh and main.rs), OUT a folder for what is
+# built. FILTER takes cases alone, such as json/records. It wants rt, valgrind, GNU time and the
+# packages that build.sh names. LIBRARY in the environment is a library of the port that is built
+# already. OUT then has
+#     counts.txt   FORMAT/KIND/PEER/OP MEGABYTES INSTRUCTIONS: all at 1 MB, the port also at 10 MB
+#     peaks.txt    FORMAT/KIND/PEER/OP KIBIBYTES: the peak of a process that reads 10 MB
+#     tables.md    the tables of these
+#     speed.svg    the picture of the ratios
+set -eu
+[ $# -ge 2 ] || { echo "usage: sh measure.sh HARNESS OUT [FILTER]" >&2; exit 2; }
+here=$(cd "$(dirname "$0")" && pwd)
+bench=$here/../../crates/nano_bench
+mkdir -p "$2"
+harness=$(cd "$1" && pwd)
+out=$(cd "$2" && pwd)
+filter=${3:-.}
+
+[ -n "${LIBRARY:-}" ] || (cd "$bench" && rt lib)
+"$harness/build.sh" "$out" "${LIBRARY:-$bench/out/libnano_bench.a}"
+
+# The same program, which now can run one case alone in its process.
+chmod u+w "$out/src/main.rs"
+cat "$here/alone.rs" >> "$out/src/main.rs"
+sed -i 's/^fn main() {$/&\n    if alone() {\n        return;\n    }/' "$out/src/main.rs"
+(cd "$out" && cargo build --offline --release --quiet --features port)
+program=$out/target/release/nano_peers
+
+# input FORMAT/KIND MEGABYTES: the file of that input
+input() {
+    file=$out/$(echo "$1" | tr / -)-$2
+    [ -f "$file" ] || "$program" make "$1" "$2" "$file"
+    echo "$file"
+}
+
+# counted NAME MEGABYTES: a line of counts.txt, or a word to say that the case failed
+counted() {
+    if valgrind --tool=callgrind --collect-atstart=no --toggle-collect=measured_region \
+        --callgrind-out-file=/dev/null --log-file="$out/log" \
+        "$program" file "$1" "$(input "${1%/*/*}" "$2")" 2> /dev/null < /dev/null
+    then
+        echo "$1 $2 $(sed -n 's/.*Collected : //p' "$out/log")" | tee -a "$out/counts.txt"
+    else
+        echo "$1 fails" >&2
+    fi
+}
+
+: > "$out/counts.txt"
+: > "$out/peaks.txt"
+"$program" --list | grep -E '/(read|norm)$' | grep -e "$filter" > "$out/names"
+while read -r name; do
+    counted "$name" 1
+    case $name in */port/*) counted "$name" 10 ;; esac
+    case $name in */read)
+        /usr/bin/time -f "$name %M" -a -o "$out/peaks.txt" \
+            "$program" file "$name" "$(input "${name%/*/*}" 10)" 2> /dev/null < /dev/null || true
+    esac
+done < "$out/names"
+sh "$here/tables.sh" "$out/counts.txt" "$out/peaks.txt" > "$out/tables.md"
+sh "$here/picture.sh" "$out/counts.txt" > "$out/speed.svg"
