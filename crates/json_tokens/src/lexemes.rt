@@ -276,9 +276,11 @@ fn mark(c: char) -> Option<DeJsonTok>
     ensures { (strbuf numbuf : List ℕ)
         → option_map (λ t. token_of t strbuf numbuf) result ≡ mark_of c }
 {
+    if c == ',' {
+        return Some(DeJsonTok::Comma);
+    }
     match c {
         ':' => Some(DeJsonTok::Colon),
-        ',' => Some(DeJsonTok::Comma),
         '[' => Some(DeJsonTok::BlockOpen),
         ']' => Some(DeJsonTok::BlockClose),
         '{' => Some(DeJsonTok::CurlyOpen),

@@ -19,7 +19,10 @@ const FORM_FEED: char = '\u{c}';
 fn stands_as_itself(c: u32) -> bool
     ensures { result ≡ stands_as_itself c }
 {
-    32 <= c && c != 127 && c != u32::from('"') && c != u32::from('\\')
+    if c > u32::from('\\') {
+        return c != 127;
+    }
+    32 <= c && c != u32::from('"') && c != u32::from('\\')
 }
 
 /// How many bytes are written as themselves before the first that isn't.

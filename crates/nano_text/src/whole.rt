@@ -32,7 +32,7 @@ pub(crate) struct Ahead {
 fn ends_whole(byte: u8) -> bool
     ensures { result ≡ true → (continues None None byte ≡ false) × (32 ≤ byte) × (byte < 128) }
 {
-    byte >= b' ' && byte < b'.' || byte == b']' || byte == b'}'
+    byte == b',' || byte >= b' ' && byte < b'.' || byte == b']' || byte == b'}'
 }
 
 /// Looks at the digits that these bytes begin with, behind a first digit. `None` where they are
@@ -97,8 +97,10 @@ pub(crate) fn unsigned_ahead(cur: char, bytes: &[u8]) -> Option<Ahead>
     ensures ends { IfSome result (λ ahead. (continues None None ahead.next ≡ false)
         × (32 ≤ ahead.next) × (ahead.next < 128)) }
 {
-    let first = cur.to_digit(10)?;
-    digits_ahead(u64::from(first), bytes)
+    if !cur.is_ascii_digit() {
+        return None;
+    }
+    digits_ahead(u64::from(u32::from(cur) - u32::from('0')), bytes)
 }
 
 /// The digits of the whole number that begins at a minus, which is taken already, and goes on with
