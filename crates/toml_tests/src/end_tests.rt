@@ -32,6 +32,9 @@ fn ends_of_runs(rt: HostRuntime) -> Result<(), Fail> {
             ("a=\"\"\0", "a = \"\""),
             ("[s]a=1\n[s.t]b=2\0", "s.a = 1; s.t.b = 2"),
             ("[s]\"k\u{e9}\"=1", "s.k\u{e9} = 1"),
+            ("[ #c\ns\r]#z\na=1", "s.a = 1"),
+            ("[[a] ]x=1[ [ a]]y=2", "a = tables {x = 1} {y = 2}"),
+            ("[s]a=1[\"t\"]a=2[u]", "s.a = 1; t.a = 2"),
             (
                 "[[a]]x=1\ny=2\n[[a]]\n[[a]]x=3",
                 "a = tables {x = 1; y = 2} {} {x = 3}",
@@ -76,6 +79,14 @@ fn faults_behind_runs(rt: HostRuntime) -> Result<(), Fail> {
             ("[s\0]", "Unexpected token Eof ", 0, 3),
             ("[s\u{e9}]", "Cannot parse toml tokenizer ", 0, 3),
             ("[s#]\n=", "Unexpected token Equals ", 1, 1),
+            ("[[s]", "Unexpected token Eof ", 0, 4),
+            ("[[s]\0]", "Unexpected token Eof ", 0, 5),
+            ("[[s]\u{e9}", "Cannot parse toml tokenizer ", 0, 5),
+            ("[[s]=", "Unexpected token Equals ", 0, 5),
+            ("[[\"s\"]]", "Unexpected token Str(\"s\") ", 0, 6),
+            ("[true]", "Unexpected token Bool(true) ", 0, 6),
+            ("[[inf]]", "Unexpected token Inf(false) ", 0, 6),
+            ("[", "Unexpected token Eof ", 0, 1),
         ],
     )
 }
