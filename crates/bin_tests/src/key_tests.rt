@@ -1,7 +1,7 @@
 // Each function once, and `known` of each type through its bound.
-use crate::checks::no_memory;
+use crate::checks::{holds, no_memory};
 use crate::made::{boxed, list, ordered, text};
-use nano_value::{OrderedKey, Value, entries_in_order, items_in_order, laws};
+use nano_value::{Key, OrderedKey, Value, entries_by_rank, entries_in_order, items_in_order, laws};
 use std::alloc::{AllocError, Global};
 use std::collections::{HashMap, HashSet, LinkedList};
 use std::process::Abort;
@@ -117,6 +117,56 @@ fn in_order(rt: HostRuntime) {
 fn items_are_in_order(rt: HostRuntime) {
     let alloc = rt.alloc();
     assert_eq!(&rt; items(alloc).ok(), Some((50, 0, 49)));
+}
+
+/// Words, of which some begin with the same eight bytes.
+const WORDS: &[&str] = &["b", "aaaaaaaab", "a", "aaaaaaaa", "", "aaaaaaaaa"];
+
+/// The words behind one another in order, each with a comma.
+fn words(alloc: Global) -> Result<String, AllocError> {
+    let mut map = HashMap::new(alloc);
+    for word in WORDS {
+        map.insert(String::from_str(alloc, word)?, ())?;
+    }
+    let mut line = String::new(alloc);
+    for (word, _nothing) in entries_by_rank(alloc, &map)? {
+        line.push_str(word.as_str())?;
+        line.push(',')?;
+    }
+    Ok(line)
+}
+
+/// There is a text, and it is the expected one.
+fn is_text(rt: &impl Abort, text: Result<String, AllocError>, expected: &str) {
+    match text {
+        Ok(text) => holds(rt, text.as_str() == expected, text.as_str()),
+        Err(_refused) => no_memory(rt),
+    }
+}
+
+#[test]
+fn words_are_in_order(rt: HostRuntime) {
+    is_text(&rt, words(rt.alloc()), ",a,aaaaaaaa,aaaaaaaaa,aaaaaaaab,b,");
+}
+
+/// The ranks that two keys are given.
+fn ranks<K: Key>(first: &K, second: &K) -> (u64, u64) {
+    let mut entries = [(0, (first, ())), (0, (second, ()))];
+    K::put_ranks(&mut entries);
+    (entries[0].0, entries[1].0)
+}
+
+/// The same of two texts.
+fn ranks_of_texts(alloc: Global, first: &str, second: &str) -> Result<(u64, u64), AllocError> {
+    let (first, second) = (text(alloc, first)?, text(alloc, second)?);
+    Ok(ranks(&first, &second))
+}
+
+#[test]
+fn keys_are_ranked(rt: HostRuntime) {
+    let found = ranks_of_texts(rt.alloc(), "a", "b\0");
+    assert!(rt; found.ok() == Some((0x6100_0000_0000_0000, 0x6200_0000_0000_0000)));
+    assert!(rt; ranks(&7u8, &5) == (0, 0));
 }
 
 #[test]

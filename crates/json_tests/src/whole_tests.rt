@@ -1,5 +1,7 @@
 // Readers of whole inputs.
 use crate::checks::{FaultRow, is_fault, is_found, is_value, read_as};
+use crate::token_tests::{state_of, take};
+use json_tokens::{expect_end, within_value};
 use nano_json::{BothJson, DeJson, DeJsonErr, laws};
 use std::alloc::Global;
 use std::process::Abort;
@@ -28,6 +30,51 @@ fn faults_whole<T: DeJson>(rt: &impl Abort, alloc: Global, rows: &[FaultRow<'_>]
 fn is_back<T: BothJson + PartialEq>(rt: &impl Abort, alloc: Global, value: &T, name: &str) {
     let read = laws::read_back_whole(alloc, value);
     is_found(rt, read_as(read, value), "the value", name);
+}
+
+/// Whether the text ends behind its first token.
+fn end_of(alloc: Global, text: &str) -> Result<(), DeJsonErr> {
+    let mut input = text.chars();
+    let mut state = state_of(alloc, &mut input);
+    take(alloc, &mut state, &mut input, 2)?;
+    expect_end(alloc, &state, text)
+}
+
+/// The error of that, if there is one.
+fn refused_end(alloc: Global, text: &str) -> Option<DeJsonErr> {
+    end_of(alloc, text).err()
+}
+
+/// The same, as the error of a value.
+fn refused_within(alloc: Global, text: &str) -> Option<DeJsonErr> {
+    match end_of(alloc, text) {
+        Ok(()) => None,
+        Err(error) => Some(within_value(error)),
+    }
+}
+
+/// Texts that do not end behind their first token.
+const GO_ON: &[FaultRow<'_>] = &[
+    ("7\0", "Cannot parse end ", 0, 2),
+    ("7 8", "Cannot parse end ", 0, 3),
+];
+
+/// The same, with the messages of a value.
+const GO_ON_WITHIN: &[FaultRow<'_>] = &[
+    ("7\0", "Cannot parse end", 0, 2),
+    ("7 8", "Cannot parse end", 0, 3),
+];
+
+#[test]
+fn the_end_is_expected(rt: HostRuntime) {
+    let alloc = rt.alloc();
+    is_found(&rt, read_as(end_of(alloc, "7 "), &()), "the value", "7");
+    for row in GO_ON {
+        is_fault(&rt, refused_end(alloc, row.0), row);
+    }
+    for row in GO_ON_WITHIN {
+        is_fault(&rt, refused_within(alloc, row.0), row);
+    }
 }
 
 /// Texts that are no number as a whole.

@@ -1,7 +1,7 @@
 // What no clause of the readers says: the message, the line and the column of each fault, both
 // counted from 0.
 use crate::checks::faults;
-use std::collections::{BTreeSet, HashMap, HashSet, LinkedList};
+use std::collections::{BTreeMap, BTreeSet, HashMap, HashSet, LinkedList};
 
 /// Faults of an unsigned integer of one byte.
 const OF_A_BYTE: &[(&str, &str, usize, usize)] = &[
@@ -327,43 +327,43 @@ fn faults_of_lists_and_sets(rt: HostRuntime) {
     );
 }
 
+/// Faults of maps.
+const OF_ENTRIES: &[(&str, &str, usize, usize)] = &[
+    ("{1}", "Unexpected token CurlyClose expected : ", 0, 3),
+    ("{1 2}", "Unexpected token U64(2) expected : ", 0, 5),
+    (
+        "{,}",
+        "Unexpected token Comma expected unsigned integer ",
+        0,
+        3,
+    ),
+    ("{1:2", "Unexpected token Eof expected , or } ", 0, 4),
+    (
+        "{1:2 3:4}",
+        "Unexpected token U64(3) expected , or } ",
+        0,
+        7,
+    ),
+    (
+        "{1:2]",
+        "Unexpected token BlockClose expected , or } ",
+        0,
+        5,
+    ),
+    ("{1:256,,", "Value out of range 256>255 ", 0, 7),
+    (
+        "{1:}",
+        "Unexpected token CurlyClose expected unsigned integer ",
+        0,
+        4,
+    ),
+    ("{1:\n@", "Unexpected token Colon expected tokenizer ", 1, 1),
+    ("[1]", "Unexpected token BlockOpen expected { ", 0, 2),
+];
+
 #[test]
 fn faults_of_maps(rt: HostRuntime) {
     let alloc = rt.alloc();
-    faults::<HashMap<u8, u8>>(
-        &rt,
-        alloc,
-        &[
-            ("{1}", "Unexpected token CurlyClose expected : ", 0, 3),
-            ("{1 2}", "Unexpected token U64(2) expected : ", 0, 5),
-            (
-                "{,}",
-                "Unexpected token Comma expected unsigned integer ",
-                0,
-                3,
-            ),
-            ("{1:2", "Unexpected token Eof expected , or } ", 0, 4),
-            (
-                "{1:2 3:4}",
-                "Unexpected token U64(3) expected , or } ",
-                0,
-                7,
-            ),
-            (
-                "{1:2]",
-                "Unexpected token BlockClose expected , or } ",
-                0,
-                5,
-            ),
-            ("{1:256,,", "Value out of range 256>255 ", 0, 7),
-            (
-                "{1:}",
-                "Unexpected token CurlyClose expected unsigned integer ",
-                0,
-                4,
-            ),
-            ("{1:\n@", "Unexpected token Colon expected tokenizer ", 1, 1),
-            ("[1]", "Unexpected token BlockOpen expected { ", 0, 2),
-        ],
-    );
+    faults::<HashMap<u8, u8>>(&rt, alloc, OF_ENTRIES);
+    faults::<BTreeMap<u8, u8>>(&rt, alloc, OF_ENTRIES);
 }

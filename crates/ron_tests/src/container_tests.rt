@@ -3,7 +3,7 @@
 use crate::checks::{all_refused, normal, values};
 use nano_ron::BothRon;
 use std::alloc::Global;
-use std::collections::{BTreeSet, HashMap, HashSet, LinkedList};
+use std::collections::{BTreeMap, BTreeSet, HashMap, HashSet, LinkedList};
 use std::process::Abort;
 
 /// Texts that are read as 1 and 2: what may stand behind the bracket is one more token, or the end.
@@ -105,24 +105,24 @@ fn maps_with_last_values(rt: HostRuntime) {
     );
 }
 
+/// Texts of no map of numbers.
+const NO_MAPS: &[&str] = &[
+    "{1}",
+    "{1:2 3:4}",
+    "{,}",
+    "{1:2",
+    "{1:}",
+    "{1:2,,}",
+    "{1,2}",
+    "(1:2)",
+    "[]",
+];
+
 #[test]
 fn maps_refused(rt: HostRuntime) {
     let alloc = rt.alloc();
-    all_refused::<HashMap<u8, u8>>(
-        &rt,
-        alloc,
-        &[
-            "{1}",
-            "{1:2 3:4}",
-            "{,}",
-            "{1:2",
-            "{1:}",
-            "{1:2,,}",
-            "{1,2}",
-            "(1:2)",
-            "[]",
-        ],
-    );
+    all_refused::<HashMap<u8, u8>>(&rt, alloc, NO_MAPS);
+    all_refused::<BTreeMap<u8, u8>>(&rt, alloc, NO_MAPS);
     all_refused::<HashMap<String, Vec<u8>>>(&rt, alloc, &["{\"a\":[1 2]}", "{a:[]}"]);
 }
 

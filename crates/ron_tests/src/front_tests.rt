@@ -2,7 +2,7 @@
 use crate::checks::{is_read, is_refused, is_told, refusal};
 use nano_ron::{DeRon, DeRonErr, DeRonState, DeRonTok};
 use std::alloc::Global;
-use std::collections::{BTreeSet, HashMap, HashSet, LinkedList};
+use std::collections::{BTreeMap, BTreeSet, HashMap, HashSet, LinkedList};
 use std::process::Abort;
 
 /// What two reads of a text in one state tell, and whether the state is at the end behind them.
@@ -118,22 +118,22 @@ fn fronts_of_tuples(rt: HostRuntime) {
     );
 }
 
+/// Texts of maps.
+const MAPS: &[&str] = &[
+    "{}",
+    "{\n}",
+    "{\"a\":1}",
+    "{\n    \"a\":1,\n}",
+    "{\"b\":1,\"a\":2,\"b\":3,}",
+    "{\n    \"a\":2,\n    \"b\":3,\n}",
+    "{ \"asd\": 1, \"qwe\": 2, }",
+];
+
 #[test]
 fn fronts_of_maps(rt: HostRuntime) {
     let alloc = rt.alloc();
-    all_fronts_refused::<HashMap<String, i32>>(
-        &rt,
-        alloc,
-        &[
-            "{}",
-            "{\n}",
-            "{\"a\":1}",
-            "{\n    \"a\":1,\n}",
-            "{\"b\":1,\"a\":2,\"b\":3,}",
-            "{\n    \"a\":2,\n    \"b\":3,\n}",
-            "{ \"asd\": 1, \"qwe\": 2, }",
-        ],
-    );
+    all_fronts_refused::<HashMap<String, i32>>(&rt, alloc, MAPS);
+    all_fronts_refused::<BTreeMap<String, i32>>(&rt, alloc, MAPS);
 }
 
 #[test]

@@ -3,7 +3,7 @@
 use crate::checks::{is_made, is_told};
 use crate::place_tests::taken_of;
 use crate::token_tests::pending;
-use ron_tokens::{DeRonErr, DeRonState, SerRonState, append_string};
+use ron_tokens::{DeRonErr, DeRonState, SerRonState, append_comma, append_string};
 use std::alloc::{AllocError, Global};
 use std::process::Abort;
 use std::str::Chars;
@@ -232,6 +232,21 @@ fn a_writer_appends(rt: HostRuntime) {
         let ended = write(&mut writer, row.0, row.1, row.2);
         is_written(&rt, ended, row, writer.out.as_str());
     }
+}
+
+/// What is written where an item follows, which may be the first.
+fn before_an_item(alloc: Global, first: bool) -> Result<String, AllocError> {
+    let mut writer = SerRonState {
+        out: String::from_str(alloc, "7")?,
+    };
+    append_comma(first, &mut writer)?;
+    Ok(writer.out)
+}
+
+#[test]
+fn commas_are_appended(rt: HostRuntime) {
+    is_made(&rt, &before_an_item(rt.alloc(), true), "7");
+    is_made(&rt, &before_an_item(rt.alloc(), false), "7,");
 }
 
 /// What is written of a text as a string.

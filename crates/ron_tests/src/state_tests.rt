@@ -2,7 +2,7 @@
 use crate::checks::{is_told, why};
 use nano_ron::{BothRon, DeRon, DeRonErr, DeRonState, DeRonTok};
 use std::alloc::Global;
-use std::collections::{BTreeSet, HashMap, HashSet, LinkedList};
+use std::collections::{BTreeMap, BTreeSet, HashMap, HashSet, LinkedList};
 use std::process::Abort;
 use std::test::Fail;
 
@@ -34,22 +34,27 @@ fn is_ended(rt: &impl Abort, read: (Option<DeRonErr>, bool)) {
     assert!(rt; ended);
 }
 
-/// No value of the type begins with one of these tokens: what no text is cut into, the end, and
-/// what stands between and behind values.
+/// Tokens that begin no value: what no text is cut into, the end, and what stands between and
+/// behind values.
+fn idle_token(place: usize) -> DeRonTok {
+    match place {
+        0 => DeRonTok::Char('4'),
+        1 => DeRonTok::Bof,
+        2 => DeRonTok::Eof,
+        3 => DeRonTok::Ident,
+        4 => DeRonTok::F64,
+        5 => DeRonTok::Colon,
+        6 => DeRonTok::Comma,
+        7 => DeRonTok::CurlyClose,
+        8 => DeRonTok::ParenClose,
+        _ => DeRonTok::BlockClose,
+    }
+}
+
+/// No value of the type begins with one of these tokens.
 fn nothing_begins<T: DeRon>(rt: &impl Abort, alloc: Global) {
-    for tok in [
-        DeRonTok::Char('4'),
-        DeRonTok::Bof,
-        DeRonTok::Eof,
-        DeRonTok::Ident,
-        DeRonTok::F64,
-        DeRonTok::Colon,
-        DeRonTok::Comma,
-        DeRonTok::CurlyClose,
-        DeRonTok::ParenClose,
-        DeRonTok::BlockClose,
-    ] {
-        is_ended(rt, read::<T>(alloc, tok, '4'));
+    for place in 0..10 {
+        is_ended(rt, read::<T>(alloc, idle_token(place), '4'));
     }
 }
 
@@ -87,6 +92,7 @@ fn tokens_that_begin_no_container(rt: HostRuntime) {
     nothing_begins::<Vec<u8>>(&rt, alloc);
     nothing_begins::<LinkedList<u8>>(&rt, alloc);
     nothing_begins::<HashMap<u8, u8>>(&rt, alloc);
+    nothing_begins::<BTreeMap<u8, u8>>(&rt, alloc);
     nothing_begins::<HashSet<u8>>(&rt, alloc);
     nothing_begins::<BTreeSet<u8>>(&rt, alloc);
 }

@@ -1,7 +1,8 @@
 // Readers of whole inputs.
 use crate::checks::{is_fault, is_read, values};
+use crate::place_tests::taken_of;
 use nano_ron::{BothRon, DeRon, laws};
-use ron_tokens::DeRonErr;
+use ron_tokens::{DeRonErr, expect_end, within_value};
 use std::alloc::Global;
 use std::process::Abort;
 
@@ -41,6 +42,56 @@ fn is_back<T: BothRon + PartialEq>(alloc: Global, value: &T) -> Result<bool, DeR
     match laws::read_back_whole(alloc, value) {
         Ok(read) => Ok(read == *value),
         Err(error) => Err(error),
+    }
+}
+
+/// Whether the text ends behind its first token.
+fn end_of(alloc: Global, text: &str) -> Result<(), DeRonErr> {
+    let mut input = text.chars();
+    let state = taken_of(alloc, &mut input, 2)?;
+    expect_end(alloc, &state, text)
+}
+
+/// The same, as an answer.
+fn ends(alloc: Global, text: &str) -> Result<bool, DeRonErr> {
+    end_of(alloc, text)?;
+    Ok(true)
+}
+
+/// The error of that, if there is one.
+fn refused_end(alloc: Global, text: &str) -> Option<DeRonErr> {
+    end_of(alloc, text).err()
+}
+
+/// The same, as the error of a value.
+fn refused_within(alloc: Global, text: &str) -> Option<DeRonErr> {
+    match end_of(alloc, text) {
+        Ok(()) => None,
+        Err(error) => Some(within_value(error)),
+    }
+}
+
+/// Texts that do not end behind their first token.
+const GO_ON: &[(&str, &str, usize, usize)] = &[
+    ("7\0", "Cannot parse end ", 0, 2),
+    ("7 8", "Cannot parse end ", 0, 3),
+];
+
+/// The same, with the messages of a value.
+const GO_ON_WITHIN: &[(&str, &str, usize, usize)] = &[
+    ("7\0", "Cannot parse end", 0, 2),
+    ("7 8", "Cannot parse end", 0, 3),
+];
+
+#[test]
+fn the_end_is_expected(rt: HostRuntime) {
+    let alloc = rt.alloc();
+    is_read(&rt, &ends(alloc, "7 "), "7");
+    for row in GO_ON {
+        is_fault(&rt, &refused_end(alloc, row.0), row);
+    }
+    for row in GO_ON_WITHIN {
+        is_fault(&rt, &refused_within(alloc, row.0), row);
     }
 }
 
