@@ -1,11 +1,13 @@
-// A struct of five fields, with maps and a field that may be missing: its description, and then
-// bytes, JSON and RON.
+// A struct of five fields, with maps that have types of their own and a field that may be missing:
+// its description, and then bytes, JSON and RON.
 ghost use Rattle.std.specs.Prelude.{refl};
 ghost use Rattle.described.specs.Names.{description, five_names, five_of, tied};
 ghost use Rattle.described_bin.specs.Record.{bin_of};
 ghost use Rattle.described_json.specs.Record.{json_of};
 ghost use Rattle.described_ron.specs.Record.{ron_of};
 
+use crate::limits::Limits;
+use crate::tags::Tags;
 use described::{
     Borrowed, InFive, Optional, Parts, Record, Required, Shape, Value, five, five_apart,
     known_record, named,
@@ -22,7 +24,6 @@ use described_ron::{
     read_record_ron, write_record_ron,
 };
 use std::alloc::{AllocError, Global};
-use std::collections::{BTreeMap, HashMap};
 use std::str::Chars;
 
 /// A server.
@@ -33,9 +34,9 @@ pub struct Server {
     /// On which port.
     pub port: u16,
     /// What it is for, by kind.
-    pub tags: BTreeMap<String, Vec<String>>,
+    pub tags: Tags,
     /// How many requests, by user.
-    pub limits: HashMap<String, u64>,
+    pub limits: Limits,
     /// What else there is to say of it.
     pub note: Option<String>,
 }
@@ -43,8 +44,8 @@ pub struct Server {
 type ServerFields = InFive<
     Required<String>,
     Required<u16>,
-    Required<BTreeMap<String, Vec<String>>>,
-    Required<HashMap<String, u64>>,
+    Required<Tags>,
+    Required<Limits>,
     Optional<String>,
 >;
 

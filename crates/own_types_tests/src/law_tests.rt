@@ -2,7 +2,7 @@
 // is read back.
 use crate::checks::{again, bin_again, holds, json_again, map_laws, read_alone};
 use nano_records::{Holder, Plain};
-use own_types::{Command, Event, Message, Query, Server, Signal};
+use own_types::{Command, Event, Limits, Message, Query, Server, Signal, Tags};
 use std::alloc::{AllocError, Global};
 use std::collections::{BTreeMap, HashMap};
 use std::test::Fail;
@@ -19,8 +19,8 @@ fn server(alloc: Global) -> Result<Server, Fail> {
     Ok(Server {
         host: text(alloc, "a")?,
         port: 80,
-        tags,
-        limits,
+        tags: Tags(tags),
+        limits: Limits(limits),
         note: Some(text(alloc, "c")?),
     })
 }
