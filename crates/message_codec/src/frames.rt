@@ -1,7 +1,9 @@
 // Messages of any type, each in a frame: the code of its code, as a list of bytes.
-ghost use Rattle.std.specs.Prelude.{◌≡◌, ◌<◌, ◌+◌, ◌≢◌, ◌≤◌, ◌++◌, List, ℕ, length, drop, Some, IfOk, IfErr, IfSome, IfNone, OnOk, OnErr, IsErrOf};
+ghost use Rattle.std.specs.Prelude.{◌≡◌, ◌<◌, ◌+◌, ◌≢◌, ◌≤◌, ◌++◌, List, ℕ, length, drop};
+ghost use Rattle.std.specs.Prelude.{Some, IfOk, IfErr, IfSome, IfNone, OnOk, OnErr, IsErrOf};
 ghost use Rattle.std.specs.Io.KnownBytes.{Keeps, IsAtEnd};
-ghost use Rattle.message_codec.specs.Frames.{IsFrame, AppendsFrame, ReadsBehind, TakesMessage, IsCut, HoldsNoMessage};
+ghost use Rattle.message_codec.specs.Frames.{IsFrame, AppendsFrame, ReadsBehind, TakesMessage};
+ghost use Rattle.message_codec.specs.Frames.{IsCut, HoldsNoMessage};
 ghost use Rattle.message_codec.specs.Faults.{IsOfStream};
 ghost use Rattle.bin_bytes.specs.Reading.{Reads, NothingFits};
 
