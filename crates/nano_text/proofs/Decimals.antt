@@ -20,14 +20,12 @@ appended_as (Err x) before after piece whole e w = tt
 pub decimal_two : (n : ℕ) → 10 ≤ n → n < 100 → decimal n ≡ (48 + n / 10) ∷ (48 + n % 10) ∷ []
 decimal_two n low high = decimal_step n low (omega (arith, high)) ∙ ap (λ l. l ++ (48 + n % 10) ∷ []) (decimal_digit (n / 10) (omega (arith, high)))
 
-pub decimal_three : (n : ℕ) → 100 ≤ n → n < 1000 → decimal n ≡ (48 + n / 100) ∷ (48 + n % 100 / 10) ∷ (48 + n % 100 % 10) ∷ []
+pub decimal_three : (n : ℕ) → 100 ≤ n → n < 1000 → decimal n ≡ three_digits n
 decimal_three n low high =
-    let a : n / 10 / 10 ≡ n / 100 = omega arith in
-    let b : n / 10 % 10 ≡ n % 100 / 10 = omega arith in
-    let c : n % 10 ≡ n % 100 % 10 = omega arith in
+    let hundreds : n / 10 / 10 ≡ n / 100 = omega arith in
     decimal_step n (omega (arith, low)) (omega (arith, high))
     ∙ (ap (λ l. l ++ (48 + n % 10) ∷ []) (decimal_two (n / 10) (omega (arith, low)) (omega (arith, high)))
-    ∙ (λ i. (48 + a i) ∷ (48 + b i) ∷ (48 + c i) ∷ []))
+    ∙ (λ i. (48 + hundreds i) ∷ (48 + n / 10 % 10) ∷ (48 + n % 10) ∷ []))
 
 pub decimal_thousand : (n : ℕ) → 1000 ≤ n → n < 2 ^ 64 → decimal n ≡ decimal (n / 1000) ++ three_digits (n % 1000)
 decimal_thousand n low fits =

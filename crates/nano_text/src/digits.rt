@@ -1,12 +1,12 @@
 // Decimal digits of integers.
-ghost use Rattle.std.specs.Prelude.{◌≡◌, ◌+◌, ◌/◌, ◌%◌, ◌<◌, ◌++◌, ◌∷◌, []};
+ghost use Rattle.std.specs.Prelude.{◌≡◌, ◌+◌, ◌/◌, ◌%◌, ◌<◌, ◌≤◌, ◌++◌, ◌∷◌, []};
 ghost use Rattle.std.specs.Prelude.{OnOk, OnErr, string_bytes};
 ghost use Rattle.std.specs.Fmt.{decimal, signed_decimal};
 ghost use Rattle.nano_text.specs.Digits.{three_digits};
 ghost use Rattle.nano_text.specs.Outcomes.{Appends, AppendsPart, Stays};
 
 use crate::keep::keep_written;
-use crate::triples::triple;
+use crate::triples::{pair, triple};
 use std::alloc::AllocError;
 
 const MILLION: u64 = 1_000_000;
@@ -21,34 +21,17 @@ fn append_digit(out: &mut String, number: u64) -> Result<(), AllocError>
     out.push(char::from(b'0' + number as u8))
 }
 
-/// Appends two digits, a zero in front. A refused growth leaves the digit before.
+/// Appends a number below 100 as two digits, a zero in front. A refused growth leaves `out` as it
+/// was.
 #[inline(always)]
-fn append_two(out: &mut String, number: u64) -> Result<(), AllocError>
+fn append_pair(out: &mut String, number: u64) -> Result<(), AllocError>
     requires { number < 100 }
     ensures ok { OnOk result
         (string_bytes out.new ≡ string_bytes out.old
         ++ (48 + number / 10) ∷ (48 + number % 10) ∷ []) }
-    ensures err { OnErr result (AppendsPart out.old out.new) }
+    ensures err { OnErr result (Stays out.old out.new) }
 {
-    append_digit(out, number / 10)?;
-    append_digit(out, number % 10)
-}
-
-/// Appends a number below 1,000. A refused growth leaves the digits before.
-#[inline(always)]
-fn append_short(out: &mut String, number: u64) -> Result<(), AllocError>
-    requires { number < 1000 }
-    ensures ok { OnOk result (string_bytes out.new ≡ string_bytes out.old ++ decimal number) }
-    ensures err { OnErr result (AppendsPart out.old out.new) }
-{
-    if number >= 100 {
-        append_digit(out, number / 100)?;
-        return append_two(out, number % 100);
-    }
-    if number >= 10 {
-        return append_two(out, number);
-    }
-    append_digit(out, number)
+    out.push_str(pair(number))
 }
 
 /// Appends a number below 1,000 as three digits, zeros in front. A refused growth leaves `out` as
@@ -61,6 +44,22 @@ fn append_triple(out: &mut String, number: u64) -> Result<(), AllocError>
     ensures err { OnErr result (Stays out.old out.new) }
 {
     out.push_str(triple(number))
+}
+
+/// Appends a number below 1,000. A refused growth leaves `out` as it was.
+#[inline(always)]
+fn append_short(out: &mut String, number: u64) -> Result<(), AllocError>
+    requires { number < 1000 }
+    ensures ok { OnOk result (string_bytes out.new ≡ string_bytes out.old ++ decimal number) }
+    ensures err { OnErr result (Stays out.old out.new) }
+{
+    if number >= 100 {
+        return append_triple(out, number);
+    }
+    if number >= 10 {
+        return append_pair(out, number);
+    }
+    append_digit(out, number)
 }
 
 /// Appends a number below a million. A refused growth leaves the digits before.
@@ -91,39 +90,57 @@ fn append_six(out: &mut String, number: u64) -> Result<(), AllocError>
     append_triple(out, number % 1000)
 }
 
-/// Appends a number. A refused growth leaves the digits before.
-#[inline(never)]
-fn append_long(out: &mut String, number: u64) -> Result<(), AllocError>
+/// Appends a number of at most twelve digits. A refused growth leaves the digits before.
+#[inline(always)]
+fn append_middle(out: &mut String, number: u64) -> Result<(), AllocError>
+    requires { number < 1000000000000 }
     ensures ok { OnOk result (string_bytes out.new ≡ string_bytes out.old ++ decimal number) }
     ensures err { OnErr result (AppendsPart out.old out.new) }
 {
     if number < MILLION {
         return append_front(out, number);
     }
-    append_long(out, number / MILLION)?;
+    append_front(out, number / MILLION)?;
     append_six(out, number % MILLION)
 }
 
-/// Appends a number; those below 1,000 without a call. A refused growth leaves the digits before.
+/// Appends a number of seven to eighteen digits. A refused growth leaves the digits before.
 #[inline(always)]
-fn append_digits(out: &mut String, number: u64) -> Result<(), AllocError>
+fn append_upper(out: &mut String, number: u64) -> Result<(), AllocError>
+    requires long { 1000000 ≤ number }
+    requires short { number < 1000000000000000000 }
     ensures ok { OnOk result (string_bytes out.new ≡ string_bytes out.old ++ decimal number) }
     ensures err { OnErr result (AppendsPart out.old out.new) }
 {
-    if number < 1000 {
-        return append_short(out, number);
-    }
-    append_long(out, number)
+    append_middle(out, number / MILLION)?;
+    append_six(out, number % MILLION)
 }
 
-/// Appends a number in decimal digits. A refused growth leaves `out` as it was.
+/// Appends a number, in steps by its size. A refused growth leaves the digits before.
+#[inline(never)]
+fn append_long(out: &mut String, number: u64) -> Result<(), AllocError>
+    ensures ok { OnOk result (string_bytes out.new ≡ string_bytes out.old ++ decimal number) }
+    ensures err { OnErr result (AppendsPart out.old out.new) }
+{
+    if number < MILLION * MILLION {
+        return append_middle(out, number);
+    }
+    append_upper(out, number / MILLION)?;
+    append_six(out, number % MILLION)
+}
+
+/// Appends a number in decimal digits, one below 1,000 without a call. A refused growth leaves
+/// `out` as it was.
 #[inline]
 pub fn append_unsigned(out: &mut String, value: u64) -> Result<(), AllocError>
     ensures ok { OnOk result (Appends out.old out.new (decimal value)) }
     ensures err { OnErr result (Stays out.old out.new) }
 {
+    if value < 1000 {
+        return append_short(out, value);
+    }
     let start = out.len();
-    let written = append_digits(out, value);
+    let written = append_long(out, value);
     keep_written(out, start, written)
 }
 
@@ -136,18 +153,28 @@ fn append_minus(out: &mut String) -> Result<(), AllocError>
     out.push('-')
 }
 
-/// Appends the sign of a negative number, and the digits. A refused growth leaves what was written
+/// Appends a minus sign and the digits of a number. A refused growth leaves what was written
 /// before.
 #[inline(always)]
-fn append_sign_and_digits(out: &mut String, value: i64) -> Result<(), AllocError>
-    ensures ok { OnOk result (string_bytes out.new ≡ string_bytes out.old ++ signed_decimal value) }
+fn append_minus_and_digits(out: &mut String, magnitude: u64) -> Result<(), AllocError>
+    ensures ok { OnOk result
+        (string_bytes out.new ≡ string_bytes out.old ++ 45 ∷ decimal magnitude) }
     ensures err { OnErr result (AppendsPart out.old out.new) }
 {
-    if value < 0 {
-        append_minus(out)?;
-        return append_digits(out, value.unsigned_abs());
-    }
-    append_digits(out, value.unsigned_abs())
+    append_minus(out)?;
+    append_unsigned(out, magnitude)
+}
+
+/// Appends a minus sign and the digits of a number. A refused growth leaves `out` as it was.
+#[inline]
+fn append_negative(out: &mut String, magnitude: u64) -> Result<(), AllocError>
+    ensures ok { OnOk result
+        (string_bytes out.new ≡ string_bytes out.old ++ 45 ∷ decimal magnitude) }
+    ensures err { OnErr result (Stays out.old out.new) }
+{
+    let start = out.len();
+    let written = append_minus_and_digits(out, magnitude);
+    keep_written(out, start, written)
 }
 
 /// Appends a number in decimal digits, with a minus sign where it is negative. A refused growth
@@ -157,7 +184,8 @@ pub fn append_signed(out: &mut String, value: i64) -> Result<(), AllocError>
     ensures ok { OnOk result (Appends out.old out.new (signed_decimal value)) }
     ensures err { OnErr result (Stays out.old out.new) }
 {
-    let start = out.len();
-    let written = append_sign_and_digits(out, value);
-    keep_written(out, start, written)
+    if value < 0 {
+        return append_negative(out, value.unsigned_abs());
+    }
+    append_unsigned(out, value.unsigned_abs())
 }

@@ -1,5 +1,5 @@
-// Numbers below 1,000 as three digits.
-ghost use Rattle.std.specs.Prelude.{◌≡◌, ◌<◌};
+// Numbers below 1,000 as three digits, and those below 100 as two.
+ghost use Rattle.std.specs.Prelude.{◌≡◌, ◌+◌, ◌/◌, ◌%◌, ◌<◌, ◌∷◌, []};
 ghost use Rattle.nano_text.specs.Digits.{three_digits};
 
 /// The three digits of each number below 1,000, one number behind the other.
@@ -53,4 +53,14 @@ pub fn triple(number: u64) -> &'static str
 {
     let start = number as usize * 3;
     &TRIPLES[start..start + 3]
+}
+
+/// The two digits of a number, a zero in front: the last two of its three.
+#[inline(always)]
+pub fn pair(number: u64) -> &'static str
+    requires { number < 100 }
+    ensures { result.now ≡ (48 + number / 10) ∷ (48 + number % 10) ∷ [] }
+{
+    let start = number as usize * 3 + 1;
+    &TRIPLES[start..start + 2]
 }

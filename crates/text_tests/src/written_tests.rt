@@ -38,14 +38,25 @@ fn is_text(rt: &impl Abort, text: Result<String, AllocError>, expected: &str) {
 
 #[test]
 fn written_digits(rt: HostRuntime) {
-    let digits = unsigned_digits(rt.alloc(), &[0, 9, 10, 1009, u64::MAX]);
-    is_text(&rt, digits, "0 9 10 1009 18446744073709551615");
-    let digits = signed_digits(rt.alloc(), &[0, -1, 10, i64::MAX, i64::MIN]);
-    is_text(
-        &rt,
-        digits,
-        "0 -1 10 9223372036854775807 -9223372036854775808",
+    let short = unsigned_digits(rt.alloc(), &[0, 9, 10, 99, 100, 109, 999]);
+    is_text(&rt, short, "0 9 10 99 100 109 999");
+    let long = unsigned_digits(
+        rt.alloc(),
+        &[1_000, 1_009, 999_999, 1_000_000, 1_000_000_000],
     );
+    is_text(&rt, long, "1000 1009 999999 1000000 1000000000");
+    let longer = unsigned_digits(rt.alloc(), &[999_999_999_999, 1_000_000_000_000]);
+    is_text(&rt, longer, "999999999999 1000000000000");
+    let longest = unsigned_digits(rt.alloc(), &[1 << 63, u64::MAX]);
+    is_text(&rt, longest, "9223372036854775808 18446744073709551615");
+}
+
+#[test]
+fn written_signs(rt: HostRuntime) {
+    let short = signed_digits(rt.alloc(), &[0, -1, 10, -99, 100, -999, -1_000]);
+    is_text(&rt, short, "0 -1 10 -99 100 -999 -1000");
+    let ends = signed_digits(rt.alloc(), &[i64::MAX, i64::MIN]);
+    is_text(&rt, ends, "9223372036854775807 -9223372036854775808");
 }
 
 /// A format that writes a quote twice, and each other character as itself.
