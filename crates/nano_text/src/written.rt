@@ -29,8 +29,10 @@ pub trait Escaping {
     ghost as_itself: { (c : ℕ) → stands c ≡ true → written c ≡ c ∷ [] };
 }
 
-/// How many bytes stand for themselves before the first that doesn't.
-fn plain_len<E: Escaping>(bytes: &[u8]) -> usize
+/// How many bytes stand for themselves before the first that doesn't. Inlined, so that a row of a
+/// known length is looked at without a loop.
+#[inline(always)]
+fn plain_front<E: Escaping>(bytes: &[u8]) -> usize
     ensures { result ≡ length (front E.stands bytes.now) }
 {
     for (len, byte) in bytes.iter().enumerate() {
@@ -39,6 +41,24 @@ fn plain_len<E: Escaping>(bytes: &[u8]) -> usize
         }
     }
     bytes.len()
+}
+
+/// How many bytes stand for themselves before the first that doesn't, looked at four a turn.
+fn plain_len<E: Escaping>(bytes: &[u8]) -> usize
+    ensures { result ≡ length (front E.stands bytes.now) }
+{
+    let mut rest = bytes;
+    let mut len = 0;
+    'fours: while let Some(parts) = rest.split_first_chunk::<4>() {
+        let (four, behind) = parts;
+        let plain = plain_front::<E>(four);
+        if plain < 4 {
+            return len + plain;
+        }
+        len += 4;
+        rest = behind;
+    }
+    len + plain_front::<E>(rest)
 }
 
 /// Appends the longest front of a text that stands for itself, at once, and the character behind

@@ -117,6 +117,15 @@ fn escaped_length(alloc: Global, text: &str) -> Result<usize, AllocError> {
 fn characters_with_escapes(rt: HostRuntime) {
     let out = escaped(rt.alloc(), &["", "a", "\"", "é\"x\"\"", "\"\"ab😋"]);
     is_text(&rt, out, "|a|\"\"|é\"\"x\"\"\"\"|\"\"\"\"ab😋|");
+    let ends = escaped(
+        rt.alloc(),
+        &["abc\"", "abcd", "abcd\"", "abcdefg\"h", "abcdefgh\"i"],
+    );
+    is_text(
+        &rt,
+        ends,
+        "abc\"\"|abcd|abcd\"\"|abcdefg\"\"h|abcdefgh\"\"i|",
+    );
 }
 
 /// What is appended for each character, with a line behind it.
