@@ -13,5 +13,6 @@ pub mod Numbers
 pub mod Strings
 pub mod Passing
 pub mod InLine
+pub mod Bodies
 pub mod WholeNumbers
 pub mod WrittenRuns

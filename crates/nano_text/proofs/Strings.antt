@@ -112,22 +112,23 @@ plain_is_piece c h = (
   λ e. let x : is_plain 0 ≡ true = subst (λ (n : ℕ). is_plain n ≡ true) e h in cc x,
 )
 
--- the front that stands for itself, as pieces
-plain_pieces : (text : List ℕ) → AllByRecursion IsPiece (map plain (front is_plain text)) × (flat_map piece_text (map plain (front is_plain text)) ≡ front is_plain text) × (map piece_char (map plain (front is_plain text)) ≡ front is_plain text)
-plain_pieces [] = (tt, refl, refl)
-plain_pieces (c ∷ cs) =
-    let r = plain_pieces cs in
-    elim (is_plain c) as (λ (b : Bool). is_plain c ≡ b → AllByRecursion IsPiece (map plain (cond b (c ∷ front is_plain cs) [])) × (flat_map piece_text (map plain (cond b (c ∷ front is_plain cs) [])) ≡ cond b (c ∷ front is_plain cs) []) × (map piece_char (map plain (cond b (c ∷ front is_plain cs) [])) ≡ cond b (c ∷ front is_plain cs) [])) [
-      | true ↦ λ e. ((plain_is_piece c e, r.0), ap (λ (l : List ℕ). c ∷ l) r.1, ap (λ (l : List ℕ). c ∷ l) r.2)
-      | false ↦ λ e. (tt, refl, refl)
-    ] refl
+-- a front whose characters all stand for themselves
+module _ (test : ℕ → Bool) (plain_only : (c : ℕ) → test c ≡ true → is_plain c ≡ true) where
+  -- as pieces
+  plain_pieces : (text : List ℕ) → AllByRecursion IsPiece (map plain (front test text)) × (flat_map piece_text (map plain (front test text)) ≡ front test text) × (map piece_char (map plain (front test text)) ≡ front test text)
+  plain_pieces [] = (tt, refl, refl)
+  plain_pieces (c ∷ cs) =
+      let r = plain_pieces cs in
+      elim (test c) as (λ (b : Bool). test c ≡ b → AllByRecursion IsPiece (map plain (cond b (c ∷ front test cs) [])) × (flat_map piece_text (map plain (cond b (c ∷ front test cs) [])) ≡ cond b (c ∷ front test cs) []) × (map piece_char (map plain (cond b (c ∷ front test cs) [])) ≡ cond b (c ∷ front test cs) [])) [
+        | true ↦ λ e. ((plain_is_piece c (plain_only c e), r.0), ap (λ (l : List ℕ). c ∷ l) r.1, ap (λ (l : List ℕ). c ∷ l) r.2)
+        | false ↦ λ e. (tt, refl, refl)
+      ] refl
 
--- the front that stands for itself
-pub reads_plain : (text written left more rest : List ℕ) → HasRead text written left → rest ≡ behind is_plain left → more ≡ written ++ encode_utf8_all (front is_plain left) → HasRead text more rest
-reads_plain text written left more rest h behind_is is =
-    let plain_front = plain_pieces left in
-    let split : left ≡ flat_map piece_text (map plain (front is_plain left)) ++ rest = rw (plain_front.1, behind_is, front-append-behind is_plain left) refl in
-    reads_more text written left more rest (map plain (front is_plain left)) h plain_front.0 split (is ∙ rw plain_front.2 refl)
+  pub reads_plain : (text written left more rest : List ℕ) → HasRead text written left → rest ≡ behind test left → more ≡ written ++ encode_utf8_all (front test left) → HasRead text more rest
+  reads_plain text written left more rest h behind_is is =
+      let plain_front = plain_pieces left in
+      let split : left ≡ flat_map piece_text (map plain (front test left)) ++ rest = rw (plain_front.1, behind_is, front-append-behind test left) refl in
+      reads_more text written left more rest (map plain (front test left)) h plain_front.0 split (is ∙ rw plain_front.2 refl)
 
 -- what was read begins whatever string stands there
 pub record GoesOn (written left characters rest : List ℕ) : Type 0 where

@@ -25,7 +25,7 @@ module _ (test : ℕ → Bool) (stops : test 0 ≡ false) (cut : (bytes : List �
   pub drop_front : (text : List ℕ) → drop (length (front test text)) text ≡ behind test text
   drop_front text = ap (drop (length (front test text))) (sym (front-append-behind test text)) ∙ drop-append_seam (front test text) (behind test text)
 
-  take_front : (text : List ℕ) → take (length (front test text)) text ≡ front test text
+  pub take_front : (text : List ℕ) → take (length (front test text)) text ≡ front test text
   take_front text = ap (take (length (front test text))) (sym (front-append-behind test text)) ∙ take_at (front test text) (behind test text) (length (front test text)) refl
 
   -- the bytes may be cut there

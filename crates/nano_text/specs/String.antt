@@ -1,6 +1,6 @@
 -- String lexemes: a quote, pieces, a quote. What a piece is, how it is written, and which character
 -- it stands for.
-use Rattle.std.specs.Prelude.{◌≡◌, ◌≢◌, ℕ, ◌+◌, ◌-◌, ◌*◌, ◌<◌, ◌≤◌, ◌==◌, ◌⊎◌, ◌&&◌, not, Bool}
+use Rattle.std.specs.Prelude.{◌≡◌, ◌≢◌, ℕ, ◌+◌, ◌-◌, ◌*◌, ◌<◌, ◌≤◌, ◌==◌, ◌⊎◌, ◌&&◌, not, nat_le, Bool}
 use Rattle.std.specs.Prelude.{true, List, [], ◌∷◌, ◌++◌, flat_map, map, if◌then◌else◌}
 use Rattle.std.specs.Char.{digit_value, is_ascii_hexdigit}
 use Rattle.std.specs.List.{AllByRecursion}
@@ -15,6 +15,10 @@ pub record CodeUnit : Type 0 where
 -- a character that stands for itself: no quote, no backslash, no NUL
 abbrev pub is_plain : ℕ → Bool
 is_plain c = not (c == 34) && (not (c == 92) && not (c == 0))
+
+-- the same, and no control character
+abbrev pub is_plain_in_line : ℕ → Bool
+is_plain_in_line c = nat_le 32 c && is_plain c
 
 pub data Piece : Type 0 where
   -- a character itself

@@ -6,6 +6,7 @@
 //! `Chars` holds those that follow: together they are the text that is still to be read.
 #![tactic(auto)]
 
+mod body;
 mod digits;
 mod keep;
 pub mod laws;

@@ -7,17 +7,14 @@ ghost use Rattle.std.specs.List.{AllWithin};
 ghost use Rattle.nano_text.specs.Front.{front, behind};
 ghost use Rattle.nano_text.specs.Outcomes.{Appends, Counts};
 ghost use Rattle.nano_text.specs.Place.{IsInLine, text_at};
-ghost use Rattle.nano_text.specs.String.{CodeUnit, IsHex, IsPiece, IsString, Piece, escaped_char};
+ghost use Rattle.nano_text.specs.String.{CodeUnit, IsHex, IsPiece, IsString, Piece};
 ghost use Rattle.nano_text.specs.String.{is_plain, piece_char, piece_text, unit_text, unit_value};
 
+use crate::body::{escaped_char, read_at_once};
 use crate::number::Fault;
 use crate::place::Place;
 use std::alloc::AllocError;
 use std::str::Chars;
-
-const BACKSPACE: char = '\u{8}';
-
-const FORM_FEED: char = '\u{c}';
 
 /// Whether a character, or a byte of UTF-8, stands for itself in a string. Most come behind the
 /// backslash, so that is asked first.
@@ -145,21 +142,6 @@ fn take_unicode(p: &mut Place, i: &mut Chars<'_>) -> Option<char>
     char::from_u32(0x10000 + (lead - 0xD800) * 0x400 + (trail - 0xDC00))
 }
 
-/// The character that a backslash and this character stand for.
-fn escaped_char(c: char) -> char
-    ensures { result ≡ escaped_char c }
-{
-    match c {
-        'n' => '\n',
-        'r' => '\r',
-        't' => '\t',
-        'b' => BACKSPACE,
-        'f' => FORM_FEED,
-        '0' => '\0',
-        _ => c,
-    }
-}
-
 /// Takes an escape, of which the backslash is current, and answers the character that it stands
 /// for.
 fn take_escape(p: &mut Place, i: &mut Chars<'_>) -> Option<char>
@@ -182,6 +164,42 @@ fn take_escape(p: &mut Place, i: &mut Chars<'_>) -> Option<char>
     let c = escaped_char(p.cur);
     p.next(i);
     Some(c)
+}
+
+/// Reads the string lexeme that begins at the current character, piece by piece.
+#[cold]
+#[inline(never)]
+fn read_pieces(p: &mut Place, i: &mut Chars<'_>, strbuf: &mut String) -> Result<(), Fault>
+    ensures found { OnOk result ((characters : List ℕ)
+        × IsString (text_at p.old i.old) characters (text_at p.new i.new)
+        × (string_bytes strbuf.new ≡ encode_utf8_all characters)) }
+    ensures place { OnOk result (Counts p.old i.old p.new i.new) }
+    ensures memory { result ≡ Err Fault.Memory → (characters rest : List ℕ)
+        → IsString (text_at p.old i.old) characters rest
+        → string_capacity strbuf.old < length (encode_utf8_all characters) }
+    ensures malformed { result ≡ Err Fault.Malformed → (characters rest : List ℕ)
+        → IsString (text_at p.old i.old) characters rest → ⊥ }
+{
+    strbuf.clear();
+    if p.cur != '"' {
+        return Err(Fault::Malformed);
+    }
+    p.next(i);
+    'pieces: while p.cur != '"' {
+        if p.cur == '\0' {
+            return Err(Fault::Malformed);
+        }
+        if p.cur != '\\' {
+            take_plain(p, i, strbuf)?;
+            continue;
+        }
+        let Some(c) = take_escape(p, i) else {
+            return Err(Fault::Malformed);
+        };
+        strbuf.push(c)?;
+    }
+    p.next(i);
+    Ok(())
 }
 
 /// Reads the string lexeme that begins at the current character. Its text is left in `strbuf`.
@@ -211,24 +229,12 @@ pub fn read_string(p: &mut Place, i: &mut Chars<'_>, strbuf: &mut String) -> Res
     ensures malformed { result ≡ Err Fault.Malformed → (characters rest : List ℕ)
         → IsString (text_at p.old i.old) characters rest → ⊥ }
 {
-    strbuf.clear();
-    if p.cur != '"' {
-        return Err(Fault::Malformed);
+    if read_at_once(p, i, strbuf) {
+        return Ok(());
     }
-    p.next(i);
-    'pieces: while p.cur != '"' {
-        if p.cur == '\0' {
-            return Err(Fault::Malformed);
-        }
-        if p.cur != '\\' {
-            take_plain(p, i, strbuf)?;
-            continue;
-        }
-        let Some(c) = take_escape(p, i) else {
-            return Err(Fault::Malformed);
-        };
-        strbuf.push(c)?;
-    }
-    p.next(i);
-    Ok(())
+    // The place of the caller stays in registers where no address of it is handed out.
+    let mut place = *p;
+    let read = read_pieces(&mut place, i, strbuf);
+    *p = place;
+    read
 }

@@ -1,7 +1,7 @@
 use Rattle.std.proofs.Common.{◌≤◌, length, string_bytes, string_capacity}
 use Rattle.nano_text.specs.Place.{Passes, held, text_at}
 use Rattle.nano_text.proofs.Strings.{HasRead}
-use Rattle.nano_text.proofs.string.read_string.Given as goal
+use Rattle.nano_text.proofs.string.read_pieces.Given as goal
 
 abbrev pub invariant-pieces : goal.invariant-pieces
 invariant-pieces l = record {

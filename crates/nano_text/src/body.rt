@@ -1,0 +1,141 @@
+// Strings of plain characters and short escapes in one line, which nearly all are: they are read at
+// once. What is odd is left to the pieces (`string`), with nothing taken.
+ghost use Rattle.std.specs.Prelude.{◌≡◌, ◌≢◌, ◌++◌, ◌∷◌, ◌<◌, ◌≤◌, true, false, IfSome};
+ghost use Rattle.std.specs.Prelude.{List, ℕ, count_by, string_bytes, string_capacity};
+ghost use Rattle.std.specs.Prelude.{encode_utf8_all, length};
+ghost use Rattle.nano_text.specs.Front.{front};
+ghost use Rattle.nano_text.specs.Outcomes.{Counts};
+ghost use Rattle.nano_text.specs.Place.{begins_character, text_at};
+ghost use Rattle.nano_text.specs.String.{IsString, escaped_char, is_plain_in_line};
+
+use crate::place::Place;
+use std::str::Chars;
+
+const BACKSPACE: char = '\u{8}';
+
+const FORM_FEED: char = '\u{c}';
+
+/// Whether a byte of UTF-8 is of a character that stands for itself in a string, and in its line.
+fn is_plain_in_line(byte: u8) -> bool
+    ensures { result ≡ is_plain_in_line byte }
+{
+    byte >= b' ' && byte != b'"' && byte != b'\\'
+}
+
+/// Whether a character begins with this byte of UTF-8.
+fn begins_character(byte: u8) -> bool
+    ensures { result ≡ begins_character byte }
+{
+    byte < 0x80 || 0xC0 <= byte
+}
+
+/// The longest front of some bytes that stands for itself in its line.
+#[derive(Clone, Copy)]
+struct PlainRun {
+    /// How many bytes it has.
+    len: usize,
+    /// How many characters.
+    columns: usize,
+}
+
+/// Measures the bytes before the first that is odd.
+#[inline(always)]
+fn plain_run(bytes: &[u8]) -> PlainRun
+    ensures len { result.len ≡ length (front is_plain_in_line bytes.now) }
+    ensures columns { result.columns
+        ≡ count_by begins_character (front is_plain_in_line bytes.now) }
+{
+    let mut columns = 0;
+    for (len, byte) in bytes.iter().enumerate() {
+        if !is_plain_in_line(*byte) {
+            return PlainRun { len, columns };
+        }
+        if begins_character(*byte) {
+            columns += 1;
+        }
+    }
+    PlainRun {
+        len: bytes.len(),
+        columns,
+    }
+}
+
+/// The character that a backslash and this character stand for.
+pub(crate) fn escaped_char(c: char) -> char
+    ensures { result ≡ escaped_char c }
+{
+    match c {
+        'n' => '\n',
+        'r' => '\r',
+        't' => '\t',
+        'b' => BACKSPACE,
+        'f' => FORM_FEED,
+        '0' => '\0',
+        _ => c,
+    }
+}
+
+/// Whether these bytes begin with a quote.
+fn begins_with_quote(bytes: &[u8]) -> bool
+    ensures { result ≡ true → (rest : List ℕ) × (bytes.now ≡ 34 ∷ rest) }
+{
+    match bytes.first() {
+        Some(byte) => *byte == b'"',
+        None => false,
+    }
+}
+
+/// The character that a backslash and one character of ASCII stand for, if these bytes begin with
+/// them.
+fn short_escape(bytes: &[u8]) -> Option<char>
+    ensures { IfSome result (λ c. (escaped : ℕ) × (rest : List ℕ)
+        × (bytes.now ≡ 92 ∷ (escaped ∷ rest)) × (32 ≤ escaped) × (escaped < 128)
+        × (escaped ≢ 117) × (c ≡ escaped_char escaped)) }
+{
+    let [backslash, escaped] = *bytes.first_chunk::<2>()?;
+    if backslash != b'\\' || escaped < b' ' || escaped >= 0x80 || escaped == b'u' {
+        return None;
+    }
+    Some(escaped_char(char::from(escaped)))
+}
+
+/// Reads the string that begins at the current character, and answers whether that could be done at
+/// once. Where it couldn't, nothing is taken, and `strbuf` may hold anything.
+#[inline(always)]
+pub(crate) fn read_at_once(p: &mut Place, i: &mut Chars<'_>, strbuf: &mut String) -> bool
+    ensures found { result ≡ true → (characters : List ℕ)
+        × IsString (text_at p.old i.old) characters (text_at p.new i.new)
+        × (string_bytes strbuf.new ≡ encode_utf8_all characters) }
+    ensures place { result ≡ true → Counts p.old i.old p.new i.new }
+    ensures stays { result ≡ false → (p.new ≡ p.old) × (i.new ≡ i.old) }
+    ensures capacity { string_capacity strbuf.old ≤ string_capacity strbuf.new }
+{
+    if p.cur != '"' {
+        return false;
+    }
+    strbuf.clear();
+    let mut col = p.col;
+    let mut rest = i.as_str();
+    'runs: loop {
+        let run = plain_run(rest.as_bytes());
+        let (plain, behind) = rest.split_at(run.len);
+        let Ok(()) = strbuf.push_str(plain) else {
+            return false;
+        };
+        col = col.saturating_add(run.columns);
+        if begins_with_quote(behind.as_bytes()) {
+            p.col = col.saturating_add(1);
+            *i = behind.split_at(1).1.chars();
+            p.next(i);
+            return true;
+        }
+        let Some(c) = short_escape(behind.as_bytes()) else {
+            return false;
+        };
+        let Ok(()) = strbuf.push(c) else {
+            return false;
+        };
+        col = col.saturating_add(2);
+        rest = behind.split_at(2).1;
+    }
+}
