@@ -3,7 +3,7 @@ use Rattle.std.proofs.lemmas.Str.{encode_ascii}
 use Rattle.std.specs.Prelude.{is_ok, if◌then◌else◌}
 use Rattle.nano_text.specs.String.{piece_text}
 use Rattle.json_tokens.specs.Written.{written_piece}
-use Rattle.json_tokens.proofs.strings.append_character.Goals as goal
+use Rattle.json_tokens.proofs.strings.JsonTextEscaping.append_character.Goals as goal
 
 -- the bytes of a character as it is written
 abbrev bytes_of : ℕ → List ℕ
