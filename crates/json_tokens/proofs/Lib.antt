@@ -4,4 +4,3 @@ pub mod Cuts
 pub mod Room
 pub mod Shorter
 pub mod BracketCounts
-pub mod WrittenRuns

@@ -1,8 +1,10 @@
 -- What is written of scalars: the characters, and the tokens that they are cut into.
 use Rattle.std.specs.Prelude.{◌≡◌, ℕ, ◌/◌, ◌%◌, ◌==◌, ◌||◌, ◌&&◌, not, nat_lt, ℤ, pos, negsuc, Bool}
-use Rattle.std.specs.Prelude.{true, false, List, [], ◌∷◌, ◌++◌, if◌then◌else◌, codes, chars}
+use Rattle.std.specs.Prelude.{true, false, List, [], ◌∷◌, ◌++◌, if◌then◌else◌, codes, chars, refl}
 use Rattle.std.specs.Char.{digit_char}
 use Rattle.std.specs.List.{flat_map}
+use Rattle.std.proofs.Common.{arith}
+use Rattle.std.proofs.lemmas.Bool.Decides.{nat_tests}
 use Rattle.nano_text.specs.String.{Piece, CodeUnit, plain, escaped, scalar, piece_text}
 use Rattle.json_tokens.specs.Token.{Token, u64, i64}
 use Rattle.json_tokens.specs.Cut.{is_space}
@@ -60,3 +62,19 @@ written_characters cs = flat_map (λ c. piece_text (written_piece c)) cs
 -- UTF-8
 abbrev pub written_text : List ℕ → List ℕ
 written_text bytes = 34 ∷ (written_characters (chars bytes) ++ 34 ∷ [])
+
+-- ---- laws
+
+-- a character that is written as itself is no escape
+pub written_as_itself : (c : ℕ) → stands_as_itself c ≡ true
+    → piece_text (written_piece c) ≡ c ∷ []
+written_as_itself c h =
+    let e8 : c == 8 ≡ false = grind (arith, nat_tests) in
+    let e12 : c == 12 ≡ false = grind (arith, nat_tests) in
+    let e10 : c == 10 ≡ false = grind (arith, nat_tests) in
+    let e13 : c == 13 ≡ false = grind (arith, nat_tests) in
+    let e9 : c == 9 ≡ false = grind (arith, nat_tests) in
+    let e92 : c == 92 ≡ false = grind (arith, nat_tests) in
+    let e34 : c == 34 ≡ false = grind (arith, nat_tests) in
+    let control : is_control c ≡ false = grind (arith, nat_tests) in
+    rw (e8, e12, e10, e13, e9, e92, e34, control) refl

@@ -1,5 +1,6 @@
 // How a reader's state takes the next token: white space, and one lexeme.
 ghost use Rattle.std.specs.Prelude.{◌≡◌, ◌≢◌, ◌<◌, ℕ, List, OnOk, OnErr, IfErr, Some, None, length, false};
+ghost use Rattle.std.specs.Prelude.{IfSome};
 ghost use Rattle.std.specs.Prelude.{string_bytes, string_capacity};
 ghost use Rattle.std.specs.Option.{option_map};
 ghost use Rattle.nano_text.specs.Front.{front, behind};
@@ -38,10 +39,31 @@ pub(crate) enum Refusal {
 impl DeJsonState {
     /// Takes the next token. A refusal leaves the pending token, and the place where it was found.
     ///
-    /// It is one function apart, and what makes errors of its answer is inlined in its callers: so
-    /// no error is written where a token is taken.
-    #[inline(never)]
+    /// Behind most values and names a comma, a colon or a closing curly bracket follows at once: it
+    /// is taken here, inlined, and what makes errors is inlined in the callers too. Any other token
+    /// is taken by one function apart, so that no error is written where a token is taken.
+    #[inline(always)]
     pub(crate) fn advance(&mut self, i: &mut Chars<'_>) -> Result<(), Refusal>
+        ensures taken { OnOk result
+            (Cut (live self.old.cur i.old) (pending self.new) (live self.new.cur i.new)) }
+        ensures buffers { OnOk result (KeepsOtherBuffers self.old self.new) }
+        ensures place { OnOk result (Counts self.old i.old self.new i.new) }
+        ensures refused { IfErr result (λ r. r ≢ Refusal.Memory
+            → NothingCut (live self.old.cur i.old)) }
+        ensures room { IfErr result (λ r. r ≡ Refusal.Memory
+            → NoRoom self.old (live self.old.cur i.old)) }
+    {
+        if let Some(tok) = separator(self.cur) {
+            self.next(i);
+            self.tok = tok;
+            return Ok(());
+        }
+        self.take_token(i)
+    }
+
+    /// Takes the next token, whatever it is.
+    #[inline(never)]
+    fn take_token(&mut self, i: &mut Chars<'_>) -> Result<(), Refusal>
         ensures taken { OnOk result
             (Cut (live self.old.cur i.old) (pending self.new) (live self.new.cur i.new)) }
         ensures buffers { OnOk result (KeepsOtherBuffers self.old self.new) }
@@ -270,17 +292,29 @@ fn starts_number(c: char) -> bool
     c.is_ascii_digit() || c == '-' || c == '+'
 }
 
+/// The mark that a character is, if it is one that follows a value or a name.
+#[inline(always)]
+fn separator(c: char) -> Option<DeJsonTok>
+    ensures { IfSome result (λ t. (strbuf numbuf : List ℕ)
+        → mark_of c ≡ Some (token_of t strbuf numbuf)) }
+{
+    match c {
+        ',' => Some(DeJsonTok::Comma),
+        ':' => Some(DeJsonTok::Colon),
+        '}' => Some(DeJsonTok::CurlyClose),
+        _ => None,
+    }
+}
+
 /// The mark that a character is.
 #[inline]
 fn mark(c: char) -> Option<DeJsonTok>
     ensures { (strbuf numbuf : List ℕ)
         → option_map (λ t. token_of t strbuf numbuf) result ≡ mark_of c }
 {
-    if c == ',' {
-        return Some(DeJsonTok::Comma);
-    }
     match c {
         ':' => Some(DeJsonTok::Colon),
+        ',' => Some(DeJsonTok::Comma),
         '[' => Some(DeJsonTok::BlockOpen),
         ']' => Some(DeJsonTok::BlockClose),
         '{' => Some(DeJsonTok::CurlyOpen),

@@ -1,5 +1,6 @@
 -- Writing a text in runs: the longest front that is written as itself, then one character that isn't.
-use Rattle.std.proofs.Common.{◌≡◌, ℕ, ◌≤◌, List, [], ◌∷◌, ◌++◌, Bool, true, false, cond, chars, encode_utf8, encode_utf8_all, IsUtf8, length, take, drop, flat_map, refl, ap, sym, ◌∙◌, subst, append_assoc, append-nil, arith}
+use Rattle.std.proofs.Common.{◌≡◌, ℕ, ◌≤◌, List, [], ◌∷◌, ◌++◌, Bool, true, false, cond, chars, encode_utf8, encode_utf8_all, IsUtf8, length, take, drop, flat_map, Result, Ok, Err, OnOk, refl, ap, sym, ◌∙◌, subst, append_assoc, append-nil, arith}
+use Rattle.std.specs.Prelude.{is_ok, if◌then◌else◌}
 use Rattle.std.proofs.lemmas.List.{take_at, drop_at}
 use Rattle.std.proofs.lemmas.Str.{chars-nil, encodes-append, chars_past_char}
 use Rattle.nano_text.specs.Front.{front, behind}
@@ -73,3 +74,9 @@ runs_more before out more text left rest h k = (
   k.1 ∙ (ap (λ l. l ++ k.0) h.1 ∙ append_assoc before h.0 k.0),
   h.2 ∙ (ap (λ l. h.0 ++ l) k.2 ∙ sym (append_assoc h.0 k.0 rest)),
 )
+
+-- what a write of an escape leaves, where it was not refused
+pub escape_appended : {S E : Type 0} (written : ℕ → List ℕ) (r : Result S E) (c d : ℕ) (new old bytes : List ℕ) → c ≡ d → encode_utf8_all (written d) ≡ bytes
+    → new ≡ (if is_ok r then old ++ bytes else old) → OnOk r (new ≡ old ++ encode_utf8_all (written c))
+escape_appended written (Ok s) c d new old bytes e is h = h ∙ ap (λ (w : List ℕ). old ++ w) (sym (ap (λ (x : ℕ). encode_utf8_all (written x)) e ∙ is))
+escape_appended written (Err x) c d new old bytes e is h = tt

@@ -172,7 +172,11 @@ pub fn read_number(p: &mut Place, i: &mut Chars<'_>, numbuf: &mut String) -> Res
         stand_behind(p, i, ahead);
         return Ok(Number::U64(ahead.value));
     }
-    read_other(p, i, numbuf)
+    // A copy is lent, so that the place itself stays in registers where it is not.
+    let mut place = *p;
+    let read = read_other(&mut place, i, numbuf);
+    *p = place;
+    read
 }
 
 /// Reads any number lexeme, of which few are whole numbers without a minus.

@@ -3,7 +3,7 @@ use Rattle.std.proofs.Common.{◌≡◌, ◌≢◌, ℕ, List, [], ◌∷◌, �
 use Rattle.std.proofs.lemmas.Bool.{or_left}
 use Rattle.std.proofs.lemmas.Slice.Eq.{bytes_eq-Decides}
 use Rattle.std.specs.List.{AllByRecursion}
-use Rattle.nano_text.proofs.Fronts.{front_stop, behind_stop}
+use Rattle.nano_text.proofs.Fronts.{front_all, front_split, front_stop, behind_stop}
 use Rattle.nano_text.proofs.Numbers.{IsNumber-unique}
 use Rattle.nano_text.proofs.Strings.{IsString-unique}
 use Rattle.nano_text.specs.declared.number.Number.{Number}
@@ -21,23 +21,6 @@ use Rattle.ron_tokens.proofs.Skipping.{skips_one_way}
 
 some_injective : {A : Type 0} (x y : A) → Some x ≡ Some y → x ≡ y
 some_injective x y e = cc e
-
--- the longest front of a list of such characters and what doesn't go on with them
-front_all : (p : ℕ → Bool) (w rest : List ℕ) → AllByRecursion (λ c. p c ≡ true) w → first_is p rest ≡ false → (front p (w ++ rest) ≡ w) × (behind p (w ++ rest) ≡ rest)
-front_all p [] rest h e = (front_stop p rest e, behind_stop p rest e)
-front_all p (c ∷ w) rest h e =
-    let r = front_all p w rest h.1 e in
-    (rw h.0 (ap (λ (l : List ℕ). c ∷ l) r.0), rw h.0 r.1)
-
--- a text is its longest front and what is behind it
-front_split : (p : ℕ → Bool) (t : List ℕ) → (t ≡ front p t ++ behind p t) × AllByRecursion (λ c. p c ≡ true) (front p t) × (first_is p (behind p t) ≡ false)
-front_split p [] = (refl, tt, refl)
-front_split p (c ∷ cs) =
-    let r = front_split p cs in
-    elim (p c) as (λ (b : Bool). p c ≡ b → (c ∷ cs ≡ cond b (c ∷ front p cs) [] ++ cond b (behind p cs) (c ∷ cs)) × AllByRecursion (λ c. p c ≡ true) (cond b (c ∷ front p cs) []) × (first_is p (cond b (behind p cs) (c ∷ cs)) ≡ false)) [
-      | true ↦ λ e. (ap (λ (l : List ℕ). c ∷ l) r.0, (e, r.1), r.2)
-      | false ↦ λ e. (refl, tt, e)
-    ] refl
 
 pick : {A : Type 0} (b : Bool) (x y z : A) → cond b x y ≡ z → ((b ≡ true) × (x ≡ z)) ⊎ ((b ≡ false) × (y ≡ z))
 pick true x y z e = inl (refl, e)
@@ -74,6 +57,15 @@ mark_lexeme c cs t e =
         ]
       ]
     ]
+
+-- a mark is cut where it stands
+pub mark_cut : (c : ℕ) (cs : List ℕ) (t : Token) → mark_of c ≡ Some t → Cut (c ∷ cs) t cs
+mark_cut c cs t e =
+    record { gap = []; body = c ∷ cs; split = refl; skipped = record { skips = []; good = tt; is = refl }; lexeme = mark (mark_lexeme c cs t e) }
+
+-- NUL is no mark
+pub mark_some : (c : ℕ) (t : Token) → mark_of c ≡ Some t → c ≡ 0 → ⊥
+mark_some c t e zero = let none = sym (ap mark_of zero) ∙ e in cc none
 
 -- a mark is one character, which says which token it is
 mark_first : (t : Token) (text rest : List ℕ) → IsMark t text rest → (c : ℕ) × (text ≡ c ∷ rest) × (mark_of c ≡ Some t)

@@ -21,6 +21,7 @@ use std::str::Chars;
 /// at the end of the text.
 impl DeRonState {
     /// Takes the next token where a colon is pending.
+    #[inline]
     pub fn colon(&mut self, alloc: Global, i: &mut Chars<'_>) -> Result<(), DeRonErr>
         ensures taken { OnOk result (Takes (colon ∷ []) self.old i.old self.new i.new) }
         ensures buffers { OnOk result (KeepsOtherBuffers self.old self.new) }

@@ -1,28 +1,8 @@
-use Rattle.std.proofs.Common.{sym, subst, List, ℕ}
-use Rattle.std.proofs.lemmas.Result.{on_ok_weaker, IfErr-weaker}
-use Rattle.nano_text.specs.Place.{live}
-use Rattle.nano_text.specs.PlaceLaws.{passes_append}
-use Rattle.json_tokens.specs.Cut.{IsLexeme}
-use Rattle.json_tokens.specs.State.{pending}
-use Rattle.json_tokens.proofs.Cuts.{lexeme_cut, cut_lexeme}
-use Rattle.json_tokens.proofs.Room.{outgrows_same}
+use Rattle.std.proofs.Common.{string_bytes}
+use Rattle.json_tokens.proofs.Cuts.{mark_cut, mark_some}
 use Rattle.json_tokens.proofs.state.DeJsonState.advance.Goals as goal
 
-pub returns-clause-taken : goal.returns-clause-taken
-returns-clause-taken c =
-    let new = c.take_lexeme.new in
-    on_ok_weaker c.take_lexeme.result (λ h. lexeme_cut _ _ _ (subst (λ (text : List ℕ). IsLexeme (pending new.self) text (live new.self.cur new.i)) c.skip_space.ensures.live h)) c.take_lexeme.ensures.taken
-
-pub returns-clause-refused : goal.returns-clause-refused
-returns-clause-refused c =
-    IfErr-weaker c.take_lexeme.result _ _ (λ r h known t rest l. h known t rest (subst (λ (text : List ℕ). IsLexeme t text rest) (sym c.skip_space.ensures.live) (cut_lexeme _ t rest l))) c.take_lexeme.ensures.refused
-
-pub returns-clause-place : goal.returns-clause-place
-returns-clause-place c = on_ok_weaker c.take_lexeme.result (λ h. passes_append c.skip_space.ensures.place h) c.take_lexeme.ensures.place
-
-pub returns-clause-room : goal.returns-clause-room
-returns-clause-room c =
-    let e = c.skip_space.ensures in
-    IfErr-weaker c.take_lexeme.result _ _ (λ r h for_memory t rest l.
-    let one = subst (λ (text : List ℕ). IsLexeme t text rest) (sym e.live) (cut_lexeme _ t rest l) in
-    outgrows_same c.args.self.now c.skip_space.new.self t e.strbuf e.numbuf e.identbuf (h for_memory t rest one)) c.take_lexeme.ensures.room
+pub returns-in-Some-clause-taken : goal.returns-in-Some-clause-taken
+returns-in-Some-clause-taken c =
+    let is = c.in-Some.ensures (string_bytes c.next.new.self.strbuf) (string_bytes c.next.new.self.numbuf) in
+    rw (c.next.ensures.taken (mark_some _ _ is)) (mark_cut _ _ _ is)

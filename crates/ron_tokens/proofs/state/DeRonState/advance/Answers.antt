@@ -1,32 +1,8 @@
-use Rattle.std.proofs.Common.{refl}
-use Rattle.std.proofs.lemmas.Result.{on_ok_weaker, IfErr-weaker}
-use Rattle.nano_text.specs.PlaceLaws.{passes_append}
-use Rattle.ron_tokens.proofs.BehindGaps.{lexeme_cut, cut_lexeme}
-use Rattle.ron_tokens.proofs.Room.{outgrows_same}
-use Rattle.ron_tokens.proofs.Skipping.{first_stops}
+use Rattle.std.proofs.Common.{string_bytes}
+use Rattle.ron_tokens.proofs.Cuts.{mark_cut, mark_some}
 use Rattle.ron_tokens.proofs.state.DeRonState.advance.Goals as goal
 
-pub returns-then-not-skip_gaps-clause-refused : goal.returns-then-not-skip_gaps-clause-refused
-returns-then-not-skip_gaps-clause-refused c known t rest cut = c.if-not-skip_gaps.ensures.refused refl t rest cut
-
-pub returns-clause-taken : goal.returns-clause-taken
-returns-clause-taken c =
-    let gap = c.if-not-skip_gaps.ensures.skipped refl in
-    on_ok_weaker c.take_lexeme.result (λ h. lexeme_cut _ _ _ _ gap h) c.take_lexeme.ensures.taken
-
-pub returns-clause-place : goal.returns-clause-place
-returns-clause-place c = on_ok_weaker c.take_lexeme.result (λ h. passes_append c.skip_gaps.ensures.place h) c.take_lexeme.ensures.place
-
-pub returns-clause-refused : goal.returns-clause-refused
-returns-clause-refused c =
-    let gap = c.if-not-skip_gaps.ensures.skipped refl in
-    let stop = first_stops _ (c.if-not-skip_gaps.ensures.stops refl) in
-    IfErr-weaker c.take_lexeme.result _ _ (λ r h known t rest l. h known t rest (cut_lexeme _ _ rest t gap stop l)) c.take_lexeme.ensures.refused
-
-pub returns-clause-room : goal.returns-clause-room
-returns-clause-room c =
-    let e = c.skip_gaps.ensures.kept in
-    let gap = c.if-not-skip_gaps.ensures.skipped refl in
-    let stop = first_stops _ (c.if-not-skip_gaps.ensures.stops refl) in
-    IfErr-weaker c.take_lexeme.result _ _ (λ r h for_memory t rest l.
-    outgrows_same c.args.self.now c.skip_gaps.new.self t e.strbuf e.numbuf e.identbuf (h for_memory t rest (cut_lexeme _ _ rest t gap stop l))) c.take_lexeme.ensures.room
+pub returns-in-Some-clause-taken : goal.returns-in-Some-clause-taken
+returns-in-Some-clause-taken c =
+    let is = c.in-Some.ensures (string_bytes c.next.new.self.strbuf) (string_bytes c.next.new.self.numbuf) (string_bytes c.next.new.self.identbuf) in
+    rw (c.next.ensures.taken (mark_some _ _ is)) (mark_cut _ _ _ is)
