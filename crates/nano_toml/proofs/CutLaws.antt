@@ -12,7 +12,7 @@ use Rattle.nano_toml.proofs.NumberCut.{same_taken}
 
 -- ---- what is cut is scanned
 
-at_lexeme : (from : List ℕ) (got : Taken) → lexeme_at from ≡ Some got → (behind_gaps false from ≡ from) × (next_behind_gaps from ≡ Some got)
+pub at_lexeme : (from : List ℕ) (got : Taken) → lexeme_at from ≡ Some got → (behind_gaps false from ≡ from) × (next_behind_gaps from ≡ Some got)
 at_lexeme [] got h = cc h
 at_lexeme (c ∷ cs) got h = let n = lexeme_no_gap c cs got h in (gaps_stop (c ∷ cs) n.0 n.1, h)
 
@@ -52,17 +52,22 @@ scanned_nothing text h = (
 
 -- ---- a text is cut in one way
 
+same_token : (one two : Token) → a_token one ≡ a_token two → one ≡ two
+same_token one two e = cc
+
+token_not_end : (token : Token) → a_token token ≡ the_end → ⊥
+token_not_end token e = cc
+
 pub cut_one_way : (text : List ℕ) (one two : Token) (rest left : List ℕ) → Cut text one rest → Cut text two left → (one ≡ two) × (rest ≡ left)
 cut_one_way text one two rest left h k =
     let same : record { next = a_token one; rest = rest } ≡ record { next = a_token two; rest = left } = same_taken (sym (cut_scanned text rest one h) ∙ cut_scanned text left two k) in
     let next : a_token one ≡ a_token two = ap (λ (x : Taken). x.next) same in
-    (cc next, ap (λ (x : Taken). x.rest) same)
+    (same_token one two next, ap (λ (x : Taken). x.rest) same)
 
 pub cut_not_end : (text : List ℕ) (token : Token) (rest : List ℕ) → Cut text token rest → CutEnd text → ⊥
 cut_not_end text token rest h k =
     let same : record { next = a_token token; rest = rest } ≡ record { next = the_end; rest = [] } = same_taken (sym (cut_scanned text rest token h) ∙ end_scanned text k) in
-    let next : a_token token ≡ the_end = ap (λ (x : Taken). x.next) same in
-    cc next
+    token_not_end token (ap (λ (x : Taken). x.next) same)
 
 pub cut_in_one_way : (text : List ℕ) → IsCutInOneWay text
 cut_in_one_way text = (cut_one_way text, cut_not_end text)

@@ -39,7 +39,7 @@ at_quote c cs e = rw e refl
 pub at_other : (c : ℕ) (cs : List ℕ) → starts_word c ≡ false → starts_number c ≡ false → is_quote c ≡ false → lexeme_at (c ∷ cs) ≡ mark_taken (mark_token c) cs
 at_other c cs w n q = rw (w, n, q) refl
 
-mark_cases : (c : ℕ) (token : Token) → mark_token c ≡ Some token → (c ≡ 44) ⊎ ((c ≡ 91) ⊎ ((c ≡ 93) ⊎ (c ≡ 61)))
+pub mark_cases : (c : ℕ) (token : Token) → mark_token c ≡ Some token → (c ≡ 44) ⊎ ((c ≡ 91) ⊎ ((c ≡ 93) ⊎ (c ≡ 61)))
 mark_cases c token h = elim (eqb_tells c 44) [
   | inl e ↦ inl e.1
   | inr e ↦

@@ -7,9 +7,9 @@ pub mod CutLength
 pub mod FrontLemmas
 pub mod GapCut
 pub mod Gaps
-pub mod HeaderCuts
 pub mod LexemeCut
 pub mod LiveText
+pub mod NameCut
 pub mod NextSteps
 pub mod NumberCut
 pub mod OneTable

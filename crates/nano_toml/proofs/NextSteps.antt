@@ -1,5 +1,5 @@
 -- The steps of the tokenizer, from the scan to what is cut.
-use Rattle.std.proofs.Common.{◌≡◌, ◌≢◌, ℕ, List, [], ◌∷◌, ◌==◌, ◌⊎◌, inl, inr, Bool, true, false, not, if◌then◌else◌, ne_eqb, eqb-true, subst, Option, Some, None, option_map, Result, Ok, Err, IfOk, IfErr, refl, ap, sym, ◌∙◌}
+use Rattle.std.proofs.Common.{◌≡◌, ◌≢◌, ℕ, List, [], ◌∷◌, ◌==◌, Bool, true, false, not, ne_eqb, Option, Some, None, option_map, Result, Ok, Err, IfOk, IfErr, refl, ap, sym, ◌∙◌}
 use Rattle.nano_toml.specs.declared.token.TomlTok.{TomlTok}
 use Rattle.nano_toml.specs.declared.fault.Fault.{Fault}
 use Rattle.nano_toml.specs.declared.fault.Fault.TheVariants.{Memory}
@@ -8,8 +8,8 @@ use Rattle.nano_toml.specs.Span.{begins, front, behind}
 use Rattle.nano_toml.specs.Token.{Token}
 use Rattle.nano_toml.specs.Taken.{Next, a_token, token_of, Took}
 use Rattle.nano_toml.specs.Word.{word_token}
-use Rattle.nano_toml.specs.Cut.{Cut, mark_token, CutsNothing}
-use Rattle.nano_toml.specs.Scan.{Taken, tail, behind_gaps, behind_one_quote, number_at, next_behind_gaps, next_at}
+use Rattle.nano_toml.specs.Cut.{mark_token, CutsNothing}
+use Rattle.nano_toml.specs.Scan.{Taken, behind_one_quote, number_at, next_behind_gaps, next_at}
 use Rattle.nano_toml.proofs.ByteTests.{start_test, number_test, quote_test, comma_test, open_test, close_test, equals_test, some_test}
 use Rattle.nano_toml.proofs.WordCut.{at_word}
 use Rattle.nano_toml.proofs.LexemeCut.{at_number, at_quote, at_other, string_taken, mark_taken}
@@ -58,28 +58,6 @@ no_mark_step [] b test some w n q m =
     let clash : false ≡ true = here ∙ rw (ne_eqb b 0 some) refl in
     cc clash
 no_mark_step (r ∷ rest) b test some w n q m = mark_step (r ∷ rest) rest r b refl test w n q ∙ mark_none (mark_token b) rest m
-
--- ---- a bracket that was taken
-
-begins_this : (k : ℕ) (now : List ℕ) → begins (λ d. d == k) now ≡ true → now ≡ k ∷ tail now
-begins_this k [] h = cc h
-begins_this k (c ∷ cs) h = ap (λ (d : ℕ). d ∷ cs) (eqb-true c k h)
-
-bracket_is_mark : (k : ℕ) → k ≡ 91 ⊎ k ≡ 93 → (starts_word k ≡ false) × (starts_number k ≡ false) × (is_quote k ≡ false)
-bracket_is_mark k (inl e) = rw e (refl, refl, refl)
-bracket_is_mark k (inr e) = rw e (refl, refl, refl)
-
-pub taken_bracket : (text now rest : List ℕ) (k : ℕ) (found : Bool) (token : Token) → now ≡ behind_gaps false text → found ≡ begins (λ d. d == k) now → rest ≡ (if found then tail now else now)
-    → found ≡ true → k ≡ 91 ⊎ k ≡ 93 → mark_token k ≡ Some token → Cut text token rest
-taken_bracket text now rest k found token skipped tells left is_here bracket mark =
-    let here : now ≡ k ∷ tail now = begins_this k now (sym tells ∙ is_here) in
-    let behind : rest ≡ tail now = subst (λ (b : Bool). rest ≡ (if b then tail now else now)) is_here left in
-    let odd = bracket_is_mark k bracket in
-    let some : Some (a_token token) ≡ option_map (λ t. a_token t) (mark_token k) = sym (ap (λ (m : Option Token). option_map (λ t. a_token t) m) mark) in
-    let at : next_behind_gaps now ≡ Some (record { next = a_token token; rest = tail now }) =
-    mark_next now (tail now) k here odd.0 odd.1 odd.2 ∙ mark_some (mark_token k) (tail now) (a_token token) some in
-    scanned_cut text (record { next = a_token token; rest = rest })
-    (ap next_behind_gaps (sym skipped) ∙ (at ∙ ap (λ (t : List ℕ). Some (record { next = a_token token; rest = t })) (sym behind)))
 
 -- ---- a result, and what it says of the cut
 

@@ -15,7 +15,7 @@ use Rattle.nano_toml.specs.Span.{begins, front, behind}
 use Rattle.nano_toml.proofs.LiveText.{live_none}
 use Rattle.nano_toml.proofs.Spans.{span_split}
 use Rattle.nano_toml.proofs.ByteTests.{some_test}
-use Rattle.nano_toml.proofs.Utf8Fronts.{begins_encodes, cut_behind_front, front_ascii, front_before_nul, behind_before_nul}
+use Rattle.nano_toml.proofs.Utf8Fronts.{begins_encodes, cut_behind_front, front_before_nul, behind_before_nul}
 
 -- ---- the first byte
 
@@ -105,10 +105,6 @@ run_of test h s text bytes n utf8 is same count =
       front_is = ap (λ (k : ℕ). take k (chars_rest s)) len ∙ (take_front test (chars_rest s) ∙ front_live test h s u);
       behind_is = λ t e. behind_live test h s t u (e ∙ (ap (λ (k : ℕ). drop k (chars_rest s)) len ∙ drop_front test (chars_rest s)));
     }
-
--- the same of a run of ASCII, whose characters are its bytes
-pub ascii_front : (test : ℕ → Bool) (s : Chars) (n : ℕ) → IsByteTest test → test 128 ≡ false → IsRun test s n → take n (chars_rest s) ≡ front test (live_of s)
-ascii_front test s n h narrow run = run.front_is ∙ front_ascii test h narrow (live_of s)
 
 -- ---- a line ends at its line feed, or where the text ends
 

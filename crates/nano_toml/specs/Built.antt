@@ -1,5 +1,6 @@
 -- The table of statements while it is built. Contracts of private functions alone name these words.
-use Rattle.std.specs.Prelude.{◌≡◌, ℕ, List, [], ◌∷◌, ◌++◌, Option, Some, None, option_map}
+use Rattle.std.proofs.Common.{Bor}
+use Rattle.std.specs.Prelude.{◌≡◌, ℕ, List, [], ◌∷◌, ◌++◌, Option, Some, None}
 use Rattle.std.specs.Prelude.{string_bytes, if◌then◌else◌}
 use Rattle.std.specs.Str.{bytes_eq}
 use Rattle.nano_toml.specs.Data.{Data, tables, Tables, no_tables, more_tables, Table, no_pairs, at}
@@ -63,13 +64,18 @@ Stands done root (Some key) table =
     (before behind : List Statement) × (done ≡ before ++ element key ∷ behind) × NoElement behind
     × IsTableOf before root × HasLast (pairs (before ++ element key ∷ []) behind) table
 
+-- the characters of a key, if there is one
+abbrev pub key_of : Option (Bor (List ℕ)) → Option (List ℕ)
+key_of None = None
+key_of (Some key) = Some key.now
+
 -- what was built of the statements
 pub record IsBuilt (done : List Statement) (builder : Builder) : Type 0 where
   pub in_scope : string_bytes builder.scope ≡ scope_of done
   pub lawful : NoneNamed done (root_pairs done)
   pub plain : ArePlain done
   pub stands : Stands done (table_view builder.root.entries)
-      (option_map string_bytes builder.key) (table_view builder.table.entries)
+      (key_of builder.key) (table_view builder.table.entries)
 
 -- the root is the table of all the statements
 pub record IsWhole (done : List Statement) (builder : Builder) : Type 0 where

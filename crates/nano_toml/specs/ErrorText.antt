@@ -26,6 +26,11 @@ Tells (fault.Unexpected token) text =
 Tells (fault.OtherKind key) text =
     text ≡ codes "Array header on another kind " ++ (string_bytes key ++ codes " ")
 
+-- the fault of a header `[[key]]` on a key that a pair gave
+abbrev pub IsOtherKind : Fault → List ℕ → Type 0
+IsOtherKind (fault.OtherKind text) key = string_bytes text ≡ key
+IsOtherKind e key = ⊥
+
 -- the text is the message of a fault
 abbrev pub IsMessage : List ℕ → Type 0
 IsMessage text = (fault : Fault) × Tells fault text

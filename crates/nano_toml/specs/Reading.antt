@@ -5,22 +5,22 @@ use Rattle.nano_toml.specs.Data.{Data, Values}
 use Rattle.nano_toml.specs.Statements.{Statement, scope, element, pair, Spells, scalar_of}
 use Rattle.nano_toml.specs.Taken.{Next, a_token, the_end, nothing_yet}
 use Rattle.nano_toml.specs.View.{view, values_view}
-use Rattle.nano_toml.specs.declared.headers.Header.{Header}
-use Rattle.nano_toml.specs.declared.headers.Header.TheVariants as header
+use Rattle.nano_toml.specs.declared.statements.Name.{Name}
+use Rattle.nano_toml.specs.declared.statements.Name.TheVariants as name
 use Rattle.nano_toml.specs.declared.statements.Statement.{Statement as Read}
 use Rattle.nano_toml.specs.declared.statements.Statement.TheVariants as read
 use Rattle.nano_toml.specs.declared.value.Toml.{Toml}
 
+-- the characters of a name
+abbrev pub name_view : Name → List ℕ
+name_view (name.Word word) = word.now
+name_view (name.Quoted text) = string_bytes text
+
 -- what a statement that was read means
 abbrev pub statement_view : Read → Statement
-statement_view (read.Scope name) = scope (string_bytes name)
-statement_view (read.Element key) = element (string_bytes key)
-statement_view (read.Pair name value) = pair (string_bytes name) (view value)
-
--- what a header means
-abbrev pub header_view : Header → Statement
-header_view (header.Scope name) = scope name.now
-header_view (header.Element key) = element key.now
+statement_view (read.Scope named) = scope (name_view named)
+statement_view (read.Element key) = element key.now
+statement_view (read.Pair named value) = pair (name_view named) (view value)
 
 -- the value that is one token
 abbrev pub scalar_at : Next → Option Data

@@ -4,7 +4,6 @@
 
 pub mod error;
 mod fault;
-mod headers;
 pub mod laws;
 mod numbers;
 mod parser;

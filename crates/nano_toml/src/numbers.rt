@@ -15,7 +15,6 @@ ghost use Rattle.nano_toml.specs.Taken.{token_of};
 ghost use Rattle.nano_toml.specs.Token.{nan, infinity};
 
 use crate::fault::{Fault, Lexeme};
-use crate::runs::{date_len, digits_len};
 use crate::state::Cursor;
 use crate::token::TomlTok;
 use std::alloc::{AllocError, Global};
@@ -38,13 +37,13 @@ pub(crate) fn starts_number(c: u8) -> bool
     is_sign(c) || is_digit(c)
 }
 
-pub(crate) fn is_in_digits(c: u8) -> bool
+fn is_in_digits(c: u8) -> bool
     ensures { result ≡ is_in_digits c }
 {
     is_digit(c) || c == b'_'
 }
 
-pub(crate) fn is_in_date(c: u8) -> bool
+fn is_in_date(c: u8) -> bool
     ensures { result ≡ is_in_date c }
 {
     is_digit(c) || c == b':' || c == b'-' || c == b'T'
@@ -172,8 +171,7 @@ impl<'a> Cursor<'a> {
         ensures text { result.now ≡ front is_in_digits (live self.old) }
         ensures rest { live self.new ≡ behind is_in_digits (live self.old) }
     {
-        let held = self.rest.as_str();
-        self.cut(digits_len(held.as_bytes()))
+        self.take_while(is_in_digits)
     }
 
     /// Takes digits, `:`, `-` and `T`.
@@ -181,8 +179,7 @@ impl<'a> Cursor<'a> {
         ensures text { result.now ≡ front is_in_date (live self.old) }
         ensures rest { live self.new ≡ behind is_in_date (live self.old) }
     {
-        let held = self.rest.as_str();
-        self.cut(date_len(held.as_bytes()))
+        self.take_while(is_in_date)
     }
 
     /// Reads a decimal, behind its point, with these digits before the point.

@@ -31,17 +31,10 @@ fn read_table(reader: &mut Reader) -> Result<Table, Fault>
     ensures refused { OnFault result (SpellsNoTable (live reader.old.cursor)) }
 {
     let mut builder = Builder::new(reader.alloc);
-    'statements: loop {
-        if let Some((name, value)) = reader.read_word_pair()? {
-            builder.add_pair(reader.alloc, name, value)?;
-        } else if let Some(header) = reader.cursor.next_header() {
-            builder.add_header(reader.alloc, header)?;
-        } else if let Some(statement) = reader.read_statement()? {
-            builder.add(reader.alloc, statement)?;
-        } else {
-            return Ok(builder.finish(reader.alloc)?);
-        }
+    'statements: while let Some(statement) = reader.read_statement()? {
+        builder.add(reader.alloc, statement)?;
     }
+    Ok(builder.finish(reader.alloc)?)
 }
 
 // What is wrong with the text, or want of memory.

@@ -1,94 +1,53 @@
-// How long the runs of characters are that are taken at once.
-ghost use Rattle.std.specs.Prelude.{◌≡◌, length};
-ghost use Rattle.nano_toml.specs.Characters.{is_quote, is_in_word, is_in_digits, is_in_date};
+// Runs of characters, which are taken at once.
+ghost use Rattle.std.specs.Prelude.{◌≡◌, ℕ, Bool, length, encode_utf8_all};
+ghost use Rattle.nano_toml.specs.Characters.{IsByteTest};
+ghost use Rattle.nano_toml.specs.LiveText.{live};
 ghost use Rattle.nano_toml.specs.Plain.{is_plain, is_in_line};
-ghost use Rattle.nano_toml.specs.Span.{front};
+ghost use Rattle.nano_toml.specs.Span.{front, behind, IsTest};
 
-use crate::numbers::{is_in_date, is_in_digits};
-use crate::words::is_in_word;
+use crate::state::Cursor;
 
 /// Whether a character, or a byte of UTF-8, stands for itself in a string.
-fn is_plain(c: u8) -> bool
+pub(crate) fn is_plain(c: u8) -> bool
     ensures { result ≡ is_plain c }
 {
     c != b'"' && c != b'\\' && c != 0
 }
 
-/// How many bytes stand for themselves in a string before the first that doesn't.
-pub(crate) fn plain_len(bytes: &[u8]) -> usize
-    ensures { result ≡ length (front is_plain bytes.now) }
-{
-    for (len, byte) in bytes.iter().enumerate() {
-        if !is_plain(*byte) {
-            return len;
-        }
-    }
-    bytes.len()
-}
-
 /// Whether a character, or a byte of UTF-8, is no end of a line.
-fn is_in_line(c: u8) -> bool
+pub(crate) fn is_in_line(c: u8) -> bool
     ensures { result ≡ is_in_line c }
 {
     c != b'\n' && c != 0
 }
 
-/// How many bytes stand before the end of the line.
-pub(crate) fn line_len(bytes: &[u8]) -> usize
-    ensures { result ≡ length (front is_in_line bytes.now) }
+/// How many bytes stand before the first that doesn't pass the test.
+fn run_len<F: Fn(u8) -> bool>(bytes: &[u8], test: F) -> usize
+    requires { F.IsAlwaysCallable test }
+    ensures { (p : ℕ → Bool) → IsTest (F.post test) p → result ≡ length (front p bytes.now) }
 {
     for (len, byte) in bytes.iter().enumerate() {
-        if !is_in_line(*byte) {
+        if !test(*byte) {
             return len;
         }
     }
     bytes.len()
 }
 
-/// How many bytes of a word stand here.
-pub(crate) fn word_len(bytes: &[u8]) -> usize
-    ensures { result ≡ length (front is_in_word bytes.now) }
-{
-    for (len, byte) in bytes.iter().enumerate() {
-        if !is_in_word(*byte) {
-            return len;
-        }
+impl<'a> Cursor<'a> {
+    /// Takes the longest front of characters that pass the test. The first byte of a character
+    /// tells whether it passes.
+    pub(crate) fn take_while<F: Fn(u8) -> bool>(&mut self, test: F) -> &'a str
+        requires callable { F.IsAlwaysCallable test }
+        requires by_bytes { (p : ℕ → Bool) × IsByteTest p × IsTest (F.post test) p }
+        ensures text { (p : ℕ → Bool) → IsByteTest p → IsTest (F.post test) p
+            → result.now ≡ encode_utf8_all (front p (live self.old)) }
+        ensures rest { (p : ℕ → Bool) → IsByteTest p → IsTest (F.post test) p
+            → live self.new ≡ behind p (live self.old) }
+    {
+        let held = self.rest.as_str();
+        let (run, rest) = held.split_at(run_len(held.as_bytes(), test));
+        self.rest = rest.chars();
+        run
     }
-    bytes.len()
-}
-
-/// How many digits and underscores stand here.
-pub(crate) fn digits_len(bytes: &[u8]) -> usize
-    ensures { result ≡ length (front is_in_digits bytes.now) }
-{
-    for (len, byte) in bytes.iter().enumerate() {
-        if !is_in_digits(*byte) {
-            return len;
-        }
-    }
-    bytes.len()
-}
-
-/// How many bytes of a date stand here.
-pub(crate) fn date_len(bytes: &[u8]) -> usize
-    ensures { result ≡ length (front is_in_date bytes.now) }
-{
-    for (len, byte) in bytes.iter().enumerate() {
-        if !is_in_date(*byte) {
-            return len;
-        }
-    }
-    bytes.len()
-}
-
-/// How many quotes stand here.
-pub(crate) fn quotes_len(bytes: &[u8]) -> usize
-    ensures { result ≡ length (front is_quote bytes.now) }
-{
-    for (len, byte) in bytes.iter().enumerate() {
-        if *byte != b'"' {
-            return len;
-        }
-    }
-    bytes.len()
 }

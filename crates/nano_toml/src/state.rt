@@ -1,21 +1,17 @@
 // The place in a text, and the steps to the next character and to the next token.
-ghost use Rattle.std.specs.Prelude.{◌≡◌, ◌≢◌, ℕ, Bool, [], ◌∷◌, ◌<◌, ◌==◌, ◌-◌, ◌⊎◌, chars, length};
-ghost use Rattle.std.specs.Prelude.{Some, true, false};
-ghost use Rattle.std.specs.Prelude.{IfOk, option_map, if◌then◌else◌, not, take as taken_of, drop};
-ghost use Rattle.std.specs.Str.{IsCharBoundary};
-ghost use Rattle.std.specs.Str.Iter.{chars_rest};
+ghost use Rattle.std.specs.Prelude.{◌≡◌, ◌≢◌, ℕ, Bool, [], ◌∷◌, ◌<◌, ◌==◌, ◌-◌, chars, length, false};
+ghost use Rattle.std.specs.Prelude.{IfOk, option_map, if◌then◌else◌, not};
 ghost use Rattle.nano_toml.specs.Characters.{is_space, is_line_feed, IsByteTest};
-ghost use Rattle.nano_toml.specs.Cut.{mark_token, Cut, CutsNothing};
+ghost use Rattle.nano_toml.specs.Cut.{mark_token, CutsNothing};
 ghost use Rattle.nano_toml.specs.LiveText.{live, live_text, held};
 ghost use Rattle.nano_toml.specs.Outcomes.{OnFault};
 ghost use Rattle.nano_toml.specs.Scan.{behind_gaps, tail};
 ghost use Rattle.nano_toml.specs.Span.{begins, behind};
 ghost use Rattle.nano_toml.specs.Taken.{a_token, token_of, Took};
-ghost use Rattle.nano_toml.specs.Token.{Token};
 
 use crate::fault::{Fault, Lexeme};
 use crate::numbers::starts_number;
-use crate::runs::line_len;
+use crate::runs::is_in_line;
 use crate::token::TomlTok;
 use crate::words::{starts_word, word_token};
 use std::alloc::Global;
@@ -89,17 +85,6 @@ impl<'a> Cursor<'a> {
         }
     }
 
-    /// Takes so many bytes, which are whole characters.
-    pub(crate) fn cut(&mut self, len: usize) -> &'a str
-        requires { IsCharBoundary (chars_rest self.old.rest) len }
-        ensures front { result.now ≡ taken_of len (chars_rest self.old.rest) }
-        ensures back { chars_rest self.new.rest ≡ drop len (chars_rest self.old.rest) }
-    {
-        let (front, back) = self.rest.as_str().split_at(len);
-        self.rest = back.chars();
-        front
-    }
-
     /// How many characters of the text were taken, the one that stands here among them.
     pub(crate) fn taken(&self, text: &str) -> usize
         ensures { result ≡ length (chars text.now) - (length (held self.now.rest) - 1) }
@@ -127,8 +112,7 @@ impl<'a> Cursor<'a> {
     fn skip_line(&mut self)
         ensures { live self.new ≡ behind (λ c. not (is_line_feed c)) (live self.old) }
     {
-        let held = self.rest.as_str();
-        self.cut(line_len(held.as_bytes()));
+        self.take_while(is_in_line);
     }
 
     /// Takes white space and comments.
@@ -145,23 +129,6 @@ impl<'a> Cursor<'a> {
                 return;
             }
         }
-    }
-
-    /// Takes what is skipped and this bracket behind it, if it stands there, and answers whether it
-    /// does. If not, nothing is taken.
-    pub(crate) fn next_bracket(&mut self, wanted: u8) -> bool
-        requires { wanted ≡ 91 ⊎ wanted ≡ 93 }
-        ensures cut { result ≡ true → (token : Token) → mark_token wanted ≡ Some token
-            → Cut (live self.old) token (live self.new) }
-        ensures none { result ≡ false → live self.new ≡ live self.old }
-    {
-        let mut ahead = self.again();
-        ahead.skip();
-        let found = ahead.take(wanted);
-        if found {
-            self.rest = ahead.rest;
-        }
-        found
     }
 
     /// Cuts one token, or the end of the text.

@@ -1,18 +1,17 @@
 //! Reads values and statements, token by token.
 
-ghost use Rattle.std.specs.Prelude.{◌≡◌, ◌<◌, ℕ, List, [], IfOk, IfErr, IfSome, IfNone, OnOk};
-ghost use Rattle.std.specs.Prelude.{string_bytes, option_map, Some, None, length};
+ghost use Rattle.std.specs.Prelude.{◌≡◌, ◌<◌, [], IfOk, IfErr, IfSome, OnOk};
+ghost use Rattle.std.specs.Prelude.{option_map, Some, None, length};
 ghost use Rattle.nano_toml.specs.Built.{IsPlain};
 ghost use Rattle.nano_toml.specs.Cut.{Cut, CutsNothing};
 ghost use Rattle.nano_toml.specs.Data.{no_values};
-ghost use Rattle.nano_toml.specs.Fronts.{Reads, ReadsNothing, ClosesNothing, array_front};
+ghost use Rattle.nano_toml.specs.Fronts.{ReadsNothing, ClosesNothing, array_front};
 ghost use Rattle.nano_toml.specs.Fronts.{value_front, pair_front, scope_front, element_front};
 ghost use Rattle.nano_toml.specs.Fronts.{header_front, close_all};
 ghost use Rattle.nano_toml.specs.LiveText.{live, live_text};
 ghost use Rattle.nano_toml.specs.Outcomes.{OnFault, ReadsValue, ReadsStatement};
-ghost use Rattle.nano_toml.specs.Reading.{statement_view, scalar_at, arrays_view, IsNext};
+ghost use Rattle.nano_toml.specs.Reading.{name_view, statement_view, scalar_at, arrays_view, IsNext};
 ghost use Rattle.nano_toml.specs.Reading.{SpellsNothing};
-ghost use Rattle.nano_toml.specs.Statements.{pair};
 ghost use Rattle.nano_toml.specs.Taken.{token_of, Took};
 ghost use Rattle.nano_toml.specs.Token.{close_bracket};
 ghost use Rattle.nano_toml.specs.View.{view, values_view};
@@ -24,15 +23,36 @@ use crate::value::Toml;
 use std::alloc::{AllocFailed, Global};
 use std::mem;
 
+/// A name of a text.
+#[derive(Drop)]
+pub(crate) enum Name<'a> {
+    /// A word of the text.
+    Word(&'a str),
+    /// The characters of a string.
+    Quoted(String),
+}
+
+impl<'a> Name<'a> {
+    /// Its characters.
+    pub(crate) fn as_str(&self) -> &str
+        ensures { result.now ≡ name_view self.now }
+    {
+        match self {
+            Name::Word(word) => *word,
+            Name::Quoted(text) => text.as_str(),
+        }
+    }
+}
+
 /// A statement of a text.
 #[derive(Drop)]
-pub(crate) enum Statement {
+pub(crate) enum Statement<'a> {
     /// `[name]`
-    Scope(String),
+    Scope(Name<'a>),
     /// `[[key]]`
-    Element(String),
+    Element(&'a str),
     /// `name = value`
-    Pair(String, Toml),
+    Pair(Name<'a>, Toml),
 }
 
 /// A text as far as it was read.
@@ -151,94 +171,65 @@ impl<'a> Reader<'a> {
         }
     }
 
-    // The value of a pair, whatever its name is, and the equals sign before it.
-    fn read_pair_value(&mut self) -> Result<Toml, Fault>
-        ensures found { (name : List ℕ) → IfOk result (λ value. Reads (pair_front name)
-            (live self.old.cursor) (pair name (view value)) (live self.new.cursor)) }
-        ensures refused { (name : List ℕ) → OnFault result
-            (ReadsNothing (pair_front name) (live self.old.cursor)) }
+    // The rest of a pair behind its name.
+    fn read_pair(&mut self, name: Name<'a>) -> Result<Statement<'a>, Fault>
+        ensures found { ReadsStatement result (pair_front (name_view name.entry))
+            (live self.old.cursor) (live self.new.cursor) }
+        ensures refused { OnFault result
+            (ReadsNothing (pair_front (name_view name.entry)) (live self.old.cursor)) }
     {
         match self.read_token()? {
-            TomlTok::Equals => self.read_value(),
+            TomlTok::Equals => {
+                let value = self.read_value()?;
+                Ok(Statement::Pair(name, value))
+            }
             tok => Err(Fault::Unexpected(tok)),
         }
     }
 
-    // The rest of a pair behind its name.
-    fn read_pair(&mut self, name: String) -> Result<Statement, Fault>
-        ensures found { ReadsStatement result (pair_front (string_bytes name))
-            (live self.old.cursor) (live self.new.cursor) }
-        ensures refused { OnFault result
-            (ReadsNothing (pair_front (string_bytes name)) (live self.old.cursor)) }
-    {
-        let value = self.read_pair_value()?;
-        Ok(Statement::Pair(name, value))
-    }
-
-    /// The next statement, if it is a pair whose name is a word: that word of the text, and the
-    /// value. If not, nothing is taken.
-    pub(crate) fn read_word_pair(&mut self) -> Result<Option<(&'a str, Toml)>, Fault>
-        ensures found { IfOk result (λ s. IfSome s (λ p. IsNext (live self.old.cursor)
-            (Some (pair p.0.now (view p.1))) (live self.new.cursor))) }
-        ensures refused { OnFault result (SpellsNothing (live self.old.cursor)) }
-        ensures plain { IfOk result (λ s. IfSome s (λ p. IsPlain (pair p.0.now (view p.1)))) }
-        ensures shorter { IfOk result (λ s. IfSome s
-            (λ _. length (live self.new.cursor) < length (live self.old.cursor))) }
-        ensures none { IfOk result (λ s. IfNone s
-            (live self.new.cursor ≡ live self.old.cursor)) }
-    {
-        match self.cursor.next_name() {
-            Some(name) => {
-                let value = self.read_pair_value()?;
-                Ok(Some((name, value)))
-            }
-            None => Ok(None),
-        }
-    }
-
     // The rest of a scope behind its name.
-    fn read_scope(&mut self, name: String) -> Result<Statement, Fault>
-        ensures found { ReadsStatement result (scope_front (string_bytes name))
+    fn read_scope(&mut self, name: Name<'a>) -> Result<Statement<'a>, Fault>
+        ensures found { ReadsStatement result (scope_front (name_view name.entry))
             (live self.old.cursor) (live self.new.cursor) }
         ensures refused { OnFault result
-            (ReadsNothing (scope_front (string_bytes name)) (live self.old.cursor)) }
+            (ReadsNothing (scope_front (name_view name.entry)) (live self.old.cursor)) }
     {
         self.read_close_bracket()?;
         Ok(Statement::Scope(name))
     }
 
     // The rest of an element's header behind its two brackets.
-    fn read_element(&mut self) -> Result<Statement, Fault>
+    fn read_element(&mut self) -> Result<Statement<'a>, Fault>
         ensures found { ReadsStatement result element_front
             (live self.old.cursor) (live self.new.cursor) }
         ensures refused { OnFault result (ReadsNothing element_front (live self.old.cursor)) }
     {
-        match self.read_token()? {
-            TomlTok::Ident(key) => {
-                self.read_close_bracket()?;
-                self.read_close_bracket()?;
-                Ok(Statement::Element(key))
-            }
-            tok => Err(Fault::Unexpected(tok)),
-        }
+        let Some(key) = self.cursor.next_name() else {
+            return Err(Fault::Unexpected(self.read_token()?));
+        };
+        self.read_close_bracket()?;
+        self.read_close_bracket()?;
+        Ok(Statement::Element(key))
     }
 
     // The rest of a header behind its first bracket.
-    fn read_header(&mut self) -> Result<Statement, Fault>
+    fn read_header(&mut self) -> Result<Statement<'a>, Fault>
         ensures found { ReadsStatement result header_front
             (live self.old.cursor) (live self.new.cursor) }
         ensures refused { OnFault result (ReadsNothing header_front (live self.old.cursor)) }
     {
+        if let Some(name) = self.cursor.next_name() {
+            return self.read_scope(Name::Word(name));
+        }
         match self.read_token()? {
-            TomlTok::Ident(name) => self.read_scope(name),
-            TomlTok::Str(name) => self.read_scope(name),
+            TomlTok::Str(name) => self.read_scope(Name::Quoted(name)),
             TomlTok::BlockOpen => self.read_element(),
             tok => Err(Fault::Unexpected(tok)),
         }
     }
 
     /// The next statement, or none at the end of the text.
-    pub(crate) fn read_statement(&mut self) -> Result<Option<Statement>, Fault>
+    pub(crate) fn read_statement(&mut self) -> Result<Option<Statement<'a>>, Fault>
         ensures found { IfOk result (λ s. IsNext
             (live self.old.cursor) (option_map statement_view s) (live self.new.cursor)) }
         ensures refused { OnFault result (SpellsNothing (live self.old.cursor)) }
@@ -246,11 +237,13 @@ impl<'a> Reader<'a> {
         ensures shorter { IfOk result (λ s. IfSome s
             (λ _. length (live self.new.cursor) < length (live self.old.cursor))) }
     {
+        if let Some(name) = self.cursor.next_name() {
+            return Ok(Some(self.read_pair(Name::Word(name))?));
+        }
         match self.read_token()? {
             TomlTok::Eof => Ok(None),
             TomlTok::BlockOpen => Ok(Some(self.read_header()?)),
-            TomlTok::Ident(name) => Ok(Some(self.read_pair(name)?)),
-            TomlTok::Str(name) => Ok(Some(self.read_pair(name)?)),
+            TomlTok::Str(name) => Ok(Some(self.read_pair(Name::Quoted(name))?)),
             tok => Err(Fault::Unexpected(tok)),
         }
     }

@@ -10,9 +10,15 @@ ghost use Rattle.nano_toml.specs.Scan.{short_at, triple_at, some_quotes, behind_
 ghost use Rattle.nano_toml.specs.Span.{begins, front, behind};
 
 use crate::fault::{Fault, Lexeme};
-use crate::runs::{plain_len, quotes_len};
+use crate::runs::is_plain;
 use crate::state::Cursor;
 use std::alloc::{AllocError, Global};
+
+fn is_quote(c: u8) -> bool
+    ensures { result ≡ is_quote c }
+{
+    c == b'"'
+}
 
 impl<'a> Cursor<'a> {
     /// Takes the longest front of characters that stand for themselves, and puts it behind the
@@ -24,8 +30,7 @@ impl<'a> Cursor<'a> {
         ensures text { OnOk result
             (Appends text.old text.new (encode_utf8_all (front is_plain (live self.old)))) }
     {
-        let held = self.rest.as_str();
-        let plain = self.cut(plain_len(held.as_bytes()));
+        let plain = self.take_while(is_plain);
         text.push_str(plain)?;
         Ok(())
     }
@@ -76,8 +81,7 @@ impl<'a> Cursor<'a> {
         ensures text { result.now ≡ front is_quote (live self.old) }
         ensures rest { live self.new ≡ behind is_quote (live self.old) }
     {
-        let held = self.rest.as_str();
-        self.cut(quotes_len(held.as_bytes()))
+        self.take_while(is_quote)
     }
 
     /// Takes a run of quotes, and answers whether they are three. Others are put behind the text.

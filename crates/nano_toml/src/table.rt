@@ -1,17 +1,18 @@
 //! The table of statements, built one statement after another.
 
-ghost use Rattle.std.specs.Prelude.{◌≡◌, ◌↔◌, List, [], ◌∷◌, ◌++◌, IsTrue, Some, None, OnOk};
-ghost use Rattle.std.specs.Prelude.{IfOk, string_bytes};
+ghost use Rattle.std.specs.Prelude.{◌≡◌, ◌≢◌, ◌↔◌, List, [], ◌∷◌, ◌++◌, IsTrue, Some, OnOk};
+ghost use Rattle.std.specs.Prelude.{IfOk, IfErr, string_bytes};
 ghost use Rattle.nano_toml.specs.Built.{IsBuilt, IsWhole, IsPlain, IsTables, CanPush, Puts, pushed};
 ghost use Rattle.nano_toml.specs.Data.{at};
-ghost use Rattle.nano_toml.specs.Outcomes.{OnFault, FaultIs};
-ghost use Rattle.nano_toml.specs.Reading.{statement_view, header_view};
+ghost use Rattle.nano_toml.specs.ErrorText.{IsOtherKind};
+ghost use Rattle.nano_toml.specs.Outcomes.{OnFault};
+ghost use Rattle.nano_toml.specs.Reading.{statement_view};
 ghost use Rattle.nano_toml.specs.StatementTable.{IsLawful, IsTableOf, full_key as key_in};
 ghost use Rattle.nano_toml.specs.Statements.{Statement as Stated, element, pair};
 ghost use Rattle.nano_toml.specs.View.{view, table_view};
+ghost use Rattle.nano_toml.specs.declared.fault.Fault.TheVariants.{Memory};
 
 use crate::fault::Fault;
-use crate::headers::Header;
 use crate::statements::Statement;
 use crate::value::Toml;
 use std::alloc::{AllocError, Global};
@@ -23,10 +24,10 @@ pub(crate) type Table = HashMap<String, Toml>;
 
 /// The table of the statements so far.
 #[derive(Drop)]
-pub(crate) struct Builder {
+pub(crate) struct Builder<'a> {
     pub(crate) root: Table,
     /// The key of the last header `[[key]]`, whose table is not in the root yet.
-    pub(crate) key: Option<String>,
+    pub(crate) key: Option<&'a str>,
     /// That table.
     pub(crate) table: Table,
     /// The name of the last header `[name]`.
@@ -44,8 +45,8 @@ fn is_array(value: &Toml) -> bool
 }
 
 // Whether the table has an Array or nothing at the key.
-fn is_free(table: &Table, key: &String) -> bool
-    ensures { IsTrue result ↔ CanPush (at (string_bytes key.now) (table_view table.now.entries)) }
+fn is_free(table: &Table, key: &str) -> bool
+    ensures { IsTrue result ↔ CanPush (at key.now (table_view table.now.entries)) }
 {
     match table.get(key) {
         Some(value) => is_array(value),
@@ -75,18 +76,19 @@ fn push_into(value: &mut Toml, table: Table) -> Result<(), AllocError>
 }
 
 // Adds a table at the end of the Array at a key.
-fn push_table(alloc: Global, root: &mut Table, key: String, table: Table) -> Result<(), AllocError>
-    requires { CanPush (at (string_bytes key) (table_view root.old.entries)) }
+fn push_table(alloc: Global, root: &mut Table, key: &str, table: Table) -> Result<(), AllocError>
+    requires { CanPush (at key.now (table_view root.old.entries)) }
     ensures { OnOk result
-        (let there = at (string_bytes key) (table_view root.old.entries) in
-        Puts (table_view root.old.entries) (string_bytes key)
+        (let there = at key.now (table_view root.old.entries) in
+        Puts (table_view root.old.entries) key.now
         (pushed there (table_view table.entries)) (table_view root.new.entries)) }
 {
-    match root.get_mut(&key) {
+    match root.get_mut(key) {
         Some(value) => push_into(value, table),
         None => {
             let mut tables = Vec::new(alloc);
             tables.push(table)?;
+            let key = String::from_str(alloc, key)?;
             put(root, key, Toml::Array(tables))
         }
     }
@@ -107,9 +109,9 @@ fn full_key(alloc: Global, scope: &str, name: &str) -> Result<String, AllocError
     Ok(key)
 }
 
-impl Builder {
+impl<'a> Builder<'a> {
     /// Nothing yet.
-    pub(crate) fn new(alloc: Global) -> Builder
+    pub(crate) fn new(alloc: Global) -> Builder<'a>
         ensures { IsBuilt [] result }
     {
         Builder {
@@ -134,18 +136,18 @@ impl Builder {
     }
 
     // Begins a new element. The key has no value of another kind.
-    fn start_element(&mut self, alloc: Global, key: String) -> Result<(), Fault>
+    fn start_element(&mut self, alloc: Global, key: &'a str) -> Result<(), Fault>
         requires { (done : List Stated) × IsBuilt done self.old }
         ensures built { (done : List Stated) → IsBuilt done self.old
-            → OnOk result (IsBuilt (done ++ element (string_bytes key) ∷ []) self.new) }
+            → OnOk result (IsBuilt (done ++ element key.now ∷ []) self.new) }
         ensures refused { (done : List Stated) → IsBuilt done self.old
             → OnFault result
-            ((more : List Stated) → IsLawful (done ++ element (string_bytes key) ∷ more) → ⊥) }
-        ensures told { FaultIs result (Fault.OtherKind key) }
+            ((more : List Stated) → IsLawful (done ++ element key.now ∷ more) → ⊥) }
+        ensures told { IfErr result (λ e. e ≢ Memory → IsOtherKind e key.now) }
     {
         self.end_element(alloc)?;
-        if !is_free(&self.root, &key) {
-            return Err(Fault::OtherKind(key));
+        if !is_free(&self.root, key) {
+            return Err(Fault::OtherKind(String::from_str(alloc, key)?));
         }
         self.key = Some(key);
         Ok(())
@@ -172,18 +174,19 @@ impl Builder {
     }
 
     /// Adds a statement. A fault but want of memory is a header that names a key which a pair gave.
-    pub(crate) fn add(&mut self, alloc: Global, statement: Statement) -> Result<(), Fault>
+    pub(crate) fn add(&mut self, alloc: Global, statement: Statement<'a>) -> Result<(), Fault>
         requires { (done : List Stated) × IsBuilt done self.old }
         ensures built { (done : List Stated) → IsBuilt done self.old
-            → IsPlain (statement_view statement)
-            → OnOk result (IsBuilt (done ++ statement_view statement ∷ []) self.new) }
+            → IsPlain (statement_view statement.entry)
+            → OnOk result (IsBuilt (done ++ statement_view statement.entry ∷ []) self.new) }
         ensures refused { (done : List Stated) → IsBuilt done self.old
             → OnFault result
-            ((more : List Stated) → IsLawful (done ++ statement_view statement ∷ more) → ⊥) }
+            ((more : List Stated) → IsLawful (done ++ statement_view statement.entry ∷ more) → ⊥) }
     {
         match statement {
             Statement::Scope(name) => {
-                self.scope = name;
+                self.scope.clear();
+                self.scope.push_str(name.as_str())?;
                 Ok(())
             }
             Statement::Element(key) => self.start_element(alloc, key),
@@ -194,32 +197,10 @@ impl Builder {
         }
     }
 
-    /// Adds a header. A fault but want of memory is one that names a key which a pair gave.
-    pub(crate) fn add_header(&mut self, alloc: Global, header: Header) -> Result<(), Fault>
-        requires { (done : List Stated) × IsBuilt done self.old }
-        ensures built { (done : List Stated) → IsBuilt done self.old
-            → OnOk result (IsBuilt (done ++ header_view header.entry ∷ []) self.new) }
-        ensures refused { (done : List Stated) → IsBuilt done self.old
-            → OnFault result
-            ((more : List Stated) → IsLawful (done ++ header_view header.entry ∷ more) → ⊥) }
-    {
-        match header {
-            Header::Scope(name) => {
-                self.scope.clear();
-                self.scope.push_str(name)?;
-                Ok(())
-            }
-            Header::Element(key) => {
-                let key = String::from_str(alloc, key)?;
-                self.start_element(alloc, key)
-            }
-        }
-    }
-
     /// The table of the statements that were added.
     pub(crate) fn finish(mut self, alloc: Global) -> Result<Table, AllocError>
         requires { (done : List Stated) × IsBuilt done self }
-        ensures { (done : List Stated) → IsBuilt done self
+        ensures { (done : List Stated) → IsBuilt done self.entry
             → IfOk result (λ table. IsTableOf done (table_view table.entries)) }
     {
         self.end_element(alloc)?;

@@ -1,14 +1,14 @@
 // Words.
-ghost use Rattle.std.specs.Prelude.{◌≡◌, false, IfOk, IfSome, IfNone};
+ghost use Rattle.std.specs.Prelude.{◌≡◌, ℕ, List, IfOk, IfSome, IfNone, IsSome};
 ghost use Rattle.nano_toml.specs.Characters.{starts_word, is_in_word};
 ghost use Rattle.nano_toml.specs.Cut.{Cut};
 ghost use Rattle.nano_toml.specs.LiveText.{live};
+ghost use Rattle.nano_toml.specs.Reading.{scalar_at};
 ghost use Rattle.nano_toml.specs.Span.{front, behind};
 ghost use Rattle.nano_toml.specs.Taken.{token_of, a_token};
 ghost use Rattle.nano_toml.specs.Token.{ident};
 ghost use Rattle.nano_toml.specs.Word.{word_token};
 
-use crate::runs::word_len;
 use crate::state::Cursor;
 use crate::token::TomlTok;
 use std::alloc::{AllocError, Global};
@@ -19,35 +19,34 @@ pub(crate) fn starts_word(c: u8) -> bool
     c.is_ascii_alphabetic() || c == b'_'
 }
 
-pub(crate) fn is_in_word(c: u8) -> bool
+fn is_in_word(c: u8) -> bool
     ensures { result ≡ is_in_word c }
 {
     starts_word(c) || c == b'-' || c == b'.'
+}
+
+/// The value that a word is, unless it is a name.
+fn word_value(word: &str) -> Option<TomlTok>
+    ensures value { IfSome result (λ t. token_of t ≡ a_token (word_token word.now)) }
+    ensures scalar { IfSome result (λ t. IsSome (scalar_at (token_of t))) }
+    ensures name { IfNone result (word_token word.now ≡ ident word.now) }
+{
+    match word {
+        "true" => Some(TomlTok::Bool(true)),
+        "false" => Some(TomlTok::Bool(false)),
+        "inf" => Some(TomlTok::Inf(false)),
+        "nan" => Some(TomlTok::Nan(false)),
+        _ => None,
+    }
 }
 
 /// What a word is.
 pub(crate) fn word_token(alloc: Global, word: &str) -> Result<TomlTok, AllocError>
     ensures { IfOk result (λ t. token_of t ≡ a_token (word_token word.now)) }
 {
-    match word {
-        "true" => Ok(TomlTok::Bool(true)),
-        "false" => Ok(TomlTok::Bool(false)),
-        "inf" => Ok(TomlTok::Inf(false)),
-        "nan" => Ok(TomlTok::Nan(false)),
-        _ => Ok(TomlTok::Ident(String::from_str(alloc, word)?)),
-    }
-}
-
-/// Whether a word is a value and no name.
-fn is_value(word: &str) -> bool
-    ensures { result ≡ false → word_token word.now ≡ ident word.now }
-{
-    match word {
-        "true" => true,
-        "false" => true,
-        "inf" => true,
-        "nan" => true,
-        _ => false,
+    match word_value(word) {
+        Some(value) => Ok(value),
+        None => Ok(TomlTok::Ident(String::from_str(alloc, word)?)),
     }
 }
 
@@ -57,8 +56,7 @@ impl<'a> Cursor<'a> {
         ensures text { result.now ≡ front is_in_word (live self.old) }
         ensures rest { live self.new ≡ behind is_in_word (live self.old) }
     {
-        let held = self.rest.as_str();
-        self.cut(word_len(held.as_bytes()))
+        self.take_while(is_in_word)
     }
 
     /// Takes what is skipped and the name behind it, if a name stands there. If not, nothing is
@@ -66,15 +64,16 @@ impl<'a> Cursor<'a> {
     pub(crate) fn next_name(&mut self) -> Option<&'a str>
         ensures cut { IfSome result (λ name. Cut (live self.old) (ident name.now) (live self.new)) }
         ensures none { IfNone result (live self.new ≡ live self.old) }
+        ensures no_name { IfNone result
+            ((name rest : List ℕ) → Cut (live self.old) (ident name) rest → ⊥) }
     {
         let mut ahead = self.again();
         ahead.skip();
-        let first = ahead.first();
-        if !starts_word(first) {
+        if !starts_word(ahead.first()) {
             return None;
         }
         let word = ahead.read_word();
-        if is_value(word) {
+        if let Some(_) = word_value(word) {
             return None;
         }
         self.rest = ahead.rest;

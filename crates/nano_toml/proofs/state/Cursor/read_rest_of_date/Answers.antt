@@ -1,20 +1,15 @@
 use Rattle.std.proofs.Common.{refl, ◌∙◌}
 use Rattle.nano_toml.specs.Characters.{is_in_date}
+use Rattle.nano_toml.specs.LiveText.{live}
 use Rattle.nano_toml.proofs.ByteTests.{date_test}
-use Rattle.nano_toml.proofs.RunFronts.{run_of, ascii_front}
+use Rattle.nano_toml.proofs.Utf8Fronts.{front_ascii}
 use Rattle.nano_toml.proofs.state.Cursor.read_rest_of_date.Goals as goal
 
-pub cut-requires : goal.cut-requires
-cut-requires c =
-    let run = run_of is_in_date date_test c.args.self.now.rest _ _ _ c.as_str-held.utf8 c.as_str-held.ensures c.as_bytes.ensures.value c.date_len.ensures in
-    run.boundary
+pub take_while-requires-clause-by_bytes : goal.take_while-requires-clause-by_bytes
+take_while-requires-clause-by_bytes c = (is_in_date, date_test, λ b r says. says)
 
 pub returns-clause-text : goal.returns-clause-text
-returns-clause-text c =
-    let run = run_of is_in_date date_test c.args.self.now.rest _ _ _ c.as_str-held.utf8 c.as_str-held.ensures c.as_bytes.ensures.value c.date_len.ensures in
-    c.cut.ensures.front ∙ ascii_front is_in_date c.args.self.now.rest c.date_len.result date_test refl run
+returns-clause-text c = c.take_while.ensures.text is_in_date date_test (λ b r says. says) ∙ front_ascii is_in_date date_test refl (live c.args.self.now)
 
 pub returns-clause-rest : goal.returns-clause-rest
-returns-clause-rest c =
-    let run = run_of is_in_date date_test c.args.self.now.rest _ _ _ c.as_str-held.utf8 c.as_str-held.ensures c.as_bytes.ensures.value c.date_len.ensures in
-    run.behind_is c.cut.new.self.rest c.cut.ensures.back
+returns-clause-rest c = c.take_while.ensures.rest is_in_date date_test (λ b r says. says)

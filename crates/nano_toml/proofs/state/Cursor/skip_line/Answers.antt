@@ -1,15 +1,11 @@
 use Rattle.std.proofs.Common.{◌∙◌}
 use Rattle.nano_toml.specs.Plain.{is_in_line}
 use Rattle.nano_toml.proofs.ByteTests.{line_test}
-use Rattle.nano_toml.proofs.RunFronts.{run_of, line_behind}
+use Rattle.nano_toml.proofs.RunFronts.{line_behind}
 use Rattle.nano_toml.proofs.state.Cursor.skip_line.Goals as goal
 
-pub cut-requires : goal.cut-requires
-cut-requires c =
-    let run = run_of is_in_line line_test c.args.self.now.rest _ _ _ c.as_str-held.utf8 c.as_str-held.ensures c.as_bytes.ensures.value c.line_len.ensures in
-    run.boundary
+pub take_while-requires-clause-by_bytes : goal.take_while-requires-clause-by_bytes
+take_while-requires-clause-by_bytes c = (is_in_line, line_test, λ b r says. says)
 
 pub returns : goal.returns
-returns c =
-    let run = run_of is_in_line line_test c.args.self.now.rest _ _ _ c.as_str-held.utf8 c.as_str-held.ensures c.as_bytes.ensures.value c.line_len.ensures in
-    run.behind_is c.cut.new.self.rest c.cut.ensures.back ∙ line_behind c.args.self.now.rest
+returns c = c.take_while.ensures.rest is_in_line line_test (λ b r says. says) ∙ line_behind c.args.self.now.rest

@@ -1,7 +1,8 @@
-use Rattle.std.proofs.Common.{refl, string_bytes}
+use Rattle.std.proofs.Common.{refl}
 use Rattle.std.proofs.lemmas.Result.{err_from_is_err_and}
 use Rattle.nano_toml.specs.Fronts.{closed, scope_front}
 use Rattle.nano_toml.specs.LiveText.{live}
+use Rattle.nano_toml.specs.Reading.{name_view}
 use Rattle.nano_toml.specs.Statements.{scope}
 use Rattle.nano_toml.specs.Token.{close_bracket}
 use Rattle.nano_toml.proofs.ReadLemmas.{GoesOn-first, Reads-closed, ReadsNothing-closing}
@@ -10,11 +11,11 @@ use Rattle.nano_toml.proofs.statements.Reader.read_scope.Goals as goal
 pub returns-in_err-read_close_bracket-clause-refused : goal.returns-in_err-read_close_bracket-clause-refused
 returns-in_err-read_close_bracket-clause-refused c =
     let p = err_from_is_err_and c.from_residual.result c.from_residual.ensures.1 in
-    rw (p.1, p.2) (λ n. ReadsNothing-closing (closed (scope (string_bytes c.args.name))) (live c.args.self.now.cursor) (c.in_err-read_close_bracket.ensures.refused n))
+    rw (p.1, p.2) (λ n. ReadsNothing-closing (closed (scope (name_view c.args.name))) (live c.args.self.now.cursor) (c.in_err-read_close_bracket.ensures.refused n))
 
 pub returns-clause-found : goal.returns-clause-found
 returns-clause-found c =
-    let name = string_bytes c.args.name in
+    let name = name_view c.args.name in
     let text = live c.args.self.now.cursor in
     let rest = live c.read_close_bracket.new.self.cursor in
     Reads-closed (scope_front name) (closed (scope name)) text rest (scope name)

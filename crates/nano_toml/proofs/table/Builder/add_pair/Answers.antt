@@ -1,5 +1,5 @@
-use Rattle.std.proofs.Common.{◌≡◌, option_map, string_bytes, ap, sym, ◌∙◌, subst, List, ℕ}
-use Rattle.nano_toml.specs.Built.{Puts}
+use Rattle.std.proofs.Common.{◌≡◌, string_bytes, ap, sym, ◌∙◌, subst, List, ℕ}
+use Rattle.nano_toml.specs.Built.{Puts, key_of}
 use Rattle.nano_toml.specs.Statements.{pair}
 use Rattle.nano_toml.specs.StatementTable.{scope_of, full_key}
 use Rattle.nano_toml.specs.View.{view, table_view}
@@ -19,7 +19,7 @@ returns-then-is_some c done built plain =
     c.in_ok-key.ensures ∙ ap (λ (s : List ℕ). full_key s name) (c.as_str.ensures.value ∙ built.in_scope) in
     OnOk-map c.put.result (λ puts. record {
       in_scope = built.in_scope ∙ sym (scope_of-pair done name means);
-      lawful = NoneNamed-pair done root (option_map string_bytes c.args.self.now.key) old name means built.stands built.lawful;
+      lawful = NoneNamed-pair done root (key_of c.args.self.now.key) old name means built.stands built.lawful;
       plain = plain_push done (pair name means) built.plain plain;
       stands = Stands-in_element done root old new c.args.self.now.key name means (sym c.is_some.ensures ∙ c.if-is_some.true) built.stands
           (subst (λ (k : List ℕ). Puts old k means new) key puts);
@@ -36,7 +36,7 @@ returns-else-is_some c done built plain =
     c.in_ok-key.ensures ∙ ap (λ (s : List ℕ). full_key s name) (c.as_str.ensures.value ∙ built.in_scope) in
     OnOk-map c.put-else-is_some.result (λ puts. record {
       in_scope = built.in_scope ∙ sym (scope_of-pair done name means);
-      lawful = NoneNamed-pair done old (option_map string_bytes c.args.self.now.key) table name means built.stands built.lawful;
+      lawful = NoneNamed-pair done old (key_of c.args.self.now.key) table name means built.stands built.lawful;
       plain = plain_push done (pair name means) built.plain plain;
       stands = Stands-in_root done old new table c.args.self.now.key name means (sym c.is_some.ensures ∙ c.if-is_some.false) built.stands
           (subst (λ (k : List ℕ). Puts old k means new) key puts);

@@ -1,4 +1,4 @@
-use Rattle.std.proofs.Common.{◌≡◌, Some, None, string_bytes, ap, sym, ◌∙◌, subst}
+use Rattle.std.proofs.Common.{◌≡◌, Some, None, ap, sym, ◌∙◌, subst}
 use Rattle.nano_toml.specs.Built.{Puts, pushed}
 use Rattle.nano_toml.specs.Data.{Table, at}
 use Rattle.nano_toml.specs.View.{table_view}
@@ -12,7 +12,7 @@ push_table-requires c =
     let root = table_view c.args.self.now.root.entries in
     let table = table_view c.args.self.now.table.entries in
     let key = sym c.take.ensures.value ∙ c.in-Some.is in
-    Stands-can_push c.requires.0 root table (string_bytes c.in-Some.key)
+    Stands-can_push c.requires.0 root table c.in-Some.key.now
     (Stands-at_key c.requires.0 root table c.args.self.now.key (Some c.in-Some.key) key c.requires.1.stands) c.requires.1.lawful
 
 pub returns-in_ok-push_table : goal.returns-in_ok-push_table
@@ -21,13 +21,13 @@ returns-in_ok-push_table c done built =
     let table = table_view c.args.self.now.table.entries in
     let key = sym c.take.ensures.value ∙ c.in-Some.is in
     let moved : table_view c.replace-table.result.entries ≡ table = ap (λ (m : Map). table_view m.entries) c.replace-table.ensures.value in
-    let puts = subst (λ (t : Table). Puts root (string_bytes c.in-Some.key) (pushed (at (string_bytes c.in-Some.key) root) t) (table_view c.push_table.new.root.entries)) moved c.in_ok-push_table.ensures in
+    let puts = subst (λ (t : Table). Puts root c.in-Some.key.now (pushed (at c.in-Some.key.now root) t) (table_view c.push_table.new.root.entries)) moved c.in_ok-push_table.ensures in
     record {
       in_scope = built.in_scope;
       lawful = built.lawful;
       plain = built.plain;
       none = c.take.ensures.after;
-      root = Stands-whole done root (table_view c.push_table.new.root.entries) table (string_bytes c.in-Some.key)
+      root = Stands-whole done root (table_view c.push_table.new.root.entries) table c.in-Some.key.now
           (Stands-at_key done root table c.args.self.now.key (Some c.in-Some.key) key built.stands) built.lawful puts;
       empty = ap (λ (m : Map). table_view m.entries) c.replace-table.ensures.after ∙ ap table_view c.new.ensures.empty;
     }

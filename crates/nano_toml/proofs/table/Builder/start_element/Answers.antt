@@ -1,4 +1,4 @@
-use Rattle.std.proofs.Common.{true≢false, string_bytes, sym, ◌∙◌}
+use Rattle.std.proofs.Common.{true≢false, sym, ◌∙◌}
 use Rattle.nano_toml.specs.Statements.{element}
 use Rattle.nano_toml.specs.View.{table_view}
 use Rattle.nano_toml.proofs.BuildLemmas.{Stands-element, NoneNamed-element, plain_push, scope_of-element, key_free, key_taken}
@@ -7,13 +7,13 @@ use Rattle.nano_toml.proofs.table.Builder.start_element.Goals as goal
 pub returns-then-not-is_free-clause-refused : goal.returns-then-not-is_free-clause-refused
 returns-then-not-is_free-clause-refused c done built kind more lawful =
     let whole = c.in_ok-end_element.ensures done built in
-    key_taken done (string_bytes c.args.key) (table_view c.end_element.new.self.root.entries) whole.root
+    key_taken done c.args.key.now (table_view c.end_element.new.self.root.entries) whole.root
     (λ free. true≢false (sym (c.is_free.ensures.1 free) ∙ c.if-not-is_free.true)) more lawful
 
 pub returns-clause-built : goal.returns-clause-built
 returns-clause-built c done built =
     let whole = c.in_ok-end_element.ensures done built in
-    let key = string_bytes c.args.key in
+    let key = c.args.key.now in
     let root = table_view c.end_element.new.self.root.entries in
     let free = key_free done key root whole.root whole.lawful whole.plain (c.is_free.ensures.0 c.if-not-is_free.false) in
     record {

@@ -1,7 +1,0 @@
-use Rattle.std.proofs.Common.{◌≡◌, ◌+◌, length, drop}
-use Rattle.nano_toml.specs.Characters.{is_in_digits}
-use Rattle.nano_toml.specs.Span.{front}
-use Rattle.nano_toml.proofs.runs.digits_len.Given as goal
-
-abbrev pub invariant-loop-len : goal.invariant-loop-len
-invariant-loop-len l = length (front is_in_digits l.bytes) ≡ l.len + length (front is_in_digits (drop l.len l.bytes))

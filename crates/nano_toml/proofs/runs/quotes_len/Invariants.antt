@@ -1,7 +1,0 @@
-use Rattle.std.proofs.Common.{◌≡◌, ◌+◌, length, drop}
-use Rattle.nano_toml.specs.Characters.{is_quote}
-use Rattle.nano_toml.specs.Span.{front}
-use Rattle.nano_toml.proofs.runs.quotes_len.Given as goal
-
-abbrev pub invariant-loop-len : goal.invariant-loop-len
-invariant-loop-len l = length (front is_quote l.bytes) ≡ l.len + length (front is_quote (drop l.len l.bytes))
