@@ -6,7 +6,7 @@ ghost use Rattle.bin_bytes.specs.Reading.{Reads, NothingFits};
 ghost use Rattle.nano_bin.specs.Bools.{truths, units, truth_format, unit_format};
 ghost use Rattle.bin_bytes.specs.Errors.{IsTooShort};
 
-use crate::traits::{BinFormat, BothBin, DeBin, SerBin};
+use crate::traits::{BinFormat, DeBin, SerBin};
 use bin_bytes::DeBinErr;
 use std::alloc::{AllocError, Global};
 
@@ -38,8 +38,6 @@ impl DeBin for bool {
     }
 }
 
-impl BothBin for bool {}
-
 impl BinFormat for () {
     ghost bin = { unit_format };
 
@@ -70,5 +68,3 @@ impl DeBin for () {
         Ok(())
     }
 }
-
-impl BothBin for () {}

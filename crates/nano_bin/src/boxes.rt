@@ -2,7 +2,7 @@
 ghost use Rattle.nano_value.specs.Ties.{seen_ties};
 ghost use Rattle.nano_bin.specs.Format.{format_as};
 
-use crate::traits::{BinFormat, BothBin, DeBin, SerBin};
+use crate::traits::{BinFormat, DeBin, SerBin};
 use bin_bytes::{DeBinErr, no_memory};
 use std::alloc::{AllocError, Global};
 
@@ -31,5 +31,3 @@ impl<T: DeBin> DeBin for Box<T> {
         Ok(value)
     }
 }
-
-impl<T: BothBin> BothBin for Box<T> {}

@@ -9,7 +9,7 @@ ghost use Rattle.nano_bin.specs.Lists.{SpellsCount, list_format, array_format, s
 
 use crate::append::{append_count, append_part};
 use crate::read::read_count;
-use crate::traits::{BinFormat, BothBin, DeBin, SerBin};
+use crate::traits::{BinFormat, DeBin, SerBin};
 use bin_bytes::{DeBinErr, no_memory};
 use std::alloc::{AllocError, Global};
 use std::collections::LinkedList;
@@ -58,8 +58,6 @@ impl<T: DeBin> DeBin for Vec<T> {
         Ok(items)
     }
 }
-
-impl<T: BothBin> BothBin for Vec<T> {}
 
 impl<T: BinFormat> BinFormat for LinkedList<T> {
     ghost bin = { list_format T.bin };
@@ -132,8 +130,6 @@ fn read_linked_list<T: DeBin>(
     Ok(items)
 }
 
-impl<T: BothBin> BothBin for LinkedList<T> {}
-
 impl<T: BinFormat> BinFormat for &[T] {
     ghost bin = { format_as (λ x. x.now) (slice_format T.bin) };
 
@@ -169,5 +165,3 @@ impl<T: DeBin, const N: usize> DeBin for [T; N] {
         }
     }
 }
-
-impl<T: BothBin, const N: usize> BothBin for [T; N] {}

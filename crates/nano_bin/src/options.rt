@@ -3,7 +3,7 @@ ghost use Rattle.nano_value.specs.Ties.{option_ties};
 ghost use Rattle.nano_bin.specs.Options.{option_format};
 
 use crate::append::append_part;
-use crate::traits::{BinFormat, BothBin, DeBin, SerBin};
+use crate::traits::{BinFormat, DeBin, SerBin};
 use bin_bytes::DeBinErr;
 use std::alloc::{AllocError, Global};
 
@@ -41,5 +41,3 @@ impl<T: DeBin> DeBin for Option<T> {
         Ok(Some(value))
     }
 }
-
-impl<T: BothBin> BothBin for Option<T> {}

@@ -15,7 +15,7 @@ ghost use Rattle.nano_bin.specs.Tuples.{SpellsPair, written_pair};
 
 use crate::append::{append_count, append_part};
 use crate::read::read_count;
-use crate::traits::{BinFormat, BothBin, DeBin, SerBin};
+use crate::traits::{BinFormat, DeBin, SerBin};
 use bin_bytes::{DeBinErr, no_memory};
 use nano_value::{Key, OrderedKey};
 use std::alloc::{AllocError, Global};
@@ -98,5 +98,3 @@ fn read_btree_map<K: DeBin + Key + Ord, V: DeBin>(
     *offset = at;
     Ok(entries)
 }
-
-impl<K: BothBin + OrderedKey, V: BothBin> BothBin for BTreeMap<K, V> {}

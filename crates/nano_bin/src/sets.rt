@@ -14,7 +14,7 @@ ghost use Rattle.nano_bin.specs.Sets.{ReadsSet, set_format, ordered_format};
 
 use crate::append::{append_count, append_part};
 use crate::read::read_count;
-use crate::traits::{BinFormat, BothBin, DeBin, SerBin};
+use crate::traits::{BinFormat, DeBin, SerBin};
 use bin_bytes::{DeBinErr, no_memory};
 use nano_value::{Key, OrderedKey, items_in_order};
 use std::alloc::{AllocError, Global};
@@ -94,8 +94,6 @@ fn read_hash_set<T: DeBin + Key + Hash>(
     Ok(items)
 }
 
-impl<T: BothBin + OrderedKey + Hash> BothBin for HashSet<T> {}
-
 impl<T: BinFormat + Key + Ord> BinFormat for BTreeSet<T> {
     ghost bin = { format_as (λ x. x.keys) (ordered_format T.order T.cmp T.bin) };
 
@@ -168,5 +166,3 @@ fn read_btree_set<T: DeBin + Key + Ord>(
     *offset = at;
     Ok(items)
 }
-
-impl<T: BothBin + OrderedKey> BothBin for BTreeSet<T> {}

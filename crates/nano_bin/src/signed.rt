@@ -8,7 +8,7 @@ ghost use Rattle.nano_bin.specs.Numbers.{SpellsSigned, signed_format, bits_fit_8
 ghost use Rattle.nano_bin.specs.Numbers.{bits_fit_32, bits_fit_64, bits_fit_128};
 ghost use Rattle.bin_bytes.specs.Errors.{IsTooShort};
 
-use crate::traits::{BinFormat, BothBin, DeBin, SerBin};
+use crate::traits::{BinFormat, DeBin, SerBin};
 use bin_bytes::{DeBinErr, append_number, append_run, read_number, read_run};
 use std::alloc::{AllocError, Global};
 
@@ -53,8 +53,6 @@ impl DeBin for i8 {
     }
 }
 
-impl BothBin for i8 {}
-
 impl BinFormat for i16 {
     ghost bin = { signed_format w16 2 bits_fit_16 };
 
@@ -95,8 +93,6 @@ impl DeBin for i16 {
         read_run::<i16, 2>(alloc, count, offset, bytes)
     }
 }
-
-impl BothBin for i16 {}
 
 impl BinFormat for i32 {
     ghost bin = { signed_format w32 4 bits_fit_32 };
@@ -139,8 +135,6 @@ impl DeBin for i32 {
     }
 }
 
-impl BothBin for i32 {}
-
 impl BinFormat for i64 {
     ghost bin = { signed_format w64 8 bits_fit_64 };
 
@@ -181,8 +175,6 @@ impl DeBin for i64 {
         read_run::<i64, 8>(alloc, count, offset, bytes)
     }
 }
-
-impl BothBin for i64 {}
 
 impl BinFormat for i128 {
     ghost bin = { signed_format w128 16 bits_fit_128 };
@@ -228,5 +220,3 @@ impl DeBin for i128 {
         read_run::<i128, 16>(alloc, count, offset, bytes)
     }
 }
-
-impl BothBin for i128 {}

@@ -9,7 +9,7 @@ ghost use Rattle.bin_bytes.specs.Errors.{IsTextRefusal};
 
 use crate::append::append_count;
 use crate::read::read_count;
-use crate::traits::{BinFormat, BothBin, DeBin, SerBin};
+use crate::traits::{BinFormat, DeBin, SerBin};
 use bin_bytes::{DeBinErr, append_bytes_behind, read_utf8};
 use std::alloc::{AllocError, Global};
 
@@ -46,5 +46,3 @@ impl DeBin for String {
         Ok(text)
     }
 }
-
-impl BothBin for String {}

@@ -145,5 +145,7 @@ pub trait DeBin: BinFormat + Drop {
     ghost is_read: { Self.bin.is_read ≡ true };
 }
 
-/// A value that is read back from what is written.
+/// A value that is read back from what is written. Each type with a writer and a reader is one.
 pub trait BothBin: SerBin + DeBin {}
+
+impl<T: SerBin + DeBin> BothBin for T {}

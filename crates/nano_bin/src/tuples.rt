@@ -4,7 +4,7 @@ ghost use Rattle.nano_bin.specs.Format.{format_as, both_are_read};
 ghost use Rattle.nano_bin.specs.Tuples.{pair_format};
 
 use crate::append::append_part;
-use crate::traits::{BinFormat, BothBin, DeBin, SerBin};
+use crate::traits::{BinFormat, DeBin, SerBin};
 use bin_bytes::DeBinErr;
 use std::alloc::{AllocError, Global};
 
@@ -34,8 +34,6 @@ impl<A: DeBin, B: DeBin> DeBin for (A, B) {
     }
 }
 
-impl<A: BothBin, B: BothBin> BothBin for (A, B) {}
-
 impl<A: BinFormat, B: BinFormat, C: BinFormat> BinFormat for (A, B, C) {
     ghost bin = { format_as (λ x. (x.0, (x.1, x.2)))
         (pair_format A.bin (pair_format B.bin C.bin)) };
@@ -61,8 +59,6 @@ impl<A: DeBin, B: DeBin, C: DeBin> DeBin for (A, B, C) {
         Ok((first, second, third))
     }
 }
-
-impl<A: BothBin, B: BothBin, C: BothBin> BothBin for (A, B, C) {}
 
 impl<A: BinFormat, B: BinFormat, C: BinFormat, D: BinFormat> BinFormat for (A, B, C, D) {
     ghost bin = { format_as (λ x. (x.0, (x.1, (x.2, x.3))))
@@ -91,5 +87,3 @@ impl<A: DeBin, B: DeBin, C: DeBin, D: DeBin> DeBin for (A, B, C, D) {
         Ok((first, second, third, fourth))
     }
 }
-
-impl<A: BothBin, B: BothBin, C: BothBin, D: BothBin> BothBin for (A, B, C, D) {}

@@ -6,7 +6,7 @@ ghost use Rattle.bin_bytes.specs.Reading.{Reads, NothingFits};
 ghost use Rattle.nano_bin.specs.Numbers.{SpellsUnsigned, unsigned_format};
 ghost use Rattle.bin_bytes.specs.Errors.{IsTooShort};
 
-use crate::traits::{BinFormat, BothBin, DeBin, SerBin};
+use crate::traits::{BinFormat, DeBin, SerBin};
 use bin_bytes::{
     DeBinErr, append_bytes, append_number, append_run, no_memory, read_bytes, read_number, read_run,
 };
@@ -59,8 +59,6 @@ impl DeBin for u8 {
     }
 }
 
-impl BothBin for u8 {}
-
 impl BinFormat for u16 {
     ghost bin = { unsigned_format 2 };
 
@@ -101,8 +99,6 @@ impl DeBin for u16 {
         read_run::<u16, 2>(alloc, count, offset, bytes)
     }
 }
-
-impl BothBin for u16 {}
 
 impl BinFormat for u32 {
     ghost bin = { unsigned_format 4 };
@@ -145,8 +141,6 @@ impl DeBin for u32 {
     }
 }
 
-impl BothBin for u32 {}
-
 impl BinFormat for u64 {
     ghost bin = { unsigned_format 8 };
 
@@ -187,8 +181,6 @@ impl DeBin for u64 {
         read_run::<u64, 8>(alloc, count, offset, bytes)
     }
 }
-
-impl BothBin for u64 {}
 
 impl BinFormat for usize {
     ghost bin = { unsigned_format 8 };
@@ -235,8 +227,6 @@ impl DeBin for usize {
     }
 }
 
-impl BothBin for usize {}
-
 impl BinFormat for u128 {
     ghost bin = { unsigned_format 16 };
 
@@ -281,5 +271,3 @@ impl DeBin for u128 {
         read_run::<u128, 16>(alloc, count, offset, bytes)
     }
 }
-
-impl BothBin for u128 {}

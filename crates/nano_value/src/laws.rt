@@ -16,7 +16,8 @@ use crate::value::Value;
 /// of the key's last pair, and nothing else.
 pub fn tables_hold_last_values<K: Value, V: Value>()
     ensures { (entries : List (K × V)) (t : Table Meaning) →
-        (t ≡ table_of K.means V.means entries) ↔ HoldsLastValues (map (pair_map K.means V.means) entries) t }
+        (t ≡ table_of K.means V.means entries)
+        ↔ HoldsLastValues (map (pair_map K.means V.means) entries) t }
 {}
 
 /// Of entries with different keys, the ascending list is the one that strictly ascends and has the

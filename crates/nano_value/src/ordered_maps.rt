@@ -22,9 +22,11 @@ impl<K: Key + Ord, V: Value> Value for BTreeMap<K, V> {
 impl<K: Key + Ord, V: Key> Key for BTreeMap<K, V> {
     ghost order = { maps K.order V.order };
 
-    ghost exact = { λ x y. ordered_maps_tell K.cmp K.eq K.means V.eq V.means K.total K.matches_eq K.exact V.exact x.entries y.entries };
+    ghost exact = { λ x y. ordered_maps_tell K.cmp K.eq K.means V.eq V.means K.total K.matches_eq
+        K.exact V.exact x.entries y.entries };
 }
 
 impl<K: OrderedKey, V: OrderedKey> OrderedKey for BTreeMap<K, V> {
-    ghost follows = { λ x y. maps_follow K.cmp K.means K.order K.follows V.means V.cmp V.order V.follows x.entries y.entries };
+    ghost follows = { λ x y. maps_follow K.cmp K.means K.order K.follows V.means V.cmp V.order
+        V.follows x.entries y.entries };
 }

@@ -21,7 +21,8 @@ impl<T: Key + Ord> Value for BTreeSet<T> {
 impl<T: Key + Ord> Key for BTreeSet<T> {
     ghost order = { sets T.order };
 
-    ghost exact = { λ x y. ordered_tell T.cmp T.eq T.means T.total T.matches_eq T.exact x.keys y.keys };
+    ghost exact = { λ x y. ordered_tell T.cmp T.eq T.means T.total T.matches_eq T.exact x.keys
+        y.keys };
 }
 
 impl<T: OrderedKey> OrderedKey for BTreeSet<T> {

@@ -46,7 +46,8 @@ impl<A: Key, B: Key, C: Key> Key for (A, B, C) {
 }
 
 impl<A: Value, B: Value, C: Value, D: Value> Value for (A, B, C, D) {
-    ghost means = { λ x. paired (A.means x.0, paired (B.means x.1, paired (C.means x.2, D.means x.3))) };
+    ghost means = { λ x.
+        paired (A.means x.0, paired (B.means x.1, paired (C.means x.2, D.means x.3))) };
 
     ghost legal = { LegalPair A.legal (LegalPair B.legal (LegalPair C.legal D.legal)) };
 
@@ -62,19 +63,21 @@ impl<A: Value, B: Value, C: Value, D: Value> Value for (A, B, C, D) {
 impl<A: Key, B: Key, C: Key, D: Key> Key for (A, B, C, D) {
     ghost order = { pairs A.order (pairs B.order (pairs C.order D.order)) };
 
-    ghost exact = { quadruples_tell A.means A.eq B.means B.eq C.means C.eq D.means D.eq A.exact B.exact C.exact D.exact };
+    ghost exact = { quadruples_tell A.means A.eq B.means B.eq C.means C.eq D.means D.eq A.exact
+        B.exact C.exact D.exact };
 }
 
 impl<A: OrderedKey, B: OrderedKey> OrderedKey for (A, B) {
-    ghost follows = { pairs_follow A.cmp A.means A.order B.cmp B.means B.order A.follows B.follows };
+    ghost follows = { pairs_follow A.cmp A.means A.order B.cmp B.means B.order A.follows
+        B.follows };
 }
 
 impl<A: OrderedKey, B: OrderedKey, C: OrderedKey> OrderedKey for (A, B, C) {
-    ghost follows = { triples_follow A.cmp A.means A.order B.cmp B.means B.order C.cmp C.means C.order A.follows
-        B.follows C.follows };
+    ghost follows = { triples_follow A.cmp A.means A.order B.cmp B.means B.order C.cmp C.means
+        C.order A.follows B.follows C.follows };
 }
 
 impl<A: OrderedKey, B: OrderedKey, C: OrderedKey, D: OrderedKey> OrderedKey for (A, B, C, D) {
-    ghost follows = { quadruples_follow A.cmp A.means A.order B.cmp B.means B.order C.cmp C.means C.order D.cmp
-        D.means D.order A.follows B.follows C.follows D.follows };
+    ghost follows = { quadruples_follow A.cmp A.means A.order B.cmp B.means B.order C.cmp C.means
+        C.order D.cmp D.means D.order A.follows B.follows C.follows D.follows };
 }
