@@ -1,4 +1,5 @@
 // Texts: the length, and the bytes.
+// Reader and writer are inlined: what is read then passes through no answer with room for an error.
 ghost use Rattle.std.specs.Prelude.{◌≡◌, ◌≢◌, drop, refl, string_bytes, IfOk, IfErr, OnErr};
 ghost use Rattle.nano_value.specs.Meaning.{text};
 ghost use Rattle.nano_value.specs.Ties.{tied};
@@ -20,6 +21,7 @@ impl BinFormat for String {
 }
 
 impl SerBin for String {
+    #[inline(always)]
     fn ser_bin(&self, alloc: Global, output: &mut Vec<u8>) -> Result<(), AllocError> {
         let start = output.len();
         append_count(alloc, self.len(), output)?;
@@ -31,6 +33,7 @@ impl DeBin for String {
     ghost is_read = { refl };
 
     /// A refusal that is not for memory tells which bytes are missing, or are no UTF-8.
+    #[inline(always)]
     fn de_bin(alloc: Global, offset: &mut usize, bytes: &[u8]) -> Result<String, DeBinErr>
         ensures ok { IfOk result (λ value.
             Reads texts.spelled bytes.now offset.old (text (string_bytes value)) offset.new) }
