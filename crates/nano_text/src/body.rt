@@ -2,7 +2,7 @@
 // once. What is odd is left to the pieces (`string`), with nothing taken.
 ghost use Rattle.std.specs.Prelude.{◌≡◌, ◌≢◌, ◌++◌, ◌∷◌, ◌<◌, ◌≤◌, true, false, IfSome};
 ghost use Rattle.std.specs.Prelude.{List, ℕ, count_by, string_bytes, string_capacity};
-ghost use Rattle.std.specs.Prelude.{encode_utf8_all, length};
+ghost use Rattle.std.specs.Prelude.{◌+◌, drop, encode_utf8_all, length};
 ghost use Rattle.nano_text.specs.Front.{front};
 ghost use Rattle.nano_text.specs.Outcomes.{Counts};
 ghost use Rattle.nano_text.specs.Place.{begins_character, text_at};
@@ -29,6 +29,43 @@ fn begins_character(byte: u8) -> bool
     byte < 0x80 || 0xC0 <= byte
 }
 
+/// Whether a byte surely is a character of ASCII that stands for itself in a string, and in its line.
+/// Most come behind the backslash, so that is asked first.
+fn is_plain_ascii(byte: u8) -> bool
+    ensures { result ≡ true → (is_plain_in_line byte ≡ true) × (byte < 128) }
+{
+    byte > b'\\' && byte < 0x80 || byte >= b' ' && byte < b'\\' && byte != b'"'
+}
+
+/// Counts bytes of ASCII that stand for themselves in their line, four in a turn; near the end of the
+/// bytes more of them may follow.
+#[inline(always)]
+fn ascii_run(bytes: &[u8]) -> usize
+    ensures within { result ≤ length bytes.now }
+    ensures len { length (front is_plain_in_line bytes.now)
+        ≡ result + length (front is_plain_in_line (drop result bytes.now)) }
+    ensures columns { count_by begins_character (front is_plain_in_line bytes.now)
+        ≡ result + count_by begins_character (front is_plain_in_line (drop result bytes.now)) }
+{
+    let mut len = 0;
+    'fours: while let Some(four) = bytes[len..].first_chunk::<4>() {
+        if !is_plain_ascii(four[0]) {
+            return len;
+        }
+        if !is_plain_ascii(four[1]) {
+            return len + 1;
+        }
+        if !is_plain_ascii(four[2]) {
+            return len + 2;
+        }
+        if !is_plain_ascii(four[3]) {
+            return len + 3;
+        }
+        len += 4;
+    }
+    len
+}
+
 /// The longest front of some bytes that stands for itself in its line.
 #[derive(Clone, Copy)]
 struct PlainRun {
@@ -45,9 +82,11 @@ fn plain_run(bytes: &[u8]) -> PlainRun
     ensures columns { result.columns
         ≡ count_by begins_character (front is_plain_in_line bytes.now) }
 {
-    let mut columns = 0;
-    for (len, byte) in bytes.iter().enumerate() {
+    let ascii = ascii_run(bytes);
+    let mut columns = ascii;
+    for (more, byte) in bytes[ascii..].iter().enumerate() {
         if !is_plain_in_line(*byte) {
+            let len = ascii + more;
             return PlainRun { len, columns };
         }
         if begins_character(*byte) {

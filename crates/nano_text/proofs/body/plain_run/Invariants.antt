@@ -4,10 +4,11 @@ use Rattle.nano_text.specs.Place.{begins_character}
 use Rattle.nano_text.specs.String.{is_plain_in_line}
 use Rattle.nano_text.proofs.body.plain_run.Given as goal
 
-abbrev pub invariant-loop-len : goal.invariant-loop-len
-invariant-loop-len l = record {
-  len : length (front is_plain_in_line l.bytes) ≡ l.len + length (front is_plain_in_line (drop l.len l.bytes));
+abbrev pub invariant-loop-more : goal.invariant-loop-more
+invariant-loop-more l = record {
+  len : length (front is_plain_in_line l.bytes)
+      ≡ l.ascii + l.more + length (front is_plain_in_line (drop (l.ascii + l.more) l.bytes));
   columns : count_by begins_character (front is_plain_in_line l.bytes)
-      ≡ l.columns + count_by begins_character (front is_plain_in_line (drop l.len l.bytes));
-  few : l.columns ≤ l.len;
+      ≡ l.columns + count_by begins_character (front is_plain_in_line (drop (l.ascii + l.more) l.bytes));
+  few : l.columns ≤ l.ascii + l.more;
 }
