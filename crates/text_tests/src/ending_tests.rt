@@ -1,7 +1,7 @@
 // Numbers and strings that end in each way, and strings with each kind of character at each of eight
 // places: what was read, and the place behind it.
 use crate::lexeme_tests::{StringRow, before, check_string, is_at, is_held, is_read};
-use nano_text::{Fault, Number, read_number};
+use nano_text::{Fault, Number, read_number, read_string};
 use std::process::Abort;
 
 /// A text, the number that it begins with, and the current character, what `Chars` holds, the line
@@ -173,8 +173,8 @@ fn numbers_end(rt: HostRuntime) {
     }
 }
 
-/// Strings of eight characters, of which each in turn is beyond ASCII, an escape, a line feed and
-/// NUL.
+/// Strings of eight characters, of which each in turn is beyond ASCII, an escape, a line feed, NUL,
+/// a code unit, an escaped quote, the closing quote and the end of the text.
 const PLACES: &[StringRow] = &[
     ("\"ébcdefgh\",", Ok("ébcdefgh"), ',', 0, 11),
     ("\"aécdefgh\",", Ok("aécdefgh"), ',', 0, 11),
@@ -208,6 +208,38 @@ const PLACES: &[StringRow] = &[
     ("\"abcde\0gh\",", Err(Fault::Malformed), '\0', 0, 7),
     ("\"abcdef\0h\",", Err(Fault::Malformed), '\0', 0, 8),
     ("\"abcdefg\0\",", Err(Fault::Malformed), '\0', 0, 9),
+    (r#""\u00e9bcdefgh","#, Ok("ébcdefgh"), ',', 0, 16),
+    (r#""a\u00e9cdefgh","#, Ok("aécdefgh"), ',', 0, 16),
+    (r#""ab\u00e9defgh","#, Ok("abédefgh"), ',', 0, 16),
+    (r#""abc\u00e9efgh","#, Ok("abcéefgh"), ',', 0, 16),
+    (r#""abcd\u00e9fgh","#, Ok("abcdéfgh"), ',', 0, 16),
+    (r#""abcde\u00e9gh","#, Ok("abcdeégh"), ',', 0, 16),
+    (r#""abcdef\u00e9h","#, Ok("abcdeféh"), ',', 0, 16),
+    (r#""abcdefg\u00e9","#, Ok("abcdefgé"), ',', 0, 16),
+    (r#""\"bcdefgh","#, Ok(r#""bcdefgh"#), ',', 0, 12),
+    (r#""a\"cdefgh","#, Ok(r#"a"cdefgh"#), ',', 0, 12),
+    (r#""ab\"defgh","#, Ok(r#"ab"defgh"#), ',', 0, 12),
+    (r#""abc\"efgh","#, Ok(r#"abc"efgh"#), ',', 0, 12),
+    (r#""abcd\"fgh","#, Ok(r#"abcd"fgh"#), ',', 0, 12),
+    (r#""abcde\"gh","#, Ok(r#"abcde"gh"#), ',', 0, 12),
+    (r#""abcdef\"h","#, Ok(r#"abcdef"h"#), ',', 0, 12),
+    (r#""abcdefg\"","#, Ok(r#"abcdefg""#), ',', 0, 12),
+    ("\"\",", Ok(""), ',', 0, 3),
+    ("\"a\",", Ok("a"), ',', 0, 4),
+    ("\"ab\",", Ok("ab"), ',', 0, 5),
+    ("\"abc\",", Ok("abc"), ',', 0, 6),
+    ("\"abcd\",", Ok("abcd"), ',', 0, 7),
+    ("\"abcde\",", Ok("abcde"), ',', 0, 8),
+    ("\"abcdef\",", Ok("abcdef"), ',', 0, 9),
+    ("\"abcdefg\",", Ok("abcdefg"), ',', 0, 10),
+    ("\"", Err(Fault::Malformed), '\0', 0, 1),
+    ("\"a", Err(Fault::Malformed), '\0', 0, 2),
+    ("\"ab", Err(Fault::Malformed), '\0', 0, 3),
+    ("\"abc", Err(Fault::Malformed), '\0', 0, 4),
+    ("\"abcd", Err(Fault::Malformed), '\0', 0, 5),
+    ("\"abcde", Err(Fault::Malformed), '\0', 0, 6),
+    ("\"abcdef", Err(Fault::Malformed), '\0', 0, 7),
+    ("\"abcdefg", Err(Fault::Malformed), '\0', 0, 8),
 ];
 
 #[test]
@@ -215,5 +247,51 @@ fn strings_of_each_character(rt: HostRuntime) {
     let mut strbuf = String::new(rt.alloc());
     for row in PLACES {
         check_string(&rt, row, &mut strbuf);
+    }
+}
+
+/// A text, the string that it begins with, and the current character, what `Chars` holds, the line
+/// and the column afterwards.
+type BehindRow = (&'static str, &'static str, char, &'static str, usize, usize);
+
+/// Strings with each kind of character before the closing quote and behind it.
+const BEHIND: &[BehindRow] = &[
+    ("\"ab\"cd", "ab", 'c', "d", 0, 5),
+    ("\"ab\"\"c\"", "ab", '"', "c\"", 0, 5),
+    ("\"ab\"éx", "ab", 'é', "x", 0, 5),
+    ("\"ab\"😋", "ab", '😋', "", 0, 5),
+    ("\"ab\"\n\nx", "ab", '\n', "\nx", 1, 0),
+    ("\"ab\"\0x", "ab", '\0', "x", 0, 5),
+    ("\"ab\"", "ab", '\0', "", 0, 4),
+    ("\"é😋\"\nx", "é😋", '\n', "x", 1, 0),
+    ("\"a\u{7f}é\u{80}b\",x", "a\u{7f}é\u{80}b", ',', "x", 0, 8),
+    ("\"a\tb\",x", "a\tb", ',', "x", 0, 6),
+    ("\"a\u{1f}b\",x", "a\u{1f}b", ',', "x", 0, 6),
+    ("\"ab\ncd\",x", "ab\ncd", ',', "x", 1, 4),
+    (r#""ab\\",x"#, "ab\\", ',', "x", 0, 7),
+    (r#""é\né\n",x"#, "é\né\n", ',', "x", 0, 9),
+    (r#""\r\b\f\0\/\~",x"#, "\r\u{8}\u{c}\0/~", ',', "x", 0, 15),
+    (r#""ab\é",x"#, "abé", ',', "x", 0, 7),
+    ("\"ab\\\ncd\",x", "ab\ncd", ',', "x", 1, 4),
+    (r#""ab\u0041\n",x"#, "abA\n", ',', "x", 0, 13),
+];
+
+fn check_behind(rt: &impl Abort, row: &BehindRow, strbuf: &mut String) {
+    let (text, string, cur, held, line, col) = row;
+    let mut i = text.chars();
+    let mut p = before();
+    p.next(&mut i);
+    let read = read_string(&mut p, &mut i, strbuf);
+    assert_eq!(rt; read.err(), None, "{text}");
+    is_held(rt, strbuf.as_str(), string);
+    is_at(rt, &p, (*cur, *line, *col), text);
+    is_held(rt, i.as_str(), held);
+}
+
+#[test]
+fn strings_end(rt: HostRuntime) {
+    let mut strbuf = String::new(rt.alloc());
+    for row in BEHIND {
+        check_behind(&rt, row, &mut strbuf);
     }
 }
