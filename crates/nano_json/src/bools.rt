@@ -6,7 +6,7 @@ ghost use Rattle.nano_json.specs.Bools.{truths, units, truth_format, unit_format
 ghost use Rattle.nano_json.specs.Readers.{Reads, Refuses};
 ghost use Rattle.nano_json.specs.State.{at};
 
-use crate::traits::{BothJson, DeJson, JsonFormat, SerJson};
+use crate::traits::{DeJson, JsonFormat, SerJson};
 use json_tokens::{DeJsonErr, DeJsonState, SerJsonState, end_if_refused};
 use std::alloc::{AllocError, Global};
 use std::str::Chars;
@@ -54,8 +54,6 @@ impl DeJson for bool {
     }
 }
 
-impl BothJson for bool {}
-
 impl JsonFormat for () {
     ghost json = { unit_format };
 
@@ -92,5 +90,3 @@ impl DeJson for () {
         end_if_refused(state, read)
     }
 }
-
-impl BothJson for () {}

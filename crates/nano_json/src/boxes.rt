@@ -4,7 +4,7 @@ ghost use Rattle.nano_json.specs.Format.{format_as};
 ghost use Rattle.nano_json.specs.Readers.{Reads, Refuses};
 ghost use Rattle.nano_json.specs.State.{at};
 
-use crate::traits::{BothJson, DeJson, JsonFormat, SerJson};
+use crate::traits::{DeJson, JsonFormat, SerJson};
 use json_tokens::{DeJsonErr, DeJsonState, SerJsonState, end_if_refused};
 use std::alloc::{AllocError, Global};
 use std::str::Chars;
@@ -48,5 +48,3 @@ impl<T: DeJson> DeJson for Box<T> {
         end_if_refused(state, read)
     }
 }
-
-impl<T: BothJson> BothJson for Box<T> {}

@@ -9,7 +9,7 @@ ghost use Rattle.nano_json.specs.Lists.{list_of, array_of, in_list, written_list
 ghost use Rattle.nano_json.specs.Lists.{array_format};
 ghost use Rattle.nano_json.specs.State.{at};
 
-use crate::traits::{BothJson, DeJson, JsonFormat, SerJson};
+use crate::traits::{DeJson, JsonFormat, SerJson};
 use json_tokens::{DeJsonErr, DeJsonState, SerJsonState, end_if_refused};
 use nano_text::keep_written;
 use std::alloc::{AllocError, Global};
@@ -105,8 +105,6 @@ impl<T: SerJson> SerJson for Vec<T> {
     }
 }
 
-impl<T: BothJson> BothJson for Vec<T> {}
-
 impl<T: JsonFormat> JsonFormat for LinkedList<T> {
     ghost json = { list_format T.json };
 
@@ -175,8 +173,6 @@ impl<T: SerJson> SerJson for LinkedList<T> {
         keep_written(&mut s.out, start, written)
     }
 }
-
-impl<T: BothJson> BothJson for LinkedList<T> {}
 
 impl<T: JsonFormat> JsonFormat for &[T] {
     ghost json = { format_as (λ x. x.now) (list_format T.json) };
@@ -262,5 +258,3 @@ impl<T: SerJson, const N: usize> SerJson for [T; N] {
         keep_written(&mut s.out, start, written)
     }
 }
-
-impl<T: BothJson, const N: usize> BothJson for [T; N] {}

@@ -13,7 +13,7 @@ ghost use Rattle.nano_json.specs.Readers.{Reads, Refuses};
 ghost use Rattle.nano_json.specs.State.{at};
 
 use crate::lists::append_item;
-use crate::traits::{BothJson, DeJson, JsonFormat, SerJson};
+use crate::traits::{DeJson, JsonFormat, SerJson};
 use json_tokens::{DeJsonErr, DeJsonState, SerJsonState, bytes_left, end_if_refused};
 use nano_text::keep_written;
 use nano_value::{Key, OrderedKey, entries_by_rank};
@@ -131,5 +131,3 @@ impl<K: SerJson + OrderedKey + Hash, V: SerJson> SerJson for HashMap<K, V> {
         keep_written(&mut s.out, start, written)
     }
 }
-
-impl<K: BothJson + OrderedKey + Hash, V: BothJson> BothJson for HashMap<K, V> {}

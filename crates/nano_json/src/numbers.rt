@@ -8,7 +8,7 @@ ghost use Rattle.nano_json.specs.State.{at};
 ghost use Rattle.nano_json.specs.Numbers.{unsigned, unsigned_format, below_8, below_16, below_32};
 ghost use Rattle.nano_json.specs.Numbers.{below_64};
 
-use crate::traits::{BothJson, DeJson, JsonFormat, SerJson};
+use crate::traits::{DeJson, JsonFormat, SerJson};
 use json_tokens::{DeJsonErr, DeJsonState, SerJsonState, end_if_refused};
 use nano_text::append_unsigned;
 use std::alloc::{AllocError, Global};
@@ -82,8 +82,6 @@ impl DeJson for u8 {
     }
 }
 
-impl BothJson for u8 {}
-
 impl JsonFormat for u16 {
     ghost json = { unsigned_format 16 below_16 };
 
@@ -117,8 +115,6 @@ impl DeJson for u16 {
         end_if_refused(state, read)
     }
 }
-
-impl BothJson for u16 {}
 
 impl JsonFormat for u32 {
     ghost json = { unsigned_format 32 below_32 };
@@ -154,8 +150,6 @@ impl DeJson for u32 {
     }
 }
 
-impl BothJson for u32 {}
-
 impl JsonFormat for u64 {
     ghost json = { unsigned_format 64 below_64 };
 
@@ -190,8 +184,6 @@ impl DeJson for u64 {
     }
 }
 
-impl BothJson for u64 {}
-
 impl JsonFormat for usize {
     ghost json = { unsigned_format 64 below_64 };
 
@@ -225,5 +217,3 @@ impl DeJson for usize {
         end_if_refused(state, read)
     }
 }
-
-impl BothJson for usize {}

@@ -2,7 +2,7 @@
 ghost use Rattle.nano_value.specs.Ties.{option_ties};
 ghost use Rattle.nano_json.specs.Options.{option_format};
 
-use crate::traits::{BothJson, DeJson, JsonFormat, SerJson};
+use crate::traits::{DeJson, JsonFormat, SerJson};
 use json_tokens::{DeJsonErr, DeJsonState, SerJsonState};
 use std::alloc::{AllocError, Global};
 use std::str::Chars;
@@ -36,5 +36,3 @@ impl<T: DeJson> DeJson for Option<T> {
         Ok(Some(value))
     }
 }
-
-impl<T: BothJson> BothJson for Option<T> {}

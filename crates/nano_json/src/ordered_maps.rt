@@ -10,7 +10,7 @@ ghost use Rattle.nano_json.specs.Readers.{Reads, Refuses};
 ghost use Rattle.nano_json.specs.State.{at};
 
 use crate::maps::{append_entry, read_entry};
-use crate::traits::{BothJson, DeJson, JsonFormat, SerJson};
+use crate::traits::{DeJson, JsonFormat, SerJson};
 use json_tokens::{DeJsonErr, DeJsonState, SerJsonState, bytes_left, end_if_refused};
 use nano_text::keep_written;
 use nano_value::{Key, OrderedKey};
@@ -91,5 +91,3 @@ impl<K: SerJson + OrderedKey, V: SerJson> SerJson for BTreeMap<K, V> {
         keep_written(&mut s.out, start, written)
     }
 }
-
-impl<K: BothJson + OrderedKey, V: BothJson> BothJson for BTreeMap<K, V> {}

@@ -12,7 +12,7 @@ ghost use Rattle.nano_json.specs.Sets.{SpellsSet, set_format, ordered_format};
 ghost use Rattle.nano_json.specs.State.{at};
 
 use crate::lists::append_item;
-use crate::traits::{BothJson, DeJson, JsonFormat, SerJson};
+use crate::traits::{DeJson, JsonFormat, SerJson};
 use json_tokens::{DeJsonErr, DeJsonState, SerJsonState, bytes_left, end_if_refused};
 use nano_text::keep_written;
 use nano_value::{Key, OrderedKey, items_in_order};
@@ -93,8 +93,6 @@ impl<T: SerJson + OrderedKey + Hash> SerJson for HashSet<T> {
     }
 }
 
-impl<T: BothJson + OrderedKey + Hash> BothJson for HashSet<T> {}
-
 impl<T: JsonFormat + Key + Ord> JsonFormat for BTreeSet<T> {
     ghost json = { format_as (λ x. x.keys) (ordered_format T.order T.cmp T.json) };
 
@@ -166,5 +164,3 @@ impl<T: SerJson + OrderedKey> SerJson for BTreeSet<T> {
         keep_written(&mut s.out, start, written)
     }
 }
-
-impl<T: BothJson + OrderedKey> BothJson for BTreeSet<T> {}

@@ -8,7 +8,7 @@ ghost use Rattle.nano_json.specs.Numbers.{within_32, within_64};
 ghost use Rattle.nano_json.specs.Readers.{Reads, Refuses};
 ghost use Rattle.nano_json.specs.State.{at};
 
-use crate::traits::{BothJson, DeJson, JsonFormat, SerJson};
+use crate::traits::{DeJson, JsonFormat, SerJson};
 use json_tokens::{DeJsonErr, DeJsonState, SerJsonState, end_if_refused};
 use nano_text::append_signed;
 use std::alloc::{AllocError, Global};
@@ -84,8 +84,6 @@ impl DeJson for i8 {
     }
 }
 
-impl BothJson for i8 {}
-
 impl JsonFormat for i16 {
     ghost json = { signed_format w16 within_16 };
 
@@ -119,8 +117,6 @@ impl DeJson for i16 {
         end_if_refused(state, read)
     }
 }
-
-impl BothJson for i16 {}
 
 impl JsonFormat for i32 {
     ghost json = { signed_format w32 within_32 };
@@ -156,8 +152,6 @@ impl DeJson for i32 {
     }
 }
 
-impl BothJson for i32 {}
-
 impl JsonFormat for i64 {
     ghost json = { signed_format w64 within_64 };
 
@@ -191,5 +185,3 @@ impl DeJson for i64 {
         end_if_refused(state, read)
     }
 }
-
-impl BothJson for i64 {}

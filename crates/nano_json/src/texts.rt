@@ -8,7 +8,7 @@ ghost use Rattle.nano_json.specs.Readers.{Reads, Refuses};
 ghost use Rattle.nano_json.specs.Texts.{texts, text_format};
 ghost use Rattle.nano_json.specs.State.{at};
 
-use crate::traits::{BothJson, DeJson, JsonFormat, SerJson};
+use crate::traits::{DeJson, JsonFormat, SerJson};
 use json_tokens::{DeJsonErr, DeJsonState, SerJsonState, append_string, end_if_refused};
 use std::alloc::{AllocError, Global};
 use std::str::Chars;
@@ -53,8 +53,6 @@ impl DeJson for String {
         end_if_refused(state, read)
     }
 }
-
-impl BothJson for String {}
 
 impl JsonFormat for &str {
     ghost json = { format_as (λ x. x.now) text_format };

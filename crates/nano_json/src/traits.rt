@@ -109,5 +109,7 @@ pub trait DeJson: JsonFormat + Drop {
 }
 
 /// A value that is read back from what is written, where it is sound: nowhere inside it a `Some`
-/// stands around what is written as `null`.
+/// stands around what is written as `null`. Each type with a writer and a reader is one.
 pub trait BothJson: SerJson + DeJson {}
+
+impl<T: SerJson + DeJson> BothJson for T {}

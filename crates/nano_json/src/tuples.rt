@@ -8,7 +8,7 @@ ghost use Rattle.nano_json.specs.State.{at};
 ghost use Rattle.nano_json.specs.Tuples.{last_format, two_parts, three_parts, four_parts};
 ghost use Rattle.nano_json.specs.Tuples.{pair_format, triple_format, quadruple_format};
 
-use crate::traits::{BothJson, DeJson, JsonFormat, SerJson};
+use crate::traits::{DeJson, JsonFormat, SerJson};
 use json_tokens::{DeJsonErr, DeJsonState, SerJsonState, end_if_refused};
 use nano_text::keep_written;
 use std::alloc::{AllocError, Global};
@@ -165,8 +165,6 @@ impl<A: DeJson, B: DeJson> DeJson for (A, B) {
     }
 }
 
-impl<A: BothJson, B: BothJson> BothJson for (A, B) {}
-
 // ---- three parts
 
 impl<A: JsonFormat, B: JsonFormat, C: JsonFormat> JsonFormat for (A, B, C) {
@@ -227,8 +225,6 @@ impl<A: DeJson, B: DeJson, C: DeJson> DeJson for (A, B, C) {
         end_if_refused(state, read)
     }
 }
-
-impl<A: BothJson, B: BothJson, C: BothJson> BothJson for (A, B, C) {}
 
 // ---- four parts
 
@@ -291,5 +287,3 @@ impl<A: DeJson, B: DeJson, C: DeJson, D: DeJson> DeJson for (A, B, C, D) {
         end_if_refused(state, read)
     }
 }
-
-impl<A: BothJson, B: BothJson, C: BothJson, D: BothJson> BothJson for (A, B, C, D) {}

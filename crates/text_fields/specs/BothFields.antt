@@ -161,11 +161,12 @@ module _ {T : Type 0} {c : Cutting T} {g : Grammar T} {s : FieldStyle c g} {A B 
       also_meant =
           let second =
           h.are_meant apart.second x.1 (parts x legal).1 sound.1 more unknown_to_second in
+          let behind = h.writing.means x.1 in
           subst (λ fs. Both.shape.means fs (Means x)) (sym in_a_row) (record {
-            part = (f.writing.means x.0, h.writing.means x.1);
+            part = (f.writing.means x.0, behind);
             has = (
               f.are_meant apart.first x.0 (parts x legal).0 sound.0 (Seconds ++ more) behind_first,
-              subst (λ fs. h.struct.shape.means fs (h.writing.means x.1)) (sym seen_by_second) second,
+              subst (λ fs. h.struct.shape.means fs behind) (sym seen_by_second) second,
             );
             is = refl;
           })

@@ -15,7 +15,8 @@ use Rattle.text_fields.specs.Fields.{both_fields, others}
 
 -- of what may stand behind a name, nothing is a proper beginning of another
 abbrev pub Apart : {T : Type 0} → (List ℕ → List T → Type 0) → Type 0
-Apart {T} takes = (name : List ℕ) (us more : List T) → takes name us → takes name (us ++ more) → more ≡ []
+Apart {T} takes = (name : List ℕ) (us more : List T)
+    → takes name us → takes name (us ++ more) → more ≡ []
 
 -- what stands behind a name is told apart, a list of fields means one thing, and what it means is
 -- legal

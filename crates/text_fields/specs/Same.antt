@@ -1,5 +1,5 @@
--- Structs whose fields are spelled alike, whatever the tokens are. A description holds relations, so
--- that an equation of two is too large for a clause.
+-- Structs whose fields are spelled alike, whatever the tokens are. A description holds relations,
+-- so that an equation of two is too large for a clause.
 use Rattle.std.specs.Prelude.{◌≡◌, ℕ, ◌||◌, Bool, true, false, List, [], ◌∷◌, refl}
 use Rattle.std.proofs.Common.{ap, subst, inl, inr}
 use Rattle.nano_value.specs.Meaning.{Meaning}

@@ -79,8 +79,10 @@ module _ {T : Type 0} where
   others_more knows (g ∷ fs) f =
       let rest = others knows fs in
       let more = others knows (f ∷ []) in
+      let Joined : Bool → Type 0 =
+      λ b. unless_known b g (rest ++ more) ≡ unless_known b g rest ++ more in
       ap (λ (xs : List (Field T)). unless_known (knows g.name) g xs) (others_more knows fs f)
-      ∙ elim (knows g.name) as (λ b. unless_known b g (rest ++ more) ≡ unless_known b g rest ++ more) [
+      ∙ elim (knows g.name) as Joined [
         | true ↦ refl
         | false ↦ refl
       ]

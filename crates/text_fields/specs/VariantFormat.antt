@@ -190,7 +190,10 @@ module _ {T : Type 0} {c : Cutting T} {g : Grammar T} {s : VariantStyle c g} whe
   unit_is_that from no_variants x name e = absurd x
   unit_is_that from (unit_variant first others) (inl x) name e =
       let rest = unit_named (suc from) (spellings others) name in
-      elim (bytes_eq name first) as (λ b. bytes_eq name first ≡ b → cond b (Some from) rest ≡ Some from → Unit {0} × (s.alone first ≡ s.alone name)) [
+      let That = Unit {0} × (s.alone first ≡ s.alone name) in
+      let Shown : Bool → Type 0 =
+      λ b. bytes_eq name first ≡ b → cond b (Some from) rest ≡ Some from → That in
+      elim (bytes_eq name first) as Shown [
         | true ↦ λ same e. (tt, ap s.alone (sym ((bytes_eq-Decides name first).0 same)))
         | false ↦ λ same e.
             let legal = unit_is_legal s (suc from) (spellings others) name from e in
@@ -199,7 +202,9 @@ module _ {T : Type 0} {c : Cutting T} {g : Grammar T} {s : VariantStyle c g} whe
   unit_is_that from (unit_variant first others) (inr x) name e =
       let rest = unit_named (suc from) (spellings others) name in
       let That = SoundContent others x × (seen_tokens others x ≡ s.alone name) in
-      elim (bytes_eq name first) as (λ b. cond b (Some from) rest ≡ Some (tag_of (suc from) others x) → That) [
+      let Shown : Bool → Type 0 =
+      λ b. cond b (Some from) rest ≡ Some (tag_of (suc from) others x) → That in
+      elim (bytes_eq name first) as Shown [
         | true ↦ λ e. absurd (first_is_none_behind from others x (some_injective _ _ e))
         | false ↦ λ e. unit_is_that (suc from) others x name e
       ] e
@@ -225,12 +230,16 @@ module _ {T : Type 0} {c : Cutting T} {g : Grammar T} {s : VariantStyle c g} whe
       let rest = content_named (suc from) (spellings others) name in
       let behind = format.writing.tokens x ++ s.closing in
       let That = format.sound x × BeginsWith (s.opened name) (s.opened first ++ behind) in
-      elim (bytes_eq name first) as (λ b. bytes_eq name first ≡ b → SpellsFound s (either_found b (found from format.spelling) rest) ts m → That) [
+      let this = found from format.spelling in
+      let Shown : Bool → Type 0 =
+      λ b. bytes_eq name first ≡ b → SpellsFound s (either_found b this rest) ts m → That in
+      elim (bytes_eq name first) as Shown [
         | true ↦ λ same h.
             let content = sym (same_content _ _ _ _ h.is) in
             let spelled = subst (format.spelling.spelled h.has.0) content h.has.2 in
             let names = sym ((bytes_eq-Decides name first).0 same) in
-            (format.spelled_is_sound x h.has.0 spelled, (behind, ap (λ n. s.opened n ++ behind) names))
+            let begins = ap (λ n. s.opened n ++ behind) names in
+            (format.spelled_is_sound x h.has.0 spelled, (behind, begins))
         | false ↦ λ same h.
             let legal = found_is_legal s (suc from) (spellings others) name ts m h in
             absurd (none_behind from others (format.writing.means x) legal)
@@ -239,7 +248,9 @@ module _ {T : Type 0} {c : Cutting T} {g : Grammar T} {s : VariantStyle c g} whe
       let m = seen_means (suc from) others x in
       let rest = content_named (suc from) (spellings others) name in
       let That = SoundContent others x × BeginsWith (s.opened name) (seen_tokens others x) in
-      elim (bytes_eq name first) as (λ b. SpellsFound s (either_found b (found from content.format.spelling) rest) ts m → That) [
+      let this = found from content.format.spelling in
+      let Shown : Bool → Type 0 = λ b. SpellsFound s (either_found b this rest) ts m → That in
+      elim (bytes_eq name first) as Shown [
         | true ↦ λ h. absurd (first_is_none_behind from others x (sym (same_place _ _ _ _ h.is)))
         | false ↦ λ h. content_is_that (suc from) others x name ts h
       ] h

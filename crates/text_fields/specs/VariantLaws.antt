@@ -29,7 +29,9 @@ module _ {C : Type 1} where
       (unit_has_name (suc from) others name tag e)
   unit_has_name from (unit_variant first others) name tag e =
       let rest = unit_named (suc from) others name in
-      elim (bytes_eq name first) as (λ b. cond b (Some from) rest ≡ Some tag → b || has_name others name ≡ true) [
+      let Shown : Bool → Type 0 =
+      λ b. cond b (Some from) rest ≡ Some tag → b || has_name others name ≡ true in
+      elim (bytes_eq name first) as Shown [
         | true ↦ λ e. refl
         | false ↦ λ e. unit_has_name (suc from) others name tag e
       ] e
@@ -58,7 +60,10 @@ module _ {T : Type 0} {c : Cutting T} {g : Grammar T} (s : VariantStyle c g) whe
       (content_has_name (suc from) others name ts m h)
   content_has_name from (variant first content others) name ts m h =
       let rest = content_named (suc from) others name in
-      elim (bytes_eq name first) as (λ b. SpellsFound s (either_found b (found from content) rest) ts m → b || has_name others name ≡ true) [
+      let this = found from content in
+      let Shown : Bool → Type 0 =
+      λ b. SpellsFound s (either_found b this rest) ts m → b || has_name others name ≡ true in
+      elim (bytes_eq name first) as Shown [
         | true ↦ λ h. refl
         | false ↦ λ h. content_has_name (suc from) others name ts m h
       ] h
@@ -71,7 +76,9 @@ module _ {T : Type 0} {c : Cutting T} {g : Grammar T} (s : VariantStyle c g) whe
   one_kind from (unit_variant first others) differ name tag ts m h k =
       let parts = and_parts (not (has_name others first)) (names_differ others) differ in
       let rest = unit_named (suc from) others name in
-      elim (bytes_eq name first) as (λ b. bytes_eq name first ≡ b → cond b (Some from) rest ≡ Some tag → ⊥) [
+      let Shown : Bool → Type 0 =
+      λ b. bytes_eq name first ≡ b → cond b (Some from) rest ≡ Some tag → ⊥ in
+      elim (bytes_eq name first) as Shown [
         | true ↦ λ e h.
             let has = content_has_name (suc from) others name ts m k in
             same_as_first others name first has parts.0 e
@@ -80,7 +87,10 @@ module _ {T : Type 0} {c : Cutting T} {g : Grammar T} (s : VariantStyle c g) whe
   one_kind from (variant first content others) differ name tag ts m h k =
       let parts = and_parts (not (has_name others first)) (names_differ others) differ in
       let rest = content_named (suc from) others name in
-      elim (bytes_eq name first) as (λ b. bytes_eq name first ≡ b → SpellsFound s (either_found b (found from content) rest) ts m → ⊥) [
+      let this = found from content in
+      let Shown : Bool → Type 0 =
+      λ b. bytes_eq name first ≡ b → SpellsFound s (either_found b this rest) ts m → ⊥ in
+      elim (bytes_eq name first) as Shown [
         | true ↦ λ e k.
             let has = unit_has_name (suc from) others name tag h in
             same_as_first others name first has parts.0 e
@@ -97,13 +107,15 @@ module _ {T : Type 0} {c : Cutting T} {g : Grammar T} (s : VariantStyle c g) whe
       sym (append_assoc h.0 s.closing more)
       ∙ (ap (λ (l : List T). l ++ more) (sym h.1) ∙ (e ∙ k.1)) in
       let none = sp.laws.none_begins in
-      let same = same_front sp.spelled none h.0 (s.closing ++ more) k.0 s.closing m n h.2 k.2 whole in (
+      let same =
+      same_front sp.spelled none h.0 (s.closing ++ more) k.0 s.closing m n h.2 k.2 whole in (
         nothing_behind s.closing more same.1,
         sp.laws.one_value k.0 m n (subst (λ (l : List T). sp.spelled l m) same.0 h.2) k.2,
       ) where
         nothing_behind : (a more : List T) → a ++ more ≡ a → more ≡ []
         nothing_behind [] more e = e
-        nothing_behind (t ∷ a) more e = let rest : a ++ more ≡ a = cc e in nothing_behind a more rest
+        nothing_behind (t ∷ a) more e =
+            let rest : a ++ more ≡ a = cc e in nothing_behind a more rest
 
   found_same : (f : Found (Spelling g)) (a b more : List T) (m n : Meaning)
       → SpellsFound s f a m → SpellsFound s f b n → a ++ more ≡ b → (more ≡ []) × (m ≡ n)
@@ -190,7 +202,9 @@ module _ {T : Type 0} {c : Cutting T} {g : Grammar T} (s : VariantStyle c g) whe
   found_is_legal from (variant first content others) name ts m h =
       let rest = content_named (suc from) others name in
       let Legal = LegalFrom from (sums_of (variant first content others)) m in
-      elim (bytes_eq name first) as (λ b. SpellsFound s (either_found b (found from content) rest) ts m → Legal) [
+      let Shown : Bool → Type 0 =
+      λ b. SpellsFound s (either_found b (found from content) rest) ts m → Legal in
+      elim (bytes_eq name first) as Shown [
         | true ↦ λ h. inl (record {
           part = h.part;
           has = content.laws.is_legal h.has.0 h.part h.has.2;
