@@ -29,16 +29,16 @@ fn begins_character(byte: u8) -> bool
     byte < 0x80 || 0xC0 <= byte
 }
 
-/// Whether a byte surely is a character of ASCII that stands for itself in a string, and in its line.
-/// Most come behind the backslash, so that is asked first.
+/// Whether a byte surely is a character of ASCII that stands for itself in a string, and in its
+/// line. Most come behind the backslash, so that is asked first.
 fn is_plain_ascii(byte: u8) -> bool
     ensures { result ≡ true → (is_plain_in_line byte ≡ true) × (byte < 128) }
 {
     byte > b'\\' && byte < 0x80 || byte >= b' ' && byte < b'\\' && byte != b'"'
 }
 
-/// Counts bytes of ASCII that stand for themselves in their line, four in a turn; near the end of the
-/// bytes more of them may follow.
+/// Counts bytes of ASCII that stand for themselves in their line, four in a turn; near the end of
+/// the bytes more of them may follow.
 #[inline(always)]
 fn ascii_run(bytes: &[u8]) -> usize
     ensures within { result ≤ length bytes.now }

@@ -232,9 +232,5 @@ pub fn read_string(p: &mut Place, i: &mut Chars<'_>, strbuf: &mut String) -> Res
     if read_at_once(p, i, strbuf) {
         return Ok(());
     }
-    // The place of the caller stays in registers where no address of it is handed out.
-    let mut place = *p;
-    let read = read_pieces(&mut place, i, strbuf);
-    *p = place;
-    read
+    read_pieces(p, i, strbuf)
 }
