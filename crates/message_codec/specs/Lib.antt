@@ -1,4 +1,1 @@
-pub mod Faults
-pub mod Frames
-pub mod Left
 pub mod Message

@@ -4,11 +4,10 @@
 //! reads standard input in chunks of at most so many bytes, and prints each message on a line.
 #![tactic(auto)]
 
-mod frames;
 mod message;
 
 use anyhow::{Context, Result, bail};
-use frames::{Messages, put};
+use bin_frames::{Messages, put};
 use message::Message;
 use std::alloc::{AllocError, Global};
 use std::collections::HashMap;

@@ -5,6 +5,11 @@ use Rattle.std.specs.BTreeMap.{BTreeMap, get_by_text}
 use Rattle.std.specs.Io.KnownBytes.{Appends}
 use Rattle.nano_value.specs.Meaning.{Meaning}
 use Rattle.nano_bin.specs.Format.{Format}
+use Rattle.nano_bin.specs.Spelling.{Spelling}
+
+-- all the bytes that a reader gives, where these are known, spell no value
+abbrev pub HoldsNone : Spelling → Option (List ℕ) → Type 0
+HoldsNone spelling known = IfSome known (λ bytes. (m : Meaning) → spelling.spelled bytes m → ⊥)
 
 module _ {T : Type 0} (format : Format (BTreeMap (String Global) T))
     (means : BTreeMap (String Global) T → Meaning) where

@@ -1,8 +1,8 @@
 // Records by key in a stream: the code of one map.
 ghost use Rattle.std.specs.Prelude.{◌≡◌, IfOk, IfErr, IfSome, OnOk, string_bytes};
-ghost use Rattle.std.specs.BTreeMap.{get_by_text};
-ghost use Rattle.std.specs.Io.KnownBytes.{Appends};
-ghost use Rattle.record_store.specs.Rows.{Puts, Gets};
+ghost use Rattle.std.specs.Io.KnownBytes.{Appends, Keeps};
+ghost use Rattle.record_store.specs.Faults.{IsOfStream, OnRefused};
+ghost use Rattle.record_store.specs.Rows.{Puts, Gets, HoldsNone};
 
 use nano_bin::{BinFormat, BothBin, DeBin, DeBinErr, DeBinKind, SerBin};
 use nano_value::Value;
@@ -26,8 +26,7 @@ pub enum Fault {
 pub fn load<T: DeBin, R: Read>(alloc: Global, input: &mut R) -> Result<T, Fault>
     ensures value { IfOk result (λ value. IfSome (R.remaining input.old) (λ bytes.
         T.bin.spelling.spelled bytes (T.means value))) }
-    ensures refused { IfErr result (λ fault. (error : _) → fault ≡ Fault.Refused error →
-        IfSome (R.remaining input.old) (λ bytes. (m : _) → T.bin.spelling.spelled bytes m → ⊥)) }
+    ensures refused { OnRefused result (HoldsNone T.bin.spelling (R.remaining input.old)) }
 {
     let mut bytes = Vec::new(alloc);
     if let Err(error) = input.read_to_end(&mut bytes) {
@@ -43,7 +42,8 @@ pub fn load<T: DeBin, R: Read>(alloc: Global, input: &mut R) -> Result<T, Fault>
 }
 
 /// Writes the store of the input with this record under the key, and every other one as it was.
-/// Behind a fault a beginning of it may be written.
+/// `Refused` says that the input is no store, and writes nothing; behind another fault a beginning
+/// of the new store may be written.
 pub fn put<T: BothBin, R: Read, W: Write>(
     alloc: Global,
     key: String,
@@ -54,6 +54,9 @@ pub fn put<T: BothBin, R: Read, W: Write>(
     ensures put { OnOk result (Puts ⟦<BTreeMap<String, T> as BinFormat>⟧.bin
         ⟦<BTreeMap<String, T> as Value>⟧.means (R.remaining input.old) (string_bytes key) item
         (W.contents output.old) (W.contents output.new)) }
+    ensures refused { OnRefused result (HoldsNone ⟦<BTreeMap<String, T> as BinFormat>⟧.bin.spelling
+        (R.remaining input.old)) }
+    ensures kept { OnRefused result (Keeps (W.contents output.old) (W.contents output.new)) }
 {
     let mut store = load::<BTreeMap<String, T>, R>(alloc, input)?;
     match store.insert(key, item) {
@@ -64,8 +67,9 @@ pub fn put<T: BothBin, R: Read, W: Write>(
 
 /// Writes a store.
 fn save<T: SerBin, W: Write>(alloc: Global, store: &T, output: &mut W) -> Result<(), Fault>
-    ensures { OnOk result (Appends (W.contents output.old) (W.contents output.new)
+    ensures ok { OnOk result (Appends (W.contents output.old) (W.contents output.new)
         (T.bin.writing.written store.now)) }
+    ensures fault { IfErr result IsOfStream }
 {
     let Ok(code) = store.serialize_bin(alloc) else {
         return Err(Fault::Stream(ErrorKind::OutOfMemory.into()));
@@ -76,10 +80,13 @@ fn save<T: SerBin, W: Write>(alloc: Global, store: &T, output: &mut W) -> Result
     }
 }
 
-/// The record under the key in the store of the input.
+/// The record under the key in the store of the input, if there is one. `Refused` says that the
+/// input is no store.
 pub fn get<T: BothBin, R: Read>(alloc: Global, key: &str, input: &mut R) -> Result<Option<T>, Fault>
     ensures got { IfOk result (Gets ⟦<BTreeMap<String, T> as BinFormat>⟧.bin
         ⟦<BTreeMap<String, T> as Value>⟧.means (R.remaining input.old) key.now) }
+    ensures refused { OnRefused result (HoldsNone ⟦<BTreeMap<String, T> as BinFormat>⟧.bin.spelling
+        (R.remaining input.old)) }
 {
     let mut store = load::<BTreeMap<String, T>, R>(alloc, input)?;
     Ok(store.remove(key))

@@ -6,7 +6,7 @@ use Rattle.nano_value.specs.Legal.{IsImage, LegalUnsigned, LegalList, list_weake
 use Rattle.bin_bytes.specs.Reading.{Reads, NothingFits}
 use Rattle.nano_bin.specs.Lists.{list_format, list_reads_back}
 use Rattle.nano_bin.specs.Numbers.{u8_format}
-use Rattle.message_codec.specs.Frames.{IsFrame, AppendsFrame, ReadsBehind, IsCut, HoldsNoMessage}
+use Rattle.bin_frames.specs.Frames.{IsFrame, AppendsFrame, ReadsBehind, IsCut, HoldsNoMessage}
 
 -- ---- what is written
 

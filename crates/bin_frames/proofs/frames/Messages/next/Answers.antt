@@ -1,10 +1,10 @@
 use Rattle.std.proofs.Common.{List, ℕ, drop, sym, subst, arith}
 use Rattle.std.proofs.KnownBytes.{Keeps-trans}
 use Rattle.std.proofs.lemmas.Result.{err_from_is_err_and}
-use Rattle.message_codec.specs.Frames.{ReadsBehind}
-use Rattle.message_codec.specs.Left.{left}
-use Rattle.message_codec.proofs.FrameLemmas.{holds_no_message, refilled, is_cut, drop_some}
-use Rattle.message_codec.proofs.frames.Messages.next.Goals as goal
+use Rattle.bin_frames.specs.Frames.{ReadsBehind}
+use Rattle.bin_frames.specs.Left.{left}
+use Rattle.bin_frames.proofs.FrameLemmas.{holds_no_message, refilled, is_cut, drop_some}
+use Rattle.bin_frames.proofs.frames.Messages.next.Goals as goal
 
 pub returns-in_err-message-clause-bad : goal.returns-in_err-message-clause-bad
 returns-in_err-message-clause-bad g c =

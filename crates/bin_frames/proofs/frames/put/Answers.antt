@@ -1,6 +1,6 @@
 use Rattle.std.proofs.Common.{◌∙◌}
-use Rattle.message_codec.proofs.FrameLemmas.{writes_frame}
-use Rattle.message_codec.proofs.frames.put.Goals as goal
+use Rattle.bin_frames.proofs.FrameLemmas.{writes_frame}
+use Rattle.bin_frames.proofs.frames.put.Goals as goal
 
 pub returns : goal.returns
 returns g c =

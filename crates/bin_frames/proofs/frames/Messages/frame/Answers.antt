@@ -2,8 +2,8 @@ use Rattle.std.proofs.Common.{List, ℕ, drop, subst}
 use Rattle.bin_bytes.specs.Reading.{NothingFits}
 use Rattle.nano_bin.specs.Lists.{list_format}
 use Rattle.nano_bin.specs.Numbers.{u8_format}
-use Rattle.message_codec.proofs.FrameLemmas.{no_frame}
-use Rattle.message_codec.proofs.frames.Messages.frame.Goals as goal
+use Rattle.bin_frames.proofs.FrameLemmas.{no_frame}
+use Rattle.bin_frames.proofs.frames.Messages.frame.Goals as goal
 
 pub returns-in_default : goal.returns-in_default
 returns-in_default g c = record {

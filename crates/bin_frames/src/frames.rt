@@ -2,32 +2,20 @@
 ghost use Rattle.std.specs.Prelude.{◌≡◌, ◌<◌, ◌+◌, ◌≢◌, ◌≤◌, ◌++◌, List, ℕ, length, drop};
 ghost use Rattle.std.specs.Prelude.{Some, IfOk, IfErr, IfSome, IfNone, OnOk, OnErr, IsErrOf};
 ghost use Rattle.std.specs.Io.KnownBytes.{Keeps, IsAtEnd};
-ghost use Rattle.message_codec.specs.Frames.{IsFrame, AppendsFrame, ReadsBehind, TakesMessage};
-ghost use Rattle.message_codec.specs.Frames.{IsCut, HoldsNoMessage};
-ghost use Rattle.message_codec.specs.Faults.{IsOfStream};
 ghost use Rattle.bin_bytes.specs.Reading.{Reads, NothingFits};
+ghost use Rattle.bin_frames.specs.Faults.{IsOfStream};
+ghost use Rattle.bin_frames.specs.Frames.{IsFrame, AppendsFrame, ReadsBehind, TakesMessage};
+ghost use Rattle.bin_frames.specs.Frames.{IsCut, HoldsNoMessage};
 
-use nano_bin::{DeBin, DeBinErr, DeBinKind, SerBin};
+use crate::error::{Fault, no_memory};
+use nano_bin::{DeBin, DeBinKind, SerBin};
 use nano_value::Value;
 use std::alloc::{AllocError, Global};
 use std::io::{self, ErrorKind, Read, Write};
-use thiserror::Error;
 
-/// Why a message was not read or not written.
-#[derive(Debug, Drop, Error)]
-pub enum Fault {
-    /// The stream ends within a frame.
-    #[error("the stream ends within a message")]
-    Cut,
-    /// The bytes of a frame are no message.
-    #[error("no message in a frame: {0}")]
-    Bad(DeBinErr),
-    /// A read or a write failed, or a growth was refused.
-    #[error("{0}")]
-    Stream(io::Error),
-}
-
-/// Writes a message behind those that were written. Behind a fault a beginning of it may be.
+/// Writes a message, in its frame, behind those that were written.
+///
+/// An error is the writer's, or for memory; behind it a beginning of the frame may be written.
 pub fn put<T: SerBin, W: Write>(alloc: Global, message: &T, output: &mut W) -> io::Result<()>
     ensures { OnOk result (AppendsFrame (T.bin.writing.written message.now)
         (W.contents output.old) (W.contents output.new)) }
@@ -49,9 +37,10 @@ pub struct Messages<R> {
 }
 
 impl<R: Read> Messages<R> {
-    ghost use Rattle.message_codec.specs.Left.{left};
+    ghost use Rattle.bin_frames.specs.Left.{left};
 
     /// Those that the reader gives. At most `chunk` bytes are read at a time, and at least one.
+    /// Nothing is read yet.
     pub fn new(alloc: Global, input: R, chunk: usize) -> Result<Messages<R>, AllocError>
     where
         R: Drop,
@@ -66,13 +55,19 @@ impl<R: Read> Messages<R> {
         })
     }
 
-    /// The next message, or none where the stream is at its end. A fault takes nothing of what is
-    /// left.
+    /// Takes the next message with its frame, or answers none where the stream is at its end.
+    ///
+    /// `Cut` says that bytes are left and no frame begins there, `Bad` that one does and its code
+    /// is no message, and `Stream` that a read failed or a growth was refused. A fault takes nothing
+    /// of what is left, and nor does the end, so that a call behind it begins at the same place. A
+    /// frame's count reserves nothing before its bytes have come.
     pub fn next<T: DeBin>(&mut self, alloc: Global) -> Result<Option<T>, Fault>
         ensures taken { IfOk result (λ answer. IfSome answer (λ message.
             TakesMessage T.bin.spelling.spelled (left R.remaining self.old)
             (left R.remaining self.new) (T.means message))) }
         ensures ended { IfOk result (λ answer. IfNone answer (IsAtEnd (left R.remaining self.old))) }
+        ensures stays { IfOk result (λ answer. IfNone answer
+            (Keeps (left R.remaining self.old) (left R.remaining self.new))) }
         ensures cut { IsErrOf result Fault.Cut → IfSome (left R.remaining self.old) IsCut }
         ensures bad { IfErr result (λ fault. (error : _) → fault ≡ Fault.Bad error →
             IfSome (left R.remaining self.old) (HoldsNoMessage T.bin.spelling.spelled)) }
@@ -92,6 +87,7 @@ impl<R: Read> Messages<R> {
                 return Ok(None);
             }
         }
+        // So many reads have not filled one frame. They lost nothing, and a later call goes on.
         Err(Fault::Stream(ErrorKind::Interrupted.into()))
     }
 
@@ -168,11 +164,4 @@ fn message_of<T: DeBin>(alloc: Global, code: &[u8]) -> Result<T, Fault>
             _ => Err(Fault::Bad(error)),
         },
     }
-}
-
-/// A growth was refused.
-fn no_memory() -> Fault
-    ensures { IsOfStream result }
-{
-    Fault::Stream(ErrorKind::OutOfMemory.into())
 }

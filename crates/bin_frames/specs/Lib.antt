@@ -1,0 +1,4 @@
+pub mod Faults
+pub mod Frames
+pub mod Left
+pub mod Promises
