@@ -1,0 +1,162 @@
+// Streams of messages: what is written, what is taken in chunks of each size, and what a fault
+// leaves.
+use crate::source::Source;
+use bin_frames::{Fault, Messages, put};
+use std::alloc::{AllocError, Global};
+use std::io;
+use std::process::Abort;
+use std::test::Fail;
+
+/// What is said of a stream holds.
+fn holds(rt: &impl Abort, is_so: bool, text: &str) {
+    assert!(rt; is_so, "{text}");
+}
+
+/// The bytes are these.
+fn are_bytes(rt: &impl Abort, bytes: &[u8], expected: &[u8]) {
+    assert_eq!(rt; bytes, expected);
+}
+
+/// The messages are these.
+fn are_messages(rt: &impl Abort, messages: &[u32], expected: &[u32]) {
+    assert_eq!(rt; messages, expected);
+}
+
+/// The words are these.
+fn are_words(rt: &impl Abort, words: &str, expected: &str) {
+    assert_eq!(rt; words, expected);
+}
+
+const TWO: &[u8] = b"\x04\0\0\0\0\0\0\0\x07\0\0\0\x04\0\0\0\0\0\0\0\x08\x01\0\0";
+
+/// The bytes of these messages in their frames.
+fn written(alloc: Global, messages: &[u32]) -> io::Result<Vec<u8>> {
+    let mut output = Vec::new(alloc);
+    for message in messages {
+        put(alloc, message, &mut output)?;
+    }
+    Ok(output)
+}
+
+#[test]
+fn messages_are_written_in_frames(rt: HostRuntime) -> Result<(), Fail> {
+    are_bytes(&rt, &written(rt.alloc(), &[7, 264])?, TWO);
+    are_bytes(&rt, &written(rt.alloc(), &[])?, b"");
+    Ok(())
+}
+
+/// The messages that are taken up to the end or a fault, and that fault in words.
+fn taken(
+    alloc: Global,
+    bytes: &[u8],
+    most: usize,
+    chunk: usize,
+) -> Result<(Vec<u32>, String), AllocError> {
+    let mut messages = Messages::new(alloc, Source::new(bytes, most, 0), chunk)?;
+    let mut taken = Vec::new(alloc);
+    for _ in 0..4 {
+        match messages.next::<u32>(alloc) {
+            Ok(Some(message)) => taken.push(message)?,
+            Ok(None) => return Ok((taken, String::new(alloc))),
+            Err(fault) => return Ok((taken, format!(in alloc; "{fault}")?)),
+        }
+    }
+    Ok((taken, String::from_str(alloc, "no end")?))
+}
+
+/// Bytes, the messages that are taken from them, and the fault that is told then, if any.
+type Row = (&'static [u8], &'static [u32], &'static str);
+
+const ROWS: &[Row] = &[
+    (b"", &[], ""),
+    (TWO, &[7, 264], ""),
+    (b"\x04", &[], "the stream ends within a message"),
+    (
+        b"\x04\0\0\0\0\0\0\0\x07\0\0",
+        &[],
+        "the stream ends within a message",
+    ),
+    (
+        b"\x04\0\0\0\0\0\0\0\x07\0\0\0\0",
+        &[7],
+        "the stream ends within a message",
+    ),
+    (
+        b"\xff\xff\xff\xff\xff\xff\xff\xff\x07",
+        &[],
+        "the stream ends within a message",
+    ),
+    (
+        b"\x03\0\0\0\0\0\0\0\x07\0\0",
+        &[],
+        "no message in a frame: Bin deserialize error at:0 wanted:4 bytes but max size is 3",
+    ),
+    (
+        b"\x05\0\0\0\0\0\0\0\x07\0\0\0\0",
+        &[],
+        "no message in a frame: Bin deserialize error at:4 wanted:0 bytes but max size is 5",
+    ),
+];
+
+/// A row is taken so, by a reader that gives at most so many bytes a call.
+fn is_taken(rt: &impl Abort, alloc: Global, row: Row, most: usize) -> Result<(), AllocError> {
+    for chunk in 0..14 {
+        let (messages, words) = taken(alloc, row.0, most, chunk)?;
+        are_messages(rt, &messages, row.1);
+        are_words(rt, words.as_str(), row.2);
+    }
+    Ok(())
+}
+
+#[test]
+fn streams_are_taken_in_chunks(rt: HostRuntime) -> Result<(), Fail> {
+    for row in ROWS {
+        is_taken(&rt, rt.alloc(), *row, 1)?;
+        is_taken(&rt, rt.alloc(), *row, 5)?;
+        is_taken(&rt, rt.alloc(), *row, 100)?;
+    }
+    Ok(())
+}
+
+/// Whether a frame that holds no `u32` is told as bad, and then taken as a `u8`.
+fn bad_frame_stays(alloc: Global) -> Result<bool, Fault> {
+    let bytes = b"\x01\0\0\0\0\0\0\0\x07";
+    let Ok(mut messages) = Messages::new(alloc, Source::new(bytes, 100, 0), 4) else {
+        return Ok(false);
+    };
+    let Err(Fault::Bad(_)) = messages.next::<u32>(alloc) else {
+        return Ok(false);
+    };
+    Ok(messages.next::<u8>(alloc)? == Some(7))
+}
+
+/// Whether the reader's fault at one of its calls is told once, and all messages are taken anyhow.
+fn failed_read_loses_nothing(alloc: Global, fails_at: usize) -> Result<bool, AllocError> {
+    let mut messages = Messages::new(alloc, Source::new(TWO, 5, fails_at), 7)?;
+    let (mut sum, mut faults) = (0u32, 0u32);
+    for _ in 0..4 {
+        match messages.next::<u32>(alloc) {
+            Ok(Some(message)) => sum = sum.saturating_add(message),
+            Ok(None) => return Ok(sum == 271 && faults == 1),
+            Err(_) => faults = faults.saturating_add(1),
+        }
+    }
+    Ok(false)
+}
+
+#[test]
+fn faults_take_nothing(rt: HostRuntime) -> Result<(), Fail> {
+    holds(
+        &rt,
+        bad_frame_stays(rt.alloc()).is_ok_and(|stays| stays),
+        "bad",
+    );
+    for fails_at in 1..=6 {
+        holds(
+            &rt,
+            failed_read_loses_nothing(rt.alloc(), fails_at)?,
+            "read",
+        );
+    }
+    Ok(())
+}
