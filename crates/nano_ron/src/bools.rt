@@ -6,7 +6,7 @@ ghost use Rattle.nano_ron.specs.Bools.{truths, units, truth_format, unit_format}
 ghost use Rattle.nano_ron.specs.Readers.{Reads, Refuses};
 ghost use Rattle.nano_ron.specs.State.{at};
 
-use crate::traits::{BothRon, DeRon, RonFormat, SerRon};
+use crate::traits::{DeRon, RonFormat, SerRon};
 use ron_tokens::{DeRonErr, DeRonState, SerRonState, end_if_refused};
 use std::alloc::{AllocError, Global};
 use std::str::Chars;
@@ -51,8 +51,6 @@ impl DeRon for bool {
     }
 }
 
-impl BothRon for bool {}
-
 impl RonFormat for () {
     ghost ron = { unit_format };
 
@@ -87,5 +85,3 @@ impl DeRon for () {
         end_if_refused(state, read)
     }
 }
-
-impl BothRon for () {}

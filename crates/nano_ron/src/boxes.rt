@@ -4,7 +4,7 @@ ghost use Rattle.nano_ron.specs.Format.{format_as};
 ghost use Rattle.nano_ron.specs.Readers.{Reads, Refuses};
 ghost use Rattle.nano_ron.specs.State.{at};
 
-use crate::traits::{BothRon, DeRon, RonFormat, SerRon};
+use crate::traits::{DeRon, RonFormat, SerRon};
 use ron_tokens::{DeRonErr, DeRonState, SerRonState, end_if_refused};
 use std::alloc::{AllocError, Global};
 use std::str::Chars;
@@ -48,5 +48,3 @@ impl<T: DeRon> DeRon for Box<T> {
         end_if_refused(state, read)
     }
 }
-
-impl<T: BothRon> BothRon for Box<T> {}

@@ -11,7 +11,7 @@ ghost use Rattle.nano_ron.specs.Lists.{vector_format, linked_format};
 ghost use Rattle.nano_ron.specs.Styles.{line_style, indent_style};
 ghost use Rattle.nano_ron.specs.State.{at};
 
-use crate::traits::{BothRon, DeRon, RonFormat, SerRon};
+use crate::traits::{DeRon, RonFormat, SerRon};
 use nano_text::keep_written;
 use ron_tokens::{DeRonErr, DeRonState, SerRonState, append_comma, end_if_refused};
 use std::alloc::{AllocError, Global};
@@ -106,8 +106,6 @@ impl<T: SerRon> SerRon for Vec<T> {
     }
 }
 
-impl<T: BothRon> BothRon for Vec<T> {}
-
 impl<T: RonFormat> RonFormat for LinkedList<T> {
     ghost ron = { linked_format T.ron };
 
@@ -196,5 +194,3 @@ impl<T: SerRon> SerRon for LinkedList<T> {
         keep_written(&mut s.out, start, written)
     }
 }
-
-impl<T: BothRon> BothRon for LinkedList<T> {}

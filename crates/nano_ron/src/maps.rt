@@ -14,7 +14,7 @@ ghost use Rattle.nano_text.specs.Outcomes.{Appends, AppendsPart};
 ghost use Rattle.nano_ron.specs.Readers.{Reads, Refuses};
 ghost use Rattle.nano_ron.specs.State.{at};
 
-use crate::traits::{BothRon, DeRon, RonFormat, SerRon};
+use crate::traits::{DeRon, RonFormat, SerRon};
 use nano_text::{bytes_left, keep_written};
 use nano_value::{Key, OrderedKey, entries_by_rank};
 use ron_tokens::{DeRonErr, DeRonState, SerRonState, end_if_refused};
@@ -135,5 +135,3 @@ impl<K: SerRon + OrderedKey + Hash, V: SerRon> SerRon for HashMap<K, V> {
         keep_written(&mut s.out, start, written)
     }
 }
-
-impl<K: BothRon + OrderedKey + Hash, V: BothRon> BothRon for HashMap<K, V> {}

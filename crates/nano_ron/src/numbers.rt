@@ -8,7 +8,7 @@ ghost use Rattle.nano_ron.specs.State.{at};
 ghost use Rattle.nano_ron.specs.Numbers.{unsigned, unsigned_format, below_8, below_16, below_32};
 ghost use Rattle.nano_ron.specs.Numbers.{below_64};
 
-use crate::traits::{BothRon, DeRon, RonFormat, SerRon};
+use crate::traits::{DeRon, RonFormat, SerRon};
 use nano_text::append_unsigned;
 use ron_tokens::{DeRonErr, DeRonState, SerRonState, end_if_refused};
 use std::alloc::{AllocError, Global};
@@ -82,8 +82,6 @@ impl DeRon for u8 {
     }
 }
 
-impl BothRon for u8 {}
-
 impl RonFormat for u16 {
     ghost ron = { unsigned_format 16 below_16 };
 
@@ -117,8 +115,6 @@ impl DeRon for u16 {
         end_if_refused(state, read)
     }
 }
-
-impl BothRon for u16 {}
 
 impl RonFormat for u32 {
     ghost ron = { unsigned_format 32 below_32 };
@@ -154,8 +150,6 @@ impl DeRon for u32 {
     }
 }
 
-impl BothRon for u32 {}
-
 impl RonFormat for u64 {
     ghost ron = { unsigned_format 64 below_64 };
 
@@ -190,8 +184,6 @@ impl DeRon for u64 {
     }
 }
 
-impl BothRon for u64 {}
-
 impl RonFormat for usize {
     ghost ron = { unsigned_format 64 below_64 };
 
@@ -225,5 +217,3 @@ impl DeRon for usize {
         end_if_refused(state, read)
     }
 }
-
-impl BothRon for usize {}

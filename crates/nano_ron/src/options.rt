@@ -2,7 +2,7 @@
 ghost use Rattle.nano_value.specs.Ties.{option_ties};
 ghost use Rattle.nano_ron.specs.Options.{option_format};
 
-use crate::traits::{BothRon, DeRon, RonFormat, SerRon};
+use crate::traits::{DeRon, RonFormat, SerRon};
 use ron_tokens::{DeRonErr, DeRonState, SerRonState};
 use std::alloc::{AllocError, Global};
 use std::str::Chars;
@@ -36,5 +36,3 @@ impl<T: DeRon> DeRon for Option<T> {
         Ok(Some(value))
     }
 }
-
-impl<T: BothRon> BothRon for Option<T> {}

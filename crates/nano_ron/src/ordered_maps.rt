@@ -11,7 +11,7 @@ ghost use Rattle.nano_ron.specs.Readers.{Reads, Refuses};
 ghost use Rattle.nano_ron.specs.State.{at};
 
 use crate::maps::{append_entry, read_entry};
-use crate::traits::{BothRon, DeRon, RonFormat, SerRon};
+use crate::traits::{DeRon, RonFormat, SerRon};
 use nano_text::{bytes_left, keep_written};
 use nano_value::{Key, OrderedKey};
 use ron_tokens::{DeRonErr, DeRonState, SerRonState, end_if_refused};
@@ -93,5 +93,3 @@ impl<K: SerRon + OrderedKey, V: SerRon> SerRon for BTreeMap<K, V> {
         keep_written(&mut s.out, start, written)
     }
 }
-
-impl<K: BothRon + OrderedKey, V: BothRon> BothRon for BTreeMap<K, V> {}

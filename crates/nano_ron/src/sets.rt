@@ -15,7 +15,7 @@ ghost use Rattle.nano_ron.specs.Sets.{SpellsSet, set_format, ordered_format};
 ghost use Rattle.nano_ron.specs.State.{at};
 
 use crate::lists::append_indented;
-use crate::traits::{BothRon, DeRon, RonFormat, SerRon};
+use crate::traits::{DeRon, RonFormat, SerRon};
 use nano_text::{bytes_left, keep_written};
 use nano_value::{Key, OrderedKey, items_in_order};
 use ron_tokens::{DeRonErr, DeRonState, SerRonState, end_if_refused};
@@ -97,8 +97,6 @@ impl<T: SerRon + OrderedKey + Hash> SerRon for HashSet<T> {
     }
 }
 
-impl<T: BothRon + OrderedKey + Hash> BothRon for HashSet<T> {}
-
 impl<T: RonFormat + Key + Ord> RonFormat for BTreeSet<T> {
     ghost ron = { format_as (λ x. x.keys) (ordered_format T.order T.cmp T.ron) };
 
@@ -171,5 +169,3 @@ impl<T: SerRon + OrderedKey> SerRon for BTreeSet<T> {
         keep_written(&mut s.out, start, written)
     }
 }
-
-impl<T: BothRon + OrderedKey> BothRon for BTreeSet<T> {}

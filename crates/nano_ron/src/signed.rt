@@ -8,7 +8,7 @@ ghost use Rattle.nano_ron.specs.Numbers.{within_32, within_64};
 ghost use Rattle.nano_ron.specs.Readers.{Reads, Refuses};
 ghost use Rattle.nano_ron.specs.State.{at};
 
-use crate::traits::{BothRon, DeRon, RonFormat, SerRon};
+use crate::traits::{DeRon, RonFormat, SerRon};
 use nano_text::append_signed;
 use ron_tokens::{DeRonErr, DeRonState, SerRonState, end_if_refused};
 use std::alloc::{AllocError, Global};
@@ -84,8 +84,6 @@ impl DeRon for i8 {
     }
 }
 
-impl BothRon for i8 {}
-
 impl RonFormat for i16 {
     ghost ron = { signed_format w16 within_16 };
 
@@ -119,8 +117,6 @@ impl DeRon for i16 {
         end_if_refused(state, read)
     }
 }
-
-impl BothRon for i16 {}
 
 impl RonFormat for i32 {
     ghost ron = { signed_format w32 within_32 };
@@ -156,8 +152,6 @@ impl DeRon for i32 {
     }
 }
 
-impl BothRon for i32 {}
-
 impl RonFormat for i64 {
     ghost ron = { signed_format w64 within_64 };
 
@@ -191,5 +185,3 @@ impl DeRon for i64 {
         end_if_refused(state, read)
     }
 }
-
-impl BothRon for i64 {}

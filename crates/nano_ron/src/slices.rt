@@ -11,7 +11,7 @@ ghost use Rattle.nano_ron.specs.Lists.{array_format};
 ghost use Rattle.nano_ron.specs.Styles.{paren_style};
 ghost use Rattle.nano_ron.specs.State.{at};
 
-use crate::traits::{BothRon, DeRon, RonFormat, SerRon};
+use crate::traits::{DeRon, RonFormat, SerRon};
 use nano_text::keep_written;
 use ron_tokens::{DeRonErr, DeRonState, SerRonState, end_if_refused};
 use std::alloc::{AllocError, Global};
@@ -141,5 +141,3 @@ impl<T: SerRon, const N: usize> SerRon for [T; N] {
         keep_written(&mut s.out, start, written)
     }
 }
-
-impl<T: BothRon, const N: usize> BothRon for [T; N] {}

@@ -8,7 +8,7 @@ ghost use Rattle.nano_ron.specs.Readers.{Reads, Refuses};
 ghost use Rattle.nano_ron.specs.Texts.{texts, text_format};
 ghost use Rattle.nano_ron.specs.State.{at};
 
-use crate::traits::{BothRon, DeRon, RonFormat, SerRon};
+use crate::traits::{DeRon, RonFormat, SerRon};
 use ron_tokens::{DeRonErr, DeRonState, SerRonState, append_string, end_if_refused};
 use std::alloc::{AllocError, Global};
 use std::str::Chars;
@@ -53,5 +53,3 @@ impl DeRon for String {
         end_if_refused(state, read)
     }
 }
-
-impl BothRon for String {}

@@ -109,5 +109,8 @@ pub trait DeRon: RonFormat + Drop {
 }
 
 /// A value that is read back from what is written, where it is sound: nowhere inside it a `Some`
-/// stands around what is written with the word `None` at its beginning.
+/// stands around what is written with the word `None` at its beginning. Each type with a writer and
+/// a reader is one.
 pub trait BothRon: SerRon + DeRon {}
+
+impl<T: SerRon + DeRon> BothRon for T {}

@@ -9,7 +9,7 @@ ghost use Rattle.nano_ron.specs.Tuples.{two_parts, three_parts, four_parts};
 ghost use Rattle.nano_ron.specs.Tuples.{pair_format, triple_format, quadruple_format};
 
 use crate::parts::{append_last, append_part, read_last};
-use crate::traits::{BothRon, DeRon, RonFormat, SerRon};
+use crate::traits::{DeRon, RonFormat, SerRon};
 use nano_text::keep_written;
 use ron_tokens::{DeRonErr, DeRonState, SerRonState, end_if_refused};
 use std::alloc::{AllocError, Global};
@@ -131,8 +131,6 @@ impl<A: DeRon, B: DeRon> DeRon for (A, B) {
     }
 }
 
-impl<A: BothRon, B: BothRon> BothRon for (A, B) {}
-
 // ---- three parts
 
 impl<A: RonFormat, B: RonFormat, C: RonFormat> RonFormat for (A, B, C) {
@@ -193,8 +191,6 @@ impl<A: DeRon, B: DeRon, C: DeRon> DeRon for (A, B, C) {
         end_if_refused(state, read)
     }
 }
-
-impl<A: BothRon, B: BothRon, C: BothRon> BothRon for (A, B, C) {}
 
 // ---- four parts
 
@@ -257,5 +253,3 @@ impl<A: DeRon, B: DeRon, C: DeRon, D: DeRon> DeRon for (A, B, C, D) {
         end_if_refused(state, read)
     }
 }
-
-impl<A: BothRon, B: BothRon, C: BothRon, D: BothRon> BothRon for (A, B, C, D) {}
