@@ -10,7 +10,7 @@ use described::{
     Variant, called, known_choice, named, no_content, tuple, two, variant,
 };
 use described_bin::{
-    BinFormat, BinShapes, BothBin, DeBin, DeBinErr, SerBin, read_choice_bin, write_choice_bin,
+    BinFormat, BinShapes, DeBin, DeBinErr, SerBin, read_choice_bin, write_choice_bin,
 };
 use std::alloc::{AllocError, Global};
 use std::collections::HashMap;
@@ -103,5 +103,3 @@ impl DeBin for Message {
         read_choice_bin(alloc, offset, bytes)
     }
 }
-
-impl BothBin for Message {}

@@ -7,8 +7,8 @@ ghost use Rattle.nano_json.specs.Format.{format_as};
 ghost use Rattle.json_records.specs.Fields.{must, may, also, ascii_names, fields_format};
 
 use json_records::{Optional, OptionalPart, Required, RequiredPart, read_fields, write_fields};
-use nano_bin::{BinFormat, BothBin, DeBin, DeBinErr, SerBin, append_part};
-use nano_json::{BothJson, DeJson, DeJsonErr, DeJsonState, JsonFormat, SerJson, SerJsonState};
+use nano_bin::{BinFormat, DeBin, DeBinErr, SerBin, append_part};
+use nano_json::{DeJson, DeJsonErr, DeJsonState, JsonFormat, SerJson, SerJsonState};
 use nano_value::Value;
 use std::alloc::{AllocError, Global};
 use std::marker::PhantomData;
@@ -57,8 +57,6 @@ impl DeBin for Item {
     }
 }
 
-impl BothBin for Item {}
-
 impl JsonFormat for Item {
     ghost json = { format_as (λ item. (item.value, item.note)) (fields_format
         (also (must (codes "value") ⟦<i32 as JsonFormat>⟧.json)
@@ -100,5 +98,3 @@ impl DeJson for Item {
         Ok(Item { value, note })
     }
 }
-
-impl BothJson for Item {}

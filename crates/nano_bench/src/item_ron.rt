@@ -5,7 +5,7 @@ ghost use Rattle.nano_ron.specs.Format.{format_as};
 ghost use Rattle.ron_records.specs.Fields.{must, may, also, word_names, fields_format};
 
 use crate::item::Item;
-use nano_ron::{BothRon, DeRon, DeRonErr, DeRonState, RonFormat, SerRon, SerRonState};
+use nano_ron::{DeRon, DeRonErr, DeRonState, RonFormat, SerRon, SerRonState};
 use ron_records::{Optional, OptionalPart, Required, RequiredPart, read_fields, write_fields};
 use std::alloc::{AllocError, Global};
 use std::marker::PhantomData;
@@ -52,5 +52,3 @@ impl DeRon for Item {
         Ok(Item { value, note })
     }
 }
-
-impl BothRon for Item {}

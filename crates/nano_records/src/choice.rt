@@ -12,15 +12,15 @@ use described::{
     called, known_choice, named, no_content, tuple, two, variant,
 };
 use described_bin::{
-    BinFormat, BinShapes, BothBin, DeBin, DeBinErr, SerBin, read_choice_bin, write_choice_bin,
+    BinFormat, BinShapes, DeBin, DeBinErr, SerBin, read_choice_bin, write_choice_bin,
 };
 use described_json::{
-    BothJson, DeJson, DeJsonState, JsonFormat, JsonResult, JsonShapes, SerJson, SerJsonState,
+    DeJson, DeJsonState, JsonFormat, JsonResult, JsonShapes, SerJson, SerJsonState,
     read_choice_json, write_choice_json,
 };
 use described_ron::{
-    BothRon, DeRon, DeRonState, RonFormat, RonResult, RonShapes, SerRon, SerRonState,
-    read_choice_ron, write_choice_ron,
+    DeRon, DeRonState, RonFormat, RonResult, RonShapes, SerRon, SerRonState, read_choice_ron,
+    write_choice_ron,
 };
 use std::alloc::{AllocError, Global};
 use std::str::Chars;
@@ -117,8 +117,6 @@ impl DeBin for Choice {
     }
 }
 
-impl BothBin for Choice {}
-
 // ---- JSON
 
 impl JsonFormat for Choice {
@@ -140,8 +138,6 @@ impl DeJson for Choice {
     }
 }
 
-impl BothJson for Choice {}
-
 // ---- RON
 
 impl RonFormat for Choice {
@@ -162,5 +158,3 @@ impl DeRon for Choice {
         read_choice_ron(alloc, state, input)
     }
 }
-
-impl BothRon for Choice {}

@@ -7,16 +7,14 @@ ghost use Rattle.described_json.specs.Record.{json_of};
 ghost use Rattle.described_ron.specs.Record.{ron_of};
 
 use described::{Parts, Record, Required, Value, known_record, named};
-use described_bin::{
-    BinFormat, BothBin, DeBin, DeBinErr, SerBin, read_record_bin, write_record_bin,
-};
+use described_bin::{BinFormat, DeBin, DeBinErr, SerBin, read_record_bin, write_record_bin};
 use described_json::{
-    BothJson, DeJson, DeJsonState, JsonFormat, JsonResult, JsonShape, SerJson, SerJsonState,
+    DeJson, DeJsonState, JsonFormat, JsonResult, JsonShape, SerJson, SerJsonState,
     read_record_json, write_record_json,
 };
 use described_ron::{
-    BothRon, DeRon, DeRonState, RonFormat, RonResult, RonShape, SerRon, SerRonState,
-    read_record_ron, write_record_ron,
+    DeRon, DeRonState, RonFormat, RonResult, RonShape, SerRon, SerRonState, read_record_ron,
+    write_record_ron,
 };
 use std::alloc::{AllocError, Global};
 use std::str::Chars;
@@ -80,8 +78,6 @@ impl<T: DeBin> DeBin for Holder<T> {
     }
 }
 
-impl<T: BothBin> BothBin for Holder<T> {}
-
 // ---- JSON
 
 impl<T: JsonFormat + Drop> JsonFormat for Holder<T> {
@@ -103,8 +99,6 @@ impl<T: DeJson> DeJson for Holder<T> {
     }
 }
 
-impl<T: BothJson> BothJson for Holder<T> {}
-
 // ---- RON
 
 impl<T: RonFormat + Drop> RonFormat for Holder<T> {
@@ -125,5 +119,3 @@ impl<T: DeRon> DeRon for Holder<T> {
         read_record_ron(alloc, state, input)
     }
 }
-
-impl<T: BothRon> BothRon for Holder<T> {}

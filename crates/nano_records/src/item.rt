@@ -10,15 +10,15 @@ use described::{
     two_apart,
 };
 use described_bin::{
-    BinFormat, BinShape, BothBin, DeBin, DeBinErr, SerBin, read_record_bin, write_record_bin,
+    BinFormat, BinShape, DeBin, DeBinErr, SerBin, read_record_bin, write_record_bin,
 };
 use described_json::{
-    BothJson, DeJson, DeJsonState, JsonFormat, JsonResult, JsonShape, SerJson, SerJsonState,
+    DeJson, DeJsonState, JsonFormat, JsonResult, JsonShape, SerJson, SerJsonState,
     read_record_json, write_record_json,
 };
 use described_ron::{
-    BothRon, DeRon, DeRonState, RonFormat, RonResult, RonShape, SerRon, SerRonState,
-    read_record_ron, write_record_ron,
+    DeRon, DeRonState, RonFormat, RonResult, RonShape, SerRon, SerRonState, read_record_ron,
+    write_record_ron,
 };
 use std::alloc::{AllocError, Global};
 use std::str::Chars;
@@ -87,8 +87,6 @@ impl DeBin for Item {
     }
 }
 
-impl BothBin for Item {}
-
 // ---- JSON
 
 impl JsonFormat for Item {
@@ -109,8 +107,6 @@ impl DeJson for Item {
     }
 }
 
-impl BothJson for Item {}
-
 // ---- RON
 
 impl RonFormat for Item {
@@ -130,5 +126,3 @@ impl DeRon for Item {
         read_record_ron(alloc, state, input)
     }
 }
-
-impl BothRon for Item {}

@@ -7,9 +7,9 @@ ghost use Rattle.nano_bin.specs.Format.{format_as};
 ghost use Rattle.nano_json.specs.Format.{format_as as json_as};
 ghost use Rattle.nano_ron.specs.Format.{format_as as ron_as};
 
-use nano_bin::{BinFormat, BothBin, DeBin, DeBinErr, SerBin};
-use nano_json::{BothJson, DeJson, DeJsonErr, DeJsonState, JsonFormat, SerJson, SerJsonState};
-use nano_ron::{BothRon, DeRon, DeRonErr, DeRonState, RonFormat, SerRon, SerRonState};
+use nano_bin::{BinFormat, DeBin, DeBinErr, SerBin};
+use nano_json::{DeJson, DeJsonErr, DeJsonState, JsonFormat, SerJson, SerJsonState};
+use nano_ron::{DeRon, DeRonErr, DeRonState, RonFormat, SerRon, SerRonState};
 use nano_value::{Key, OrderedKey, Value};
 use std::alloc::{AllocError, Global};
 use std::str::Chars;
@@ -63,8 +63,6 @@ impl DeBin for Plain {
     }
 }
 
-impl BothBin for Plain {}
-
 // ---- JSON
 
 impl JsonFormat for Plain {
@@ -92,8 +90,6 @@ impl DeJson for Plain {
     }
 }
 
-impl BothJson for Plain {}
-
 // ---- RON
 
 impl RonFormat for Plain {
@@ -120,5 +116,3 @@ impl DeRon for Plain {
         }
     }
 }
-
-impl BothRon for Plain {}

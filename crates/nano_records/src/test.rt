@@ -6,9 +6,9 @@ ghost use Rattle.nano_bin.specs.Format.{format_as};
 ghost use Rattle.nano_json.specs.Format.{format_as as json_as};
 ghost use Rattle.nano_ron.specs.Format.{format_as as ron_as};
 
-use nano_bin::{BinFormat, BothBin, DeBin, DeBinErr, SerBin};
-use nano_json::{BothJson, DeJson, DeJsonErr, DeJsonState, JsonFormat, SerJson, SerJsonState};
-use nano_ron::{BothRon, DeRon, DeRonErr, DeRonState, RonFormat, SerRon, SerRonState};
+use nano_bin::{BinFormat, DeBin, DeBinErr, SerBin};
+use nano_json::{DeJson, DeJsonErr, DeJsonState, JsonFormat, SerJson, SerJsonState};
+use nano_ron::{DeRon, DeRonErr, DeRonState, RonFormat, SerRon, SerRonState};
 use nano_value::Value;
 use std::alloc::{AllocError, Global};
 use std::str::Chars;
@@ -52,8 +52,6 @@ impl DeBin for Test {
     }
 }
 
-impl BothBin for Test {}
-
 // ---- JSON
 
 impl JsonFormat for Test {
@@ -81,8 +79,6 @@ impl DeJson for Test {
     }
 }
 
-impl BothJson for Test {}
-
 // ---- RON
 
 impl RonFormat for Test {
@@ -109,5 +105,3 @@ impl DeRon for Test {
         }
     }
 }
-
-impl BothRon for Test {}

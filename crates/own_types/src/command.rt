@@ -4,7 +4,7 @@ ghost use Rattle.std.specs.Prelude.{refl};
 ghost use Rattle.nano_value.specs.Ties.{tied};
 ghost use Rattle.own_types.specs.Command.{command_format};
 
-use nano_bin::{BinFormat, BothBin, DeBin, DeBinErr, DeBinKind, SerBin, append_part};
+use nano_bin::{BinFormat, DeBin, DeBinErr, DeBinKind, SerBin, append_part};
 use nano_value::Value;
 use std::alloc::{AllocError, Global};
 
@@ -92,5 +92,3 @@ impl DeBin for Command {
         Ok(command)
     }
 }
-
-impl BothBin for Command {}

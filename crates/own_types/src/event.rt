@@ -12,15 +12,15 @@ use described::{
     Variant, called, known_choice, named, no_content, tuple, two, variant,
 };
 use described_bin::{
-    BinFormat, BinShapes, BothBin, DeBin, DeBinErr, SerBin, read_choice_bin, write_choice_bin,
+    BinFormat, BinShapes, DeBin, DeBinErr, SerBin, read_choice_bin, write_choice_bin,
 };
 use described_json::{
-    BothJson, DeJson, DeJsonState, JsonFormat, JsonResult, JsonShapes, SerJson, SerJsonState,
+    DeJson, DeJsonState, JsonFormat, JsonResult, JsonShapes, SerJson, SerJsonState,
     read_choice_json, write_choice_json,
 };
 use described_ron::{
-    BothRon, DeRon, DeRonState, RonFormat, RonResult, RonShapes, SerRon, SerRonState,
-    read_choice_ron, write_choice_ron,
+    DeRon, DeRonState, RonFormat, RonResult, RonShapes, SerRon, SerRonState, read_choice_ron,
+    write_choice_ron,
 };
 use std::alloc::{AllocError, Global};
 use std::str::Chars;
@@ -116,8 +116,6 @@ impl DeBin for Event {
     }
 }
 
-impl BothBin for Event {}
-
 // ---- JSON
 
 impl JsonFormat for Event {
@@ -139,8 +137,6 @@ impl DeJson for Event {
     }
 }
 
-impl BothJson for Event {}
-
 // ---- RON
 
 impl RonFormat for Event {
@@ -161,5 +157,3 @@ impl DeRon for Event {
         read_choice_ron(alloc, state, input)
     }
 }
-
-impl BothRon for Event {}

@@ -7,11 +7,9 @@ ghost use Rattle.nano_json.specs.Format.{format_as as json_as};
 ghost use Rattle.nano_ron.specs.Format.{format_as as ron_as};
 
 use described::Value;
-use described_bin::{BinFormat, BothBin, DeBin, DeBinErr, SerBin};
-use described_json::{
-    BothJson, DeJson, DeJsonState, JsonFormat, JsonResult, SerJson, SerJsonState,
-};
-use described_ron::{BothRon, DeRon, DeRonState, RonFormat, RonResult, SerRon, SerRonState};
+use described_bin::{BinFormat, DeBin, DeBinErr, SerBin};
+use described_json::{DeJson, DeJsonState, JsonFormat, JsonResult, SerJson, SerJsonState};
+use described_ron::{DeRon, DeRonState, RonFormat, RonResult, SerRon, SerRonState};
 use std::alloc::{AllocError, Global};
 use std::collections::HashMap;
 use std::str::Chars;
@@ -57,8 +55,6 @@ impl DeBin for Limits {
     }
 }
 
-impl BothBin for Limits {}
-
 // ---- JSON
 
 impl JsonFormat for Limits {
@@ -82,8 +78,6 @@ impl DeJson for Limits {
     }
 }
 
-impl BothJson for Limits {}
-
 // ---- RON
 
 impl RonFormat for Limits {
@@ -106,5 +100,3 @@ impl DeRon for Limits {
         }
     }
 }
-
-impl BothRon for Limits {}

@@ -6,7 +6,7 @@ use json_records::{
     Part, Required, RequiredPart, VariantName, read_content, read_fields_content,
     read_variant_name, unknown_variant, write_fields_variant, write_unit_variant, write_variant,
 };
-use nano_json::{BothJson, DeJson, DeJsonErr, DeJsonState, JsonFormat, SerJson, SerJsonState};
+use nano_json::{DeJson, DeJsonErr, DeJsonState, JsonFormat, SerJson, SerJsonState};
 use nano_value::Value;
 use std::alloc::{AllocError, Global};
 use std::marker::PhantomData;
@@ -117,5 +117,3 @@ impl SerJson for Message {
         }
     }
 }
-
-impl BothJson for Message {}

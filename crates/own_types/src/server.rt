@@ -13,15 +13,15 @@ use described::{
     known_record, named,
 };
 use described_bin::{
-    BinFormat, BinShape, BothBin, DeBin, DeBinErr, SerBin, read_record_bin, write_record_bin,
+    BinFormat, BinShape, DeBin, DeBinErr, SerBin, read_record_bin, write_record_bin,
 };
 use described_json::{
-    BothJson, DeJson, DeJsonState, JsonFormat, JsonResult, JsonShape, SerJson, SerJsonState,
+    DeJson, DeJsonState, JsonFormat, JsonResult, JsonShape, SerJson, SerJsonState,
     read_record_json, write_record_json,
 };
 use described_ron::{
-    BothRon, DeRon, DeRonState, RonFormat, RonResult, RonShape, SerRon, SerRonState,
-    read_record_ron, write_record_ron,
+    DeRon, DeRonState, RonFormat, RonResult, RonShape, SerRon, SerRonState, read_record_ron,
+    write_record_ron,
 };
 use std::alloc::{AllocError, Global};
 use std::str::Chars;
@@ -109,8 +109,6 @@ impl DeBin for Server {
     }
 }
 
-impl BothBin for Server {}
-
 // ---- JSON
 
 impl JsonFormat for Server {
@@ -131,8 +129,6 @@ impl DeJson for Server {
     }
 }
 
-impl BothJson for Server {}
-
 // ---- RON
 
 impl RonFormat for Server {
@@ -152,5 +148,3 @@ impl DeRon for Server {
         read_record_ron(alloc, state, input)
     }
 }
-
-impl BothRon for Server {}

@@ -11,15 +11,15 @@ use described::{
     known_choice, one_part, tuple, variant,
 };
 use described_bin::{
-    BinFormat, BinShapes, BothBin, DeBin, DeBinErr, SerBin, read_choice_bin, write_choice_bin,
+    BinFormat, BinShapes, DeBin, DeBinErr, SerBin, read_choice_bin, write_choice_bin,
 };
 use described_json::{
-    BothJson, DeJson, DeJsonState, JsonFormat, JsonResult, JsonShapes, SerJson, SerJsonState,
+    DeJson, DeJsonState, JsonFormat, JsonResult, JsonShapes, SerJson, SerJsonState,
     read_choice_json, write_choice_json,
 };
 use described_ron::{
-    BothRon, DeRon, DeRonState, RonFormat, RonResult, RonShapes, SerRon, SerRonState,
-    read_choice_ron, write_choice_ron,
+    DeRon, DeRonState, RonFormat, RonResult, RonShapes, SerRon, SerRonState, read_choice_ron,
+    write_choice_ron,
 };
 use std::alloc::{AllocError, Global};
 use std::str::Chars;
@@ -114,8 +114,6 @@ impl DeBin for Signal {
     }
 }
 
-impl BothBin for Signal {}
-
 // ---- JSON
 
 impl JsonFormat for Signal {
@@ -137,8 +135,6 @@ impl DeJson for Signal {
     }
 }
 
-impl BothJson for Signal {}
-
 // ---- RON
 
 impl RonFormat for Signal {
@@ -159,5 +155,3 @@ impl DeRon for Signal {
         read_choice_ron(alloc, state, input)
     }
 }
-
-impl BothRon for Signal {}

@@ -9,12 +9,12 @@ use described::{
     three_apart,
 };
 use described_json::{
-    BothJson, DeJson, DeJsonState, JsonFormat, JsonResult, JsonShape, SerJson, SerJsonState,
+    DeJson, DeJsonState, JsonFormat, JsonResult, JsonShape, SerJson, SerJsonState,
     read_record_json, write_record_json,
 };
 use described_ron::{
-    BothRon, DeRon, DeRonState, RonFormat, RonResult, RonShape, SerRon, SerRonState,
-    read_record_ron, write_record_ron,
+    DeRon, DeRonState, RonFormat, RonResult, RonShape, SerRon, SerRonState, read_record_ron,
+    write_record_ron,
 };
 use std::alloc::{AllocError, Global};
 use std::collections::HashMap;
@@ -87,8 +87,6 @@ impl DeJson for State {
     }
 }
 
-impl BothJson for State {}
-
 impl RonFormat for State {
     ghost ron = { ron_of ⟦<State as Record>⟧.told ⟦<StateFields as RonShape>⟧.format refl };
 
@@ -106,5 +104,3 @@ impl DeRon for State {
         read_record_ron(alloc, state, input)
     }
 }
-
-impl BothRon for State {}
