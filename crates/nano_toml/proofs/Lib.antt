@@ -1,4 +1,5 @@
 pub mod ArrayViews
+pub mod BracketCut
 pub mod BuildLemmas
 pub mod BuilderSteps
 pub mod ByteTests

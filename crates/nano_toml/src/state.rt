@@ -1,13 +1,15 @@
 // The place in a text, and the steps to the next character and to the next token.
-ghost use Rattle.std.specs.Prelude.{◌≡◌, ◌≢◌, ℕ, Bool, [], ◌∷◌, ◌<◌, ◌==◌, ◌-◌, chars, length, false};
-ghost use Rattle.std.specs.Prelude.{IfOk, option_map, if◌then◌else◌, not};
+ghost use Rattle.std.specs.Prelude.{◌≡◌, ◌≢◌, ℕ, Bool, List, [], ◌∷◌, ◌<◌, ◌==◌, ◌-◌, ◌⊎◌};
+ghost use Rattle.std.specs.Prelude.{Some, true, false, chars, length, IfOk, option_map, not};
+ghost use Rattle.std.specs.Prelude.{if◌then◌else◌};
 ghost use Rattle.nano_toml.specs.Characters.{is_space, is_line_feed, IsByteTest};
-ghost use Rattle.nano_toml.specs.Cut.{mark_token, CutsNothing};
+ghost use Rattle.nano_toml.specs.Cut.{mark_token, Cut, CutsNothing};
 ghost use Rattle.nano_toml.specs.LiveText.{live, live_text, held};
 ghost use Rattle.nano_toml.specs.Outcomes.{OnFault};
 ghost use Rattle.nano_toml.specs.Scan.{behind_gaps, tail};
 ghost use Rattle.nano_toml.specs.Span.{begins, behind};
 ghost use Rattle.nano_toml.specs.Taken.{a_token, token_of, Took};
+ghost use Rattle.nano_toml.specs.Token.{Token};
 
 use crate::fault::{Fault, Lexeme};
 use crate::numbers::starts_number;
@@ -129,6 +131,25 @@ impl<'a> Cursor<'a> {
                 return;
             }
         }
+    }
+
+    /// Takes what is skipped and this bracket behind it, if it stands there, and answers whether it
+    /// does. If not, nothing is taken.
+    pub(crate) fn next_bracket(&mut self, wanted: u8) -> bool
+        requires { wanted ≡ 91 ⊎ wanted ≡ 93 }
+        ensures cut { result ≡ true → (token : Token) → mark_token wanted ≡ Some token
+            → Cut (live self.old) token (live self.new) }
+        ensures none { result ≡ false → live self.new ≡ live self.old }
+        ensures no_bracket { result ≡ false → (token : Token) → mark_token wanted ≡ Some token
+            → (rest : List ℕ) → Cut (live self.old) token rest → ⊥ }
+    {
+        let mut ahead = self.again();
+        ahead.skip();
+        let found = ahead.take(wanted);
+        if found {
+            self.rest = ahead.rest;
+        }
+        found
     }
 
     /// Cuts one token, or the end of the text.

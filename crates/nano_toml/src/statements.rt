@@ -118,10 +118,10 @@ impl<'a> Reader<'a> {
             (Cut (live self.old.cursor) close_bracket (live self.new.cursor)) }
         ensures refused { OnFault result (ClosesNothing (live self.old.cursor)) }
     {
-        match self.read_token()? {
-            TomlTok::BlockClose => Ok(()),
-            tok => Err(Fault::Unexpected(tok)),
+        if !self.cursor.next_bracket(b']') {
+            return Err(Fault::Unexpected(self.read_token()?));
         }
+        Ok(())
     }
 
     // The rest of an array behind its bracket. The arrays that are still open stand in a vector, so
@@ -221,9 +221,11 @@ impl<'a> Reader<'a> {
         if let Some(name) = self.cursor.next_name() {
             return self.read_scope(Name::Word(name));
         }
+        if self.cursor.next_bracket(b'[') {
+            return self.read_element();
+        }
         match self.read_token()? {
             TomlTok::Str(name) => self.read_scope(Name::Quoted(name)),
-            TomlTok::BlockOpen => self.read_element(),
             tok => Err(Fault::Unexpected(tok)),
         }
     }
@@ -240,9 +242,11 @@ impl<'a> Reader<'a> {
         if let Some(name) = self.cursor.next_name() {
             return Ok(Some(self.read_pair(Name::Word(name))?));
         }
+        if self.cursor.next_bracket(b'[') {
+            return Ok(Some(self.read_header()?));
+        }
         match self.read_token()? {
             TomlTok::Eof => Ok(None),
-            TomlTok::BlockOpen => Ok(Some(self.read_header()?)),
             TomlTok::Str(name) => Ok(Some(self.read_pair(Name::Quoted(name))?)),
             tok => Err(Fault::Unexpected(tok)),
         }

@@ -11,6 +11,7 @@ use Rattle.nano_toml.specs.Token.{Token, ident, string, open_bracket}
 use Rattle.nano_toml.specs.declared.token.TomlTok.TheVariants as tok
 use Rattle.nano_toml.proofs.CutLength.{Cut-shorter}
 use Rattle.nano_toml.proofs.CutLaws.{cut_in_one_way}
+use Rattle.nano_toml.proofs.BracketCut.{NoOpening-from, not_open}
 use Rattle.nano_toml.proofs.NameCut.{NoName-from, Took-no_name, not_name}
 use Rattle.nano_toml.proofs.ReadLemmas.{Took-at, token_not_at_end, Reads-token, Reads-shorter, ReadsNothing-fails, ReadsNothing-token, IsNext-some, IsNext-none, SpellsNothing-some, SpellsNothing-cut, Reads-plain}
 use Rattle.nano_toml.proofs.Unexpected.{no_statement}
@@ -51,13 +52,33 @@ returns-in_err-read_pair-clause-refused c =
     let p = err_from_is_err_and c.from_residual.result c.from_residual.ensures.1 in
     rw (p.1, p.2) (λ n. not_begun (pair_front name) text now (ident name) cut (λ more. refl) (c.in_err-read_pair.ensures.refused n))
 
+pub returns-then-next_bracket : goal.returns-then-next_bracket
+returns-then-next_bracket c =
+    let text = live c.args.self.now.cursor in
+    let now = live c.next_bracket.new.self in
+    let looked = NoName-from c.next_name.result (live c.args.self.now.cursor) (live c.next_name.new.self) c.in_default.is c.next_name.ensures.none c.next_name.ensures.no_name in
+    let cut : Cut text open_bracket now = subst (λ (t : List ℕ). Cut t open_bracket now) looked.same (c.if-next_bracket.ensures.cut refl open_bracket refl) in
+    let means = statement_view c.in_ok-read_header.field-0 in
+    let one = begun header_front text now (live c.read_header.new.self.cursor) open_bracket means cut (λ more. refl) c.in_ok-read_header.ensures.found in
+    record { found = one.next; refused = tt; plain = one.plain; shorter = one.shorter }
+
+pub returns-in_err-read_header-clause-refused : goal.returns-in_err-read_header-clause-refused
+returns-in_err-read_header-clause-refused c =
+    let text = live c.args.self.now.cursor in
+    let now = live c.next_bracket.new.self in
+    let looked = NoName-from c.next_name.result (live c.args.self.now.cursor) (live c.next_name.new.self) c.in_default.is c.next_name.ensures.none c.next_name.ensures.no_name in
+    let cut : Cut text open_bracket now = subst (λ (t : List ℕ). Cut t open_bracket now) looked.same (c.if-next_bracket.ensures.cut refl open_bracket refl) in
+    let p = err_from_is_err_and c.from_residual-in_err-read_header.result c.from_residual-in_err-read_header.ensures.1 in
+    rw (p.1, p.2) (λ n. not_begun header_front text now open_bracket cut (λ more. refl) (c.in_err-read_header.ensures.refused n))
+
 pub returns-in_ok-read_pair-in-Str : goal.returns-in_ok-read_pair-in-Str
 returns-in_ok-read_pair-in-Str c =
     let name = string_bytes c.in-Str.name in
     let text = live c.args.self.now.cursor in
     let now = live c.read_token.new.self.cursor in
-    let looked = NoName-from c.next_name.result (live c.args.self.now.cursor) (live c.next_name.new.self) c.in_default.is c.next_name.ensures.none c.next_name.ensures.no_name in
-    let cut = Took-at text now c.in_ok-tok.tok (tok.Str c.in-Str.name) c.in-Str.is (Took-no_name text (live c.next_name.new.self) now (token_of c.in_ok-tok.tok) looked c.in_ok-tok.ensures.cut) in
+    let looked = NoOpening-from (live c.args.self.now.cursor) (live c.next_name.new.self) (live c.next_bracket.new.self) (NoName-from c.next_name.result (live c.args.self.now.cursor) (live c.next_name.new.self) c.in_default.is c.next_name.ensures.none c.next_name.ensures.no_name)
+    (c.if-next_bracket.ensures.none refl) (c.if-next_bracket.ensures.no_bracket refl open_bracket refl) in
+    let cut = Took-at text now c.in_ok-tok.tok (tok.Str c.in-Str.name) c.in-Str.is (Took-no_name text (live c.next_bracket.new.self) now (token_of c.in_ok-tok.tok) looked.no_name c.in_ok-tok.ensures.cut) in
     let means = statement_view c.in_ok-read_pair-in-Str.field-0 in
     let one = begun (pair_front name) text now (live c.read_pair-in-Str.new.self.cursor) (string name) means cut (λ more. refl) c.in_ok-read_pair-in-Str.ensures.found in
     record { found = one.next; refused = tt; plain = one.plain; shorter = one.shorter }
@@ -67,52 +88,37 @@ returns-in_err-read_pair-in-Str-clause-refused c =
     let name = string_bytes c.in-Str.name in
     let text = live c.args.self.now.cursor in
     let now = live c.read_token.new.self.cursor in
-    let looked = NoName-from c.next_name.result (live c.args.self.now.cursor) (live c.next_name.new.self) c.in_default.is c.next_name.ensures.none c.next_name.ensures.no_name in
-    let cut = Took-at text now c.in_ok-tok.tok (tok.Str c.in-Str.name) c.in-Str.is (Took-no_name text (live c.next_name.new.self) now (token_of c.in_ok-tok.tok) looked c.in_ok-tok.ensures.cut) in
+    let looked = NoOpening-from (live c.args.self.now.cursor) (live c.next_name.new.self) (live c.next_bracket.new.self) (NoName-from c.next_name.result (live c.args.self.now.cursor) (live c.next_name.new.self) c.in_default.is c.next_name.ensures.none c.next_name.ensures.no_name)
+    (c.if-next_bracket.ensures.none refl) (c.if-next_bracket.ensures.no_bracket refl open_bracket refl) in
+    let cut = Took-at text now c.in_ok-tok.tok (tok.Str c.in-Str.name) c.in-Str.is (Took-no_name text (live c.next_bracket.new.self) now (token_of c.in_ok-tok.tok) looked.no_name c.in_ok-tok.ensures.cut) in
     let p = err_from_is_err_and c.from_residual-in_err-read_pair-in-Str.result c.from_residual-in_err-read_pair-in-Str.ensures.1 in
     rw (p.1, p.2) (λ n. not_begun (pair_front name) text now (string name) cut (λ more. refl) (c.in_err-read_pair-in-Str.ensures.refused n))
 
-pub returns-in_ok-read_header-in-BlockOpen : goal.returns-in_ok-read_header-in-BlockOpen
-returns-in_ok-read_header-in-BlockOpen c =
-    let text = live c.args.self.now.cursor in
-    let now = live c.read_token.new.self.cursor in
-    let looked = NoName-from c.next_name.result (live c.args.self.now.cursor) (live c.next_name.new.self) c.in_default.is c.next_name.ensures.none c.next_name.ensures.no_name in
-    let cut = Took-at text now c.in_ok-tok.tok tok.BlockOpen c.in-BlockOpen.is (Took-no_name text (live c.next_name.new.self) now (token_of c.in_ok-tok.tok) looked c.in_ok-tok.ensures.cut) in
-    let means = statement_view c.in_ok-read_header-in-BlockOpen.field-0 in
-    let one = begun header_front text now (live c.read_header.new.self.cursor) open_bracket means cut (λ more. refl) c.in_ok-read_header-in-BlockOpen.ensures.found in
-    record { found = one.next; refused = tt; plain = one.plain; shorter = one.shorter }
-
-pub returns-in_err-read_header-in-BlockOpen-clause-refused : goal.returns-in_err-read_header-in-BlockOpen-clause-refused
-returns-in_err-read_header-in-BlockOpen-clause-refused c =
-    let text = live c.args.self.now.cursor in
-    let now = live c.read_token.new.self.cursor in
-    let looked = NoName-from c.next_name.result (live c.args.self.now.cursor) (live c.next_name.new.self) c.in_default.is c.next_name.ensures.none c.next_name.ensures.no_name in
-    let cut = Took-at text now c.in_ok-tok.tok tok.BlockOpen c.in-BlockOpen.is (Took-no_name text (live c.next_name.new.self) now (token_of c.in_ok-tok.tok) looked c.in_ok-tok.ensures.cut) in
-    let p = err_from_is_err_and c.from_residual-in_err-read_header-in-BlockOpen.result c.from_residual-in_err-read_header-in-BlockOpen.ensures.1 in
-    rw (p.1, p.2) (λ n. not_begun header_front text now open_bracket cut (λ more. refl) (c.in_err-read_header-in-BlockOpen.ensures.refused n))
-
 pub returns-in_err-tok-clause-refused : goal.returns-in_err-tok-clause-refused
 returns-in_err-tok-clause-refused c =
-    let looked = NoName-from c.next_name.result (live c.args.self.now.cursor) (live c.next_name.new.self) c.in_default.is c.next_name.ensures.none c.next_name.ensures.no_name in
+    let looked = NoOpening-from (live c.args.self.now.cursor) (live c.next_name.new.self) (live c.next_bracket.new.self) (NoName-from c.next_name.result (live c.args.self.now.cursor) (live c.next_name.new.self) c.in_default.is c.next_name.ensures.none c.next_name.ensures.no_name)
+    (c.if-next_bracket.ensures.none refl) (c.if-next_bracket.ensures.no_bracket refl open_bracket refl) in
     let p = err_from_is_err_and c.from_residual-in_err-tok.result c.from_residual-in_err-tok.ensures.1 in
-    rw (p.1, p.2) (λ n. SpellsNothing-cut (live c.args.self.now.cursor) (subst CutsNothing looked.same (c.in_err-tok.ensures.refused n)))
+    rw (p.1, p.2) (λ n. SpellsNothing-cut (live c.args.self.now.cursor) (subst CutsNothing looked.no_name.same (c.in_err-tok.ensures.refused n)))
 
 pub returns-in-Eof-clause-found : goal.returns-in-Eof-clause-found
 returns-in-Eof-clause-found c =
     let text = live c.args.self.now.cursor in
     let now = live c.read_token.new.self.cursor in
-    let looked = NoName-from c.next_name.result (live c.args.self.now.cursor) (live c.next_name.new.self) c.in_default.is c.next_name.ensures.none c.next_name.ensures.no_name in
-    let cut = Took-at text now c.in_ok-tok.tok tok.Eof c.in-Eof.is (Took-no_name text (live c.next_name.new.self) now (token_of c.in_ok-tok.tok) looked c.in_ok-tok.ensures.cut) in
+    let looked = NoOpening-from (live c.args.self.now.cursor) (live c.next_name.new.self) (live c.next_bracket.new.self) (NoName-from c.next_name.result (live c.args.self.now.cursor) (live c.next_name.new.self) c.in_default.is c.next_name.ensures.none c.next_name.ensures.no_name)
+    (c.if-next_bracket.ensures.none refl) (c.if-next_bracket.ensures.no_bracket refl open_bracket refl) in
+    let cut = Took-at text now c.in_ok-tok.tok tok.Eof c.in-Eof.is (Took-no_name text (live c.next_bracket.new.self) now (token_of c.in_ok-tok.tok) looked.no_name c.in_ok-tok.ensures.cut) in
     IsNext-none text now cut
 
 pub returns-in_default-2-clause-refused : goal.returns-in_default-2-clause-refused
 returns-in_default-2-clause-refused c =
     let text = live c.args.self.now.cursor in
-    let now = live c.next_name.new.self in
+    let now = live c.next_bracket.new.self in
     let rest = live c.read_token.new.self.cursor in
     let t = c.in_ok-tok.tok in
-    let looked = NoName-from c.next_name.result (live c.args.self.now.cursor) (live c.next_name.new.self) c.in_default.is c.next_name.ensures.none c.next_name.ensures.no_name in
-    let took = Took-no_name text now rest (token_of t) looked c.in_ok-tok.ensures.cut in
+    let looked = NoOpening-from (live c.args.self.now.cursor) (live c.next_name.new.self) (live c.next_bracket.new.self) (NoName-from c.next_name.result (live c.args.self.now.cursor) (live c.next_name.new.self) c.in_default.is c.next_name.ensures.none c.next_name.ensures.no_name)
+    (c.if-next_bracket.ensures.none refl) (c.if-next_bracket.ensures.no_bracket refl open_bracket refl) in
+    let took = Took-no_name text now rest (token_of t) looked.no_name c.in_ok-tok.ensures.cut in
     λ n. SpellsNothing-some text
-    (ReadsNothing-fails statement_front text rest (token_of t) took (no_statement t (not_name text now rest t looked c.in_ok-tok.ensures.cut) c.in_default-2.not-Str c.in_default-2.not-BlockOpen))
+    (ReadsNothing-fails statement_front text rest (token_of t) took (no_statement t (not_name text now rest t looked.no_name c.in_ok-tok.ensures.cut) c.in_default-2.not-Str (not_open text now rest t looked c.in_ok-tok.ensures.cut)))
     (token_not_at_end text rest t c.in_default-2.not-Eof took)
