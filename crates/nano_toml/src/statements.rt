@@ -112,6 +112,17 @@ impl<'a> Reader<'a> {
         self.cursor.next_tok(self.alloc)
     }
 
+    // The fault of a text in which something else was to stand here. It is apart and cold, so that
+    // where nothing is wrong no room is made for it.
+    #[cold]
+    #[inline(never)]
+    fn unexpected(&mut self) -> Fault {
+        match self.read_token() {
+            Ok(tok) => Fault::Unexpected(tok),
+            Err(fault) => fault,
+        }
+    }
+
     // A closing bracket.
     fn read_close_bracket(&mut self) -> Result<(), Fault>
         ensures cut { OnOk result
@@ -119,7 +130,7 @@ impl<'a> Reader<'a> {
         ensures refused { OnFault result (ClosesNothing (live self.old.cursor)) }
     {
         if !self.cursor.next_bracket(b']') {
-            return Err(Fault::Unexpected(self.read_token()?));
+            return Err(self.unexpected());
         }
         Ok(())
     }
