@@ -33,7 +33,7 @@ impl DeJsonState {
         ensures ended { pending self.old ≡ colon → OnErr result (at self.new i.new ≡ ended) }
     {
         match self.tok {
-            DeJsonTok::Colon => self.next_tok(alloc, i),
+            DeJsonTok::Colon => self.begin_value(alloc, i),
             _ => Err(self.err_token(alloc, ":")),
         }
     }
@@ -57,6 +57,7 @@ impl DeJsonState {
     }
 
     /// Takes the next token where `[` is pending.
+    #[inline]
     pub fn block_open(&mut self, alloc: Global, i: &mut Chars<'_>) -> Result<(), DeJsonErr>
         ensures taken { OnOk result (Takes (block_open ∷ []) self.old i.old self.new i.new) }
         ensures buffers { OnOk result (KeepsOtherBuffers self.old self.new) }
@@ -68,12 +69,13 @@ impl DeJsonState {
         ensures ended { pending self.old ≡ block_open → OnErr result (at self.new i.new ≡ ended) }
     {
         match self.tok {
-            DeJsonTok::BlockOpen => self.next_tok(alloc, i),
+            DeJsonTok::BlockOpen => self.begin_value(alloc, i),
             _ => Err(self.err_token(alloc, "[")),
         }
     }
 
     /// Takes the next token where `]` is pending.
+    #[inline]
     pub fn block_close(&mut self, alloc: Global, i: &mut Chars<'_>) -> Result<(), DeJsonErr>
         ensures taken { OnOk result (Takes (block_close ∷ []) self.old i.old self.new i.new) }
         ensures buffers { OnOk result (KeepsOtherBuffers self.old self.new) }
@@ -91,6 +93,7 @@ impl DeJsonState {
     }
 
     /// Takes the next token where `{` is pending.
+    #[inline]
     pub fn curly_open(&mut self, alloc: Global, i: &mut Chars<'_>) -> Result<(), DeJsonErr>
         ensures taken { OnOk result (Takes (curly_open ∷ []) self.old i.old self.new i.new) }
         ensures buffers { OnOk result (KeepsOtherBuffers self.old self.new) }
@@ -102,12 +105,13 @@ impl DeJsonState {
         ensures ended { pending self.old ≡ curly_open → OnErr result (at self.new i.new ≡ ended) }
     {
         match self.tok {
-            DeJsonTok::CurlyOpen => self.next_tok(alloc, i),
+            DeJsonTok::CurlyOpen => self.begin_value(alloc, i),
             _ => Err(self.err_token(alloc, "{")),
         }
     }
 
     /// Takes the next token where `}` is pending.
+    #[inline]
     pub fn curly_close(&mut self, alloc: Global, i: &mut Chars<'_>) -> Result<(), DeJsonErr>
         ensures taken { OnOk result (Takes (curly_close ∷ []) self.old i.old self.new i.new) }
         ensures buffers { OnOk result (KeepsOtherBuffers self.old self.new) }
@@ -125,6 +129,7 @@ impl DeJsonState {
     }
 
     /// Takes the next token where a comma is pending, and nothing where `]` is.
+    #[inline]
     pub fn eat_comma_block(&mut self, alloc: Global, i: &mut Chars<'_>) -> Result<(), DeJsonErr>
         ensures taken { OnOk result (Takes (comma ∷ []) self.old i.old self.new i.new
             ⊎ ((pending self.old ≡ block_close) × (at self.new i.new ≡ at self.old i.old))) }
@@ -137,13 +142,14 @@ impl DeJsonState {
         ensures ended { pending self.old ≡ comma → OnErr result (at self.new i.new ≡ ended) }
     {
         match self.tok {
-            DeJsonTok::Comma => self.next_tok(alloc, i),
+            DeJsonTok::Comma => self.begin_value(alloc, i),
             DeJsonTok::BlockClose => Ok(()),
             _ => Err(self.err_token(alloc, ", or ]")),
         }
     }
 
     /// Takes the next token where a comma is pending, and nothing where `}` is.
+    #[inline]
     pub fn eat_comma_curly(&mut self, alloc: Global, i: &mut Chars<'_>) -> Result<(), DeJsonErr>
         ensures taken { OnOk result (Takes (comma ∷ []) self.old i.old self.new i.new
             ⊎ ((pending self.old ≡ curly_close) × (at self.new i.new ≡ at self.old i.old))) }
@@ -156,7 +162,7 @@ impl DeJsonState {
         ensures ended { pending self.old ≡ comma → OnErr result (at self.new i.new ≡ ended) }
     {
         match self.tok {
-            DeJsonTok::Comma => self.next_tok(alloc, i),
+            DeJsonTok::Comma => self.begin_value(alloc, i),
             DeJsonTok::CurlyClose => Ok(()),
             _ => Err(self.err_token(alloc, ", or }")),
         }

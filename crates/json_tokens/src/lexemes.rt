@@ -63,7 +63,7 @@ impl DeJsonState {
 
     /// Takes the next token, whatever it is.
     #[inline(never)]
-    fn take_token(&mut self, i: &mut Chars<'_>) -> Result<(), Refusal>
+    pub(crate) fn take_token(&mut self, i: &mut Chars<'_>) -> Result<(), Refusal>
         ensures taken { OnOk result
             (Cut (live self.old.cur i.old) (pending self.new) (live self.new.cur i.new)) }
         ensures buffers { OnOk result (KeepsOtherBuffers self.old self.new) }

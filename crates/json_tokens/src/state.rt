@@ -101,6 +101,24 @@ impl DeJsonState {
         }
     }
 
+    /// Takes the next token as `next_tok` does, where most often a value or a name begins: so no mark
+    /// is looked for first.
+    #[inline(always)]
+    pub(crate) fn begin_value(&mut self, alloc: Global, i: &mut Chars<'_>) -> Result<(), DeJsonErr>
+        ensures taken { OnOk result
+            (Cut (live self.old.cur i.old) (pending self.new) (live self.new.cur i.new)) }
+        ensures buffers { OnOk result (KeepsOtherBuffers self.old self.new) }
+        ensures place { OnOk result (Counts self.old i.old self.new i.new) }
+        ensures refused { IfErr result (Tells self.new (NothingCut (live self.old.cur i.old))) }
+        ensures room { OnErr result (NoRoom self.old (live self.old.cur i.old)) }
+        ensures ended { OnErr result (at self.new i.new ≡ ended) }
+    {
+        match self.take_token(i) {
+            Ok(()) => Ok(()),
+            Err(refusal) => Err(self.refuse(alloc, refusal)),
+        }
+    }
+
     /// Leaves the state at the end of the text: `Eof` is pending, and `cur` is NUL. Line and column
     /// stay. It takes no memory.
     #[tactic(auto, unfolding(nano_text::specs::Place::live))]

@@ -33,7 +33,7 @@ impl DeRonState {
         ensures ended { pending self.old ≡ colon → OnErr result (at self.new i.new ≡ ended) }
     {
         match self.tok {
-            DeRonTok::Colon => self.next_tok(alloc, i),
+            DeRonTok::Colon => self.begin_value(alloc, i),
             _ => Err(self.err_token(alloc, ":")),
         }
     }
@@ -57,6 +57,7 @@ impl DeRonState {
     }
 
     /// Takes the next token where `[` is pending.
+    #[inline]
     pub fn block_open(&mut self, alloc: Global, i: &mut Chars<'_>) -> Result<(), DeRonErr>
         ensures taken { OnOk result (Takes (block_open ∷ []) self.old i.old self.new i.new) }
         ensures buffers { OnOk result (KeepsOtherBuffers self.old self.new) }
@@ -68,12 +69,13 @@ impl DeRonState {
         ensures ended { pending self.old ≡ block_open → OnErr result (at self.new i.new ≡ ended) }
     {
         match self.tok {
-            DeRonTok::BlockOpen => self.next_tok(alloc, i),
+            DeRonTok::BlockOpen => self.begin_value(alloc, i),
             _ => Err(self.err_token(alloc, "[")),
         }
     }
 
     /// Takes the next token where `]` is pending.
+    #[inline]
     pub fn block_close(&mut self, alloc: Global, i: &mut Chars<'_>) -> Result<(), DeRonErr>
         ensures taken { OnOk result (Takes (block_close ∷ []) self.old i.old self.new i.new) }
         ensures buffers { OnOk result (KeepsOtherBuffers self.old self.new) }
@@ -91,6 +93,7 @@ impl DeRonState {
     }
 
     /// Takes the next token where `{` is pending.
+    #[inline]
     pub fn curly_open(&mut self, alloc: Global, i: &mut Chars<'_>) -> Result<(), DeRonErr>
         ensures taken { OnOk result (Takes (curly_open ∷ []) self.old i.old self.new i.new) }
         ensures buffers { OnOk result (KeepsOtherBuffers self.old self.new) }
@@ -102,12 +105,13 @@ impl DeRonState {
         ensures ended { pending self.old ≡ curly_open → OnErr result (at self.new i.new ≡ ended) }
     {
         match self.tok {
-            DeRonTok::CurlyOpen => self.next_tok(alloc, i),
+            DeRonTok::CurlyOpen => self.begin_value(alloc, i),
             _ => Err(self.err_token(alloc, "{")),
         }
     }
 
     /// Takes the next token where `}` is pending.
+    #[inline]
     pub fn curly_close(&mut self, alloc: Global, i: &mut Chars<'_>) -> Result<(), DeRonErr>
         ensures taken { OnOk result (Takes (curly_close ∷ []) self.old i.old self.new i.new) }
         ensures buffers { OnOk result (KeepsOtherBuffers self.old self.new) }
@@ -125,6 +129,7 @@ impl DeRonState {
     }
 
     /// Takes the next token where `(` is pending.
+    #[inline]
     pub fn paren_open(&mut self, alloc: Global, i: &mut Chars<'_>) -> Result<(), DeRonErr>
         ensures taken { OnOk result (Takes (paren_open ∷ []) self.old i.old self.new i.new) }
         ensures buffers { OnOk result (KeepsOtherBuffers self.old self.new) }
@@ -136,12 +141,13 @@ impl DeRonState {
         ensures ended { pending self.old ≡ paren_open → OnErr result (at self.new i.new ≡ ended) }
     {
         match self.tok {
-            DeRonTok::ParenOpen => self.next_tok(alloc, i),
+            DeRonTok::ParenOpen => self.begin_value(alloc, i),
             _ => Err(self.err_token(alloc, "(")),
         }
     }
 
     /// Takes the next token where `)` is pending.
+    #[inline]
     pub fn paren_close(&mut self, alloc: Global, i: &mut Chars<'_>) -> Result<(), DeRonErr>
         ensures taken { OnOk result (Takes (paren_close ∷ []) self.old i.old self.new i.new) }
         ensures buffers { OnOk result (KeepsOtherBuffers self.old self.new) }
@@ -159,6 +165,7 @@ impl DeRonState {
     }
 
     /// Takes the next token where a comma is pending, and nothing where `]` is.
+    #[inline]
     pub fn eat_comma_block(&mut self, alloc: Global, i: &mut Chars<'_>) -> Result<(), DeRonErr>
         ensures taken { OnOk result (Takes (comma ∷ []) self.old i.old self.new i.new
             ⊎ ((pending self.old ≡ block_close) × (at self.new i.new ≡ at self.old i.old))) }
@@ -171,13 +178,14 @@ impl DeRonState {
         ensures ended { pending self.old ≡ comma → OnErr result (at self.new i.new ≡ ended) }
     {
         match self.tok {
-            DeRonTok::Comma => self.next_tok(alloc, i),
+            DeRonTok::Comma => self.begin_value(alloc, i),
             DeRonTok::BlockClose => Ok(()),
             _ => Err(self.err_token(alloc, ", or ]")),
         }
     }
 
     /// Takes the next token where a comma is pending, and nothing where `}` is.
+    #[inline]
     pub fn eat_comma_curly(&mut self, alloc: Global, i: &mut Chars<'_>) -> Result<(), DeRonErr>
         ensures taken { OnOk result (Takes (comma ∷ []) self.old i.old self.new i.new
             ⊎ ((pending self.old ≡ curly_close) × (at self.new i.new ≡ at self.old i.old))) }
@@ -190,13 +198,14 @@ impl DeRonState {
         ensures ended { pending self.old ≡ comma → OnErr result (at self.new i.new ≡ ended) }
     {
         match self.tok {
-            DeRonTok::Comma => self.next_tok(alloc, i),
+            DeRonTok::Comma => self.begin_value(alloc, i),
             DeRonTok::CurlyClose => Ok(()),
             _ => Err(self.err_token(alloc, ", or }")),
         }
     }
 
     /// Takes the next token where a comma is pending, and nothing where `)` is.
+    #[inline]
     pub fn eat_comma_paren(&mut self, alloc: Global, i: &mut Chars<'_>) -> Result<(), DeRonErr>
         ensures taken { OnOk result (Takes (comma ∷ []) self.old i.old self.new i.new
             ⊎ ((pending self.old ≡ paren_close) × (at self.new i.new ≡ at self.old i.old))) }
@@ -209,7 +218,7 @@ impl DeRonState {
         ensures ended { pending self.old ≡ comma → OnErr result (at self.new i.new ≡ ended) }
     {
         match self.tok {
-            DeRonTok::Comma => self.next_tok(alloc, i),
+            DeRonTok::Comma => self.begin_value(alloc, i),
             DeRonTok::ParenClose => Ok(()),
             _ => Err(self.err_token(alloc, ", or )")),
         }

@@ -8,6 +8,6 @@ pub returns-in-Comma-clause-refused : goal.returns-in-Comma-clause-refused
 returns-in-Comma-clause-refused c =
     let s = c.args.self.now in
     let is_comma : pending s ≡ comma = ap (λ t. token_of t (string_bytes s.strbuf) (string_bytes s.numbuf)) c.in-Comma.is in
-    tells c.next_tok.result c.next_tok.new.self _ _
+    tells c.begin_value.result c.begin_value.new.self _ _
     (λ h. (λ closing. let x = sym is_comma ∙ closing in cc x, none_behind comma s c.args.i.now h))
-    c.next_tok.ensures.refused
+    c.begin_value.ensures.refused

@@ -5,4 +5,4 @@ use Rattle.ron_tokens.proofs.state.DeRonState.curly_open.Goals as goal
 pub returns-in-CurlyOpen-clause-refused : goal.returns-in-CurlyOpen-clause-refused
 returns-in-CurlyOpen-clause-refused c =
     let none = none_behind curly_open c.args.self.now c.args.i.now in
-    tells c.next_tok.result c.next_tok.new.self _ _ none c.next_tok.ensures.refused
+    tells c.begin_value.result c.begin_value.new.self _ _ none c.begin_value.ensures.refused
