@@ -1,0 +1,72 @@
+// The form of a name, values of either form, and faults as they are shown.
+use std::alloc::Global;
+use std::process::Abort;
+use text_forms::{Form, Refusal};
+
+/// The text is what was expected.
+fn is(rt: &impl Abort, found: &str, expected: &str) {
+    assert_eq!(rt; found, expected);
+}
+
+/// The numbers that a text is, written again, or in words why it is none.
+fn again(rt: &impl Abort, alloc: Global, form: Form, text: &str, expected: &str) {
+    match form.read::<Vec<u64>>(alloc, text) {
+        Ok(numbers) => match form.write(alloc, &numbers) {
+            Ok(written) => is(rt, written.as_str(), expected),
+            Err(_refused) => is(rt, "no memory", expected),
+        },
+        Err(Refusal::Text(fault)) => is(rt, fault.words.as_str(), expected),
+        Err(Refusal::Memory) => is(rt, "no memory", expected),
+    }
+}
+
+/// What is shown of the fault of a text that is no list of numbers.
+fn shown(rt: &impl Abort, alloc: Global, form: Form, text: &str, expected: &str) {
+    match form.read::<Vec<u64>>(alloc, text) {
+        Err(Refusal::Text(fault)) => {
+            let mut output = Vec::new(alloc);
+            let told = fault.show(&mut output, "file", text);
+            let found = std::str::from_utf8(output.as_slice()).unwrap_or("no text");
+            is(rt, if told.is_ok() { found } else { "not shown" }, expected);
+        }
+        _ => is(rt, text, "refused"),
+    }
+}
+
+#[test]
+fn names_tell_the_form(rt: HostRuntime) {
+    for (name, form) in [
+        ("a.json", Some(Form::Json)),
+        (".json", Some(Form::Json)),
+        ("a.json.ron", Some(Form::Ron)),
+        ("json", None),
+        ("a.JSON", None),
+        ("a.ron ", None),
+        ("", None),
+    ] {
+        assert!(&rt; Form::of_name(name) == form, "{name}");
+    }
+}
+
+#[test]
+fn values_are_read_and_written(rt: HostRuntime) {
+    let alloc = rt.alloc();
+    for (form, text, expected) in [
+        (Form::Json, " [1, 2,] ", "[1,2]"),
+        (Form::Ron, "[1, 2] // two", "[\n    1,\n    2,\n]"),
+        (Form::Json, "[1] 2", "Cannot parse end "),
+        (Form::Ron, "[1] 2", "Cannot parse end "),
+    ] {
+        again(&rt, alloc, form, text, expected);
+    }
+}
+
+#[test]
+fn faults_are_shown_under_their_place(rt: HostRuntime) {
+    let alloc = rt.alloc();
+    let behind_a_word =
+        "file:2:6: Unexpected token Ident expected unsigned integer \n\t1, x]\n\t    ^\n";
+    shown(&rt, alloc, Form::Ron, "[\n\t1, x]", behind_a_word);
+    let at_the_end = "file:1:2: Unexpected token Eof expected , or ] \n[1\n ^\n";
+    shown(&rt, alloc, Form::Json, "[1", at_the_end);
+}
