@@ -3,6 +3,8 @@
 #![tactic(auto)]
 
 #[cfg(test)]
+mod law_tests;
+#[cfg(test)]
 mod source;
 #[cfg(test)]
 mod stream_tests;
