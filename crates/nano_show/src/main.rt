@@ -7,38 +7,7 @@
 //! types. `nano_show toml` prints the listing of a TOML text.
 #![tactic(auto)]
 
-mod fault;
-#[cfg(test)]
-mod fault_tests;
-#[cfg(test)]
-mod json_fault_tests;
-#[cfg(test)]
-mod law_tests;
-pub mod laws;
-mod listed;
-mod listing;
-#[cfg(test)]
-mod listing_tests;
-mod normal;
-mod pairs;
-#[cfg(test)]
-mod refusal_tests;
-#[cfg(test)]
-mod ron_fault_tests;
-mod run;
-mod shown;
-#[cfg(test)]
-mod stream_tests;
-#[cfg(test)]
-mod testing;
-#[cfg(test)]
-mod tests;
-mod texts;
-mod whole_inputs;
-mod words;
-
-pub use fault::{ShowFault, ending};
-pub use run::run;
+pub use show_answers::{ShowFault, ending, run};
 use std::env;
 use std::io::ErrorKind;
 use std::process::ExitCode;
