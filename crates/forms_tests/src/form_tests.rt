@@ -1,7 +1,7 @@
 // The form of a name, values of either form, and faults as they are shown.
 use std::alloc::Global;
 use std::process::Abort;
-use text_forms::{Form, Refusal};
+use text_forms::{Form, Refusal, TextFault};
 
 /// The text is what was expected.
 fn is(rt: &impl Abort, found: &str, expected: &str) {
@@ -20,16 +20,22 @@ fn again(rt: &impl Abort, alloc: Global, form: Form, text: &str, expected: &str)
     }
 }
 
-/// What is shown of the fault of a text that is no list of numbers.
-fn shown(rt: &impl Abort, alloc: Global, form: Form, text: &str, expected: &str) {
+/// What is shown of a fault, if all of it could be.
+fn shown(alloc: Global, fault: &TextFault, text: &str) -> Option<String> {
+    let mut output = Vec::new(alloc);
+    fault.show(&mut output, "file", text).ok()?;
+    String::from_utf8(output).ok()
+}
+
+/// The text is no list of numbers, and this is shown of its fault.
+fn shows(rt: &impl Abort, alloc: Global, form: Form, text: &str, expected: &str) {
     match form.read::<Vec<u64>>(alloc, text) {
-        Err(Refusal::Text(fault)) => {
-            let mut output = Vec::new(alloc);
-            let told = fault.show(&mut output, "file", text);
-            let found = std::str::from_utf8(output.as_slice()).unwrap_or("no text");
-            is(rt, if told.is_ok() { found } else { "not shown" }, expected);
-        }
-        _ => is(rt, text, "refused"),
+        Ok(_numbers) => is(rt, "read", expected),
+        Err(Refusal::Memory) => is(rt, "no memory", expected),
+        Err(Refusal::Text(fault)) => match shown(alloc, &fault, text) {
+            Some(found) => is(rt, found.as_str(), expected),
+            None => is(rt, "not shown", expected),
+        },
     }
 }
 
@@ -66,7 +72,7 @@ fn faults_are_shown_under_their_place(rt: HostRuntime) {
     let alloc = rt.alloc();
     let behind_a_word =
         "file:2:6: Unexpected token Ident expected unsigned integer \n\t1, x]\n\t    ^\n";
-    shown(&rt, alloc, Form::Ron, "[\n\t1, x]", behind_a_word);
+    shows(&rt, alloc, Form::Ron, "[\n\t1, x]", behind_a_word);
     let at_the_end = "file:1:2: Unexpected token Eof expected , or ] \n[1\n ^\n";
-    shown(&rt, alloc, Form::Json, "[1", at_the_end);
+    shows(&rt, alloc, Form::Json, "[1", at_the_end);
 }
