@@ -1,7 +1,8 @@
-// What the tests share. Each call through a bound is a function of its own, and so is what is
-// asserted of its answer: a function that does both takes many times as long to prove. So a test is
-// a row of calls: what it needs is made by small functions, whose answers it hands on as they are.
-use nano_bin::{DeBin, DeBinErr, DeBinKind, SerBin};
+// What the tests share. A call through a bound stands in a generic function that answers whether it
+// did as it should, and the answer is asserted apart from it: a function that does both takes many
+// times as long to prove.
+use bin_bytes::rest;
+use nano_bin::{BothBin, DeBin, DeBinErr, DeBinKind, SerBin};
 use std::alloc::{AllocError, Global};
 use std::process::Abort;
 
@@ -10,62 +11,32 @@ pub(crate) fn holds(rt: &impl Abort, is_so: bool, call: &str) {
     assert!(rt; is_so, "{call}");
 }
 
-/// The written bytes.
-pub(crate) fn code_of<T: SerBin>(alloc: Global, value: &T) -> Result<Vec<u8>, AllocError> {
-    value.serialize_bin(alloc)
+/// Whether the value is written as the code, alone and behind what stands there.
+pub(crate) fn is_written<T: SerBin>(
+    alloc: Global,
+    value: &T,
+    code: &[u8],
+) -> Result<bool, AllocError> {
+    let alone = value.serialize_bin(alloc)?;
+    let mut output = vec![in alloc; 77u8]?;
+    value.ser_bin(alloc, &mut output)?;
+    let is_behind = output.first() == Some(&77) && rest(&output, 1) == code;
+    Ok(is_behind && alone.as_slice() == code)
 }
 
-/// The bytes are these.
-pub(crate) fn is_code(rt: &impl Abort, code: &[u8], expected: &[u8]) {
-    assert_eq!(rt; code, expected);
-}
-
-/// The value was written as these bytes.
-pub(crate) fn is_written(rt: &impl Abort, code: &Result<Vec<u8>, AllocError>, expected: &[u8]) {
-    match code {
-        Ok(bytes) => is_code(rt, bytes, expected),
-        Err(_refused) => no_memory(rt),
-    }
-}
-
-/// Want of memory ends a test.
-pub(crate) fn no_memory(rt: &impl Abort) {
-    assert!(rt; false, "no memory");
-}
-
-/// Whether the value is read from the bytes from the offset on, and the offset afterwards.
-pub(crate) fn reads<T: DeBin + PartialEq>(
+/// Whether the value is read from the bytes from the offset on, and from these alone.
+fn is_read<T: DeBin + PartialEq>(
     alloc: Global,
     value: &T,
     start: usize,
     bytes: &[u8],
-) -> Result<(bool, usize), DeBinErr> {
+) -> Result<bool, DeBinErr> {
+    let code = rest(bytes, start);
     let mut offset = start;
     let is_same = T::de_bin(alloc, &mut offset, bytes)? == *value;
-    Ok((is_same, offset))
-}
-
-/// The value was read up to the end.
-pub(crate) fn is_back(rt: &impl Abort, read: Result<(bool, usize), DeBinErr>, end: usize) {
-    let found = match read {
-        Ok((is_same, offset)) => (is_same, offset, None),
-        Err(error) => (false, end, Some(error.kind)),
-    };
-    assert_eq!(rt; found, (true, end, None));
-}
-
-/// Whether the value is read from the code alone.
-pub(crate) fn is_read_alone<T: DeBin + PartialEq>(
-    alloc: Global,
-    value: &T,
-    code: &[u8],
-) -> Result<bool, DeBinErr> {
-    Ok(T::deserialize_bin(alloc, code)? == *value)
-}
-
-/// The value was read.
-pub(crate) fn is_alone(rt: &impl Abort, read: Result<bool, DeBinErr>) {
-    assert!(rt; read.is_ok_and(|is_same| is_same));
+    let is_alone = T::deserialize_bin(alloc, code)? == *value;
+    let is_whole = T::deserialize_bin_whole(alloc, code)? == *value;
+    Ok(is_same && is_alone && is_whole && offset == start.max(bytes.len()))
 }
 
 /// The refusal of the bytes from the offset on, if they are refused, and the offset afterwards.
@@ -79,37 +50,77 @@ pub(crate) fn refusal<T: DeBin>(
     (refusal, offset)
 }
 
-/// The refusal is of this kind, with these numbers, and the offset is kept.
-pub(crate) fn is_refused(
-    rt: &impl Abort,
-    told: (Option<DeBinErr>, usize),
+/// Whether the refusal is of this kind, with these numbers.
+pub(crate) fn is_refusal(
+    told: Option<DeBinErr>,
     kind: DeBinKind,
-    numbers: (usize, usize, usize),
-    start: usize,
-) {
-    let found = match told.0 {
-        None => (None, (0, 0, 0), told.1),
-        Some(error) => (Some(error.kind), (error.o, error.l, error.s), told.1),
-    };
-    assert_eq!(rt; found, (Some(kind), numbers, start));
+    place: usize,
+    wanted: usize,
+    size: usize,
+) -> bool {
+    match told {
+        None => false,
+        Some(error) => {
+            error.kind == kind && error.o == place && error.l == wanted && error.s == size
+        }
+    }
 }
 
-/// A front of so many bytes is refused as too short, and the offset is kept.
-fn is_too_short(rt: &impl Abort, told: (Option<DeBinErr>, usize), end: usize) {
-    let found = match told.0 {
-        None => (None, told.1),
-        Some(error) => (Some(error.kind), told.1),
-    };
-    assert_eq!(rt;
-        found,
-        (Some(DeBinKind::TooShort), 0),
-        "a front of {end} bytes"
-    );
+/// The bytes, an offset in them, why they are refused from there on, the place that is told, and
+/// how many bytes were wanted there.
+pub(crate) type Refusal = (&'static [u8], usize, DeBinKind, usize, usize);
+
+/// Whether the bytes are refused so, with the offset kept.
+pub(crate) fn is_refused<T: DeBin>(alloc: Global, row: &Refusal) -> bool {
+    let (told, offset) = refusal::<T>(alloc, row.1, row.0);
+    is_refusal(told, row.2, row.3, row.4, row.0.len()) && offset == row.1
 }
 
-/// Every proper front of the code is refused as too short, and leaves the offset.
-pub(crate) fn fronts_refused<T: DeBin>(rt: &impl Abort, alloc: Global, code: &[u8]) {
+/// Whether every proper front of the code is refused as too short, and leaves the offset.
+pub(crate) fn refuses_fronts<T: DeBin>(alloc: Global, code: &[u8]) -> bool {
     for end in 0..code.len() {
-        is_too_short(rt, refusal::<T>(alloc, 0, &code[..end]), end);
+        let (told, offset) = refusal::<T>(alloc, 0, &code[..end]);
+        match told {
+            Some(error) if error.kind == DeBinKind::TooShort && offset == 0 => {}
+            _ => return false,
+        }
+    }
+    true
+}
+
+/// The value, if it could be made, is read from the bytes from the offset on.
+pub(crate) fn reads<T: DeBin + PartialEq>(
+    rt: &impl Abort,
+    alloc: Global,
+    name: &str,
+    made: Result<T, AllocError>,
+    start: usize,
+    bytes: &[u8],
+) {
+    match made {
+        Ok(value) => {
+            let is_read = is_read(alloc, &value, start, bytes);
+            holds(rt, is_read.unwrap_or(false), name);
+        }
+        Err(_refused) => holds(rt, false, "no memory"),
+    }
+}
+
+/// The value, if it could be made, is written as the code and read back from it, and every proper
+/// front of the code is refused as too short with the offset kept.
+pub(crate) fn row<T: BothBin + PartialEq>(
+    rt: &impl Abort,
+    alloc: Global,
+    name: &str,
+    made: Result<T, AllocError>,
+    code: &[u8],
+) {
+    match made {
+        Ok(value) => {
+            holds(rt, is_written(alloc, &value, code).unwrap_or(false), name);
+            holds(rt, is_read(alloc, &value, 0, code).unwrap_or(false), name);
+            holds(rt, refuses_fronts::<T>(alloc, code), name);
+        }
+        Err(_refused) => holds(rt, false, "no memory"),
     }
 }

@@ -9,20 +9,12 @@ mod checks;
 #[cfg(test)]
 mod code_tests;
 #[cfg(test)]
-mod key_tests;
+mod container_tests;
 #[cfg(test)]
-mod large_tests;
+mod key_tests;
 #[cfg(test)]
 mod law_tests;
 #[cfg(test)]
 mod made;
 #[cfg(test)]
-mod map_tests;
-#[cfg(test)]
-mod memory_tests;
-#[cfg(test)]
-mod ordered_map_tests;
-#[cfg(test)]
-mod type_tests;
-#[cfg(test)]
-mod whole_tests;
+mod refusal_tests;

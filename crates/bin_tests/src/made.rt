@@ -16,76 +16,57 @@ pub(crate) fn list<T: Copy>(alloc: Global, items: &[T]) -> Result<Vec<T>, AllocE
     Ok(list)
 }
 
-/// A linked list of these items.
-pub(crate) fn linked<T: Copy>(alloc: Global, items: &[T]) -> Result<LinkedList<T>, AllocError> {
+/// A linked list of these texts.
+pub(crate) fn linked(alloc: Global, items: &[&str]) -> Result<LinkedList<String>, AllocError> {
     let mut list = LinkedList::new(alloc);
     for item in items {
-        list.push_back(*item)?;
+        list.push_back(text(alloc, item)?)?;
     }
     Ok(list)
 }
 
-/// A hashed set of these numbers.
-pub(crate) fn hashed(alloc: Global, items: &[u8]) -> Result<HashSet<u8>, AllocError> {
+/// A hashed set of these texts.
+pub(crate) fn hashed(alloc: Global, items: &[&str]) -> Result<HashSet<String>, AllocError> {
     let mut set = HashSet::new(alloc);
     for item in items {
-        set.insert(*item)?;
+        set.insert(text(alloc, item)?)?;
     }
     Ok(set)
 }
 
-/// An ordered set of these numbers.
-pub(crate) fn ordered(alloc: Global, items: &[u8]) -> Result<BTreeSet<u8>, AllocError> {
+/// An ordered set of these texts.
+pub(crate) fn ordered(alloc: Global, items: &[&str]) -> Result<BTreeSet<String>, AllocError> {
     let mut set = BTreeSet::new(alloc);
     for item in items {
-        set.insert(*item)?;
+        set.insert(text(alloc, item)?)?;
     }
     Ok(set)
 }
 
 /// A map of these entries.
-pub(crate) fn mapped<V: Copy>(
+pub(crate) fn mapped(
     alloc: Global,
-    entries: &[(u8, V)],
-) -> Result<HashMap<u8, V>, AllocError> {
+    entries: &[(i16, &str)],
+) -> Result<HashMap<i16, String>, AllocError> {
     let mut map = HashMap::new(alloc);
     for (key, value) in entries {
-        map.insert(*key, *value)?;
+        map.insert(*key, text(alloc, value)?)?;
     }
     Ok(map)
 }
 
 /// An ordered map of these entries.
-pub(crate) fn ordered_map<V: Copy>(
+pub(crate) fn ordered_map(
     alloc: Global,
-    entries: &[(u8, V)],
-) -> Result<BTreeMap<u8, V>, AllocError> {
+    entries: &[(i16, &str)],
+) -> Result<BTreeMap<i16, String>, AllocError> {
     let mut map = BTreeMap::new(alloc);
     for (key, value) in entries {
-        if map.insert(*key, *value).is_err() {
+        if map.insert(*key, text(alloc, value)?).is_err() {
             return Err(AllocError);
         }
     }
     Ok(map)
-}
-
-/// A list of one value.
-pub(crate) fn only<T: Drop>(alloc: Global, item: T) -> Result<Vec<T>, AllocError> {
-    let mut list = Vec::new(alloc);
-    list.push(item)?;
-    Ok(list)
-}
-
-/// A list of two values that were made.
-pub(crate) fn both<T: Drop>(
-    alloc: Global,
-    one: Result<T, AllocError>,
-    other: Result<T, AllocError>,
-) -> Result<Vec<T>, AllocError> {
-    let mut list = Vec::new(alloc);
-    list.push(one?)?;
-    list.push(other?)?;
-    Ok(list)
 }
 
 /// A box of the value.

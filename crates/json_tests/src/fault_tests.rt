@@ -1,66 +1,9 @@
-// Faults of tokens and of the calls that take them: what they tell, and the line and the column where
-// they are found, counted from 0.
-use crate::checks::{holds, is_fault, is_place};
-use crate::helper_tests::call;
-use crate::token_tests::{state_of, take};
-use nano_json::DeJsonErr;
-use std::alloc::Global;
-use std::process::Abort;
-
-/// What a call is refused with, if it is.
-type Told = Option<DeJsonErr>;
-
-/// What a call is refused with once some tokens of a text are taken, and the line and column
-/// afterwards.
-fn answer_of(alloc: Global, text: &str, taken: usize, name: &str) -> (Told, (usize, usize)) {
-    let mut input = text.chars();
-    let mut state = state_of(alloc, &mut input);
-    match take(alloc, &mut state, &mut input, taken) {
-        Ok(()) => {
-            let told = call(alloc, &mut state, &mut input, name).err();
-            (told, (state.line, state.col))
-        }
-        Err(error) => (Some(error), (0, 0)),
-    }
-}
-
-/// A text, how many of its tokens are taken, the call, and its fault: what it tells, in which line
-/// and column.
-type FaultRow<'a> = (&'a str, usize, &'a str, &'a str, usize, usize);
-
-/// The call answers the fault of its row.
-fn is_row(rt: &impl Abort, alloc: Global, row: &FaultRow<'_>) {
-    let (told, place) = answer_of(alloc, row.0, row.1, row.2);
-    is_place(rt, place, (row.4, row.5), row.0);
-    is_fault(rt, told, &(row.0, row.3, row.4, row.5));
-}
-
-/// Each call answers the fault of its row.
-fn faults(rt: &impl Abort, alloc: Global, rows: &[FaultRow<'_>]) {
-    for row in rows {
-        is_row(rt, alloc, row);
-    }
-}
-
-/// A text, how many of its tokens are taken, the call, and the line and column afterwards.
-type PlaceRow<'a> = (&'a str, usize, &'a str, usize, usize);
-
-/// The call is answered, and leaves the line and the column of its row.
-fn is_answered(rt: &impl Abort, alloc: Global, row: &PlaceRow<'_>) {
-    let (told, place) = answer_of(alloc, row.0, row.1, row.2);
-    holds(rt, told.is_none(), row.0);
-    is_place(rt, place, (row.3, row.4), row.0);
-}
-
-/// Each call is answered, and leaves the line and the column of its row.
-fn places(rt: &impl Abort, alloc: Global, rows: &[PlaceRow<'_>]) {
-    for row in rows {
-        is_answered(rt, alloc, row);
-    }
-}
+// Faults of tokens and of the calls that take them: what they tell, and the line and the column
+// where they are found, counted from 0.
+use crate::helper_tests::{CallRow, answers};
 
 /// Faults of tokens.
-const OF_TOKENS: &[FaultRow<'static>] = &[
+pub(crate) const OF_TOKENS: &[CallRow<'static>] = &[
     (
         "@",
         0,
@@ -143,16 +86,8 @@ const OF_TOKENS: &[FaultRow<'static>] = &[
     ("\"é\" 1e+", 1, "next_tok", "Cannot parse number ", 0, 7),
 ];
 
-// Columns count characters, of
-// which some stand in two bytes or four; a string may hold a line feed.
-#[test]
-fn faults_of_tokens(rt: HostRuntime) {
-    let alloc = rt.alloc();
-    faults(&rt, alloc, OF_TOKENS);
-}
-
 /// Faults of the calls that take one token.
-const OF_CALLS: &[FaultRow<'static>] = &[
+pub(crate) const OF_CALLS: &[CallRow<'static>] = &[
     (",", 1, "colon", "Unexpected token Comma expected : ", 0, 1),
     (
         "1",
@@ -244,14 +179,16 @@ const OF_CALLS: &[FaultRow<'static>] = &[
     ),
 ];
 
-#[test]
-fn faults_where_a_token_is_taken(rt: HostRuntime) {
-    let alloc = rt.alloc();
-    faults(&rt, alloc, OF_CALLS);
-}
-
 /// Faults behind items, and of skipped fields.
-const OF_ITEMS: &[FaultRow<'static>] = &[
+pub(crate) const OF_ITEMS: &[CallRow<'static>] = &[
+    (
+        "[\"é\nb\" 1]",
+        3,
+        "eat_comma_block",
+        "Unexpected token U64(1) expected , or ] ",
+        1,
+        5,
+    ),
     (
         ":",
         1,
@@ -296,14 +233,8 @@ const OF_ITEMS: &[FaultRow<'static>] = &[
     ("[\"é\n\",", 1, "whole_field", "Cannot parse field ", 1, 2),
 ];
 
-#[test]
-fn faults_behind_items_and_in_fields(rt: HostRuntime) {
-    let alloc = rt.alloc();
-    faults(&rt, alloc, OF_ITEMS);
-}
-
 /// Faults of values.
-const OF_VALUES: &[FaultRow<'static>] = &[
+pub(crate) const OF_VALUES: &[CallRow<'static>] = &[
     (
         ",",
         1,
@@ -365,26 +296,26 @@ const OF_VALUES: &[FaultRow<'static>] = &[
     ),
 ];
 
-#[test]
-fn faults_of_values(rt: HostRuntime) {
-    let alloc = rt.alloc();
-    faults(&rt, alloc, OF_VALUES);
-}
-
-/// Calls that are answered, and the places behind them.
-const PLACES: &[PlaceRow<'static>] = &[
-    ("\"é😀\"", 0, "next_tok", 0, 4),
-    ("\"a\nbé\" ,", 0, "next_tok", 1, 4),
-    ("\"é\": 1", 1, "next_colon", 0, 6),
-    ("[\"é\n\",\n{}]\n,", 1, "whole_field", 3, 1),
-    ("\"ü\" , \"ß\"", 2, "eat_comma_block", 0, 9),
-    ("\"\n\"] ,", 2, "block_close", 1, 4),
-    ("null\r\n\ttrue", 1, "next_tok", 1, 5),
+/// Calls that are answered: behind a token, line and column are those of the character that follows
+/// it. Columns count characters, of which some stand in two bytes or four, and a string may hold a
+/// line feed.
+const PLACES: &[CallRow<'static>] = &[
+    ("42]", 0, "next_tok", "U64(42)", 0, 3),
+    ("\"é😀\"", 0, "next_tok", "Str é😀", 0, 4),
+    ("\"a\nbé\" ,", 0, "next_tok", "Str a\nbé", 1, 4),
+    ("\"é\": 1", 1, "next_colon", "U64(1)", 0, 6),
+    ("[\"é\n\",\n{}]\n,", 1, "whole_field", "Comma", 3, 1),
+    ("\"ü\" , \"ß\"", 2, "eat_comma_block", "Str ß", 0, 9),
+    ("\"\n\"] ,", 2, "block_close", "Comma", 1, 4),
+    ("null\r\n\ttrue", 1, "next_tok", "Bool(true)", 1, 5),
 ];
 
-// Behind a token, line and column are those of the character that follows it.
 #[test]
-fn places_count_characters(rt: HostRuntime) {
+fn faults_and_their_places(rt: HostRuntime) {
     let alloc = rt.alloc();
-    places(&rt, alloc, PLACES);
+    answers(&rt, alloc, OF_TOKENS);
+    answers(&rt, alloc, OF_CALLS);
+    answers(&rt, alloc, OF_ITEMS);
+    answers(&rt, alloc, OF_VALUES);
+    answers(&rt, alloc, PLACES);
 }

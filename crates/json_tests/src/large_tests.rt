@@ -1,152 +1,87 @@
-// Values of many items are written and read back.
-use crate::checks::{holds, is_found, is_text, is_value, read_as, text_of};
-use crate::token_tests::state_of;
-use nano_json::{BothJson, DeJsonErr, SerJson};
+// Long texts. Those of many items stand among the rows of their types.
+use crate::checks::{holds, is_made, normal};
+use crate::helper_tests::{CallRow, answer};
 use std::alloc::{AllocError, Global};
-use std::collections::{BTreeMap, BTreeSet, HashMap, HashSet, LinkedList};
 use std::process::Abort;
 use std::test::Fail;
 
-/// The text is read as the value, as a whole input too.
-fn is_read<T: BothJson + PartialEq>(rt: &impl Abort, alloc: Global, text: &str, value: &T) {
-    is_value(rt, alloc, text, value);
-    let read = T::deserialize_json_whole(alloc, text);
-    is_found(rt, read_as(read, value), "the value", text);
-}
+/// How many numbers there are in a long text. They have 10,890 digits.
+const COUNT: usize = 3_000;
 
-/// The value is written and read back.
-fn is_read_back<T: BothJson + PartialEq>(rt: &impl Abort, alloc: Global, value: &T) {
-    match text_of(alloc, value) {
-        None => is_text(rt, "no memory", "many items"),
-        Some(text) => is_read(rt, alloc, text.as_str(), value),
+/// Appends the numbers from 1 on with what stands around each.
+fn push_numbers(
+    alloc: Global,
+    text: &mut String,
+    before: &str,
+    behind: &str,
+) -> Result<(), AllocError> {
+    for number in 1..COUNT {
+        let item = format!(in alloc; "{before}{number}{behind}")?;
+        text.push_str(item.as_str())?;
     }
+    Ok(())
 }
 
-/// The value was made, and is written and read back.
-fn back<T: BothJson + PartialEq>(rt: &impl Abort, alloc: Global, made: Result<T, AllocError>) {
+/// A long text: its beginning, the numbers from 1 on with what stands around each, and its end.
+pub(crate) fn numbered(
+    alloc: Global,
+    first: &str,
+    around: (&str, &str),
+    last: &str,
+) -> Result<String, AllocError> {
+    let mut text = String::from_str(alloc, first)?;
+    push_numbers(alloc, &mut text, around.0, around.1)?;
+    text.push_str(last)?;
+    Ok(text)
+}
+
+/// The string has escapes and characters of two bytes.
+#[test]
+fn a_long_string(rt: HostRuntime) -> Result<(), Fail> {
+    let alloc = rt.alloc();
+    let text = numbered(alloc, "\"", (",", "\\n\u{e9}"), "\"")?;
+    normal::<String>(&rt, alloc, &[(text.as_str(), text.as_str())]);
+    Ok(())
+}
+
+/// The row speaks of the text, which was made.
+fn is_long(rt: &impl Abort, alloc: Global, made: Result<String, AllocError>, row: &CallRow<'_>) {
     match made {
-        Ok(value) => is_read_back(rt, alloc, &value),
-        Err(_refused) => is_text(rt, "no memory", "many items"),
-    }
-}
-
-/// How many items each value has.
-const COUNT: i16 = 3_000;
-
-/// A text in which each item is a letter, an escape and a character of two bytes.
-fn long_text(alloc: Global) -> Result<String, AllocError> {
-    let mut text = String::new(alloc);
-    for _ in 0..COUNT {
-        text.push_str("a\n\u{e9}")?;
-    }
-    Ok(text)
-}
-
-fn numbers(alloc: Global) -> Result<Vec<i16>, AllocError> {
-    let mut numbers = Vec::new(alloc);
-    for i in 0..COUNT {
-        numbers.push(i)?;
-    }
-    Ok(numbers)
-}
-
-fn linked(alloc: Global) -> Result<LinkedList<i16>, AllocError> {
-    let mut linked = LinkedList::new(alloc);
-    for i in 0..COUNT {
-        linked.push_back(i)?;
-    }
-    Ok(linked)
-}
-
-fn hashed(alloc: Global) -> Result<HashSet<i16>, AllocError> {
-    let mut hashed = HashSet::new(alloc);
-    for i in 0..COUNT {
-        hashed.insert(i)?;
-    }
-    Ok(hashed)
-}
-
-fn ordered(alloc: Global) -> Result<BTreeSet<i16>, AllocError> {
-    let mut ordered = BTreeSet::new(alloc);
-    for i in 0..COUNT {
-        ordered.insert(i)?;
-    }
-    Ok(ordered)
-}
-
-fn mapped(alloc: Global) -> Result<HashMap<i16, bool>, AllocError> {
-    let mut map = HashMap::new(alloc);
-    for i in 0..COUNT {
-        map.insert(i, true)?;
-    }
-    Ok(map)
-}
-
-fn ordered_map(alloc: Global) -> Result<BTreeMap<i16, bool>, AllocError> {
-    let mut map = BTreeMap::new(alloc);
-    for i in 0..COUNT {
-        if map.insert(i, true).is_err() {
-            return Err(AllocError);
+        Ok(text) => {
+            let told = answer(alloc, &(text.as_str(), row.1, row.2, row.3, row.4, row.5));
+            is_made(rt, told, row.3, row.0);
         }
+        Err(_refused) => holds(rt, false, row.0),
     }
-    Ok(map)
 }
 
-/// A decimal of many digits.
-fn long_decimal(alloc: Global) -> Result<String, AllocError> {
-    let mut text = String::from_str(alloc, "1.")?;
-    for _ in 0..COUNT {
-        text.push('5')?;
-    }
-    Ok(text)
+/// The string has a line feed before a long line.
+#[test]
+fn long_tokens(rt: HostRuntime) -> Result<(), Fail> {
+    let alloc = rt.alloc();
+    let text = numbered(alloc, "\"a\n0", ("", ""), "\\nc\"");
+    let told = numbered(alloc, "Str a\n0", ("", ""), "\nc")?;
+    let row = ("a string", 0, "next_tok", told.as_str(), 1, 10_894);
+    is_long(&rt, alloc, text, &row);
+    let text = numbered(alloc, "1.0", ("", ""), "");
+    let told = numbered(alloc, "F64 1.0", ("", ""), "")?;
+    let row = ("a decimal", 0, "next_tok", told.as_str(), 0, 10_892);
+    is_long(&rt, alloc, text, &row);
+    Ok(())
 }
 
-/// How long the number is that a text begins with.
-fn number_length(alloc: Global, text: &str) -> Result<usize, DeJsonErr> {
-    let mut input = text.chars();
-    let mut state = state_of(alloc, &mut input);
-    state.next_tok(alloc, &mut input)?;
-    Ok(state.numbuf.len())
-}
+/// Brackets in brackets that are open at the end.
+const OPEN: CallRow<'static> = ("[[", 1, "whole_field", "Cannot parse field ", 0, 13_889);
 
-/// How long the long text is as it is written, if there was memory for it.
-fn written_length(alloc: Global) -> Result<usize, AllocError> {
-    let text = long_text(alloc)?;
-    Ok(text.serialize_json(alloc)?.len())
-}
+/// Brackets in brackets that are closed before the next token.
+const CLOSED: CallRow<'static> = ("[[}}null", 1, "whole_field", "Null", 0, 27_782);
 
 #[test]
-fn a_long_text(rt: HostRuntime) {
+fn deep_brackets_are_counted(rt: HostRuntime) -> Result<(), Fail> {
     let alloc = rt.alloc();
-    holds(
-        &rt,
-        written_length(alloc).ok() == Some(3_000 * 5 + 2),
-        "a long text",
-    );
-    back(&rt, alloc, long_text(alloc));
-}
-
-#[test]
-fn many_items_in_lists(rt: HostRuntime) {
-    let alloc = rt.alloc();
-    back(&rt, alloc, numbers(alloc));
-    back(&rt, alloc, linked(alloc));
-    back(&rt, alloc, Ok([7i16; 300]));
-}
-
-#[test]
-fn many_items_in_sets_and_maps(rt: HostRuntime) {
-    let alloc = rt.alloc();
-    back(&rt, alloc, hashed(alloc));
-    back(&rt, alloc, ordered(alloc));
-    back(&rt, alloc, mapped(alloc));
-    back(&rt, alloc, ordered_map(alloc));
-}
-
-#[test]
-fn a_long_decimal(rt: HostRuntime) -> Result<(), Fail> {
-    let alloc = rt.alloc();
-    let length = number_length(alloc, long_decimal(alloc)?.as_str()).ok();
-    holds(&rt, length == Some(3_002), "a long decimal");
+    is_long(&rt, alloc, numbered(alloc, "[", ("[", ""), ""), &OPEN);
+    let closing = numbered(alloc, "}", ("", "}"), "null")?;
+    let closed = numbered(alloc, "[", ("[", ""), closing.as_str());
+    is_long(&rt, alloc, closed, &CLOSED);
     Ok(())
 }

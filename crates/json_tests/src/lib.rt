@@ -3,8 +3,6 @@
 #![tactic(auto)]
 
 #[cfg(test)]
-mod bound_tests;
-#[cfg(test)]
 mod checks;
 #[cfg(test)]
 mod container_tests;
@@ -12,8 +10,6 @@ mod container_tests;
 mod fault_tests;
 #[cfg(test)]
 mod format_law_tests;
-#[cfg(test)]
-mod front_tests;
 #[cfg(test)]
 mod helper_tests;
 #[cfg(test)]
@@ -25,9 +21,7 @@ mod mark_tests;
 #[cfg(test)]
 mod memory_tests;
 #[cfg(test)]
-mod number_fault_tests;
-#[cfg(test)]
-mod ordered_map_tests;
+mod state_tests;
 #[cfg(test)]
 mod token_tests;
 #[cfg(test)]

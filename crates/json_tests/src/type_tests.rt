@@ -1,181 +1,227 @@
-// What no clause of the readers says: that they succeed, that the definitions are the format's, and
-// the texts of faults.
-use crate::checks::{all_refused, is_made_value, is_some_text, refused_with, values};
-use nano_json::{DeJson, DeJsonErr};
-use std::alloc::{AllocError, Global};
-use std::process::Abort;
+// What no clause of the readers and writers of single tokens says: that they succeed, that the
+// definitions are the format's, and the texts and places of faults.
+use crate::checks::{FaultRow, normal, rows, written};
 
-/// The answer for a list of small numbers, written plainly, or the fault's message.
-fn numbers_in(alloc: Global, read: Result<Vec<u8>, DeJsonErr>) -> Result<String, AllocError> {
-    match read {
-        Ok(items) => {
-            let mut out = String::new(alloc);
-            for item in &items {
-                out.push_str(format!(in alloc; "{item};")?.as_str())?;
-            }
-            Ok(out)
-        }
-        Err(error) => Ok(error.msg),
-    }
-}
-
-/// The answer for each text is what stands beside it.
-fn all_are(rt: &impl Abort, alloc: Global, rows: &[(&str, &str)]) {
-    for (text, expected) in rows {
-        let read = Vec::<u8>::deserialize_json(alloc, text);
-        is_some_text(rt, numbers_in(alloc, read).ok(), expected);
-    }
-}
-
-/// Texts, and the list or the fault of each.
-const LISTS: &[(&str, &str)] = &[
-    ("[1,2,]", "1;2;"),
-    ("[1,2]", "1;2;"),
-    (" [ 1 , 2 ] ", "1;2;"),
-    ("[]", ""),
-    ("[1,] 2", "1;"),
-    ("[1]true", "1;"),
-    ("[1]]", "1;"),
-    ("[1,]\0@", "1;"),
-    ("[,]", "Unexpected token Comma expected unsigned integer "),
+/// Faults of an unsigned integer of one byte.
+const OF_A_BYTE: &[FaultRow<'static>] = &[
+    ("256", "Value out of range 256>255 ", 0, 3),
     (
-        "[1,,2]",
-        "Unexpected token Comma expected unsigned integer ",
+        "-1",
+        "Unexpected token I64(-1) expected unsigned integer ",
+        0,
+        2,
     ),
-    ("[1 2]", "Unexpected token U64(2) expected , or ] "),
-    ("[1", "Unexpected token Eof expected , or ] "),
-    ("1", "Unexpected token U64(1) expected [ "),
-    ("", "Unexpected token Eof expected [ "),
-    ("[256,,", "Value out of range 256>255 "),
-    ("[1] @", "Unexpected token BlockClose expected tokenizer "),
-    ("[1]\"", "Cannot parse string "),
-    ("[1] -", "Cannot parse number "),
+];
+
+/// No unsigned number.
+const UNSIGNED: &[FaultRow<'static>] = &[(
+    "\n -1",
+    "Unexpected token I64(-1) expected unsigned integer ",
+    1,
+    3,
+)];
+
+/// Texts of numbers of four bytes, and how these are written.
+const NUMBERS: &[(&str, &str)] = &[
+    ("4294967295", "4294967295"),
+    ("42 43", "42"),
+    ("42]", "42"),
+    ("42\0@", "42"),
+];
+
+/// Texts of no number of four bytes.
+const NO_NUMBERS: &[FaultRow<'static>] = &[
+    ("42 @", "Unexpected token U64(42) expected tokenizer ", 0, 4),
+    ("", "Unexpected token Eof expected unsigned integer ", 0, 0),
+    ("1e+2", "Cannot parse number ", 0, 3),
     (
-        "[1]tru",
-        "Unexpected token BareIdent expected Got ##tru## needed true, false, null ",
+        "-0",
+        "Unexpected token I64(0) expected unsigned integer ",
+        0,
+        2,
+    ),
+    ("-", "Cannot parse number ", 0, 1),
+    ("+", "Cannot parse number ", 0, 1),
+    (
+        "1.",
+        "Unexpected token F64 expected unsigned integer ",
+        0,
+        2,
+    ),
+    (
+        "true",
+        "Unexpected token Bool(true) expected unsigned integer ",
+        0,
+        4,
+    ),
+    (
+        "4294967296",
+        "Value out of range 4294967296>4294967295 ",
+        0,
+        10,
+    ),
+];
+
+/// A number of more than eight bytes.
+const TOO_LONG: &[FaultRow<'static>] = &[("18446744073709551616", "Cannot parse number ", 0, 20)];
+
+#[test]
+fn unsigned_numbers(rt: HostRuntime) {
+    let alloc = rt.alloc();
+    written(&rt, alloc, &[(0u8, "0"), (10, "10"), (255, "255")]);
+    rows::<u8>(&rt, alloc, &[("+5", "5"), ("007", "7")], OF_A_BYTE);
+    rows::<u16>(&rt, alloc, &[("65535", "65535")], UNSIGNED);
+    rows::<u32>(&rt, alloc, NUMBERS, NO_NUMBERS);
+    let longest = "18446744073709551615";
+    rows::<u64>(&rt, alloc, &[(longest, longest)], TOO_LONG);
+    rows::<usize>(&rt, alloc, &[("42", "42")], UNSIGNED);
+}
+
+/// Faults of a signed integer of one byte.
+const OF_A_SIGNED_BYTE: &[FaultRow<'static>] = &[
+    ("-129", "Value out of range -129<-128 ", 0, 4),
+    ("128", "Value out of range 128>127 ", 0, 3),
+    (
+        "\"a\"",
+        "Unexpected token Str expected signed integer ",
+        0,
+        3,
+    ),
+];
+
+/// No signed number.
+const SIGNED: &[FaultRow<'static>] = &[(
+    "\n 1.5",
+    "Unexpected token F64 expected signed integer ",
+    1,
+    4,
+)];
+
+/// No number of eight bytes.
+const NO_LONG_NUMBERS: &[FaultRow<'static>] = &[
+    (
+        "\n Infinity",
+        "Unexpected token BareIdent expected Got ##Infinity## needed true, false, null ",
+        1,
+        9,
+    ),
+    ("-9223372036854775809", "Cannot parse number ", 0, 20),
+    (
+        "18446744073709551615",
+        "Value out of range 18446744073709551615>9223372036854775807 ",
+        0,
+        20,
     ),
 ];
 
 #[test]
-fn lists_of_numbers(rt: HostRuntime) {
+fn signed_numbers(rt: HostRuntime) {
     let alloc = rt.alloc();
-    all_are(&rt, alloc, LISTS);
-}
-
-#[test]
-fn numbers_in_their_ranges(rt: HostRuntime) {
-    let alloc = rt.alloc();
-    values(&rt, alloc, &[("+5", 5u8), ("007", 7)]);
-    values(&rt, alloc, &[("65535", 65535u16)]);
-    values(&rt, alloc, &[("42 43", 42u32), ("42]", 42), ("42\0@", 42)]);
-    values(&rt, alloc, &[("42", 42usize)]);
-    values(&rt, alloc, &[("18446744073709551615", u64::MAX)]);
-    values(&rt, alloc, &[("-128", -128i8)]);
-    values(&rt, alloc, &[("-5", -5i16)]);
-    values(&rt, alloc, &[("-0", 0i32)]);
-    values(&rt, alloc, &[("-9223372036854775808", i64::MIN)]);
-}
-
-/// Texts of no such number.
-const NO_NUMBERS: &[&str] = &[
-    "42 @",
-    "",
-    "1e+2",
-    "-0",
-    "-",
-    "+",
-    "1.",
-    "true",
-    "4294967296",
-];
-
-#[test]
-fn numbers_out_of_their_ranges(rt: HostRuntime) {
-    let alloc = rt.alloc();
-    all_refused::<u32>(&rt, alloc, NO_NUMBERS);
-    all_refused::<u64>(&rt, alloc, &["18446744073709551616"]);
-    all_refused::<i64>(&rt, alloc, &["-9223372036854775809"]);
-    refused_with::<i64>(
+    written(&rt, alloc, &[(i8::MIN, "-128"), (0, "0"), (127, "127")]);
+    rows::<i8>(
         &rt,
         alloc,
-        &[(
-            "18446744073709551615",
-            "Value out of range 18446744073709551615>9223372036854775807 ",
-        )],
+        &[("-128", "-128"), ("+5", "5")],
+        OF_A_SIGNED_BYTE,
     );
+    rows::<i16>(&rt, alloc, &[("-32768", "-32768"), ("-5", "-5")], SIGNED);
+    rows::<i32>(
+        &rt,
+        alloc,
+        &[("-2147483648", "-2147483648"), ("-0", "0")],
+        SIGNED,
+    );
+    let (least, greatest) = ("-9223372036854775808", "9223372036854775807");
+    written(&rt, alloc, &[(i64::MIN, least), (i64::MAX, greatest)]);
+    rows::<i64>(&rt, alloc, &[(least, least)], NO_LONG_NUMBERS);
 }
 
+/// Faults of a truth value.
+const OF_A_TRUTH: &[FaultRow<'static>] = &[(
+    "1",
+    "Unexpected token U64(1) expected boolean ",
+    0,
+    1,
+)];
+
+/// Faults of a null.
+const OF_NULL: &[FaultRow<'static>] = &[
+    ("1", "Unexpected token U64(1) expected null ", 0, 1),
+    (
+        "nul",
+        "Unexpected token BareIdent expected Got ##nul## needed true, false, null ",
+        0,
+        3,
+    ),
+    ("", "Unexpected token Eof expected null ", 0, 0),
+];
+
 #[test]
-fn words(rt: HostRuntime) {
+fn words_options_and_boxes(rt: HostRuntime) {
     let alloc = rt.alloc();
-    values(&rt, alloc, &[("true1", true), (" false", false)]);
-    all_refused::<bool>(&rt, alloc, &["1"]);
-    values(&rt, alloc, &[("null", ())]);
-    all_refused::<()>(&rt, alloc, &["nul"]);
+    written(&rt, alloc, &[(true, "true"), (false, "false")]);
+    rows::<bool>(
+        &rt,
+        alloc,
+        &[("true1", "true"), (" false", "false")],
+        OF_A_TRUTH,
+    );
+    written(&rt, alloc, &[((), "null")]);
+    rows::<()>(&rt, alloc, &[("null", "null")], OF_NULL);
+    let options = [
+        (Some(None::<u8>), "null"),
+        (Some(Some(5)), "5"),
+        (None, "null"),
+    ];
+    written(&rt, alloc, &options);
+    rows::<Option<Option<u8>>>(&rt, alloc, &[("null", "null"), ("5", "5")], OF_A_BYTE);
+    rows::<Box<Option<u8>>>(&rt, alloc, &[("null", "null"), ("7", "7")], OF_A_BYTE);
 }
 
-#[test]
-fn options(rt: HostRuntime) {
-    let alloc = rt.alloc();
-    values(&rt, alloc, &[("null", None), ("5", Some(5u8))]);
-    values(&rt, alloc, &[("5", Some(Some(5u8))), ("null", None)]);
-    values(&rt, alloc, &[("null", None::<()>)]);
-}
+/// Faults of a text.
+const OF_A_TEXT: &[FaultRow<'static>] = &[
+    ("\n 1", "Unexpected token U64(1) expected string ", 1, 2),
+    ("\"a\nb", "Cannot parse string ", 1, 1),
+    ("\"\\ud83d\"", "Cannot parse string ", 0, 8),
+    ("\"\\udc00\"", "Cannot parse string ", 0, 8),
+    ("\"\\ud83d\\n\"", "Cannot parse string ", 0, 9),
+    ("\"ab", "Cannot parse string ", 0, 3),
+];
 
-/// A box of a number.
-fn boxed(alloc: Global) -> Result<Box<u8>, AllocError> {
-    Ok(Box::new(alloc, 7u8)?)
-}
+/// Texts, and how they are written.
+const ESCAPED: &[(&str, &str)] = &[
+    ("", "\"\""),
+    ("abc", "\"abc\""),
+    ("ab\"cd", "\"ab\\\"cd\""),
+    ("\\", "\"\\\\\""),
+    ("\u{7f}", "\"\\u007f\""),
+    ("a\u{e9}\u{1f60b}/\u{80}", "\"a\u{e9}\u{1f60b}/\u{80}\""),
+    (
+        "\0\u{1}\u{2}\u{3}\u{4}\u{5}\u{6}\u{7}\u{8}\t\n",
+        "\"\\u0000\\u0001\\u0002\\u0003\\u0004\\u0005\\u0006\\u0007\\b\\t\\n\"",
+    ),
+    (
+        "\u{b}\u{c}\r\u{e}\u{f}\u{10}\u{11}\u{12}\u{13}\u{14}\u{15}",
+        "\"\\u000b\\f\\r\\u000e\\u000f\\u0010\\u0011\\u0012\\u0013\\u0014\\u0015\"",
+    ),
+    (
+        "\u{16}\u{17}\u{18}\u{19}\u{1a}\u{1b}\u{1c}\u{1d}\u{1e}\u{1f} ",
+        "\"\\u0016\\u0017\\u0018\\u0019\\u001a\\u001b\\u001c\\u001d\\u001e\\u001f \"",
+    ),
+];
 
-#[test]
-fn boxes(rt: HostRuntime) {
-    is_made_value(&rt, rt.alloc(), "7", boxed(rt.alloc()));
-}
+/// A text with each escape, and how it is written.
+const ESCAPES: &[(&str, &str)] = &[(
+    "\"\\n\\t\\u0020\\f\\b\\\\\\\"\\/\\ud83d\\uDE0B\\r\"",
+    "\"\\n\\t \\f\\b\\\\\\\"/😋\\r\"",
+)];
 
 #[test]
 fn texts(rt: HostRuntime) {
-    let text = String::from_str(rt.alloc(), "\n\t \u{c}\u{8}\\\"/😋\r");
-    let lexeme = "\"\\n\\t\\u0020\\f\\b\\\\\\\"\\/\\ud83d\\uDE0B\\r\"";
-    is_made_value(&rt, rt.alloc(), lexeme, text);
-}
-
-#[test]
-fn texts_refused(rt: HostRuntime) {
-    all_refused::<String>(
-        &rt,
-        rt.alloc(),
-        &["\"\\ud83d\"", "\"\\udc00\"", "\"\\ud83d\\n\"", "\"ab", "1"],
-    );
-}
-
-/// A list of nothing and a number.
-fn optional(alloc: Global) -> Result<Vec<Option<u8>>, AllocError> {
-    Ok(vec![in alloc; None, Some(3u8)]?)
-}
-
-#[test]
-fn lists_of_options(rt: HostRuntime) {
-    is_made_value(&rt, rt.alloc(), "[null,3,]", optional(rt.alloc()));
-}
-
-/// A list of an empty list and one of a number.
-fn listed(alloc: Global) -> Result<Vec<Vec<u8>>, AllocError> {
-    let one = vec![in alloc; 1u8]?;
-    Ok(vec![in alloc; Vec::new(alloc), one]?)
-}
-
-#[test]
-fn lists_of_lists(rt: HostRuntime) {
     let alloc = rt.alloc();
-    is_made_value(&rt, alloc, "[[],[1],]", listed(alloc));
-    all_refused::<Vec<Vec<u8>>>(&rt, alloc, &["[[1],,]"]);
-}
-
-#[test]
-fn arrays_of_a_count(rt: HostRuntime) {
-    let alloc = rt.alloc();
-    values(&rt, alloc, &[("[1,2]", [1u8, 2]), ("[1,2,]", [1, 2])]);
-    all_refused::<[u8; 2]>(&rt, alloc, &["[1]", "[1,2,3]"]);
-    values(&rt, alloc, &[("[]", [0u8; 0])]);
-    all_refused::<[u8; 0]>(&rt, alloc, &["[,]"]);
+    written(&rt, alloc, ESCAPED);
+    for (_text, lexeme) in ESCAPED {
+        normal::<String>(&rt, alloc, &[(lexeme, lexeme)]);
+    }
+    rows::<String>(&rt, alloc, ESCAPES, OF_A_TEXT);
 }

@@ -1,16 +1,22 @@
 // Readers of whole inputs.
-use crate::checks::{FaultRow, is_fault, is_found, is_value, read_as};
+use crate::checks::{FaultRow, Form, holds, is_fault, is_form, text_of};
 use crate::token_tests::{state_of, take};
 use json_tokens::{expect_end, within_value};
 use nano_json::{BothJson, DeJson, DeJsonErr, laws};
 use std::alloc::Global;
 use std::process::Abort;
+use std::test::Fail;
 
-/// Each whole text is read as the value.
-fn all_whole<T: DeJson + PartialEq>(rt: &impl Abort, alloc: Global, texts: &[&str], expected: &T) {
+/// What the value of a whole text is written as.
+fn form_whole<T: BothJson>(alloc: Global, text: &str) -> Form {
+    let value = T::deserialize_json_whole(alloc, text)?;
+    Ok(text_of(alloc, &value))
+}
+
+/// Each whole text is read, and then written as the expected text.
+fn all_whole<T: BothJson>(rt: &impl Abort, alloc: Global, texts: &[&str], expected: &str) {
     for text in texts {
-        let read = T::deserialize_json_whole(alloc, text);
-        is_found(rt, read_as(read, expected), "the value", text);
+        is_form(rt, form_whole::<T>(alloc, text), expected, text);
     }
 }
 
@@ -19,62 +25,11 @@ fn refusal_whole<T: DeJson>(alloc: Global, text: &str) -> Option<DeJsonErr> {
     T::deserialize_json_whole(alloc, text).err()
 }
 
-/// Each whole text is refused with its message, in its line and column.
-fn faults_whole<T: DeJson>(rt: &impl Abort, alloc: Global, rows: &[FaultRow<'_>]) {
-    for row in rows {
-        is_fault(rt, refusal_whole::<T>(alloc, row.0), row);
-    }
-}
-
-/// A value is read back from its own text.
-fn is_back<T: BothJson + PartialEq>(rt: &impl Abort, alloc: Global, value: &T, name: &str) {
-    let read = laws::read_back_whole(alloc, value);
-    is_found(rt, read_as(read, value), "the value", name);
-}
-
-/// Whether the text ends behind its first token.
-fn end_of(alloc: Global, text: &str) -> Result<(), DeJsonErr> {
-    let mut input = text.chars();
-    let mut state = state_of(alloc, &mut input);
-    take(alloc, &mut state, &mut input, 2)?;
-    expect_end(alloc, &state, text)
-}
-
-/// The error of that, if there is one.
-fn refused_end(alloc: Global, text: &str) -> Option<DeJsonErr> {
-    end_of(alloc, text).err()
-}
-
-/// The same, as the error of a value.
-fn refused_within(alloc: Global, text: &str) -> Option<DeJsonErr> {
-    match end_of(alloc, text) {
-        Ok(()) => None,
-        Err(error) => Some(within_value(error)),
-    }
-}
-
-/// Texts that do not end behind their first token.
-const GO_ON: &[FaultRow<'_>] = &[
-    ("7\0", "Cannot parse end ", 0, 2),
-    ("7 8", "Cannot parse end ", 0, 3),
-];
-
-/// The same, with the messages of a value.
-const GO_ON_WITHIN: &[FaultRow<'_>] = &[
-    ("7\0", "Cannot parse end", 0, 2),
-    ("7 8", "Cannot parse end", 0, 3),
-];
-
-#[test]
-fn the_end_is_expected(rt: HostRuntime) {
-    let alloc = rt.alloc();
-    is_found(&rt, read_as(end_of(alloc, "7 "), &()), "the value", "7");
-    for row in GO_ON {
-        is_fault(&rt, refused_end(alloc, row.0), row);
-    }
-    for row in GO_ON_WITHIN {
-        is_fault(&rt, refused_within(alloc, row.0), row);
-    }
+/// Whether a value is read back from its own text, whole and as a beginning.
+fn is_back(alloc: Global, value: Option<u8>) -> Result<bool, DeJsonErr> {
+    let first = laws::read_back(alloc, &value)?;
+    let whole = laws::read_back_whole(alloc, &value)?;
+    Ok(first == value && whole == value)
 }
 
 /// Texts that are no number as a whole.
@@ -96,11 +51,58 @@ const REFUSED: &[FaultRow<'_>] = &[
 ];
 
 #[test]
-fn whole_inputs(rt: HostRuntime) {
+fn whole_inputs(rt: HostRuntime) -> Result<(), Fail> {
     let alloc = rt.alloc();
-    all_whole(&rt, alloc, &["42", "42 ", " 42", "\t42\r\n"], &42u32);
-    all_whole(&rt, alloc, &["[1,2]", "[1,2,]", "[1,2,] \n"], &[1u8, 2]);
-    faults_whole::<u32>(&rt, alloc, REFUSED);
-    is_value(&rt, alloc, "42 43", &42u32);
-    is_back(&rt, alloc, &(Some(1u8), [true, false]), "a pair");
+    all_whole::<u32>(&rt, alloc, &["42", "42 ", " 42", "\t42\r\n"], "42");
+    for row in REFUSED {
+        is_fault(&rt, refusal_whole::<u32>(alloc, row.0), row);
+    }
+    all_whole::<[u8; 2]>(&rt, alloc, &["[1,2]", "[1,2,]", "[1,2,] \n"], "[1,2]");
+    holds(&rt, is_back(alloc, Some(1))?, "an option");
+    Ok(())
+}
+
+/// Whether the text ends behind its first token.
+fn end_of(alloc: Global, text: &str) -> Result<(), DeJsonErr> {
+    let mut input = text.chars();
+    let mut state = state_of(alloc, &mut input);
+    take(alloc, &mut state, &mut input, 2)?;
+    expect_end(alloc, &state, text)
+}
+
+/// The error of that, if there is one.
+fn refused_end(alloc: Global, text: &str) -> Option<DeJsonErr> {
+    end_of(alloc, text).err()
+}
+
+/// The same, as the error of a value.
+fn refused_within(alloc: Global, text: &str) -> Option<DeJsonErr> {
+    match refused_end(alloc, text) {
+        None => None,
+        Some(error) => Some(within_value(error)),
+    }
+}
+
+/// Texts that do not end behind their first token.
+const GO_ON: &[FaultRow<'_>] = &[
+    ("7\0", "Cannot parse end ", 0, 2),
+    ("7 8", "Cannot parse end ", 0, 3),
+];
+
+/// The same, with the messages of a value.
+const GO_ON_WITHIN: &[FaultRow<'_>] = &[
+    ("7\0", "Cannot parse end", 0, 2),
+    ("7 8", "Cannot parse end", 0, 3),
+];
+
+#[test]
+fn the_end_is_expected(rt: HostRuntime) {
+    let alloc = rt.alloc();
+    holds(&rt, end_of(alloc, "7 ").is_ok(), "7");
+    for row in GO_ON {
+        is_fault(&rt, refused_end(alloc, row.0), row);
+    }
+    for row in GO_ON_WITHIN {
+        is_fault(&rt, refused_within(alloc, row.0), row);
+    }
 }

@@ -1,11 +1,17 @@
 // Faults of tokens and of the calls that take them: what they tell, and the line and the column
 // where they are found, counted from 0.
-use crate::checks::{is_fault, is_there};
-use crate::helper_tests::call;
-use crate::place_tests::taken_of;
-use ron_tokens::DeRonErr;
-use std::alloc::Global;
-use std::process::Abort;
+use crate::checks::is_fault;
+use crate::helper_tests::answer;
+
+/// A text, how many of its tokens are taken, the call, and what it tells in which line and column.
+type FaultRow = (
+    &'static str,
+    usize,
+    &'static str,
+    &'static str,
+    usize,
+    usize,
+);
 
 /// A text, how many of its tokens are taken, the call, and its fault.
 const FAULTS: &[FaultRow] = &[
@@ -379,37 +385,11 @@ const FAULTS: &[FaultRow] = &[
     (",/", 1, "eat_comma_paren", "Cannot parse comment ", 0, 2),
 ];
 
-/// What a call tells once some tokens of a text are taken, and the line and column of the state.
-fn fault(alloc: Global, text: &str, taken: usize, name: &str) -> (Option<DeRonErr>, usize, usize) {
-    let mut input = text.chars();
-    let mut state = match taken_of(alloc, &mut input, taken) {
-        Ok(state) => state,
-        Err(error) => return (Some(error), 0, 0),
-    };
-    let told = call(alloc, &mut state, &mut input, name).err();
-    (told, state.line, state.col)
-}
-
-/// A text, how many of its tokens are taken, the call, and what it tells in which line and column.
-type FaultRow = (
-    &'static str,
-    usize,
-    &'static str,
-    &'static str,
-    usize,
-    usize,
-);
-
-/// The call tells this, and the state stands at that place.
-fn is_row(rt: &impl Abort, alloc: Global, row: &FaultRow) {
-    let (told, line, col) = fault(alloc, row.0, row.1, row.2);
-    is_fault(rt, &told, &(row.0, row.3, row.4, row.5));
-    is_there(rt, (line, col), (row.4, row.5), row.0);
-}
-
 #[test]
 fn faults_are_told(rt: HostRuntime) {
+    let alloc = rt.alloc();
     for row in FAULTS {
-        is_row(&rt, rt.alloc(), row);
+        let told = answer(alloc, row.0, row.1, row.2);
+        is_fault(&rt, &told, &(row.0, row.3, row.4, row.5));
     }
 }

@@ -3,8 +3,6 @@
 #![tactic(auto)]
 
 #[cfg(test)]
-mod bound_tests;
-#[cfg(test)]
 mod checks;
 #[cfg(test)]
 mod container_tests;
@@ -13,8 +11,6 @@ mod error_tests;
 #[cfg(test)]
 mod fault_tests;
 #[cfg(test)]
-mod front_tests;
-#[cfg(test)]
 mod helper_tests;
 #[cfg(test)]
 mod large_tests;
@@ -22,8 +18,6 @@ mod large_tests;
 mod law_tests;
 #[cfg(test)]
 mod memory_tests;
-#[cfg(test)]
-mod ordered_map_tests;
 #[cfg(test)]
 mod place_tests;
 #[cfg(test)]

@@ -1,10 +1,8 @@
 // With each allocation refused in turn, a call answers want of memory, or as it does with ample
 // memory.
 use crate::checks::is_told;
-use crate::helper_tests::call;
-use nano_ron::DeRon;
-use ron_tokens::{DeRonErr, DeRonState, SerRonState};
-use std::alloc::Global;
+use crate::helper_tests::answer;
+use nano_ron::DeRonErr;
 use std::process::Abort;
 
 /// A text of which one token is taken, the call, and what it tells, if it is refused.
@@ -46,74 +44,22 @@ const CALLS: &[(&str, &str, &str)] = &[
     ("1 /a", "next_tok", "Cannot parse comment "),
 ];
 
-/// What the call tells, if it is refused.
-fn told(alloc: Global, text: &str, name: &str) -> Option<DeRonErr> {
-    let mut input = text.chars();
-    let mut state = DeRonState::new(alloc);
-    state.next(&mut input);
-    match state.next_tok(alloc, &mut input) {
-        Ok(()) => call(alloc, &mut state, &mut input, name).err(),
-        Err(error) => Some(error),
-    }
-}
-
 /// The call succeeded where nothing is to be told, told what it should, or wanted memory, which has
 /// no message.
-fn is_row(rt: &impl Abort, told: &Option<DeRonErr>, text: &str, expected: &str) {
-    match told {
-        None => is_told(rt, "", expected, text),
-        Some(error) if error.memory => is_told(rt, error.msg.as_str(), "", text),
-        Some(error) => {
-            is_told(rt, error.msg.as_str(), expected, text);
-            assert!(rt; expected != "");
+fn is_row(rt: &impl Abort, made: &Result<String, DeRonErr>, text: &str, expected: &str) {
+    match made {
+        Ok(_text) => is_told(rt, "", expected, text),
+        Err(error) => {
+            let wanted = if error.memory { "" } else { expected };
+            is_told(rt, error.msg.as_str(), wanted, text);
         }
     }
 }
 
-/// The same of the call of a row.
-fn row_is_told(rt: &impl Abort, alloc: Global, row: &(&str, &str, &str)) {
-    is_row(rt, &told(alloc, row.0, row.1), row.0, row.2);
-}
-
 #[test]
 fn no_refused_growth_is_told_as_another_fault(rt: HostRuntime) {
+    let alloc = rt.alloc();
     for row in CALLS {
-        row_is_told(&rt, rt.alloc(), row);
+        is_row(&rt, &answer(alloc, row.0, 1, row.1), row.0, row.2);
     }
-}
-
-/// Whole texts, and what is told of them, if they are refused.
-const WHOLE: &[(&str, &str)] = &[
-    ("[1,2,] // x", ""),
-    ("[1] 2", "Cannot parse end "),
-    ("[1]\0", "Cannot parse end "),
-    ("[1 2]", "Unexpected token U64(2) expected , or ] "),
-];
-
-/// What is told of a whole text, if it is refused.
-fn told_whole(alloc: Global, text: &str) -> Option<DeRonErr> {
-    Vec::<u8>::deserialize_ron_whole(alloc, text).err()
-}
-
-#[test]
-fn no_refused_growth_is_told_of_a_whole_input(rt: HostRuntime) {
-    for row in WHOLE {
-        is_row(&rt, &told_whole(rt.alloc(), row.0), row.0, row.1);
-    }
-}
-
-/// Whether a field is written, and what stands there then.
-fn field(alloc: Global) -> (bool, String) {
-    let mut writer = SerRonState {
-        out: String::new(alloc),
-    };
-    let written = writer.field(1, "name").is_ok();
-    (written, writer.out)
-}
-
-#[test]
-fn a_refused_field_leaves_the_text(rt: HostRuntime) {
-    let (written, text) = field(rt.alloc());
-    let expected = if written { "    name:" } else { "" };
-    assert_eq!(rt; text.as_str(), expected);
 }

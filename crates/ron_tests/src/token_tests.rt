@@ -1,27 +1,29 @@
 // Tokens: that the definitions are the format's.
-use crate::checks::is_made;
+use crate::checks::{is_made, made};
+use crate::error_tests::name_of;
 use ron_tokens::{DeRonState, DeRonTok};
 use std::alloc::{AllocError, Global};
-use std::process::Abort;
 use std::str::Chars;
 
-/// A state over a text, with its first character current.
-pub(crate) fn state_of(alloc: Global, input: &mut Chars<'_>) -> DeRonState {
-    let mut state = DeRonState::new(alloc);
-    state.next(input);
-    state
+/// The text that a pending token carries.
+fn carried(state: &DeRonState) -> &str {
+    match state.tok {
+        DeRonTok::Str => state.strbuf.as_str(),
+        DeRonTok::F64 => state.numbuf.as_str(),
+        DeRonTok::Ident => state.identbuf.as_str(),
+        _ => "",
+    }
 }
 
 /// The pending token in its debug form, and the text that it carries.
 pub(crate) fn pending(alloc: Global, state: &DeRonState) -> Result<String, AllocError> {
-    let tok = &state.tok;
-    let text = match tok {
-        DeRonTok::Str => state.strbuf.as_str(),
-        DeRonTok::F64 => state.numbuf.as_str(),
-        DeRonTok::Ident => state.identbuf.as_str(),
-        _ => return format!(in alloc; "{tok:?}"),
-    };
-    format!(in alloc; "{tok:?} {text}")
+    let mut name = name_of(alloc, &state.tok)?;
+    let text = carried(state);
+    if text != "" {
+        name.push_str(" ")?;
+        name.push_str(text)?;
+    }
+    Ok(name)
 }
 
 /// What is pending once a token is taken.
@@ -32,19 +34,36 @@ pub(crate) fn cut(
 ) -> Result<String, AllocError> {
     match state.next_tok(alloc, input) {
         Ok(()) => pending(alloc, state),
-        Err(error) if error.memory => Err(AllocError),
-        Err(_refused) => String::from_str(alloc, "refused"),
+        Err(error) => if error.memory {
+            Err(AllocError)
+        } else {
+            String::from_str(alloc, "refused")
+        },
     }
+}
+
+/// Appends what is pending once a token is taken.
+fn push_cut(
+    alloc: Global,
+    state: &mut DeRonState,
+    input: &mut Chars<'_>,
+    out: &mut String,
+) -> Result<(), AllocError> {
+    let found = cut(alloc, state, input)?;
+    if !out.is_empty() {
+        out.push_str(" | ")?;
+    }
+    out.push_str(found.as_str())
 }
 
 /// The first tokens of a text, one behind the other.
 fn tokens_of(alloc: Global, text: &str, count: usize) -> Result<String, AllocError> {
     let mut out = String::new(alloc);
     let mut input = text.chars();
-    let mut state = state_of(alloc, &mut input);
-    for place in 0..count {
-        out.push_str(if place > 0 { " | " } else { "" })?;
-        out.push_str(cut(alloc, &mut state, &mut input)?.as_str())?;
+    let mut state = DeRonState::new(alloc);
+    state.next(&mut input);
+    for _ in 0..count {
+        push_cut(alloc, &mut state, &mut input, &mut out)?;
     }
     Ok(out)
 }
@@ -141,14 +160,15 @@ const TOKENS: &[(&str, usize, &str)] = &[
     ("+", 2, "refused | Eof"),
 ];
 
-/// The text is cut as the row says.
-fn is_cut(rt: &impl Abort, alloc: Global, row: &(&str, usize, &str)) {
-    is_made(rt, &tokens_of(alloc, row.0, row.1), row.2);
-}
-
 #[test]
 fn texts_are_cut_into_tokens(rt: HostRuntime) {
+    let alloc = rt.alloc();
     for row in TOKENS {
-        is_cut(&rt, rt.alloc(), row);
+        is_made(
+            &rt,
+            &made(alloc, tokens_of(alloc, row.0, row.1)),
+            row.2,
+            row.0,
+        );
     }
 }

@@ -1,185 +1,128 @@
 // The calls that give the value of the pending token, and the tests of it.
-use crate::checks::{is_read, is_told, why};
+use crate::checks::{is_made, made};
 use crate::place_tests::taken_of;
-use ron_tokens::{DeRonErr, DeRonState, DeRonTok};
+use ron_tokens::{DeRonErr, DeRonState};
 use std::alloc::Global;
-use std::process::Abort;
 
-/// What the first token of a text is as a truth value, where it is one.
-fn truth(alloc: Global, text: &str) -> Result<Option<bool>, DeRonErr> {
-    let state = taken_of(alloc, &mut text.chars(), 1)?;
-    Ok(state.as_bool(alloc).ok())
-}
-
-/// A text, and its first token as a truth value.
-const TRUTHS: &[(&str, Option<bool>)] = &[
-    ("+0", Some(false)),
-    ("-0", None),
-    ("0", Some(false)),
-    ("2", Some(true)),
-    ("18446744073709551615", Some(true)),
-    ("true", Some(true)),
-    ("false", Some(false)),
-    ("1.", None),
-    ("True", None),
-];
-
-/// The first token is what the row says.
-fn is_truth(rt: &impl Abort, alloc: Global, row: &(&str, Option<bool>)) {
-    match truth(alloc, row.0) {
-        Ok(found) => is_read(rt, &Ok(found == row.1), row.0),
-        Err(error) => is_read(rt, &Err(error), row.0),
+/// The value of the call of this name, as a text.
+pub(crate) fn value_of(
+    alloc: Global,
+    state: &mut DeRonState,
+    name: &str,
+) -> Result<String, DeRonErr> {
+    match name {
+        "as_string" => state.as_string(alloc),
+        "as_string twice" => {
+            let _first = state.as_string(alloc)?;
+            state.as_string(alloc)
+        }
+        "u64_range" | "i64_range" | "i64_range of all" | "i64_range of none" => {
+            let number = number_of(alloc, state, name)?;
+            made(alloc, format!(in alloc; "{number}"))
+        }
+        "as_bool" => {
+            let truth = state.as_bool(alloc)?;
+            made(alloc, format!(in alloc; "{truth}"))
+        }
+        _ => {
+            let is_seen = is_mark(state, name);
+            made(alloc, format!(in alloc; "{is_seen}"))
+        }
     }
 }
 
-#[test]
-fn truths_of_tokens(rt: HostRuntime) {
-    for row in TRUTHS {
-        is_truth(&rt, rt.alloc(), row);
+/// The number of the call of this name.
+fn number_of(alloc: Global, state: &DeRonState, name: &str) -> Result<i128, DeRonErr> {
+    match name {
+        "u64_range" => Ok(i128::from(state.u64_range(alloc, 5)?)),
+        "i64_range" => Ok(i128::from(state.i64_range(alloc, -5, 5)?)),
+        "i64_range of all" => Ok(i128::from(state.i64_range(alloc, i64::MIN, i64::MAX)?)),
+        _ => Ok(i128::from(state.i64_range(alloc, 5, -5)?)),
     }
 }
 
-/// The call is refused with this message.
-fn tells(rt: &impl Abort, told: &Option<DeRonErr>, expected: &str) {
-    let found = match told {
-        None => "in range",
-        Some(error) => why(error),
-    };
-    is_told(rt, found, expected, expected);
+/// Whether the mark of the call of this name is pending.
+fn is_mark(state: &DeRonState, name: &str) -> bool {
+    match name {
+        "is_none" => state.is_none(),
+        "is_block_close" => state.is_block_close(),
+        "is_curly_close" => state.is_curly_close(),
+        "is_paren_close" => state.is_paren_close(),
+        _ => state.next_ident() == Some(()),
+    }
 }
 
-/// A number that is pending with a minus sign, a least and a greatest value, and what is told.
-const SIGNED: &[(i64, i64, i64, &str)] = &[
-    (-6, -5, 5, "Value out of range -6<-5 "),
-    (6, -5, 5, "Value out of range 6>5 "),
-];
+/// The value of a call behind the first token of a text.
+fn value(alloc: Global, text: &str, name: &str) -> Result<String, DeRonErr> {
+    let mut state = taken_of(alloc, &mut text.chars(), 1)?;
+    value_of(alloc, &mut state, name)
+}
 
-/// The same of a number without one.
-const UNSIGNED: &[(u64, i64, i64, &str)] = &[
-    (6, -5, 5, "Value out of range 6>5 "),
-    (0, 5, -5, "Value out of range 0<5 "),
+/// A text, the call on its first token, and the value that it gives, or what it tells.
+const VALUES: &[(&str, &str, &str)] = &[
+    ("+0", "as_bool", "false"),
+    ("-0", "as_bool", "Unexpected token I64(0) expected boolean "),
+    ("0", "as_bool", "false"),
+    ("2", "as_bool", "true"),
+    ("18446744073709551615", "as_bool", "true"),
+    ("true", "as_bool", "true"),
+    ("false", "as_bool", "false"),
+    ("1.", "as_bool", "Unexpected token F64 expected boolean "),
     (
-        u64::MAX,
-        i64::MIN,
-        i64::MAX,
+        "True",
+        "as_bool",
+        "Unexpected token Ident expected boolean ",
+    ),
+    ("4", "u64_range", "4"),
+    ("5", "u64_range", "5"),
+    ("6", "u64_range", "Value out of range 6>5 "),
+    ("5", "i64_range", "5"),
+    ("-5", "i64_range", "-5"),
+    ("6", "i64_range", "Value out of range 6>5 "),
+    ("-6", "i64_range", "Value out of range -6<-5 "),
+    (
+        "-9223372036854775808",
+        "i64_range of all",
+        "-9223372036854775808",
+    ),
+    (
+        "18446744073709551615",
+        "i64_range of all",
         "Value out of range 18446744073709551615>9223372036854775807 ",
     ),
+    ("0", "i64_range of none", "Value out of range 0<5 "),
+    ("\"ab\" c", "as_string", "ab"),
+    ("\"ab\" c", "as_string twice", ""),
+    ("None", "is_none", "true"),
+    ("None", "is_block_close", "false"),
+    ("None", "is_curly_close", "false"),
+    ("None", "is_paren_close", "false"),
+    ("]", "is_none", "false"),
+    ("]", "is_block_close", "true"),
+    ("]", "is_curly_close", "false"),
+    ("]", "is_paren_close", "false"),
+    ("}", "is_none", "false"),
+    ("}", "is_block_close", "false"),
+    ("}", "is_curly_close", "true"),
+    ("}", "is_paren_close", "false"),
+    (")", "is_none", "false"),
+    (")", "is_block_close", "false"),
+    (")", "is_curly_close", "false"),
+    (")", "is_paren_close", "true"),
+    ("Nonee", "is_none", "false"),
+    ("Nonee", "is_block_close", "false"),
+    ("Nonee", "is_curly_close", "false"),
+    ("Nonee", "is_paren_close", "false"),
+    ("None", "next_ident", "true"),
+    ("c", "next_ident", "true"),
+    ("\"ab\" c", "next_ident", "false"),
+    ("]", "next_ident", "false"),
 ];
 
-/// What is told of a pending token that is read within a range.
-fn out_of(alloc: Global, tok: DeRonTok, min: i64, max: i64) -> Option<DeRonErr> {
-    let mut state = DeRonState::new(alloc);
-    state.tok = tok;
-    state.i64_range(alloc, min, max).err()
-}
-
 #[test]
-fn numbers_out_of_range(rt: HostRuntime) {
+fn values_of_tokens(rt: HostRuntime) {
     let alloc = rt.alloc();
-    for row in SIGNED {
-        tells(
-            &rt,
-            &out_of(alloc, DeRonTok::I64(row.0), row.1, row.2),
-            row.3,
-        );
+    for row in VALUES {
+        is_made(&rt, &value(alloc, row.0, row.1), row.2, row.0);
     }
-    for row in UNSIGNED {
-        tells(
-            &rt,
-            &out_of(alloc, DeRonTok::U64(row.0), row.1, row.2),
-            row.3,
-        );
-    }
-}
-
-/// What is told of four where three is the greatest value.
-fn over_three(alloc: Global) -> Option<DeRonErr> {
-    let mut state = DeRonState::new(alloc);
-    state.tok = DeRonTok::U64(4);
-    state.u64_range(alloc, 3).err()
-}
-
-#[test]
-fn an_unsigned_number_out_of_range(rt: HostRuntime) {
-    tells(&rt, &over_three(rt.alloc()), "Value out of range 4>3 ");
-}
-
-#[test]
-fn numbers_in_range(rt: HostRuntime) {
-    let alloc = rt.alloc();
-    let mut state = DeRonState::new(alloc);
-    state.tok = DeRonTok::U64(4);
-    let unsigned = state.u64_range(alloc, 4).ok();
-    let signed = state.i64_range(alloc, 4, 4).ok();
-    state.tok = DeRonTok::I64(i64::MIN);
-    let least = state.i64_range(alloc, i64::MIN, i64::MAX).ok();
-    let found = (unsigned, signed, least);
-    assert_eq!(rt; found, (Some(4), Some(4), Some(i64::MIN)));
-}
-
-/// Whether a word is pending behind so many tokens of a text.
-fn is_word(alloc: Global, text: &str, taken: usize) -> Result<bool, DeRonErr> {
-    let state = taken_of(alloc, &mut text.chars(), taken)?;
-    Ok(state.next_ident() == Some(()))
-}
-
-/// Whether the text of the first token is moved out once, and leaves an empty one and the token.
-fn is_left_empty(alloc: Global, text: &str, expected: &str) -> Result<bool, DeRonErr> {
-    let mut state = taken_of(alloc, &mut text.chars(), 1)?;
-    let first = state.as_string(alloc)?;
-    let second = state.as_string(alloc)?;
-    let texts = (first.as_str(), second.as_str());
-    Ok(texts == (expected, "") && state.tok == DeRonTok::Str)
-}
-
-#[test]
-fn texts_are_moved_out(rt: HostRuntime) {
-    let alloc = rt.alloc();
-    is_read(&rt, &is_left_empty(alloc, "\"ab\" c", "ab"), "ab");
-    is_read(&rt, &is_word(alloc, "\"ab\" c", 2), "c");
-    match is_word(alloc, "\"ab\" c", 1) {
-        Ok(found) => is_read(&rt, &Ok(!found), "ab"),
-        Err(error) => is_read(&rt, &Err(error), "ab"),
-    }
-}
-
-/// Which of the marks is pending behind so many tokens of a text.
-fn marks(alloc: Global, text: &str, taken: usize) -> Result<(bool, bool, bool, bool), DeRonErr> {
-    let state = taken_of(alloc, &mut text.chars(), taken)?;
-    Ok((
-        state.is_none(),
-        state.is_block_close(),
-        state.is_curly_close(),
-        state.is_paren_close(),
-    ))
-}
-
-/// The text of the marks.
-const MARKED: &str = "None ] } ) Nonee c";
-
-/// How many tokens are taken, and which marks are seen then.
-const MARKS: &[(usize, (bool, bool, bool, bool))] = &[
-    (0, (false, false, false, false)),
-    (1, (true, false, false, false)),
-    (2, (false, true, false, false)),
-    (3, (false, false, true, false)),
-    (4, (false, false, false, true)),
-    (5, (false, false, false, false)),
-    (6, (false, false, false, false)),
-];
-
-/// The marks are seen that the row says.
-fn are_marks(rt: &impl Abort, alloc: Global, row: &(usize, (bool, bool, bool, bool))) {
-    match marks(alloc, MARKED, row.0) {
-        Ok(found) => is_read(rt, &Ok(found == row.1), MARKED),
-        Err(error) => is_read(rt, &Err(error), MARKED),
-    }
-}
-
-#[test]
-fn marks_are_seen(rt: HostRuntime) {
-    for row in MARKS {
-        are_marks(&rt, rt.alloc(), row);
-    }
-    assert_eq!(rt; DeRonTok::default(), DeRonTok::Bof);
 }

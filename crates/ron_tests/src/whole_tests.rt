@@ -1,113 +1,83 @@
 // Readers of whole inputs.
-use crate::checks::{is_fault, is_read, values};
+use crate::checks::{FaultRow, is_fault, is_made, made};
 use crate::place_tests::taken_of;
-use nano_ron::{BothRon, DeRon, laws};
+use nano_ron::{BothRon, laws};
 use ron_tokens::{DeRonErr, expect_end, within_value};
 use std::alloc::Global;
 use std::process::Abort;
 
-/// Whether a whole text is read as the value.
-fn is_whole<T: DeRon + PartialEq>(
-    alloc: Global,
-    text: &str,
-    expected: &T,
-) -> Result<bool, DeRonErr> {
-    match T::deserialize_ron_whole(alloc, text) {
-        Ok(value) => Ok(value == *expected),
-        Err(error) => Err(error),
-    }
+/// What the value of a whole text is written as once it was read back from what is written of it.
+fn whole_form<T: BothRon>(alloc: Global, text: &str) -> Result<String, DeRonErr> {
+    let value = T::deserialize_ron_whole(alloc, text)?;
+    let again = laws::read_back_whole(alloc, &value)?;
+    made(alloc, again.serialize_ron(alloc))
 }
 
-/// Each whole text is read as the value.
-fn all_whole<T: DeRon + PartialEq>(rt: &impl Abort, alloc: Global, texts: &[&str], expected: &T) {
-    for text in texts {
-        is_read(rt, &is_whole(alloc, text, expected), text);
-    }
-}
-
-/// The refusal of a whole text, if it is refused.
-fn refusal_whole<T: DeRon>(alloc: Global, text: &str) -> Option<DeRonErr> {
-    T::deserialize_ron_whole(alloc, text).err()
-}
-
-/// Each whole text is refused with its message, in its line and column.
-fn faults_whole<T: DeRon>(rt: &impl Abort, alloc: Global, rows: &[(&str, &str, usize, usize)]) {
-    for row in rows {
-        is_fault(rt, &refusal_whole::<T>(alloc, row.0), row);
-    }
-}
-
-/// Whether a value is read back from its own text.
-fn is_back<T: BothRon + PartialEq>(alloc: Global, value: &T) -> Result<bool, DeRonErr> {
-    match laws::read_back_whole(alloc, value) {
-        Ok(read) => Ok(read == *value),
-        Err(error) => Err(error),
-    }
-}
-
-/// Whether the text ends behind its first token.
-fn end_of(alloc: Global, text: &str) -> Result<(), DeRonErr> {
+/// The text, if it ends behind its first token, or else the error, which may be that of a value.
+fn ended(alloc: Global, text: &str, is_within: bool) -> Result<String, DeRonErr> {
     let mut input = text.chars();
     let state = taken_of(alloc, &mut input, 2)?;
-    expect_end(alloc, &state, text)
-}
-
-/// The same, as an answer.
-fn ends(alloc: Global, text: &str) -> Result<bool, DeRonErr> {
-    end_of(alloc, text)?;
-    Ok(true)
-}
-
-/// The error of that, if there is one.
-fn refused_end(alloc: Global, text: &str) -> Option<DeRonErr> {
-    end_of(alloc, text).err()
-}
-
-/// The same, as the error of a value.
-fn refused_within(alloc: Global, text: &str) -> Option<DeRonErr> {
-    match end_of(alloc, text) {
-        Ok(()) => None,
-        Err(error) => Some(within_value(error)),
+    match expect_end(alloc, &state, text) {
+        Ok(()) => made(alloc, String::from_str(alloc, text)),
+        Err(error) => Err(if is_within {
+            within_value(error)
+        } else {
+            error
+        }),
     }
 }
 
-/// Texts that do not end behind their first token.
-const GO_ON: &[(&str, &str, usize, usize)] = &[
-    ("7\0", "Cannot parse end ", 0, 2),
-    ("7 8", "Cannot parse end ", 0, 3),
-];
-
-/// The same, with the messages of a value.
-const GO_ON_WITHIN: &[(&str, &str, usize, usize)] = &[
-    ("7\0", "Cannot parse end", 0, 2),
-    ("7 8", "Cannot parse end", 0, 3),
+/// A text that does not end behind its first token, whether the error is that of a value, its
+/// message, and its line and column.
+const GO_ON: &[(&str, bool, &str, usize, usize)] = &[
+    ("7\0", false, "Cannot parse end ", 0, 2),
+    ("7 8", false, "Cannot parse end ", 0, 3),
+    ("7\0", true, "Cannot parse end", 0, 2),
+    ("7 8", true, "Cannot parse end", 0, 3),
 ];
 
 #[test]
 fn the_end_is_expected(rt: HostRuntime) {
     let alloc = rt.alloc();
-    is_read(&rt, &ends(alloc, "7 "), "7");
+    is_made(&rt, &ended(alloc, "7 ", false), "7 ", "7 ");
     for row in GO_ON {
-        is_fault(&rt, &refused_end(alloc, row.0), row);
+        is_fault(
+            &rt,
+            &ended(alloc, row.0, row.1),
+            &(row.0, row.2, row.3, row.4),
+        );
     }
-    for row in GO_ON_WITHIN {
-        is_fault(&rt, &refused_within(alloc, row.0), row);
+}
+
+/// Each whole text is read, and then written as the text beside it; those of the second rows are
+/// refused, each with its message, in its line and column.
+fn whole<T: BothRon>(
+    rt: &impl Abort,
+    alloc: Global,
+    read: &[(&str, &str)],
+    refused: &[FaultRow<'_>],
+) {
+    for row in read {
+        is_made(rt, &whole_form::<T>(alloc, row.0), row.1, row.0);
+    }
+    for row in refused {
+        is_fault(rt, &whole_form::<T>(alloc, row.0), row);
     }
 }
 
 /// Texts that are a number as a whole.
-const WHOLE: &[&str] = &[
-    "42",
-    "42 ",
-    " 42",
-    "42 // x",
-    "42 /* x",
-    "42 /* x */ // y\n",
-    "/**/42\n",
+const WHOLE: &[(&str, &str)] = &[
+    ("42", "42"),
+    ("42 ", "42"),
+    (" 42", "42"),
+    ("42 // x", "42"),
+    ("42 /* x", "42"),
+    ("42 /* x */ // y\n", "42"),
+    ("/**/42\n", "42"),
 ];
 
 /// Texts that are no number as a whole.
-const REFUSED: &[(&str, &str, usize, usize)] = &[
+const REFUSED: &[FaultRow<'static>] = &[
     ("42 43", "Cannot parse end ", 0, 5),
     ("42]", "Cannot parse end ", 0, 3),
     ("42\0", "Cannot parse end ", 0, 3),
@@ -118,17 +88,23 @@ const REFUSED: &[(&str, &str, usize, usize)] = &[
     ("", "Unexpected token Eof expected unsigned integer ", 0, 0),
 ];
 
+/// Texts that are a list as a whole.
+const LISTS: &[(&str, &str)] = &[
+    ("[1,2]", "[\n    1,\n    2,\n]"),
+    ("[1,2,] // x", "[\n    1,\n    2,\n]"),
+    ("[ 1, 2 ]\n", "[\n    1,\n    2,\n]"),
+];
+
+/// Texts that are no list as a whole.
+const NO_LISTS: &[FaultRow<'static>] = &[
+    ("[1] 2", "Cannot parse end ", 0, 5),
+    ("[1]\0", "Cannot parse end ", 0, 4),
+    ("[1 2]", "Unexpected token U64(2) expected , or ] ", 0, 5),
+];
+
 #[test]
 fn whole_inputs(rt: HostRuntime) {
     let alloc = rt.alloc();
-    all_whole(&rt, alloc, WHOLE, &42u32);
-    all_whole(
-        &rt,
-        alloc,
-        &["(1,2)", "(1,2,) // x", "( 1, 2 )\n"],
-        &[1u8, 2],
-    );
-    faults_whole::<u32>(&rt, alloc, REFUSED);
-    values(&rt, alloc, &[("42 43", 42u32)]);
-    is_read(&rt, &is_back(alloc, &(Some(1u8), [true, false])), "a pair");
+    whole::<u32>(&rt, alloc, WHOLE, REFUSED);
+    whole::<Vec<u8>>(&rt, alloc, LISTS, NO_LISTS);
 }

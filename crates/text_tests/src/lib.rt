@@ -3,7 +3,7 @@
 #![tactic(auto)]
 
 #[cfg(test)]
-mod call_tests;
+mod checks;
 #[cfg(test)]
 mod ending_tests;
 #[cfg(test)]
