@@ -2,6 +2,7 @@
 use crate::checks::holds;
 use nano_text::{Escaping, append_characters, append_signed, append_unsigned, keep_written};
 use std::alloc::{AllocError, Global};
+use std::test::Fail;
 
 /// The numbers as unsigned digits.
 const UNSIGNED: &[(u64, &str)] = &[
@@ -131,16 +132,13 @@ fn asks<E: Escaping>(alloc: Global) -> Result<bool, AllocError> {
 }
 
 #[test]
-fn written_digits_and_characters(rt: HostRuntime) {
+fn written_digits_and_characters(rt: HostRuntime) -> Result<(), Fail> {
     let alloc = rt.alloc();
-    holds(&rt, are_digits(alloc).unwrap_or(false), "digits");
-    holds(&rt, are_escaped(alloc).unwrap_or(false), "escapes");
-    holds(&rt, is_long_escaped(alloc).unwrap_or(false), "a long text");
-    holds(
-        &rt,
-        asks::<TwoQuotes>(alloc).unwrap_or(false),
-        "through the bound",
-    );
+    holds(&rt, are_digits(alloc)?, "digits");
+    holds(&rt, are_escaped(alloc)?, "escapes");
+    holds(&rt, is_long_escaped(alloc)?, "a long text");
+    holds(&rt, asks::<TwoQuotes>(alloc)?, "through the bound");
+    Ok(())
 }
 
 /// Whether two bytes are left of a text where the write behind them was refused, and all where it
@@ -153,6 +151,7 @@ fn is_cut_back(alloc: Global) -> Result<bool, AllocError> {
 }
 
 #[test]
-fn a_text_is_cut_back(rt: HostRuntime) {
-    holds(&rt, is_cut_back(rt.alloc()).unwrap_or(false), "cut back");
+fn a_text_is_cut_back(rt: HostRuntime) -> Result<(), Fail> {
+    holds(&rt, is_cut_back(rt.alloc())?, "cut back");
+    Ok(())
 }

@@ -25,12 +25,6 @@ fn numbered_keys(alloc: Global, times: u32) -> Result<String, Fail> {
     Ok(text)
 }
 
-// Whether the table has the key of this number, with it.
-fn has_key(alloc: Global, table: &HashMap<String, Toml>, number: u32) -> Result<bool, Fail> {
-    let key = format!(in alloc; "key {number}")?;
-    Ok(is_number(table.get(key.as_str()), i128::from(number)))
-}
-
 // Whether this number was found.
 fn is_number(found: Option<&Toml>, number: i128) -> bool {
     match found {
@@ -39,16 +33,17 @@ fn is_number(found: Option<&Toml>, number: i128) -> bool {
     }
 }
 
-#[test]
-fn many_keys(rt: HostRuntime) -> Result<(), Fail> {
-    let alloc = rt.alloc();
-    let text = numbered_keys(alloc, 20_000)?;
+// Whether each of so many keys is found with its number.
+fn are_many_keys(alloc: Global, times: u32) -> Result<bool, Fail> {
+    let text = numbered_keys(alloc, times)?;
     let table = TomlParser::parse(alloc, text.as_str())?;
-    holds(&rt, table.len() == 20_000, "keys");
-    for i in 0..20_000u32 {
-        holds(&rt, has_key(alloc, &table, i)?, "key");
+    for i in 0..times {
+        let key = format!(in alloc; "key {i}")?;
+        if !is_number(table.get(key.as_str()), i128::from(i)) {
+            return Ok(false);
+        }
     }
-    Ok(())
+    Ok(table.len() == times as usize)
 }
 
 // A list of so many lists of one number each.
@@ -106,30 +101,36 @@ fn tables_of_their_places(value: &Toml) -> usize {
     counted
 }
 
-#[test]
-fn many_lists(rt: HostRuntime) -> Result<(), Fail> {
-    let alloc = rt.alloc();
-    let text = lists_in_a_list(alloc, 5_000)?;
-    let table = TomlParser::parse(alloc, text.as_str())?;
-    holds(&rt, table.len() == 1, "keys");
-    let found = table
-        .get("list")
-        .map_or(0, |value| lists_of_their_places(value));
-    holds(&rt, found == 5_000, "lists");
-    Ok(())
+// How often the value is -7, where it is a list of that number alone.
+fn sevens(value: &Toml) -> usize {
+    let mut counted = 0usize;
+    if let Toml::SimpleArray(values) = value {
+        for value in values {
+            if *value != Toml::Num(-7) {
+                return 0;
+            }
+            counted = counted.saturating_add(1);
+        }
+    }
+    counted
 }
 
-#[test]
-fn many_tables(rt: HostRuntime) -> Result<(), Fail> {
-    let alloc = rt.alloc();
-    let text = tables_of_one_key(alloc, 5_000)?;
+// Whether a list of lists, a list of tables and a list of numbers are read, each item in its place.
+fn are_many_items(alloc: Global) -> Result<bool, Fail> {
+    let mut text = lists_in_a_list(alloc, 5_000)?;
+    text.push_str("sevens = [")?;
+    text.push_str(repeated(alloc, "-7 ", 5_000)?.as_str())?;
+    text.push_str("]\n")?;
+    text.push_str(tables_of_one_key(alloc, 5_000)?.as_str())?;
     let table = TomlParser::parse(alloc, text.as_str())?;
-    holds(&rt, table.len() == 1, "keys");
-    let found = table
-        .get("tables")
-        .map_or(0, |value| tables_of_their_places(value));
-    holds(&rt, found == 5_000, "tables");
-    Ok(())
+    match (table.get("list"), table.get("sevens"), table.get("tables")) {
+        (Some(lists), Some(numbers), Some(tables)) => {
+            let are_lists = lists_of_their_places(lists) == 5_000;
+            let are_tables = tables_of_their_places(tables) == 5_000;
+            Ok(are_lists && are_tables && sevens(numbers) == 5_000 && table.len() == 3)
+        }
+        _ => Ok(false),
+    }
 }
 
 // Whether a string of 20,000 such pieces between these quotes gives so many of what it stands for.
@@ -157,15 +158,6 @@ const PIECES: &[(&str, &str, &str)] = &[
     ("\"\"\"", "\\\"\"\"x", "\"\"\"x"),
 ];
 
-#[test]
-fn long_strings(rt: HostRuntime) -> Result<(), Fail> {
-    let alloc = rt.alloc();
-    for (quotes, piece, gives) in PIECES {
-        holds(&rt, is_long_string(alloc, quotes, piece, gives)?, piece);
-    }
-    Ok(())
-}
-
 // Whether this decimal was found.
 fn is_decimal(found: Option<&Toml>, want: &str) -> bool {
     match found {
@@ -184,12 +176,6 @@ fn is_long_pair(alloc: Global) -> Result<bool, Fail> {
     Ok(is_decimal(table.get(word.as_str()), decimal.as_str()))
 }
 
-#[test]
-fn long_words_and_decimals(rt: HostRuntime) -> Result<(), Fail> {
-    holds(&rt, is_long_pair(rt.alloc())?, "a long pair");
-    Ok(())
-}
-
 // Many keys behind the header of a scope, and then behind that of an element.
 fn keys_behind_headers(alloc: Global, times: u32) -> Result<String, Fail> {
     let keys = numbered_keys(alloc, times)?;
@@ -204,21 +190,23 @@ fn keys_of_the_element(found: Option<&Toml>) -> usize {
     }
 }
 
-#[test]
-fn many_keys_behind_headers(rt: HostRuntime) -> Result<(), Fail> {
-    let alloc = rt.alloc();
+// Whether the keys behind a header stand under its scope, and those behind an element's in it.
+fn are_behind_headers(alloc: Global) -> Result<bool, Fail> {
     let text = keys_behind_headers(alloc, 3_000)?;
     let table = TomlParser::parse(alloc, text.as_str())?;
-    holds(&rt, table.len() == 3_001, "keys of the scope");
-    holds(
-        &rt,
-        is_number(table.get("scope.key 2999"), 2_999),
-        "the last key",
-    );
-    holds(
-        &rt,
-        keys_of_the_element(table.get("tables")) == 3_000,
-        "keys of the element",
-    );
+    let is_last = is_number(table.get("scope.key 2999"), 2_999);
+    Ok(is_last && table.len() == 3_001 && keys_of_the_element(table.get("tables")) == 3_000)
+}
+
+#[test]
+fn large_texts(rt: HostRuntime) -> Result<(), Fail> {
+    let alloc = rt.alloc();
+    holds(&rt, are_many_keys(alloc, 20_000)?, "many keys");
+    holds(&rt, are_many_items(alloc)?, "many items");
+    holds(&rt, are_behind_headers(alloc)?, "many keys behind headers");
+    holds(&rt, is_long_pair(alloc)?, "a long word and decimal");
+    for (quotes, piece, gives) in PIECES {
+        holds(&rt, is_long_string(alloc, quotes, piece, gives)?, piece);
+    }
     Ok(())
 }

@@ -11,8 +11,6 @@ mod large_tests;
 #[cfg(test)]
 mod law_tests;
 #[cfg(test)]
-mod list_tests;
-#[cfg(test)]
 mod table_tests;
 #[cfg(test)]
 mod token_tests;

@@ -90,8 +90,8 @@ fn show(alloc: Global, text: &str) -> Result<String, Fail> {
 }
 
 // The text is the expected one.
-pub(crate) fn is_text(rt: &impl Abort, text: &str, expected: &str, at: &str) {
-    assert_eq!(rt; text, expected, "of {at}");
+fn is_text(rt: &impl Abort, text: &str, expected: &str, at: &str) {
+    assert!(rt; text == expected, "of {at}: {text}");
 }
 
 // What is said of a key or a text holds.
@@ -107,80 +107,79 @@ pub(crate) fn check(rt: &impl Abort, alloc: Global, rows: &[(&str, &str)]) -> Re
     Ok(())
 }
 
+// Texts, and what they give.
+const TABLES: &[(&str, &str)] = &[
+    ("a = [1, \"x\"", "a = [1, \"x\"]"),
+    ("\"k k\" = true", "k k = true"),
+    ("x = -inf y = nan", "x = -inf; y = nan"),
+    ("x = inf y = -nan z = +nan", "x = inf; y = -nan; z = nan"),
+    ("[s] a = 1 [\"\"] b = 2", "b = 2; s.a = 1"),
+    ("[[a]] [[a]]", "a = tables {} {}"),
+    ("n = 1 n = \"z\"", "n = \"z\""),
+    ("a = +-1", "a = date -1"),
+    (
+        "[[a]]\n# a\nn = \"a\" #x\n[[a]] n = \"b#s\" d = 123 [[o]] h = \"a\"",
+        "a = tables {n = \"a\"} {d = 123; n = \"b#s\"}; o = tables {h = \"a\"}",
+    ),
+    (
+        "k = \"v\"  # c\na = \" # not\"",
+        "a = \" # not\"; k = \"v\"",
+    ),
+    (
+        "s = \"q\" l = [1, 2] b = false",
+        "b = false; l = [1, 2]; s = \"q\"",
+    ),
+    ("[Section]\nvalue=1", "Section.value = 1"),
+    ("a = \"\"", "a = \"\""),
+    ("a = \"\"\"x\"\"y\"\"\"b = 1", "a = \"x\\\"\\\"y\"; b = 1"),
+    ("a.b = 1", "a.b = 1"),
+    ("a = [1 2,,[3", "a = [1, 2, [3]]"),
+    ("[s] [[a]] x = 1 [t] y = 2", "a = tables {s.x = 1; t.y = 2}"),
+    ("date = 1979-05-27", "date = date 1979-05-27"),
+    ("n = 3.14", "n = dec 3.14"),
+    ("n = -1_000", "n = -1000"),
+    ("", ""),
+    ("# nothing", ""),
+    ("n = 1_8446744073709551615", "n = 18446744073709551615"),
+    ("n = -9223372036854775808", "n = -9223372036854775808"),
+    (
+        "n = 99999999999999999999-01",
+        "n = date 99999999999999999999-01",
+    ),
+    (
+        "n = 99999999999999999999.5",
+        "n = dec 99999999999999999999.5",
+    ),
+    ("n = 00000000000000000000007", "n = 7"),
+    ("a = \"\"\"\"x\"\"\"", "a = \"\\\"x\""),
+    ("a = \"\"\"\"\"\"", "a = \"\""),
+    ("a = [", "a = []"),
+    ("a = []", "a = []"),
+    ("a = [,]", "a = []"),
+    ("a = [[[[", "a = [[[[]]]]"),
+    ("a = [[1][2", "a = [[1], [2]]"),
+    ("a = [[1], 2] b = 3", "a = [[1], 2]; b = 3"),
+    ("a = [1, 2\n] b = [3", "a = [1, 2]; b = [3]"),
+    ("a = 1\0]", "a = 1"),
+    ("a = [1\0]", "a = [1]"),
+    ("[s]", ""),
+    ("[\"s\"] a = 1", "s.a = 1"),
+    ("[s] [t] a = 1", "t.a = 1"),
+    ("[s] a = 1 a = 2 [s] b = 3", "s.a = 2; s.b = 3"),
+    ("[s] [[s.x]] y = 1", "s.x = tables {s.y = 1}"),
+    ("[[a]] x = 1 x = 2", "a = tables {x = 2}"),
+    (
+        "[[a]] [[b]] [[a]] x = 1",
+        "a = tables {} {x = 1}; b = tables {}",
+    ),
+    ("[[a]] a = 1", "a = tables {a = 1}"),
+    ("[[a]] b = 1 [[b]]", "a = tables {b = 1}; b = tables {}"),
+    ("b = 1 [[a]] c = 2", "a = tables {c = 2}; b = 1"),
+];
+
 #[test]
-fn tables(rt: HostRuntime) -> Result<(), Fail> {
-    check(
-        &rt,
-        rt.alloc(),
-        &[
-            ("a = [1, \"x\"", "a = [1, \"x\"]"),
-            ("\"k k\" = true", "k k = true"),
-            ("x = -inf y = nan", "x = -inf; y = nan"),
-            ("x = inf y = -nan z = +nan", "x = inf; y = -nan; z = nan"),
-            ("[s] a = 1 [\"\"] b = 2", "b = 2; s.a = 1"),
-            ("[[a]] [[a]]", "a = tables {} {}"),
-            ("n = 1 n = \"z\"", "n = \"z\""),
-            ("a = +-1", "a = date -1"),
-            (
-                "[[a]]\n# a\nn = \"a\" #x\n[[a]] n = \"b#s\" d = 123 [[o]] h = \"a\"",
-                "a = tables {n = \"a\"} {d = 123; n = \"b#s\"}; o = tables {h = \"a\"}",
-            ),
-            (
-                "k = \"v\"  # c\na = \" # not\"",
-                "a = \" # not\"; k = \"v\"",
-            ),
-            (
-                "s = \"q\" l = [1, 2] b = false",
-                "b = false; l = [1, 2]; s = \"q\"",
-            ),
-            ("[Section]\nvalue=1", "Section.value = 1"),
-            ("a = \"\"", "a = \"\""),
-            ("a = \"\"\"x\"\"y\"\"\"b = 1", "a = \"x\\\"\\\"y\"; b = 1"),
-            ("a.b = 1", "a.b = 1"),
-            ("a = [1 2,,[3", "a = [1, 2, [3]]"),
-            ("[s] [[a]] x = 1 [t] y = 2", "a = tables {s.x = 1; t.y = 2}"),
-            ("date = 1979-05-27", "date = date 1979-05-27"),
-            ("n = 3.14", "n = dec 3.14"),
-            ("n = -1_000", "n = -1000"),
-            ("", ""),
-            ("# nothing", ""),
-            ("n = 1_8446744073709551615", "n = 18446744073709551615"),
-            ("n = -9223372036854775808", "n = -9223372036854775808"),
-            (
-                "n = 99999999999999999999-01",
-                "n = date 99999999999999999999-01",
-            ),
-            (
-                "n = 99999999999999999999.5",
-                "n = dec 99999999999999999999.5",
-            ),
-            ("n = 00000000000000000000007", "n = 7"),
-            ("a = \"\"\"\"x\"\"\"", "a = \"\\\"x\""),
-            ("a = \"\"\"\"\"\"", "a = \"\""),
-            ("a = [", "a = []"),
-            ("a = []", "a = []"),
-            ("a = [,]", "a = []"),
-            ("a = [[[[", "a = [[[[]]]]"),
-            ("a = [[1][2", "a = [[1], [2]]"),
-            ("a = [[1], 2] b = 3", "a = [[1], 2]; b = 3"),
-            ("a = [1, 2\n] b = [3", "a = [1, 2]; b = [3]"),
-            ("a = 1\0]", "a = 1"),
-            ("a = [1\0]", "a = [1]"),
-            ("[s]", ""),
-            ("[\"s\"] a = 1", "s.a = 1"),
-            ("[s] [t] a = 1", "t.a = 1"),
-            ("[s] a = 1 a = 2 [s] b = 3", "s.a = 2; s.b = 3"),
-            ("[s] [[s.x]] y = 1", "s.x = tables {s.y = 1}"),
-            ("[[a]] x = 1 x = 2", "a = tables {x = 2}"),
-            (
-                "[[a]] [[b]] [[a]] x = 1",
-                "a = tables {} {x = 1}; b = tables {}",
-            ),
-            ("[[a]] a = 1", "a = tables {a = 1}"),
-            ("[[a]] b = 1 [[b]]", "a = tables {b = 1}; b = tables {}"),
-            ("b = 1 [[a]] c = 2", "a = tables {c = 2}; b = 1"),
-        ],
-    )
+fn tables_of_texts(rt: HostRuntime) -> Result<(), Fail> {
+    check(&rt, rt.alloc(), TABLES)
 }
 
 #[test]
@@ -218,77 +217,44 @@ fn same(alloc: Global, one: &str, other: &str) -> Result<bool, Fail> {
     Ok(one == other)
 }
 
-// Whether each two texts give the same table is as stands beside them.
-fn all_same(rt: &impl Abort, alloc: Global, rows: &[(&str, &str, bool)]) -> Result<(), Fail> {
-    for (one, other, want) in rows {
-        holds(rt, same(alloc, one, other)? == *want, one);
-    }
-    Ok(())
-}
+// Two texts, and whether they give the same table.
+const PAIRS: &[(&str, &str, bool)] = &[
+    ("a = 1 b = 2", "b = 2 a = 1", true),
+    ("a = nan", "a = nan", true),
+    ("a = nan", "a = -nan", false),
+    ("a = 1", "a = 1.0", false),
+    ("a = 1.0", "a = 1.00", false),
+    ("a = [1, 2]", "a = [1 2]", true),
+    ("a = [1, 2]", "a = [2, 1]", false),
+    ("a = [1]", "a = 1", false),
+    ("a = 1", "a = 1 b = 1", false),
+    ("a = 1 b = 1", "a = 1", false),
+    ("[[a]] b = 1 [[a]]", "[[a]] b = 1 [[a]]", true),
+    ("[[a]] b = 1 [[a]]", "[[a]] [[a]] b = 1", false),
+    ("a = inf", "a = nan", false),
+    ("a = 1979-05-27", "a = \"1979-05-27\"", false),
+];
 
 #[test]
 fn equality(rt: HostRuntime) -> Result<(), Fail> {
-    all_same(
-        &rt,
-        rt.alloc(),
-        &[
-            ("a = 1 b = 2", "b = 2 a = 1", true),
-            ("a = nan", "a = nan", true),
-            ("a = nan", "a = -nan", false),
-            ("a = 1", "a = 1.0", false),
-            ("a = 1.0", "a = 1.00", false),
-            ("a = [1, 2]", "a = [1 2]", true),
-            ("a = [1, 2]", "a = [2, 1]", false),
-            ("a = [1]", "a = 1", false),
-            ("a = 1", "a = 1 b = 1", false),
-            ("a = 1 b = 1", "a = 1", false),
-            ("[[a]] b = 1 [[a]]", "[[a]] b = 1 [[a]]", true),
-            ("[[a]] b = 1 [[a]]", "[[a]] [[a]] b = 1", false),
-            ("a = inf", "a = nan", false),
-            ("a = 1979-05-27", "a = \"1979-05-27\"", false),
-        ],
-    )
-}
-
-#[test]
-fn derived(rt: HostRuntime) -> Result<(), Fail> {
-    let _parser = TomlParser::default();
-    assert!(rt; TomlTok::U64(1) == TomlTok::U64(1));
-    assert!(rt; TomlTok::U64(1) != TomlTok::I64(1));
-    assert!(rt; TomlTok::Comma != TomlTok::Equals);
-    Ok(())
-}
-
-#[test]
-fn errors(rt: HostRuntime) -> Result<(), Fail> {
-    let alloc = rt.alloc();
-    match TomlParser::parse(alloc, "a = @") {
-        Ok(_) => holds(&rt, false, "@"),
-        Err(error) => {
-            if error.memory {
-                return Err(Fail::from(AllocError));
-            }
-            is_cloned(&rt, alloc, &error)?;
-        }
+    for (one, other, want) in PAIRS {
+        holds(&rt, same(rt.alloc(), one, other)? == *want, one);
     }
     Ok(())
 }
 
-// A clone of the error of "a = @" is like it.
-fn is_cloned(rt: &impl Abort, alloc: Global, error: &TomlErr) -> Result<(), Fail> {
+// Whether the error is copied, and shown to whom looks into it.
+fn is_cloned(alloc: Global, error: &TomlErr) -> Result<bool, AllocError> {
     let copy = error.clone()?;
-    holds(rt, !copy.memory, "memory");
-    is_text(rt, copy.msg.as_str(), "Cannot parse toml tokenizer ", "msg");
-    holds(rt, copy.line == 0 && copy.col == 5, "place");
     let shown = format!(in alloc; "{copy:?}")?;
+    let is_copy = copy.msg.as_str() == "Cannot parse toml tokenizer " && !copy.memory;
+    let is_there = copy.line == 0 && copy.col == 5;
     let expected = "Toml error: Cannot parse toml tokenizer , line:1 col:6";
-    is_text(rt, shown.as_str(), expected, "Debug");
-    Ok(())
+    Ok(is_copy && is_there && shown.as_str() == expected)
 }
 
-#[test]
-fn an_error_in_the_last_line(rt: HostRuntime) -> Result<(), Fail> {
-    let alloc = rt.alloc();
+// Whether an error in the last line is shown.
+fn is_last_shown(alloc: Global) -> Result<bool, AllocError> {
     let last = TomlErr {
         msg: String::new(alloc),
         line: usize::MAX,
@@ -296,8 +262,25 @@ fn an_error_in_the_last_line(rt: HostRuntime) -> Result<(), Fail> {
         memory: true,
     };
     let shown = format!(in alloc; "{last}")?;
-    let expected = "Toml error: , line:18446744073709551615 col:1";
-    is_text(&rt, shown.as_str(), expected, "Display");
+    Ok(shown.as_str() == "Toml error: , line:18446744073709551615 col:1")
+}
+
+#[test]
+fn errors_and_tokens(rt: HostRuntime) -> Result<(), Fail> {
+    let alloc = rt.alloc();
+    let _parser = TomlParser::default();
+    let is_one = TomlTok::U64(1) == TomlTok::U64(1) && TomlTok::U64(1) != TomlTok::I64(1);
+    holds(&rt, is_one && TomlTok::Comma != TomlTok::Equals, "tokens");
+    holds(&rt, is_last_shown(alloc)?, "the last line");
+    match TomlParser::parse(alloc, "a = @") {
+        Ok(_) => holds(&rt, false, "@"),
+        Err(error) => {
+            if error.memory {
+                return Err(Fail::from(error));
+            }
+            holds(&rt, is_cloned(alloc, &error)?, "@");
+        }
+    }
     Ok(())
 }
 
@@ -323,15 +306,6 @@ fn is_deep_list(alloc: Global, open: &str, close: &str) -> Result<bool, Fail> {
 // What opens a level of a list, and what closes it.
 const DEEP: &[(&str, &str)] = &[("[", ""), ("[", "]"), ("[1,", "1]"), ("[[],", "[]]")];
 
-#[test]
-fn deep_lists(rt: HostRuntime) -> Result<(), Fail> {
-    let alloc = rt.alloc();
-    for (open, close) in DEEP {
-        holds(&rt, is_deep_list(alloc, open, close)?, open);
-    }
-    Ok(())
-}
-
 // Whether a list of 10,000 levels is equal to itself, and not to one of a level fewer.
 fn is_compared(alloc: Global, open: &str, close: &str) -> Result<bool, Fail> {
     let text = brackets(alloc, open, 10_000, close)?;
@@ -345,22 +319,13 @@ fn is_compared(alloc: Global, open: &str, close: &str) -> Result<bool, Fail> {
 const COMPARED: &[(&str, &str)] = &[("[", ""), ("[", "]"), ("[[],1,", "]")];
 
 #[test]
-fn deep_lists_compared(rt: HostRuntime) -> Result<(), Fail> {
+fn deep_lists(rt: HostRuntime) -> Result<(), Fail> {
     let alloc = rt.alloc();
+    for (open, close) in DEEP {
+        holds(&rt, is_deep_list(alloc, open, close)?, open);
+    }
     for (open, close) in COMPARED {
         holds(&rt, is_compared(alloc, open, close)?, open);
-    }
-    Ok(())
-}
-
-// An answer in spite of a refused allocation: the same table, or want of memory, which is marked
-// and has no message.
-#[test]
-fn want_of_memory(rt: HostRuntime) -> Result<(), Fail> {
-    let text = "a = [1, \"x\", [2.5, -1]] [s] k = 1 [[b]] c = \"y\" [[b]] d = 1979-05-27";
-    match TomlParser::parse(rt.alloc(), text) {
-        Ok(table) => holds(&rt, table.len() == 3 && table.contains_key("s.k"), text),
-        Err(error) => holds(&rt, error.memory && error.msg.is_empty(), text),
     }
     Ok(())
 }
@@ -368,10 +333,15 @@ fn want_of_memory(rt: HostRuntime) -> Result<(), Fail> {
 // Texts with a fault.
 const FAULTY: &[&str] = &["a = 1 [[a]]", "a = @", "[s] = 1"];
 
-// An error in spite of a refused allocation: the same fault, or want of memory, which is marked
-// and has no message.
+// An answer in spite of a refused allocation: the same table or fault, or want of memory, which is
+// marked and has no message.
 #[test]
-fn want_of_memory_for_a_message(rt: HostRuntime) -> Result<(), Fail> {
+fn want_of_memory(rt: HostRuntime) -> Result<(), Fail> {
+    let text = "a = [1, \"x\", [2.5, -1]] [s] k = 1 [[b]] c = \"y\" [[b]] d = 1979-05-27";
+    match TomlParser::parse(rt.alloc(), text) {
+        Ok(table) => holds(&rt, table.len() == 3 && table.contains_key("s.k"), text),
+        Err(error) => holds(&rt, error.memory && error.msg.is_empty(), text),
+    }
     for text in FAULTY {
         match TomlParser::parse(rt.alloc(), text) {
             Ok(_) => holds(&rt, false, text),
