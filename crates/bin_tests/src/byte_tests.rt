@@ -1,6 +1,6 @@
 // The calls of `bin_bytes` that own types of a fixed width are made of, and the items of a type:
 // each made once, with what it answers.
-use crate::checks::{holds, is_refusal};
+use crate::checks::{holds, is_answer, is_made, is_refusal};
 use bin_bytes::{
     DeBinErr, DeBinKind, FixedWidth, append_bytes, append_bytes_behind, append_number, append_run,
     no_memory, not_utf8, read_array, read_bytes, read_chunks, read_number, read_run, read_utf8,
@@ -62,10 +62,10 @@ fn items_are_read(alloc: Global) -> Result<bool, DeBinErr> {
 #[test]
 fn bytes_are_appended_and_read(rt: HostRuntime) {
     let alloc = rt.alloc();
-    holds(&rt, are_appended(alloc).unwrap_or(false), "appended");
-    holds(&rt, parts_are_read(alloc).unwrap_or(false), "parts");
-    holds(&rt, runs_are_read(alloc).unwrap_or(false), "runs");
-    holds(&rt, items_are_read(alloc).unwrap_or(false), "items");
+    is_made(&rt, are_appended(alloc), "appended");
+    is_answer(&rt, parts_are_read(alloc), "parts");
+    is_answer(&rt, runs_are_read(alloc), "runs");
+    is_answer(&rt, items_are_read(alloc), "items");
     let bytes = (-2i32).to_bytes();
     holds(&rt, bytes == [254, 255, 255, 255], "to_bytes");
     holds(&rt, i32::from_bytes(&bytes) == -2, "from_bytes");

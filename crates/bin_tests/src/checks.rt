@@ -11,6 +11,23 @@ pub(crate) fn holds(rt: &impl Abort, is_so: bool, call: &str) {
     assert!(rt; is_so, "{call}");
 }
 
+/// What a call that takes memory answers is so. Where there was none, the test ends in those words.
+pub(crate) fn is_made(rt: &impl Abort, made: Result<bool, AllocError>, call: &str) {
+    match made {
+        Ok(is_so) => holds(rt, is_so, call),
+        Err(_refused) => holds(rt, false, "no memory"),
+    }
+}
+
+/// What a reader answers is so. Where it found no memory, the test ends in those words.
+pub(crate) fn is_answer(rt: &impl Abort, read: Result<bool, DeBinErr>, call: &str) {
+    match read {
+        Ok(is_so) => holds(rt, is_so, call),
+        Err(error) if error.kind == DeBinKind::Memory => holds(rt, false, "no memory"),
+        Err(_error) => holds(rt, false, call),
+    }
+}
+
 /// Whether the value is written as the code, alone and behind what stands there.
 pub(crate) fn is_written<T: SerBin>(
     alloc: Global,
@@ -99,8 +116,7 @@ pub(crate) fn reads<T: DeBin + PartialEq>(
 ) {
     match made {
         Ok(value) => {
-            let is_read = is_read(alloc, &value, start, bytes);
-            holds(rt, is_read.unwrap_or(false), name);
+            is_answer(rt, is_read(alloc, &value, start, bytes), name);
         }
         Err(_refused) => holds(rt, false, "no memory"),
     }
@@ -117,8 +133,8 @@ pub(crate) fn row<T: BothBin + PartialEq>(
 ) {
     match made {
         Ok(value) => {
-            holds(rt, is_written(alloc, &value, code).unwrap_or(false), name);
-            holds(rt, is_read(alloc, &value, 0, code).unwrap_or(false), name);
+            is_made(rt, is_written(alloc, &value, code), name);
+            is_answer(rt, is_read(alloc, &value, 0, code), name);
             holds(rt, refuses_fronts::<T>(alloc, code), name);
         }
         Err(_refused) => holds(rt, false, "no memory"),

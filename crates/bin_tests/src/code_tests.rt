@@ -1,6 +1,6 @@
 // Codes as they stand in the crate's documents: each type of the format, and its lists, which some
 // types write and read at once.
-use crate::checks::{holds, is_written, reads, row};
+use crate::checks::{is_made, is_written, reads, row};
 use crate::made::{boxed, list, text};
 
 #[test]
@@ -103,6 +103,5 @@ fn texts_and_lists(rt: HostRuntime) {
     let five = &[5, 0, 0, 0, 0, 0, 0, 0];
     row(&rt, alloc, "units", list(alloc, &[(); 5]), five);
     let slice: &[u16] = &[1, 2];
-    let is_slice = is_written(alloc, &slice, &[1, 0, 2, 0]);
-    holds(&rt, is_slice.unwrap_or(false), "a slice");
+    is_made(&rt, is_written(alloc, &slice, &[1, 0, 2, 0]), "a slice");
 }

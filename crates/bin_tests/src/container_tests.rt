@@ -1,7 +1,10 @@
 // Texts, lists, sets and maps, each by one call of its type: how repeated keys and items are read,
 // in which order they are written, values of many items, what is refused, and want of memory.
-use crate::checks::{Refusal, holds, is_refused, is_written, refusal, refuses_fronts};
+use crate::checks::{
+    Refusal, holds, is_answer, is_made, is_refused, is_written, refusal, refuses_fronts,
+};
 use crate::made::{hashed, linked, mapped, ordered, ordered_map};
+use bin_bytes::no_memory;
 use nano_bin::DeBinKind::{Memory, NotUtf8, TooShort};
 use nano_bin::{BothBin, DeBin, DeBinErr};
 use std::alloc::{AllocError, Global};
@@ -16,7 +19,7 @@ fn is_normal<T: BothBin>(alloc: Global, bytes: &[u8], code: &[u8]) -> Result<boo
     let value = T::deserialize_bin_whole(alloc, bytes)?;
     match value.serialize_bin(alloc) {
         Ok(written) => Ok(written.as_slice() == code),
-        Err(_refused) => Ok(false),
+        Err(_refused) => Err(no_memory(0, bytes)),
     }
 }
 
@@ -33,11 +36,7 @@ fn is_read_or_kept<T: DeBin>(alloc: Global, code: &[u8]) -> bool {
 /// The bytes are read and written so, and the fronts of the code are refused.
 fn spelled<T: BothBin>(rt: &impl Abort, alloc: Global, name: &str, bytes: &[u8], code: &[u8]) {
     holds(rt, is_read_or_kept::<T>(alloc, bytes), name);
-    holds(
-        rt,
-        is_normal::<T>(alloc, bytes, code).unwrap_or(false),
-        name,
-    );
+    is_answer(rt, is_normal::<T>(alloc, bytes, code), name);
     holds(rt, refuses_fronts::<T>(alloc, code), name);
 }
 
@@ -55,7 +54,7 @@ fn container<T: BothBin>(
         spelled::<T>(rt, alloc, name, row.0, row.1);
     }
     match many {
-        Ok(code) => holds(rt, is_normal::<T>(alloc, code, code).unwrap_or(false), name),
+        Ok(code) => is_answer(rt, is_normal::<T>(alloc, code, code), name),
         Err(_refused) => holds(rt, false, "no memory"),
     }
     for row in refusals {
@@ -221,6 +220,5 @@ fn made_are_written(alloc: Global) -> Result<bool, AllocError> {
 
 #[test]
 fn made_values(rt: HostRuntime) {
-    let are_written = made_are_written(rt.alloc());
-    holds(&rt, are_written.unwrap_or(false), "values that were made");
+    is_made(&rt, made_are_written(rt.alloc()), "values that were made");
 }

@@ -1,5 +1,5 @@
 // Keys of each type, entries and items in order, and `known` of each type through its bound.
-use crate::checks::holds;
+use crate::checks::{holds, is_made};
 use crate::made::{boxed, hashed, linked, list, mapped, ordered, ordered_map, text};
 use nano_value::{Key, OrderedKey, Value, entries_by_rank, entries_in_order, items_in_order, laws};
 use std::alloc::{AllocError, Global};
@@ -113,12 +113,8 @@ fn texts_are_ranked(alloc: Global) -> Result<bool, AllocError> {
 #[test]
 fn in_order(rt: HostRuntime) {
     let alloc = rt.alloc();
-    holds(
-        &rt,
-        are_in_order(alloc).unwrap_or(false),
-        "entries and items",
-    );
-    holds(&rt, texts_are_ranked(alloc).unwrap_or(false), "texts");
+    is_made(&rt, are_in_order(alloc), "entries and items");
+    is_made(&rt, texts_are_ranked(alloc), "texts");
     holds(&rt, ranks(&7u8, &5) == (0, 0), "numbers");
 }
 

@@ -1,5 +1,5 @@
 // The laws and the small calls, each made once.
-use crate::checks::holds;
+use crate::checks::{holds, is_answer, is_made};
 use crate::made::{hashed, list, mapped, ordered, ordered_map};
 use nano_bin::{DeBinErr, DeBinKind, laws};
 use std::alloc::{AllocError, Global};
@@ -48,7 +48,7 @@ fn is_printed(alloc: Global, error: DeBinErr, text: &str) -> Result<bool, AllocE
 #[test]
 fn values_back_and_errors_in_words(rt: HostRuntime) {
     let alloc = rt.alloc();
-    holds(&rt, are_back(alloc).unwrap_or(false), "values back");
+    is_answer(&rt, are_back(alloc), "values back");
     let error = DeBinErr {
         o: 8,
         l: 3,
@@ -56,6 +56,5 @@ fn values_back_and_errors_in_words(rt: HostRuntime) {
         kind: DeBinKind::TooShort,
     };
     let text = "Bin deserialize error at:8 wanted:3 bytes but max size is 10";
-    let is_printed = is_printed(alloc, error, text).unwrap_or(false);
-    holds(&rt, is_printed, "an error in words");
+    is_made(&rt, is_printed(alloc, error, text), "an error in words");
 }
