@@ -93,6 +93,16 @@ pub(crate) fn is_refused<T: DeBin>(alloc: Global, row: &Refusal) -> bool {
     is_refusal(told, row.2, row.3, row.4, row.0.len()) && offset == row.1
 }
 
+/// Whether the code is read whole, or refused for memory with the offset kept. With ample memory it
+/// is read; the runner can refuse any one allocation.
+pub(crate) fn is_read_or_kept<T: DeBin>(alloc: Global, code: &[u8]) -> bool {
+    let (told, offset) = refusal::<T>(alloc, 0, code);
+    match told {
+        None => offset == code.len(),
+        Some(error) => error.kind == DeBinKind::Memory && error.l == 0 && offset == 0,
+    }
+}
+
 /// Whether every proper front of the code is refused as too short, and leaves the offset.
 pub(crate) fn refuses_fronts<T: DeBin>(alloc: Global, code: &[u8]) -> bool {
     for end in 0..code.len() {

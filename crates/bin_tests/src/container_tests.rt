@@ -1,12 +1,12 @@
 // Texts, lists, sets and maps, each by one call of its type: how repeated keys and items are read,
 // in which order they are written, values of many items, what is refused, and want of memory.
 use crate::checks::{
-    Refusal, holds, is_answer, is_made, is_refused, is_written, refusal, refuses_fronts,
+    Refusal, holds, is_answer, is_made, is_read_or_kept, is_refused, is_written, refuses_fronts,
 };
 use crate::made::{hashed, linked, mapped, ordered, ordered_map};
 use bin_bytes::no_memory;
-use nano_bin::DeBinKind::{Memory, NotUtf8, TooShort};
-use nano_bin::{BothBin, DeBin, DeBinErr};
+use nano_bin::DeBinKind::{NotUtf8, TooShort};
+use nano_bin::{BothBin, DeBinErr};
 use std::alloc::{AllocError, Global};
 use std::collections::{BTreeMap, BTreeSet, HashMap, HashSet, LinkedList};
 use std::process::Abort;
@@ -20,16 +20,6 @@ fn is_normal<T: BothBin>(alloc: Global, bytes: &[u8], code: &[u8]) -> Result<boo
     match value.serialize_bin(alloc) {
         Ok(written) => Ok(written.as_slice() == code),
         Err(_refused) => Err(no_memory(0, bytes)),
-    }
-}
-
-/// Whether the code is read whole, or refused for memory with the offset kept. With ample memory it
-/// is read; the runner can refuse any one allocation.
-fn is_read_or_kept<T: DeBin>(alloc: Global, code: &[u8]) -> bool {
-    let (told, offset) = refusal::<T>(alloc, 0, code);
-    match told {
-        None => offset == code.len(),
-        Some(error) => error.kind == Memory && error.l == 0 && offset == 0,
     }
 }
 

@@ -1,9 +1,10 @@
 // The refusals of numbers and of what has parts: why, where, and how many bytes were wanted there.
 // What has parts hands on what a part is refused for.
-use crate::checks::{Refusal, holds, is_refusal, is_refused};
+use crate::checks::{Refusal, holds, is_read_or_kept, is_refusal, is_refused};
 use nano_bin::DeBin;
 use nano_bin::DeBinKind::{NotUtf8, TooShort, TrailingBytes};
 use std::alloc::Global;
+use std::collections::{BTreeMap, HashMap};
 use std::process::Abort;
 
 /// The bytes are refused so, with the offset kept.
@@ -50,6 +51,39 @@ fn refusals_of_parts(rt: HostRuntime) {
     refused::<(u8, u8, String)>(&rt, alloc, "three", &[(THIRD, 1, NotUtf8, 11, 1)]);
     let fourth = &[(FOURTH, 1, NotUtf8, 12, 1)];
     refused::<(u8, u8, u8, String)>(&rt, alloc, "four", fourth);
+}
+
+/// The fault as the key of an entry, behind the count of one.
+const KEY: &[Refusal] = &[(
+    &[
+        77, 1, 0, 0, 0, 0, 0, 0, 0, 1, 0, 0, 0, 0, 0, 0, 0, 255, 7, 7,
+    ],
+    1,
+    NotUtf8,
+    17,
+    1,
+)];
+
+#[test]
+fn refusals_of_keys(rt: HostRuntime) {
+    let alloc = rt.alloc();
+    refused::<HashMap<String, u8>>(&rt, alloc, "a map", KEY);
+    refused::<BTreeMap<String, u8>>(&rt, alloc, "an ordered map", KEY);
+}
+
+/// The text "a", and the text behind a byte.
+const TEXT: &[u8] = &[1, 0, 0, 0, 0, 0, 0, 0, 97];
+
+const BEHIND: &[u8] = &[9, 1, 0, 0, 0, 0, 0, 0, 0, 97];
+
+/// What has parts hands on that a part found no memory, with no bytes wanted.
+#[test]
+fn parts_want_memory(rt: HostRuntime) {
+    let alloc = rt.alloc();
+    holds(&rt, is_read_or_kept::<Box<String>>(alloc, TEXT), "a box");
+    holds(&rt, is_read_or_kept::<[String; 1]>(alloc, TEXT), "an array");
+    let is_pair = is_read_or_kept::<(u8, String)>(alloc, BEHIND);
+    holds(&rt, is_pair, "a pair");
 }
 
 /// Whether the value takes all of the bytes but those from the place on, and is refused for them.

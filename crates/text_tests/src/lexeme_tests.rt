@@ -1,5 +1,5 @@
 // Lexemes and places of worked texts.
-use crate::checks::{BEFORE, NumberRow, StringRow, are_numbers, are_strings, holds};
+use crate::checks::{BEFORE, NumberRow, StringRow, are_numbers, are_strings, holds, is_text};
 use nano_text::{Fault, Number, Place, laws, read_number, read_string};
 use std::alloc::{AllocError, Global};
 use std::test::Fail;
@@ -224,29 +224,46 @@ fn are_places(start: Place, text: &str, places: &[(char, usize, usize)]) -> bool
     true
 }
 
-/// Whether a number and a string are read where the current character was set by hand and was never
-/// in `Chars`.
-fn are_by_hand(alloc: Global) -> bool {
+/// A current character that was set by hand, what `Chars` holds, the number that begins there, a
+/// decimal's text, and the character that is next.
+type ByHand = (
+    char,
+    &'static str,
+    Result<Number, Fault>,
+    &'static str,
+    char,
+);
+
+/// Numbers that begin with a character that was never in `Chars`. An integer asks for no memory.
+const BY_HAND: &[ByHand] = &[
+    ('4', "2,", Ok(Number::U64(42)), "", ','),
+    ('-', "1.50]", Ok(Number::Dec), "-1.50", ']'),
+    ('\0', "9", Err(Fault::Malformed), "", '\0'),
+];
+
+/// Whether the number that begins with a character set by hand is read.
+fn is_by_hand(alloc: Global, row: &ByHand) -> bool {
+    let (cur, held, expected, kept, next) = row;
     let mut buffer = String::new(alloc);
     let mut p = Place {
-        cur: '-',
+        cur: *cur,
         line: 0,
         col: 0,
     };
-    let mut i = "1.50]".chars();
-    let is_number = read_number(&mut p, &mut i, &mut buffer) == Ok(Number::Dec)
-        && buffer.as_str() == "-1.50"
-        && p.cur == ']';
+    let read = read_number(&mut p, &mut held.chars(), &mut buffer);
+    read == *expected && is_text(buffer.as_str(), kept) && p.cur == *next
+}
+
+/// Whether a string is read whose quote was set by hand.
+fn is_string_by_hand(alloc: Global) -> bool {
+    let mut buffer = String::new(alloc);
     let mut p = Place {
         cur: '"',
         line: 0,
         col: 0,
     };
-    let mut i = "xy\"".chars();
-    let is_string = read_string(&mut p, &mut i, &mut buffer).is_ok()
-        && buffer.as_str() == "xy"
-        && p.cur == '\0';
-    is_number && is_string
+    let is_read = read_string(&mut p, &mut "xy\"".chars(), &mut buffer).is_ok();
+    is_read && buffer.as_str() == "xy" && p.cur == '\0'
 }
 
 /// Whether nothing is read where nothing begins, and the place and the text stay.
@@ -267,7 +284,10 @@ fn nothing_begins(alloc: Global) -> bool {
 #[test]
 fn places_and_current_characters(rt: HostRuntime) {
     holds(&rt, are_places(BEFORE, "a\nb", PLACES), "places");
-    holds(&rt, are_by_hand(rt.alloc()), "by hand");
+    for row in BY_HAND {
+        holds(&rt, is_by_hand(rt.alloc(), row), row.1);
+    }
+    holds(&rt, is_string_by_hand(rt.alloc()), "xy");
     holds(&rt, nothing_begins(rt.alloc()), "nothing");
 }
 
