@@ -36,21 +36,35 @@ const FOURTH: &[u8] = &[77, 9, 9, 9, 1, 0, 0, 0, 0, 0, 0, 0, 255, 7, 7];
 /// The fault behind the byte of an option.
 const SOME: &[u8] = &[77, 1, 1, 0, 0, 0, 0, 0, 0, 0, 255, 7, 7];
 
+/// The refusals of a text that stands first, second, third and fourth, and as an option's value.
+const AT_FIRST: &[Refusal] = &[(FAULT, 1, NotUtf8, 9, 1)];
+
+const AT_SECOND: &[Refusal] = &[(SECOND, 1, NotUtf8, 10, 1), (&[1, 2], 0, TooShort, 1, 8)];
+
+const AT_THIRD: &[Refusal] = &[(THIRD, 1, NotUtf8, 11, 1)];
+
+const AT_FOURTH: &[Refusal] = &[(FOURTH, 1, NotUtf8, 12, 1)];
+
+const IN_SOME: &[Refusal] = &[(SOME, 1, NotUtf8, 10, 1), (&[1], 0, TooShort, 1, 8)];
+
+const SECOND_ITEM: &[Refusal] = &[(&[1, 0, 2], 0, TooShort, 2, 2)];
+
 #[test]
-fn refusals_of_parts(rt: HostRuntime) {
+fn refusals_of_boxes_arrays_and_options(rt: HostRuntime) {
     let alloc = rt.alloc();
-    let first = &[(FAULT, 1, NotUtf8, 9, 1)];
-    let second = &[(SECOND, 1, NotUtf8, 10, 1), (&[1, 2], 0, TooShort, 1, 8)];
-    let some = &[(SOME, 1, NotUtf8, 10, 1), (&[1], 0, TooShort, 1, 8)];
-    refused::<Box<String>>(&rt, alloc, "a box", first);
-    refused::<[String; 1]>(&rt, alloc, "an array", first);
-    refused::<[u16; 2]>(&rt, alloc, "an array", &[(&[1, 0, 2], 0, TooShort, 2, 2)]);
-    refused::<Option<String>>(&rt, alloc, "an option", some);
-    refused::<(String, u8)>(&rt, alloc, "a pair", first);
-    refused::<(u8, String)>(&rt, alloc, "a pair", second);
-    refused::<(u8, u8, String)>(&rt, alloc, "three", &[(THIRD, 1, NotUtf8, 11, 1)]);
-    let fourth = &[(FOURTH, 1, NotUtf8, 12, 1)];
-    refused::<(u8, u8, u8, String)>(&rt, alloc, "four", fourth);
+    refused::<Box<String>>(&rt, alloc, "a box", AT_FIRST);
+    refused::<[String; 1]>(&rt, alloc, "an array", AT_FIRST);
+    refused::<[u16; 2]>(&rt, alloc, "an array", SECOND_ITEM);
+    refused::<Option<String>>(&rt, alloc, "an option", IN_SOME);
+}
+
+#[test]
+fn refusals_of_tuples(rt: HostRuntime) {
+    let alloc = rt.alloc();
+    refused::<(String, u8)>(&rt, alloc, "a pair", AT_FIRST);
+    refused::<(u8, String)>(&rt, alloc, "a pair", AT_SECOND);
+    refused::<(u8, u8, String)>(&rt, alloc, "three", AT_THIRD);
+    refused::<(u8, u8, u8, String)>(&rt, alloc, "four", AT_FOURTH);
 }
 
 /// The fault as the key of an entry, behind the count of one.

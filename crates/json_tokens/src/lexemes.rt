@@ -1,21 +1,19 @@
 // How a reader's state takes the next token: white space, and one lexeme.
-ghost use Rattle.std.specs.Prelude.{◌≡◌, ◌≢◌, ◌<◌, ℕ, List, OnOk, OnErr, IfErr, Some, None, length, false};
-ghost use Rattle.std.specs.Prelude.{IfSome};
-ghost use Rattle.std.specs.Prelude.{string_bytes, string_capacity};
+ghost use Rattle.std.specs.Prelude.{◌≡◌, ◌≢◌, ℕ, List, OnOk, IfErr, IfSome, Some, None, false};
 ghost use Rattle.std.specs.Option.{option_map};
-ghost use Rattle.nano_text.specs.Front.{front, behind};
+ghost use Rattle.nano_text.specs.Front.{behind};
 ghost use Rattle.nano_text.specs.Place.{live};
-ghost use Rattle.json_tokens.specs.Cut.{is_space, is_word, starts_number, Cut, IsLexeme, IsRunOf};
+ghost use Rattle.json_tokens.specs.Cut.{is_space, starts_number, Cut, IsLexeme, IsRunOf};
 ghost use Rattle.json_tokens.specs.Cut.{IsQuoted};
 ghost use Rattle.json_tokens.specs.Outcomes.{NothingCut, NoRoom, Counts};
-ghost use Rattle.json_tokens.specs.Scan.{mark_of, word_token, NoneLexeme, NoneRunOf, NoneQuoted};
+ghost use Rattle.json_tokens.specs.Scan.{mark_of, NoneLexeme, NoneRunOf, NoneQuoted};
 ghost use Rattle.json_tokens.specs.Scan.{NoRoomForLexeme, NoRoomForRun, NoRoomForQuoted};
 ghost use Rattle.json_tokens.specs.State.{token_of, pending, KeepsOtherBuffers};
 
 use crate::state::DeJsonState;
 use crate::token::DeJsonTok;
+use crate::words::is_word;
 use nano_text::{Fault, Number, read_number, read_string};
-use std::alloc::AllocError;
 use std::str::Chars;
 
 /// Why no token was taken. The message is made where the caller is told, so that what reads many
@@ -216,59 +214,6 @@ impl DeJsonState {
             },
         }
     }
-
-    /// Takes the word that begins here.
-    fn take_word(&mut self, i: &mut Chars<'_>) -> Result<(), Refusal>
-        ensures taken { OnOk result (
-            (word_token (front is_word (live self.old.cur i.old)) ≡ Some (pending self.new))
-            × (live self.new.cur i.new ≡ behind is_word (live self.old.cur i.old))) }
-        ensures place { OnOk result (Counts self.old i.old self.new i.new) }
-        ensures strbuf { self.new.strbuf ≡ self.old.strbuf }
-        ensures numbuf { self.new.numbuf ≡ self.old.numbuf }
-        ensures refused { IfErr result (λ r. r ≢ Refusal.Memory
-            → word_token (front is_word (live self.old.cur i.old)) ≡ None) }
-        ensures room { IfErr result (λ r. r ≡ Refusal.Memory
-            → string_capacity self.old.identbuf
-            < length (front is_word (live self.old.cur i.old))) }
-    {
-        if self.gather_word(i).is_err() {
-            return Err(Refusal::Memory);
-        }
-        let word = self.identbuf.as_str();
-        if word == "true" {
-            self.tok = DeJsonTok::Bool(true);
-            return Ok(());
-        }
-        if word == "false" {
-            self.tok = DeJsonTok::Bool(false);
-            return Ok(());
-        }
-        if word == "null" {
-            self.tok = DeJsonTok::Null;
-            return Ok(());
-        }
-        Err(Refusal::Word)
-    }
-
-    /// Gathers the word that begins here in `identbuf`.
-    fn gather_word(&mut self, i: &mut Chars<'_>) -> Result<(), AllocError>
-        ensures live { OnOk result
-            (live self.new.cur i.new ≡ behind is_word (live self.old.cur i.old)) }
-        ensures place { Counts self.old i.old self.new i.new }
-        ensures gathered { OnOk result
-            (string_bytes self.new.identbuf ≡ front is_word (live self.old.cur i.old)) }
-        ensures strbuf { self.new.strbuf ≡ self.old.strbuf }
-        ensures numbuf { self.new.numbuf ≡ self.old.numbuf }
-        ensures full { OnErr result (string_capacity self.old.identbuf
-            < length (front is_word (live self.old.cur i.old))) }
-    {
-        self.identbuf.clear();
-        'word: while is_word(self.cur) {
-            self.identbuf.push(self.cur)?;
-            self.next(i);
-        }
-        Ok(())
-    }
 }
 
 #[inline]
@@ -276,13 +221,6 @@ fn is_space(c: char) -> bool
     ensures { result ≡ is_space c }
 {
     c == '\n' || c == '\r' || c == '\t' || c == ' '
-}
-
-#[inline]
-fn is_word(c: char) -> bool
-    ensures { result ≡ is_word c }
-{
-    c.is_ascii_uppercase() || c.is_ascii_lowercase() || c == '_'
 }
 
 #[inline]

@@ -14,6 +14,7 @@ mod strings;
 mod token;
 mod undo;
 mod values;
+mod words;
 mod write_state;
 
 pub use error::DeJsonErr;
