@@ -6,9 +6,9 @@ ghost use Rattle.described.specs.Names.{Description};
 use crate::choices::{BorrowedChoices, Choices};
 
 /// An own enum, by its variants.
-pub trait Choice: Drop {
+pub trait Choice {
     /// The variants.
-    type Variants: Choices + Drop;
+    type Variants: Choices;
 
     /// The variants' names, each with those of its content, and how an enum is seen as the content
     /// of the variant that it is.

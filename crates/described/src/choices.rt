@@ -72,7 +72,7 @@ pub enum Either<A, B> {
 /// One variant, or one and more.
 pub trait Choices {
     /// The content of one of them.
-    type Values: Drop;
+    type Values;
 
     /// The names of the variants, each with those of its content.
     ghost names_of: { Self → Names };

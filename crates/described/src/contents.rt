@@ -59,7 +59,7 @@ impl<'a> Borrowed<'a> for Alone {
     fn known(_refs: &()) {}
 }
 
-impl<T: Value + Drop> Shape for OnePart<T> {
+impl<T: Value> Shape for OnePart<T> {
     type Values = T;
 
     ghost names_of = { λ f. name [] };
@@ -69,7 +69,7 @@ impl<T: Value + Drop> Shape for OnePart<T> {
     ghost legal = { T.legal };
 }
 
-impl<'a, T: Value + Drop + 'a> Borrowed<'a> for OnePart<T> {
+impl<'a, T: Value + 'a> Borrowed<'a> for OnePart<T> {
     type Refs = &'a T;
 
     ghost values = { λ r. r.now };
@@ -79,7 +79,7 @@ impl<'a, T: Value + Drop + 'a> Borrowed<'a> for OnePart<T> {
     }
 }
 
-impl<P: Value + Drop> Shape for Tupled<P> {
+impl<P: Value> Shape for Tupled<P> {
     type Values = P;
 
     ghost names_of = { λ f. name [] };
@@ -89,7 +89,7 @@ impl<P: Value + Drop> Shape for Tupled<P> {
     ghost legal = { P.legal };
 }
 
-impl<'a, A: Value + Drop + 'a, B: Value + Drop + 'a> Borrowed<'a> for Tupled<(A, B)> {
+impl<'a, A: Value + 'a, B: Value + 'a> Borrowed<'a> for Tupled<(A, B)> {
     type Refs = (&'a A, &'a B);
 
     ghost values = { λ r. (r.0.now, r.1.now) };
@@ -101,8 +101,7 @@ impl<'a, A: Value + Drop + 'a, B: Value + Drop + 'a> Borrowed<'a> for Tupled<(A,
     }
 }
 
-impl<'a, A: Value + Drop + 'a, B: Value + Drop + 'a, C: Value + Drop + 'a> Borrowed<'a>
-    for Tupled<(A, B, C)> {
+impl<'a, A: Value + 'a, B: Value + 'a, C: Value + 'a> Borrowed<'a> for Tupled<(A, B, C)> {
     type Refs = (&'a A, &'a B, &'a C);
 
     ghost values = { λ r. (r.0.now, r.1.now, r.2.now) };
@@ -115,13 +114,8 @@ impl<'a, A: Value + Drop + 'a, B: Value + Drop + 'a, C: Value + Drop + 'a> Borro
     }
 }
 
-impl<
-    'a,
-    A: Value + Drop + 'a,
-    B: Value + Drop + 'a,
-    C: Value + Drop + 'a,
-    D: Value + Drop + 'a,
-> Borrowed<'a> for Tupled<(A, B, C, D)> {
+impl<'a, A: Value + 'a, B: Value + 'a, C: Value + 'a, D: Value + 'a> Borrowed<'a>
+    for Tupled<(A, B, C, D)> {
     type Refs = (&'a A, &'a B, &'a C, &'a D);
 
     ghost values = { λ r. (r.0.now, r.1.now, r.2.now, r.3.now) };

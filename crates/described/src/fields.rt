@@ -29,7 +29,7 @@ pub struct Optional<T> {
 /// One field, or fields and more fields.
 pub trait Shape {
     /// The values of the fields.
-    type Values: Drop;
+    type Values;
 
     /// The fields' names.
     ghost names_of: { Self → Names };
@@ -74,7 +74,7 @@ pub trait Borrowed<'a>: Shape {
         ensures { Self.legal (Self.means (values refs.now)) };
 }
 
-impl<T: Value + Drop> Shape for Required<T> {
+impl<T: Value> Shape for Required<T> {
     type Values = T;
 
     ghost names_of = { λ f. name f.name.now };
@@ -84,7 +84,7 @@ impl<T: Value + Drop> Shape for Required<T> {
     ghost legal = { T.legal };
 }
 
-impl<T: Value + Drop> FromNames for Required<T> {
+impl<T: Value> FromNames for Required<T> {
     type Texts = &'static str;
 
     ghost names_in = { λ t. name t.now };
@@ -97,7 +97,7 @@ impl<T: Value + Drop> FromNames for Required<T> {
     }
 }
 
-impl<'a, T: Value + Drop + 'a> Borrowed<'a> for Required<T> {
+impl<'a, T: Value + 'a> Borrowed<'a> for Required<T> {
     type Refs = &'a T;
 
     ghost values = { λ r. r.now };
@@ -107,7 +107,7 @@ impl<'a, T: Value + Drop + 'a> Borrowed<'a> for Required<T> {
     }
 }
 
-impl<T: Value + Drop> Shape for Optional<T> {
+impl<T: Value> Shape for Optional<T> {
     type Values = Option<T>;
 
     ghost names_of = { λ f. name f.name.now };
@@ -117,7 +117,7 @@ impl<T: Value + Drop> Shape for Optional<T> {
     ghost legal = { LegalOption T.legal };
 }
 
-impl<T: Value + Drop> FromNames for Optional<T> {
+impl<T: Value> FromNames for Optional<T> {
     type Texts = &'static str;
 
     ghost names_in = { λ t. name t.now };
@@ -130,7 +130,7 @@ impl<T: Value + Drop> FromNames for Optional<T> {
     }
 }
 
-impl<'a, T: Value + Drop + 'a> Borrowed<'a> for Optional<T> {
+impl<'a, T: Value + 'a> Borrowed<'a> for Optional<T> {
     type Refs = &'a Option<T>;
 
     ghost values = { λ r. r.now };

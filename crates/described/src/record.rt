@@ -5,9 +5,9 @@ ghost use Rattle.described.specs.Names.{Description};
 use crate::fields::{Borrowed, Shape};
 
 /// An own struct, by its fields.
-pub trait Record: Drop {
+pub trait Record {
     /// The fields.
-    type Fields: Shape + Drop;
+    type Fields: Shape;
 
     /// The fields' names, and how a struct is seen as their values.
     ghost told: { Description Self Self.Fields.Values };

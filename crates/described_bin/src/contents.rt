@@ -22,7 +22,7 @@ impl<'a> BinRefs<'a> for Alone {
     }
 }
 
-impl<T: BinFormat + Drop> BinShape for OnePart<T> {
+impl<T: BinFormat> BinShape for OnePart<T> {
     ghost format = { T.bin };
 }
 
@@ -32,13 +32,13 @@ impl<T: DeBin> BinFields for OnePart<T> {
     }
 }
 
-impl<'a, T: SerBin + Drop + 'a> BinRefs<'a> for OnePart<T> {
+impl<'a, T: SerBin + 'a> BinRefs<'a> for OnePart<T> {
     fn write(refs: &&'a T, alloc: Global, output: &mut Vec<u8>) -> Result<(), AllocError> {
         refs.ser_bin(alloc, output)
     }
 }
 
-impl<P: BinFormat + Drop> BinShape for Tupled<P> {
+impl<P: BinFormat> BinShape for Tupled<P> {
     ghost format = { P.bin };
 }
 
@@ -48,7 +48,7 @@ impl<P: DeBin> BinFields for Tupled<P> {
     }
 }
 
-impl<'a, A: SerBin + Drop + 'a, B: SerBin + Drop + 'a> BinRefs<'a> for Tupled<(A, B)> {
+impl<'a, A: SerBin + 'a, B: SerBin + 'a> BinRefs<'a> for Tupled<(A, B)> {
     fn write(refs: &(&'a A, &'a B), alloc: Global, output: &mut Vec<u8>) -> Result<(), AllocError> {
         let start = output.len();
         refs.0.ser_bin(alloc, output)?;
@@ -56,8 +56,7 @@ impl<'a, A: SerBin + Drop + 'a, B: SerBin + Drop + 'a> BinRefs<'a> for Tupled<(A
     }
 }
 
-impl<'a, A: SerBin + Drop + 'a, B: SerBin + Drop + 'a, C: SerBin + Drop + 'a> BinRefs<'a>
-    for Tupled<(A, B, C)> {
+impl<'a, A: SerBin + 'a, B: SerBin + 'a, C: SerBin + 'a> BinRefs<'a> for Tupled<(A, B, C)> {
     fn write(
         refs: &(&'a A, &'a B, &'a C),
         alloc: Global,
@@ -70,13 +69,8 @@ impl<'a, A: SerBin + Drop + 'a, B: SerBin + Drop + 'a, C: SerBin + Drop + 'a> Bi
     }
 }
 
-impl<
-    'a,
-    A: SerBin + Drop + 'a,
-    B: SerBin + Drop + 'a,
-    C: SerBin + Drop + 'a,
-    D: SerBin + Drop + 'a,
-> BinRefs<'a> for Tupled<(A, B, C, D)> {
+impl<'a, A: SerBin + 'a, B: SerBin + 'a, C: SerBin + 'a, D: SerBin + 'a> BinRefs<'a>
+    for Tupled<(A, B, C, D)> {
     fn write(
         refs: &(&'a A, &'a B, &'a C, &'a D),
         alloc: Global,

@@ -40,7 +40,7 @@ pub trait BinRefs<'a>: BinShape + Borrowed<'a> {
         ensures err { OnErr result (output.new.items ≡ output.old.items) };
 }
 
-impl<T: BinFormat + Drop> BinShape for Required<T> {
+impl<T: BinFormat> BinShape for Required<T> {
     ghost format = { T.bin };
 }
 
@@ -50,13 +50,13 @@ impl<T: DeBin> BinFields for Required<T> {
     }
 }
 
-impl<'a, T: SerBin + Drop + 'a> BinRefs<'a> for Required<T> {
+impl<'a, T: SerBin + 'a> BinRefs<'a> for Required<T> {
     fn write(refs: &&'a T, alloc: Global, output: &mut Vec<u8>) -> Result<(), AllocError> {
         refs.ser_bin(alloc, output)
     }
 }
 
-impl<T: BinFormat + Drop> BinShape for Optional<T> {
+impl<T: BinFormat> BinShape for Optional<T> {
     ghost format = { option_format T.bin };
 }
 
@@ -66,7 +66,7 @@ impl<T: DeBin> BinFields for Optional<T> {
     }
 }
 
-impl<'a, T: SerBin + Drop + 'a> BinRefs<'a> for Optional<T> {
+impl<'a, T: SerBin + 'a> BinRefs<'a> for Optional<T> {
     fn write(refs: &&'a Option<T>, alloc: Global, output: &mut Vec<u8>) -> Result<(), AllocError> {
         refs.ser_bin(alloc, output)
     }
@@ -76,7 +76,10 @@ impl<A: BinShape, B: BinShape> BinShape for (A, B) {
     ghost format = { pair_format A.format B.format };
 }
 
-impl<A: BinFields, B: BinFields> BinFields for (A, B) {
+impl<A: BinFields, B: BinFields> BinFields for (A, B)
+where
+    A::Values: Drop,
+{
     fn read(
         alloc: Global,
         offset: &mut usize,

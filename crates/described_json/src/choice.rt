@@ -25,7 +25,7 @@ pub fn read_choice_json<E: Choice>(
     input: &mut Chars<'_>,
 ) -> Result<E, DeJsonErr>
 where
-    E::Variants: JsonChoices,
+    E::Variants: JsonChoices + Drop,
     ensures fits { Reads (SpellsVariant json_variants (E.Variants.format E.told.the_names).spelled)
         (λ value. E.Variants.Choices.means 0 (E.told.view value))
         (at state.old input.old) (at state.new input.new) result }
@@ -49,7 +49,7 @@ pub fn write_choice_json<'a, E: ChoiceParts<'a>>(
     s: &mut SerJsonState,
 ) -> Result<(), AllocError>
 where
-    E::Variants: JsonChoiceRefs<'a>,
+    E::Variants: JsonChoiceRefs<'a> + Drop,
     ensures ok { OnOk result (Appends s.old.out s.new.out
         ((E.Variants.format E.told.the_names).text d (E.told.view value.now))) }
     ensures err { OnErr result (Stays s.old.out s.new.out) }

@@ -50,7 +50,7 @@ pub trait JsonChoices: JsonShapes {
 /// Variants that are written as JSON.
 pub trait JsonChoiceRefs<'a>: JsonShapes + BorrowedChoices<'a> {
     /// What is written of the content of one of them: its parts by reference.
-    type Parts: Drop;
+    type Parts;
 
     /// Appends the variant with its content at level `d`. A refused write leaves `s.out` as it was.
     fn write(

@@ -54,7 +54,7 @@ pub trait ReadContent: JsonContent {
 /// The content of a variant that is written as JSON.
 pub trait WriteContent<'a>: JsonContent + Borrowed<'a> {
     /// What is written of it: its parts by reference, with their names where they have names.
-    type Parts: Drop;
+    type Parts;
 
     /// Appends the variant of this name with the content at level `d`. A refused write leaves
     /// `s.out` as it was.
@@ -109,7 +109,7 @@ impl<'a> WriteContent<'a> for Alone {
 
 // ---- one part
 
-impl<T: JsonFormat + Drop> JsonContent for OnePart<T> {
+impl<T: JsonFormat> JsonContent for OnePart<T> {
     ghost content = { λ n. content_as (single_format T.json) };
 }
 
@@ -131,8 +131,8 @@ impl<T: DeJson> ReadContent for OnePart<T> {
     }
 }
 
-impl<'a, T: SerJson + Drop + 'a> WriteContent<'a> for OnePart<T> {
-    type Parts = Part<'a, T>;
+impl<'a, T: SerJson + 'a> WriteContent<'a> for OnePart<T> {
+    type Parts = ();
 
     fn write(
         &self,
@@ -155,7 +155,11 @@ impl<A: JsonShape, B: JsonShape> JsonContent for (A, B) {
     ghost content = { λ n. fields_content (⟦<(A, B) as JsonShape>⟧.format n) };
 }
 
-impl<A: Fields, B: Fields> ReadContent for (A, B) {
+impl<A: Fields, B: Fields> ReadContent for (A, B)
+where
+    A::Values: Drop,
+    B::Values: Drop,
+{
     fn stands_alone(&self) -> bool {
         false
     }
@@ -181,7 +185,24 @@ impl<'a, A: JsonRefs<'a>, B: JsonRefs<'a>> WriteContent<'a> for (A, B) {
         d: usize,
         s: &mut SerJsonState,
     ) -> Result<(), AllocError> {
-        let parts = self.parts(refs);
-        write_fields_variant(alloc, name, &parts, d, s)
+        write_named_fields(self, name, refs, alloc, d, s)
     }
+}
+
+/// Appends a variant of this name whose content is named fields at level `d`. A refused write leaves
+/// `s.out` as it was.
+pub(crate) fn write_named_fields<'a, F: JsonRefs<'a>>(
+    fields: &F,
+    name: &str,
+    refs: F::Refs,
+    alloc: Global,
+    d: usize,
+    s: &mut SerJsonState,
+) -> Result<(), AllocError>
+    ensures ok { OnOk result (Appends s.old.out s.new.out
+        ((fields_content (F.format (F.names_of fields.now))).text name.now d (F.values refs))) }
+    ensures err { OnErr result (Stays s.old.out s.new.out) }
+{
+    let parts = fields.parts(refs);
+    write_fields_variant(alloc, name, &parts, d, s)
 }

@@ -16,7 +16,7 @@ pub trait JsonRefs<'a>: JsonShape + Borrowed<'a> {
             ≡ (Self.format (Self.names_of self.now)).writing.fields (Self.values refs) };
 }
 
-impl<'a, T: SerJson + Drop + 'a> JsonRefs<'a> for Required<T> {
+impl<'a, T: SerJson + 'a> JsonRefs<'a> for Required<T> {
     type Parts = RequiredPart<'a, T>;
 
     fn parts(&self, refs: &'a T) -> RequiredPart<'a, T> {
@@ -27,7 +27,7 @@ impl<'a, T: SerJson + Drop + 'a> JsonRefs<'a> for Required<T> {
     }
 }
 
-impl<'a, T: SerJson + Drop + 'a> JsonRefs<'a> for Optional<T> {
+impl<'a, T: SerJson + 'a> JsonRefs<'a> for Optional<T> {
     type Parts = OptionalPart<'a, T>;
 
     fn parts(&self, refs: &'a Option<T>) -> OptionalPart<'a, T> {

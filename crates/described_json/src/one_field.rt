@@ -1,17 +1,14 @@
 // A variant with one named field, in JSON.
 ghost use Rattle.described_json.specs.Contents.{fields_content};
 
-use crate::contents::{JsonContent, ReadContent, WriteContent};
-use crate::fields::JsonRefs;
+use crate::contents::{JsonContent, ReadContent, WriteContent, write_named_fields};
 use described::{Optional, Required};
-use json_records::{
-    JsonShape, OptionalPart, RequiredPart, read_fields_content, write_fields_variant,
-};
+use json_records::{JsonShape, OptionalPart, RequiredPart, read_fields_content};
 use nano_json::{DeJson, DeJsonErr, DeJsonState, JsonFormat, SerJson, SerJsonState};
 use std::alloc::{AllocError, Global};
 use std::str::Chars;
 
-impl<T: JsonFormat + Drop> JsonContent for Required<T> {
+impl<T: JsonFormat> JsonContent for Required<T> {
     ghost content = { λ n. fields_content (⟦<Required<T> as JsonShape>⟧.format n) };
 }
 
@@ -30,7 +27,7 @@ impl<T: DeJson> ReadContent for Required<T> {
     }
 }
 
-impl<'a, T: SerJson + Drop + 'a> WriteContent<'a> for Required<T> {
+impl<'a, T: SerJson + 'a> WriteContent<'a> for Required<T> {
     type Parts = RequiredPart<'a, T>;
 
     fn write(
@@ -41,12 +38,11 @@ impl<'a, T: SerJson + Drop + 'a> WriteContent<'a> for Required<T> {
         d: usize,
         s: &mut SerJsonState,
     ) -> Result<(), AllocError> {
-        let part = self.parts(refs);
-        write_fields_variant(alloc, name, &part, d, s)
+        write_named_fields(self, name, refs, alloc, d, s)
     }
 }
 
-impl<T: JsonFormat + Drop> JsonContent for Optional<T> {
+impl<T: JsonFormat> JsonContent for Optional<T> {
     ghost content = { λ n. fields_content (⟦<Optional<T> as JsonShape>⟧.format n) };
 }
 
@@ -65,7 +61,7 @@ impl<T: DeJson> ReadContent for Optional<T> {
     }
 }
 
-impl<'a, T: SerJson + Drop + 'a> WriteContent<'a> for Optional<T> {
+impl<'a, T: SerJson + 'a> WriteContent<'a> for Optional<T> {
     type Parts = OptionalPart<'a, T>;
 
     fn write(
@@ -76,7 +72,6 @@ impl<'a, T: SerJson + Drop + 'a> WriteContent<'a> for Optional<T> {
         d: usize,
         s: &mut SerJsonState,
     ) -> Result<(), AllocError> {
-        let part = self.parts(refs);
-        write_fields_variant(alloc, name, &part, d, s)
+        write_named_fields(self, name, refs, alloc, d, s)
     }
 }

@@ -8,7 +8,7 @@ use nano_json::{DeJson, DeJsonErr, DeJsonState, JsonFormat, SerJson, SerJsonStat
 use std::alloc::{AllocError, Global};
 use std::str::Chars;
 
-impl<P: JsonFormat + Drop> JsonContent for Tupled<P> {
+impl<P: JsonFormat> JsonContent for Tupled<P> {
     ghost content = { λ n. content_as P.json };
 }
 
@@ -27,8 +27,8 @@ impl<P: DeJson> ReadContent for Tupled<P> {
     }
 }
 
-impl<'a, A: SerJson + Drop + 'a, B: SerJson + Drop + 'a> WriteContent<'a> for Tupled<(A, B)> {
-    type Parts = (Part<'a, A>, Part<'a, B>);
+impl<'a, A: SerJson + 'a, B: SerJson + 'a> WriteContent<'a> for Tupled<(A, B)> {
+    type Parts = ();
 
     fn write(
         &self,
@@ -43,9 +43,8 @@ impl<'a, A: SerJson + Drop + 'a, B: SerJson + Drop + 'a> WriteContent<'a> for Tu
     }
 }
 
-impl<'a, A: SerJson + Drop + 'a, B: SerJson + Drop + 'a, C: SerJson + Drop + 'a> WriteContent<'a>
-    for Tupled<(A, B, C)> {
-    type Parts = (Part<'a, A>, Part<'a, B>, Part<'a, C>);
+impl<'a, A: SerJson + 'a, B: SerJson + 'a, C: SerJson + 'a> WriteContent<'a> for Tupled<(A, B, C)> {
+    type Parts = ();
 
     fn write(
         &self,
@@ -64,14 +63,9 @@ impl<'a, A: SerJson + Drop + 'a, B: SerJson + Drop + 'a, C: SerJson + Drop + 'a>
     }
 }
 
-impl<
-    'a,
-    A: SerJson + Drop + 'a,
-    B: SerJson + Drop + 'a,
-    C: SerJson + Drop + 'a,
-    D: SerJson + Drop + 'a,
-> WriteContent<'a> for Tupled<(A, B, C, D)> {
-    type Parts = (Part<'a, A>, Part<'a, B>, Part<'a, C>, Part<'a, D>);
+impl<'a, A: SerJson + 'a, B: SerJson + 'a, C: SerJson + 'a, D: SerJson + 'a> WriteContent<'a>
+    for Tupled<(A, B, C, D)> {
+    type Parts = ();
 
     fn write(
         &self,

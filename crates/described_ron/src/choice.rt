@@ -25,7 +25,7 @@ pub fn read_choice_ron<E: Choice>(
     input: &mut Chars<'_>,
 ) -> Result<E, DeRonErr>
 where
-    E::Variants: RonChoices,
+    E::Variants: RonChoices + Drop,
     ensures fits { Reads (SpellsVariant ron_variants (E.Variants.format E.told.the_names).spelled)
         (λ value. E.Variants.Choices.means 0 (E.told.view value))
         (at state.old input.old) (at state.new input.new) result }
@@ -50,7 +50,7 @@ pub fn write_choice_ron<'a, E: ChoiceParts<'a>>(
     s: &mut SerRonState,
 ) -> Result<(), AllocError>
 where
-    E::Variants: RonChoiceRefs<'a>,
+    E::Variants: RonChoiceRefs<'a> + Drop,
     ensures ok { OnOk result (Appends s.old.out s.new.out
         ((E.Variants.format E.told.the_names).text d (E.told.view value.now))) }
     ensures err { OnErr result (Stays s.old.out s.new.out) }

@@ -54,7 +54,7 @@ pub trait RonChoices: RonShapes {
 /// Variants that are written as RON.
 pub trait RonChoiceRefs<'a>: RonShapes + BorrowedChoices<'a> {
     /// What is written of the content of one of them: its parts by reference.
-    type Parts: Drop;
+    type Parts;
 
     /// Appends the variant with its content at level `d`. A refused write leaves `s.out` as it was.
     fn write(

@@ -49,7 +49,7 @@ pub trait ReadContent: RonContent {
 /// The content of a variant that is written as RON.
 pub trait WriteContent<'a>: RonContent + Borrowed<'a> {
     /// What is written of it: its parts by reference, with their names where they have names.
-    type Parts: Drop;
+    type Parts;
 
     /// Appends the variant of this name with the content at level `d`. A refused write leaves
     /// `s.out` as it was.
@@ -108,7 +108,11 @@ impl<A: RonShape, B: RonShape> RonContent for (A, B) {
     ghost content = { λ n. fields_content (⟦<(A, B) as RonShape>⟧.format n) };
 }
 
-impl<A: Fields, B: Fields> ReadContent for (A, B) {
+impl<A: Fields, B: Fields> ReadContent for (A, B)
+where
+    A::Values: Drop,
+    B::Values: Drop,
+{
     fn stands_alone(&self) -> bool {
         false
     }
@@ -134,8 +138,7 @@ impl<'a, A: RonRefs<'a>, B: RonRefs<'a>> WriteContent<'a> for (A, B) {
         d: usize,
         s: &mut SerRonState,
     ) -> Result<(), AllocError> {
-        let parts = self.parts(refs);
-        write_fields_variant(alloc, name, &parts, d, s)
+        write_named_fields(self, name, refs, alloc, d, s)
     }
 }
 
@@ -155,4 +158,22 @@ pub(crate) fn read_named_fields<F: Fields>(
     ensures ended { OnErr result (at state.new input.new ≡ ended) }
 {
     read_fields(fields, alloc, state, input)
+}
+
+/// Appends a variant of this name whose content is named fields at level `d`. A refused write leaves
+/// `s.out` as it was.
+pub(crate) fn write_named_fields<'a, F: RonRefs<'a>>(
+    fields: &F,
+    name: &str,
+    refs: F::Refs,
+    alloc: Global,
+    d: usize,
+    s: &mut SerRonState,
+) -> Result<(), AllocError>
+    ensures ok { OnOk result (Appends s.old.out s.new.out
+        ((fields_content (F.format (F.names_of fields.now))).text name.now d (F.values refs))) }
+    ensures err { OnErr result (Stays s.old.out s.new.out) }
+{
+    let parts = fields.parts(refs);
+    write_fields_variant(alloc, name, &parts, d, s)
 }

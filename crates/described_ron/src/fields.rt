@@ -16,7 +16,7 @@ pub trait RonRefs<'a>: RonShape + Borrowed<'a> {
             ≡ (Self.format (Self.names_of self.now)).writing.fields (Self.values refs) };
 }
 
-impl<'a, T: SerRon + Drop + 'a> RonRefs<'a> for Required<T> {
+impl<'a, T: SerRon + 'a> RonRefs<'a> for Required<T> {
     type Parts = RequiredPart<'a, T>;
 
     fn parts(&self, refs: &'a T) -> RequiredPart<'a, T> {
@@ -27,7 +27,7 @@ impl<'a, T: SerRon + Drop + 'a> RonRefs<'a> for Required<T> {
     }
 }
 
-impl<'a, T: SerRon + Drop + 'a> RonRefs<'a> for Optional<T> {
+impl<'a, T: SerRon + 'a> RonRefs<'a> for Optional<T> {
     type Parts = OptionalPart<'a, T>;
 
     fn parts(&self, refs: &'a Option<T>) -> OptionalPart<'a, T> {

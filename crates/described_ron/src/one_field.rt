@@ -1,15 +1,16 @@
 // A variant with one named field, in RON.
 ghost use Rattle.described_ron.specs.Contents.{fields_content};
 
-use crate::contents::{ReadContent, RonContent, WriteContent, read_named_fields};
-use crate::fields::RonRefs;
+use crate::contents::{
+    ReadContent, RonContent, WriteContent, read_named_fields, write_named_fields,
+};
 use described::{Optional, Required};
 use nano_ron::{DeRon, DeRonErr, DeRonState, RonFormat, SerRon, SerRonState};
-use ron_records::{OptionalPart, RequiredPart, RonShape, write_fields_variant};
+use ron_records::{OptionalPart, RequiredPart, RonShape};
 use std::alloc::{AllocError, Global};
 use std::str::Chars;
 
-impl<T: RonFormat + Drop> RonContent for Required<T> {
+impl<T: RonFormat> RonContent for Required<T> {
     ghost content = { λ n. fields_content (⟦<Required<T> as RonShape>⟧.format n) };
 }
 
@@ -28,7 +29,7 @@ impl<T: DeRon> ReadContent for Required<T> {
     }
 }
 
-impl<'a, T: SerRon + Drop + 'a> WriteContent<'a> for Required<T> {
+impl<'a, T: SerRon + 'a> WriteContent<'a> for Required<T> {
     type Parts = RequiredPart<'a, T>;
 
     fn write(
@@ -39,12 +40,11 @@ impl<'a, T: SerRon + Drop + 'a> WriteContent<'a> for Required<T> {
         d: usize,
         s: &mut SerRonState,
     ) -> Result<(), AllocError> {
-        let part = self.parts(refs);
-        write_fields_variant(alloc, name, &part, d, s)
+        write_named_fields(self, name, refs, alloc, d, s)
     }
 }
 
-impl<T: RonFormat + Drop> RonContent for Optional<T> {
+impl<T: RonFormat> RonContent for Optional<T> {
     ghost content = { λ n. fields_content (⟦<Optional<T> as RonShape>⟧.format n) };
 }
 
@@ -63,7 +63,7 @@ impl<T: DeRon> ReadContent for Optional<T> {
     }
 }
 
-impl<'a, T: SerRon + Drop + 'a> WriteContent<'a> for Optional<T> {
+impl<'a, T: SerRon + 'a> WriteContent<'a> for Optional<T> {
     type Parts = OptionalPart<'a, T>;
 
     fn write(
@@ -74,7 +74,6 @@ impl<'a, T: SerRon + Drop + 'a> WriteContent<'a> for Optional<T> {
         d: usize,
         s: &mut SerRonState,
     ) -> Result<(), AllocError> {
-        let part = self.parts(refs);
-        write_fields_variant(alloc, name, &part, d, s)
+        write_named_fields(self, name, refs, alloc, d, s)
     }
 }

@@ -17,7 +17,7 @@ use ron_records::write_unit_variant;
 use std::alloc::{AllocError, Global};
 use std::str::Chars;
 
-impl<T: RonFormat + Drop> RonContent for OnePart<T> {
+impl<T: RonFormat> RonContent for OnePart<T> {
     ghost content = { λ n. content_as (single_format T.ron) (λ x d. refl) };
 }
 
@@ -36,8 +36,8 @@ impl<T: DeRon> ReadContent for OnePart<T> {
     }
 }
 
-impl<'a, T: SerRon + Drop + 'a> WriteContent<'a> for OnePart<T> {
-    type Parts = &'a T;
+impl<'a, T: SerRon + 'a> WriteContent<'a> for OnePart<T> {
+    type Parts = ();
 
     fn write(
         &self,

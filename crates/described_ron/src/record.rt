@@ -24,7 +24,7 @@ pub fn read_record_ron<R: Record>(
     input: &mut Chars<'_>,
 ) -> Result<R, DeRonErr>
 where
-    R::Fields: Fields,
+    R::Fields: Fields + Drop,
     ensures fits { Reads (fields_of (R.Fields.format R.told.the_names).struct).spelled
         (λ value. R.Fields.Shape.means (R.told.view value))
         (at state.old input.old) (at state.new input.new) result }
@@ -47,7 +47,7 @@ pub fn write_record_ron<'a, R: Parts<'a>>(
     s: &mut SerRonState,
 ) -> Result<(), AllocError>
 where
-    R::Fields: RonRefs<'a>,
+    R::Fields: RonRefs<'a> + Drop,
     ensures ok { OnOk result (Appends s.old.out s.new.out (fields_text ron_fields d
         ((R.Fields.format R.told.the_names).writing.fields (R.told.view value.now)))) }
     ensures err { OnErr result (Stays s.old.out s.new.out) }

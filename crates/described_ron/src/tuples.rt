@@ -33,7 +33,7 @@ fn read_content<T: DeRon>(
 
 // ---- two parts
 
-impl<A: RonFormat + Drop, B: RonFormat + Drop> RonContent for Tupled<(A, B)> {
+impl<A: RonFormat, B: RonFormat> RonContent for Tupled<(A, B)> {
     ghost content = { λ n. content_as (pair_format A.ron B.ron) (λ x d. refl) };
 }
 
@@ -52,8 +52,8 @@ impl<A: DeRon, B: DeRon> ReadContent for Tupled<(A, B)> {
     }
 }
 
-impl<'a, A: SerRon + Drop + 'a, B: SerRon + Drop + 'a> WriteContent<'a> for Tupled<(A, B)> {
-    type Parts = (Part<'a, A>, Part<'a, B>);
+impl<'a, A: SerRon + 'a, B: SerRon + 'a> WriteContent<'a> for Tupled<(A, B)> {
+    type Parts = ();
 
     fn write(
         &self,
@@ -70,8 +70,7 @@ impl<'a, A: SerRon + Drop + 'a, B: SerRon + Drop + 'a> WriteContent<'a> for Tupl
 
 // ---- three parts
 
-impl<A: RonFormat + Drop, B: RonFormat + Drop, C: RonFormat + Drop> RonContent
-    for Tupled<(A, B, C)> {
+impl<A: RonFormat, B: RonFormat, C: RonFormat> RonContent for Tupled<(A, B, C)> {
     ghost content = { λ n. content_as (triple_format A.ron B.ron C.ron) (λ x d. refl) };
 }
 
@@ -90,9 +89,8 @@ impl<A: DeRon, B: DeRon, C: DeRon> ReadContent for Tupled<(A, B, C)> {
     }
 }
 
-impl<'a, A: SerRon + Drop + 'a, B: SerRon + Drop + 'a, C: SerRon + Drop + 'a> WriteContent<'a>
-    for Tupled<(A, B, C)> {
-    type Parts = (Part<'a, A>, Part<'a, B>, Part<'a, C>);
+impl<'a, A: SerRon + 'a, B: SerRon + 'a, C: SerRon + 'a> WriteContent<'a> for Tupled<(A, B, C)> {
+    type Parts = ();
 
     fn write(
         &self,
@@ -113,8 +111,7 @@ impl<'a, A: SerRon + Drop + 'a, B: SerRon + Drop + 'a, C: SerRon + Drop + 'a> Wr
 
 // ---- four parts
 
-impl<A: RonFormat + Drop, B: RonFormat + Drop, C: RonFormat + Drop, D: RonFormat + Drop> RonContent
-    for Tupled<(A, B, C, D)> {
+impl<A: RonFormat, B: RonFormat, C: RonFormat, D: RonFormat> RonContent for Tupled<(A, B, C, D)> {
     ghost content = { λ n. content_as (quadruple_format A.ron B.ron C.ron D.ron) (λ x d. refl) };
 }
 
@@ -133,14 +130,9 @@ impl<A: DeRon, B: DeRon, C: DeRon, D: DeRon> ReadContent for Tupled<(A, B, C, D)
     }
 }
 
-impl<
-    'a,
-    A: SerRon + Drop + 'a,
-    B: SerRon + Drop + 'a,
-    C: SerRon + Drop + 'a,
-    D: SerRon + Drop + 'a,
-> WriteContent<'a> for Tupled<(A, B, C, D)> {
-    type Parts = (Part<'a, A>, Part<'a, B>, Part<'a, C>, Part<'a, D>);
+impl<'a, A: SerRon + 'a, B: SerRon + 'a, C: SerRon + 'a, D: SerRon + 'a> WriteContent<'a>
+    for Tupled<(A, B, C, D)> {
+    type Parts = ();
 
     fn write(
         &self,

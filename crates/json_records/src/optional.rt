@@ -13,7 +13,7 @@ use nano_json::{DeJson, DeJsonErr, DeJsonState, JsonFormat};
 use std::alloc::Global;
 use std::str::Chars;
 
-impl<T: JsonFormat + Drop> JsonShape for Optional<T> {
+impl<T: JsonFormat> JsonShape for Optional<T> {
     ghost format = { λ n. may (the_name n) T.json };
 }
 

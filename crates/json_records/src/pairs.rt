@@ -13,7 +13,10 @@ impl<A: JsonShape, B: JsonShape> JsonShape for (A, B) {
     ghost format = { λ n. also (A.format (first n)) (B.format (second n)) };
 }
 
-impl<A: Fields, B: Fields> Fields for (A, B) {
+impl<A: Fields, B: Fields> Fields for (A, B)
+where
+    A::Values: Drop,
+{
     type Slots = (A::Slots, B::Slots);
 
     ghost holds = { λ f slots fs. A.holds f.0 slots.0 fs

@@ -11,7 +11,7 @@ use nano_json::{DeJson, DeJsonErr, DeJsonState, JsonFormat};
 use std::alloc::Global;
 use std::str::Chars;
 
-impl<T: JsonFormat + Drop> JsonShape for Required<T> {
+impl<T: JsonFormat> JsonShape for Required<T> {
     ghost format = { λ n. must (the_name n) T.json };
 }
 

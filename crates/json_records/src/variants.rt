@@ -145,6 +145,8 @@ pub fn read_fields_content<F: Fields>(
     state: &mut DeJsonState,
     input: &mut Chars<'_>,
 ) -> Result<F::Values, DeJsonErr>
+where
+    F::Values: Drop,
     ensures fits { Reads
         (Closed (fields_of (F.format (F.names_of fields.now)).struct).spelled) F.means
         (at state.old input.old) (at state.new input.new) result }

@@ -26,7 +26,7 @@ pub struct Holder<T> {
     pub x: T,
 }
 
-impl<T: Value + Drop> Record for Holder<T> {
+impl<T: Value> Record for Holder<T> {
     type Fields = Required<T>;
 
     ghost told = { description (one_name "x") (λ h. h.x) };
@@ -40,13 +40,13 @@ impl<T: Value + Drop> Record for Holder<T> {
     }
 }
 
-impl<'a, T: Value + Drop + 'a> Parts<'a> for Holder<T> {
+impl<'a, T: Value + 'a> Parts<'a> for Holder<T> {
     fn refs(&'a self) -> &'a T {
         &self.x
     }
 }
 
-impl<T: Value + Drop> Value for Holder<T> {
+impl<T: Value> Value for Holder<T> {
     ghost means = { λ h. T.means h.x };
 
     ghost legal = { T.legal };
@@ -58,13 +58,13 @@ impl<T: Value + Drop> Value for Holder<T> {
 
 // ---- bytes
 
-impl<T: BinFormat + Drop> BinFormat for Holder<T> {
+impl<T: BinFormat> BinFormat for Holder<T> {
     ghost bin = { bin_of ⟦<Holder<T> as Record>⟧.told T.bin };
 
     ghost ties = { seen_ties T.ties (λ h. h.x) };
 }
 
-impl<T: SerBin + Drop> SerBin for Holder<T> {
+impl<T: SerBin> SerBin for Holder<T> {
     fn ser_bin(&self, alloc: Global, output: &mut Vec<u8>) -> Result<(), AllocError> {
         write_record_bin(self, alloc, output)
     }
@@ -80,14 +80,14 @@ impl<T: DeBin> DeBin for Holder<T> {
 
 // ---- JSON
 
-impl<T: JsonFormat + Drop> JsonFormat for Holder<T> {
+impl<T: JsonFormat> JsonFormat for Holder<T> {
     ghost json = { json_of ⟦<Holder<T> as Record>⟧.told
         ⟦<Required<T> as JsonShape>⟧.format refl };
 
     ghost ties = { seen_ties T.ties (λ h. h.x) };
 }
 
-impl<T: SerJson + Drop> SerJson for Holder<T> {
+impl<T: SerJson> SerJson for Holder<T> {
     fn ser_json(&self, alloc: Global, d: usize, s: &mut SerJsonState) -> Result<(), AllocError> {
         write_record_json(self, alloc, d, s)
     }
@@ -101,14 +101,14 @@ impl<T: DeJson> DeJson for Holder<T> {
 
 // ---- RON
 
-impl<T: RonFormat + Drop> RonFormat for Holder<T> {
+impl<T: RonFormat> RonFormat for Holder<T> {
     ghost ron = { ron_of ⟦<Holder<T> as Record>⟧.told
         ⟦<Required<T> as RonShape>⟧.format refl };
 
     ghost ties = { seen_ties T.ties (λ h. h.x) };
 }
 
-impl<T: SerRon + Drop> SerRon for Holder<T> {
+impl<T: SerRon> SerRon for Holder<T> {
     fn ser_ron(&self, alloc: Global, d: usize, s: &mut SerRonState) -> Result<(), AllocError> {
         write_record_ron(self, alloc, d, s)
     }

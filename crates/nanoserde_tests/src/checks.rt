@@ -1,11 +1,10 @@
-// What the tests compare: normal forms, converted inputs, and what is read back.
+// What the tests compare: normal forms and converted inputs.
 use nanoserde::{
     BothBin, BothJson, BothRon, DeJson, DeRon, json_to_bin, normal_bin, normal_json, normal_ron,
     ron_to_bin,
 };
-use std::alloc::{AllocError, Global};
+use std::alloc::Global;
 use std::process::Abort;
-use std::test::Fail;
 
 /// What is said of a text holds.
 pub(crate) fn holds(rt: &impl Abort, is_so: bool, text: &str) {
@@ -68,54 +67,4 @@ pub(crate) fn ron_as_bytes<T: DeRon + BothBin>(rt: &impl Abort, alloc: Global, r
             Err(_error) => holds(rt, false, text),
         }
     }
-}
-
-/// What is written of the value is read back, in each format, and is its own normal form.
-pub(crate) fn again<T: BothBin + BothJson + BothRon + PartialEq>(
-    rt: &impl Abort,
-    alloc: Global,
-    value: &T,
-) -> Result<(), Fail> {
-    let bytes = value.serialize_bin(alloc)?;
-    holds(
-        rt,
-        T::deserialize_bin(alloc, bytes.as_slice())? == *value,
-        "bytes",
-    );
-    let form = normal_bin::<T>(alloc, bytes.as_slice())?;
-    holds(rt, form.as_slice() == bytes.as_slice(), "normal bytes");
-    json_again(rt, alloc, value)?;
-    ron_again(rt, alloc, value)
-}
-
-fn json_again<T: BothJson + PartialEq>(
-    rt: &impl Abort,
-    alloc: Global,
-    value: &T,
-) -> Result<(), Fail> {
-    let text = value.serialize_json(alloc)?;
-    holds(
-        rt,
-        T::deserialize_json(alloc, text.as_str())? == *value,
-        text.as_str(),
-    );
-    let form = normal_json::<T>(alloc, text.as_str())?;
-    holds(rt, form.as_str() == text.as_str(), text.as_str());
-    Ok(())
-}
-
-fn ron_again<T: BothRon + PartialEq>(
-    rt: &impl Abort,
-    alloc: Global,
-    value: &T,
-) -> Result<(), Fail> {
-    let text = value.serialize_ron(alloc)?;
-    holds(
-        rt,
-        T::deserialize_ron(alloc, text.as_str())? == *value,
-        text.as_str(),
-    );
-    let form = normal_ron::<T>(alloc, text.as_str())?;
-    holds(rt, form.as_str() == text.as_str(), text.as_str());
-    Ok(())
 }

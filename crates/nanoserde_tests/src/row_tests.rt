@@ -84,6 +84,23 @@ fn structs_of_one_part(rt: HostRuntime) {
     ron_rows::<Test>(&rt, rt.alloc(), tests);
     let plain: Rows<'_> = &[("-5", "-5")];
     ron_rows::<Plain>(&rt, rt.alloc(), plain);
+    let held: Rows<'_> = &[("(x:-5)", "(\n    x:-5,\n)")];
+    ron_rows::<Holder<Plain>>(&rt, rt.alloc(), held);
+}
+
+/// Bytes that are their own normal form.
+const TEST: &[u8] = &[5, 0, 0, 0];
+
+const ITEM: &[u8] = &[7, 0, 0, 0, 1, 1, 0, 0, 0, 0, 0, 0, 0, 120];
+
+const ALONE: &[u8] = &[0, 0];
+
+#[test]
+fn records_as_bytes(rt: HostRuntime) {
+    byte_rows::<Holder<Test>>(&rt, rt.alloc(), &[(TEST, TEST)]);
+    byte_rows::<Plain>(&rt, rt.alloc(), &[(TEST, TEST)]);
+    byte_rows::<Item>(&rt, rt.alloc(), &[(ITEM, ITEM)]);
+    byte_rows::<Choice>(&rt, rt.alloc(), &[(ALONE, ALONE)]);
 }
 
 #[test]

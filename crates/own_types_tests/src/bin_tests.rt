@@ -2,7 +2,7 @@
 use crate::checks::holds;
 use nano_bin::{BothBin, DeBin, DeBinKind, SerBin};
 use nano_records::Item;
-use own_types::{Command, Event, Query, Signal};
+use own_types::{Command, Event, Query, Server, Signal};
 use std::alloc::{AllocError, Global};
 use std::process::Abort;
 use std::test::Fail;
@@ -28,6 +28,24 @@ fn row<T: BothBin + PartialEq>(
     Ok(())
 }
 
+/// The bytes are read, and written again.
+fn bytes_again<T: BothBin>(rt: &impl Abort, alloc: Global, code: &[u8]) -> Result<(), Fail> {
+    let value = T::deserialize_bin(alloc, code)?;
+    holds(
+        rt,
+        value.serialize_bin(alloc)?.as_slice() == code,
+        "what is read and written",
+    );
+    Ok(())
+}
+
+/// A host, a port, tags, limits and a note.
+const SERVER: &[u8] = &[
+    1, 0, 0, 0, 0, 0, 0, 0, 97, 80, 0, 1, 0, 0, 0, 0, 0, 0, 0, 2, 0, 0, 0, 0, 0, 0, 0, 111, 115, 1,
+    0, 0, 0, 0, 0, 0, 0, 1, 0, 0, 0, 0, 0, 0, 0, 98, 1, 0, 0, 0, 0, 0, 0, 0, 3, 0, 0, 0, 0, 0, 0,
+    0, 97, 110, 110, 7, 0, 0, 0, 0, 0, 0, 0, 1, 1, 0, 0, 0, 0, 0, 0, 0, 99,
+];
+
 #[test]
 fn fields_in_declared_order(rt: HostRuntime) -> Result<(), Fail> {
     let alloc = rt.alloc();
@@ -41,6 +59,7 @@ fn fields_in_declared_order(rt: HostRuntime) -> Result<(), Fail> {
         &item,
         &[2, 1, 0, 0, 1, 1, 0, 0, 0, 0, 0, 0, 0, 99],
     )?;
+    bytes_again::<Server>(&rt, alloc, SERVER)?;
     let query = Query::deserialize_bin(alloc, &[1, 0, 0, 0, 0, 0, 0, 0, 97, 1, 5, 0, 0, 0])?;
     holds(
         &rt,

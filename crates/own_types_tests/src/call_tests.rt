@@ -1,5 +1,5 @@
 // The calls of `ron_records` that read and write a name, and content directly behind it, by
-// themselves. `Message` makes those of `json_records`.
+// themselves, which `Message` makes of `json_records`; and the laws of fields.
 use crate::checks::is_told;
 use nano_ron::{DeRon, DeRonErr, DeRonState, SerRonState};
 use ron_records::{
@@ -71,4 +71,14 @@ fn names_are_read(rt: HostRuntime) -> Result<(), Fail> {
         "a name that no variant has",
     );
     Ok(())
+}
+
+#[test]
+fn laws_of_fields_can_be_called(_rt: HostRuntime) {
+    json_records::laws::the_last_field_counts();
+    json_records::laws::a_missing_name_has_no_field();
+    json_records::laws::other_names_are_seen();
+    ron_records::laws::the_last_field_counts();
+    ron_records::laws::a_missing_name_has_no_field();
+    ron_records::laws::other_names_are_seen();
 }

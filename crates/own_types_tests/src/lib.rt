@@ -13,8 +13,6 @@ mod fault_tests;
 #[cfg(test)]
 mod json_tests;
 #[cfg(test)]
-mod law_tests;
-#[cfg(test)]
 mod ron_tests;
 #[cfg(test)]
 mod row_tests;

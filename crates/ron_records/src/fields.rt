@@ -81,11 +81,11 @@ pub trait Fields: RonShape {
         → holds fields slots fs → holds fields slots (fs ++ f ∷ []) };
 }
 
-impl<T: RonFormat + Drop> RonShape for Required<T> {
+impl<T: RonFormat> RonShape for Required<T> {
     ghost format = { λ n. must (the_name n) T.ron };
 }
 
-impl<T: RonFormat + Drop> RonShape for Optional<T> {
+impl<T: RonFormat> RonShape for Optional<T> {
     ghost format = { λ n. may (the_name n) T.ron };
 }
 

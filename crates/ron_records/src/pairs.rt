@@ -8,7 +8,10 @@ use nano_ron::{DeRonErr, DeRonState};
 use std::alloc::Global;
 use std::str::Chars;
 
-impl<A: Fields, B: Fields> Fields for (A, B) {
+impl<A: Fields, B: Fields> Fields for (A, B)
+where
+    A::Values: Drop,
+{
     type Slots = (A::Slots, B::Slots);
 
     ghost holds = { λ f slots fs. A.holds f.0 slots.0 fs

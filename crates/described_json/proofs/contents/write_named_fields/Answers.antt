@@ -2,13 +2,13 @@ use Rattle.std.specs.Result.{OnOk}
 use Rattle.std.proofs.Common.{subst}
 use Rattle.nano_text.specs.Outcomes.{Appends}
 use Rattle.text_fields.specs.FieldWriting.{fields_text}
-use Rattle.ron_records.specs.Fields.{ron_fields}
-use Rattle.ron_records.specs.Variants.{content_text}
-use Rattle.described_ron.proofs.one_field.RequiredWriteContent.write.Goals as goal
+use Rattle.json_records.specs.Fields.{json_fields}
+use Rattle.json_records.specs.Variants.{content_text}
+use Rattle.described_json.proofs.contents.write_named_fields.Goals as goal
 
 pub returns-clause-ok : goal.returns-clause-ok
 returns-clause-ok g c =
     subst (λ fields. OnOk c.write_fields_variant.result (Appends c.args.s.now.out
     c.write_fields_variant.new.s.out (content_text c.args.name.now
-    (fields_text ron_fields c.args.d fields))))
-    c.parts-part.ensures c.write_fields_variant.ensures.ok
+    (fields_text json_fields c.args.d fields))))
+    c.parts-parts.ensures c.write_fields_variant.ensures.ok
