@@ -1,9 +1,9 @@
 #!/bin/sh
-# Counts the lines that an own type costs: for each file its imports, its description (once), and
+# Counts the lines that a user-defined type costs: for each file its imports, its schema (once), and
 # what each format adds, code and ghost lines apart. Blank lines and comments are not counted. The
-# lines of the specs of an enum are its proof.
+# lines of the specs of an enum, definitions and laws, are its proof.
 # Usage, at the top of the repository: sh docs/count_own_types.sh [FILE..]
-[ $# -gt 0 ] || set -- crates/own_types/src/server.rt crates/own_types/src/event.rt
+[ $# -gt 0 ] || set -- crates/example_types/src/server.rt crates/example_types/src/event.rt
 for file in "$@"; do
     echo "$file"
     awk '
@@ -23,11 +23,12 @@ for file in "$@"; do
             }
         }' "$file"
     name=$(basename "$file" .rt)
-    specs=$(dirname "$file")/../specs/$(echo "$name" | cut -c1 | tr a-z A-Z)$(echo "$name" | cut -c2-).antt
-    [ -f "$specs" ] && awk '
+    stem=$(dirname "$file")/../specs/$(echo "$name" | cut -c1 | tr a-z A-Z)$(echo "$name" | cut -c2-)
+    specs=
+    for part in "$stem.antt" "${stem}Laws.antt"; do [ ! -f "$part" ] || specs="$specs $part"; done
+    [ -z "$specs" ] || awk '
         /^[ \t]*(--.*)?$/ { next }
         /^use / { imports += 1; next }
         { lines += 1 }
-        END { printf "  specs: %d, with imports %d\n", lines, imports }' "$specs"
+        END { printf "  specs: %d, with imports %d\n", lines, imports }' $specs
 done
-exit 0

@@ -3,7 +3,7 @@
 # lines (clauses, ghost members, ghost imports) and its imports. Blank lines and comments are not
 # counted.
 # Usage, at the top of the repository: sh docs/count_programs.sh [PROGRAM..]
-[ $# -gt 0 ] || set -- toml_settings save_file message_codec record_store convert
+[ $# -gt 0 ] || set -- example_settings example_save_file example_messages example_store example_convert
 for program in "$@"; do
     awk -v program="$program" '
         function braces(line,   opened, closed) {

@@ -14,14 +14,14 @@
 set -eu
 [ $# -ge 2 ] || { echo "usage: sh measure.sh HARNESS OUT [FILTER]" >&2; exit 2; }
 here=$(cd "$(dirname "$0")" && pwd)
-bench=$here/../../crates/nano_bench
+bench=$here/../../crates/bench
 mkdir -p "$2"
 harness=$(cd "$1" && pwd)
 out=$(cd "$2" && pwd)
 filter=${3:-.}
 
 [ -n "${LIBRARY:-}" ] || (cd "$bench" && rt lib)
-"$harness/build.sh" "$out" "${LIBRARY:-$bench/out/libnano_bench.a}"
+"$harness/build.sh" "$out" "${LIBRARY:-$bench/out/libbench.a}"
 
 # The same program, which now can run one case alone in its process.
 chmod u+w "$out/src/main.rs"

@@ -1,12 +1,13 @@
-// Writing one part behind the other.
+//! Writing one part after the other.
+
 ghost use Rattle.std.specs.Prelude.{◌≡◌, ◌++◌, take, OnOk, OnErr};
-ghost use Rattle.bin_bytes.specs.LittleEndian.{little_endian};
+ghost use Rattle.nano_bytes.specs.LittleEndian.{little_endian};
 
 use crate::traits::SerBin;
 use std::alloc::{AllocError, Global};
 
-/// Appends the bytes of a part, or cuts `output` back to its first `start` bytes where that is
-/// refused: so a writer of several parts undoes those that it has written.
+/// Appends the bytes of a part. On error, it truncates `output` back to its first `start`
+/// bytes: so a writer of several parts undoes those that it has written.
 pub fn append_part<T: SerBin>(
     alloc: Global,
     part: &T,
@@ -14,7 +15,7 @@ pub fn append_part<T: SerBin>(
     start: usize,
 ) -> Result<(), AllocError>
     ensures ok { OnOk result
-        (output.new.items ≡ output.old.items ++ T.bin.writing.written part.now) }
+        (output.new.items ≡ output.old.items ++ T.bin.canonical.written part.now) }
     ensures err { OnErr result (output.new.items ≡ take start output.old.items) }
 {
     let written = part.ser_bin(alloc, output);

@@ -1,19 +1,20 @@
-// Truth values: a byte, 0 or any other. The unit: no byte.
+//! Truth values: a byte, 0 or any other. The unit: no byte.
+
 ghost use Rattle.std.specs.Prelude.{◌≡◌, drop, refl, IfOk, IfErr, OnErr, IsOk};
 ghost use Rattle.nano_value.specs.Meaning.{nothing, truth};
-ghost use Rattle.nano_value.specs.Ties.{tied};
-ghost use Rattle.bin_bytes.specs.Reading.{Reads, NothingFits};
-ghost use Rattle.nano_bin.specs.Bools.{truths, units, truth_format, unit_format};
-ghost use Rattle.bin_bytes.specs.Errors.{IsTooShort};
+ghost use Rattle.nano_value.specs.AgreesLaws.{agreed};
+ghost use Rattle.nano_bytes.specs.Reading.{Decodes, DecodesToNothing};
+ghost use Rattle.nano_bin.specs.BoolsLaws.{truths, units, truth_codec, unit_codec};
+ghost use Rattle.nano_bytes.specs.Errors.{IsTooShort};
 
-use crate::traits::{BinFormat, DeBin, SerBin};
-use bin_bytes::DeBinErr;
+use crate::traits::{BinCodec, DeBin, SerBin};
+use nano_bytes::DeBinErr;
 use std::alloc::{AllocError, Global};
 
-impl BinFormat for bool {
-    ghost bin = { truth_format };
+impl BinCodec for bool {
+    ghost bin = { truth_codec };
 
-    ghost ties = { tied };
+    ghost agrees = { agreed };
 }
 
 impl SerBin for bool {
@@ -24,24 +25,24 @@ impl SerBin for bool {
 }
 
 impl DeBin for bool {
-    ghost is_read = { refl };
+    ghost is_decodable = { refl };
 
-    /// Takes no memory, and is refused exactly where no byte is left.
+    /// Allocates nothing, and returns an error exactly if no byte is left.
     fn de_bin(alloc: Global, offset: &mut usize, bytes: &[u8]) -> Result<bool, DeBinErr>
         ensures ok { IfOk result (λ value.
-            Reads truths.spelled bytes.now offset.old (truth value) offset.new) }
-        ensures err { IfErr result (λ e. NothingFits truths.spelled (drop offset.old bytes.now)) }
+            Decodes truths.encodes bytes.now offset.old (truth value) offset.new) }
+        ensures err { IfErr result (λ e. DecodesToNothing truths.encodes (drop offset.old bytes.now)) }
         ensures short { IfErr result (IsTooShort bytes.now offset.old 1) }
-        ensures kept { OnErr result (offset.new ≡ offset.old) }
+        ensures unchanged { OnErr result (offset.new ≡ offset.old) }
     {
         Ok(u8::de_bin(alloc, offset, bytes)? != 0)
     }
 }
 
-impl BinFormat for () {
-    ghost bin = { unit_format };
+impl BinCodec for () {
+    ghost bin = { unit_codec };
 
-    ghost ties = { tied };
+    ghost agrees = { agreed };
 }
 
 impl SerBin for () {
@@ -56,12 +57,12 @@ impl SerBin for () {
 }
 
 impl DeBin for () {
-    ghost is_read = { refl };
+    ghost is_decodable = { refl };
 
-    /// Reads no byte, takes no memory, and is never refused.
+    /// Reads no byte, allocates nothing, and never returns an error.
     fn de_bin(alloc: Global, offset: &mut usize, bytes: &[u8]) -> Result<(), DeBinErr>
         ensures ok { IsOk result }
-        ensures read { Reads units.spelled bytes.now offset.old nothing offset.new }
+        ensures read { Decodes units.encodes bytes.now offset.old nothing offset.new }
         ensures same { offset.new ≡ offset.old }
     {
         // No byte is read.

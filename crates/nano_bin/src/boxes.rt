@@ -1,15 +1,16 @@
-// Boxes: the content.
-ghost use Rattle.nano_value.specs.Ties.{seen_ties};
-ghost use Rattle.nano_bin.specs.Format.{format_as};
+//! Boxes: the content.
 
-use crate::traits::{BinFormat, DeBin, SerBin};
-use bin_bytes::{DeBinErr, no_memory};
+ghost use Rattle.nano_value.specs.AgreesLaws.{seen_agrees};
+ghost use Rattle.nano_bin.specs.Codec.{codec_as};
+
+use crate::traits::{BinCodec, DeBin, SerBin};
+use nano_bytes::{DeBinErr, no_memory};
 use std::alloc::{AllocError, Global};
 
-impl<T: BinFormat> BinFormat for Box<T> {
-    ghost bin = { format_as (λ x. x.value) T.bin };
+impl<T: BinCodec> BinCodec for Box<T> {
+    ghost bin = { codec_as (λ x. x.value) T.bin };
 
-    ghost ties = { seen_ties T.ties (λ x. x.value) };
+    ghost agrees = { seen_agrees T.agrees (λ x. x.value) };
 }
 
 impl<T: SerBin> SerBin for Box<T> {
@@ -19,7 +20,7 @@ impl<T: SerBin> SerBin for Box<T> {
 }
 
 impl<T: DeBin> DeBin for Box<T> {
-    ghost is_read = { T.is_read };
+    ghost is_decodable = { T.is_decodable };
 
     fn de_bin(alloc: Global, offset: &mut usize, bytes: &[u8]) -> Result<Box<T>, DeBinErr> {
         let mut at = *offset;

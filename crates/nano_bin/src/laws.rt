@@ -5,21 +5,21 @@
 ghost use Rattle.std.specs.Prelude.{◌≡◌, ◌≢◌, ◌+◌, ◌++◌, ◌↔◌, ℕ, List, [], length, drop, IfOk};
 ghost use Rattle.std.specs.Prelude.{IfErr, OnErr};
 ghost use Rattle.nano_value.specs.Meaning.{Meaning};
-ghost use Rattle.bin_bytes.specs.declared.error.DeBinKind.{DeBinKind};
-ghost use Rattle.bin_bytes.specs.Reading.{Fits};
+ghost use Rattle.nano_bytes.specs.declared.error.DeBinKind.{DeBinKind};
+ghost use Rattle.nano_bytes.specs.Reading.{DecodesTo};
 ghost use Rattle.nano_value.specs.Tables.{table_of};
-ghost use Rattle.nano_bin.specs.Maps.{map_format};
+ghost use Rattle.nano_bin.specs.MapsLaws.{map_codec};
 ghost use Rattle.nano_bin.specs.Promises.{StandsAt, OneValue, NoneBeginsAnother};
 
-use crate::traits::{BinFormat, BothBin, DeBin, SerBin};
-use bin_bytes::DeBinErr;
+use crate::traits::{BinCodec, BothBin, DeBin, SerBin};
+use nano_bytes::DeBinErr;
 use nano_value::{Key, Value};
 use std::alloc::Global;
 use std::collections::{BTreeMap, BTreeSet, HashMap, HashSet};
 use std::hash::Hash;
 
-/// Reads back what was written, at any offset where it stands and whatever bytes follow: the value
-/// that is read means what the written one does, and the only refusal is for memory.
+/// Reads back what was written, at any offset where it stands and whatever bytes follow. The
+/// value that is read means what the written one does, and the only error is out of memory.
 pub fn read_back<T: BothBin>(
     alloc: Global,
     written: &T,
@@ -27,33 +27,33 @@ pub fn read_back<T: BothBin>(
     bytes: &[u8],
 ) -> Result<T, DeBinErr>
     ensures same { IfOk result (λ read.
-        StandsAt (T.bin.writing.written written.now) bytes.now offset.old
+        StandsAt (T.bin.canonical.written written.now) bytes.now offset.old
         → T.means read ≡ T.means written.now) }
     ensures moved { IfOk result (λ read.
-        StandsAt (T.bin.writing.written written.now) bytes.now offset.old
-        → offset.new ≡ offset.old + length (T.bin.writing.written written.now)) }
+        StandsAt (T.bin.canonical.written written.now) bytes.now offset.old
+        → offset.new ≡ offset.old + length (T.bin.canonical.written written.now)) }
     ensures memory { IfErr result (λ e.
-        StandsAt (T.bin.writing.written written.now) bytes.now offset.old
+        StandsAt (T.bin.canonical.written written.now) bytes.now offset.old
         → e.kind ≡ DeBinKind.Memory) }
-    ensures kept { OnErr result (offset.new ≡ offset.old) }
+    ensures unchanged { OnErr result (offset.new ≡ offset.old) }
 {
     written.known();
     T::de_bin(alloc, offset, bytes)
 }
 
-/// Reads back what was written, where it is all of the bytes: the value that is read means what the
-/// written one does, and the only refusal is for memory.
+/// Reads back what was written, where it is all of the bytes. The value that is read means what
+/// the written one does, and the only error is out of memory.
 pub fn read_back_whole<T: BothBin>(alloc: Global, written: &T, d: &[u8]) -> Result<T, DeBinErr>
     ensures same { IfOk result (λ read.
-        d.now ≡ T.bin.writing.written written.now → T.means read ≡ T.means written.now) }
+        d.now ≡ T.bin.canonical.written written.now → T.means read ≡ T.means written.now) }
     ensures memory { IfErr result (λ e.
-        d.now ≡ T.bin.writing.written written.now → e.kind ≡ DeBinKind.Memory) }
+        d.now ≡ T.bin.canonical.written written.now → e.kind ≡ DeBinKind.Memory) }
 {
     written.known();
     T::deserialize_bin_whole(alloc, d)
 }
 
-/// Reads two values back whose codes were laid one behind the other.
+/// Reads two values back whose encodings were placed one after the other.
 pub fn read_both_back<A: BothBin, B: BothBin>(
     alloc: Global,
     first: &A,
@@ -62,23 +62,23 @@ pub fn read_both_back<A: BothBin, B: BothBin>(
     bytes: &[u8],
 ) -> Result<(A, B), DeBinErr>
     ensures first { IfOk result (λ read.
-        StandsAt (A.bin.writing.written first.now ++ B.bin.writing.written second.now)
+        StandsAt (A.bin.canonical.written first.now ++ B.bin.canonical.written second.now)
         bytes.now offset.old
         → A.means read.0 ≡ A.means first.now) }
     ensures second { IfOk result (λ read.
-        StandsAt (A.bin.writing.written first.now ++ B.bin.writing.written second.now)
+        StandsAt (A.bin.canonical.written first.now ++ B.bin.canonical.written second.now)
         bytes.now offset.old
         → B.means read.1 ≡ B.means second.now) }
     ensures moved { IfOk result (λ read.
-        StandsAt (A.bin.writing.written first.now ++ B.bin.writing.written second.now)
+        StandsAt (A.bin.canonical.written first.now ++ B.bin.canonical.written second.now)
         bytes.now offset.old
         → offset.new ≡ offset.old
-        + length (A.bin.writing.written first.now ++ B.bin.writing.written second.now)) }
+        + length (A.bin.canonical.written first.now ++ B.bin.canonical.written second.now)) }
     ensures memory { IfErr result (λ e.
-        StandsAt (A.bin.writing.written first.now ++ B.bin.writing.written second.now)
+        StandsAt (A.bin.canonical.written first.now ++ B.bin.canonical.written second.now)
         bytes.now offset.old
         → e.kind ≡ DeBinKind.Memory) }
-    ensures kept { OnErr result (offset.new ≡ offset.old) }
+    ensures unchanged { OnErr result (offset.new ≡ offset.old) }
 {
     let mut at = *offset;
     let one = read_back(alloc, first, &mut at, bytes)?;
@@ -90,7 +90,7 @@ pub fn read_both_back<A: BothBin, B: BothBin>(
 /// What means the same is written as the same bytes, and what is written as the same bytes means
 /// the same.
 pub fn same_bytes_same_meaning<T: BothBin>(x: &T, y: &T)
-    ensures { (T.bin.writing.written x.now ≡ T.bin.writing.written y.now)
+    ensures { (T.bin.canonical.written x.now ≡ T.bin.canonical.written y.now)
         ↔ (T.means x.now ≡ T.means y.now) }
 {
     x.known();
@@ -100,65 +100,65 @@ pub fn same_bytes_same_meaning<T: BothBin>(x: &T, y: &T)
 /// What means the same is written as the same bytes, also for types that are written alone.
 pub fn same_meaning_same_bytes<T: SerBin>(x: &T, y: &T)
     ensures { T.means x.now ≡ T.means y.now
-        → T.bin.writing.written x.now ≡ T.bin.writing.written y.now }
+        → T.bin.canonical.written x.now ≡ T.bin.canonical.written y.now }
 {}
 
-/// What is spelled is legal: each number in its type's range, each count a `usize`.
-pub fn spelled_is_legal<T: DeBin>()
-    ensures { (bytes : List ℕ) (m : Meaning) → T.bin.spelling.spelled bytes m → T.legal m }
+/// Every encoded value is legal: each number in its type's range, each count a `usize`.
+pub fn encoded_is_legal<T: DeBin>()
+    ensures { (bytes : List ℕ) (m : Meaning) → T.bin.encoding.encodes bytes m → T.legal m }
 {}
 
-/// One spelling has one meaning.
-pub fn one_spelling_one_value<T: DeBin>()
-    ensures { OneValue T.bin.spelling.spelled }
+/// One encoding has one meaning.
+pub fn one_encoding_one_value<T: DeBin>()
+    ensures { OneValue T.bin.encoding.encodes }
 {}
 
-/// No spelling is a proper beginning of another.
-pub fn no_spelling_begins_another<T: DeBin>()
-    ensures { NoneBeginsAnother T.bin.spelling.spelled }
+/// No encoding is a proper prefix of another.
+pub fn no_encoding_begins_another<T: DeBin>()
+    ensures { NoneBeginsAnother T.bin.encoding.encodes }
 {}
 
-/// At most one value fits the front of the bytes.
-pub fn at_most_one_fits<T: DeBin>()
-    ensures { (bytes : List ℕ) (m n : Meaning) → Fits T.bin.spelling.spelled bytes m
-        → Fits T.bin.spelling.spelled bytes n → m ≡ n }
+/// At most one value decodes from a prefix of the bytes.
+pub fn at_most_one_decodes<T: DeBin>()
+    ensures { (bytes : List ℕ) (m n : Meaning) → DecodesTo T.bin.encoding.encodes bytes m
+        → DecodesTo T.bin.encoding.encodes bytes n → m ≡ n }
 {}
 
 /// Entries of the same table are written as the same bytes, in whatever order they stand, so that
 /// maps of both kinds with the same entries are.
-pub fn same_entries_same_bytes<K: BinFormat + Key, V: BinFormat>()
+pub fn same_entries_same_bytes<K: BinCodec + Key, V: BinCodec>()
     ensures { (entries others : List (K × V)) →
         table_of K.means V.means entries ≡ table_of K.means V.means others →
-        (map_format K.order K.bin V.bin).writing.written entries
-        ≡ (map_format K.order K.bin V.bin).writing.written others }
+        (map_codec K.order K.bin V.bin).canonical.written entries
+        ≡ (map_codec K.order K.bin V.bin).canonical.written others }
 {}
 
 /// A hashed and an ordered set of the same items are written as the same bytes.
-pub fn same_items_same_bytes<T: BinFormat + Key + Ord + Hash>(
+pub fn same_items_same_bytes<T: BinCodec + Key + Ord + Hash>(
     hashed: &HashSet<T>,
     ordered: &BTreeSet<T>,
 )
     ensures { ⟦<HashSet<T> as Value>⟧.means hashed.now
         ≡ ⟦<BTreeSet<T> as Value>⟧.means ordered.now →
-        ⟦<HashSet<T> as BinFormat>⟧.bin.writing.written hashed.now
-        ≡ ⟦<BTreeSet<T> as BinFormat>⟧.bin.writing.written ordered.now }
+        ⟦<HashSet<T> as BinCodec>⟧.bin.canonical.written hashed.now
+        ≡ ⟦<BTreeSet<T> as BinCodec>⟧.bin.canonical.written ordered.now }
 {}
 
-/// A hashed and an ordered map of the same entries are written as the same bytes, and the same
-/// bytes spell both, so that each reads what the other wrote.
-pub fn same_map_same_bytes<K: BinFormat + Key + Ord + Hash, V: BinFormat>(
+/// A hash map and an ordered map of the same entries have the same canonical encoding. The same
+/// bytes encode both, so each reads what the other wrote.
+pub fn same_map_same_bytes<K: BinCodec + Key + Ord + Hash, V: BinCodec>(
     hashed: &HashMap<K, V>,
     ordered: &BTreeMap<K, V>,
 )
     ensures written { table_of K.means V.means hashed.now.entries ≡ table_of K.means V.means ordered.now.entries →
-        ⟦<HashMap<K, V> as BinFormat>⟧.bin.writing.written hashed.now
-        ≡ ⟦<BTreeMap<K, V> as BinFormat>⟧.bin.writing.written ordered.now }
+        ⟦<HashMap<K, V> as BinCodec>⟧.bin.canonical.written hashed.now
+        ≡ ⟦<BTreeMap<K, V> as BinCodec>⟧.bin.canonical.written ordered.now }
     ensures means { (table_of K.means V.means hashed.now.entries ≡ table_of K.means V.means ordered.now.entries)
         ↔ (⟦<HashMap<K, V> as Value>⟧.means hashed.now
         ≡ ⟦<BTreeMap<K, V> as Value>⟧.means ordered.now) }
-    ensures spelled { (bytes : List ℕ) (m : Meaning) →
-        ⟦<HashMap<K, V> as BinFormat>⟧.bin.spelling.spelled bytes m
-        ↔ ⟦<BTreeMap<K, V> as BinFormat>⟧.bin.spelling.spelled bytes m }
+    ensures encodes { (bytes : List ℕ) (m : Meaning) →
+        ⟦<HashMap<K, V> as BinCodec>⟧.bin.encoding.encodes bytes m
+        ↔ ⟦<BTreeMap<K, V> as BinCodec>⟧.bin.encoding.encodes bytes m }
 {
     let _ordered = ordered.len();
 }

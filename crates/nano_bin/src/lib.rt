@@ -3,7 +3,7 @@
 //!
 //! A value is written by [`SerBin`] and read by [`DeBin`]; a type that has both is [`BothBin`], and
 //! what it writes is read back at any offset, whatever bytes follow. The errors are those of
-//! `bin_bytes`, passed on.
+//! `nano_bytes`, passed on.
 #![tactic(auto)]
 
 mod append;
@@ -23,5 +23,5 @@ mod tuples;
 mod unsigned;
 
 pub use append::append_part;
-pub use bin_bytes::{DeBinErr, DeBinKind};
-pub use traits::{BinFormat, BothBin, DeBin, SerBin};
+pub use nano_bytes::{DeBinErr, DeBinKind};
+pub use traits::{BinCodec, BothBin, DeBin, SerBin};

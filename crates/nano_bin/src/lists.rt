@@ -1,23 +1,25 @@
-// Vectors and linked lists: the count, and the items. Slices and arrays: the items, and no count.
+//! Vectors and linked lists: the count, and the items. Slices and arrays: the items, and no count.
+
 ghost use Rattle.std.specs.Prelude.{◌≡◌, ◌≤◌, ◌++◌, map, take, drop, length, IfOk, IfErr, OnOk};
 ghost use Rattle.std.specs.Prelude.{OnErr};
 ghost use Rattle.std.specs.List.{flat_map};
-ghost use Rattle.nano_value.specs.Ties.{list_ties, array_ties, seen_ties};
-ghost use Rattle.bin_bytes.specs.Reading.{Reads, Refuses};
-ghost use Rattle.nano_bin.specs.Format.{format_as};
-ghost use Rattle.nano_bin.specs.Lists.{SpellsCount, list_format, array_format, slice_format};
+ghost use Rattle.nano_value.specs.AgreesLaws.{list_agrees, array_agrees, seen_agrees};
+ghost use Rattle.nano_bytes.specs.Reading.{Decodes, Rejects};
+ghost use Rattle.nano_bin.specs.Codec.{codec_as};
+ghost use Rattle.nano_bin.specs.Lists.{EncodesCount};
+ghost use Rattle.nano_bin.specs.ListsLaws.{list_codec, array_codec, slice_codec};
 
 use crate::append::{append_count, append_part};
 use crate::read::read_count;
-use crate::traits::{BinFormat, DeBin, SerBin};
-use bin_bytes::{DeBinErr, no_memory};
+use crate::traits::{BinCodec, DeBin, SerBin};
+use nano_bytes::{DeBinErr, no_memory};
 use std::alloc::{AllocError, Global};
 use std::collections::LinkedList;
 
-impl<T: BinFormat> BinFormat for Vec<T> {
-    ghost bin = { format_as (λ x. x.items) (list_format T.bin) };
+impl<T: BinCodec> BinCodec for Vec<T> {
+    ghost bin = { codec_as (λ x. x.items) (list_codec T.bin) };
 
-    ghost ties = { seen_ties (list_ties T.ties) (λ x. x.items) };
+    ghost agrees = { seen_agrees (list_agrees T.agrees) (λ x. x.items) };
 }
 
 impl<T: SerBin> SerBin for Vec<T> {
@@ -28,8 +30,8 @@ impl<T: SerBin> SerBin for Vec<T> {
     }
 }
 
-/// Appends the items of a list, or cuts `output` back to its first `start` bytes where that is
-/// refused.
+/// Appends the items of a list. On error, it truncates `output` back to its first `start`
+/// bytes.
 fn append_items<T: SerBin>(
     alloc: Global,
     items: &[T],
@@ -37,7 +39,7 @@ fn append_items<T: SerBin>(
     start: usize,
 ) -> Result<(), AllocError>
     ensures ok { OnOk result
-        (output.new.items ≡ output.old.items ++ flat_map T.bin.writing.written items.now) }
+        (output.new.items ≡ output.old.items ++ flat_map T.bin.canonical.written items.now) }
     ensures err { OnErr result (output.new.items ≡ take start output.old.items) }
 {
     let written = T::ser_bin_items(alloc, items, output);
@@ -48,7 +50,7 @@ fn append_items<T: SerBin>(
 }
 
 impl<T: DeBin> DeBin for Vec<T> {
-    ghost is_read = { T.is_read };
+    ghost is_decodable = { T.is_decodable };
 
     fn de_bin(alloc: Global, offset: &mut usize, bytes: &[u8]) -> Result<Vec<T>, DeBinErr> {
         let mut at = *offset;
@@ -59,10 +61,10 @@ impl<T: DeBin> DeBin for Vec<T> {
     }
 }
 
-impl<T: BinFormat> BinFormat for LinkedList<T> {
-    ghost bin = { list_format T.bin };
+impl<T: BinCodec> BinCodec for LinkedList<T> {
+    ghost bin = { list_codec T.bin };
 
-    ghost ties = { list_ties T.ties };
+    ghost agrees = { list_agrees T.agrees };
 }
 
 impl<T: SerBin> SerBin for LinkedList<T> {
@@ -73,8 +75,8 @@ impl<T: SerBin> SerBin for LinkedList<T> {
     }
 }
 
-/// Appends the items of a linked list, or cuts `output` back to its first `start` bytes where that
-/// is refused.
+/// Appends the items of a linked list. On error, it truncates `output` back to its first
+/// `start` bytes.
 fn append_linked_list<T: SerBin>(
     alloc: Global,
     items: &LinkedList<T>,
@@ -83,7 +85,7 @@ fn append_linked_list<T: SerBin>(
 ) -> Result<(), AllocError>
     requires { start ≤ length output.old.items }
     ensures ok { OnOk result
-        (output.new.items ≡ output.old.items ++ flat_map T.bin.writing.written items.now) }
+        (output.new.items ≡ output.old.items ++ flat_map T.bin.canonical.written items.now) }
     ensures err { OnErr result (output.new.items ≡ take start output.old.items) }
 {
     for item in items {
@@ -93,7 +95,7 @@ fn append_linked_list<T: SerBin>(
 }
 
 impl<T: DeBin> DeBin for LinkedList<T> {
-    ghost is_read = { T.is_read };
+    ghost is_decodable = { T.is_decodable };
 
     fn de_bin(alloc: Global, offset: &mut usize, bytes: &[u8]) -> Result<LinkedList<T>, DeBinErr> {
         let mut at = *offset;
@@ -104,7 +106,7 @@ impl<T: DeBin> DeBin for LinkedList<T> {
     }
 }
 
-/// Reads so many items, one behind the other, into a linked list.
+/// Reads this many items, one after the other, into a linked list.
 fn read_linked_list<T: DeBin>(
     alloc: Global,
     count: usize,
@@ -112,11 +114,11 @@ fn read_linked_list<T: DeBin>(
     bytes: &[u8],
 ) -> Result<LinkedList<T>, DeBinErr>
     ensures ok { IfOk result (λ items.
-        Reads (SpellsCount count T.bin.spelling.spelled) bytes.now offset.old
+        Decodes (EncodesCount count T.bin.encoding.encodes) bytes.now offset.old
         (map T.means items) offset.new) }
     ensures err { IfErr result
-        (Refuses (SpellsCount count T.bin.spelling.spelled) (drop offset.old bytes.now)) }
-    ensures kept { OnErr result (offset.new ≡ offset.old) }
+        (Rejects (EncodesCount count T.bin.encoding.encodes) (drop offset.old bytes.now)) }
+    ensures unchanged { OnErr result (offset.new ≡ offset.old) }
 {
     let mut at = *offset;
     let mut items = LinkedList::new(alloc);
@@ -130,10 +132,10 @@ fn read_linked_list<T: DeBin>(
     Ok(items)
 }
 
-impl<T: BinFormat> BinFormat for &[T] {
-    ghost bin = { format_as (λ x. x.now) (slice_format T.bin) };
+impl<T: BinCodec> BinCodec for &[T] {
+    ghost bin = { codec_as (λ x. x.now) (slice_codec T.bin) };
 
-    ghost ties = { seen_ties (list_ties T.ties) (λ x. x.now) };
+    ghost agrees = { seen_agrees (list_agrees T.agrees) (λ x. x.now) };
 }
 
 impl<T: SerBin> SerBin for &[T] {
@@ -142,10 +144,10 @@ impl<T: SerBin> SerBin for &[T] {
     }
 }
 
-impl<T: BinFormat, const N: usize> BinFormat for [T; N] {
-    ghost bin = { array_format T.bin N };
+impl<T: BinCodec, const N: usize> BinCodec for [T; N] {
+    ghost bin = { array_codec T.bin N };
 
-    ghost ties = { array_ties T.ties N };
+    ghost agrees = { array_agrees T.agrees N };
 }
 
 impl<T: SerBin, const N: usize> SerBin for [T; N] {
@@ -155,7 +157,7 @@ impl<T: SerBin, const N: usize> SerBin for [T; N] {
 }
 
 impl<T: DeBin, const N: usize> DeBin for [T; N] {
-    ghost is_read = { T.is_read };
+    ghost is_decodable = { T.is_decodable };
 
     fn de_bin(alloc: Global, offset: &mut usize, bytes: &[u8]) -> Result<[T; N], DeBinErr> {
         let items = T::de_bin_items(alloc, N, offset, bytes)?;

@@ -1,16 +1,17 @@
-// Options: any byte but 1; or the byte 1 and the item.
-ghost use Rattle.nano_value.specs.Ties.{option_ties};
-ghost use Rattle.nano_bin.specs.Options.{option_format};
+//! Options: any byte but 1; or the byte 1 and the item.
+
+ghost use Rattle.nano_value.specs.AgreesLaws.{option_agrees};
+ghost use Rattle.nano_bin.specs.OptionsLaws.{option_codec};
 
 use crate::append::append_part;
-use crate::traits::{BinFormat, DeBin, SerBin};
-use bin_bytes::DeBinErr;
+use crate::traits::{BinCodec, DeBin, SerBin};
+use nano_bytes::DeBinErr;
 use std::alloc::{AllocError, Global};
 
-impl<T: BinFormat> BinFormat for Option<T> {
-    ghost bin = { option_format T.bin };
+impl<T: BinCodec> BinCodec for Option<T> {
+    ghost bin = { option_codec T.bin };
 
-    ghost ties = { option_ties T.ties };
+    ghost agrees = { option_agrees T.agrees };
 }
 
 impl<T: SerBin> SerBin for Option<T> {
@@ -27,7 +28,7 @@ impl<T: SerBin> SerBin for Option<T> {
 }
 
 impl<T: DeBin> DeBin for Option<T> {
-    ghost is_read = { T.is_read };
+    ghost is_decodable = { T.is_decodable };
 
     fn de_bin(alloc: Global, offset: &mut usize, bytes: &[u8]) -> Result<Option<T>, DeBinErr> {
         let mut at = *offset;

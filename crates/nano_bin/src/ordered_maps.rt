@@ -1,30 +1,32 @@
-// Ordered maps: the count, and keys with their values, in the order of the keys. A hashed map of
-// the same entries is written alike.
+//! Ordered maps: the count, and keys with their values, in the order of the keys. A hashed map of
+//! the same entries is written alike.
+
 ghost use Rattle.std.specs.Prelude.{◌≡◌, ◌≤◌, ◌++◌, take, drop, length, IfOk, IfErr, OnOk, OnErr};
 ghost use Rattle.std.specs.BTreeMap.{IsOrdered};
 ghost use Rattle.std.specs.List.{flat_map};
 ghost use Rattle.nano_value.specs.Ascending.{ascending};
 ghost use Rattle.nano_value.specs.Tables.{table_of};
-ghost use Rattle.nano_value.specs.Ties.{ordered_map_ties, seen_ties};
-ghost use Rattle.bin_bytes.specs.Items.{SpellsCount};
-ghost use Rattle.bin_bytes.specs.Reading.{Refuses};
-ghost use Rattle.nano_bin.specs.Format.{format_as, both_are_read};
-ghost use Rattle.nano_bin.specs.Maps.{ReadsTable};
-ghost use Rattle.nano_bin.specs.OrderedMaps.{ordered_map_format};
-ghost use Rattle.nano_bin.specs.Tuples.{SpellsPair, written_pair};
+ghost use Rattle.nano_value.specs.AgreesLaws.{ordered_map_agrees, seen_agrees};
+ghost use Rattle.nano_bytes.specs.Items.{EncodesCount};
+ghost use Rattle.nano_bytes.specs.Reading.{Rejects};
+ghost use Rattle.nano_bin.specs.Codec.{codec_as};
+ghost use Rattle.nano_bin.specs.CodecLaws.{both_are_read};
+ghost use Rattle.nano_bin.specs.Maps.{DecodesTable};
+ghost use Rattle.nano_bin.specs.OrderedMapsLaws.{ordered_map_codec};
+ghost use Rattle.nano_bin.specs.Tuples.{EncodesPair, written_pair};
 
 use crate::append::{append_count, append_part};
 use crate::read::read_count;
-use crate::traits::{BinFormat, DeBin, SerBin};
-use bin_bytes::{DeBinErr, no_memory};
+use crate::traits::{BinCodec, DeBin, SerBin};
+use nano_bytes::{DeBinErr, no_memory};
 use nano_value::{Key, OrderedKey};
 use std::alloc::{AllocError, Global};
 use std::collections::BTreeMap;
 
-impl<K: BinFormat + Key + Ord, V: BinFormat> BinFormat for BTreeMap<K, V> {
-    ghost bin = { format_as (λ x. x.entries) (ordered_map_format K.order K.cmp K.bin V.bin) };
+impl<K: BinCodec + Key + Ord, V: BinCodec> BinCodec for BTreeMap<K, V> {
+    ghost bin = { codec_as (λ x. x.entries) (ordered_map_codec K.order K.cmp K.bin V.bin) };
 
-    ghost ties = { seen_ties (ordered_map_ties K.ties V.ties K.cmp) (λ x. x.entries) };
+    ghost agrees = { seen_agrees (ordered_map_agrees K.agrees V.agrees K.cmp) (λ x. x.entries) };
 }
 
 impl<K: SerBin + OrderedKey, V: SerBin> SerBin for BTreeMap<K, V> {
@@ -35,8 +37,8 @@ impl<K: SerBin + OrderedKey, V: SerBin> SerBin for BTreeMap<K, V> {
     }
 }
 
-/// Appends the entries of an ordered map, or cuts `output` back to its first `start` bytes where
-/// that is refused.
+/// Appends the entries of an ordered map. On error, it truncates `output` back to its first
+/// `start` bytes.
 fn append_btree_map<K: SerBin + Ord, V: SerBin>(
     alloc: Global,
     entries: &BTreeMap<K, V>,
@@ -46,7 +48,7 @@ fn append_btree_map<K: SerBin + Ord, V: SerBin>(
     requires { start ≤ length output.old.items }
     ensures ok { OnOk result
         (output.new.items ≡ output.old.items
-        ++ flat_map (written_pair K.bin.writing.written V.bin.writing.written)
+        ++ flat_map (written_pair K.bin.canonical.written V.bin.canonical.written)
         entries.now.entries) }
     ensures ordered { OnOk result (ascending K.cmp entries.now.entries ≡ entries.now.entries) }
     ensures err { OnErr result (output.new.items ≡ take start output.old.items) }
@@ -59,7 +61,7 @@ fn append_btree_map<K: SerBin + Ord, V: SerBin>(
 }
 
 impl<K: DeBin + Key + Ord, V: DeBin> DeBin for BTreeMap<K, V> {
-    ghost is_read = { both_are_read K.is_read V.is_read };
+    ghost is_decodable = { both_are_read K.is_decodable V.is_decodable };
 
     fn de_bin(alloc: Global, offset: &mut usize, bytes: &[u8]) -> Result<BTreeMap<K, V>, DeBinErr> {
         let mut at = *offset;
@@ -70,8 +72,8 @@ impl<K: DeBin + Key + Ord, V: DeBin> DeBin for BTreeMap<K, V> {
     }
 }
 
-/// Reads so many keys with their values, one behind the other, into a map. A key that comes again
-/// takes its last value.
+/// Reads this many keys with their values, one after the other, into a map. A key that comes
+/// again takes its last value.
 fn read_btree_map<K: DeBin + Key + Ord, V: DeBin>(
     alloc: Global,
     count: usize,
@@ -79,13 +81,13 @@ fn read_btree_map<K: DeBin + Key + Ord, V: DeBin>(
     bytes: &[u8],
 ) -> Result<BTreeMap<K, V>, DeBinErr>
     ensures ok { IfOk result (λ entries.
-        ReadsTable K.bin.spelling.spelled V.bin.spelling.spelled count bytes.now offset.old
+        DecodesTable K.bin.encoding.encodes V.bin.encoding.encodes count bytes.now offset.old
         (table_of K.means V.means entries.entries) offset.new) }
     ensures ordered { IfOk result (IsOrdered K.cmp) }
     ensures err { IfErr result
-        (Refuses (SpellsCount count (SpellsPair K.bin.spelling.spelled V.bin.spelling.spelled))
+        (Rejects (EncodesCount count (EncodesPair K.bin.encoding.encodes V.bin.encoding.encodes))
         (drop offset.old bytes.now)) }
-    ensures kept { OnErr result (offset.new ≡ offset.old) }
+    ensures unchanged { OnErr result (offset.new ≡ offset.old) }
 {
     let mut at = *offset;
     let mut entries = BTreeMap::new(alloc);

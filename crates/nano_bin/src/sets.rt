@@ -1,4 +1,5 @@
-// Sets, hashed and ordered: the count, and the items in order.
+//! Sets, hashed and ordered: the count, and the items in order.
+
 ghost use Rattle.std.specs.Prelude.{◌≡◌, ◌≤◌, ◌++◌, map, take, drop, length, IfOk, IfErr, OnOk};
 ghost use Rattle.std.specs.Prelude.{OnErr};
 ghost use Rattle.std.specs.List.{flat_map};
@@ -6,25 +7,26 @@ ghost use Rattle.std.specs.Map.Iter.{deref};
 ghost use Rattle.std.specs.BTreeSet.{IsOrdered};
 ghost use Rattle.nano_value.specs.Sets.{item_set};
 ghost use Rattle.nano_value.specs.InOrder.{ascending_items};
-ghost use Rattle.nano_value.specs.Ties.{set_ties, ordered_ties, seen_ties};
-ghost use Rattle.bin_bytes.specs.Reading.{Refuses};
-ghost use Rattle.nano_bin.specs.Format.{format_as};
-ghost use Rattle.bin_bytes.specs.Items.{SpellsCount};
-ghost use Rattle.nano_bin.specs.Sets.{ReadsSet, set_format, ordered_format};
+ghost use Rattle.nano_value.specs.AgreesLaws.{set_agrees, ordered_agrees, seen_agrees};
+ghost use Rattle.nano_bytes.specs.Reading.{Rejects};
+ghost use Rattle.nano_bin.specs.Codec.{codec_as};
+ghost use Rattle.nano_bytes.specs.Items.{EncodesCount};
+ghost use Rattle.nano_bin.specs.Sets.{DecodesSet};
+ghost use Rattle.nano_bin.specs.SetsLaws.{set_codec, ordered_codec};
 
 use crate::append::{append_count, append_part};
 use crate::read::read_count;
-use crate::traits::{BinFormat, DeBin, SerBin};
-use bin_bytes::{DeBinErr, no_memory};
+use crate::traits::{BinCodec, DeBin, SerBin};
+use nano_bytes::{DeBinErr, no_memory};
 use nano_value::{Key, OrderedKey, items_in_order};
 use std::alloc::{AllocError, Global};
 use std::collections::{BTreeSet, HashSet};
 use std::hash::Hash;
 
-impl<T: BinFormat + Key + Hash> BinFormat for HashSet<T> {
-    ghost bin = { format_as (λ x. x.keys) (set_format T.order T.bin) };
+impl<T: BinCodec + Key + Hash> BinCodec for HashSet<T> {
+    ghost bin = { codec_as (λ x. x.keys) (set_codec T.order T.bin) };
 
-    ghost ties = { seen_ties (set_ties T.ties) (λ x. x.keys) };
+    ghost agrees = { seen_agrees (set_agrees T.agrees) (λ x. x.keys) };
 }
 
 impl<T: SerBin + OrderedKey + Hash> SerBin for HashSet<T> {
@@ -36,8 +38,8 @@ impl<T: SerBin + OrderedKey + Hash> SerBin for HashSet<T> {
     }
 }
 
-/// Appends the items of a hashed set, or cuts `output` back to its first `start` bytes where that
-/// is refused.
+/// Appends the items of a hash set. On error, it truncates `output` back to its first `start`
+/// bytes.
 fn append_hash_set<T: SerBin>(
     alloc: Global,
     items: &[&T],
@@ -47,7 +49,7 @@ fn append_hash_set<T: SerBin>(
     requires { start ≤ length output.old.items }
     ensures ok { OnOk result
         (output.new.items ≡ output.old.items
-        ++ flat_map T.bin.writing.written (map deref items.now)) }
+        ++ flat_map T.bin.canonical.written (map deref items.now)) }
     ensures err { OnErr result (output.new.items ≡ take start output.old.items) }
 {
     for item in items {
@@ -57,7 +59,7 @@ fn append_hash_set<T: SerBin>(
 }
 
 impl<T: DeBin + Key + Hash> DeBin for HashSet<T> {
-    ghost is_read = { T.is_read };
+    ghost is_decodable = { T.is_decodable };
 
     fn de_bin(alloc: Global, offset: &mut usize, bytes: &[u8]) -> Result<HashSet<T>, DeBinErr> {
         let mut at = *offset;
@@ -68,7 +70,7 @@ impl<T: DeBin + Key + Hash> DeBin for HashSet<T> {
     }
 }
 
-/// Reads so many items, one behind the other, into a set.
+/// Reads this many items, one after the other, into a set.
 fn read_hash_set<T: DeBin + Key + Hash>(
     alloc: Global,
     count: usize,
@@ -76,11 +78,11 @@ fn read_hash_set<T: DeBin + Key + Hash>(
     bytes: &[u8],
 ) -> Result<HashSet<T>, DeBinErr>
     ensures ok { IfOk result (λ items.
-        ReadsSet T.bin.spelling.spelled count bytes.now offset.old
+        DecodesSet T.bin.encoding.encodes count bytes.now offset.old
         (item_set T.means items.keys) offset.new) }
     ensures err { IfErr result
-        (Refuses (SpellsCount count T.bin.spelling.spelled) (drop offset.old bytes.now)) }
-    ensures kept { OnErr result (offset.new ≡ offset.old) }
+        (Rejects (EncodesCount count T.bin.encoding.encodes) (drop offset.old bytes.now)) }
+    ensures unchanged { OnErr result (offset.new ≡ offset.old) }
 {
     let mut at = *offset;
     let mut items = HashSet::new(alloc);
@@ -94,10 +96,10 @@ fn read_hash_set<T: DeBin + Key + Hash>(
     Ok(items)
 }
 
-impl<T: BinFormat + Key + Ord> BinFormat for BTreeSet<T> {
-    ghost bin = { format_as (λ x. x.keys) (ordered_format T.order T.cmp T.bin) };
+impl<T: BinCodec + Key + Ord> BinCodec for BTreeSet<T> {
+    ghost bin = { codec_as (λ x. x.keys) (ordered_codec T.order T.cmp T.bin) };
 
-    ghost ties = { seen_ties (ordered_ties T.ties T.cmp) (λ x. x.keys) };
+    ghost agrees = { seen_agrees (ordered_agrees T.agrees T.cmp) (λ x. x.keys) };
 }
 
 impl<T: SerBin + OrderedKey> SerBin for BTreeSet<T> {
@@ -108,8 +110,8 @@ impl<T: SerBin + OrderedKey> SerBin for BTreeSet<T> {
     }
 }
 
-/// Appends the items of an ordered set, or cuts `output` back to its first `start` bytes where that
-/// is refused.
+/// Appends the items of an ordered set. On error, it truncates `output` back to its first
+/// `start` bytes.
 fn append_btree_set<T: SerBin + Ord>(
     alloc: Global,
     items: &BTreeSet<T>,
@@ -118,7 +120,7 @@ fn append_btree_set<T: SerBin + Ord>(
 ) -> Result<(), AllocError>
     requires { start ≤ length output.old.items }
     ensures ok { OnOk result
-        (output.new.items ≡ output.old.items ++ flat_map T.bin.writing.written items.now.keys) }
+        (output.new.items ≡ output.old.items ++ flat_map T.bin.canonical.written items.now.keys) }
     ensures ordered { OnOk result (ascending_items T.cmp items.now.keys ≡ items.now.keys) }
     ensures err { OnErr result (output.new.items ≡ take start output.old.items) }
 {
@@ -129,7 +131,7 @@ fn append_btree_set<T: SerBin + Ord>(
 }
 
 impl<T: DeBin + Key + Ord> DeBin for BTreeSet<T> {
-    ghost is_read = { T.is_read };
+    ghost is_decodable = { T.is_decodable };
 
     fn de_bin(alloc: Global, offset: &mut usize, bytes: &[u8]) -> Result<BTreeSet<T>, DeBinErr> {
         let mut at = *offset;
@@ -140,7 +142,7 @@ impl<T: DeBin + Key + Ord> DeBin for BTreeSet<T> {
     }
 }
 
-/// Reads so many items, one behind the other, into a set.
+/// Reads this many items, one after the other, into a set.
 fn read_btree_set<T: DeBin + Key + Ord>(
     alloc: Global,
     count: usize,
@@ -148,12 +150,12 @@ fn read_btree_set<T: DeBin + Key + Ord>(
     bytes: &[u8],
 ) -> Result<BTreeSet<T>, DeBinErr>
     ensures ok { IfOk result (λ items.
-        ReadsSet T.bin.spelling.spelled count bytes.now offset.old
+        DecodesSet T.bin.encoding.encodes count bytes.now offset.old
         (item_set T.means items.keys) offset.new) }
     ensures ordered { IfOk result (IsOrdered T.cmp) }
     ensures err { IfErr result
-        (Refuses (SpellsCount count T.bin.spelling.spelled) (drop offset.old bytes.now)) }
-    ensures kept { OnErr result (offset.new ≡ offset.old) }
+        (Rejects (EncodesCount count T.bin.encoding.encodes) (drop offset.old bytes.now)) }
+    ensures unchanged { OnErr result (offset.new ≡ offset.old) }
 {
     let mut at = *offset;
     let mut items = BTreeSet::new(alloc);

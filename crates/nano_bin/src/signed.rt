@@ -1,21 +1,22 @@
-// Signed integers: two's complement, the lowest byte first.
+//! Signed integers: two's complement, the lowest byte first.
+
 ghost use Rattle.std.specs.Prelude.{◌≡◌, drop, refl, IfOk, IfErr, OnErr};
 ghost use Rattle.std.specs.Int.{w8, w16, w32, w64, w128};
 ghost use Rattle.nano_value.specs.Meaning.{number};
-ghost use Rattle.nano_value.specs.Ties.{tied};
-ghost use Rattle.bin_bytes.specs.Reading.{Reads, NothingFits};
-ghost use Rattle.nano_bin.specs.Numbers.{SpellsSigned, signed_format, bits_fit_8, bits_fit_16};
-ghost use Rattle.nano_bin.specs.Numbers.{bits_fit_32, bits_fit_64, bits_fit_128};
-ghost use Rattle.bin_bytes.specs.Errors.{IsTooShort};
+ghost use Rattle.nano_value.specs.AgreesLaws.{agreed};
+ghost use Rattle.nano_bytes.specs.Reading.{Decodes, DecodesToNothing};
+ghost use Rattle.nano_bin.specs.NumbersLaws.{EncodesSigned, signed_codec, bits_fit_8, bits_fit_16};
+ghost use Rattle.nano_bin.specs.NumbersLaws.{bits_fit_32, bits_fit_64, bits_fit_128};
+ghost use Rattle.nano_bytes.specs.Errors.{IsTooShort};
 
-use crate::traits::{BinFormat, DeBin, SerBin};
-use bin_bytes::{DeBinErr, append_number, append_run, read_number, read_run};
+use crate::traits::{BinCodec, DeBin, SerBin};
+use nano_bytes::{DeBinErr, append_number, append_run, read_number, read_run};
 use std::alloc::{AllocError, Global};
 
-impl BinFormat for i8 {
-    ghost bin = { signed_format w8 1 bits_fit_8 };
+impl BinCodec for i8 {
+    ghost bin = { signed_codec w8 1 bits_fit_8 };
 
-    ghost ties = { tied };
+    ghost agrees = { agreed };
 }
 
 impl SerBin for i8 {
@@ -29,16 +30,16 @@ impl SerBin for i8 {
 }
 
 impl DeBin for i8 {
-    ghost is_read = { refl };
+    ghost is_decodable = { refl };
 
-    /// Takes no memory, and is refused exactly where fewer than 1 byte is left.
+    /// Allocates nothing, and returns an error exactly if fewer than 1 byte is left.
     fn de_bin(alloc: Global, offset: &mut usize, bytes: &[u8]) -> Result<i8, DeBinErr>
         ensures ok { IfOk result (λ value.
-            Reads (SpellsSigned w8 1) bytes.now offset.old (number value) offset.new) }
+            Decodes (EncodesSigned w8 1) bytes.now offset.old (number value) offset.new) }
         ensures err { IfErr result (λ e.
-            NothingFits (SpellsSigned w8 1) (drop offset.old bytes.now)) }
+            DecodesToNothing (EncodesSigned w8 1) (drop offset.old bytes.now)) }
         ensures short { IfErr result (IsTooShort bytes.now offset.old 1) }
-        ensures kept { OnErr result (offset.new ≡ offset.old) }
+        ensures unchanged { OnErr result (offset.new ≡ offset.old) }
     {
         read_number::<i8, 1>(offset, bytes)
     }
@@ -53,10 +54,10 @@ impl DeBin for i8 {
     }
 }
 
-impl BinFormat for i16 {
-    ghost bin = { signed_format w16 2 bits_fit_16 };
+impl BinCodec for i16 {
+    ghost bin = { signed_codec w16 2 bits_fit_16 };
 
-    ghost ties = { tied };
+    ghost agrees = { agreed };
 }
 
 impl SerBin for i16 {
@@ -70,16 +71,16 @@ impl SerBin for i16 {
 }
 
 impl DeBin for i16 {
-    ghost is_read = { refl };
+    ghost is_decodable = { refl };
 
-    /// Takes no memory, and is refused exactly where fewer than 2 bytes are left.
+    /// Allocates nothing, and returns an error exactly if fewer than 2 bytes are left.
     fn de_bin(alloc: Global, offset: &mut usize, bytes: &[u8]) -> Result<i16, DeBinErr>
         ensures ok { IfOk result (λ value.
-            Reads (SpellsSigned w16 2) bytes.now offset.old (number value) offset.new) }
+            Decodes (EncodesSigned w16 2) bytes.now offset.old (number value) offset.new) }
         ensures err { IfErr result (λ e.
-            NothingFits (SpellsSigned w16 2) (drop offset.old bytes.now)) }
+            DecodesToNothing (EncodesSigned w16 2) (drop offset.old bytes.now)) }
         ensures short { IfErr result (IsTooShort bytes.now offset.old 2) }
-        ensures kept { OnErr result (offset.new ≡ offset.old) }
+        ensures unchanged { OnErr result (offset.new ≡ offset.old) }
     {
         read_number::<i16, 2>(offset, bytes)
     }
@@ -94,10 +95,10 @@ impl DeBin for i16 {
     }
 }
 
-impl BinFormat for i32 {
-    ghost bin = { signed_format w32 4 bits_fit_32 };
+impl BinCodec for i32 {
+    ghost bin = { signed_codec w32 4 bits_fit_32 };
 
-    ghost ties = { tied };
+    ghost agrees = { agreed };
 }
 
 impl SerBin for i32 {
@@ -111,16 +112,16 @@ impl SerBin for i32 {
 }
 
 impl DeBin for i32 {
-    ghost is_read = { refl };
+    ghost is_decodable = { refl };
 
-    /// Takes no memory, and is refused exactly where fewer than 4 bytes are left.
+    /// Allocates nothing, and returns an error exactly if fewer than 4 bytes are left.
     fn de_bin(alloc: Global, offset: &mut usize, bytes: &[u8]) -> Result<i32, DeBinErr>
         ensures ok { IfOk result (λ value.
-            Reads (SpellsSigned w32 4) bytes.now offset.old (number value) offset.new) }
+            Decodes (EncodesSigned w32 4) bytes.now offset.old (number value) offset.new) }
         ensures err { IfErr result (λ e.
-            NothingFits (SpellsSigned w32 4) (drop offset.old bytes.now)) }
+            DecodesToNothing (EncodesSigned w32 4) (drop offset.old bytes.now)) }
         ensures short { IfErr result (IsTooShort bytes.now offset.old 4) }
-        ensures kept { OnErr result (offset.new ≡ offset.old) }
+        ensures unchanged { OnErr result (offset.new ≡ offset.old) }
     {
         read_number::<i32, 4>(offset, bytes)
     }
@@ -135,10 +136,10 @@ impl DeBin for i32 {
     }
 }
 
-impl BinFormat for i64 {
-    ghost bin = { signed_format w64 8 bits_fit_64 };
+impl BinCodec for i64 {
+    ghost bin = { signed_codec w64 8 bits_fit_64 };
 
-    ghost ties = { tied };
+    ghost agrees = { agreed };
 }
 
 impl SerBin for i64 {
@@ -152,16 +153,16 @@ impl SerBin for i64 {
 }
 
 impl DeBin for i64 {
-    ghost is_read = { refl };
+    ghost is_decodable = { refl };
 
-    /// Takes no memory, and is refused exactly where fewer than 8 bytes are left.
+    /// Allocates nothing, and returns an error exactly if fewer than 8 bytes are left.
     fn de_bin(alloc: Global, offset: &mut usize, bytes: &[u8]) -> Result<i64, DeBinErr>
         ensures ok { IfOk result (λ value.
-            Reads (SpellsSigned w64 8) bytes.now offset.old (number value) offset.new) }
+            Decodes (EncodesSigned w64 8) bytes.now offset.old (number value) offset.new) }
         ensures err { IfErr result (λ e.
-            NothingFits (SpellsSigned w64 8) (drop offset.old bytes.now)) }
+            DecodesToNothing (EncodesSigned w64 8) (drop offset.old bytes.now)) }
         ensures short { IfErr result (IsTooShort bytes.now offset.old 8) }
-        ensures kept { OnErr result (offset.new ≡ offset.old) }
+        ensures unchanged { OnErr result (offset.new ≡ offset.old) }
     {
         read_number::<i64, 8>(offset, bytes)
     }
@@ -176,10 +177,10 @@ impl DeBin for i64 {
     }
 }
 
-impl BinFormat for i128 {
-    ghost bin = { signed_format w128 16 bits_fit_128 };
+impl BinCodec for i128 {
+    ghost bin = { signed_codec w128 16 bits_fit_128 };
 
-    ghost ties = { tied };
+    ghost agrees = { agreed };
 }
 
 impl SerBin for i128 {
@@ -197,16 +198,16 @@ impl SerBin for i128 {
 }
 
 impl DeBin for i128 {
-    ghost is_read = { refl };
+    ghost is_decodable = { refl };
 
-    /// Takes no memory, and is refused exactly where fewer than 16 bytes are left.
+    /// Allocates nothing, and returns an error exactly if fewer than 16 bytes are left.
     fn de_bin(alloc: Global, offset: &mut usize, bytes: &[u8]) -> Result<i128, DeBinErr>
         ensures ok { IfOk result (λ value.
-            Reads (SpellsSigned w128 16) bytes.now offset.old (number value) offset.new) }
+            Decodes (EncodesSigned w128 16) bytes.now offset.old (number value) offset.new) }
         ensures err { IfErr result (λ e.
-            NothingFits (SpellsSigned w128 16) (drop offset.old bytes.now)) }
+            DecodesToNothing (EncodesSigned w128 16) (drop offset.old bytes.now)) }
         ensures short { IfErr result (IsTooShort bytes.now offset.old 16) }
-        ensures kept { OnErr result (offset.new ≡ offset.old) }
+        ensures unchanged { OnErr result (offset.new ≡ offset.old) }
     {
         read_number::<i128, 16>(offset, bytes)
     }

@@ -1,17 +1,20 @@
-// Tuples: one part behind the other. A longer tuple is its first part and the tuple of the others.
-ghost use Rattle.nano_value.specs.Ties.{pair_ties, seen_ties};
-ghost use Rattle.nano_bin.specs.Format.{format_as, both_are_read};
-ghost use Rattle.nano_bin.specs.Tuples.{pair_format};
+//! Tuples: one part after the other. A longer tuple is its first part and the tuple of the
+//! others.
+
+ghost use Rattle.nano_value.specs.AgreesLaws.{pair_agrees, seen_agrees};
+ghost use Rattle.nano_bin.specs.Codec.{codec_as};
+ghost use Rattle.nano_bin.specs.CodecLaws.{both_are_read};
+ghost use Rattle.nano_bin.specs.TuplesLaws.{pair_codec};
 
 use crate::append::append_part;
-use crate::traits::{BinFormat, DeBin, SerBin};
-use bin_bytes::DeBinErr;
+use crate::traits::{BinCodec, DeBin, SerBin};
+use nano_bytes::DeBinErr;
 use std::alloc::{AllocError, Global};
 
-impl<A: BinFormat, B: BinFormat> BinFormat for (A, B) {
-    ghost bin = { pair_format A.bin B.bin };
+impl<A: BinCodec, B: BinCodec> BinCodec for (A, B) {
+    ghost bin = { pair_codec A.bin B.bin };
 
-    ghost ties = { pair_ties A.ties B.ties };
+    ghost agrees = { pair_agrees A.agrees B.agrees };
 }
 
 impl<A: SerBin, B: SerBin> SerBin for (A, B) {
@@ -23,7 +26,7 @@ impl<A: SerBin, B: SerBin> SerBin for (A, B) {
 }
 
 impl<A: DeBin, B: DeBin> DeBin for (A, B) {
-    ghost is_read = { both_are_read A.is_read B.is_read };
+    ghost is_decodable = { both_are_read A.is_decodable B.is_decodable };
 
     fn de_bin(alloc: Global, offset: &mut usize, bytes: &[u8]) -> Result<(A, B), DeBinErr> {
         let mut at = *offset;
@@ -34,11 +37,11 @@ impl<A: DeBin, B: DeBin> DeBin for (A, B) {
     }
 }
 
-impl<A: BinFormat, B: BinFormat, C: BinFormat> BinFormat for (A, B, C) {
-    ghost bin = { format_as (λ x. (x.0, (x.1, x.2)))
-        (pair_format A.bin (pair_format B.bin C.bin)) };
+impl<A: BinCodec, B: BinCodec, C: BinCodec> BinCodec for (A, B, C) {
+    ghost bin = { codec_as (λ x. (x.0, (x.1, x.2)))
+        (pair_codec A.bin (pair_codec B.bin C.bin)) };
 
-    ghost ties = { seen_ties (pair_ties A.ties (pair_ties B.ties C.ties))
+    ghost agrees = { seen_agrees (pair_agrees A.agrees (pair_agrees B.agrees C.agrees))
         (λ x. (x.0, (x.1, x.2))) };
 }
 
@@ -52,7 +55,7 @@ impl<A: SerBin, B: SerBin, C: SerBin> SerBin for (A, B, C) {
 }
 
 impl<A: DeBin, B: DeBin, C: DeBin> DeBin for (A, B, C) {
-    ghost is_read = { both_are_read A.is_read (both_are_read B.is_read C.is_read) };
+    ghost is_decodable = { both_are_read A.is_decodable (both_are_read B.is_decodable C.is_decodable) };
 
     fn de_bin(alloc: Global, offset: &mut usize, bytes: &[u8]) -> Result<(A, B, C), DeBinErr> {
         let (first, (second, third)) = <(A, (B, C))>::de_bin(alloc, offset, bytes)?;
@@ -60,11 +63,11 @@ impl<A: DeBin, B: DeBin, C: DeBin> DeBin for (A, B, C) {
     }
 }
 
-impl<A: BinFormat, B: BinFormat, C: BinFormat, D: BinFormat> BinFormat for (A, B, C, D) {
-    ghost bin = { format_as (λ x. (x.0, (x.1, (x.2, x.3))))
-        (pair_format A.bin (pair_format B.bin (pair_format C.bin D.bin))) };
+impl<A: BinCodec, B: BinCodec, C: BinCodec, D: BinCodec> BinCodec for (A, B, C, D) {
+    ghost bin = { codec_as (λ x. (x.0, (x.1, (x.2, x.3))))
+        (pair_codec A.bin (pair_codec B.bin (pair_codec C.bin D.bin))) };
 
-    ghost ties = { seen_ties (pair_ties A.ties (pair_ties B.ties (pair_ties C.ties D.ties)))
+    ghost agrees = { seen_agrees (pair_agrees A.agrees (pair_agrees B.agrees (pair_agrees C.agrees D.agrees)))
         (λ x. (x.0, (x.1, (x.2, x.3)))) };
 }
 
@@ -79,8 +82,8 @@ impl<A: SerBin, B: SerBin, C: SerBin, D: SerBin> SerBin for (A, B, C, D) {
 }
 
 impl<A: DeBin, B: DeBin, C: DeBin, D: DeBin> DeBin for (A, B, C, D) {
-    ghost is_read = { both_are_read A.is_read
-        (both_are_read B.is_read (both_are_read C.is_read D.is_read)) };
+    ghost is_decodable = { both_are_read A.is_decodable
+        (both_are_read B.is_decodable (both_are_read C.is_decodable D.is_decodable)) };
 
     fn de_bin(alloc: Global, offset: &mut usize, bytes: &[u8]) -> Result<(A, B, C, D), DeBinErr> {
         let (first, (second, (third, fourth))) = <(A, (B, (C, D)))>::de_bin(alloc, offset, bytes)?;

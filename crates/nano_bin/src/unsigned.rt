@@ -1,21 +1,22 @@
-// Unsigned integers: the lowest byte first.
+//! Unsigned integers: the lowest byte first.
+
 ghost use Rattle.std.specs.Prelude.{◌≡◌, drop, refl, IfOk, IfErr, OnErr};
 ghost use Rattle.nano_value.specs.Meaning.{whole};
-ghost use Rattle.nano_value.specs.Ties.{tied};
-ghost use Rattle.bin_bytes.specs.Reading.{Reads, NothingFits};
-ghost use Rattle.nano_bin.specs.Numbers.{SpellsUnsigned, unsigned_format};
-ghost use Rattle.bin_bytes.specs.Errors.{IsTooShort};
+ghost use Rattle.nano_value.specs.AgreesLaws.{agreed};
+ghost use Rattle.nano_bytes.specs.Reading.{Decodes, DecodesToNothing};
+ghost use Rattle.nano_bin.specs.NumbersLaws.{EncodesUnsigned, unsigned_codec};
+ghost use Rattle.nano_bytes.specs.Errors.{IsTooShort};
 
-use crate::traits::{BinFormat, DeBin, SerBin};
-use bin_bytes::{
+use crate::traits::{BinCodec, DeBin, SerBin};
+use nano_bytes::{
     DeBinErr, append_bytes, append_number, append_run, no_memory, read_bytes, read_number, read_run,
 };
 use std::alloc::{AllocError, Global};
 
-impl BinFormat for u8 {
-    ghost bin = { unsigned_format 1 };
+impl BinCodec for u8 {
+    ghost bin = { unsigned_codec 1 };
 
-    ghost ties = { tied };
+    ghost agrees = { agreed };
 }
 
 impl SerBin for u8 {
@@ -29,16 +30,16 @@ impl SerBin for u8 {
 }
 
 impl DeBin for u8 {
-    ghost is_read = { refl };
+    ghost is_decodable = { refl };
 
-    /// Takes no memory, and is refused exactly where fewer than 1 byte is left.
+    /// Allocates nothing, and returns an error exactly if fewer than 1 byte is left.
     fn de_bin(alloc: Global, offset: &mut usize, bytes: &[u8]) -> Result<u8, DeBinErr>
         ensures ok { IfOk result (λ value.
-            Reads (SpellsUnsigned 1) bytes.now offset.old (whole value) offset.new) }
+            Decodes (EncodesUnsigned 1) bytes.now offset.old (whole value) offset.new) }
         ensures err { IfErr result (λ e.
-            NothingFits (SpellsUnsigned 1) (drop offset.old bytes.now)) }
+            DecodesToNothing (EncodesUnsigned 1) (drop offset.old bytes.now)) }
         ensures short { IfErr result (IsTooShort bytes.now offset.old 1) }
-        ensures kept { OnErr result (offset.new ≡ offset.old) }
+        ensures unchanged { OnErr result (offset.new ≡ offset.old) }
     {
         read_number::<u8, 1>(offset, bytes)
     }
@@ -59,10 +60,10 @@ impl DeBin for u8 {
     }
 }
 
-impl BinFormat for u16 {
-    ghost bin = { unsigned_format 2 };
+impl BinCodec for u16 {
+    ghost bin = { unsigned_codec 2 };
 
-    ghost ties = { tied };
+    ghost agrees = { agreed };
 }
 
 impl SerBin for u16 {
@@ -76,16 +77,16 @@ impl SerBin for u16 {
 }
 
 impl DeBin for u16 {
-    ghost is_read = { refl };
+    ghost is_decodable = { refl };
 
-    /// Takes no memory, and is refused exactly where fewer than 2 bytes are left.
+    /// Allocates nothing, and returns an error exactly if fewer than 2 bytes are left.
     fn de_bin(alloc: Global, offset: &mut usize, bytes: &[u8]) -> Result<u16, DeBinErr>
         ensures ok { IfOk result (λ value.
-            Reads (SpellsUnsigned 2) bytes.now offset.old (whole value) offset.new) }
+            Decodes (EncodesUnsigned 2) bytes.now offset.old (whole value) offset.new) }
         ensures err { IfErr result (λ e.
-            NothingFits (SpellsUnsigned 2) (drop offset.old bytes.now)) }
+            DecodesToNothing (EncodesUnsigned 2) (drop offset.old bytes.now)) }
         ensures short { IfErr result (IsTooShort bytes.now offset.old 2) }
-        ensures kept { OnErr result (offset.new ≡ offset.old) }
+        ensures unchanged { OnErr result (offset.new ≡ offset.old) }
     {
         read_number::<u16, 2>(offset, bytes)
     }
@@ -100,10 +101,10 @@ impl DeBin for u16 {
     }
 }
 
-impl BinFormat for u32 {
-    ghost bin = { unsigned_format 4 };
+impl BinCodec for u32 {
+    ghost bin = { unsigned_codec 4 };
 
-    ghost ties = { tied };
+    ghost agrees = { agreed };
 }
 
 impl SerBin for u32 {
@@ -117,16 +118,16 @@ impl SerBin for u32 {
 }
 
 impl DeBin for u32 {
-    ghost is_read = { refl };
+    ghost is_decodable = { refl };
 
-    /// Takes no memory, and is refused exactly where fewer than 4 bytes are left.
+    /// Allocates nothing, and returns an error exactly if fewer than 4 bytes are left.
     fn de_bin(alloc: Global, offset: &mut usize, bytes: &[u8]) -> Result<u32, DeBinErr>
         ensures ok { IfOk result (λ value.
-            Reads (SpellsUnsigned 4) bytes.now offset.old (whole value) offset.new) }
+            Decodes (EncodesUnsigned 4) bytes.now offset.old (whole value) offset.new) }
         ensures err { IfErr result (λ e.
-            NothingFits (SpellsUnsigned 4) (drop offset.old bytes.now)) }
+            DecodesToNothing (EncodesUnsigned 4) (drop offset.old bytes.now)) }
         ensures short { IfErr result (IsTooShort bytes.now offset.old 4) }
-        ensures kept { OnErr result (offset.new ≡ offset.old) }
+        ensures unchanged { OnErr result (offset.new ≡ offset.old) }
     {
         read_number::<u32, 4>(offset, bytes)
     }
@@ -141,10 +142,10 @@ impl DeBin for u32 {
     }
 }
 
-impl BinFormat for u64 {
-    ghost bin = { unsigned_format 8 };
+impl BinCodec for u64 {
+    ghost bin = { unsigned_codec 8 };
 
-    ghost ties = { tied };
+    ghost agrees = { agreed };
 }
 
 impl SerBin for u64 {
@@ -158,16 +159,16 @@ impl SerBin for u64 {
 }
 
 impl DeBin for u64 {
-    ghost is_read = { refl };
+    ghost is_decodable = { refl };
 
-    /// Takes no memory, and is refused exactly where fewer than 8 bytes are left.
+    /// Allocates nothing, and returns an error exactly if fewer than 8 bytes are left.
     fn de_bin(alloc: Global, offset: &mut usize, bytes: &[u8]) -> Result<u64, DeBinErr>
         ensures ok { IfOk result (λ value.
-            Reads (SpellsUnsigned 8) bytes.now offset.old (whole value) offset.new) }
+            Decodes (EncodesUnsigned 8) bytes.now offset.old (whole value) offset.new) }
         ensures err { IfErr result (λ e.
-            NothingFits (SpellsUnsigned 8) (drop offset.old bytes.now)) }
+            DecodesToNothing (EncodesUnsigned 8) (drop offset.old bytes.now)) }
         ensures short { IfErr result (IsTooShort bytes.now offset.old 8) }
-        ensures kept { OnErr result (offset.new ≡ offset.old) }
+        ensures unchanged { OnErr result (offset.new ≡ offset.old) }
     {
         read_number::<u64, 8>(offset, bytes)
     }
@@ -182,10 +183,10 @@ impl DeBin for u64 {
     }
 }
 
-impl BinFormat for usize {
-    ghost bin = { unsigned_format 8 };
+impl BinCodec for usize {
+    ghost bin = { unsigned_codec 8 };
 
-    ghost ties = { tied };
+    ghost agrees = { agreed };
 }
 
 impl SerBin for usize {
@@ -203,16 +204,16 @@ impl SerBin for usize {
 }
 
 impl DeBin for usize {
-    ghost is_read = { refl };
+    ghost is_decodable = { refl };
 
-    /// Takes no memory, and is refused exactly where fewer than 8 bytes are left.
+    /// Allocates nothing, and returns an error exactly if fewer than 8 bytes are left.
     fn de_bin(alloc: Global, offset: &mut usize, bytes: &[u8]) -> Result<usize, DeBinErr>
         ensures ok { IfOk result (λ value.
-            Reads (SpellsUnsigned 8) bytes.now offset.old (whole value) offset.new) }
+            Decodes (EncodesUnsigned 8) bytes.now offset.old (whole value) offset.new) }
         ensures err { IfErr result (λ e.
-            NothingFits (SpellsUnsigned 8) (drop offset.old bytes.now)) }
+            DecodesToNothing (EncodesUnsigned 8) (drop offset.old bytes.now)) }
         ensures short { IfErr result (IsTooShort bytes.now offset.old 8) }
-        ensures kept { OnErr result (offset.new ≡ offset.old) }
+        ensures unchanged { OnErr result (offset.new ≡ offset.old) }
     {
         read_number::<usize, 8>(offset, bytes)
     }
@@ -227,10 +228,10 @@ impl DeBin for usize {
     }
 }
 
-impl BinFormat for u128 {
-    ghost bin = { unsigned_format 16 };
+impl BinCodec for u128 {
+    ghost bin = { unsigned_codec 16 };
 
-    ghost ties = { tied };
+    ghost agrees = { agreed };
 }
 
 impl SerBin for u128 {
@@ -248,16 +249,16 @@ impl SerBin for u128 {
 }
 
 impl DeBin for u128 {
-    ghost is_read = { refl };
+    ghost is_decodable = { refl };
 
-    /// Takes no memory, and is refused exactly where fewer than 16 bytes are left.
+    /// Allocates nothing, and returns an error exactly if fewer than 16 bytes are left.
     fn de_bin(alloc: Global, offset: &mut usize, bytes: &[u8]) -> Result<u128, DeBinErr>
         ensures ok { IfOk result (λ value.
-            Reads (SpellsUnsigned 16) bytes.now offset.old (whole value) offset.new) }
+            Decodes (EncodesUnsigned 16) bytes.now offset.old (whole value) offset.new) }
         ensures err { IfErr result (λ e.
-            NothingFits (SpellsUnsigned 16) (drop offset.old bytes.now)) }
+            DecodesToNothing (EncodesUnsigned 16) (drop offset.old bytes.now)) }
         ensures short { IfErr result (IsTooShort bytes.now offset.old 16) }
-        ensures kept { OnErr result (offset.new ≡ offset.old) }
+        ensures unchanged { OnErr result (offset.new ≡ offset.old) }
     {
         read_number::<u128, 16>(offset, bytes)
     }

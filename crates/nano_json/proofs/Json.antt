@@ -2,21 +2,22 @@
 use Rattle.std.specs.declared.str.Chars.{Chars}
 use Rattle.std.specs.Str.Iter.{chars_rest}
 use Rattle.std.proofs.Common.{◌≡◌, ◌≢◌, ◌<◌, ◌≤◌, ◌^◌, Bool, true, false, cond, [], length, refl, ap, sym, subst, ◌∙◌, arith}
-use Rattle.nano_text.proofs.LiveText.{live_fewer}
+use Rattle.nano_text.proofs.RemainingText.{remaining_fewer}
 use Rattle.nano_value.specs.Meaning.{Meaning, usize_bound}
-use Rattle.nano_value.specs.Ties.{Ties}
-use Rattle.text_values.specs.CutLaws.{CutLaws}
-use Rattle.text_values.proofs.TokensLeft.{tokens_left}
-use Rattle.json_tokens.specs.Cut.{Cut, nothing}
-use Rattle.json_tokens.specs.Json.{MayBegin, json, json_grammar}
-use Rattle.json_tokens.specs.Marks.{is_null, is_block_close, is_curly_close}
-use Rattle.json_tokens.specs.Scan.{is_end}
-use Rattle.json_tokens.specs.State.{at}
-use Rattle.json_tokens.specs.Token.{Token, null, curly_close, block_close, end}
-use Rattle.json_tokens.specs.declared.state.DeJsonState.{DeJsonState}
-use Rattle.json_tokens.proofs.Cuts.{cut_one_way}
-use Rattle.json_tokens.proofs.Shorter.{cut_takes}
-use Rattle.nano_json.specs.Format.{Format}
+use Rattle.nano_value.specs.Agrees.{Agrees}
+use Rattle.nano_grammar.specs.CutLaws.{CutLaws}
+use Rattle.nano_grammar.proofs.TokensLeft.{tokens_left}
+use Rattle.nano_json_tokens.specs.Cut.{Cut, nothing}
+use Rattle.nano_json_tokens.specs.Json.{MayBegin, json_grammar}
+use Rattle.nano_json_tokens.specs.JsonLaws.{json}
+use Rattle.nano_json_tokens.specs.Punctuation.{is_null, is_block_close, is_curly_close}
+use Rattle.nano_json_tokens.specs.Scan.{is_end}
+use Rattle.nano_json_tokens.specs.State.{at}
+use Rattle.nano_json_tokens.specs.Token.{Token, null, curly_close, block_close, end}
+use Rattle.nano_json_tokens.specs.declared.state.DeJsonState.{DeJsonState}
+use Rattle.nano_json_tokens.proofs.Cuts.{cut_one_way}
+use Rattle.nano_json_tokens.proofs.Shorter.{cut_takes}
+use Rattle.nano_json.specs.Codec.{Codec}
 
 pub begins_no_end : (t : Token) → MayBegin t → is_end t ≡ false
 begins_no_end end h = absurd h
@@ -44,7 +45,7 @@ zero_or_one false = omega arith
 pub few_left : (s : DeJsonState) (i : Chars) → length (chars_rest i) < 2 ^ 63
     → tokens_left is_end (at s i) < usize_bound
 unfolding tokens_left
-few_left s i few = omega (arith, few, live_fewer s.cur i, zero_or_one (is_end (at s i).token))
+few_left s i few = omega (arith, few, remaining_fewer s.cur i, zero_or_one (is_end (at s i).token))
 
 -- ---- what the tests of the pending token say
 
@@ -72,8 +73,8 @@ not_curly t e is = let x = sym e ∙ ap is_curly_close is in cc x
 -- ---- what is written
 
 -- what is legal for the type is legal for the format
-pub legal_there : {A : Type 0} {means : A → Meaning} {legal : Meaning → Type 0} (f : Format A)
-    → Ties means legal f.writing.means f.spelling.legal → (x : A) → legal (means x)
-    → f.spelling.legal (f.writing.means x)
+pub legal_there : {A : Type 0} {means : A → Meaning} {legal : Meaning → Type 0} (f : Codec A)
+    → Agrees means legal f.canonical.means f.encoding.legal → (x : A) → legal (means x)
+    → f.encoding.legal (f.canonical.means x)
 legal_there {means = means} f t x h =
-    subst f.spelling.legal (λ i. sym t.means_is i x) (t.allows (means x) h)
+    subst f.encoding.legal (λ i. sym t.means_is i x) (t.allows (means x) h)

@@ -1,50 +1,45 @@
 -- What the readers of values answer.
 use Rattle.std.specs.Prelude.{◌≡◌, ◌↔◌, ℕ, List, [], true, false, Result, IfOk, IfErr, string_bytes}
-use Rattle.text_values.specs.Tokens.{At, Reads as ReadsIn, ReadsText as ReadsTextIn}
-use Rattle.text_values.specs.Whole.{FitsWhole, GoesOn, NothingFitsWhole, end_message}
-use Rattle.json_tokens.specs.Cut.{Cut}
-use Rattle.json_tokens.specs.Token.{Token, end as end_token}
-use Rattle.json_tokens.specs.declared.error.DeJsonErr.{DeJsonErr}
-use Rattle.nano_json.specs.Spelling.{NothingFits, NothingFitsText}
+use Rattle.nano_grammar.specs.Tokens.{At, Decodes as DecodesIn, DecodesText as DecodesTextIn}
+use Rattle.nano_grammar.specs.Whole.{WholeDecodesTo, GoesOn, WholeDecodesToNothing, end_message}
+use Rattle.nano_json_tokens.specs.Cut.{Cut}
+use Rattle.nano_json_tokens.specs.Token.{Token, end as end_token}
+use Rattle.nano_json_tokens.specs.declared.error.DeJsonErr.{DeJsonErr}
+use Rattle.nano_json.specs.Encoding.{DecodesToNothing, TextDecodesToNothing}
 
--- a value that is read is spelled from here to there, by what it means
-abbrev pub Reads : {V A : Type 0} → (List Token → V → Type 0) → (A → V) → At Token → At Token
-    → Result A DeJsonErr → Type 0
-Reads spelled means start end result = ReadsIn Cut spelled means start end result
+-- an error other than out of memory reports the fact; an out-of-memory error has no message
+abbrev pub Reports : Type 0 → DeJsonErr → Type 0
+Reports fact e = (e.memory ≡ false → fact) × (e.memory ≡ true → string_bytes e.msg ≡ [])
 
--- a value that is read is spelled at the beginning of the text, by what it means
-abbrev pub ReadsText : {V A : Type 0} → (List Token → V → Type 0) → (A → V) → List ℕ
-    → Result A DeJsonErr → Type 0
-ReadsText spelled means text result = ReadsTextIn Cut spelled means text result
+module _ {V A : Type 0} (encodes : List Token → V → Type 0) where
+  -- a value that is read is encoded from here to there, by what it means
+  abbrev pub Decodes : (A → V) → At Token → At Token → Result A DeJsonErr → Type 0
+  Decodes means start end result = DecodesIn Cut encodes means start end result
 
--- an error that is not for want of memory tells the fact; one for want of memory has no message
-abbrev pub Tells : Type 0 → DeJsonErr → Type 0
-Tells fact e = (e.memory ≡ false → fact) × (e.memory ≡ true → string_bytes e.msg ≡ [])
+  -- a value that is read is encoded at the beginning of the text, by what it means
+  abbrev pub DecodesText : (A → V) → List ℕ → Result A DeJsonErr → Type 0
+  DecodesText means text result = DecodesTextIn Cut encodes means text result
 
--- an error says that no value is spelled here
-abbrev pub Refuses : {V A : Type 0} → (List Token → V → Type 0) → At Token → Result A DeJsonErr
-    → Type 0
-Refuses spelled start result = IfErr result (Tells (NothingFits spelled start))
+  -- a value that is read is encoded by the whole input, by what it means
+  abbrev pub DecodesWhole : (A → V) → List ℕ → Result A DeJsonErr → Type 0
+  DecodesWhole means bytes result =
+      IfOk result (λ value. WholeDecodesTo Cut encodes end_token bytes (means value))
 
--- an error says that no value is spelled at the beginning of the text
-abbrev pub RefusesText : {V A : Type 0} → (List Token → V → Type 0) → List ℕ
-    → Result A DeJsonErr → Type 0
-RefusesText spelled text result = IfErr result (Tells (NothingFitsText spelled text))
+  -- an error reports that no value is encoded here
+  abbrev pub Rejects : At Token → Result A DeJsonErr → Type 0
+  Rejects start result = IfErr result (Reports (DecodesToNothing encodes start))
 
--- a value that is read is spelled by the whole input, by what it means
-abbrev pub ReadsWhole : {V A : Type 0} → (List Token → V → Type 0) → (A → V) → List ℕ
-    → Result A DeJsonErr → Type 0
-ReadsWhole spelled means bytes result =
-    IfOk result (λ value. FitsWhole Cut spelled end_token bytes (means value))
+  -- an error reports that no value is encoded at the beginning of the text
+  abbrev pub RejectsText : List ℕ → Result A DeJsonErr → Type 0
+  RejectsText text result = IfErr result (Reports (TextDecodesToNothing encodes text))
 
--- an error says that the whole input spells no value
-abbrev pub RefusesWhole : {V A : Type 0} → (List Token → V → Type 0) → List ℕ
-    → Result A DeJsonErr → Type 0
-RefusesWhole spelled bytes result = IfErr result (Tells (NothingFitsWhole Cut spelled end_token bytes))
+  -- an error reports that the whole input encodes no value
+  abbrev pub RejectsWhole : List ℕ → Result A DeJsonErr → Type 0
+  RejectsWhole bytes result =
+      IfErr result (Reports (WholeDecodesToNothing Cut encodes end_token bytes))
 
--- an error that is not for want of memory has the message `Cannot parse end ` just where a value
--- fits, and another token or a NUL stands behind it
-abbrev pub NamesTheEnd : {V A : Type 0} → (List Token → V → Type 0) → List ℕ
-    → Result A DeJsonErr → Type 0
-NamesTheEnd spelled bytes result = IfErr result (λ e.
-    e.memory ≡ false → (string_bytes e.msg ≡ end_message) ↔ GoesOn Cut spelled end_token bytes)
+  -- an error other than out of memory has the message `Cannot parse end ` exactly where a value
+  -- decodes, and another token or a NUL follows it
+  abbrev pub NamesTheEnd : List ℕ → Result A DeJsonErr → Type 0
+  NamesTheEnd bytes result = IfErr result (λ e. e.memory ≡ false
+      → (string_bytes e.msg ≡ end_message) ↔ GoesOn Cut encodes end_token bytes)

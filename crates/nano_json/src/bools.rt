@@ -1,20 +1,22 @@
-// Truth values and the unit: one word each.
-// Their readers are inlined: what is read then passes through no answer with room for an error.
+//! Truth values and the unit: one word each.
+//! The readers are inlined, so a value that is read passes through no result with space for an
+//! error.
+
 ghost use Rattle.nano_value.specs.Meaning.{truth, nothing};
-ghost use Rattle.nano_value.specs.Ties.{tied};
-ghost use Rattle.nano_json.specs.Bools.{truths, units, truth_format, unit_format};
-ghost use Rattle.nano_json.specs.Readers.{Reads, Refuses};
+ghost use Rattle.nano_value.specs.AgreesLaws.{agreed};
+ghost use Rattle.nano_json.specs.BoolsLaws.{truths, units, truth_codec, unit_codec};
+ghost use Rattle.nano_json.specs.Readers.{Decodes, Rejects};
 ghost use Rattle.nano_json.specs.State.{at};
 
-use crate::traits::{DeJson, JsonFormat, SerJson};
-use json_tokens::{DeJsonErr, DeJsonState, SerJsonState, end_if_refused};
+use crate::traits::{DeJson, JsonCodec, SerJson};
+use nano_json_tokens::{DeJsonErr, DeJsonState, SerJsonState, end_on_error};
 use std::alloc::{AllocError, Global};
 use std::str::Chars;
 
-impl JsonFormat for bool {
-    ghost json = { truth_format };
+impl JsonCodec for bool {
+    ghost json = { truth_codec };
 
-    ghost ties = { tied };
+    ghost agrees = { agreed };
 }
 
 impl SerJson for bool {
@@ -26,16 +28,16 @@ impl SerJson for bool {
     }
 }
 
-/// Reads `true` or `false`. Where it is refused, the state stands anywhere.
+/// Reads `true` or `false`. On error, the state may be anywhere.
 #[inline(always)]
 fn read_bool(
     alloc: Global,
     state: &mut DeJsonState,
     input: &mut Chars<'_>,
 ) -> Result<bool, DeJsonErr>
-    ensures fits { Reads truths.spelled truth
+    ensures decodes { Decodes truths.encodes truth
         (at state.old input.old) (at state.new input.new) result }
-    ensures refused { Refuses truths.spelled (at state.old input.old) result }
+    ensures rejected { Rejects truths.encodes (at state.old input.old) result }
 {
     let value = state.as_bool(alloc)?;
     state.next_tok(alloc, input)?;
@@ -50,14 +52,14 @@ impl DeJson for bool {
         input: &mut Chars<'_>,
     ) -> Result<bool, DeJsonErr> {
         let read = read_bool(alloc, state, input);
-        end_if_refused(state, read)
+        end_on_error(state, read)
     }
 }
 
-impl JsonFormat for () {
-    ghost json = { unit_format };
+impl JsonCodec for () {
+    ghost json = { unit_codec };
 
-    ghost ties = { tied };
+    ghost agrees = { agreed };
 }
 
 impl SerJson for () {
@@ -66,12 +68,12 @@ impl SerJson for () {
     }
 }
 
-/// Reads `null`. Where it is refused, the state stands anywhere.
+/// Reads `null`. On error, the state may be anywhere.
 #[inline(always)]
 fn read_unit(alloc: Global, state: &mut DeJsonState, input: &mut Chars<'_>) -> Result<(), DeJsonErr>
-    ensures fits { Reads units.spelled (λ _. nothing)
+    ensures decodes { Decodes units.encodes (λ _. nothing)
         (at state.old input.old) (at state.new input.new) result }
-    ensures refused { Refuses units.spelled (at state.old input.old) result }
+    ensures rejected { Rejects units.encodes (at state.old input.old) result }
 {
     if state.is_null() {
         return state.next_tok(alloc, input);
@@ -87,6 +89,6 @@ impl DeJson for () {
         input: &mut Chars<'_>,
     ) -> Result<(), DeJsonErr> {
         let read = read_unit(alloc, state, input);
-        end_if_refused(state, read)
+        end_on_error(state, read)
     }
 }

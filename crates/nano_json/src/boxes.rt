@@ -1,18 +1,19 @@
-// Boxes: each is spelled as its content.
-ghost use Rattle.nano_value.specs.Ties.{seen_ties};
-ghost use Rattle.nano_json.specs.Format.{format_as};
-ghost use Rattle.nano_json.specs.Readers.{Reads, Refuses};
+//! Boxes: each is encoded as its content.
+
+ghost use Rattle.nano_value.specs.AgreesLaws.{seen_agrees};
+ghost use Rattle.nano_json.specs.Codec.{codec_as};
+ghost use Rattle.nano_json.specs.Readers.{Decodes, Rejects};
 ghost use Rattle.nano_json.specs.State.{at};
 
-use crate::traits::{DeJson, JsonFormat, SerJson};
-use json_tokens::{DeJsonErr, DeJsonState, SerJsonState, end_if_refused};
+use crate::traits::{DeJson, JsonCodec, SerJson};
+use nano_json_tokens::{DeJsonErr, DeJsonState, SerJsonState, end_on_error};
 use std::alloc::{AllocError, Global};
 use std::str::Chars;
 
-impl<T: JsonFormat> JsonFormat for Box<T> {
-    ghost json = { format_as (λ x. x.value) T.json };
+impl<T: JsonCodec> JsonCodec for Box<T> {
+    ghost json = { codec_as (λ x. x.value) T.json };
 
-    ghost ties = { seen_ties T.ties (λ x. x.value) };
+    ghost agrees = { seen_agrees T.agrees (λ x. x.value) };
 }
 
 impl<T: SerJson> SerJson for Box<T> {
@@ -21,20 +22,20 @@ impl<T: SerJson> SerJson for Box<T> {
     }
 }
 
-/// Reads a value into a box. Where it is refused, the state stands anywhere.
+/// Reads a value into a box. On error, the state may be anywhere.
 fn read_box<T: DeJson>(
     alloc: Global,
     state: &mut DeJsonState,
     input: &mut Chars<'_>,
 ) -> Result<Box<T>, DeJsonErr>
-    ensures fits { Reads T.json.spelling.spelled (λ x. T.means x.value)
+    ensures decodes { Decodes T.json.encoding.encodes (λ x. T.means x.value)
         (at state.old input.old) (at state.new input.new) result }
-    ensures refused { Refuses T.json.spelling.spelled (at state.old input.old) result }
+    ensures rejected { Rejects T.json.encoding.encodes (at state.old input.old) result }
 {
     let value = T::de_json(alloc, state, input)?;
     match Box::new(alloc, value) {
         Ok(value) => Ok(value),
-        Err(_refused) => Err(state.err_memory(alloc)),
+        Err(_rejected) => Err(state.err_memory(alloc)),
     }
 }
 
@@ -45,6 +46,6 @@ impl<T: DeJson> DeJson for Box<T> {
         input: &mut Chars<'_>,
     ) -> Result<Box<T>, DeJsonErr> {
         let read = read_box(alloc, state, input);
-        end_if_refused(state, read)
+        end_on_error(state, read)
     }
 }

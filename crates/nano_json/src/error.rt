@@ -1,2 +1,3 @@
-// The tokens of JSON with their errors and states, passed on.
-pub use json_tokens::{DeJsonErr, DeJsonState, DeJsonTok, SerJsonState};
+//! The tokens of JSON with their errors and states, passed on.
+
+pub use nano_json_tokens::{DeJsonErr, DeJsonState, DeJsonTok, SerJsonState};

@@ -1,37 +1,39 @@
-// Lists: items between square brackets. Vectors, linked lists, slices and arrays.
+//! Lists: items between square brackets. Vectors, linked lists, slices and arrays.
+
 ghost use Rattle.std.specs.Prelude.{◌≡◌, IfOk, OnOk, OnErr, map, length};
 ghost use Rattle.nano_value.specs.Meaning.{listed};
-ghost use Rattle.nano_value.specs.Ties.{seen_ties, list_ties, array_ties};
-ghost use Rattle.nano_json.specs.Format.{format_as};
+ghost use Rattle.nano_value.specs.AgreesLaws.{seen_agrees, list_agrees, array_agrees};
+ghost use Rattle.nano_json.specs.Codec.{codec_as};
 ghost use Rattle.nano_text.specs.Outcomes.{Appends, AppendsPart};
-ghost use Rattle.nano_json.specs.Readers.{Reads, Refuses};
-ghost use Rattle.nano_json.specs.Lists.{list_of, array_of, in_list, written_list, list_format};
-ghost use Rattle.nano_json.specs.Lists.{array_format};
+ghost use Rattle.nano_json.specs.Readers.{Decodes, Rejects};
+ghost use Rattle.nano_json.specs.ListsLaws.{list_of, array_of, list_codec};
+ghost use Rattle.nano_json.specs.Lists.{in_list, written_list};
+ghost use Rattle.nano_json.specs.ListsLaws.{array_codec};
 ghost use Rattle.nano_json.specs.State.{at};
 
-use crate::traits::{DeJson, JsonFormat, SerJson};
-use json_tokens::{DeJsonErr, DeJsonState, SerJsonState, end_if_refused};
-use nano_text::keep_written;
+use crate::traits::{DeJson, JsonCodec, SerJson};
+use nano_json_tokens::{DeJsonErr, DeJsonState, SerJsonState, end_on_error};
+use nano_text::rollback_on_error;
 use std::alloc::{AllocError, Global};
 use std::collections::LinkedList;
 use std::str::Chars;
 
-impl<T: JsonFormat> JsonFormat for Vec<T> {
-    ghost json = { format_as (λ x. x.items) (list_format T.json) };
+impl<T: JsonCodec> JsonCodec for Vec<T> {
+    ghost json = { codec_as (λ x. x.items) (list_codec T.json) };
 
-    ghost ties = { seen_ties (list_ties T.ties) (λ x. x.items) };
+    ghost agrees = { seen_agrees (list_agrees T.agrees) (λ x. x.items) };
 }
 
-/// Reads items between square brackets. Where it is refused, the state stands anywhere.
+/// Reads items between square brackets. On error, the state may be anywhere.
 fn read_vec<T: DeJson>(
     alloc: Global,
     state: &mut DeJsonState,
     input: &mut Chars<'_>,
 ) -> Result<Vec<T>, DeJsonErr>
-    ensures fits { Reads (list_of T.json.spelling).spelled
+    ensures decodes { Decodes (list_of T.json.encoding).encodes
         (λ items. listed (map T.means items.items))
         (at state.old input.old) (at state.new input.new) result }
-    ensures refused { Refuses (list_of T.json.spelling).spelled (at state.old input.old) result }
+    ensures rejected { Rejects (list_of T.json.encoding).encodes (at state.old input.old) result }
 {
     let mut items = Vec::new(alloc);
     state.block_open(alloc, input)?;
@@ -54,12 +56,12 @@ impl<T: DeJson> DeJson for Vec<T> {
         input: &mut Chars<'_>,
     ) -> Result<Vec<T>, DeJsonErr> {
         let read = read_vec(alloc, state, input);
-        end_if_refused(state, read)
+        end_on_error(state, read)
     }
 }
 
-/// Appends an item, behind a comma unless it is the first. A refused growth leaves what was written
-/// so far.
+/// Appends an item, after a comma unless it is the first. If allocation fails, the text written
+/// so far remains.
 pub(crate) fn append_item<T: SerJson>(
     alloc: Global,
     item: &T,
@@ -68,7 +70,7 @@ pub(crate) fn append_item<T: SerJson>(
     s: &mut SerJsonState,
 ) -> Result<(), AllocError>
     ensures ok { OnOk result
-        (Appends s.old.out s.new.out (in_list first (T.json.writing.text d item.now))) }
+        (Appends s.old.out s.new.out (in_list first (T.json.canonical.text d item.now))) }
     ensures err { OnErr result (AppendsPart s.old.out s.new.out) }
 {
     if !first {
@@ -77,7 +79,7 @@ pub(crate) fn append_item<T: SerJson>(
     item.ser_json(alloc, d, s)
 }
 
-/// Appends items between square brackets. A refused growth leaves what was written so far.
+/// Appends items between square brackets. If allocation fails, the text written so far remains.
 fn append_list<T: SerJson>(
     alloc: Global,
     items: &[T],
@@ -85,7 +87,7 @@ fn append_list<T: SerJson>(
     s: &mut SerJsonState,
 ) -> Result<(), AllocError>
     ensures ok { OnOk result
-        (Appends s.old.out s.new.out (written_list (T.json.writing.text d) items.now)) }
+        (Appends s.old.out s.new.out (written_list (T.json.canonical.text d) items.now)) }
     ensures err { OnErr result (AppendsPart s.old.out s.new.out) }
 {
     s.out.push('[')?;
@@ -101,25 +103,25 @@ impl<T: SerJson> SerJson for Vec<T> {
     fn ser_json(&self, alloc: Global, d: usize, s: &mut SerJsonState) -> Result<(), AllocError> {
         let start = s.out.len();
         let written = append_list(alloc, self, d.saturating_add(1), s);
-        keep_written(&mut s.out, start, written)
+        rollback_on_error(&mut s.out, start, written)
     }
 }
 
-impl<T: JsonFormat> JsonFormat for LinkedList<T> {
-    ghost json = { list_format T.json };
+impl<T: JsonCodec> JsonCodec for LinkedList<T> {
+    ghost json = { list_codec T.json };
 
-    ghost ties = { list_ties T.ties };
+    ghost agrees = { list_agrees T.agrees };
 }
 
-/// Reads items between square brackets. Where it is refused, the state stands anywhere.
+/// Reads items between square brackets. On error, the state may be anywhere.
 fn read_linked_list<T: DeJson>(
     alloc: Global,
     state: &mut DeJsonState,
     input: &mut Chars<'_>,
 ) -> Result<LinkedList<T>, DeJsonErr>
-    ensures fits { Reads (list_of T.json.spelling).spelled (λ items. listed (map T.means items))
+    ensures decodes { Decodes (list_of T.json.encoding).encodes (λ items. listed (map T.means items))
         (at state.old input.old) (at state.new input.new) result }
-    ensures refused { Refuses (list_of T.json.spelling).spelled (at state.old input.old) result }
+    ensures rejected { Rejects (list_of T.json.encoding).encodes (at state.old input.old) result }
 {
     let mut items = LinkedList::new(alloc);
     state.block_open(alloc, input)?;
@@ -142,11 +144,11 @@ impl<T: DeJson> DeJson for LinkedList<T> {
         input: &mut Chars<'_>,
     ) -> Result<LinkedList<T>, DeJsonErr> {
         let read = read_linked_list(alloc, state, input);
-        end_if_refused(state, read)
+        end_on_error(state, read)
     }
 }
 
-/// Appends items between square brackets. A refused growth leaves what was written so far.
+/// Appends items between square brackets. If allocation fails, the text written so far remains.
 fn append_linked_list<T: SerJson>(
     alloc: Global,
     items: &LinkedList<T>,
@@ -154,7 +156,7 @@ fn append_linked_list<T: SerJson>(
     s: &mut SerJsonState,
 ) -> Result<(), AllocError>
     ensures ok { OnOk result
-        (Appends s.old.out s.new.out (written_list (T.json.writing.text d) items.now)) }
+        (Appends s.old.out s.new.out (written_list (T.json.canonical.text d) items.now)) }
     ensures err { OnErr result (AppendsPart s.old.out s.new.out) }
 {
     s.out.push('[')?;
@@ -170,43 +172,43 @@ impl<T: SerJson> SerJson for LinkedList<T> {
     fn ser_json(&self, alloc: Global, d: usize, s: &mut SerJsonState) -> Result<(), AllocError> {
         let start = s.out.len();
         let written = append_linked_list(alloc, self, d.saturating_add(1), s);
-        keep_written(&mut s.out, start, written)
+        rollback_on_error(&mut s.out, start, written)
     }
 }
 
-impl<T: JsonFormat> JsonFormat for &[T] {
-    ghost json = { format_as (λ x. x.now) (list_format T.json) };
+impl<T: JsonCodec> JsonCodec for &[T] {
+    ghost json = { codec_as (λ x. x.now) (list_codec T.json) };
 
-    ghost ties = { seen_ties (list_ties T.ties) (λ x. x.now) };
+    ghost agrees = { seen_agrees (list_agrees T.agrees) (λ x. x.now) };
 }
 
 impl<T: SerJson> SerJson for &[T] {
     fn ser_json(&self, alloc: Global, d: usize, s: &mut SerJsonState) -> Result<(), AllocError> {
         let start = s.out.len();
         let written = append_list(alloc, self, d.saturating_add(1), s);
-        keep_written(&mut s.out, start, written)
+        rollback_on_error(&mut s.out, start, written)
     }
 }
 
-impl<T: JsonFormat, const N: usize> JsonFormat for [T; N] {
-    ghost json = { array_format N T.json };
+impl<T: JsonCodec, const N: usize> JsonCodec for [T; N] {
+    ghost json = { array_codec N T.json };
 
-    ghost ties = { array_ties T.ties N };
+    ghost agrees = { array_agrees T.agrees N };
 }
 
-/// Reads `count` items between square brackets, and holds no more. Where it is refused, the state
-/// stands anywhere.
+/// Reads `count` items between square brackets, and holds no more. On error, the state may be
+/// anywhere.
 fn read_items<T: DeJson>(
     alloc: Global,
     state: &mut DeJsonState,
     input: &mut Chars<'_>,
     count: usize,
 ) -> Result<Vec<T>, DeJsonErr>
-    ensures fits { Reads (array_of count T.json.spelling).spelled
+    ensures decodes { Decodes (array_of count T.json.encoding).encodes
         (λ items. listed (map T.means items.items))
         (at state.old input.old) (at state.new input.new) result }
     ensures count { IfOk result (λ items. length items.items ≡ count) }
-    ensures refused { Refuses (array_of count T.json.spelling).spelled
+    ensures rejected { Rejects (array_of count T.json.encoding).encodes
         (at state.old input.old) result }
 {
     let mut items = Vec::new(alloc);
@@ -222,15 +224,15 @@ fn read_items<T: DeJson>(
     Ok(items)
 }
 
-/// Reads the items of an array. Where it is refused, the state stands anywhere.
+/// Reads the items of an array. On error, the state may be anywhere.
 fn read_array<T: DeJson, const N: usize>(
     alloc: Global,
     state: &mut DeJsonState,
     input: &mut Chars<'_>,
 ) -> Result<[T; N], DeJsonErr>
-    ensures fits { Reads (array_of N T.json.spelling).spelled (λ items. listed (map T.means items))
+    ensures decodes { Decodes (array_of N T.json.encoding).encodes (λ items. listed (map T.means items))
         (at state.old input.old) (at state.new input.new) result }
-    ensures refused { Refuses (array_of N T.json.spelling).spelled (at state.old input.old) result }
+    ensures rejected { Rejects (array_of N T.json.encoding).encodes (at state.old input.old) result }
 {
     let items = read_items(alloc, state, input, N)?;
     match <[T; N]>::try_from(items) {
@@ -247,7 +249,7 @@ impl<T: DeJson, const N: usize> DeJson for [T; N] {
         input: &mut Chars<'_>,
     ) -> Result<[T; N], DeJsonErr> {
         let read = read_array(alloc, state, input);
-        end_if_refused(state, read)
+        end_on_error(state, read)
     }
 }
 
@@ -255,6 +257,6 @@ impl<T: SerJson, const N: usize> SerJson for [T; N] {
     fn ser_json(&self, alloc: Global, d: usize, s: &mut SerJsonState) -> Result<(), AllocError> {
         let start = s.out.len();
         let written = append_list(alloc, self.as_slice(), d.saturating_add(1), s);
-        keep_written(&mut s.out, start, written)
+        rollback_on_error(&mut s.out, start, written)
     }
 }

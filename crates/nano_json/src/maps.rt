@@ -1,48 +1,49 @@
-// Maps: keys with their values between curly brackets. They are written in the order of the keys.
+//! Maps: keys with their values between curly brackets. They are written in the order of the keys.
+
 ghost use Rattle.std.specs.Map.Iter.{deref_pair};
 ghost use Rattle.std.specs.Prelude.{OnOk, OnErr, map};
 ghost use Rattle.nano_value.specs.Meaning.{pair_map};
 ghost use Rattle.nano_value.specs.Tables.{table_of, table_means};
-ghost use Rattle.nano_value.specs.Ties.{seen_ties, map_ties};
-ghost use Rattle.nano_json.specs.Format.{format_as};
+ghost use Rattle.nano_value.specs.AgreesLaws.{seen_agrees, map_agrees};
+ghost use Rattle.nano_json.specs.Codec.{codec_as};
 ghost use Rattle.nano_json.specs.Lists.{in_list};
-ghost use Rattle.nano_json.specs.Maps.{SpellsEntry, SpellsMap, written_entry, written_entries};
-ghost use Rattle.nano_json.specs.Maps.{map_format};
+ghost use Rattle.nano_json.specs.Maps.{EncodesEntry, EncodesMap, written_entry, written_entries};
+ghost use Rattle.nano_json.specs.MapsLaws.{map_codec};
 ghost use Rattle.nano_text.specs.Outcomes.{Appends, AppendsPart};
-ghost use Rattle.nano_json.specs.Readers.{Reads, Refuses};
+ghost use Rattle.nano_json.specs.Readers.{Decodes, Rejects};
 ghost use Rattle.nano_json.specs.State.{at};
 
 use crate::lists::append_item;
-use crate::traits::{DeJson, JsonFormat, SerJson};
-use json_tokens::{DeJsonErr, DeJsonState, SerJsonState, bytes_left, end_if_refused};
-use nano_text::keep_written;
+use crate::traits::{DeJson, JsonCodec, SerJson};
+use nano_json_tokens::{DeJsonErr, DeJsonState, SerJsonState, bytes_left, end_on_error};
+use nano_text::rollback_on_error;
 use nano_value::{Key, OrderedKey, entries_by_rank};
 use std::alloc::{AllocError, Global};
 use std::collections::HashMap;
 use std::hash::Hash;
 use std::str::Chars;
 
-impl<K: JsonFormat + Key + Hash, V: JsonFormat> JsonFormat for HashMap<K, V> {
-    ghost json = { format_as (λ x. x.entries) (map_format K.order K.json V.json) };
+impl<K: JsonCodec + Key + Hash, V: JsonCodec> JsonCodec for HashMap<K, V> {
+    ghost json = { codec_as (λ x. x.entries) (map_codec K.order K.json V.json) };
 
-    ghost ties = { seen_ties (map_ties K.ties V.ties) (λ x. x.entries) };
+    ghost agrees = { seen_agrees (map_agrees K.agrees V.agrees) (λ x. x.entries) };
 }
 
-/// Reads keys with their values between curly brackets into a map. A key that comes again takes its
-/// last value. Where it is refused, the state stands anywhere.
+/// Reads keys with their values between curly brackets into a map. A key that comes again takes
+/// its last value. On error, the state may be anywhere.
 fn read_hash_map<K: DeJson + Key + Hash, V: DeJson>(
     alloc: Global,
     state: &mut DeJsonState,
     input: &mut Chars<'_>,
 ) -> Result<HashMap<K, V>, DeJsonErr>
-    ensures fits { Reads (SpellsMap K.json.spelling.spelled V.json.spelling.spelled)
+    ensures decodes { Decodes (EncodesMap K.json.encoding.encodes V.json.encoding.encodes)
         (λ entries. table_means (table_of K.means V.means entries.entries))
         (at state.old input.old) (at state.new input.new) result }
-    ensures refused { Refuses (SpellsMap K.json.spelling.spelled V.json.spelling.spelled)
+    ensures rejected { Rejects (EncodesMap K.json.encoding.encodes V.json.encoding.encodes)
         (at state.old input.old) result }
 {
     // A text has fewer than 2^63 bytes, so a `usize` counts its entries.
-    let _room = bytes_left(input);
+    let _capacity = bytes_left(input);
     let mut entries = HashMap::new(alloc);
     state.curly_open(alloc, input)?;
     'entries: while !state.is_curly_close() {
@@ -56,15 +57,15 @@ fn read_hash_map<K: DeJson + Key + Hash, V: DeJson>(
     Ok(entries)
 }
 
-/// Reads a key, a colon and a value. Where it is refused, the state stands anywhere.
+/// Reads a key, a colon and a value. On error, the state may be anywhere.
 pub(crate) fn read_entry<K: DeJson, V: DeJson>(
     alloc: Global,
     state: &mut DeJsonState,
     input: &mut Chars<'_>,
 ) -> Result<(K, V), DeJsonErr>
-    ensures fits { Reads (SpellsEntry K.json.spelling.spelled V.json.spelling.spelled)
+    ensures decodes { Decodes (EncodesEntry K.json.encoding.encodes V.json.encoding.encodes)
         (pair_map K.means V.means) (at state.old input.old) (at state.new input.new) result }
-    ensures refused { Refuses (SpellsEntry K.json.spelling.spelled V.json.spelling.spelled)
+    ensures rejected { Rejects (EncodesEntry K.json.encoding.encodes V.json.encoding.encodes)
         (at state.old input.old) result }
 {
     let key = K::de_json(alloc, state, input)?;
@@ -80,12 +81,12 @@ impl<K: DeJson + Key + Hash, V: DeJson> DeJson for HashMap<K, V> {
         input: &mut Chars<'_>,
     ) -> Result<HashMap<K, V>, DeJsonErr> {
         let read = read_hash_map(alloc, state, input);
-        end_if_refused(state, read)
+        end_on_error(state, read)
     }
 }
 
-/// Appends a key, a colon and a value, behind a comma unless they are the first. A refused growth
-/// leaves what was written so far.
+/// Appends a key, a colon and a value, after a comma unless they are the first. If allocation
+/// fails, the text written so far remains.
 pub(crate) fn append_entry<K: SerJson, V: SerJson>(
     alloc: Global,
     key: &K,
@@ -95,7 +96,7 @@ pub(crate) fn append_entry<K: SerJson, V: SerJson>(
     s: &mut SerJsonState,
 ) -> Result<(), AllocError>
     ensures ok { OnOk result (Appends s.old.out s.new.out (in_list first
-        (written_entry (K.json.writing.text d) (V.json.writing.text d) (key.now, value.now)))) }
+        (written_entry (K.json.canonical.text d) (V.json.canonical.text d) (key.now, value.now)))) }
     ensures err { OnErr result (AppendsPart s.old.out s.new.out) }
 {
     append_item(alloc, key, first, d, s)?;
@@ -103,7 +104,8 @@ pub(crate) fn append_entry<K: SerJson, V: SerJson>(
     value.ser_json(alloc, d, s)
 }
 
-/// Appends entries between curly brackets. A refused growth leaves what was written so far.
+/// Appends entries between curly brackets. If allocation fails, the text written so far
+/// remains.
 fn append_hash_map<K: SerJson, V: SerJson>(
     alloc: Global,
     entries: &[(&K, &V)],
@@ -111,7 +113,7 @@ fn append_hash_map<K: SerJson, V: SerJson>(
     s: &mut SerJsonState,
 ) -> Result<(), AllocError>
     ensures ok { OnOk result (Appends s.old.out s.new.out (written_entries
-        (K.json.writing.text d) (V.json.writing.text d) (map deref_pair entries.now))) }
+        (K.json.canonical.text d) (V.json.canonical.text d) (map deref_pair entries.now))) }
     ensures err { OnErr result (AppendsPart s.old.out s.new.out) }
 {
     s.out.push('{')?;
@@ -128,6 +130,6 @@ impl<K: SerJson + OrderedKey + Hash, V: SerJson> SerJson for HashMap<K, V> {
         let start = s.out.len();
         let entries = entries_by_rank(alloc, self)?;
         let written = append_hash_map(alloc, &entries, d.saturating_add(1), s);
-        keep_written(&mut s.out, start, written)
+        rollback_on_error(&mut s.out, start, written)
     }
 }

@@ -1,16 +1,17 @@
-// Options: `null`, or the item.
-ghost use Rattle.nano_value.specs.Ties.{option_ties};
-ghost use Rattle.nano_json.specs.Options.{option_format};
+//! Options: `null`, or the item.
 
-use crate::traits::{DeJson, JsonFormat, SerJson};
-use json_tokens::{DeJsonErr, DeJsonState, SerJsonState};
+ghost use Rattle.nano_value.specs.AgreesLaws.{option_agrees};
+ghost use Rattle.nano_json.specs.OptionsLaws.{option_codec};
+
+use crate::traits::{DeJson, JsonCodec, SerJson};
+use nano_json_tokens::{DeJsonErr, DeJsonState, SerJsonState};
 use std::alloc::{AllocError, Global};
 use std::str::Chars;
 
-impl<T: JsonFormat> JsonFormat for Option<T> {
-    ghost json = { option_format T.json };
+impl<T: JsonCodec> JsonCodec for Option<T> {
+    ghost json = { option_codec T.json };
 
-    ghost ties = { option_ties T.ties };
+    ghost agrees = { option_agrees T.agrees };
 }
 
 impl<T: SerJson> SerJson for Option<T> {

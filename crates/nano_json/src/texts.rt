@@ -1,22 +1,24 @@
-// Texts: a string.
-// Their readers are inlined: what is read then passes through no answer with room for an error.
+//! Texts: a string.
+//! The readers are inlined, so a value that is read passes through no result with space for an
+//! error.
+
 ghost use Rattle.std.specs.Prelude.{string_bytes};
 ghost use Rattle.nano_value.specs.Meaning.{text};
-ghost use Rattle.nano_value.specs.Ties.{tied};
-ghost use Rattle.nano_json.specs.Format.{format_as};
-ghost use Rattle.nano_json.specs.Readers.{Reads, Refuses};
-ghost use Rattle.nano_json.specs.Texts.{texts, text_format};
+ghost use Rattle.nano_value.specs.AgreesLaws.{agreed};
+ghost use Rattle.nano_json.specs.Codec.{codec_as};
+ghost use Rattle.nano_json.specs.Readers.{Decodes, Rejects};
+ghost use Rattle.nano_json.specs.TextsLaws.{texts, text_codec};
 ghost use Rattle.nano_json.specs.State.{at};
 
-use crate::traits::{DeJson, JsonFormat, SerJson};
-use json_tokens::{DeJsonErr, DeJsonState, SerJsonState, append_string, end_if_refused};
+use crate::traits::{DeJson, JsonCodec, SerJson};
+use nano_json_tokens::{DeJsonErr, DeJsonState, SerJsonState, append_string, end_on_error};
 use std::alloc::{AllocError, Global};
 use std::str::Chars;
 
-impl JsonFormat for String {
-    ghost json = { format_as (λ x. string_bytes x) text_format };
+impl JsonCodec for String {
+    ghost json = { codec_as (λ x. string_bytes x) text_codec };
 
-    ghost ties = { tied };
+    ghost agrees = { agreed };
 }
 
 impl SerJson for String {
@@ -25,16 +27,16 @@ impl SerJson for String {
     }
 }
 
-/// Reads a string. Where it is refused, the state stands anywhere.
+/// Reads a string. On error, the state may be anywhere.
 #[inline(always)]
 fn read_string(
     alloc: Global,
     state: &mut DeJsonState,
     input: &mut Chars<'_>,
 ) -> Result<String, DeJsonErr>
-    ensures fits { Reads texts.spelled (λ x. text (string_bytes x))
+    ensures decodes { Decodes texts.encodes (λ x. text (string_bytes x))
         (at state.old input.old) (at state.new input.new) result }
-    ensures refused { Refuses texts.spelled (at state.old input.old) result }
+    ensures rejected { Rejects texts.encodes (at state.old input.old) result }
 {
     let text = state.as_string(alloc)?;
     state.next_tok(alloc, input)?;
@@ -50,14 +52,14 @@ impl DeJson for String {
         input: &mut Chars<'_>,
     ) -> Result<String, DeJsonErr> {
         let read = read_string(alloc, state, input);
-        end_if_refused(state, read)
+        end_on_error(state, read)
     }
 }
 
-impl JsonFormat for &str {
-    ghost json = { format_as (λ x. x.now) text_format };
+impl JsonCodec for &str {
+    ghost json = { codec_as (λ x. x.now) text_codec };
 
-    ghost ties = { tied };
+    ghost agrees = { agreed };
 }
 
 impl SerJson for &str {

@@ -1,29 +1,30 @@
-// Tuples: two, three or four parts between square brackets.
+//! Tuples: two, three or four parts between square brackets.
+
 ghost use Rattle.std.specs.Prelude.{◌++◌, ◌∷◌, [], OnOk, OnErr};
 ghost use Rattle.nano_value.specs.Meaning.{paired};
-ghost use Rattle.nano_value.specs.Ties.{seen_ties, pair_ties};
+ghost use Rattle.nano_value.specs.AgreesLaws.{seen_agrees, pair_agrees};
 ghost use Rattle.nano_text.specs.Outcomes.{Appends, AppendsPart};
-ghost use Rattle.nano_json.specs.Readers.{Reads, Refuses};
+ghost use Rattle.nano_json.specs.Readers.{Decodes, Rejects};
 ghost use Rattle.nano_json.specs.State.{at};
-ghost use Rattle.nano_json.specs.Tuples.{last_format, two_parts, three_parts, four_parts};
-ghost use Rattle.nano_json.specs.Tuples.{pair_format, triple_format, quadruple_format};
+ghost use Rattle.nano_json.specs.TuplesLaws.{last_codec, two_parts, three_parts, four_parts};
+ghost use Rattle.nano_json.specs.TuplesLaws.{pair_codec, triple_codec, quadruple_codec};
 
-use crate::traits::{DeJson, JsonFormat, SerJson};
-use json_tokens::{DeJsonErr, DeJsonState, SerJsonState, end_if_refused};
-use nano_text::keep_written;
+use crate::traits::{DeJson, JsonCodec, SerJson};
+use nano_json_tokens::{DeJsonErr, DeJsonState, SerJsonState, end_on_error};
+use nano_text::rollback_on_error;
 use std::alloc::{AllocError, Global};
 use std::str::Chars;
 
-/// Reads the last part of a tuple, and its closing bracket. Where it is refused, the state stands
+/// Reads the last part of a tuple, and its closing bracket. On error, the state may be
 /// anywhere.
 fn read_last<T: DeJson>(
     alloc: Global,
     state: &mut DeJsonState,
     input: &mut Chars<'_>,
 ) -> Result<T, DeJsonErr>
-    ensures fits { Reads (last_format T.json).spelling.spelled T.means
+    ensures decodes { Decodes (last_codec T.json).encoding.encodes T.means
         (at state.old input.old) (at state.new input.new) result }
-    ensures refused { Refuses (last_format T.json).spelling.spelled
+    ensures rejected { Rejects (last_codec T.json).encoding.encodes
         (at state.old input.old) result }
 {
     let last = T::de_json(alloc, state, input)?;
@@ -32,17 +33,17 @@ fn read_last<T: DeJson>(
     Ok(last)
 }
 
-/// Reads the last two parts of a tuple, and its closing bracket. Where it is refused, the state
-/// stands anywhere.
+/// Reads the last two parts of a tuple, and its closing bracket. On error, the state may be
+/// anywhere.
 fn read_two<A: DeJson, B: DeJson>(
     alloc: Global,
     state: &mut DeJsonState,
     input: &mut Chars<'_>,
 ) -> Result<(A, B), DeJsonErr>
-    ensures fits { Reads (two_parts A.json B.json).spelling.spelled
+    ensures decodes { Decodes (two_parts A.json B.json).encoding.encodes
         (λ x. paired (A.means x.0, B.means x.1))
         (at state.old input.old) (at state.new input.new) result }
-    ensures refused { Refuses (two_parts A.json B.json).spelling.spelled
+    ensures rejected { Rejects (two_parts A.json B.json).encoding.encodes
         (at state.old input.old) result }
 {
     let first = A::de_json(alloc, state, input)?;
@@ -51,17 +52,17 @@ fn read_two<A: DeJson, B: DeJson>(
     Ok((first, last))
 }
 
-/// Reads the last three parts of a tuple, and its closing bracket. Where it is refused, the state
-/// stands anywhere.
+/// Reads the last three parts of a tuple, and its closing bracket. On error, the state may be
+/// anywhere.
 fn read_three<A: DeJson, B: DeJson, C: DeJson>(
     alloc: Global,
     state: &mut DeJsonState,
     input: &mut Chars<'_>,
 ) -> Result<(A, B, C), DeJsonErr>
-    ensures fits { Reads (three_parts A.json B.json C.json).spelling.spelled
+    ensures decodes { Decodes (three_parts A.json B.json C.json).encoding.encodes
         (λ x. paired (A.means x.0, paired (B.means x.1, C.means x.2)))
         (at state.old input.old) (at state.new input.new) result }
-    ensures refused { Refuses (three_parts A.json B.json C.json).spelling.spelled
+    ensures rejected { Rejects (three_parts A.json B.json C.json).encoding.encodes
         (at state.old input.old) result }
 {
     let first = A::de_json(alloc, state, input)?;
@@ -70,17 +71,17 @@ fn read_three<A: DeJson, B: DeJson, C: DeJson>(
     Ok((first, rest.0, rest.1))
 }
 
-/// Reads the four parts of a tuple, and its closing bracket. Where it is refused, the state stands
+/// Reads the four parts of a tuple, and its closing bracket. On error, the state may be
 /// anywhere.
 fn read_four<A: DeJson, B: DeJson, C: DeJson, D: DeJson>(
     alloc: Global,
     state: &mut DeJsonState,
     input: &mut Chars<'_>,
 ) -> Result<(A, B, C, D), DeJsonErr>
-    ensures fits { Reads (four_parts A.json B.json C.json D.json).spelling.spelled
+    ensures decodes { Decodes (four_parts A.json B.json C.json D.json).encoding.encodes
         (λ x. paired (A.means x.0, paired (B.means x.1, paired (C.means x.2, D.means x.3))))
         (at state.old input.old) (at state.new input.new) result }
-    ensures refused { Refuses (four_parts A.json B.json C.json D.json).spelling.spelled
+    ensures rejected { Rejects (four_parts A.json B.json C.json D.json).encoding.encodes
         (at state.old input.old) result }
 {
     let first = A::de_json(alloc, state, input)?;
@@ -89,32 +90,32 @@ fn read_four<A: DeJson, B: DeJson, C: DeJson, D: DeJson>(
     Ok((first, rest.0, rest.1, rest.2))
 }
 
-/// Appends a part of a tuple and the mark behind it. A refused growth leaves what was written so
-/// far.
+/// Appends a part of a tuple and the punctuator after it. If allocation fails, the text written
+/// so far remains.
 fn append_part<T: SerJson>(
     alloc: Global,
     part: &T,
-    mark: char,
+    punctuator: char,
     d: usize,
     s: &mut SerJsonState,
 ) -> Result<(), AllocError>
     ensures ok { OnOk result
-        (Appends s.old.out s.new.out (T.json.writing.text d part.now ++ mark ∷ [])) }
+        (Appends s.old.out s.new.out (T.json.canonical.text d part.now ++ punctuator ∷ [])) }
     ensures err { OnErr result (AppendsPart s.old.out s.new.out) }
 {
     part.ser_json(alloc, d, s)?;
-    s.out.push(mark)
+    s.out.push(punctuator)
 }
 
 // ---- two parts
 
-impl<A: JsonFormat, B: JsonFormat> JsonFormat for (A, B) {
-    ghost json = { pair_format A.json B.json };
+impl<A: JsonCodec, B: JsonCodec> JsonCodec for (A, B) {
+    ghost json = { pair_codec A.json B.json };
 
-    ghost ties = { pair_ties A.ties B.ties };
+    ghost agrees = { pair_agrees A.agrees B.agrees };
 }
 
-/// Appends a tuple. A refused growth leaves what was written so far.
+/// Appends a tuple. If allocation fails, the text written so far remains.
 fn append_pair<A: SerJson, B: SerJson>(
     alloc: Global,
     parts: &(A, B),
@@ -122,7 +123,7 @@ fn append_pair<A: SerJson, B: SerJson>(
     s: &mut SerJsonState,
 ) -> Result<(), AllocError>
     ensures ok { OnOk result (Appends s.old.out s.new.out
-        ((pair_format A.json B.json).writing.text d parts.now)) }
+        ((pair_codec A.json B.json).canonical.text d parts.now)) }
     ensures err { OnErr result (AppendsPart s.old.out s.new.out) }
 {
     s.out.push('[')?;
@@ -134,20 +135,20 @@ impl<A: SerJson, B: SerJson> SerJson for (A, B) {
     fn ser_json(&self, alloc: Global, d: usize, s: &mut SerJsonState) -> Result<(), AllocError> {
         let start = s.out.len();
         let written = append_pair(alloc, self, d, s);
-        keep_written(&mut s.out, start, written)
+        rollback_on_error(&mut s.out, start, written)
     }
 }
 
-/// Reads a tuple. Where it is refused, the state stands anywhere.
+/// Reads a tuple. On error, the state may be anywhere.
 fn read_pair<A: DeJson, B: DeJson>(
     alloc: Global,
     state: &mut DeJsonState,
     input: &mut Chars<'_>,
 ) -> Result<(A, B), DeJsonErr>
-    ensures fits { Reads (pair_format A.json B.json).spelling.spelled
+    ensures decodes { Decodes (pair_codec A.json B.json).encoding.encodes
         (λ x. paired (A.means x.0, B.means x.1))
         (at state.old input.old) (at state.new input.new) result }
-    ensures refused { Refuses (pair_format A.json B.json).spelling.spelled
+    ensures rejected { Rejects (pair_codec A.json B.json).encoding.encodes
         (at state.old input.old) result }
 {
     state.block_open(alloc, input)?;
@@ -161,20 +162,20 @@ impl<A: DeJson, B: DeJson> DeJson for (A, B) {
         input: &mut Chars<'_>,
     ) -> Result<(A, B), DeJsonErr> {
         let read = read_pair(alloc, state, input);
-        end_if_refused(state, read)
+        end_on_error(state, read)
     }
 }
 
 // ---- three parts
 
-impl<A: JsonFormat, B: JsonFormat, C: JsonFormat> JsonFormat for (A, B, C) {
-    ghost json = { triple_format A.json B.json C.json };
+impl<A: JsonCodec, B: JsonCodec, C: JsonCodec> JsonCodec for (A, B, C) {
+    ghost json = { triple_codec A.json B.json C.json };
 
-    ghost ties = { seen_ties (pair_ties A.ties (pair_ties B.ties C.ties))
+    ghost agrees = { seen_agrees (pair_agrees A.agrees (pair_agrees B.agrees C.agrees))
         (λ x. (x.0, (x.1, x.2))) };
 }
 
-/// Appends a tuple. A refused growth leaves what was written so far.
+/// Appends a tuple. If allocation fails, the text written so far remains.
 fn append_triple<A: SerJson, B: SerJson, C: SerJson>(
     alloc: Global,
     parts: &(A, B, C),
@@ -182,7 +183,7 @@ fn append_triple<A: SerJson, B: SerJson, C: SerJson>(
     s: &mut SerJsonState,
 ) -> Result<(), AllocError>
     ensures ok { OnOk result (Appends s.old.out s.new.out
-        ((triple_format A.json B.json C.json).writing.text d parts.now)) }
+        ((triple_codec A.json B.json C.json).canonical.text d parts.now)) }
     ensures err { OnErr result (AppendsPart s.old.out s.new.out) }
 {
     s.out.push('[')?;
@@ -195,20 +196,20 @@ impl<A: SerJson, B: SerJson, C: SerJson> SerJson for (A, B, C) {
     fn ser_json(&self, alloc: Global, d: usize, s: &mut SerJsonState) -> Result<(), AllocError> {
         let start = s.out.len();
         let written = append_triple(alloc, self, d, s);
-        keep_written(&mut s.out, start, written)
+        rollback_on_error(&mut s.out, start, written)
     }
 }
 
-/// Reads a tuple. Where it is refused, the state stands anywhere.
+/// Reads a tuple. On error, the state may be anywhere.
 fn read_triple<A: DeJson, B: DeJson, C: DeJson>(
     alloc: Global,
     state: &mut DeJsonState,
     input: &mut Chars<'_>,
 ) -> Result<(A, B, C), DeJsonErr>
-    ensures fits { Reads (triple_format A.json B.json C.json).spelling.spelled
+    ensures decodes { Decodes (triple_codec A.json B.json C.json).encoding.encodes
         (λ x. paired (A.means x.0, paired (B.means x.1, C.means x.2)))
         (at state.old input.old) (at state.new input.new) result }
-    ensures refused { Refuses (triple_format A.json B.json C.json).spelling.spelled
+    ensures rejected { Rejects (triple_codec A.json B.json C.json).encoding.encodes
         (at state.old input.old) result }
 {
     state.block_open(alloc, input)?;
@@ -222,20 +223,20 @@ impl<A: DeJson, B: DeJson, C: DeJson> DeJson for (A, B, C) {
         input: &mut Chars<'_>,
     ) -> Result<(A, B, C), DeJsonErr> {
         let read = read_triple(alloc, state, input);
-        end_if_refused(state, read)
+        end_on_error(state, read)
     }
 }
 
 // ---- four parts
 
-impl<A: JsonFormat, B: JsonFormat, C: JsonFormat, D: JsonFormat> JsonFormat for (A, B, C, D) {
-    ghost json = { quadruple_format A.json B.json C.json D.json };
+impl<A: JsonCodec, B: JsonCodec, C: JsonCodec, D: JsonCodec> JsonCodec for (A, B, C, D) {
+    ghost json = { quadruple_codec A.json B.json C.json D.json };
 
-    ghost ties = { seen_ties (pair_ties A.ties (pair_ties B.ties (pair_ties C.ties D.ties)))
+    ghost agrees = { seen_agrees (pair_agrees A.agrees (pair_agrees B.agrees (pair_agrees C.agrees D.agrees)))
         (λ x. (x.0, (x.1, (x.2, x.3)))) };
 }
 
-/// Appends a tuple. A refused growth leaves what was written so far.
+/// Appends a tuple. If allocation fails, the text written so far remains.
 fn append_quadruple<A: SerJson, B: SerJson, C: SerJson, D: SerJson>(
     alloc: Global,
     parts: &(A, B, C, D),
@@ -243,7 +244,7 @@ fn append_quadruple<A: SerJson, B: SerJson, C: SerJson, D: SerJson>(
     s: &mut SerJsonState,
 ) -> Result<(), AllocError>
     ensures ok { OnOk result (Appends s.old.out s.new.out
-        ((quadruple_format A.json B.json C.json D.json).writing.text d parts.now)) }
+        ((quadruple_codec A.json B.json C.json D.json).canonical.text d parts.now)) }
     ensures err { OnErr result (AppendsPart s.old.out s.new.out) }
 {
     s.out.push('[')?;
@@ -257,20 +258,20 @@ impl<A: SerJson, B: SerJson, C: SerJson, D: SerJson> SerJson for (A, B, C, D) {
     fn ser_json(&self, alloc: Global, d: usize, s: &mut SerJsonState) -> Result<(), AllocError> {
         let start = s.out.len();
         let written = append_quadruple(alloc, self, d, s);
-        keep_written(&mut s.out, start, written)
+        rollback_on_error(&mut s.out, start, written)
     }
 }
 
-/// Reads a tuple. Where it is refused, the state stands anywhere.
+/// Reads a tuple. On error, the state may be anywhere.
 fn read_quadruple<A: DeJson, B: DeJson, C: DeJson, D: DeJson>(
     alloc: Global,
     state: &mut DeJsonState,
     input: &mut Chars<'_>,
 ) -> Result<(A, B, C, D), DeJsonErr>
-    ensures fits { Reads (quadruple_format A.json B.json C.json D.json).spelling.spelled
+    ensures decodes { Decodes (quadruple_codec A.json B.json C.json D.json).encoding.encodes
         (λ x. paired (A.means x.0, paired (B.means x.1, paired (C.means x.2, D.means x.3))))
         (at state.old input.old) (at state.new input.new) result }
-    ensures refused { Refuses (quadruple_format A.json B.json C.json D.json).spelling.spelled
+    ensures rejected { Rejects (quadruple_codec A.json B.json C.json D.json).encoding.encodes
         (at state.old input.old) result }
 {
     state.block_open(alloc, input)?;
@@ -284,6 +285,6 @@ impl<A: DeJson, B: DeJson, C: DeJson, D: DeJson> DeJson for (A, B, C, D) {
         input: &mut Chars<'_>,
     ) -> Result<(A, B, C, D), DeJsonErr> {
         let read = read_quadruple(alloc, state, input);
-        end_if_refused(state, read)
+        end_on_error(state, read)
     }
 }

@@ -1,2 +1,2 @@
 pub mod Ron
-pub mod Writing
+pub mod Canonical

@@ -1,20 +1,22 @@
-// Truth values, and the unit, which is `()`.
-// Their readers are inlined: what is read then passes through no answer with room for an error.
+//! Truth values, and the unit, which is `()`.
+//! Their readers are inlined: a value read then passes through no result with space for an
+//! error.
+
 ghost use Rattle.nano_value.specs.Meaning.{truth, nothing};
-ghost use Rattle.nano_value.specs.Ties.{tied};
-ghost use Rattle.nano_ron.specs.Bools.{truths, units, truth_format, unit_format};
-ghost use Rattle.nano_ron.specs.Readers.{Reads, Refuses};
+ghost use Rattle.nano_value.specs.AgreesLaws.{agreed};
+ghost use Rattle.nano_ron.specs.BoolsLaws.{truths, units, truth_codec, unit_codec};
+ghost use Rattle.nano_ron.specs.Readers.{Decodes, Rejects};
 ghost use Rattle.nano_ron.specs.State.{at};
 
-use crate::traits::{DeRon, RonFormat, SerRon};
-use ron_tokens::{DeRonErr, DeRonState, SerRonState, end_if_refused};
+use crate::traits::{DeRon, RonCodec, SerRon};
+use nano_ron_tokens::{DeRonErr, DeRonState, SerRonState, end_on_error};
 use std::alloc::{AllocError, Global};
 use std::str::Chars;
 
-impl RonFormat for bool {
-    ghost ron = { truth_format };
+impl RonCodec for bool {
+    ghost ron = { truth_codec };
 
-    ghost ties = { tied };
+    ghost agrees = { agreed };
 }
 
 impl SerRon for bool {
@@ -27,12 +29,12 @@ impl SerRon for bool {
 }
 
 /// Reads `true` or `false`, or a whole number without a minus sign: 0 for false, any other for
-/// true. Where it is refused, the state stands anywhere.
+/// true. On an error, the position of the state is unspecified.
 #[inline(always)]
 fn read_bool(alloc: Global, state: &mut DeRonState, input: &mut Chars<'_>) -> Result<bool, DeRonErr>
-    ensures fits { Reads truths.spelled truth
+    ensures decodes { Decodes truths.encodes truth
         (at state.old input.old) (at state.new input.new) result }
-    ensures refused { Refuses truths.spelled (at state.old input.old) result }
+    ensures rejected { Rejects truths.encodes (at state.old input.old) result }
 {
     let value = state.as_bool(alloc)?;
     state.next_tok(alloc, input)?;
@@ -47,14 +49,14 @@ impl DeRon for bool {
         input: &mut Chars<'_>,
     ) -> Result<bool, DeRonErr> {
         let read = read_bool(alloc, state, input);
-        end_if_refused(state, read)
+        end_on_error(state, read)
     }
 }
 
-impl RonFormat for () {
-    ghost ron = { unit_format };
+impl RonCodec for () {
+    ghost ron = { unit_codec };
 
-    ghost ties = { tied };
+    ghost agrees = { agreed };
 }
 
 impl SerRon for () {
@@ -63,12 +65,12 @@ impl SerRon for () {
     }
 }
 
-/// Reads `()`. Where it is refused, the state stands anywhere.
+/// Reads `()`. On an error, the position of the state is unspecified.
 #[inline(always)]
 fn read_unit(alloc: Global, state: &mut DeRonState, input: &mut Chars<'_>) -> Result<(), DeRonErr>
-    ensures fits { Reads units.spelled (λ _. nothing)
+    ensures decodes { Decodes units.encodes (λ _. nothing)
         (at state.old input.old) (at state.new input.new) result }
-    ensures refused { Refuses units.spelled (at state.old input.old) result }
+    ensures rejected { Rejects units.encodes (at state.old input.old) result }
 {
     state.paren_open(alloc, input)?;
     state.paren_close(alloc, input)
@@ -82,6 +84,6 @@ impl DeRon for () {
         input: &mut Chars<'_>,
     ) -> Result<(), DeRonErr> {
         let read = read_unit(alloc, state, input);
-        end_if_refused(state, read)
+        end_on_error(state, read)
     }
 }

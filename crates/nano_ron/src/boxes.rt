@@ -1,18 +1,19 @@
-// Boxes: each is spelled as its content.
-ghost use Rattle.nano_value.specs.Ties.{seen_ties};
-ghost use Rattle.nano_ron.specs.Format.{format_as};
-ghost use Rattle.nano_ron.specs.Readers.{Reads, Refuses};
+//! Boxes: each is encoded as its content.
+
+ghost use Rattle.nano_value.specs.AgreesLaws.{seen_agrees};
+ghost use Rattle.nano_ron.specs.Codec.{codec_as};
+ghost use Rattle.nano_ron.specs.Readers.{Decodes, Rejects};
 ghost use Rattle.nano_ron.specs.State.{at};
 
-use crate::traits::{DeRon, RonFormat, SerRon};
-use ron_tokens::{DeRonErr, DeRonState, SerRonState, end_if_refused};
+use crate::traits::{DeRon, RonCodec, SerRon};
+use nano_ron_tokens::{DeRonErr, DeRonState, SerRonState, end_on_error};
 use std::alloc::{AllocError, Global};
 use std::str::Chars;
 
-impl<T: RonFormat> RonFormat for Box<T> {
-    ghost ron = { format_as (λ x. x.value) T.ron };
+impl<T: RonCodec> RonCodec for Box<T> {
+    ghost ron = { codec_as (λ x. x.value) T.ron };
 
-    ghost ties = { seen_ties T.ties (λ x. x.value) };
+    ghost agrees = { seen_agrees T.agrees (λ x. x.value) };
 }
 
 impl<T: SerRon> SerRon for Box<T> {
@@ -21,20 +22,20 @@ impl<T: SerRon> SerRon for Box<T> {
     }
 }
 
-/// Reads a value into a box. Where it is refused, the state stands anywhere.
+/// Reads a value into a box. On an error, the position of the state is unspecified.
 fn read_box<T: DeRon>(
     alloc: Global,
     state: &mut DeRonState,
     input: &mut Chars<'_>,
 ) -> Result<Box<T>, DeRonErr>
-    ensures fits { Reads T.ron.spelling.spelled (λ x. T.means x.value)
+    ensures decodes { Decodes T.ron.encoding.encodes (λ x. T.means x.value)
         (at state.old input.old) (at state.new input.new) result }
-    ensures refused { Refuses T.ron.spelling.spelled (at state.old input.old) result }
+    ensures rejected { Rejects T.ron.encoding.encodes (at state.old input.old) result }
 {
     let value = T::de_ron(alloc, state, input)?;
     match Box::new(alloc, value) {
         Ok(value) => Ok(value),
-        Err(_refused) => Err(state.err_memory(alloc)),
+        Err(_rejected) => Err(state.err_memory(alloc)),
     }
 }
 
@@ -45,6 +46,6 @@ impl<T: DeRon> DeRon for Box<T> {
         input: &mut Chars<'_>,
     ) -> Result<Box<T>, DeRonErr> {
         let read = read_box(alloc, state, input);
-        end_if_refused(state, read)
+        end_on_error(state, read)
     }
 }

@@ -1,2 +1,3 @@
-// The tokens of RON with their errors and states, passed on.
-pub use ron_tokens::{DeRonErr, DeRonState, DeRonTok, SerRonState};
+//! The tokens of RON with their errors and states, passed on.
+
+pub use nano_ron_tokens::{DeRonErr, DeRonState, DeRonTok, SerRonState};

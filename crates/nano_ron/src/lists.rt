@@ -1,39 +1,41 @@
-// Lists between square brackets: vectors and linked lists.
+//! Lists between square brackets: vectors and linked lists.
+
 ghost use Rattle.std.specs.Prelude.{OnOk, OnErr, map};
-ghost use Rattle.nano_text.specs.Place.{counted};
+ghost use Rattle.nano_text.specs.Place.{saturating_next};
 ghost use Rattle.nano_value.specs.Meaning.{listed};
-ghost use Rattle.nano_value.specs.Ties.{seen_ties, list_ties};
-ghost use Rattle.nano_ron.specs.Format.{format_as};
+ghost use Rattle.nano_value.specs.AgreesLaws.{seen_agrees, list_agrees};
+ghost use Rattle.nano_ron.specs.Codec.{codec_as};
 ghost use Rattle.nano_text.specs.Outcomes.{Appends, AppendsPart};
-ghost use Rattle.nano_ron.specs.Readers.{Reads, Refuses};
-ghost use Rattle.nano_ron.specs.Lists.{list_of, on_a_line, behind_indent, written_in};
-ghost use Rattle.nano_ron.specs.Lists.{vector_format, linked_format};
-ghost use Rattle.nano_ron.specs.Styles.{line_style, indent_style};
+ghost use Rattle.nano_ron.specs.Readers.{Decodes, Rejects};
+ghost use Rattle.nano_ron.specs.ListsLaws.{list_of};
+ghost use Rattle.nano_ron.specs.Lists.{on_a_line, after_indent, written_in};
+ghost use Rattle.nano_ron.specs.ListsLaws.{vector_codec, linked_codec};
+ghost use Rattle.nano_ron.specs.StylesLaws.{line_style, indent_style};
 ghost use Rattle.nano_ron.specs.State.{at};
 
-use crate::traits::{DeRon, RonFormat, SerRon};
-use nano_text::keep_written;
-use ron_tokens::{DeRonErr, DeRonState, SerRonState, append_comma, end_if_refused};
+use crate::traits::{DeRon, RonCodec, SerRon};
+use nano_ron_tokens::{DeRonErr, DeRonState, SerRonState, append_comma, end_on_error};
+use nano_text::rollback_on_error;
 use std::alloc::{AllocError, Global};
 use std::collections::LinkedList;
 use std::str::Chars;
 
-impl<T: RonFormat> RonFormat for Vec<T> {
-    ghost ron = { format_as (λ x. x.items) (vector_format T.ron) };
+impl<T: RonCodec> RonCodec for Vec<T> {
+    ghost ron = { codec_as (λ x. x.items) (vector_codec T.ron) };
 
-    ghost ties = { seen_ties (list_ties T.ties) (λ x. x.items) };
+    ghost agrees = { seen_agrees (list_agrees T.agrees) (λ x. x.items) };
 }
 
-/// Reads items between square brackets. Where it is refused, the state stands anywhere.
+/// Reads items between square brackets. On an error, the position of the state is unspecified.
 fn read_vec<T: DeRon>(
     alloc: Global,
     state: &mut DeRonState,
     input: &mut Chars<'_>,
 ) -> Result<Vec<T>, DeRonErr>
-    ensures fits { Reads (list_of T.ron.spelling).spelled
+    ensures decodes { Decodes (list_of T.ron.encoding).encodes
         (λ items. listed (map T.means items.items))
         (at state.old input.old) (at state.new input.new) result }
-    ensures refused { Refuses (list_of T.ron.spelling).spelled (at state.old input.old) result }
+    ensures rejected { Rejects (list_of T.ron.encoding).encodes (at state.old input.old) result }
 {
     let mut items = Vec::new(alloc);
     state.block_open(alloc, input)?;
@@ -56,12 +58,12 @@ impl<T: DeRon> DeRon for Vec<T> {
         input: &mut Chars<'_>,
     ) -> Result<Vec<T>, DeRonErr> {
         let read = read_vec(alloc, state, input);
-        end_if_refused(state, read)
+        end_on_error(state, read)
     }
 }
 
-/// Appends an item of a list at level `d`, on a line of its own, with a comma behind it. A refused
-/// growth leaves what was written so far.
+/// Appends an item of a list at level `d`, on a line of its own, with a comma after it. If an
+/// allocation fails, what was written so far remains.
 fn append_line<T: SerRon>(
     alloc: Global,
     item: &T,
@@ -69,7 +71,7 @@ fn append_line<T: SerRon>(
     s: &mut SerRonState,
 ) -> Result<(), AllocError>
     ensures ok { OnOk result (Appends s.old.out s.new.out
-        (on_a_line d (T.ron.writing.text (counted d) item.now))) }
+        (on_a_line d (T.ron.canonical.text (saturating_next d) item.now))) }
     ensures err { OnErr result (AppendsPart s.old.out s.new.out) }
 {
     let inner = d.saturating_add(1);
@@ -78,8 +80,8 @@ fn append_line<T: SerRon>(
     s.conl()
 }
 
-/// Appends items between square brackets, each on a line of its own. A refused growth leaves what
-/// was written so far.
+/// Appends items between square brackets, each on a line of its own. If an allocation fails,
+/// what was written so far remains.
 fn append_vec<T: SerRon>(
     alloc: Global,
     items: &[T],
@@ -87,7 +89,7 @@ fn append_vec<T: SerRon>(
     s: &mut SerRonState,
 ) -> Result<(), AllocError>
     ensures ok { OnOk result (Appends s.old.out s.new.out
-        (written_in line_style d (T.ron.writing.text (counted d)) items.now)) }
+        (written_in line_style d (T.ron.canonical.text (saturating_next d)) items.now)) }
     ensures err { OnErr result (AppendsPart s.old.out s.new.out) }
 {
     s.out.push_str("[\n")?;
@@ -102,25 +104,25 @@ impl<T: SerRon> SerRon for Vec<T> {
     fn ser_ron(&self, alloc: Global, d: usize, s: &mut SerRonState) -> Result<(), AllocError> {
         let start = s.out.len();
         let written = append_vec(alloc, self, d, s);
-        keep_written(&mut s.out, start, written)
+        rollback_on_error(&mut s.out, start, written)
     }
 }
 
-impl<T: RonFormat> RonFormat for LinkedList<T> {
-    ghost ron = { linked_format T.ron };
+impl<T: RonCodec> RonCodec for LinkedList<T> {
+    ghost ron = { linked_codec T.ron };
 
-    ghost ties = { list_ties T.ties };
+    ghost agrees = { list_agrees T.agrees };
 }
 
-/// Reads items between square brackets. Where it is refused, the state stands anywhere.
+/// Reads items between square brackets. On an error, the position of the state is unspecified.
 fn read_linked_list<T: DeRon>(
     alloc: Global,
     state: &mut DeRonState,
     input: &mut Chars<'_>,
 ) -> Result<LinkedList<T>, DeRonErr>
-    ensures fits { Reads (list_of T.ron.spelling).spelled (λ items. listed (map T.means items))
+    ensures decodes { Decodes (list_of T.ron.encoding).encodes (λ items. listed (map T.means items))
         (at state.old input.old) (at state.new input.new) result }
-    ensures refused { Refuses (list_of T.ron.spelling).spelled (at state.old input.old) result }
+    ensures rejected { Rejects (list_of T.ron.encoding).encodes (at state.old input.old) result }
 {
     let mut items = LinkedList::new(alloc);
     state.block_open(alloc, input)?;
@@ -143,12 +145,12 @@ impl<T: DeRon> DeRon for LinkedList<T> {
         input: &mut Chars<'_>,
     ) -> Result<LinkedList<T>, DeRonErr> {
         let read = read_linked_list(alloc, state, input);
-        end_if_refused(state, read)
+        end_on_error(state, read)
     }
 }
 
-/// Appends an item of a list at level `d` behind an indent, and behind a comma unless it is the
-/// first. A refused growth leaves what was written so far.
+/// Appends an item of a list at level `d` after an indent, and after a comma unless it is the
+/// first. If an allocation fails, what was written so far remains.
 pub(crate) fn append_indented<T: SerRon>(
     alloc: Global,
     item: &T,
@@ -157,7 +159,7 @@ pub(crate) fn append_indented<T: SerRon>(
     s: &mut SerRonState,
 ) -> Result<(), AllocError>
     ensures ok { OnOk result (Appends s.old.out s.new.out
-        (behind_indent d first (T.ron.writing.text (counted d) item.now))) }
+        (after_indent d first (T.ron.canonical.text (saturating_next d) item.now))) }
     ensures err { OnErr result (AppendsPart s.old.out s.new.out) }
 {
     append_comma(first, s)?;
@@ -166,8 +168,8 @@ pub(crate) fn append_indented<T: SerRon>(
     item.ser_ron(alloc, inner, s)
 }
 
-/// Appends items between square brackets, each behind an indent. A refused growth leaves what was
-/// written so far.
+/// Appends items between square brackets, each after an indent. If an allocation fails, what
+/// was written so far remains.
 fn append_linked_list<T: SerRon>(
     alloc: Global,
     items: &LinkedList<T>,
@@ -175,7 +177,7 @@ fn append_linked_list<T: SerRon>(
     s: &mut SerRonState,
 ) -> Result<(), AllocError>
     ensures ok { OnOk result (Appends s.old.out s.new.out
-        (written_in indent_style d (T.ron.writing.text (counted d)) items.now)) }
+        (written_in indent_style d (T.ron.canonical.text (saturating_next d)) items.now)) }
     ensures err { OnErr result (AppendsPart s.old.out s.new.out) }
 {
     s.out.push('[')?;
@@ -191,6 +193,6 @@ impl<T: SerRon> SerRon for LinkedList<T> {
     fn ser_ron(&self, alloc: Global, d: usize, s: &mut SerRonState) -> Result<(), AllocError> {
         let start = s.out.len();
         let written = append_linked_list(alloc, self, d, s);
-        keep_written(&mut s.out, start, written)
+        rollback_on_error(&mut s.out, start, written)
     }
 }

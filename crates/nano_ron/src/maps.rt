@@ -1,49 +1,50 @@
-// Maps: keys with their values between curly brackets. They are written in the order of the keys,
-// each entry on a line of its own.
+//! Maps: keys with their values between curly brackets. They are written in the order of the keys,
+//! each entry on a line of its own.
+
 ghost use Rattle.std.specs.Map.Iter.{deref_pair};
 ghost use Rattle.std.specs.Prelude.{OnOk, OnErr, map};
 ghost use Rattle.nano_value.specs.Meaning.{pair_map};
 ghost use Rattle.nano_value.specs.Tables.{table_of, table_means};
-ghost use Rattle.nano_value.specs.Ties.{seen_ties, map_ties};
-ghost use Rattle.nano_ron.specs.Format.{format_as};
+ghost use Rattle.nano_value.specs.AgreesLaws.{seen_agrees, map_agrees};
+ghost use Rattle.nano_ron.specs.Codec.{codec_as};
 ghost use Rattle.nano_ron.specs.Lists.{on_a_line};
-ghost use Rattle.nano_ron.specs.Maps.{SpellsEntry, SpellsMap, written_entry, written_entries};
-ghost use Rattle.nano_ron.specs.Maps.{map_format};
-ghost use Rattle.nano_text.specs.Place.{counted};
+ghost use Rattle.nano_ron.specs.Maps.{EncodesEntry, EncodesMap, written_entry, written_entries};
+ghost use Rattle.nano_ron.specs.MapsLaws.{map_codec};
+ghost use Rattle.nano_text.specs.Place.{saturating_next};
 ghost use Rattle.nano_text.specs.Outcomes.{Appends, AppendsPart};
-ghost use Rattle.nano_ron.specs.Readers.{Reads, Refuses};
+ghost use Rattle.nano_ron.specs.Readers.{Decodes, Rejects};
 ghost use Rattle.nano_ron.specs.State.{at};
 
-use crate::traits::{DeRon, RonFormat, SerRon};
-use nano_text::{bytes_left, keep_written};
+use crate::traits::{DeRon, RonCodec, SerRon};
+use nano_ron_tokens::{DeRonErr, DeRonState, SerRonState, end_on_error};
+use nano_text::{bytes_left, rollback_on_error};
 use nano_value::{Key, OrderedKey, entries_by_rank};
-use ron_tokens::{DeRonErr, DeRonState, SerRonState, end_if_refused};
 use std::alloc::{AllocError, Global};
 use std::collections::HashMap;
 use std::hash::Hash;
 use std::str::Chars;
 
-impl<K: RonFormat + Key + Hash, V: RonFormat> RonFormat for HashMap<K, V> {
-    ghost ron = { format_as (λ x. x.entries) (map_format K.order K.ron V.ron) };
+impl<K: RonCodec + Key + Hash, V: RonCodec> RonCodec for HashMap<K, V> {
+    ghost ron = { codec_as (λ x. x.entries) (map_codec K.order K.ron V.ron) };
 
-    ghost ties = { seen_ties (map_ties K.ties V.ties) (λ x. x.entries) };
+    ghost agrees = { seen_agrees (map_agrees K.agrees V.agrees) (λ x. x.entries) };
 }
 
-/// Reads keys with their values between curly brackets into a map. A key that comes again takes its
-/// last value. Where it is refused, the state stands anywhere.
+/// Reads keys with their values between curly brackets into a map. A repeated key takes its
+/// last value. On an error, the position of the state is unspecified.
 fn read_hash_map<K: DeRon + Key + Hash, V: DeRon>(
     alloc: Global,
     state: &mut DeRonState,
     input: &mut Chars<'_>,
 ) -> Result<HashMap<K, V>, DeRonErr>
-    ensures fits { Reads (SpellsMap K.ron.spelling.spelled V.ron.spelling.spelled)
+    ensures decodes { Decodes (EncodesMap K.ron.encoding.encodes V.ron.encoding.encodes)
         (λ entries. table_means (table_of K.means V.means entries.entries))
         (at state.old input.old) (at state.new input.new) result }
-    ensures refused { Refuses (SpellsMap K.ron.spelling.spelled V.ron.spelling.spelled)
+    ensures rejected { Rejects (EncodesMap K.ron.encoding.encodes V.ron.encoding.encodes)
         (at state.old input.old) result }
 {
     // A text has fewer than 2^63 bytes, so a `usize` counts its entries.
-    let _room = bytes_left(input);
+    let _capacity = bytes_left(input);
     let mut entries = HashMap::new(alloc);
     state.curly_open(alloc, input)?;
     'entries: while !state.is_curly_close() {
@@ -57,15 +58,15 @@ fn read_hash_map<K: DeRon + Key + Hash, V: DeRon>(
     Ok(entries)
 }
 
-/// Reads a key, a colon and a value. Where it is refused, the state stands anywhere.
+/// Reads a key, a colon and a value. On an error, the position of the state is unspecified.
 pub(crate) fn read_entry<K: DeRon, V: DeRon>(
     alloc: Global,
     state: &mut DeRonState,
     input: &mut Chars<'_>,
 ) -> Result<(K, V), DeRonErr>
-    ensures fits { Reads (SpellsEntry K.ron.spelling.spelled V.ron.spelling.spelled)
+    ensures decodes { Decodes (EncodesEntry K.ron.encoding.encodes V.ron.encoding.encodes)
         (pair_map K.means V.means) (at state.old input.old) (at state.new input.new) result }
-    ensures refused { Refuses (SpellsEntry K.ron.spelling.spelled V.ron.spelling.spelled)
+    ensures rejected { Rejects (EncodesEntry K.ron.encoding.encodes V.ron.encoding.encodes)
         (at state.old input.old) result }
 {
     let key = K::de_ron(alloc, state, input)?;
@@ -81,12 +82,12 @@ impl<K: DeRon + Key + Hash, V: DeRon> DeRon for HashMap<K, V> {
         input: &mut Chars<'_>,
     ) -> Result<HashMap<K, V>, DeRonErr> {
         let read = read_hash_map(alloc, state, input);
-        end_if_refused(state, read)
+        end_on_error(state, read)
     }
 }
 
 /// Appends an entry of a map at level `d`, on a line of its own: a key, a colon, a value and a
-/// comma. A refused growth leaves what was written so far.
+/// comma. If an allocation fails, what was written so far remains.
 pub(crate) fn append_entry<K: SerRon, V: SerRon>(
     alloc: Global,
     key: &K,
@@ -95,7 +96,7 @@ pub(crate) fn append_entry<K: SerRon, V: SerRon>(
     s: &mut SerRonState,
 ) -> Result<(), AllocError>
     ensures ok { OnOk result (Appends s.old.out s.new.out (on_a_line d (written_entry
-        (K.ron.writing.text (counted d)) (V.ron.writing.text (counted d)) (key.now, value.now)))) }
+        (K.ron.canonical.text (saturating_next d)) (V.ron.canonical.text (saturating_next d)) (key.now, value.now)))) }
     ensures err { OnErr result (AppendsPart s.old.out s.new.out) }
 {
     let inner = d.saturating_add(1);
@@ -106,8 +107,8 @@ pub(crate) fn append_entry<K: SerRon, V: SerRon>(
     s.conl()
 }
 
-/// Appends entries between curly brackets, each on a line of its own. A refused growth leaves what
-/// was written so far.
+/// Appends entries between curly brackets, each on a line of its own. If an allocation fails,
+/// what was written so far remains.
 fn append_hash_map<K: SerRon, V: SerRon>(
     alloc: Global,
     entries: &[(&K, &V)],
@@ -115,7 +116,7 @@ fn append_hash_map<K: SerRon, V: SerRon>(
     s: &mut SerRonState,
 ) -> Result<(), AllocError>
     ensures ok { OnOk result (Appends s.old.out s.new.out (written_entries d
-        (K.ron.writing.text (counted d)) (V.ron.writing.text (counted d))
+        (K.ron.canonical.text (saturating_next d)) (V.ron.canonical.text (saturating_next d))
         (map deref_pair entries.now))) }
     ensures err { OnErr result (AppendsPart s.old.out s.new.out) }
 {
@@ -132,6 +133,6 @@ impl<K: SerRon + OrderedKey + Hash, V: SerRon> SerRon for HashMap<K, V> {
         let start = s.out.len();
         let entries = entries_by_rank(alloc, self)?;
         let written = append_hash_map(alloc, &entries, d, s);
-        keep_written(&mut s.out, start, written)
+        rollback_on_error(&mut s.out, start, written)
     }
 }

@@ -1,16 +1,17 @@
-// Options: the word `None`, or the item.
-ghost use Rattle.nano_value.specs.Ties.{option_ties};
-ghost use Rattle.nano_ron.specs.Options.{option_format};
+//! Options: the word `None`, or the item.
 
-use crate::traits::{DeRon, RonFormat, SerRon};
-use ron_tokens::{DeRonErr, DeRonState, SerRonState};
+ghost use Rattle.nano_value.specs.AgreesLaws.{option_agrees};
+ghost use Rattle.nano_ron.specs.OptionsLaws.{option_codec};
+
+use crate::traits::{DeRon, RonCodec, SerRon};
+use nano_ron_tokens::{DeRonErr, DeRonState, SerRonState};
 use std::alloc::{AllocError, Global};
 use std::str::Chars;
 
-impl<T: RonFormat> RonFormat for Option<T> {
-    ghost ron = { option_format T.ron };
+impl<T: RonCodec> RonCodec for Option<T> {
+    ghost ron = { option_codec T.ron };
 
-    ghost ties = { option_ties T.ties };
+    ghost agrees = { option_agrees T.agrees };
 }
 
 impl<T: SerRon> SerRon for Option<T> {

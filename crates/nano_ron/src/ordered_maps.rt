@@ -1,45 +1,47 @@
-// Ordered maps: keys with their values between curly brackets, each entry on a line of its own. A
-// hashed map of the same entries is written alike.
+//! Ordered maps: keys with their values between curly brackets, each entry on a line of its own. A
+//! hashed map of the same entries is written alike.
+
 ghost use Rattle.std.specs.Prelude.{OnOk, OnErr};
 ghost use Rattle.nano_value.specs.OrderedMaps.{ordered_map_means};
-ghost use Rattle.nano_value.specs.Ties.{seen_ties, ordered_map_ties};
-ghost use Rattle.nano_ron.specs.Format.{format_as};
-ghost use Rattle.nano_ron.specs.Maps.{SpellsMap, ordered_map_format, written_entries};
-ghost use Rattle.nano_text.specs.Place.{counted};
+ghost use Rattle.nano_value.specs.AgreesLaws.{seen_agrees, ordered_map_agrees};
+ghost use Rattle.nano_ron.specs.Codec.{codec_as};
+ghost use Rattle.nano_ron.specs.Maps.{EncodesMap, written_entries};
+ghost use Rattle.nano_ron.specs.MapsLaws.{ordered_map_codec};
+ghost use Rattle.nano_text.specs.Place.{saturating_next};
 ghost use Rattle.nano_text.specs.Outcomes.{Appends, AppendsPart};
-ghost use Rattle.nano_ron.specs.Readers.{Reads, Refuses};
+ghost use Rattle.nano_ron.specs.Readers.{Decodes, Rejects};
 ghost use Rattle.nano_ron.specs.State.{at};
 
 use crate::maps::{append_entry, read_entry};
-use crate::traits::{DeRon, RonFormat, SerRon};
-use nano_text::{bytes_left, keep_written};
+use crate::traits::{DeRon, RonCodec, SerRon};
+use nano_ron_tokens::{DeRonErr, DeRonState, SerRonState, end_on_error};
+use nano_text::{bytes_left, rollback_on_error};
 use nano_value::{Key, OrderedKey};
-use ron_tokens::{DeRonErr, DeRonState, SerRonState, end_if_refused};
 use std::alloc::{AllocError, Global};
 use std::collections::BTreeMap;
 use std::str::Chars;
 
-impl<K: RonFormat + Key + Ord, V: RonFormat> RonFormat for BTreeMap<K, V> {
-    ghost ron = { format_as (λ x. x.entries) (ordered_map_format K.order K.cmp K.ron V.ron) };
+impl<K: RonCodec + Key + Ord, V: RonCodec> RonCodec for BTreeMap<K, V> {
+    ghost ron = { codec_as (λ x. x.entries) (ordered_map_codec K.order K.cmp K.ron V.ron) };
 
-    ghost ties = { seen_ties (ordered_map_ties K.ties V.ties K.cmp) (λ x. x.entries) };
+    ghost agrees = { seen_agrees (ordered_map_agrees K.agrees V.agrees K.cmp) (λ x. x.entries) };
 }
 
-/// Reads keys with their values between curly brackets into a map. A key that comes again takes its
-/// last value. Where it is refused, the state stands anywhere.
+/// Reads keys with their values between curly brackets into a map. A repeated key takes its
+/// last value. On an error, the position of the state is unspecified.
 fn read_btree_map<K: DeRon + Key + Ord, V: DeRon>(
     alloc: Global,
     state: &mut DeRonState,
     input: &mut Chars<'_>,
 ) -> Result<BTreeMap<K, V>, DeRonErr>
-    ensures fits { Reads (SpellsMap K.ron.spelling.spelled V.ron.spelling.spelled)
+    ensures decodes { Decodes (EncodesMap K.ron.encoding.encodes V.ron.encoding.encodes)
         (λ entries. ordered_map_means K.cmp K.means V.means entries.entries)
         (at state.old input.old) (at state.new input.new) result }
-    ensures refused { Refuses (SpellsMap K.ron.spelling.spelled V.ron.spelling.spelled)
+    ensures rejected { Rejects (EncodesMap K.ron.encoding.encodes V.ron.encoding.encodes)
         (at state.old input.old) result }
 {
     // A text has fewer than 2^63 bytes, so a `usize` counts its entries.
-    let _room = bytes_left(input);
+    let _capacity = bytes_left(input);
     let mut entries = BTreeMap::new(alloc);
     state.curly_open(alloc, input)?;
     'entries: while !state.is_curly_close() {
@@ -60,12 +62,12 @@ impl<K: DeRon + Key + Ord, V: DeRon> DeRon for BTreeMap<K, V> {
         input: &mut Chars<'_>,
     ) -> Result<BTreeMap<K, V>, DeRonErr> {
         let read = read_btree_map(alloc, state, input);
-        end_if_refused(state, read)
+        end_on_error(state, read)
     }
 }
 
-/// Appends entries between curly brackets, each on a line of its own. A refused growth leaves what
-/// was written so far.
+/// Appends entries between curly brackets, each on a line of its own. If an allocation fails,
+/// what was written so far remains.
 fn append_btree_map<K: SerRon + Ord, V: SerRon>(
     alloc: Global,
     entries: &BTreeMap<K, V>,
@@ -73,7 +75,7 @@ fn append_btree_map<K: SerRon + Ord, V: SerRon>(
     s: &mut SerRonState,
 ) -> Result<(), AllocError>
     ensures ok { OnOk result (Appends s.old.out s.new.out (written_entries d
-        (K.ron.writing.text (counted d)) (V.ron.writing.text (counted d))
+        (K.ron.canonical.text (saturating_next d)) (V.ron.canonical.text (saturating_next d))
         entries.now.entries)) }
     ensures err { OnErr result (AppendsPart s.old.out s.new.out) }
 {
@@ -90,6 +92,6 @@ impl<K: SerRon + OrderedKey, V: SerRon> SerRon for BTreeMap<K, V> {
         let start = s.out.len();
         let _count = self.len();
         let written = append_btree_map(alloc, self, d, s);
-        keep_written(&mut s.out, start, written)
+        rollback_on_error(&mut s.out, start, written)
     }
 }

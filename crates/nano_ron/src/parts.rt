@@ -1,25 +1,27 @@
-// The parts of a tuple: the last one with the closing bracket, and each other with the comma behind.
+//! The parts of a tuple: the last one with the closing bracket, and each other with the comma
+//! after it.
+
 ghost use Rattle.std.specs.Prelude.{◌++◌, ◌∷◌, [], OnOk, OnErr};
 ghost use Rattle.nano_text.specs.Outcomes.{Appends, AppendsPart};
-ghost use Rattle.nano_ron.specs.Readers.{Reads, Refuses};
+ghost use Rattle.nano_ron.specs.Readers.{Decodes, Rejects};
 ghost use Rattle.nano_ron.specs.State.{at};
-ghost use Rattle.nano_ron.specs.Tuples.{last_format};
+ghost use Rattle.nano_ron.specs.TuplesLaws.{last_codec};
 
 use crate::traits::{DeRon, SerRon};
-use ron_tokens::{DeRonErr, DeRonState, SerRonState};
+use nano_ron_tokens::{DeRonErr, DeRonState, SerRonState};
 use std::alloc::{AllocError, Global};
 use std::str::Chars;
 
-/// Reads the last part of a tuple, and its closing bracket. Where it is refused, the state stands
-/// anywhere.
+/// Reads the last part of a tuple, and its closing bracket. On an error, the position of the
+/// state is unspecified.
 pub(crate) fn read_last<T: DeRon>(
     alloc: Global,
     state: &mut DeRonState,
     input: &mut Chars<'_>,
 ) -> Result<T, DeRonErr>
-    ensures fits { Reads (last_format T.ron).spelling.spelled T.means
+    ensures decodes { Decodes (last_codec T.ron).encoding.encodes T.means
         (at state.old input.old) (at state.new input.new) result }
-    ensures refused { Refuses (last_format T.ron).spelling.spelled
+    ensures rejected { Rejects (last_codec T.ron).encoding.encodes
         (at state.old input.old) result }
 {
     let last = T::de_ron(alloc, state, input)?;
@@ -28,8 +30,8 @@ pub(crate) fn read_last<T: DeRon>(
     Ok(last)
 }
 
-/// Appends a part of a tuple that is not the last, and a comma and a space behind it. A refused
-/// growth leaves what was written so far.
+/// Appends a part of a tuple that is not the last, and a comma and a space after it. If an
+/// allocation fails, what was written so far remains.
 pub(crate) fn append_part<T: SerRon>(
     alloc: Global,
     part: &T,
@@ -37,15 +39,15 @@ pub(crate) fn append_part<T: SerRon>(
     s: &mut SerRonState,
 ) -> Result<(), AllocError>
     ensures ok { OnOk result (Appends s.old.out s.new.out
-        (T.ron.writing.text d part.now ++ 44 ∷ (32 ∷ []))) }
+        (T.ron.canonical.text d part.now ++ 44 ∷ (32 ∷ []))) }
     ensures err { OnErr result (AppendsPart s.old.out s.new.out) }
 {
     part.ser_ron(alloc, d, s)?;
     s.out.push_str(", ")
 }
 
-/// Appends the last part of a tuple, and the closing parenthesis. A refused growth leaves what was
-/// written so far.
+/// Appends the last part of a tuple, and the closing parenthesis. If an allocation fails, what
+/// was written so far remains.
 pub(crate) fn append_last<T: SerRon>(
     alloc: Global,
     part: &T,
@@ -53,7 +55,7 @@ pub(crate) fn append_last<T: SerRon>(
     s: &mut SerRonState,
 ) -> Result<(), AllocError>
     ensures ok { OnOk result
-        (Appends s.old.out s.new.out (T.ron.writing.text d part.now ++ 41 ∷ [])) }
+        (Appends s.old.out s.new.out (T.ron.canonical.text d part.now ++ 41 ∷ [])) }
     ensures err { OnErr result (AppendsPart s.old.out s.new.out) }
 {
     part.ser_ron(alloc, d, s)?;

@@ -1,16 +1,18 @@
-// Signed integers: a whole number in the type's range, with or without a minus sign.
-// Their readers are inlined: what is read then passes through no answer with room for an error.
+//! Signed integers: a whole number in the type's range, with or without a minus sign.
+//! Their readers are inlined: a value read then passes through no result with space for an
+//! error.
+
 ghost use Rattle.std.specs.Int.{w8, w16, w32, w64};
 ghost use Rattle.nano_value.specs.Meaning.{number};
-ghost use Rattle.nano_value.specs.Ties.{tied};
-ghost use Rattle.nano_ron.specs.Numbers.{IsRangeOf, signed, signed_format, within_8, within_16};
-ghost use Rattle.nano_ron.specs.Numbers.{within_32, within_64};
-ghost use Rattle.nano_ron.specs.Readers.{Reads, Refuses};
+ghost use Rattle.nano_value.specs.AgreesLaws.{agreed};
+ghost use Rattle.nano_ron.specs.NumbersLaws.{IsRangeOf, signed, signed_codec, within_8, within_16};
+ghost use Rattle.nano_ron.specs.NumbersLaws.{within_32, within_64};
+ghost use Rattle.nano_ron.specs.Readers.{Decodes, Rejects};
 ghost use Rattle.nano_ron.specs.State.{at};
 
-use crate::traits::{DeRon, RonFormat, SerRon};
+use crate::traits::{DeRon, RonCodec, SerRon};
+use nano_ron_tokens::{DeRonErr, DeRonState, SerRonState, end_on_error};
 use nano_text::append_signed;
-use ron_tokens::{DeRonErr, DeRonState, SerRonState, end_if_refused};
 use std::alloc::{AllocError, Global};
 use std::str::Chars;
 
@@ -30,8 +32,8 @@ trait Signed: Sized {
         ensures { value result ≡ number };
 }
 
-/// Reads a whole number, with or without a minus sign, from `min` to `max`. Where it is refused, the
-/// state stands anywhere.
+/// Reads a whole number, with or without a minus sign, from `min` to `max`. On an error, the
+/// position of the state is unspecified.
 #[inline(always)]
 fn read_signed<T: Signed>(
     alloc: Global,
@@ -41,19 +43,19 @@ fn read_signed<T: Signed>(
     max: i64,
 ) -> Result<T, DeRonErr>
     requires { IsRangeOf T.width min max }
-    ensures fits { Reads (signed T.width).spelled (λ x. number (T.value x))
+    ensures decodes { Decodes (signed T.width).encodes (λ x. number (T.value x))
         (at state.old input.old) (at state.new input.new) result }
-    ensures refused { Refuses (signed T.width).spelled (at state.old input.old) result }
+    ensures rejected { Rejects (signed T.width).encodes (at state.old input.old) result }
 {
     let number = state.i64_range(alloc, min, max)?;
     state.next_tok(alloc, input)?;
     Ok(T::narrow(number))
 }
 
-impl RonFormat for i8 {
-    ghost ron = { signed_format w8 within_8 };
+impl RonCodec for i8 {
+    ghost ron = { signed_codec w8 within_8 };
 
-    ghost ties = { tied };
+    ghost agrees = { agreed };
 }
 
 impl SerRon for i8 {
@@ -80,14 +82,14 @@ impl DeRon for i8 {
         input: &mut Chars<'_>,
     ) -> Result<i8, DeRonErr> {
         let read = read_signed(alloc, state, input, i8::MIN as i64, i8::MAX as i64);
-        end_if_refused(state, read)
+        end_on_error(state, read)
     }
 }
 
-impl RonFormat for i16 {
-    ghost ron = { signed_format w16 within_16 };
+impl RonCodec for i16 {
+    ghost ron = { signed_codec w16 within_16 };
 
-    ghost ties = { tied };
+    ghost agrees = { agreed };
 }
 
 impl SerRon for i16 {
@@ -114,14 +116,14 @@ impl DeRon for i16 {
         input: &mut Chars<'_>,
     ) -> Result<i16, DeRonErr> {
         let read = read_signed(alloc, state, input, i16::MIN as i64, i16::MAX as i64);
-        end_if_refused(state, read)
+        end_on_error(state, read)
     }
 }
 
-impl RonFormat for i32 {
-    ghost ron = { signed_format w32 within_32 };
+impl RonCodec for i32 {
+    ghost ron = { signed_codec w32 within_32 };
 
-    ghost ties = { tied };
+    ghost agrees = { agreed };
 }
 
 impl SerRon for i32 {
@@ -148,14 +150,14 @@ impl DeRon for i32 {
         input: &mut Chars<'_>,
     ) -> Result<i32, DeRonErr> {
         let read = read_signed(alloc, state, input, i32::MIN as i64, i32::MAX as i64);
-        end_if_refused(state, read)
+        end_on_error(state, read)
     }
 }
 
-impl RonFormat for i64 {
-    ghost ron = { signed_format w64 within_64 };
+impl RonCodec for i64 {
+    ghost ron = { signed_codec w64 within_64 };
 
-    ghost ties = { tied };
+    ghost agrees = { agreed };
 }
 
 impl SerRon for i64 {
@@ -182,6 +184,6 @@ impl DeRon for i64 {
         input: &mut Chars<'_>,
     ) -> Result<i64, DeRonErr> {
         let read = read_signed(alloc, state, input, i64::MIN, i64::MAX);
-        end_if_refused(state, read)
+        end_on_error(state, read)
     }
 }

@@ -1,30 +1,32 @@
-// Lists between parentheses: slices and arrays.
+//! Lists between parentheses: slices and arrays.
+
 ghost use Rattle.std.specs.Prelude.{◌≡◌, IfOk, OnOk, OnErr, map, length};
-ghost use Rattle.nano_text.specs.Place.{counted};
+ghost use Rattle.nano_text.specs.Place.{saturating_next};
 ghost use Rattle.nano_value.specs.Meaning.{listed};
-ghost use Rattle.nano_value.specs.Ties.{seen_ties, list_ties, array_ties};
-ghost use Rattle.nano_ron.specs.Format.{format_as};
+ghost use Rattle.nano_value.specs.AgreesLaws.{seen_agrees, list_agrees, array_agrees};
+ghost use Rattle.nano_ron.specs.Codec.{codec_as};
 ghost use Rattle.nano_text.specs.Outcomes.{Appends, AppendsPart};
-ghost use Rattle.nano_ron.specs.Readers.{Reads, Refuses};
-ghost use Rattle.nano_ron.specs.Lists.{array_of, behind_space, written_in, slice_format};
-ghost use Rattle.nano_ron.specs.Lists.{array_format};
-ghost use Rattle.nano_ron.specs.Styles.{paren_style};
+ghost use Rattle.nano_ron.specs.Readers.{Decodes, Rejects};
+ghost use Rattle.nano_ron.specs.ListsLaws.{array_of, slice_codec};
+ghost use Rattle.nano_ron.specs.Lists.{after_space, written_in};
+ghost use Rattle.nano_ron.specs.ListsLaws.{array_codec};
+ghost use Rattle.nano_ron.specs.StylesLaws.{paren_style};
 ghost use Rattle.nano_ron.specs.State.{at};
 
-use crate::traits::{DeRon, RonFormat, SerRon};
-use nano_text::keep_written;
-use ron_tokens::{DeRonErr, DeRonState, SerRonState, end_if_refused};
+use crate::traits::{DeRon, RonCodec, SerRon};
+use nano_ron_tokens::{DeRonErr, DeRonState, SerRonState, end_on_error};
+use nano_text::rollback_on_error;
 use std::alloc::{AllocError, Global};
 use std::str::Chars;
 
-impl<T: RonFormat> RonFormat for &[T] {
-    ghost ron = { format_as (λ x. x.now) (slice_format T.ron) };
+impl<T: RonCodec> RonCodec for &[T] {
+    ghost ron = { codec_as (λ x. x.now) (slice_codec T.ron) };
 
-    ghost ties = { seen_ties (list_ties T.ties) (λ x. x.now) };
+    ghost agrees = { seen_agrees (list_agrees T.agrees) (λ x. x.now) };
 }
 
-/// Appends an item, behind a comma and a space unless it is the first. A refused growth leaves what
-/// was written so far.
+/// Appends an item, after a comma and a space unless it is the first. If an allocation fails,
+/// what was written so far remains.
 fn append_spaced<T: SerRon>(
     alloc: Global,
     item: &T,
@@ -33,7 +35,7 @@ fn append_spaced<T: SerRon>(
     s: &mut SerRonState,
 ) -> Result<(), AllocError>
     ensures ok { OnOk result
-        (Appends s.old.out s.new.out (behind_space first (T.ron.writing.text d item.now))) }
+        (Appends s.old.out s.new.out (after_space first (T.ron.canonical.text d item.now))) }
     ensures err { OnErr result (AppendsPart s.old.out s.new.out) }
 {
     if !first {
@@ -42,7 +44,7 @@ fn append_spaced<T: SerRon>(
     item.ser_ron(alloc, d, s)
 }
 
-/// Appends items between parentheses. A refused growth leaves what was written so far.
+/// Appends items between parentheses. If an allocation fails, what was written so far remains.
 fn append_slice<T: SerRon>(
     alloc: Global,
     items: &[T],
@@ -50,7 +52,7 @@ fn append_slice<T: SerRon>(
     s: &mut SerRonState,
 ) -> Result<(), AllocError>
     ensures ok { OnOk result (Appends s.old.out s.new.out
-        (written_in paren_style d (T.ron.writing.text (counted d)) items.now)) }
+        (written_in paren_style d (T.ron.canonical.text (saturating_next d)) items.now)) }
     ensures err { OnErr result (AppendsPart s.old.out s.new.out) }
 {
     s.out.push('(')?;
@@ -67,29 +69,29 @@ impl<T: SerRon> SerRon for &[T] {
     fn ser_ron(&self, alloc: Global, d: usize, s: &mut SerRonState) -> Result<(), AllocError> {
         let start = s.out.len();
         let written = append_slice(alloc, self, d, s);
-        keep_written(&mut s.out, start, written)
+        rollback_on_error(&mut s.out, start, written)
     }
 }
 
-impl<T: RonFormat, const N: usize> RonFormat for [T; N] {
-    ghost ron = { array_format N T.ron };
+impl<T: RonCodec, const N: usize> RonCodec for [T; N] {
+    ghost ron = { array_codec N T.ron };
 
-    ghost ties = { array_ties T.ties N };
+    ghost agrees = { array_agrees T.agrees N };
 }
 
-/// Reads `count` items between parentheses, and holds no more. Where it is refused, the state
-/// stands anywhere.
+/// Reads `count` items between parentheses, and holds no more. On an error, the position of the
+/// state is unspecified.
 fn read_items<T: DeRon>(
     alloc: Global,
     state: &mut DeRonState,
     input: &mut Chars<'_>,
     count: usize,
 ) -> Result<Vec<T>, DeRonErr>
-    ensures fits { Reads (array_of count T.ron.spelling).spelled
+    ensures decodes { Decodes (array_of count T.ron.encoding).encodes
         (λ items. listed (map T.means items.items))
         (at state.old input.old) (at state.new input.new) result }
     ensures count { IfOk result (λ items. length items.items ≡ count) }
-    ensures refused { Refuses (array_of count T.ron.spelling).spelled
+    ensures rejected { Rejects (array_of count T.ron.encoding).encodes
         (at state.old input.old) result }
 {
     let mut items = Vec::new(alloc);
@@ -105,15 +107,15 @@ fn read_items<T: DeRon>(
     Ok(items)
 }
 
-/// Reads the items of an array. Where it is refused, the state stands anywhere.
+/// Reads the items of an array. On an error, the position of the state is unspecified.
 fn read_array<T: DeRon, const N: usize>(
     alloc: Global,
     state: &mut DeRonState,
     input: &mut Chars<'_>,
 ) -> Result<[T; N], DeRonErr>
-    ensures fits { Reads (array_of N T.ron.spelling).spelled (λ items. listed (map T.means items))
+    ensures decodes { Decodes (array_of N T.ron.encoding).encodes (λ items. listed (map T.means items))
         (at state.old input.old) (at state.new input.new) result }
-    ensures refused { Refuses (array_of N T.ron.spelling).spelled (at state.old input.old) result }
+    ensures rejected { Rejects (array_of N T.ron.encoding).encodes (at state.old input.old) result }
 {
     let items = read_items(alloc, state, input, N)?;
     match <[T; N]>::try_from(items) {
@@ -130,7 +132,7 @@ impl<T: DeRon, const N: usize> DeRon for [T; N] {
         input: &mut Chars<'_>,
     ) -> Result<[T; N], DeRonErr> {
         let read = read_array(alloc, state, input);
-        end_if_refused(state, read)
+        end_on_error(state, read)
     }
 }
 
@@ -138,6 +140,6 @@ impl<T: SerRon, const N: usize> SerRon for [T; N] {
     fn ser_ron(&self, alloc: Global, d: usize, s: &mut SerRonState) -> Result<(), AllocError> {
         let start = s.out.len();
         let written = append_slice(alloc, self.as_slice(), d, s);
-        keep_written(&mut s.out, start, written)
+        rollback_on_error(&mut s.out, start, written)
     }
 }

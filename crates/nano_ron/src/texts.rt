@@ -1,22 +1,24 @@
-// Texts: a string.
-// Their readers are inlined: what is read then passes through no answer with room for an error.
+//! Texts: a string.
+//! Their readers are inlined: a value read then passes through no result with space for an
+//! error.
+
 ghost use Rattle.std.specs.Prelude.{string_bytes};
 ghost use Rattle.nano_value.specs.Meaning.{text};
-ghost use Rattle.nano_value.specs.Ties.{tied};
-ghost use Rattle.nano_ron.specs.Format.{format_as};
-ghost use Rattle.nano_ron.specs.Readers.{Reads, Refuses};
-ghost use Rattle.nano_ron.specs.Texts.{texts, text_format};
+ghost use Rattle.nano_value.specs.AgreesLaws.{agreed};
+ghost use Rattle.nano_ron.specs.Codec.{codec_as};
+ghost use Rattle.nano_ron.specs.Readers.{Decodes, Rejects};
+ghost use Rattle.nano_ron.specs.TextsLaws.{texts, text_codec};
 ghost use Rattle.nano_ron.specs.State.{at};
 
-use crate::traits::{DeRon, RonFormat, SerRon};
-use ron_tokens::{DeRonErr, DeRonState, SerRonState, append_string, end_if_refused};
+use crate::traits::{DeRon, RonCodec, SerRon};
+use nano_ron_tokens::{DeRonErr, DeRonState, SerRonState, append_string, end_on_error};
 use std::alloc::{AllocError, Global};
 use std::str::Chars;
 
-impl RonFormat for String {
-    ghost ron = { format_as (λ x. string_bytes x) text_format };
+impl RonCodec for String {
+    ghost ron = { codec_as (λ x. string_bytes x) text_codec };
 
-    ghost ties = { tied };
+    ghost agrees = { agreed };
 }
 
 impl SerRon for String {
@@ -25,16 +27,16 @@ impl SerRon for String {
     }
 }
 
-/// Reads a string. Where it is refused, the state stands anywhere.
+/// Reads a string. On an error, the position of the state is unspecified.
 #[inline(always)]
 fn read_string(
     alloc: Global,
     state: &mut DeRonState,
     input: &mut Chars<'_>,
 ) -> Result<String, DeRonErr>
-    ensures fits { Reads texts.spelled (λ x. text (string_bytes x))
+    ensures decodes { Decodes texts.encodes (λ x. text (string_bytes x))
         (at state.old input.old) (at state.new input.new) result }
-    ensures refused { Refuses texts.spelled (at state.old input.old) result }
+    ensures rejected { Rejects texts.encodes (at state.old input.old) result }
 {
     let text = state.as_string(alloc)?;
     state.next_tok(alloc, input)?;
@@ -50,6 +52,6 @@ impl DeRon for String {
         input: &mut Chars<'_>,
     ) -> Result<String, DeRonErr> {
         let read = read_string(alloc, state, input);
-        end_if_refused(state, read)
+        end_on_error(state, read)
     }
 }

@@ -1,31 +1,32 @@
-// Tuples: two, three or four parts between parentheses.
+//! Tuples: two, three or four parts between parentheses.
+
 ghost use Rattle.std.specs.Prelude.{OnOk, OnErr};
 ghost use Rattle.nano_value.specs.Meaning.{paired};
-ghost use Rattle.nano_value.specs.Ties.{seen_ties, pair_ties};
+ghost use Rattle.nano_value.specs.AgreesLaws.{seen_agrees, pair_agrees};
 ghost use Rattle.nano_text.specs.Outcomes.{Appends, AppendsPart};
-ghost use Rattle.nano_ron.specs.Readers.{Reads, Refuses};
+ghost use Rattle.nano_ron.specs.Readers.{Decodes, Rejects};
 ghost use Rattle.nano_ron.specs.State.{at};
-ghost use Rattle.nano_ron.specs.Tuples.{two_parts, three_parts, four_parts};
-ghost use Rattle.nano_ron.specs.Tuples.{pair_format, triple_format, quadruple_format};
+ghost use Rattle.nano_ron.specs.TuplesLaws.{two_parts, three_parts, four_parts};
+ghost use Rattle.nano_ron.specs.TuplesLaws.{pair_codec, triple_codec, quadruple_codec};
 
 use crate::parts::{append_last, append_part, read_last};
-use crate::traits::{DeRon, RonFormat, SerRon};
-use nano_text::keep_written;
-use ron_tokens::{DeRonErr, DeRonState, SerRonState, end_if_refused};
+use crate::traits::{DeRon, RonCodec, SerRon};
+use nano_ron_tokens::{DeRonErr, DeRonState, SerRonState, end_on_error};
+use nano_text::rollback_on_error;
 use std::alloc::{AllocError, Global};
 use std::str::Chars;
 
-/// Reads the last two parts of a tuple, and its closing bracket. Where it is refused, the state
-/// stands anywhere.
+/// Reads the last two parts of a tuple, and its closing bracket. On an error, the position of
+/// the state is unspecified.
 fn read_two<A: DeRon, B: DeRon>(
     alloc: Global,
     state: &mut DeRonState,
     input: &mut Chars<'_>,
 ) -> Result<(A, B), DeRonErr>
-    ensures fits { Reads (two_parts A.ron B.ron).spelling.spelled
+    ensures decodes { Decodes (two_parts A.ron B.ron).encoding.encodes
         (λ x. paired (A.means x.0, B.means x.1))
         (at state.old input.old) (at state.new input.new) result }
-    ensures refused { Refuses (two_parts A.ron B.ron).spelling.spelled
+    ensures rejected { Rejects (two_parts A.ron B.ron).encoding.encodes
         (at state.old input.old) result }
 {
     let first = A::de_ron(alloc, state, input)?;
@@ -34,17 +35,17 @@ fn read_two<A: DeRon, B: DeRon>(
     Ok((first, last))
 }
 
-/// Reads the last three parts of a tuple, and its closing bracket. Where it is refused, the state
-/// stands anywhere.
+/// Reads the last three parts of a tuple, and its closing bracket. On an error, the position of
+/// the state is unspecified.
 fn read_three<A: DeRon, B: DeRon, C: DeRon>(
     alloc: Global,
     state: &mut DeRonState,
     input: &mut Chars<'_>,
 ) -> Result<(A, B, C), DeRonErr>
-    ensures fits { Reads (three_parts A.ron B.ron C.ron).spelling.spelled
+    ensures decodes { Decodes (three_parts A.ron B.ron C.ron).encoding.encodes
         (λ x. paired (A.means x.0, paired (B.means x.1, C.means x.2)))
         (at state.old input.old) (at state.new input.new) result }
-    ensures refused { Refuses (three_parts A.ron B.ron C.ron).spelling.spelled
+    ensures rejected { Rejects (three_parts A.ron B.ron C.ron).encoding.encodes
         (at state.old input.old) result }
 {
     let first = A::de_ron(alloc, state, input)?;
@@ -53,17 +54,17 @@ fn read_three<A: DeRon, B: DeRon, C: DeRon>(
     Ok((first, rest.0, rest.1))
 }
 
-/// Reads the four parts of a tuple, and its closing bracket. Where it is refused, the state stands
-/// anywhere.
+/// Reads the four parts of a tuple, and its closing bracket. On an error, the position of the
+/// state is unspecified.
 fn read_four<A: DeRon, B: DeRon, C: DeRon, D: DeRon>(
     alloc: Global,
     state: &mut DeRonState,
     input: &mut Chars<'_>,
 ) -> Result<(A, B, C, D), DeRonErr>
-    ensures fits { Reads (four_parts A.ron B.ron C.ron D.ron).spelling.spelled
+    ensures decodes { Decodes (four_parts A.ron B.ron C.ron D.ron).encoding.encodes
         (λ x. paired (A.means x.0, paired (B.means x.1, paired (C.means x.2, D.means x.3))))
         (at state.old input.old) (at state.new input.new) result }
-    ensures refused { Refuses (four_parts A.ron B.ron C.ron D.ron).spelling.spelled
+    ensures rejected { Rejects (four_parts A.ron B.ron C.ron D.ron).encoding.encodes
         (at state.old input.old) result }
 {
     let first = A::de_ron(alloc, state, input)?;
@@ -74,13 +75,13 @@ fn read_four<A: DeRon, B: DeRon, C: DeRon, D: DeRon>(
 
 // ---- two parts
 
-impl<A: RonFormat, B: RonFormat> RonFormat for (A, B) {
-    ghost ron = { pair_format A.ron B.ron };
+impl<A: RonCodec, B: RonCodec> RonCodec for (A, B) {
+    ghost ron = { pair_codec A.ron B.ron };
 
-    ghost ties = { pair_ties A.ties B.ties };
+    ghost agrees = { pair_agrees A.agrees B.agrees };
 }
 
-/// Appends a tuple. A refused growth leaves what was written so far.
+/// Appends a tuple. If an allocation fails, what was written so far remains.
 fn append_pair<A: SerRon, B: SerRon>(
     alloc: Global,
     parts: &(A, B),
@@ -88,7 +89,7 @@ fn append_pair<A: SerRon, B: SerRon>(
     s: &mut SerRonState,
 ) -> Result<(), AllocError>
     ensures ok { OnOk result (Appends s.old.out s.new.out
-        ((pair_format A.ron B.ron).writing.text d parts.now)) }
+        ((pair_codec A.ron B.ron).canonical.text d parts.now)) }
     ensures err { OnErr result (AppendsPart s.old.out s.new.out) }
 {
     s.out.push('(')?;
@@ -100,20 +101,20 @@ impl<A: SerRon, B: SerRon> SerRon for (A, B) {
     fn ser_ron(&self, alloc: Global, d: usize, s: &mut SerRonState) -> Result<(), AllocError> {
         let start = s.out.len();
         let written = append_pair(alloc, self, d, s);
-        keep_written(&mut s.out, start, written)
+        rollback_on_error(&mut s.out, start, written)
     }
 }
 
-/// Reads a tuple. Where it is refused, the state stands anywhere.
+/// Reads a tuple. On an error, the position of the state is unspecified.
 fn read_pair<A: DeRon, B: DeRon>(
     alloc: Global,
     state: &mut DeRonState,
     input: &mut Chars<'_>,
 ) -> Result<(A, B), DeRonErr>
-    ensures fits { Reads (pair_format A.ron B.ron).spelling.spelled
+    ensures decodes { Decodes (pair_codec A.ron B.ron).encoding.encodes
         (λ x. paired (A.means x.0, B.means x.1))
         (at state.old input.old) (at state.new input.new) result }
-    ensures refused { Refuses (pair_format A.ron B.ron).spelling.spelled
+    ensures rejected { Rejects (pair_codec A.ron B.ron).encoding.encodes
         (at state.old input.old) result }
 {
     state.paren_open(alloc, input)?;
@@ -127,20 +128,20 @@ impl<A: DeRon, B: DeRon> DeRon for (A, B) {
         input: &mut Chars<'_>,
     ) -> Result<(A, B), DeRonErr> {
         let read = read_pair(alloc, state, input);
-        end_if_refused(state, read)
+        end_on_error(state, read)
     }
 }
 
 // ---- three parts
 
-impl<A: RonFormat, B: RonFormat, C: RonFormat> RonFormat for (A, B, C) {
-    ghost ron = { triple_format A.ron B.ron C.ron };
+impl<A: RonCodec, B: RonCodec, C: RonCodec> RonCodec for (A, B, C) {
+    ghost ron = { triple_codec A.ron B.ron C.ron };
 
-    ghost ties = { seen_ties (pair_ties A.ties (pair_ties B.ties C.ties))
+    ghost agrees = { seen_agrees (pair_agrees A.agrees (pair_agrees B.agrees C.agrees))
         (λ x. (x.0, (x.1, x.2))) };
 }
 
-/// Appends a tuple. A refused growth leaves what was written so far.
+/// Appends a tuple. If an allocation fails, what was written so far remains.
 fn append_triple<A: SerRon, B: SerRon, C: SerRon>(
     alloc: Global,
     parts: &(A, B, C),
@@ -148,7 +149,7 @@ fn append_triple<A: SerRon, B: SerRon, C: SerRon>(
     s: &mut SerRonState,
 ) -> Result<(), AllocError>
     ensures ok { OnOk result (Appends s.old.out s.new.out
-        ((triple_format A.ron B.ron C.ron).writing.text d parts.now)) }
+        ((triple_codec A.ron B.ron C.ron).canonical.text d parts.now)) }
     ensures err { OnErr result (AppendsPart s.old.out s.new.out) }
 {
     s.out.push('(')?;
@@ -161,20 +162,20 @@ impl<A: SerRon, B: SerRon, C: SerRon> SerRon for (A, B, C) {
     fn ser_ron(&self, alloc: Global, d: usize, s: &mut SerRonState) -> Result<(), AllocError> {
         let start = s.out.len();
         let written = append_triple(alloc, self, d, s);
-        keep_written(&mut s.out, start, written)
+        rollback_on_error(&mut s.out, start, written)
     }
 }
 
-/// Reads a tuple. Where it is refused, the state stands anywhere.
+/// Reads a tuple. On an error, the position of the state is unspecified.
 fn read_triple<A: DeRon, B: DeRon, C: DeRon>(
     alloc: Global,
     state: &mut DeRonState,
     input: &mut Chars<'_>,
 ) -> Result<(A, B, C), DeRonErr>
-    ensures fits { Reads (triple_format A.ron B.ron C.ron).spelling.spelled
+    ensures decodes { Decodes (triple_codec A.ron B.ron C.ron).encoding.encodes
         (λ x. paired (A.means x.0, paired (B.means x.1, C.means x.2)))
         (at state.old input.old) (at state.new input.new) result }
-    ensures refused { Refuses (triple_format A.ron B.ron C.ron).spelling.spelled
+    ensures rejected { Rejects (triple_codec A.ron B.ron C.ron).encoding.encodes
         (at state.old input.old) result }
 {
     state.paren_open(alloc, input)?;
@@ -188,20 +189,20 @@ impl<A: DeRon, B: DeRon, C: DeRon> DeRon for (A, B, C) {
         input: &mut Chars<'_>,
     ) -> Result<(A, B, C), DeRonErr> {
         let read = read_triple(alloc, state, input);
-        end_if_refused(state, read)
+        end_on_error(state, read)
     }
 }
 
 // ---- four parts
 
-impl<A: RonFormat, B: RonFormat, C: RonFormat, D: RonFormat> RonFormat for (A, B, C, D) {
-    ghost ron = { quadruple_format A.ron B.ron C.ron D.ron };
+impl<A: RonCodec, B: RonCodec, C: RonCodec, D: RonCodec> RonCodec for (A, B, C, D) {
+    ghost ron = { quadruple_codec A.ron B.ron C.ron D.ron };
 
-    ghost ties = { seen_ties (pair_ties A.ties (pair_ties B.ties (pair_ties C.ties D.ties)))
+    ghost agrees = { seen_agrees (pair_agrees A.agrees (pair_agrees B.agrees (pair_agrees C.agrees D.agrees)))
         (λ x. (x.0, (x.1, (x.2, x.3)))) };
 }
 
-/// Appends a tuple. A refused growth leaves what was written so far.
+/// Appends a tuple. If an allocation fails, what was written so far remains.
 fn append_quadruple<A: SerRon, B: SerRon, C: SerRon, D: SerRon>(
     alloc: Global,
     parts: &(A, B, C, D),
@@ -209,7 +210,7 @@ fn append_quadruple<A: SerRon, B: SerRon, C: SerRon, D: SerRon>(
     s: &mut SerRonState,
 ) -> Result<(), AllocError>
     ensures ok { OnOk result (Appends s.old.out s.new.out
-        ((quadruple_format A.ron B.ron C.ron D.ron).writing.text d parts.now)) }
+        ((quadruple_codec A.ron B.ron C.ron D.ron).canonical.text d parts.now)) }
     ensures err { OnErr result (AppendsPart s.old.out s.new.out) }
 {
     s.out.push('(')?;
@@ -223,20 +224,20 @@ impl<A: SerRon, B: SerRon, C: SerRon, D: SerRon> SerRon for (A, B, C, D) {
     fn ser_ron(&self, alloc: Global, d: usize, s: &mut SerRonState) -> Result<(), AllocError> {
         let start = s.out.len();
         let written = append_quadruple(alloc, self, d, s);
-        keep_written(&mut s.out, start, written)
+        rollback_on_error(&mut s.out, start, written)
     }
 }
 
-/// Reads a tuple. Where it is refused, the state stands anywhere.
+/// Reads a tuple. On an error, the position of the state is unspecified.
 fn read_quadruple<A: DeRon, B: DeRon, C: DeRon, D: DeRon>(
     alloc: Global,
     state: &mut DeRonState,
     input: &mut Chars<'_>,
 ) -> Result<(A, B, C, D), DeRonErr>
-    ensures fits { Reads (quadruple_format A.ron B.ron C.ron D.ron).spelling.spelled
+    ensures decodes { Decodes (quadruple_codec A.ron B.ron C.ron D.ron).encoding.encodes
         (λ x. paired (A.means x.0, paired (B.means x.1, paired (C.means x.2, D.means x.3))))
         (at state.old input.old) (at state.new input.new) result }
-    ensures refused { Refuses (quadruple_format A.ron B.ron C.ron D.ron).spelling.spelled
+    ensures rejected { Rejects (quadruple_codec A.ron B.ron C.ron D.ron).encoding.encodes
         (at state.old input.old) result }
 {
     state.paren_open(alloc, input)?;
@@ -250,6 +251,6 @@ impl<A: DeRon, B: DeRon, C: DeRon, D: DeRon> DeRon for (A, B, C, D) {
         input: &mut Chars<'_>,
     ) -> Result<(A, B, C, D), DeRonErr> {
         let read = read_quadruple(alloc, state, input);
-        end_if_refused(state, read)
+        end_on_error(state, read)
     }
 }

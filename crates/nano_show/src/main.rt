@@ -1,19 +1,19 @@
-//! Shows what the formats of nanoserde make of the words of a command line, and of standard input.
+//! Shows how the formats of nanoserde treat the arguments of a command line, and standard
+//! input.
 //!
-//! `nano_show code u16s 1 2` prints the binary code of two numbers, `nano_show code text ab` that
-//! of a text. `nano_show json item` prints the normal form of the value that a JSON text on
-//! standard input begins with, `ron` and `bin` those of the other formats; `json-whole`,
-//! `ron-whole` and `bin-whole` want the input to be that value and nothing else. See `run` for the
-//! types. `nano_show toml` prints the listing of a TOML text.
+//! `nano_show code u16s 1 2` prints the binary encoding of two numbers,
+//! `nano_show code text ab` that of a text. `nano_show json item` prints the normal form of the
+//! value that a JSON text on standard input begins with, `ron` and `bin` those of the other
+//! formats; `json-whole`, `ron-whole` and `bin-whole` require the input to be that value and
+//! nothing else. See `run` for the types. `nano_show toml` prints the listing of a TOML text.
 #![tactic(auto)]
 
-pub use show_answers::{ShowFault, ending, run};
+pub use nano_show_answers::{ShowFault, ending, run};
 use std::env;
 use std::io::ErrorKind;
 use std::process::ExitCode;
 
-/// The words behind the program's name. Arguments that are not UTF-8 are none that the program
-/// knows.
+/// The arguments after the program's name. The program knows no arguments that are not UTF-8.
 fn arguments(rt: &HostRuntime) -> Result<Vec<String>, ShowFault> {
     match env::args(rt) {
         Ok(words) => Ok(words.skip(1).collect(rt.alloc())?),

@@ -10,22 +10,22 @@ use Rattle.std.specs.Str.{IsCharBoundary}
 use Rattle.std.specs.Str.Iter.{chars_rest}
 use Rattle.std.specs.declared.str.Chars.{Chars}
 use Rattle.nano_text.specs.declared.place.Place.{Place}
-use Rattle.nano_text.specs.Front.{front, behind}
-use Rattle.nano_text.specs.Place.{before_nul, held, live, begins_character, is_line_feed, Passes}
+use Rattle.nano_text.specs.Prefix.{prefix, following}
+use Rattle.nano_text.specs.Place.{before_nul, held, remaining, begins_character, is_line_feed, Passes}
 use Rattle.nano_text.specs.PlaceLaws.{passes_append, passes_none}
 use Rattle.nano_text.specs.String.{IsString, escaped, escaped_char, is_plain, is_plain_in_line}
-use Rattle.nano_text.proofs.LiveText.{live_more}
-use Rattle.nano_text.proofs.Passing.{begins_ascii, count_first, passed_line_stays, passed_col}
+use Rattle.nano_text.proofs.RemainingText.{remaining_more}
+use Rattle.nano_text.proofs.Passing.{begins_ascii, count_first, passed_line_unchanged, passed_col}
 use Rattle.nano_text.proofs.Strings.{HasRead, nothing_read, reads_piece, reads_plain, string_read}
-use Rattle.nano_text.proofs.TakenFront.{drop_front, front_boundary, take_front}
-use Rattle.nano_text.proofs.Utf8Fronts.{CutBehindFront, cut_wide, front-before_nul, behind-before_nul}
+use Rattle.nano_text.proofs.TakenPrefix.{drop_prefix, prefix_boundary, take_prefix}
+use Rattle.nano_text.proofs.Utf8Prefixes.{CutAfterPrefix, cut_wide, prefix-before_nul, following-before_nul}
 
 -- ---- characters that stand for themselves in their line
 
 in_line_wide : (n : ℕ) → 128 ≤ n → is_plain_in_line n ≡ true
 in_line_wide n h = grind (arith, nat_tests)
 
-in_line_cut : (bytes : List ℕ) → IsUtf8 bytes → CutBehindFront is_plain_in_line bytes
+in_line_cut : (bytes : List ℕ) → IsUtf8 bytes → CutAfterPrefix is_plain_in_line bytes
 in_line_cut bytes utf8 = cut_wide is_plain_in_line in_line_wide bytes utf8
 
 in_line_plain : (c : ℕ) → is_plain_in_line c ≡ true → is_plain c ≡ true
@@ -34,27 +34,27 @@ in_line_plain c h = (and_parts (nat_le 32 c) (is_plain c) h).1
 no_feed : (c : ℕ) → is_plain_in_line c ≡ true → is_line_feed c ≡ false
 no_feed c h = grind (arith, nat_tests)
 
-no_feeds : (bytes : List ℕ) → count_by is_line_feed (front is_plain_in_line bytes) ≡ 0
+no_feeds : (bytes : List ℕ) → count_by is_line_feed (prefix is_plain_in_line bytes) ≡ 0
 no_feeds [] = refl
 no_feeds (b ∷ bs) =
-    elim (is_plain_in_line b) as (λ (t : Bool). is_plain_in_line b ≡ t → count_by is_line_feed (cond t (b ∷ front is_plain_in_line bs) []) ≡ 0) [
-      | true ↦ λ e. rw (count_first is_line_feed b (front is_plain_in_line bs), no_feed b e) (omega (arith, no_feeds bs))
+    elim (is_plain_in_line b) as (λ (t : Bool). is_plain_in_line b ≡ t → count_by is_line_feed (cond t (b ∷ prefix is_plain_in_line bs) []) ≡ 0) [
+      | true ↦ λ e. rw (count_first is_line_feed b (prefix is_plain_in_line bs), no_feed b e) (omega (arith, no_feeds bs))
       | false ↦ λ e. refl
     ] refl
 
--- the first bytes are of ASCII, and the front begins with them
+-- the first bytes are ASCII, and the prefix begins with them
 pub record IsAsciiTo (bytes : List ℕ) (n : ℕ) : Type 0 where
   pub within : n ≤ length bytes
-  pub len : length (front is_plain_in_line bytes) ≡ n + length (front is_plain_in_line (drop n bytes))
-  pub columns : count_by begins_character (front is_plain_in_line bytes) ≡ n + count_by begins_character (front is_plain_in_line (drop n bytes))
+  pub len : length (prefix is_plain_in_line bytes) ≡ n + length (prefix is_plain_in_line (drop n bytes))
+  pub columns : count_by begins_character (prefix is_plain_in_line bytes) ≡ n + count_by begins_character (prefix is_plain_in_line (drop n bytes))
 
 pub ascii_more : (bytes : List ℕ) (n : ℕ) → IsAsciiTo bytes n → n < length bytes → is_plain_in_line (get_or bytes n 0) ≡ true → get_or bytes n 0 < 128
     → IsAsciiTo bytes (n + 1)
 ascii_more bytes n h within plain ascii =
     let b = get_or bytes n 0 in
-    let rest = front is_plain_in_line (drop (n + 1) bytes) in
-    let first : front is_plain_in_line (drop n bytes) ≡ b ∷ rest =
-    ap (front is_plain_in_line) (drop-cons bytes n 0 within) ∙ rw (plain, add-one) refl in
+    let rest = prefix is_plain_in_line (drop (n + 1) bytes) in
+    let first : prefix is_plain_in_line (drop n bytes) ≡ b ∷ rest =
+    ap (prefix is_plain_in_line) (drop-cons bytes n 0 within) ∙ rw (plain, add-one) refl in
     let one : count_by begins_character (b ∷ rest) ≡ 1 + count_by begins_character rest = rw (count_first begins_character b rest, begins_ascii b ascii) refl in
     record {
       within = omega arith;
@@ -67,21 +67,21 @@ IsPlainAscii b = (is_plain_in_line b ≡ true) × (b < 128)
 
 -- the next four bytes
 module _ (bytes four : List ℕ) (n : ℕ) (chunk : IsFirstChunk (take (length bytes - n) (drop n bytes)) four 4) (h : IsAsciiTo bytes n) where
-  all_behind : take (length bytes - n) (drop n bytes) ≡ drop n bytes
-  all_behind = take_all (length bytes - n) (drop n bytes) (omega (arith, length-drop n bytes))
+  all_after : take (length bytes - n) (drop n bytes) ≡ drop n bytes
+  all_after = take_all (length bytes - n) (drop n bytes) (omega (arith, length-drop n bytes))
 
-  room : n + 4 ≤ length bytes
-  room = omega (arith, chunk.enough, ap length all_behind, length-drop n bytes, h.within)
+  capacity : n + 4 ≤ length bytes
+  capacity = omega (arith, chunk.enough, ap length all_after, length-drop n bytes, h.within)
 
   byte_is : (k : ℕ) → k < 4 → get_or four k 0 ≡ get_or bytes (n + k) 0
   byte_is k small =
-      ap (λ (l : List ℕ). get_or l k 0) (chunk.same ∙ ap (take 4) all_behind) ∙ (get_or-take 4 (drop n bytes) k 0 small ∙ get_or-drop n bytes k 0)
+      ap (λ (l : List ℕ). get_or l k 0) (chunk.same ∙ ap (take 4) all_after) ∙ (get_or-take 4 (drop n bytes) k 0 small ∙ get_or-drop n bytes k 0)
 
   more : (k len next : ℕ) → k < 4 → len ≡ n + k → next ≡ len + 1 → IsAsciiTo bytes len → IsPlainAscii (get_or four k 0) → IsAsciiTo bytes next
-  more k len next small at behind so_far plain =
+  more k len next small at following so_far plain =
       let same : get_or four k 0 ≡ get_or bytes len 0 = byte_is k small ∙ ap (λ (i : ℕ). get_or bytes i 0) (sym at) in
-      subst (IsAsciiTo bytes) (sym behind)
-      (ascii_more bytes len so_far (omega (arith, room)) (subst (λ (b : ℕ). is_plain_in_line b ≡ true) same plain.0) (omega (arith, same, plain.1)))
+      subst (IsAsciiTo bytes) (sym following)
+      (ascii_more bytes len so_far (omega (arith, capacity)) (subst (λ (b : ℕ). is_plain_in_line b ≡ true) same plain.0) (omega (arith, same, plain.1)))
 
   pub ascii_one : IsPlainAscii (get_or four 0 0) → IsAsciiTo bytes (n + 1)
   ascii_one a = more 0 n (n + 1) (omega arith) (omega arith) refl h a
@@ -106,7 +106,7 @@ passes_part p q r before part bytes after h is utf8 none small line col =
     passes_append {q = q} h (record {
       taken = chars part;
       split = ap chars is ∙ chars-append part after utf8;
-      line = line ∙ sym (passed_line_stays q part utf8 none);
+      line = line ∙ sym (passed_line_unchanged q part utf8 none);
       col = col ∙ sym (passed_col q part utf8 small none);
     })
 
@@ -136,64 +136,64 @@ nothing_yet i p written rest utf8 is none small =
 
 -- ---- a run
 
-pub run_boundary : (rest bytes : List ℕ) (n : ℕ) → IsUtf8 rest → bytes ≡ rest → n ≡ length (front is_plain_in_line bytes) → IsCharBoundary rest n
+pub run_boundary : (rest bytes : List ℕ) (n : ℕ) → IsUtf8 rest → bytes ≡ rest → n ≡ length (prefix is_plain_in_line bytes) → IsCharBoundary rest n
 run_boundary rest bytes n utf8 same count =
-    front_boundary is_plain_in_line refl in_line_cut rest n utf8 (count ∙ ap (λ (l : List ℕ). length (front is_plain_in_line l)) same)
+    prefix_boundary is_plain_in_line refl in_line_cut rest n utf8 (count ∙ ap (λ (l : List ℕ). length (prefix is_plain_in_line l)) same)
 
 pub reads_run : (before : List ℕ) (p q r : Place) (written rest bytes part left more : List ℕ) (n columns : ℕ) → IsReadTo before p q written rest
-    → bytes ≡ rest → n ≡ length (front is_plain_in_line bytes) → columns ≡ count_by begins_character (front is_plain_in_line bytes)
+    → bytes ≡ rest → n ≡ length (prefix is_plain_in_line bytes) → columns ≡ count_by begins_character (prefix is_plain_in_line bytes)
     → part ≡ take n rest → left ≡ drop n rest → more ≡ written ++ part
     → r.line ≡ q.line → r.col ≡ min (q.col + columns) (2 ^ 64 - 1) → IsReadTo before p r more left
 reads_run before p q r written rest bytes part left more n columns h same length_is columns_are part_is left_is more_is line col =
     let test = is_plain_in_line in
     let cut = in_line_cut rest h.utf8 in
-    let count = length_is ∙ ap (λ (l : List ℕ). length (front test l)) same in
-    let run : part ≡ front test rest = part_is ∙ (ap (λ (k : ℕ). take k rest) count ∙ take_front test refl in_line_cut rest) in
-    let behind_run : left ≡ behind test rest = left_is ∙ (ap (λ (k : ℕ). drop k rest) count ∙ drop_front test refl in_line_cut rest) in
-    let live : before_nul (chars left) ≡ behind test (before_nul (chars rest)) =
-    ap (λ (l : List ℕ). before_nul (chars l)) behind_run ∙ (ap before_nul cut.behind_is ∙ sym (behind-before_nul test refl (chars rest))) in
-    let characters : part ≡ encode_utf8_all (front test (before_nul (chars rest))) =
-    run ∙ (cut.front_is ∙ ap encode_utf8_all (sym (front-before_nul test refl (chars rest)))) in
+    let count = length_is ∙ ap (λ (l : List ℕ). length (prefix test l)) same in
+    let run : part ≡ prefix test rest = part_is ∙ (ap (λ (k : ℕ). take k rest) count ∙ take_prefix test refl in_line_cut rest) in
+    let after_run : left ≡ following test rest = left_is ∙ (ap (λ (k : ℕ). drop k rest) count ∙ drop_prefix test refl in_line_cut rest) in
+    let remaining : before_nul (chars left) ≡ following test (before_nul (chars rest)) =
+    ap (λ (l : List ℕ). before_nul (chars l)) after_run ∙ (ap before_nul cut.after_is ∙ sym (following-before_nul test refl (chars rest))) in
+    let characters : part ≡ encode_utf8_all (prefix test (before_nul (chars rest))) =
+    run ∙ (cut.prefix_is ∙ ap encode_utf8_all (sym (prefix-before_nul test refl (chars rest)))) in
     let utf8_part = subst IsUtf8 (sym part_is) (IsUtf8-take rest n h.utf8 (run_boundary rest bytes n h.utf8 same length_is)) in
     let split : rest ≡ part ++ left = rw (part_is, left_is) (sym (take-append-drop n rest)) in
     record {
-      utf8 = subst IsUtf8 (sym behind_run) cut.behind_utf8;
-      read = reads_plain test in_line_plain (before_nul before) written (before_nul (chars rest)) more (before_nul (chars left)) h.read live
+      utf8 = subst IsUtf8 (sym after_run) cut.after_utf8;
+      read = reads_plain test in_line_plain (before_nul before) written (before_nul (chars rest)) more (before_nul (chars left)) h.read remaining
           (more_is ∙ ap (λ (l : List ℕ). written ++ l) characters);
       place = passes_part p q r before part rest left h.place split utf8_part (ap (count_by is_line_feed) run ∙ no_feeds rest) h.small line
           (col ∙ ap (λ (k : ℕ). min (q.col + k) (2 ^ 64 - 1))
-          (columns_are ∙ (ap (λ (l : List ℕ). count_by begins_character (front test l)) same ∙ ap (count_by begins_character) (sym run))));
+          (columns_are ∙ (ap (λ (l : List ℕ). count_by begins_character (prefix test l)) same ∙ ap (count_by begins_character) (sym run))));
       small = omega arith;
     }
 
 -- ---- one character of ASCII
 
 module _ (text after : List ℕ) (c : ℕ) (utf8 : IsUtf8 text) (is : text ≡ c ∷ after) (ascii : c < 128) where
-  utf8_behind : IsUtf8 after
-  utf8_behind = IsUtf8-past_char text after c utf8 (rw (encode_ascii c ascii) is)
+  utf8_after : IsUtf8 after
+  utf8_after = IsUtf8-past_char text after c utf8 (rw (encode_ascii c ascii) is)
 
-  chars_behind : chars text ≡ c ∷ chars after
-  chars_behind = chars_past_char text after c utf8 (rw (encode_ascii c ascii) is)
+  chars_after : chars text ≡ c ∷ chars after
+  chars_after = chars_past_char text after c utf8 (rw (encode_ascii c ascii) is)
 
 -- ---- the closing quote
 
 pub quote_boundary : (rest bytes after : List ℕ) → IsUtf8 rest → bytes ≡ rest → bytes ≡ 34 ∷ after → IsCharBoundary rest 1
 quote_boundary rest bytes after utf8 same is =
     let quote = sym same ∙ is in
-    IsCharBoundary-at_seam rest (34 ∷ []) after quote (utf8_behind rest after 34 utf8 quote (omega arith))
+    IsCharBoundary-at_seam rest (34 ∷ []) after quote (utf8_after rest after 34 utf8 quote (omega arith))
 
--- the quote is taken, and then the character behind it
+-- the quote is taken, and then the character after it
 pub string_read_at_once : (cur : ℕ) (i j : Chars) (p q : Place) (written rest bytes after last : List ℕ) → IsReadTo (held i) p q written rest
     → cur ≡ 34 → bytes ≡ rest → bytes ≡ 34 ∷ after → chars_rest j ≡ drop 1 rest → last ≡ before_nul (held j)
-    → (characters : List ℕ) × IsString (live cur i) characters last × (written ≡ encode_utf8_all characters)
+    → (characters : List ℕ) × IsString (remaining cur i) characters last × (written ≡ encode_utf8_all characters)
 string_read_at_once cur i j p q written rest bytes after last h quote same is left last_is =
     let here : rest ≡ 34 ∷ after = sym same ∙ is in
-    let behind_quote : before_nul (chars rest) ≡ 34 ∷ last =
-    ap before_nul (chars_behind rest after 34 h.utf8 here (omega arith))
+    let after_quote : before_nul (chars rest) ≡ 34 ∷ last =
+    ap before_nul (chars_after rest after 34 h.utf8 here (omega arith))
     ∙ ap (λ (l : List ℕ). 34 ∷ l) (ap (λ (l : List ℕ). before_nul (chars l)) (sym (left ∙ ap (drop 1) here)) ∙ sym last_is) in
-    let whole : live cur i ≡ 34 ∷ before_nul (held i) =
-    live_more cur i (λ z. omega (arith, z, quote)) ∙ ap (λ (k : ℕ). k ∷ before_nul (held i)) quote in
-    string_read (live cur i) (before_nul (held i)) written (before_nul (chars rest)) last whole h.read behind_quote
+    let whole : remaining cur i ≡ 34 ∷ before_nul (held i) =
+    remaining_more cur i (λ z. omega (arith, z, quote)) ∙ ap (λ (k : ℕ). k ∷ before_nul (held i)) quote in
+    string_read (remaining cur i) (before_nul (held i)) written (before_nul (chars rest)) last whole h.read after_quote
 
 pub passes_quote : (before : List ℕ) (p q r : Place) (written rest bytes after left : List ℕ) → IsReadTo before p q written rest
     → bytes ≡ rest → bytes ≡ 34 ∷ after → left ≡ drop 1 rest
@@ -208,8 +208,8 @@ passes_quote before p q r written rest bytes after left h same is left_is line c
 pub escape_boundary : (rest bytes after : List ℕ) (c : ℕ) → IsUtf8 rest → bytes ≡ rest → bytes ≡ 92 ∷ (c ∷ after) → c < 128 → IsCharBoundary rest 2
 escape_boundary rest bytes after c utf8 same is ascii =
     let here = sym same ∙ is in
-    let behind_backslash = utf8_behind rest (c ∷ after) 92 utf8 here (omega arith) in
-    IsCharBoundary-at_seam rest (92 ∷ (c ∷ [])) after here (utf8_behind (c ∷ after) after c behind_backslash refl ascii)
+    let after_backslash = utf8_after rest (c ∷ after) 92 utf8 here (omega arith) in
+    IsCharBoundary-at_seam rest (92 ∷ (c ∷ [])) after here (utf8_after (c ∷ after) after c after_backslash refl ascii)
 
 pub reads_escape : (before : List ℕ) (p q r : Place) (written rest bytes after left more : List ℕ) (c : ℕ) → IsReadTo before p q written rest
     → bytes ≡ rest → bytes ≡ 92 ∷ (c ∷ after) → 32 ≤ c → c < 128 → c ≢ 117 → left ≡ drop 2 rest → more ≡ written ++ encode_utf8 (escaped_char c)
@@ -217,19 +217,19 @@ pub reads_escape : (before : List ℕ) (p q r : Place) (written rest bytes after
 reads_escape before p q r written rest bytes after left more c h same is graphic ascii no_unit left_is more_is line col =
     let here : rest ≡ 92 ∷ (c ∷ after) = sym same ∙ is in
     let after_is : left ≡ after = left_is ∙ ap (drop 2) here in
-    let behind_backslash = utf8_behind rest (c ∷ after) 92 h.utf8 here (omega arith) in
+    let after_backslash = utf8_after rest (c ∷ after) 92 h.utf8 here (omega arith) in
     let both : chars rest ≡ 92 ∷ (c ∷ chars left) =
-    chars_behind rest (c ∷ after) 92 h.utf8 here (omega arith)
-    ∙ ap (λ (l : List ℕ). 92 ∷ l) (chars_behind (c ∷ after) after c behind_backslash refl ascii ∙ ap (λ (l : List ℕ). c ∷ chars l) (sym after_is)) in
-    let live : before_nul (chars rest) ≡ 92 ∷ (c ∷ before_nul (chars left)) =
+    chars_after rest (c ∷ after) 92 h.utf8 here (omega arith)
+    ∙ ap (λ (l : List ℕ). 92 ∷ l) (chars_after (c ∷ after) after c after_backslash refl ascii ∙ ap (λ (l : List ℕ). c ∷ chars l) (sym after_is)) in
+    let remaining : before_nul (chars rest) ≡ 92 ∷ (c ∷ before_nul (chars left)) =
     ap before_nul both ∙ rw (ne_eqb c 0 (λ e. omega (arith, e, graphic))) refl in
     let utf8 = subst IsUtf8 (ap (take 2) here) (IsUtf8-take rest 2 h.utf8 (escape_boundary rest bytes after c h.utf8 same is ascii)) in
     let none : count_by is_line_feed (92 ∷ (c ∷ [])) ≡ 0 = rw (count_first is_line_feed c [], ne_eqb c 10 (λ e. omega (arith, e, graphic))) refl in
     let two : count_by begins_character (92 ∷ (c ∷ [])) ≡ 2 = rw (count_first begins_character 92 (c ∷ []), count_first begins_character c [], begins_ascii c ascii) refl in
     record {
-      utf8 = subst IsUtf8 (sym after_is) (utf8_behind (c ∷ after) after c behind_backslash refl ascii);
+      utf8 = subst IsUtf8 (sym after_is) (utf8_after (c ∷ after) after c after_backslash refl ascii);
       read = reads_piece (before_nul before) written (before_nul (chars rest)) more (before_nul (chars left)) (escaped c) h.read
-          (no_unit, λ e. omega (arith, e, graphic)) live more_is;
+          (no_unit, λ e. omega (arith, e, graphic)) remaining more_is;
       place = passes_part p q r before (92 ∷ (c ∷ [])) rest left h.place (here ∙ ap (λ (l : List ℕ). 92 ∷ (c ∷ l)) (sym after_is)) utf8 none h.small line
           (col ∙ ap (λ (k : ℕ). min (q.col + k) (2 ^ 64 - 1)) (sym two));
       small = omega arith;

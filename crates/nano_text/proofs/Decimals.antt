@@ -1,4 +1,4 @@
--- The digits of a number, those in front and three or six at its end.
+-- The digits of a number, the leading ones and three or six at its end.
 use Rattle.std.proofs.Common.{◌≡◌, ℕ, ℤ, pos, negsuc, true, false, refl, ◌+◌, ◌/◌, ◌%◌, ◌<◌, ◌≤◌, ◌^◌, List, [], ◌∷◌, ◌++◌, Result, Ok, Err, OnOk, append_assoc, sym, ◌∙◌, ap, arith}
 use Rattle.std.specs.Fmt.{decimal, signed_decimal}
 use Rattle.std.specs.Int.Signed.{lt_z}
@@ -7,10 +7,10 @@ use Rattle.std.proofs.lemmas.Bool.{false≢true, ltb-true}
 use Rattle.std.proofs.lemmas.Fmt.{decimal_digit, decimal_step}
 use Rattle.nano_text.specs.Digits.{three_digits}
 
--- what is appended behind a front that was appended
-pub appended_behind : {T E : Type 0} (r : Result T E) (before middle after front piece whole : List ℕ) → OnOk r (after ≡ middle ++ piece) → middle ≡ before ++ front → whole ≡ front ++ piece → OnOk r (after ≡ before ++ whole)
-appended_behind (Ok x) before middle after front piece whole e m w = e ∙ (ap (λ l. l ++ piece) m ∙ (append_assoc before front piece ∙ ap (λ l. before ++ l) (sym w)))
-appended_behind (Err x) before middle after front piece whole e m w = tt
+-- what is appended after a prefix that was appended
+pub appended_after : {T E : Type 0} (r : Result T E) (before middle after prefix piece whole : List ℕ) → OnOk r (after ≡ middle ++ piece) → middle ≡ before ++ prefix → whole ≡ prefix ++ piece → OnOk r (after ≡ before ++ whole)
+appended_after (Ok x) before middle after prefix piece whole e m w = e ∙ (ap (λ l. l ++ piece) m ∙ (append_assoc before prefix piece ∙ ap (λ l. before ++ l) (sym w)))
+appended_after (Err x) before middle after prefix piece whole e m w = tt
 
 -- what is appended, under another name
 pub appended_as : {T E : Type 0} (r : Result T E) (before after piece whole : List ℕ) → OnOk r (after ≡ before ++ piece) → whole ≡ piece → OnOk r (after ≡ before ++ whole)
@@ -33,14 +33,14 @@ decimal_thousand n low fits =
     let b : n / 10 / 10 % 10 ≡ n % 1000 / 100 = omega arith in
     let c : n / 10 % 10 ≡ n % 1000 / 10 % 10 = omega arith in
     let d : n % 10 ≡ n % 1000 % 10 = omega arith in
-    let front = decimal (n / 10 / 10 / 10) in
+    let prefix = decimal (n / 10 / 10 / 10) in
     let hundreds = (48 + n / 10 / 10 % 10) ∷ [] in
     let tens = (48 + n / 10 % 10) ∷ [] in
     let ones = (48 + n % 10) ∷ [] in
     decimal_step n (omega (arith, low)) fits
     ∙ (ap (λ l. l ++ ones) (decimal_step (n / 10) (omega (arith, low)) (omega (arith, fits))
-    ∙ (ap (λ l. l ++ tens) (decimal_step (n / 10 / 10) (omega (arith, low)) (omega (arith, fits))) ∙ append_assoc front hundreds tens))
-    ∙ (append_assoc front (hundreds ++ tens) ones
+    ∙ (ap (λ l. l ++ tens) (decimal_step (n / 10 / 10) (omega (arith, low)) (omega (arith, fits))) ∙ append_assoc prefix hundreds tens))
+    ∙ (append_assoc prefix (hundreds ++ tens) ones
     ∙ (λ i. decimal (a i) ++ (48 + b i) ∷ (48 + c i) ∷ (48 + d i) ∷ [])))
 
 pub decimal_million : (n : ℕ) → 1000000 ≤ n → n < 2 ^ 64 → decimal n ≡ decimal (n / 1000000) ++ (three_digits (n % 1000000 / 1000) ++ three_digits (n % 1000000 % 1000))
@@ -54,7 +54,7 @@ decimal_million n low fits =
     ∙ (append_assoc (decimal (n / 1000 / 1000)) (three_digits (n / 1000 % 1000)) last
     ∙ (λ i. decimal (a i) ++ (three_digits (b i) ++ three_digits (c i)))))
 
--- ---- a sign in front of the digits
+-- ---- a sign before the digits
 
 -- a negative number is its minus sign and the digits of its magnitude
 pub with_sign : (z : ℤ) → lt_z z (pos 0) ≡ true → signed_decimal z ≡ (45 ∷ []) ++ decimal (nat_abs z)

@@ -8,9 +8,9 @@ use Rattle.std.specs.Str.Parse.{digits_value, digits_value_after}
 use Rattle.std.proofs.lemmas.Str.{encode_ascii}
 use Rattle.std.specs.Str.Iter.{chars_rest}
 use Rattle.std.specs.declared.str.Chars.{Chars}
-use Rattle.nano_text.specs.Front.{front}
-use Rattle.nano_text.specs.Place.{live}
-use Rattle.nano_text.proofs.TakenFront.{front-live, digits_cut}
+use Rattle.nano_text.specs.Prefix.{prefix}
+use Rattle.nano_text.specs.Place.{remaining}
+use Rattle.nano_text.proofs.TakenPrefix.{prefix-remaining, digits_cut}
 
 pub digit_is : (c : ℕ) → is_ascii_digit c ≡ true → digit_value c ≡ c - 48
 digit_is c h = grind (arith, nat_tests)
@@ -19,14 +19,14 @@ pub digit_small : (c : ℕ) → is_ascii_digit c ≡ true → c - 48 < 10
 digit_small c h = grind (arith, nat_tests)
 
 -- the digits from a place on
-pub front_at_digit : (bytes : List ℕ) (i : ℕ) → i < length bytes → is_ascii_digit (get_or bytes i 0) ≡ true → front is_ascii_digit (drop i bytes) ≡ get_or bytes i 0 ∷ front is_ascii_digit (drop (i + 1) bytes)
-front_at_digit bytes i inside digit = rw (add-one, drop-cons bytes i 0, digit) refl
+pub prefix_at_digit : (bytes : List ℕ) (i : ℕ) → i < length bytes → is_ascii_digit (get_or bytes i 0) ≡ true → prefix is_ascii_digit (drop i bytes) ≡ get_or bytes i 0 ∷ prefix is_ascii_digit (drop (i + 1) bytes)
+prefix_at_digit bytes i inside digit = rw (add-one, drop-cons bytes i 0, digit) refl
 
-pub front_at_other : (bytes : List ℕ) (i : ℕ) → i < length bytes → is_ascii_digit (get_or bytes i 0) ≡ false → front is_ascii_digit (drop i bytes) ≡ []
-front_at_other bytes i inside other = rw (drop-cons bytes i 0, other) refl
+pub prefix_at_other : (bytes : List ℕ) (i : ℕ) → i < length bytes → is_ascii_digit (get_or bytes i 0) ≡ false → prefix is_ascii_digit (drop i bytes) ≡ []
+prefix_at_other bytes i inside other = rw (drop-cons bytes i 0, other) refl
 
-pub front_at_end : (bytes : List ℕ) (i : ℕ) → length bytes ≤ i → front is_ascii_digit (drop i bytes) ≡ []
-front_at_end bytes i past = rw (drop_all i bytes past) refl
+pub prefix_at_end : (bytes : List ℕ) (i : ℕ) → length bytes ≤ i → prefix is_ascii_digit (drop i bytes) ≡ []
+prefix_at_end bytes i past = rw (drop_all i bytes past) refl
 
 pub digit_from_value : (c : ℕ) → digit_value c < 10 → is_ascii_digit c ≡ true
 digit_from_value c h = grind (arith, nat_tests)
@@ -38,24 +38,25 @@ pub digit_ascii : (c : ℕ) → is_ascii_digit c ≡ true → c < 128
 digit_ascii c h = grind (arith, nat_tests)
 
 -- digits are their bytes
-digits-encodes : (cs : List ℕ) → encode_utf8_all (front is_ascii_digit cs) ≡ front is_ascii_digit cs
+digits-encodes : (cs : List ℕ) → encode_utf8_all (prefix is_ascii_digit cs) ≡ prefix is_ascii_digit cs
 digits-encodes [] = refl
-digits-encodes (c ∷ cs) = elim (is_ascii_digit c) as (λ (b : Bool). is_ascii_digit c ≡ b → encode_utf8_all (cond b (c ∷ front is_ascii_digit cs) []) ≡ cond b (c ∷ front is_ascii_digit cs) []) [
+digits-encodes (c ∷ cs) = elim (is_ascii_digit c) as (λ (b : Bool). is_ascii_digit c ≡ b → encode_utf8_all (cond b (c ∷ prefix is_ascii_digit cs) []) ≡ cond b (c ∷ prefix is_ascii_digit cs) []) [
   | true ↦ λ e. rw (encode_ascii c (digit_ascii c e)) (ap (λ (l : List ℕ). c ∷ l) (digits-encodes cs))
   | false ↦ λ e. refl
 ] refl
 
 -- the digits that bytes begin with are those that their text does
-pub digits-chars : (bytes : List ℕ) → IsUtf8 bytes → front is_ascii_digit bytes ≡ front is_ascii_digit (chars bytes)
-digits-chars bytes utf8 = (digits_cut bytes utf8).front_is ∙ digits-encodes (chars bytes)
+pub digits-chars : (bytes : List ℕ) → IsUtf8 bytes → prefix is_ascii_digit bytes ≡ prefix is_ascii_digit (chars bytes)
+digits-chars bytes utf8 = (digits_cut bytes utf8).prefix_is ∙ digits-encodes (chars bytes)
 
--- the digits of the live text: the current character, and those that the bytes behind it begin with
-pub digits-live : (cur : ℕ) (before : Chars) (text : List ℕ) → is_ascii_digit cur ≡ true → IsUtf8 text → text ≡ chars_rest before → front is_ascii_digit (live cur before) ≡ cur ∷ front is_ascii_digit text
-digits-live cur before text digit utf8 is =
-    front-live is_ascii_digit refl digits_cut cur before digit ∙ ap (λ (l : List ℕ). cur ∷ l) (ap (λ (bs : List ℕ). front is_ascii_digit (chars bs)) (sym is) ∙ sym (digits-chars text utf8))
+-- the digits of the remaining input: the current character, and those that the bytes after it
+-- begin with
+pub digits-remaining : (cur : ℕ) (before : Chars) (text : List ℕ) → is_ascii_digit cur ≡ true → IsUtf8 text → text ≡ chars_rest before → prefix is_ascii_digit (remaining cur before) ≡ cur ∷ prefix is_ascii_digit text
+digits-remaining cur before text digit utf8 is =
+    prefix-remaining is_ascii_digit refl digits_cut cur before digit ∙ ap (λ (l : List ℕ). cur ∷ l) (ap (λ (bs : List ℕ). prefix is_ascii_digit (chars bs)) (sym is) ∙ sym (digits-chars text utf8))
 
-pub digits_value-live : (cur first : ℕ) (before : Chars) (text : List ℕ) → is_ascii_digit cur ≡ true → first ≡ digit_value cur → IsUtf8 text → text ≡ chars_rest before
-    → digits_value_after 10 first (front is_ascii_digit text) ≡ digits_value 10 (front is_ascii_digit (live cur before))
-digits_value-live cur first before text digit is utf8 held_is =
+pub digits_value-remaining : (cur first : ℕ) (before : Chars) (text : List ℕ) → is_ascii_digit cur ≡ true → first ≡ digit_value cur → IsUtf8 text → text ≡ chars_rest before
+    → digits_value_after 10 first (prefix is_ascii_digit text) ≡ digits_value 10 (prefix is_ascii_digit (remaining cur before))
+digits_value-remaining cur first before text digit is utf8 held_is =
     let start : first ≡ 0 * 10 + digit_value cur = omega (arith, is) in
-    ap (λ (n : ℕ). digits_value_after 10 n (front is_ascii_digit text)) start ∙ sym (ap (digits_value 10) (digits-live cur before text digit utf8 held_is))
+    ap (λ (n : ℕ). digits_value_after 10 n (prefix is_ascii_digit text)) start ∙ sym (ap (digits_value 10) (digits-remaining cur before text digit utf8 held_is))

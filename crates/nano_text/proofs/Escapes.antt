@@ -8,8 +8,8 @@ pub hex_value : (c : ℕ) → is_ascii_hexdigit c ≡ true → digit_value c < 1
 hex_value c h = grind (arith, nat_tests)
 
 -- two ways to take the first character off a text leave the same
-pub same_behind_first : (c d : ℕ) (text xs ys : List ℕ) → text ≡ c ∷ xs → text ≡ d ∷ ys → xs ≡ ys
-same_behind_first c d text xs ys p q = cc
+pub same_after_first : (c d : ℕ) (text xs ys : List ℕ) → text ≡ c ∷ xs → text ≡ d ∷ ys → xs ≡ ys
+same_after_first c d text xs ys p q = cc
 
 pub IfSome-from_SomeIff : (r : Option ℕ) (P : Type 0) (v : ℕ) (Q : ℕ → Type 0) → SomeIff r P v → Q v → IfSome r Q
 IfSome-from_SomeIff None P v Q h q = tt
@@ -39,7 +39,7 @@ same_unit u v x y e =
     let rest : x ≡ y = cc e in
     (unit_same u v a b c d, rest)
 
--- a surrogate, and what stands behind it
+-- a surrogate, and what comes after it
 pub record IsPaired (unit : CodeUnit) (text rest : List ℕ) : Type 0 where
   pub leads : unit_value unit < 0xDC00
   pub trail : CodeUnit
@@ -48,7 +48,7 @@ pub record IsPaired (unit : CodeUnit) (text rest : List ℕ) : Type 0 where
   pub trail_high : unit_value trail < 0xE000
   pub split : text ≡ 92 ∷ (117 ∷ (unit_text trail ++ rest))
 
--- a piece behind \u begins with a code unit
+-- a piece after \u begins with a code unit
 pub unit_of_piece : (piece : Piece) (text rest : List ℕ) → IsPiece piece → 92 ∷ (117 ∷ text) ≡ piece_text piece ++ rest → (unit : CodeUnit) × IsHex unit × (left : List ℕ) × (text ≡ unit_text unit ++ left)
 unit_of_piece (plain c) text rest h e = let is : c ≡ 92 = cc e in absurd (h.1 is)
 unit_of_piece (escaped c) text rest h e = let is : c ≡ 117 = cc e in absurd (h.0 is)
@@ -82,7 +82,7 @@ piece_some (escaped c) rest e = cc e
 piece_some (scalar u) rest e = cc e
 piece_some (pair u v) rest e = cc e
 
--- none ends behind its backslash
+-- none ends after its backslash
 pub piece_longer : (piece : Piece) (rest : List ℕ) → IsPiece piece → 92 ∷ [] ≡ piece_text piece ++ rest → ⊥
 piece_longer (plain c) rest h e = let is : c ≡ 92 = cc e in h.1 is
 piece_longer (escaped c) rest h e = cc e

@@ -9,10 +9,10 @@ use Rattle.std.proofs.lemmas.List.Elements.{AllWithin-more}
 use Rattle.std.proofs.lemmas.Nat.{le_or_l, le_or_r}
 use Rattle.std.proofs.lemmas.Str.{encode_ascii, encodes-chars}
 use Rattle.nano_text.specs.declared.place.Place.{Place}
-use Rattle.nano_text.specs.Each.{all_split}
-use Rattle.nano_text.specs.Front.{front}
+use Rattle.nano_text.specs.EachLaws.{all_split}
+use Rattle.nano_text.specs.Prefix.{prefix}
 use Rattle.nano_text.specs.Place.{IsInLine, begins_character, is_line_feed, passed}
-use Rattle.nano_text.proofs.Passing.{wide, count_first, begins_ascii, passed_line_stays, passed_col}
+use Rattle.nano_text.proofs.Passing.{wide, count_first, begins_ascii, passed_line_unchanged, passed_col}
 
 -- ---- bits that are taken together by `|`
 
@@ -56,7 +56,7 @@ all_begin (c ∷ cs) h =
 -- a run in a line takes as many columns as it has bytes
 pub in_line_line : (p : Place) (text : List ℕ) → IsUtf8 text → AllByRecursion IsInLine text
     → (passed p (chars text)).line ≡ p.line
-in_line_line p text utf8 h = passed_line_stays p text utf8 (no_feed_in_line text h)
+in_line_line p text utf8 h = passed_line_unchanged p text utf8 (no_feed_in_line text h)
 
 pub in_line_col : (p : Place) (text : List ℕ) → IsUtf8 text → AllByRecursion IsInLine text → p.col < 2 ^ 64
     → (passed p (chars text)).col ≡ min (p.col + length text) (2 ^ 64 - 1)
@@ -66,24 +66,24 @@ in_line_col p text utf8 h small =
     ∙ (all_begin (chars text) (subst (AllByRecursion IsInLine) (sym is) h) ∙ ap length is) in
     passed_col p text utf8 small (no_feed_in_line text h) ∙ ap (λ (n : ℕ). min (p.col + n) (2 ^ 64 - 1)) all
 
--- ---- a front in a line
+-- ---- a prefix in a line
 
--- the first bytes of a front
-pub taken_in_line : (test : ℕ → Bool) (bytes : List ℕ) → AllWithin IsInLine bytes 0 (length (front test bytes))
-    → AllByRecursion IsInLine (front test bytes)
+-- the first bytes of a prefix
+pub taken_in_line : (test : ℕ → Bool) (bytes : List ℕ) → AllWithin IsInLine bytes 0 (length (prefix test bytes))
+    → AllByRecursion IsInLine (prefix test bytes)
 taken_in_line test [] h = tt
 taken_in_line test (b ∷ bs) h =
-    elim (test b) as (λ (t : Bool). AllWithin IsInLine (b ∷ bs) 0 (length (cond t (b ∷ front test bs) []))
-    → AllByRecursion IsInLine (cond t (b ∷ front test bs) [])) [
+    elim (test b) as (λ (t : Bool). AllWithin IsInLine (b ∷ bs) 0 (length (cond t (b ∷ prefix test bs) []))
+    → AllByRecursion IsInLine (cond t (b ∷ prefix test bs) [])) [
       | true ↦ λ k. (k 0 b (omega arith) (omega arith), taken_in_line test bs (λ i d low high. k (suc i) d (omega arith) (omega (arith, high))))
       | false ↦ λ k. tt
     ] h
 
-pub front_in_line : (test : ℕ → Bool) → ((b : ℕ) → test b ≡ true → IsInLine b) → (bytes : List ℕ)
-    → AllByRecursion IsInLine (front test bytes)
-front_in_line test is [] = tt
-front_in_line test is (b ∷ bs) =
-    elim (test b) as (λ (t : Bool). test b ≡ t → AllByRecursion IsInLine (cond t (b ∷ front test bs) [])) [
-      | true ↦ λ e. (is b e, front_in_line test is bs)
+pub prefix_in_line : (test : ℕ → Bool) → ((b : ℕ) → test b ≡ true → IsInLine b) → (bytes : List ℕ)
+    → AllByRecursion IsInLine (prefix test bytes)
+prefix_in_line test is [] = tt
+prefix_in_line test is (b ∷ bs) =
+    elim (test b) as (λ (t : Bool). test b ≡ t → AllByRecursion IsInLine (cond t (b ∷ prefix test bs) [])) [
+      | true ↦ λ e. (is b e, prefix_in_line test is bs)
       | false ↦ λ e. tt
     ] refl

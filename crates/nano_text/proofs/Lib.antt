@@ -1,12 +1,12 @@
-pub mod LiveText
+pub mod RemainingText
 pub mod DigitValues
 pub mod Decimals
 pub mod TripleText
 pub mod Escapes
-pub mod Fronts
+pub mod Prefixes
 pub mod Stops
-pub mod Utf8Fronts
-pub mod TakenFront
+pub mod Utf8Prefixes
+pub mod TakenPrefix
 pub mod RunBytes
 pub mod Runs
 pub mod Numbers

@@ -5,7 +5,8 @@ use Rattle.std.proofs.lemmas.Bool.Decides.{nat_tests}
 use Rattle.nano_text.specs.declared.number.Number.{Number}
 use Rattle.nano_text.specs.declared.number.Number.TheVariants.{Dec}
 use Rattle.nano_text.specs.Number.{Exponent, is_minus, sign_text, fraction_text, exponent_text, run_text, IsGood, AreGoodParts, number_of, number_from_parts, IsNumber}
-use Rattle.nano_text.specs.Scan.{run_at, behind_run, exponent_len, minus_room, fraction_room, exponent_room, decimal_len}
+use Rattle.nano_text.specs.ScanLaws.{run_at}
+use Rattle.nano_text.specs.Scan.{after_run, exponent_len, minus_capacity, fraction_capacity, exponent_capacity, decimal_len}
 use Rattle.nano_text.proofs.Runs.{run_split, run_is_run, run_ends, run_again}
 
 -- ---- an integer
@@ -14,8 +15,8 @@ pub none_mapped : {A B : Type 0} (f : A → B) (o : Option A) → option_map f o
 none_mapped f None h = refl
 none_mapped f (Some x) h = cc h
 
--- the run at the front is the number, if it is good
-pub number_at : (text rest : List ℕ) (n : Number) → rest ≡ behind_run text → IsGood (run_at text) → n ≡ number_of (run_at text) → IsNumber text n (run_text (run_at text)) rest
+-- the run that begins the text is the number, if it is good
+pub number_at : (text rest : List ℕ) (n : Number) → rest ≡ after_run text → IsGood (run_at text) → n ≡ number_of (run_at text) → IsNumber text n (run_text (run_at text)) rest
 number_at text rest n r g e = record {
   parts = run_at text;
   is_run = run_is_run text;
@@ -37,7 +38,7 @@ integer_good text p q g =
     let r = run_at text in
     subst (λ (e : Option Exponent). AreGoodParts (is_minus r.sign) r.whole None e) q (subst (λ (f : Option (List ℕ)). AreGoodParts (is_minus r.sign) r.whole f r.exponent) p g)
 
-pub integer_found : (text rest : List ℕ) (n : Number) (minus : Bool) → rest ≡ behind_run text → (run_at text).fraction ≡ None → (run_at text).exponent ≡ None → minus ≡ is_minus (run_at text).sign
+pub integer_found : (text rest : List ℕ) (n : Number) (minus : Bool) → rest ≡ after_run text → (run_at text).fraction ≡ None → (run_at text).exponent ≡ None → minus ≡ is_minus (run_at text).sign
     → AreGoodParts minus (run_at text).whole None None × (n ≡ number_from_parts minus (run_at text).whole None None) → IsNumber text n (run_text (run_at text)) rest
 integer_found text rest n minus t p q m g =
     let r = run_at text in
@@ -62,12 +63,12 @@ not_chosen : (b : Bool) (n : ℕ) → cond b (Some n) None ≡ None → b ≡ fa
 not_chosen true n h = cc h
 not_chosen false n h = refl
 
-minus_length : (minus : Bool) (ds : List ℕ) → length (cond minus (45 ∷ []) [] ++ ds) ≡ minus_room minus + length ds
+minus_length : (minus : Bool) (ds : List ℕ) → length (cond minus (45 ∷ []) [] ++ ds) ≡ minus_capacity minus + length ds
 minus_length true ds = omega arith
 minus_length false ds = omega arith
 
 -- how many characters a fraction and an exponent take
-pub decimal_length : (f : Option (List ℕ)) (e : Option Exponent) → length (fraction_text f ++ exponent_text e) ≡ fraction_room (option_map length f) + exponent_room (option_map exponent_len e)
+pub decimal_length : (f : Option (List ℕ)) (e : Option Exponent) → length (fraction_text f ++ exponent_text e) ≡ fraction_capacity (option_map length f) + exponent_capacity (option_map exponent_len e)
 decimal_length None None = refl
 decimal_length (Some ds) None = omega (arith, length-append ds [])
 decimal_length None (Some e) = omega (arith, minus_length e.minus e.digits)
@@ -75,7 +76,7 @@ decimal_length (Some ds) (Some e) = omega (arith, length-append ds (exponent_tex
 
 -- the parts of a good decimal
 pub decimal_yes : (minus : Bool) (w : List ℕ) (f : Option (List ℕ)) (e : Option Exponent) (n : ℕ) → decimal_len (length w) (option_map length f) (option_map exponent_len e) ≡ Some n
-    → AreGoodParts minus w f e × (Dec ≡ number_from_parts minus w f e) × (n + 1 ≡ fraction_room (option_map length f) + exponent_room (option_map exponent_len e))
+    → AreGoodParts minus w f e × (Dec ≡ number_from_parts minus w f e) × (n + 1 ≡ fraction_capacity (option_map length f) + exponent_capacity (option_map exponent_len e))
 decimal_yes minus w None None n h = cc h
 decimal_yes minus w (Some ds) None n h =
     let is = chosen _ _ n h in
@@ -112,7 +113,7 @@ IsNumber-unique text n m run ran rest left h k =
     let same : h.parts ≡ k.parts = sym a.0 ∙ (ap run_at (sym all ∙ also) ∙ b.0) in (
       h.number_is ∙ (ap number_of same ∙ sym k.number_is),
       h.run_is ∙ (ap run_text same ∙ sym k.run_is),
-      sym a.1 ∙ (ap behind_run (sym all ∙ also) ∙ b.1),
+      sym a.1 ∙ (ap after_run (sym all ∙ also) ∙ b.1),
     )
 
 good_length : (s : Option ℕ) (minus : Bool) (w : List ℕ) (f : Option (List ℕ)) (e : Option Exponent) → AreGoodParts minus w f e → 0 < length (sign_text s ++ (w ++ (fraction_text f ++ exponent_text e)))

@@ -3,57 +3,58 @@ use Rattle.std.proofs.Common.{◌≡◌, ℕ, ◌<◌, ◌≤◌, ◌||◌, inl,
 use Rattle.std.specs.Char.{is_ascii_digit}
 use Rattle.std.specs.Str.{all_ascii_digits}
 use Rattle.std.proofs.lemmas.Bool.{and_parts, or_cases, or_parts}
-use Rattle.nano_text.specs.Front.{first_is, front, behind}
+use Rattle.nano_text.specs.Prefix.{first_is, prefix, following}
 use Rattle.nano_text.specs.Number.{Run, Exponent, is_sign, is_point, is_letter_e, is_minus, sign_text, fraction_text, exponent_text, run_text, IsRun, IsGood, AreGoodParts, continues}
-use Rattle.nano_text.specs.Scan.{first_if, behind_one, is_minus_char, fraction_at, behind_fraction, exponent_at, behind_exponent, behind_sign, behind_whole, run_at, behind_run}
-use Rattle.nano_text.proofs.Fronts.{front_stop, behind_stop}
-use Rattle.nano_text.proofs.Stops.{first_stop, one_stop, fraction_stop, behind_fraction_stop, exponent_stop, behind_exponent_stop, or_false}
+use Rattle.nano_text.specs.Scan.{first_if, after_one, is_minus_char, fraction_at, after_fraction, exponent_at, after_exponent, after_sign, after_whole, after_run}
+use Rattle.nano_text.specs.ScanLaws.{run_at}
+use Rattle.nano_text.proofs.Prefixes.{prefix_stop, after_stop}
+use Rattle.nano_text.proofs.Stops.{first_stop, one_stop, fraction_stop, after_fraction_stop, exponent_stop, after_exponent_stop, or_false}
 
 -- ---- what is taken and what is left are the text
 
-pub first_split : (p : ℕ → Bool) (t : List ℕ) → sign_text (first_if p t) ++ behind_one p t ≡ t
+pub first_split : (p : ℕ → Bool) (t : List ℕ) → sign_text (first_if p t) ++ after_one p t ≡ t
 first_split p [] = refl
 first_split p (c ∷ cs) = elim (p c) as (λ (b : Bool). sign_text (cond b (Some c) None) ++ cond b cs (c ∷ cs) ≡ c ∷ cs) [ true ↦ refl | false ↦ refl ]
 
-pub digits_split : (t : List ℕ) → (front is_ascii_digit t ++ behind is_ascii_digit t ≡ t) × (all_ascii_digits (front is_ascii_digit t) ≡ true) × (first_is is_ascii_digit (behind is_ascii_digit t) ≡ false)
+pub digits_split : (t : List ℕ) → (prefix is_ascii_digit t ++ following is_ascii_digit t ≡ t) × (all_ascii_digits (prefix is_ascii_digit t) ≡ true) × (first_is is_ascii_digit (following is_ascii_digit t) ≡ false)
 digits_split [] = (refl, refl, refl)
 digits_split (c ∷ cs) =
     let r = digits_split cs in
-    elim (is_ascii_digit c) as (λ (b : Bool). is_ascii_digit c ≡ b → (cond b (c ∷ front is_ascii_digit cs) [] ++ cond b (behind is_ascii_digit cs) (c ∷ cs) ≡ c ∷ cs) × (all_ascii_digits (cond b (c ∷ front is_ascii_digit cs) []) ≡ true) × (first_is is_ascii_digit (cond b (behind is_ascii_digit cs) (c ∷ cs)) ≡ false)) [
+    elim (is_ascii_digit c) as (λ (b : Bool). is_ascii_digit c ≡ b → (cond b (c ∷ prefix is_ascii_digit cs) [] ++ cond b (following is_ascii_digit cs) (c ∷ cs) ≡ c ∷ cs) × (all_ascii_digits (cond b (c ∷ prefix is_ascii_digit cs) []) ≡ true) × (first_is is_ascii_digit (cond b (following is_ascii_digit cs) (c ∷ cs)) ≡ false)) [
       | true ↦ λ e. (ap (λ (l : List ℕ). c ∷ l) r.0, rw e r.1, r.2)
       | false ↦ λ e. (refl, refl, e)
     ] refl
 
-pub fraction_split : (t : List ℕ) → fraction_text (fraction_at t) ++ behind_fraction t ≡ t
+pub fraction_split : (t : List ℕ) → fraction_text (fraction_at t) ++ after_fraction t ≡ t
 fraction_split [] = refl
-fraction_split (c ∷ cs) = elim (is_point c) as (λ (b : Bool). is_point c ≡ b → fraction_text (cond b (Some (front is_ascii_digit cs)) None) ++ cond b (behind is_ascii_digit cs) (c ∷ cs) ≡ c ∷ cs) [
+fraction_split (c ∷ cs) = elim (is_point c) as (λ (b : Bool). is_point c ≡ b → fraction_text (cond b (Some (prefix is_ascii_digit cs)) None) ++ cond b (following is_ascii_digit cs) (c ∷ cs) ≡ c ∷ cs) [
   | true ↦ λ e. rw (eqb-true c 46 e) (ap (λ (l : List ℕ). 46 ∷ l) (digits_split cs).0)
   | false ↦ λ e. refl
 ] refl
 
-minus_split : (t : List ℕ) → cond (first_is is_minus_char t) (45 ∷ []) [] ++ behind_one is_minus_char t ≡ t
+minus_split : (t : List ℕ) → cond (first_is is_minus_char t) (45 ∷ []) [] ++ after_one is_minus_char t ≡ t
 minus_split [] = refl
 minus_split (c ∷ cs) = elim (is_minus_char c) as (λ (b : Bool). is_minus_char c ≡ b → cond b (45 ∷ []) [] ++ cond b cs (c ∷ cs) ≡ c ∷ cs) [
   | true ↦ λ e. rw (eqb-true c 45 e) refl
   | false ↦ λ e. refl
 ] refl
 
-pub exponent_split : (t : List ℕ) → exponent_text (exponent_at t) ++ behind_exponent t ≡ t
+pub exponent_split : (t : List ℕ) → exponent_text (exponent_at t) ++ after_exponent t ≡ t
 exponent_split [] = refl
 exponent_split (c ∷ cs) =
-    let d = digits_split (behind_one is_minus_char cs) in
+    let d = digits_split (after_one is_minus_char cs) in
     let m = minus_split cs in
-    elim (is_letter_e c) as (λ (b : Bool). exponent_text (cond b (Some (record { letter = c; minus = first_is is_minus_char cs; digits = front is_ascii_digit (behind_one is_minus_char cs) })) None) ++ cond b (behind is_ascii_digit (behind_one is_minus_char cs)) (c ∷ cs) ≡ c ∷ cs) [
-      | true ↦ ap (λ (l : List ℕ). c ∷ l) (append_assoc (cond (first_is is_minus_char cs) (45 ∷ []) []) (front is_ascii_digit (behind_one is_minus_char cs)) (behind is_ascii_digit (behind_one is_minus_char cs)) ∙ (ap (λ (l : List ℕ). cond (first_is is_minus_char cs) (45 ∷ []) [] ++ l) d.0 ∙ m))
+    elim (is_letter_e c) as (λ (b : Bool). exponent_text (cond b (Some (record { letter = c; minus = first_is is_minus_char cs; digits = prefix is_ascii_digit (after_one is_minus_char cs) })) None) ++ cond b (following is_ascii_digit (after_one is_minus_char cs)) (c ∷ cs) ≡ c ∷ cs) [
+      | true ↦ ap (λ (l : List ℕ). c ∷ l) (append_assoc (cond (first_is is_minus_char cs) (45 ∷ []) []) (prefix is_ascii_digit (after_one is_minus_char cs)) (following is_ascii_digit (after_one is_minus_char cs)) ∙ (ap (λ (l : List ℕ). cond (first_is is_minus_char cs) (45 ∷ []) [] ++ l) d.0 ∙ m))
       | false ↦ refl
     ]
 
-pub run_split : (t : List ℕ) → run_text (run_at t) ++ behind_run t ≡ t
-unfolding run_at behind_run behind_whole behind_sign
+pub run_split : (t : List ℕ) → run_text (run_at t) ++ after_run t ≡ t
+unfolding run_at after_run after_whole after_sign
 run_split t =
-    let t1 = behind_one is_sign t in
-    let t2 = behind is_ascii_digit t1 in
-    let t3 = behind_fraction t2 in
+    let t1 = after_one is_sign t in
+    let t2 = following is_ascii_digit t1 in
+    let t3 = after_fraction t2 in
     simp append_assoc (rw (exponent_split t3, fraction_split t2, (digits_split t1).0) (first_split is_sign t))
 
 -- ---- its parts are such parts
@@ -64,57 +65,57 @@ first_passes p (c ∷ cs) = elim (p c) as (λ (b : Bool). p c ≡ b → IfSome (
 
 fraction_passes : (t : List ℕ) → IfSome (fraction_at t) (λ ds. all_ascii_digits ds ≡ true)
 fraction_passes [] = tt
-fraction_passes (c ∷ cs) = elim (is_point c) as (λ (b : Bool). IfSome (cond b (Some (front is_ascii_digit cs)) None) (λ ds. all_ascii_digits ds ≡ true)) [ true ↦ (digits_split cs).1 | false ↦ tt ]
+fraction_passes (c ∷ cs) = elim (is_point c) as (λ (b : Bool). IfSome (cond b (Some (prefix is_ascii_digit cs)) None) (λ ds. all_ascii_digits ds ≡ true)) [ true ↦ (digits_split cs).1 | false ↦ tt ]
 
 letter_passes : (t : List ℕ) → IfSome (exponent_at t) (λ e. is_letter_e e.letter ≡ true)
 letter_passes [] = tt
-letter_passes (c ∷ cs) = elim (is_letter_e c) as (λ (b : Bool). is_letter_e c ≡ b → IfSome {T = Exponent} (cond b (Some (record { letter = c; minus = first_is is_minus_char cs; digits = front is_ascii_digit (behind_one is_minus_char cs) })) None) (λ e. is_letter_e e.letter ≡ true)) [ true ↦ λ e. e | false ↦ λ e. tt ] refl
+letter_passes (c ∷ cs) = elim (is_letter_e c) as (λ (b : Bool). is_letter_e c ≡ b → IfSome {T = Exponent} (cond b (Some (record { letter = c; minus = first_is is_minus_char cs; digits = prefix is_ascii_digit (after_one is_minus_char cs) })) None) (λ e. is_letter_e e.letter ≡ true)) [ true ↦ λ e. e | false ↦ λ e. tt ] refl
 
 digits_pass : (t : List ℕ) → IfSome (exponent_at t) (λ e. all_ascii_digits e.digits ≡ true)
 digits_pass [] = tt
-digits_pass (c ∷ cs) = elim (is_letter_e c) as (λ (b : Bool). IfSome {T = Exponent} (cond b (Some (record { letter = c; minus = first_is is_minus_char cs; digits = front is_ascii_digit (behind_one is_minus_char cs) })) None) (λ e. all_ascii_digits e.digits ≡ true)) [ true ↦ (digits_split (behind_one is_minus_char cs)).1 | false ↦ tt ]
+digits_pass (c ∷ cs) = elim (is_letter_e c) as (λ (b : Bool). IfSome {T = Exponent} (cond b (Some (record { letter = c; minus = first_is is_minus_char cs; digits = prefix is_ascii_digit (after_one is_minus_char cs) })) None) (λ e. all_ascii_digits e.digits ≡ true)) [ true ↦ (digits_split (after_one is_minus_char cs)).1 | false ↦ tt ]
 
 pub run_is_run : (t : List ℕ) → IsRun (run_at t)
-unfolding run_at behind_whole behind_sign
+unfolding run_at after_whole after_sign
 run_is_run t = record {
   sign = first_passes is_sign t;
-  whole = (digits_split (behind_sign t)).1;
-  fraction = fraction_passes (behind_whole t);
-  letter = letter_passes (behind_fraction (behind_whole t));
-  digits = digits_pass (behind_fraction (behind_whole t));
+  whole = (digits_split (after_sign t)).1;
+  fraction = fraction_passes (after_whole t);
+  letter = letter_passes (after_fraction (after_whole t));
+  digits = digits_pass (after_fraction (after_whole t));
 }
 
--- ---- nothing behind it goes on with it
+-- ---- nothing after it continues it
 
-exponent_ends_some : (ds u : List ℕ) → first_is is_ascii_digit u ≡ false → first_is (continues (Some ds) (exponent_at u)) (behind_exponent u) ≡ false
+exponent_ends_some : (ds u : List ℕ) → first_is is_ascii_digit u ≡ false → first_is (continues (Some ds) (exponent_at u)) (after_exponent u) ≡ false
 exponent_ends_some ds [] h = refl
 exponent_ends_some ds (c ∷ cs) h =
-    let d = digits_split (behind_one is_minus_char cs) in
-    elim (is_letter_e c) as (λ (b : Bool). is_letter_e c ≡ b → first_is (continues (Some ds) (cond b (Some (record { letter = c; minus = first_is is_minus_char cs; digits = front is_ascii_digit (behind_one is_minus_char cs) })) None)) (cond b (behind is_ascii_digit (behind_one is_minus_char cs)) (c ∷ cs)) ≡ false) [
+    let d = digits_split (after_one is_minus_char cs) in
+    elim (is_letter_e c) as (λ (b : Bool). is_letter_e c ≡ b → first_is (continues (Some ds) (cond b (Some (record { letter = c; minus = first_is is_minus_char cs; digits = prefix is_ascii_digit (after_one is_minus_char cs) })) None)) (cond b (following is_ascii_digit (after_one is_minus_char cs)) (c ∷ cs)) ≡ false) [
       | true ↦ λ e. d.2
       | false ↦ λ e. rw (h, e) refl
     ] refl
 
-exponent_ends_none : (u : List ℕ) → first_is is_ascii_digit u ≡ false → first_is is_point u ≡ false → first_is (continues None (exponent_at u)) (behind_exponent u) ≡ false
+exponent_ends_none : (u : List ℕ) → first_is is_ascii_digit u ≡ false → first_is is_point u ≡ false → first_is (continues None (exponent_at u)) (after_exponent u) ≡ false
 exponent_ends_none [] h k = refl
 exponent_ends_none (c ∷ cs) h k =
-    let d = digits_split (behind_one is_minus_char cs) in
-    elim (is_letter_e c) as (λ (b : Bool). is_letter_e c ≡ b → first_is (continues None (cond b (Some (record { letter = c; minus = first_is is_minus_char cs; digits = front is_ascii_digit (behind_one is_minus_char cs) })) None)) (cond b (behind is_ascii_digit (behind_one is_minus_char cs)) (c ∷ cs)) ≡ false) [
+    let d = digits_split (after_one is_minus_char cs) in
+    elim (is_letter_e c) as (λ (b : Bool). is_letter_e c ≡ b → first_is (continues None (cond b (Some (record { letter = c; minus = first_is is_minus_char cs; digits = prefix is_ascii_digit (after_one is_minus_char cs) })) None)) (cond b (following is_ascii_digit (after_one is_minus_char cs)) (c ∷ cs)) ≡ false) [
       | true ↦ λ e. d.2
       | false ↦ λ e. rw (h, k, e) refl
     ] refl
 
-fraction_ends : (u : List ℕ) → first_is is_ascii_digit u ≡ false → first_is (continues (fraction_at u) (exponent_at (behind_fraction u))) (behind_exponent (behind_fraction u)) ≡ false
+fraction_ends : (u : List ℕ) → first_is is_ascii_digit u ≡ false → first_is (continues (fraction_at u) (exponent_at (after_fraction u))) (after_exponent (after_fraction u)) ≡ false
 fraction_ends [] h = refl
 fraction_ends (c ∷ cs) h =
-    elim (is_point c) as (λ (b : Bool). is_point c ≡ b → first_is (continues (cond b (Some (front is_ascii_digit cs)) None) (exponent_at (cond b (behind is_ascii_digit cs) (c ∷ cs)))) (behind_exponent (cond b (behind is_ascii_digit cs) (c ∷ cs))) ≡ false) [
-      | true ↦ λ e. exponent_ends_some (front is_ascii_digit cs) (behind is_ascii_digit cs) (digits_split cs).2
+    elim (is_point c) as (λ (b : Bool). is_point c ≡ b → first_is (continues (cond b (Some (prefix is_ascii_digit cs)) None) (exponent_at (cond b (following is_ascii_digit cs) (c ∷ cs)))) (after_exponent (cond b (following is_ascii_digit cs) (c ∷ cs))) ≡ false) [
+      | true ↦ λ e. exponent_ends_some (prefix is_ascii_digit cs) (following is_ascii_digit cs) (digits_split cs).2
       | false ↦ λ e. exponent_ends_none (c ∷ cs) h e
     ] refl
 
-pub run_ends : (t : List ℕ) → first_is (continues (run_at t).fraction (run_at t).exponent) (behind_run t) ≡ false
-unfolding run_at behind_run behind_whole
-run_ends t = fraction_ends (behind is_ascii_digit (behind_sign t)) (digits_split (behind_sign t)).2
+pub run_ends : (t : List ℕ) → first_is (continues (run_at t).fraction (run_at t).exponent) (after_run t) ≡ false
+unfolding run_at after_run after_whole
+run_ends t = fraction_ends (following is_ascii_digit (after_sign t)) (digits_split (after_sign t)).2
 
 -- ---- a good run is the one that is taken
 
@@ -130,8 +131,8 @@ digit_no_minus c h = let r = digit_range c h in ne_eqb c 45 (λ e. omega arith)
 letter_no_digit : (c : ℕ) → is_letter_e c ≡ true → (is_ascii_digit c ≡ false) × (is_point c ≡ false)
 letter_no_digit c h = elim (or_cases _ _ h) [ inl e ↦ (rw (eqb-true c 101 e) refl, rw (eqb-true c 101 e) refl) | inr e ↦ (rw (eqb-true c 69 e) refl, rw (eqb-true c 69 e) refl) ]
 
-digits_again : (ds rest : List ℕ) → all_ascii_digits ds ≡ true → first_is is_ascii_digit rest ≡ false → (front is_ascii_digit (ds ++ rest) ≡ ds) × (behind is_ascii_digit (ds ++ rest) ≡ rest)
-digits_again [] rest h e = (front_stop is_ascii_digit rest e, behind_stop is_ascii_digit rest e)
+digits_again : (ds rest : List ℕ) → all_ascii_digits ds ≡ true → first_is is_ascii_digit rest ≡ false → (prefix is_ascii_digit (ds ++ rest) ≡ ds) × (following is_ascii_digit (ds ++ rest) ≡ rest)
+digits_again [] rest h e = (prefix_stop is_ascii_digit rest e, after_stop is_ascii_digit rest e)
 digits_again (c ∷ ds) rest h e =
     let p = and_parts (is_ascii_digit c) (all_ascii_digits ds) h in
     let r = digits_again ds rest p.1 e in
@@ -144,7 +145,7 @@ digits_no_minus (c ∷ ds) rest h n = digit_no_minus c (and_parts (is_ascii_digi
 
 exponent_found : (l : ℕ) (m : Bool) (ds rest : List ℕ) → is_letter_e l ≡ true → all_ascii_digits ds ≡ true → 0 < length ds → first_is is_ascii_digit rest ≡ false
     → (exponent_at (exponent_text (Some (record { letter = l; minus = m; digits = ds })) ++ rest) ≡ Some (record { letter = l; minus = m; digits = ds }))
-    × (behind_exponent (exponent_text (Some (record { letter = l; minus = m; digits = ds })) ++ rest) ≡ rest)
+    × (after_exponent (exponent_text (Some (record { letter = l; minus = m; digits = ds })) ++ rest) ≡ rest)
 exponent_found l true ds rest h a n e =
     let r = digits_again ds rest a e in
     (rw (h, r.0) refl, rw (h, r.1) refl)
@@ -154,12 +155,12 @@ exponent_found l false ds rest h a n e =
     (rw (h, k, one_stop is_minus_char (ds ++ rest) k, r.0) refl, rw (h, one_stop is_minus_char (ds ++ rest) k, r.1) refl)
 
 exponent_again : (f : Option (List ℕ)) (x : Option Exponent) (rest : List ℕ) → IfSome x (λ e. is_letter_e e.letter ≡ true) → IfSome x (λ e. all_ascii_digits e.digits ≡ true) → IfSome x (λ e. 0 < length e.digits)
-    → first_is (continues f x) rest ≡ false → (exponent_at (exponent_text x ++ rest) ≡ x) × (behind_exponent (exponent_text x ++ rest) ≡ rest)
-exponent_again None None rest l d g e = let s = no_more_none rest e in (exponent_stop rest s, behind_exponent_stop rest s) where
+    → first_is (continues f x) rest ≡ false → (exponent_at (exponent_text x ++ rest) ≡ x) × (after_exponent (exponent_text x ++ rest) ≡ rest)
+exponent_again None None rest l d g e = let s = no_more_none rest e in (exponent_stop rest s, after_exponent_stop rest s) where
   no_more_none : (t : List ℕ) → first_is (continues None None) t ≡ false → first_is is_letter_e t ≡ false
   no_more_none [] h = refl
   no_more_none (c ∷ cs) h = or_false _ (is_letter_e c) h
-exponent_again (Some ds) None rest l d g e = let s = no_more_some rest e in (exponent_stop rest s, behind_exponent_stop rest s) where
+exponent_again (Some ds) None rest l d g e = let s = no_more_some rest e in (exponent_stop rest s, after_exponent_stop rest s) where
   no_more_some : (t : List ℕ) → first_is (continues (Some ds) None) t ≡ false → first_is is_letter_e t ≡ false
   no_more_some [] h = refl
   no_more_some (c ∷ cs) h = or_false _ (is_letter_e c) h
@@ -167,12 +168,12 @@ exponent_again None (Some x) rest l d g e = exponent_found x.letter x.minus x.di
 exponent_again (Some ds) (Some x) rest l d g e = exponent_found x.letter x.minus x.digits rest l d g e
 
 fraction_again : (f : Option (List ℕ)) (rest : List ℕ) → IfSome f (λ ds. all_ascii_digits ds ≡ true) → first_is is_ascii_digit rest ≡ false → (f ≡ None → first_is is_point rest ≡ false)
-    → (fraction_at (fraction_text f ++ rest) ≡ f) × (behind_fraction (fraction_text f ++ rest) ≡ rest)
-fraction_again None rest d e n = (fraction_stop rest (n refl), behind_fraction_stop rest (n refl))
+    → (fraction_at (fraction_text f ++ rest) ≡ f) × (after_fraction (fraction_text f ++ rest) ≡ rest)
+fraction_again None rest d e n = (fraction_stop rest (n refl), after_fraction_stop rest (n refl))
 fraction_again (Some ds) rest d e n = let r = digits_again ds rest d e in (rw r.0 refl, r.1)
 
 sign_again : (s : Option ℕ) (rest : List ℕ) → IfSome s (λ c. is_sign c ≡ true) → (s ≡ None → first_is is_sign rest ≡ false)
-    → (first_if is_sign (sign_text s ++ rest) ≡ s) × (behind_one is_sign (sign_text s ++ rest) ≡ rest)
+    → (first_if is_sign (sign_text s ++ rest) ≡ s) × (after_one is_sign (sign_text s ++ rest) ≡ rest)
 sign_again None rest h n = (first_stop is_sign rest (n refl), one_stop is_sign rest (n refl))
 sign_again (Some c) rest h n = (rw h refl, rw h refl)
 
@@ -213,8 +214,8 @@ good_no_sign minus [] (Some ds) x rest g h = refl
 good_no_sign minus [] None None rest g h = absurd (omega (arith, g.0))
 good_no_sign minus [] None (Some x) rest g h = absurd (omega (arith, g.0))
 
-pub run_again : (r : Run) (rest : List ℕ) → IsRun r → IsGood r → first_is (continues r.fraction r.exponent) rest ≡ false → (run_at (run_text r ++ rest) ≡ r) × (behind_run (run_text r ++ rest) ≡ rest)
-unfolding run_at behind_run behind_whole behind_sign
+pub run_again : (r : Run) (rest : List ℕ) → IsRun r → IsGood r → first_is (continues r.fraction r.exponent) rest ≡ false → (run_at (run_text r ++ rest) ≡ r) × (after_run (run_text r ++ rest) ≡ rest)
+unfolding run_at after_run after_whole after_sign
 run_again r rest h g e =
     let tail3 = exponent_text r.exponent ++ rest in
     let tail2 = fraction_text r.fraction ++ tail3 in

@@ -4,11 +4,11 @@ use Rattle.std.specs.List.{AllByRecursion}
 use Rattle.std.proofs.lemmas.Grind.{flat_map-append}
 use Rattle.std.proofs.lemmas.List.{map-append}
 use Rattle.std.proofs.lemmas.Str.{encodes-append}
-use Rattle.nano_text.specs.Front.{front, behind}
+use Rattle.nano_text.specs.Prefix.{prefix, following}
 use Rattle.nano_text.specs.String.{Piece, plain, escaped, scalar, pair, unit_text, unit_value, piece_text, piece_char, is_plain, IsPiece, IsString}
 use Rattle.nano_text.proofs.Escapes.{same_unit}
-use Rattle.nano_text.proofs.Utf8Fronts.{front-append-behind}
-use Rattle.nano_text.specs.Each.{all_append}
+use Rattle.nano_text.proofs.Utf8Prefixes.{prefix-append-following}
+use Rattle.nano_text.specs.EachLaws.{all_append}
 
 head_same : (c d : ℕ) (xs ys : List ℕ) → c ∷ xs ≡ d ∷ ys → c ≡ d
 head_same c d xs ys e = cc e
@@ -41,8 +41,8 @@ same_piece (pair u w) (scalar v) x y h k e =
 same_piece (pair u w) (pair v z) x y h k e =
     let inside : unit_text u ++ (92 ∷ (117 ∷ (unit_text w ++ x))) ≡ unit_text v ++ (92 ∷ (117 ∷ (unit_text z ++ y))) = cc e in
     let s = same_unit u v (92 ∷ (117 ∷ (unit_text w ++ x))) (92 ∷ (117 ∷ (unit_text z ++ y))) inside in
-    let behind : unit_text w ++ x ≡ unit_text z ++ y = cc s.1 in
-    let t = same_unit w z x y behind in
+    let following : unit_text w ++ x ≡ unit_text z ++ y = cc s.1 in
+    let t = same_unit w z x y following in
     (cc (s.0, t.0), t.1)
 
 -- no piece begins with the closing quote
@@ -52,20 +52,21 @@ piece_no_quote (escaped c) x y h e = let a = head_same 92 34 (c ∷ x) y e in ab
 piece_no_quote (scalar u) x y h e = let a = head_same 92 34 (117 ∷ (unit_text u ++ x)) y e in absurd (omega (arith, a))
 piece_no_quote (pair u v) x y h e = let a = head_same 92 34 (117 ∷ ((unit_text u ++ (92 ∷ (117 ∷ unit_text v))) ++ x)) y e in absurd (omega (arith, a))
 
--- of two lists of pieces that begin one text, where the closing quote follows the second, the second goes on where the first ends
-pub pieces_behind : (ps qs : List Piece) (x y : List ℕ) → AllByRecursion IsPiece ps → AllByRecursion IsPiece qs → flat_map piece_text ps ++ x ≡ flat_map piece_text qs ++ 34 ∷ y
+-- of two lists of pieces that begin one text, where the closing quote follows the second, the
+-- second goes on where the first ends
+pub pieces_after : (ps qs : List Piece) (x y : List ℕ) → AllByRecursion IsPiece ps → AllByRecursion IsPiece qs → flat_map piece_text ps ++ x ≡ flat_map piece_text qs ++ 34 ∷ y
     → (rs : List Piece) × AllByRecursion IsPiece rs × (qs ≡ ps ++ rs) × (x ≡ flat_map piece_text rs ++ 34 ∷ y)
-pieces_behind [] qs x y h k e = (qs, k, refl, e)
-pieces_behind (p ∷ ps) [] x y h k e = absurd (piece_no_quote p (flat_map piece_text ps ++ x) y h.0 (sym (append_assoc (piece_text p) (flat_map piece_text ps) x) ∙ e))
-pieces_behind (p ∷ ps) (q ∷ qs) x y h k e =
+pieces_after [] qs x y h k e = (qs, k, refl, e)
+pieces_after (p ∷ ps) [] x y h k e = absurd (piece_no_quote p (flat_map piece_text ps ++ x) y h.0 (sym (append_assoc (piece_text p) (flat_map piece_text ps) x) ∙ e))
+pieces_after (p ∷ ps) (q ∷ qs) x y h k e =
     let s = same_piece p q (flat_map piece_text ps ++ x) (flat_map piece_text qs ++ 34 ∷ y) h.0 k.0 (sym (append_assoc (piece_text p) (flat_map piece_text ps) x) ∙ (e ∙ append_assoc (piece_text q) (flat_map piece_text qs) (34 ∷ y))) in
-    let r = pieces_behind ps qs x y h.1 k.1 s.1 in
+    let r = pieces_after ps qs x y h.1 k.1 s.1 in
     (r.0, r.1, cc (s.0, r.2), r.3)
 
 -- where the closing quote follows the first too, they are one
 same_pieces : (ps qs : List Piece) (x y : List ℕ) → AllByRecursion IsPiece ps → AllByRecursion IsPiece qs → flat_map piece_text ps ++ 34 ∷ x ≡ flat_map piece_text qs ++ 34 ∷ y → (ps ≡ qs) × (x ≡ y)
 same_pieces ps qs x y h k e =
-    let r = pieces_behind ps qs (34 ∷ x) y h k e in
+    let r = pieces_after ps qs (34 ∷ x) y h k e in
     at_quote r.0 r.1 r.2 r.3 where
       at_quote : (rs : List Piece) → AllByRecursion IsPiece rs → qs ≡ ps ++ rs → 34 ∷ x ≡ flat_map piece_text rs ++ 34 ∷ y → (ps ≡ qs) × (x ≡ y)
       at_quote [] good is text = let rest : x ≡ y = cc text in (sym (is ∙ append-nil ps), rest)
@@ -112,23 +113,23 @@ plain_is_piece c h = (
   λ e. let x : is_plain 0 ≡ true = subst (λ (n : ℕ). is_plain n ≡ true) e h in cc x,
 )
 
--- a front whose characters all stand for themselves
+-- a prefix whose characters all stand for themselves
 module _ (test : ℕ → Bool) (plain_only : (c : ℕ) → test c ≡ true → is_plain c ≡ true) where
   -- as pieces
-  plain_pieces : (text : List ℕ) → AllByRecursion IsPiece (map plain (front test text)) × (flat_map piece_text (map plain (front test text)) ≡ front test text) × (map piece_char (map plain (front test text)) ≡ front test text)
+  plain_pieces : (text : List ℕ) → AllByRecursion IsPiece (map plain (prefix test text)) × (flat_map piece_text (map plain (prefix test text)) ≡ prefix test text) × (map piece_char (map plain (prefix test text)) ≡ prefix test text)
   plain_pieces [] = (tt, refl, refl)
   plain_pieces (c ∷ cs) =
       let r = plain_pieces cs in
-      elim (test c) as (λ (b : Bool). test c ≡ b → AllByRecursion IsPiece (map plain (cond b (c ∷ front test cs) [])) × (flat_map piece_text (map plain (cond b (c ∷ front test cs) [])) ≡ cond b (c ∷ front test cs) []) × (map piece_char (map plain (cond b (c ∷ front test cs) [])) ≡ cond b (c ∷ front test cs) [])) [
+      elim (test c) as (λ (b : Bool). test c ≡ b → AllByRecursion IsPiece (map plain (cond b (c ∷ prefix test cs) [])) × (flat_map piece_text (map plain (cond b (c ∷ prefix test cs) [])) ≡ cond b (c ∷ prefix test cs) []) × (map piece_char (map plain (cond b (c ∷ prefix test cs) [])) ≡ cond b (c ∷ prefix test cs) [])) [
         | true ↦ λ e. ((plain_is_piece c (plain_only c e), r.0), ap (λ (l : List ℕ). c ∷ l) r.1, ap (λ (l : List ℕ). c ∷ l) r.2)
         | false ↦ λ e. (tt, refl, refl)
       ] refl
 
-  pub reads_plain : (text written left more rest : List ℕ) → HasRead text written left → rest ≡ behind test left → more ≡ written ++ encode_utf8_all (front test left) → HasRead text more rest
-  reads_plain text written left more rest h behind_is is =
-      let plain_front = plain_pieces left in
-      let split : left ≡ flat_map piece_text (map plain (front test left)) ++ rest = rw (plain_front.1, behind_is, front-append-behind test left) refl in
-      reads_more text written left more rest (map plain (front test left)) h plain_front.0 split (is ∙ rw plain_front.2 refl)
+  pub reads_plain : (text written left more rest : List ℕ) → HasRead text written left → rest ≡ following test left → more ≡ written ++ encode_utf8_all (prefix test left) → HasRead text more rest
+  reads_plain text written left more rest h after_is is =
+      let plain_prefix = plain_pieces left in
+      let split : left ≡ flat_map piece_text (map plain (prefix test left)) ++ rest = rw (plain_prefix.1, after_is, prefix-append-following test left) refl in
+      reads_more text written left more rest (map plain (prefix test left)) h plain_prefix.0 split (is ∙ rw plain_prefix.2 refl)
 
 -- what was read begins whatever string stands there
 pub record GoesOn (written left characters rest : List ℕ) : Type 0 where
@@ -140,7 +141,7 @@ pub record GoesOn (written left characters rest : List ℕ) : Type 0 where
 pub goes_on : (whole text written left characters rest : List ℕ) → whole ≡ 34 ∷ text → HasRead text written left → IsString whole characters rest → GoesOn written left characters rest
 goes_on whole text written left characters rest quote h string =
     let inside : flat_map piece_text h.pieces ++ left ≡ flat_map piece_text string.pieces ++ 34 ∷ rest = let both = sym quote ∙ string.split in let same : text ≡ flat_map piece_text string.pieces ++ 34 ∷ rest = cc both in sym h.split ∙ same in
-    let r = pieces_behind h.pieces string.pieces left rest h.good string.good inside in
+    let r = pieces_after h.pieces string.pieces left rest h.good string.good inside in
     record {
       pieces = r.0;
       good = r.1;
@@ -149,7 +150,7 @@ goes_on whole text written left characters rest quote h string =
           ∙ (encodes-append (map piece_char h.pieces) (map piece_char r.0) ∙ ap (λ (l : List ℕ). l ++ encode_utf8_all (map piece_char r.0)) (sym h.are));
     }
 
--- so it has room for what was read
+-- so it has space for what was read
 pub written_le : (whole text written left characters rest : List ℕ) → whole ≡ 34 ∷ text → HasRead text written left → IsString whole characters rest → length written ≤ length (encode_utf8_all characters)
 written_le whole text written left characters rest quote h string =
     let on = goes_on whole text written left characters rest quote h string in

@@ -1,4 +1,5 @@
--- The text of all numbers of three digits, looked at number by number; and the last two digits of those below 100.
+-- The text of all numbers of three digits, looked at number by number; and the last two digits of
+-- those below 100.
 use Rattle.std.proofs.Common.{◌≡◌, ℕ, zero, suc, ◌+◌, ◌*◌, ◌/◌, ◌%◌, ◌<◌, Bool, true, ◌&&◌, ltb, List, [], ◌∷◌, take, drop, IsAscii, refl}
 use Rattle.std.specs.Str.{bytes_eq}
 use Rattle.std.proofs.lemmas.Bool.Decides.{Decides-below_and, Decides-by_and, Decides-ltb}
@@ -35,7 +36,7 @@ pairs_match (suc n) = bytes_eq (pair n) (two_digits n) && pairs_match n
 pairs_checked : pairs_match 100 ≡ true
 pairs_checked = refl
 
--- the two bytes behind the first of these are the digits of a number below 100
+-- the two bytes after the first of these are the digits of a number below 100
 pub pair_entry : (n : ℕ) → n < 100 → take 2 (drop (n * 3 + 1) TRIPLES.now) ≡ (48 + n / 10) ∷ (48 + n % 10) ∷ []
 pair_entry =
     (Decides-below_and (λ n. bytes_eq (pair n) (two_digits n)) (λ n. pair n ≡ two_digits n) pairs_match (λ n. bytes_eq-Decides _ _) refl (λ _. refl) 100).0 pairs_checked

@@ -13,57 +13,57 @@ use Rattle.std.specs.declared.str.Chars.{Chars}
 use Rattle.nano_text.specs.declared.number.Number.{Number}
 use Rattle.nano_text.specs.declared.number.Number.TheVariants.{U64, I64}
 use Rattle.nano_text.specs.declared.place.Place.{Place}
-use Rattle.nano_text.specs.Each.{all_append}
-use Rattle.nano_text.specs.Front.{first_is, front, behind}
+use Rattle.nano_text.specs.EachLaws.{all_append}
+use Rattle.nano_text.specs.Prefix.{first_is, prefix, following}
 use Rattle.nano_text.specs.Number.{Run, IsNumber, continues, run_text}
-use Rattle.nano_text.specs.Place.{held, live, before_nul, IsInLine, Passes}
+use Rattle.nano_text.specs.Place.{held, remaining, before_nul, IsInLine, Passes}
 use Rattle.nano_text.proofs.DigitValues.{digits-chars}
 use Rattle.nano_text.proofs.InLine.{in_line_line, in_line_col}
-use Rattle.nano_text.proofs.LiveText.{live_more}
+use Rattle.nano_text.proofs.RemainingText.{remaining_more}
 use Rattle.nano_text.proofs.Runs.{digits_split}
-use Rattle.nano_text.proofs.TakenFront.{digits_cut, digits_in_line, drop_front}
-use Rattle.nano_text.proofs.Utf8Fronts.{front-append-behind, front-before_nul, behind-before_nul}
+use Rattle.nano_text.proofs.TakenPrefix.{digits_cut, digits_in_line, drop_prefix}
+use Rattle.nano_text.proofs.Utf8Prefixes.{prefix-append-following, prefix-before_nul, following-before_nul}
 
 -- nineteen digits write no number that 64 bits don't hold
 pub few_digits : (value len : ℕ) → value < 10 ^ (len + 1) → len < 18 → value < 10 ^ 18
-few_digits value len room few =
+few_digits value len capacity few =
     let fits : len + 1 ≤ 18 = omega (arith, few) in
     let more : 10 ^ (len + 1) ≤ 10 ^ 18 = pow-le-pow_right (omega arith) fits in
-    omega (arith, room, more)
+    omega (arith, capacity, more)
 
--- the digits that a text begins with, and a character of ASCII behind them
-module _ (text : List ℕ) (len next : ℕ) (utf8 : IsUtf8 text) (count : len ≡ length (front is_ascii_digit text)) (within : len < length text) (is : next ≡ get_or text len 0) (ascii : next < 128) where
-  behind_digits : behind is_ascii_digit text ≡ next ∷ drop (len + 1) text
-  behind_digits =
-      sym (ap (λ (n : ℕ). drop n text) count ∙ drop_front is_ascii_digit refl digits_cut text)
+-- the digits that a text begins with, and an ASCII character after them
+module _ (text : List ℕ) (len next : ℕ) (utf8 : IsUtf8 text) (count : len ≡ length (prefix is_ascii_digit text)) (within : len < length text) (is : next ≡ get_or text len 0) (ascii : next < 128) where
+  after_digits : following is_ascii_digit text ≡ next ∷ drop (len + 1) text
+  after_digits =
+      sym (ap (λ (n : ℕ). drop n text) count ∙ drop_prefix is_ascii_digit refl digits_cut text)
       ∙ (drop-cons text len 0 within ∙ rw (add-one, is) refl)
 
-  one_byte : behind is_ascii_digit text ≡ (next ∷ []) ++ drop (len + 1) text
-  one_byte = behind_digits
+  one_byte : following is_ascii_digit text ≡ (next ∷ []) ++ drop (len + 1) text
+  one_byte = after_digits
 
-  utf8_behind : IsUtf8 (drop (len + 1) text)
-  utf8_behind =
-      IsUtf8-past_char (behind is_ascii_digit text) (drop (len + 1) text) next (digits_cut text utf8).behind_utf8
-      (rw (encode_ascii next ascii) behind_digits)
+  utf8_after : IsUtf8 (drop (len + 1) text)
+  utf8_after =
+      IsUtf8-past_char (following is_ascii_digit text) (drop (len + 1) text) next (digits_cut text utf8).after_utf8
+      (rw (encode_ascii next ascii) after_digits)
 
-  pub chars_behind : behind is_ascii_digit (chars text) ≡ next ∷ chars (drop (len + 1) text)
-  chars_behind =
-      sym (digits_cut text utf8).behind_is
-      ∙ chars_past_char (behind is_ascii_digit text) (drop (len + 1) text) next (digits_cut text utf8).behind_utf8
-      (rw (encode_ascii next ascii) behind_digits)
+  pub chars_after : following is_ascii_digit (chars text) ≡ next ∷ chars (drop (len + 1) text)
+  chars_after =
+      sym (digits_cut text utf8).after_is
+      ∙ chars_past_char (following is_ascii_digit text) (drop (len + 1) text) next (digits_cut text utf8).after_utf8
+      (rw (encode_ascii next ascii) after_digits)
 
   -- the digits and that character
   abbrev run : List ℕ
-  run = front is_ascii_digit text ++ (next ∷ [])
+  run = prefix is_ascii_digit text ++ (next ∷ [])
 
   run_split : text ≡ run ++ drop (len + 1) text
   run_split =
-      sym (front-append-behind is_ascii_digit text)
-      ∙ (ap (λ (l : List ℕ). front is_ascii_digit text ++ l) behind_digits
-      ∙ sym (append_assoc (front is_ascii_digit text) (next ∷ []) (drop (len + 1) text)))
+      sym (prefix-append-following is_ascii_digit text)
+      ∙ (ap (λ (l : List ℕ). prefix is_ascii_digit text ++ l) after_digits
+      ∙ sym (append_assoc (prefix is_ascii_digit text) (next ∷ []) (drop (len + 1) text)))
 
   run_len : length run ≡ len + 1
-  run_len = omega (arith, count, length-append (front is_ascii_digit text) (next ∷ []))
+  run_len = omega (arith, count, length-append (prefix is_ascii_digit text) (next ∷ []))
 
   taken : take (len + 1) text ≡ run
   taken = ap (take (len + 1)) run_split ∙ take_at run (drop (len + 1) text) (len + 1) run_len
@@ -71,7 +71,7 @@ module _ (text : List ℕ) (len next : ℕ) (utf8 : IsUtf8 text) (count : len �
   pub run_boundary : IsCharBoundary text (len + 1)
   run_boundary =
       subst (λ (n : ℕ). IsCharBoundary text n) run_len
-      (IsCharBoundary-at_seam text run (drop (len + 1) text) run_split utf8_behind)
+      (IsCharBoundary-at_seam text run (drop (len + 1) text) run_split utf8_after)
 
   pub run_passes : (p q : Place) (after : List ℕ) → 32 ≤ next → p.col < 2 ^ 64 → q.line ≡ p.line
       → q.col ≡ min (p.col + (len + 1)) (2 ^ 64 - 1) → after ≡ drop (len + 1) text
@@ -79,7 +79,7 @@ module _ (text : List ℕ) (len next : ℕ) (utf8 : IsUtf8 text) (count : len �
   run_passes p q after graphic small line col left =
       let utf8_run = IsUtf8-take text (len + 1) utf8 run_boundary in
       let in_line = subst (AllByRecursion IsInLine) (sym taken)
-      (all_append IsInLine (front is_ascii_digit text) (next ∷ []) (digits_in_line text) ((graphic, omega (arith, ascii)), tt)) in
+      (all_append IsInLine (prefix is_ascii_digit text) (next ∷ []) (digits_in_line text) ((graphic, omega (arith, ascii)), tt)) in
       record {
         taken = chars (take (len + 1) text);
         split = ap chars (sym (take-append-drop (len + 1) text))
@@ -93,28 +93,28 @@ module _ (text : List ℕ) (len next : ℕ) (utf8 : IsUtf8 text) (count : len �
 -- ---- what was taken is a number
 
 module _ (cur : ℕ) (before : Chars) (bytes : List ℕ) (utf8 : IsUtf8 bytes) (is : bytes ≡ chars_rest before) where
-  bytes_digits : front is_ascii_digit bytes ≡ front is_ascii_digit (before_nul (held before))
+  bytes_digits : prefix is_ascii_digit bytes ≡ prefix is_ascii_digit (before_nul (held before))
   bytes_digits =
       digits-chars bytes utf8
-      ∙ (ap (λ (bs : List ℕ). front is_ascii_digit (chars bs)) is ∙ sym (front-before_nul is_ascii_digit refl (held before)))
+      ∙ (ap (λ (bs : List ℕ). prefix is_ascii_digit (chars bs)) is ∙ sym (prefix-before_nul is_ascii_digit refl (held before)))
 
-  digits_and_rest : (rest : List ℕ) → rest ≡ before_nul (behind is_ascii_digit (held before))
-      → before_nul (held before) ≡ front is_ascii_digit bytes ++ rest
+  digits_and_rest : (rest : List ℕ) → rest ≡ before_nul (following is_ascii_digit (held before))
+      → before_nul (held before) ≡ prefix is_ascii_digit bytes ++ rest
   digits_and_rest rest left =
-      rw (bytes_digits, left, sym (behind-before_nul is_ascii_digit refl (held before)))
-      (sym (front-append-behind is_ascii_digit (before_nul (held before))))
+      rw (bytes_digits, left, sym (following-before_nul is_ascii_digit refl (held before)))
+      (sym (prefix-append-following is_ascii_digit (before_nul (held before))))
 
-  are_digits : all_ascii_digits (front is_ascii_digit bytes) ≡ true
+  are_digits : all_ascii_digits (prefix is_ascii_digit bytes) ≡ true
   are_digits = (digits_split bytes).1
 
   pub unsigned_found : (value : ℕ) (rest : List ℕ) → is_ascii_digit cur ≡ true
-      → value ≡ digits_value_after 10 (digit_value cur) (front is_ascii_digit bytes) → value < 2 ^ 64
-      → rest ≡ before_nul (behind is_ascii_digit (held before)) → first_is (continues None None) rest ≡ false
-      → (run : List ℕ) × IsNumber (live cur before) (U64 value) run rest
+      → value ≡ digits_value_after 10 (digit_value cur) (prefix is_ascii_digit bytes) → value < 2 ^ 64
+      → rest ≡ before_nul (following is_ascii_digit (held before)) → first_is (continues None None) rest ≡ false
+      → (run : List ℕ) × IsNumber (remaining cur before) (U64 value) run rest
   unsigned_found value rest digit value_is small left ends =
       let some : cur ≢ 0 = λ e. let x : is_ascii_digit 0 ≡ true = subst (λ (n : ℕ). is_ascii_digit n ≡ true) e digit in cc x in
-      let whole = cur ∷ front is_ascii_digit bytes in
-      let all : value ≡ digits_value 10 whole = value_is ∙ ap (λ (n : ℕ). digits_value_after 10 n (front is_ascii_digit bytes)) (omega arith) in
+      let whole = cur ∷ prefix is_ascii_digit bytes in
+      let all : value ≡ digits_value 10 whole = value_is ∙ ap (λ (n : ℕ). digits_value_after 10 n (prefix is_ascii_digit bytes)) (omega arith) in
       let parts : Run = record { sign = None; whole = whole; fraction = None; exponent = None } in (
         run_text parts,
         record {
@@ -123,18 +123,18 @@ module _ (cur : ℕ) (before : Chars) (bytes : List ℕ) (utf8 : IsUtf8 bytes) (
           good = (omega arith, omega (arith, all, small));
           number_is = ap U64 all;
           run_is = refl;
-          split = live_more cur before some ∙ rw (append-nil (front is_ascii_digit bytes)) (ap (λ (l : List ℕ). cur ∷ l) (digits_and_rest rest left));
+          split = remaining_more cur before some ∙ rw (append-nil (prefix is_ascii_digit bytes)) (ap (λ (l : List ℕ). cur ∷ l) (digits_and_rest rest left));
           ends = ends;
         },
       )
 
-  pub negative_found : (number : Number) (rest : List ℕ) → cur ≡ 45 → 0 < length (front is_ascii_digit bytes)
-      → digits_value 10 (front is_ascii_digit bytes) ≤ 2 ^ 63
-      → number ≡ I64 (neg_ℤ (pos (digits_value 10 (front is_ascii_digit bytes))))
-      → rest ≡ before_nul (behind is_ascii_digit (held before)) → first_is (continues None None) rest ≡ false
-      → (run : List ℕ) × IsNumber (live cur before) number run rest
+  pub negative_found : (number : Number) (rest : List ℕ) → cur ≡ 45 → 0 < length (prefix is_ascii_digit bytes)
+      → digits_value 10 (prefix is_ascii_digit bytes) ≤ 2 ^ 63
+      → number ≡ I64 (neg_ℤ (pos (digits_value 10 (prefix is_ascii_digit bytes))))
+      → rest ≡ before_nul (following is_ascii_digit (held before)) → first_is (continues None None) rest ≡ false
+      → (run : List ℕ) × IsNumber (remaining cur before) number run rest
   negative_found number rest minus some small is_i64 left ends =
-      let parts : Run = record { sign = Some 45; whole = front is_ascii_digit bytes; fraction = None; exponent = None } in
+      let parts : Run = record { sign = Some 45; whole = prefix is_ascii_digit bytes; fraction = None; exponent = None } in
       let here : cur ≢ 0 = λ e. omega (arith, e, minus) in (
         run_text parts,
         record {
@@ -143,7 +143,7 @@ module _ (cur : ℕ) (before : Chars) (bytes : List ℕ) (utf8 : IsUtf8 bytes) (
           good = (some, small);
           number_is = is_i64;
           run_is = refl;
-          split = live_more cur before here ∙ rw (minus, append-nil (front is_ascii_digit bytes)) (ap (λ (l : List ℕ). 45 ∷ l) (digits_and_rest rest left));
+          split = remaining_more cur before here ∙ rw (minus, append-nil (prefix is_ascii_digit bytes)) (ap (λ (l : List ℕ). 45 ∷ l) (digits_and_rest rest left));
           ends = ends;
         },
       )

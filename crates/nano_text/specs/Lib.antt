@@ -1,11 +1,12 @@
 pub mod Digits
-pub mod Each
-pub mod Front
-pub mod KeptWriting
-pub mod Laws
+pub mod EachLaws
+pub mod Prefix
+pub mod RollbackLaws
+pub mod Promises
 pub mod Number
 pub mod Outcomes
 pub mod Place
 pub mod PlaceLaws
 pub mod Scan
+pub mod ScanLaws
 pub mod String

@@ -7,7 +7,7 @@ use Rattle.std.specs.Str.{all_ascii_digits}
 use Rattle.std.specs.Str.Parse.{digits_value}
 use Rattle.nano_text.specs.declared.number.Number.{Number}
 use Rattle.nano_text.specs.declared.number.Number.TheVariants.{U64, I64, Dec}
-use Rattle.nano_text.specs.Front.{first_is}
+use Rattle.nano_text.specs.Prefix.{first_is}
 
 -- a letter, whether a minus follows it, and digits
 pub record Exponent : Type 0 where
@@ -15,7 +15,7 @@ pub record Exponent : Type 0 where
   pub minus : Bool
   pub digits : List ℕ
 
--- the parts of a run: the character of its sign, its digits, those behind its point, and its
+-- the parts of a run: the character of its sign, its digits, those after its point, and its
 -- exponent
 pub record Run : Type 0 where
   pub sign : Option ℕ
@@ -58,7 +58,7 @@ pub record IsRun (r : Run) : Type 0 where
   pub letter : IfSome r.exponent (λ e. is_letter_e e.letter ≡ true)
   pub digits : IfSome r.exponent (λ e. all_ascii_digits e.digits ≡ true)
 
--- the digits behind the point
+-- the digits after the point
 abbrev pub fraction_digits : Option (List ℕ) → List ℕ
 fraction_digits None = []
 fraction_digits (Some ds) = ds

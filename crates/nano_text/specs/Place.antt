@@ -1,7 +1,6 @@
 -- The place in a text, and the text that is still to be read.
 use Rattle.std.specs.Prelude.{◌≡◌, ℕ, ◌+◌, ◌-◌, ◌==◌, ◌<◌, ◌≤◌, List, [], ◌∷◌, ◌++◌, Bool, ◌||◌}
-use Rattle.std.specs.Prelude.{nat_lt, nat_le, chars}
-use Rattle.std.specs.Prelude.{if◌then◌else◌, min, ◌^◌}
+use Rattle.std.specs.Prelude.{nat_lt, nat_le, chars, if◌then◌else◌, min, ◌^◌}
 use Rattle.std.specs.Str.Iter.{chars_rest}
 use Rattle.std.specs.declared.str.Chars.{Chars}
 use Rattle.nano_text.specs.declared.place.Place.{Place}
@@ -15,34 +14,34 @@ abbrev pub before_nul : List ℕ → List ℕ
 before_nul [] = []
 before_nul (c ∷ cs) = if c == 0 then [] else (c ∷ before_nul cs)
 
--- the live text: the current character and what follows it, up to the first NUL
-unfoldable pub live : ℕ → Chars → List ℕ
-live current input = before_nul (current ∷ held input)
+-- the remaining input: the current character and what follows it, up to the first NUL
+unfoldable pub remaining : ℕ → Chars → List ℕ
+remaining current input = before_nul (current ∷ held input)
 
--- the live text of a place
+-- the remaining input at a place
 abbrev pub text_at : Place → Chars → List ℕ
-text_at place input = live place.cur input
+text_at place input = remaining place.cur input
 
--- the live text of a whole input, given as bytes of UTF-8
-abbrev pub live_text : List ℕ → List ℕ
-live_text bytes = before_nul (chars bytes)
+-- the remaining input of a whole input, given as bytes of UTF-8
+abbrev pub remaining_text : List ℕ → List ℕ
+remaining_text bytes = before_nul (chars bytes)
 
 -- all but the first
 abbrev pub tail : List ℕ → List ℕ
 tail [] = []
 tail (c ∷ cs) = cs
 
--- one more; the greatest number of 64 bits stands still
-abbrev pub counted : ℕ → ℕ
-counted n = min (n + 1) (2 ^ 64 - 1)
+-- one more; it saturates at the greatest number of 64 bits
+abbrev pub saturating_next : ℕ → ℕ
+saturating_next n = min (n + 1) (2 ^ 64 - 1)
 
 -- the place once the next of these characters is taken
 abbrev pub place_after : Place → List ℕ → Place
 place_after place [] = record place { cur = 0 }
 place_after place (c ∷ cs) =
     if c == 10
-    then record { cur = c; line = counted place.line; col = 0 }
-    else record { cur = c; line = place.line; col = counted place.col }
+    then record { cur = c; line = saturating_next place.line; col = 0 }
+    else record { cur = c; line = place.line; col = saturating_next place.col }
 
 -- the place once these characters are taken, one by one
 abbrev pub passed : Place → List ℕ → Place

@@ -21,7 +21,7 @@ passed_same p q (c ∷ cs) line col =
 pub passes_none : (place : Place) (text : List ℕ) → Passes place text place text
 passes_none place text = record { taken = []; split = refl; line = refl; col = refl }
 
--- one part behind another
+-- one part after another
 pub passes_append : {p q r : Place} {before between after : List ℕ}
     → Passes p before q between → Passes q between r after → Passes p before r after
 passes_append {p} {q} {r} {before} {between} {after} h k =

@@ -1,9 +1,10 @@
-// Strings of plain characters and short escapes in one line, which nearly all are: they are read at
-// once. What is odd is left to the pieces (`string`), with nothing taken.
+//! Strings of plain characters and short escapes in one line, which nearly all are: they are read at
+//! once. What is odd is left to the pieces (`string`), with nothing taken.
+
 ghost use Rattle.std.specs.Prelude.{◌≡◌, ◌≢◌, ◌++◌, ◌∷◌, ◌<◌, ◌≤◌, true, false, IfSome};
 ghost use Rattle.std.specs.Prelude.{List, ℕ, count_by, string_bytes, string_capacity};
 ghost use Rattle.std.specs.Prelude.{◌+◌, drop, encode_utf8_all, length};
-ghost use Rattle.nano_text.specs.Front.{front};
+ghost use Rattle.nano_text.specs.Prefix.{prefix};
 ghost use Rattle.nano_text.specs.Outcomes.{Counts};
 ghost use Rattle.nano_text.specs.Place.{begins_character, text_at};
 ghost use Rattle.nano_text.specs.String.{IsString, escaped_char, is_plain_in_line};
@@ -29,8 +30,8 @@ fn begins_character(byte: u8) -> bool
     byte < 0x80 || 0xC0 <= byte
 }
 
-/// Whether a byte surely is a character of ASCII that stands for itself in a string, and in its
-/// line. Most come behind the backslash, so that is asked first.
+/// Whether a byte surely is an ASCII character that stands for itself in a string, and in its
+/// line. Most are greater than the backslash, so that is tested first.
 fn is_plain_ascii(byte: u8) -> bool
     ensures { result ≡ true → (is_plain_in_line byte ≡ true) × (byte < 128) }
 {
@@ -42,10 +43,10 @@ fn is_plain_ascii(byte: u8) -> bool
 #[inline(always)]
 fn ascii_run(bytes: &[u8]) -> usize
     ensures within { result ≤ length bytes.now }
-    ensures len { length (front is_plain_in_line bytes.now)
-        ≡ result + length (front is_plain_in_line (drop result bytes.now)) }
-    ensures columns { count_by begins_character (front is_plain_in_line bytes.now)
-        ≡ result + count_by begins_character (front is_plain_in_line (drop result bytes.now)) }
+    ensures len { length (prefix is_plain_in_line bytes.now)
+        ≡ result + length (prefix is_plain_in_line (drop result bytes.now)) }
+    ensures columns { count_by begins_character (prefix is_plain_in_line bytes.now)
+        ≡ result + count_by begins_character (prefix is_plain_in_line (drop result bytes.now)) }
 {
     let mut len = 0;
     'fours: while let Some(four) = bytes[len..].first_chunk::<4>() {
@@ -66,7 +67,7 @@ fn ascii_run(bytes: &[u8]) -> usize
     len
 }
 
-/// The longest front of some bytes that stands for itself in its line.
+/// The longest prefix of some bytes that stands for itself in its line.
 #[derive(Clone, Copy)]
 struct PlainRun {
     /// How many bytes it has.
@@ -78,9 +79,9 @@ struct PlainRun {
 /// Measures the bytes before the first that is odd.
 #[inline(always)]
 fn plain_run(bytes: &[u8]) -> PlainRun
-    ensures len { result.len ≡ length (front is_plain_in_line bytes.now) }
+    ensures len { result.len ≡ length (prefix is_plain_in_line bytes.now) }
     ensures columns { result.columns
-        ≡ count_by begins_character (front is_plain_in_line bytes.now) }
+        ≡ count_by begins_character (prefix is_plain_in_line bytes.now) }
 {
     let ascii = ascii_run(bytes);
     let mut columns = ascii;
@@ -146,7 +147,7 @@ pub(crate) fn read_at_once(p: &mut Place, i: &mut Chars<'_>, strbuf: &mut String
         × IsString (text_at p.old i.old) characters (text_at p.new i.new)
         × (string_bytes strbuf.new ≡ encode_utf8_all characters) }
     ensures place { result ≡ true → Counts p.old i.old p.new i.new }
-    ensures stays { result ≡ false → (p.new ≡ p.old) × (i.new ≡ i.old) }
+    ensures unchanged { result ≡ false → (p.new ≡ p.old) × (i.new ≡ i.old) }
     ensures capacity { string_capacity strbuf.old ≤ string_capacity strbuf.new }
 {
     if p.cur != '"' {
@@ -157,24 +158,24 @@ pub(crate) fn read_at_once(p: &mut Place, i: &mut Chars<'_>, strbuf: &mut String
     let mut rest = i.as_str();
     'runs: loop {
         let run = plain_run(rest.as_bytes());
-        let (plain, behind) = rest.split_at(run.len);
+        let (plain, following) = rest.split_at(run.len);
         let Ok(()) = strbuf.push_str(plain) else {
             return false;
         };
         col = col.saturating_add(run.columns);
-        if begins_with_quote(behind.as_bytes()) {
+        if begins_with_quote(following.as_bytes()) {
             p.col = col.saturating_add(1);
-            *i = behind.split_at(1).1.chars();
+            *i = following.split_at(1).1.chars();
             p.next(i);
             return true;
         }
-        let Some(c) = short_escape(behind.as_bytes()) else {
+        let Some(c) = short_escape(following.as_bytes()) else {
             return false;
         };
         let Ok(()) = strbuf.push(c) else {
             return false;
         };
         col = col.saturating_add(2);
-        rest = behind.split_at(2).1;
+        rest = following.split_at(2).1;
     }
 }

@@ -1,4 +1,5 @@
-// Number lexemes.
+//! Number lexemes.
+
 ghost use Rattle.std.specs.Prelude.{◌≡◌, ◌+◌, ◌^◌, ◌<◌, ◌≤◌, OnOk, IfOk, List, ℕ, pos, neg_ℤ};
 ghost use Rattle.std.specs.Prelude.{length, string_bytes, string_capacity, MatchOption, SomeIff};
 ghost use Rattle.std.specs.Prelude.{IfSome};
@@ -7,11 +8,11 @@ ghost use Rattle.nano_text.specs.Number.{IsNumber, AreGoodParts, number_from_par
 ghost use Rattle.nano_text.specs.Number.{sign_text};
 ghost use Rattle.nano_text.specs.Outcomes.{Counts, IsWord};
 ghost use Rattle.nano_text.specs.Place.{text_at};
-ghost use Rattle.nano_text.specs.Scan.{decimal_len, fraction_room, exponent_room};
+ghost use Rattle.nano_text.specs.Scan.{decimal_len, fraction_capacity, exponent_capacity};
 
 use crate::place::Place;
 use crate::run::{Digits, ExponentLen, take_run};
-use crate::whole::{negative_ahead, stand_behind, unsigned_ahead};
+use crate::whole::{negative_ahead, stand_after, unsigned_ahead};
 use std::alloc::AllocError;
 use std::str::Chars;
 
@@ -105,14 +106,14 @@ fn integer_of(minus: bool, whole: Digits) -> Option<Number>
     Some(Number::I64(value))
 }
 
-/// How many characters stand behind the point of a good decimal, or behind the letter of its
+/// How many characters come after the point of a good decimal, or after the letter of its
 /// exponent if it has no point. `None` for one that isn't good.
 fn decimal_len(
     whole: usize,
     fraction: Option<usize>,
     exponent: Option<ExponentLen>,
 ) -> Option<usize>
-    requires { fraction_room fraction + exponent_room exponent < 2 ^ 64 }
+    requires { fraction_capacity fraction + exponent_capacity exponent < 2 ^ 64 }
     ensures { result ≡ decimal_len whole fraction exponent }
 {
     match (fraction, exponent) {
@@ -143,17 +144,17 @@ fn decimal_len(
 
 /// Reads the number lexeme that begins at the current character.
 ///
-/// A number is an optional sign, digits, optionally a point and digits, optionally `e` or `E`, an
-/// optional minus and digits. It is taken as long as it goes. Without a point and an exponent it
-/// is an integer, which has a digit: with a minus an `I64` down to -2^63, otherwise a `U64` up to
-/// 2^64 - 1. A decimal has a digit before its exponent, and one in it; its text is left in
+/// A number is an optional sign, digits, optionally a point and digits, optionally `e` or `E`,
+/// an optional minus and digits. The longest run is taken. Without a point and an exponent it
+/// is an integer, which has a digit: with a minus an `I64` down to -2^63, otherwise a `U64` up
+/// to 2^64 - 1. A decimal has a digit before its exponent, and one in it; its text is left in
 /// `numbuf`. Line and column count each character that was taken, as [`Place::next`] does.
 ///
 /// # Errors
 ///
-/// `Fault::Malformed` where no number lexeme begins here: no shorter part of a run that isn't good
-/// is one. `Fault::Memory` where `numbuf` could not grow for a decimal's text; an integer takes no
-/// memory. Afterwards the place stands behind the run.
+/// `Fault::Malformed` where no number lexeme begins here: no shorter part of a run that isn't
+/// good is one. `Fault::Memory` where `numbuf` could not grow for a decimal's text; an integer
+/// allocates no memory. Afterwards the place is after the run.
 #[inline(always)]
 pub fn read_number(p: &mut Place, i: &mut Chars<'_>, numbuf: &mut String) -> Result<Number, Fault>
     ensures found { IfOk result (λ number. (run : List ℕ)
@@ -161,7 +162,7 @@ pub fn read_number(p: &mut Place, i: &mut Chars<'_>, numbuf: &mut String) -> Res
         × (number ≡ Number.Dec → string_bytes numbuf.new ≡ run)) }
     ensures place { OnOk result (Counts p.old i.old p.new i.new) }
 
-    // Memory is asked for only where the buffer has no room for a decimal's text.
+    // Memory is requested only where the buffer lacks the capacity for a decimal's text.
     ensures memory { result ≡ Err Fault.Memory → (run rest : List ℕ)
         × IsNumber (text_at p.old i.old) Number.Dec run rest
         × (string_capacity numbuf.old < length run) }
@@ -169,10 +170,10 @@ pub fn read_number(p: &mut Place, i: &mut Chars<'_>, numbuf: &mut String) -> Res
         → IsNumber (text_at p.old i.old) number run rest → ⊥ }
 {
     if let Some(ahead) = unsigned_ahead(p.cur, i.as_str().as_bytes()) {
-        stand_behind(p, i, ahead);
+        stand_after(p, i, ahead);
         return Ok(Number::U64(ahead.value));
     }
-    // A copy is lent, so that the place itself stays in registers where it is not.
+    // Lends a copy, so that the place itself remains in registers where it is not lent.
     let mut place = *p;
     let read = read_other(&mut place, i, numbuf);
     *p = place;
@@ -187,7 +188,7 @@ fn read_other(p: &mut Place, i: &mut Chars<'_>, numbuf: &mut String) -> Result<N
         × (number ≡ Number.Dec → string_bytes numbuf.new ≡ run)) }
     ensures place { OnOk result (Counts p.old i.old p.new i.new) }
 
-    // Memory is asked for only where the buffer has no room for a decimal's text.
+    // Memory is requested only where the buffer lacks the capacity for a decimal's text.
     ensures memory { result ≡ Err Fault.Memory → (run rest : List ℕ)
         × IsNumber (text_at p.old i.old) Number.Dec run rest
         × (string_capacity numbuf.old < length run) }
@@ -196,7 +197,7 @@ fn read_other(p: &mut Place, i: &mut Chars<'_>, numbuf: &mut String) -> Result<N
 {
     if let Some(ahead) = negative_ahead(p.cur, i.as_str().as_bytes()) {
         if let Some(number) = negative(ahead.value) {
-            stand_behind(p, i, ahead);
+            stand_after(p, i, ahead);
             return Ok(number);
         }
     }
@@ -210,7 +211,7 @@ fn read_run(p: &mut Place, i: &mut Chars<'_>, numbuf: &mut String) -> Result<Num
         × (number ≡ Number.Dec → string_bytes numbuf.new ≡ run)) }
     ensures place { OnOk result (Counts p.old i.old p.new i.new) }
 
-    // Memory is asked for only where the buffer has no room for a decimal's text.
+    // Memory is requested only where the buffer lacks the capacity for a decimal's text.
     ensures memory { result ≡ Err Fault.Memory → (run rest : List ℕ)
         × IsNumber (text_at p.old i.old) Number.Dec run rest
         × (string_capacity numbuf.old < length run) }
@@ -226,10 +227,10 @@ fn read_run(p: &mut Place, i: &mut Chars<'_>, numbuf: &mut String) -> Result<Num
         };
         return Ok(number);
     }
-    let Some(behind) = decimal_len(run.whole.len, run.fraction, run.exponent) else {
+    let Some(following) = decimal_len(run.whole.len, run.fraction, run.exponent) else {
         return Err(Fault::Malformed);
     };
-    let (more, _rest) = text.split_at(sign_len(run.sign) + run.whole.len + behind);
+    let (more, _rest) = text.split_at(sign_len(run.sign) + run.whole.len + following);
     numbuf.clear();
     numbuf.push(first)?;
     numbuf.push_str(more)?;

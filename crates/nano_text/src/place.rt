@@ -1,4 +1,5 @@
-// The place in a text, and the step to the next character.
+//! The place in a text, and the step to the next character.
+
 ghost use Rattle.std.specs.Prelude.{◌≡◌, ◌≢◌, ◌<◌, ◌∷◌, ◌++◌, List, ℕ, chars, count_by};
 ghost use Rattle.nano_text.specs.Outcomes.{Counts};
 ghost use Rattle.nano_text.specs.Place.{held, tail, place_after, text_at, before_nul, passed};
@@ -17,15 +18,16 @@ pub struct Place {
 impl Place {
     /// Takes one character, which becomes the current one.
     ///
-    /// A line feed adds one to `line` and sets `col` to 0; any other character, NUL too, adds one
-    /// to `col`. At `usize::MAX` they stand still. At the end of `i` the current character becomes
-    /// NUL, and `line` and `col` stay.
+    /// A line feed adds one to `line` and sets `col` to 0; any other character, NUL too, adds
+    /// one to `col`. They saturate at `usize::MAX`. At the end of `i` the current character
+    /// becomes NUL, and `line` and `col` are unchanged.
     pub fn next(&mut self, i: &mut Chars<'_>)
         ensures place { self.new ≡ place_after self.old (held i.old) }
         ensures held { held i.new ≡ tail (held i.old) }
         ensures passes { Counts self.old i.old self.new i.new }
 
-        // What is live afterwards, and that the current character came off its front.
+        // What input remains afterwards, and that the current character was taken from its
+        // start.
         ensures rest { text_at self.new i.new ≡ before_nul (held i.old) }
         ensures taken { self.old.cur ≢ 0
             → text_at self.old i.old ≡ self.old.cur ∷ text_at self.new i.new }
@@ -72,10 +74,10 @@ fn line_feeds(bytes: &[u8]) -> usize
     bytes.iter().filter(|byte| **byte == b'\n').count()
 }
 
-/// What stands behind the last line feed, or the whole text if there is none.
+/// What comes after the last line feed, or the whole text if there is none.
 fn last_line(text: &str) -> &str
     ensures none { count_by is_line_feed result.now ≡ 0 }
-    ensures behind { 0 < count_by is_line_feed text.now
+    ensures following { 0 < count_by is_line_feed text.now
         → (before : List ℕ) × (text.now ≡ before ++ 10 ∷ result.now) }
 {
     match text.rsplit_once('\n') {

@@ -1,15 +1,17 @@
-// The run of characters that a number is read from, taken as long as it goes: good or not.
+//! The run of characters that a number is read from, taken as long as it goes: good or not.
+
 ghost use Rattle.std.specs.Prelude.{◌≡◌, ◌+◌, ◌*◌, ◌<◌, ℕ, length};
 ghost use Rattle.std.specs.Char.{is_ascii_digit};
 ghost use Rattle.std.specs.Option.{option_map};
 ghost use Rattle.std.specs.Str.Parse.{digits_value, digits_value_after};
-ghost use Rattle.nano_text.specs.Front.{front, behind, first_is};
+ghost use Rattle.nano_text.specs.Prefix.{prefix, following, first_is};
 ghost use Rattle.nano_text.specs.Number.{is_sign, is_letter_e};
 ghost use Rattle.nano_text.specs.Outcomes.{Counts, IsWord};
 ghost use Rattle.nano_text.specs.Place.{text_at};
-ghost use Rattle.nano_text.specs.Scan.{first_if, behind_one, is_minus_char, behind_sign};
-ghost use Rattle.nano_text.specs.Scan.{fraction_at, behind_fraction, exponent_at, behind_exponent};
-ghost use Rattle.nano_text.specs.Scan.{run_at, behind_run, exponent_len};
+ghost use Rattle.nano_text.specs.Scan.{first_if, after_one, is_minus_char, after_sign};
+ghost use Rattle.nano_text.specs.Scan.{fraction_at, after_fraction, exponent_at, after_exponent};
+ghost use Rattle.nano_text.specs.ScanLaws.{run_at};
+ghost use Rattle.nano_text.specs.Scan.{after_run, exponent_len};
 
 use crate::place::Place;
 use std::str::Chars;
@@ -35,7 +37,7 @@ pub(crate) struct ExponentLen {
 pub(crate) struct TakenRun {
     pub(crate) sign: Option<char>,
     pub(crate) whole: Digits,
-    /// How many digits stand behind the point, if there is one.
+    /// How many digits come after the point, if there is one.
     pub(crate) fraction: Option<usize>,
     pub(crate) exponent: Option<ExponentLen>,
 }
@@ -69,11 +71,11 @@ fn with_digit(value: Option<u64>, digit: u64) -> Option<u64>
     }
 }
 
-/// The digits that these bytes begin with, behind a first digit that is already taken.
-fn digits_behind(first: u64, bytes: &[u8]) -> Digits
-    ensures len { result.len ≡ length (front is_ascii_digit bytes.now) }
+/// The digits that these bytes begin with, after a first digit that is already taken.
+fn digits_after(first: u64, bytes: &[u8]) -> Digits
+    ensures len { result.len ≡ length (prefix is_ascii_digit bytes.now) }
     ensures value { IsWord result.value
-        (digits_value_after 10 first (front is_ascii_digit bytes.now)) }
+        (digits_value_after 10 first (prefix is_ascii_digit bytes.now)) }
 {
     let mut value = Some(first);
     for (len, byte) in bytes.iter().enumerate() {
@@ -88,17 +90,17 @@ fn digits_behind(first: u64, bytes: &[u8]) -> Digits
     }
 }
 
-/// Takes the longest front of digits.
+/// Takes the longest prefix of digits.
 ///
-/// The first is the current character, which may never have been in `i`. The others are taken at
-/// once, and the number that they write is built as they are taken. Inlined, so that what it
-/// answers stays in registers.
+/// The first is the current character, which may never have been in `i`. The others are taken
+/// at once, and the number that they encode is built as they are taken. Inlined, so that its
+/// result remains in registers.
 #[inline(always)]
 fn take_digits(p: &mut Place, i: &mut Chars<'_>) -> Digits
-    ensures len { result.len ≡ length (front is_ascii_digit (text_at p.old i.old)) }
+    ensures len { result.len ≡ length (prefix is_ascii_digit (text_at p.old i.old)) }
     ensures value { IsWord result.value
-        (digits_value 10 (front is_ascii_digit (text_at p.old i.old))) }
-    ensures rest { text_at p.new i.new ≡ behind is_ascii_digit (text_at p.old i.old) }
+        (digits_value 10 (prefix is_ascii_digit (text_at p.old i.old))) }
+    ensures rest { text_at p.new i.new ≡ following is_ascii_digit (text_at p.old i.old) }
     ensures place { Counts p.old i.old p.new i.new }
 {
     let Some(first) = p.cur.to_digit(10) else {
@@ -108,7 +110,7 @@ fn take_digits(p: &mut Place, i: &mut Chars<'_>) -> Digits
         };
     };
     let text = i.as_str();
-    let more = digits_behind(u64::from(first), text.as_bytes());
+    let more = digits_after(u64::from(first), text.as_bytes());
     p.col = p.col.saturating_add(more.len);
     *i = text.split_at(more.len).1.chars();
     p.next(i);
@@ -121,7 +123,7 @@ fn take_digits(p: &mut Place, i: &mut Chars<'_>) -> Digits
 /// Takes a sign, if there is one.
 fn take_sign(p: &mut Place, i: &mut Chars<'_>) -> Option<char>
     ensures sign { result ≡ first_if is_sign (text_at p.old i.old) }
-    ensures rest { text_at p.new i.new ≡ behind_sign (text_at p.old i.old) }
+    ensures rest { text_at p.new i.new ≡ after_sign (text_at p.old i.old) }
     ensures place { Counts p.old i.old p.new i.new }
 {
     let sign = p.cur;
@@ -132,10 +134,10 @@ fn take_sign(p: &mut Place, i: &mut Chars<'_>) -> Option<char>
     Some(sign)
 }
 
-/// Takes a point and the digits behind it, if there is one. Answers how many digits they are.
+/// Takes a point and the digits after it, if there is one. Returns how many digits they are.
 fn take_fraction(p: &mut Place, i: &mut Chars<'_>) -> Option<usize>
     ensures found { result ≡ option_map length (fraction_at (text_at p.old i.old)) }
-    ensures rest { text_at p.new i.new ≡ behind_fraction (text_at p.old i.old) }
+    ensures rest { text_at p.new i.new ≡ after_fraction (text_at p.old i.old) }
     ensures place { Counts p.old i.old p.new i.new }
 {
     if p.cur != '.' {
@@ -148,7 +150,7 @@ fn take_fraction(p: &mut Place, i: &mut Chars<'_>) -> Option<usize>
 /// Takes a minus, if there is one, and answers whether there is.
 fn take_minus(p: &mut Place, i: &mut Chars<'_>) -> bool
     ensures minus { result ≡ first_is is_minus_char (text_at p.old i.old) }
-    ensures rest { text_at p.new i.new ≡ behind_one is_minus_char (text_at p.old i.old) }
+    ensures rest { text_at p.new i.new ≡ after_one is_minus_char (text_at p.old i.old) }
     ensures place { Counts p.old i.old p.new i.new }
 {
     if p.cur != '-' {
@@ -161,7 +163,7 @@ fn take_minus(p: &mut Place, i: &mut Chars<'_>) -> bool
 /// Takes an exponent, if there is one.
 fn take_exponent(p: &mut Place, i: &mut Chars<'_>) -> Option<ExponentLen>
     ensures found { result ≡ option_map exponent_len (exponent_at (text_at p.old i.old)) }
-    ensures rest { text_at p.new i.new ≡ behind_exponent (text_at p.old i.old) }
+    ensures rest { text_at p.new i.new ≡ after_exponent (text_at p.old i.old) }
     ensures place { Counts p.old i.old p.new i.new }
 {
     if !is_letter_e(p.cur) {
@@ -182,7 +184,7 @@ pub(crate) fn take_run(p: &mut Place, i: &mut Chars<'_>) -> TakenRun
     ensures fraction { result.fraction ≡ option_map length (run_at (text_at p.old i.old)).fraction }
     ensures exponent { result.exponent
         ≡ option_map exponent_len (run_at (text_at p.old i.old)).exponent }
-    ensures rest { text_at p.new i.new ≡ behind_run (text_at p.old i.old) }
+    ensures rest { text_at p.new i.new ≡ after_run (text_at p.old i.old) }
     ensures place { Counts p.old i.old p.new i.new }
 {
     let sign = take_sign(p, i);

@@ -1,10 +1,11 @@
-// String lexemes.
+//! String lexemes.
+
 ghost use Rattle.std.specs.Prelude.{◌≡◌, ◌≢◌, ◌++◌, ◌∷◌, ◌<◌, ◌≤◌, true, false, OnErr, OnOk, IfOk};
 ghost use Rattle.std.specs.Prelude.{IfSome, List, ℕ, string_bytes, string_capacity};
 ghost use Rattle.std.specs.Prelude.{encode_utf8_all, length};
 ghost use Rattle.std.specs.Char.{digit_value, is_ascii_hexdigit};
 ghost use Rattle.std.specs.List.{AllWithin};
-ghost use Rattle.nano_text.specs.Front.{front, behind};
+ghost use Rattle.nano_text.specs.Prefix.{prefix, following};
 ghost use Rattle.nano_text.specs.Outcomes.{Appends, Counts};
 ghost use Rattle.nano_text.specs.Place.{IsInLine, text_at};
 ghost use Rattle.nano_text.specs.String.{CodeUnit, IsHex, IsPiece, IsString, Piece};
@@ -16,15 +17,15 @@ use crate::place::Place;
 use std::alloc::AllocError;
 use std::str::Chars;
 
-/// Whether a character, or a byte of UTF-8, stands for itself in a string. Most come behind the
-/// backslash, so that is asked first.
+/// Whether a character, or a byte of UTF-8, stands for itself in a string. Most are greater
+/// than the backslash, so that is tested first.
 fn is_plain(c: u32) -> bool
     ensures { result ≡ is_plain c }
 {
     c > u32::from('\\') || c != u32::from('"') && c != u32::from('\\') && c != 0
 }
 
-/// The longest front of some bytes that stands for itself.
+/// The longest prefix of some bytes that stands for itself.
 #[derive(Clone, Copy)]
 struct PlainRun {
     /// How many bytes it has.
@@ -36,7 +37,7 @@ struct PlainRun {
 
 /// Measures the bytes that stand for themselves before the first that doesn't.
 fn plain_run(bytes: &[u8]) -> PlainRun
-    ensures len { result.len ≡ length (front is_plain bytes.now) }
+    ensures len { result.len ≡ length (prefix is_plain bytes.now) }
     ensures in_line { result.bits < 128 → AllWithin IsInLine bytes.now 0 result.len }
 {
     let mut bits = 0;
@@ -52,7 +53,7 @@ fn plain_run(bytes: &[u8]) -> PlainRun
     }
 }
 
-/// Appends the longest front of the live text that stands for itself.
+/// Appends the longest prefix of the remaining input that stands for itself.
 ///
 /// Its first character is the current one, which may never have been in `i`. The others are
 /// appended at once.
@@ -62,11 +63,11 @@ fn take_plain(p: &mut Place, i: &mut Chars<'_>, strbuf: &mut String) -> Result<(
     ensures capacity { string_capacity strbuf.old ≤ string_capacity strbuf.new }
     ensures full { OnErr result (string_capacity strbuf.old
         < length (string_bytes strbuf.old
-        ++ encode_utf8_all (front is_plain (text_at p.old i.old)))) }
-    ensures rest { OnOk result (text_at p.new i.new ≡ behind is_plain (text_at p.old i.old)) }
+        ++ encode_utf8_all (prefix is_plain (text_at p.old i.old)))) }
+    ensures rest { OnOk result (text_at p.new i.new ≡ following is_plain (text_at p.old i.old)) }
     ensures place { OnOk result (Counts p.old i.old p.new i.new) }
     ensures taken { OnOk result
-        (Appends strbuf.old strbuf.new (front is_plain (text_at p.old i.old))) }
+        (Appends strbuf.old strbuf.new (prefix is_plain (text_at p.old i.old))) }
 {
     strbuf.push(p.cur)?;
     let text = i.as_str();
@@ -114,7 +115,7 @@ fn take_code_unit(p: &mut Place, i: &mut Chars<'_>) -> Option<u32>
     Some(((first * 16 + second) * 16 + third) * 16 + fourth)
 }
 
-/// Takes what stands behind `\u`: a code unit, or a leading surrogate, `\u` and a trailing one.
+/// Takes what comes after `\u`: a code unit, or a leading surrogate, `\u` and a trailing one.
 fn take_unicode(p: &mut Place, i: &mut Chars<'_>) -> Option<char>
     ensures taken { IfSome result (λ c. (piece : Piece) × IsPiece piece
         × (c ≡ piece_char piece)
@@ -204,17 +205,17 @@ fn read_pieces(p: &mut Place, i: &mut Chars<'_>, strbuf: &mut String) -> Result<
 
 /// Reads the string lexeme that begins at the current character. Its text is left in `strbuf`.
 ///
-/// A string is a quote, pieces and a quote. A piece is a character but a quote, a backslash and
-/// NUL; or `\n`, `\r`, `\t`, `\b`, `\f` or `\0`; or `\u` and the four hexadecimal digits of a
-/// scalar value; or two of these for a leading and a trailing surrogate; or a backslash and any
-/// other character but NUL, which stands for that character. Line and column count each character
-/// that was taken, as [`Place::next`] does.
+/// A string is a quote, pieces and a quote. A piece is any character except a quote, a
+/// backslash and NUL; or `\n`, `\r`, `\t`, `\b`, `\f` or `\0`; or `\u` and the four hexadecimal
+/// digits of a scalar value; or two of these for a leading and a trailing surrogate; or a
+/// backslash and any other character except NUL, which stands for that character. Line and
+/// column count each character that was taken, as [`Place::next`] does.
 ///
 /// # Errors
 ///
-/// `Fault::Malformed` where no string lexeme begins here, `Fault::Memory` where `strbuf` could not
-/// grow. Afterwards the place stands where the fault was found, and `strbuf` holds a front of the
-/// text.
+/// `Fault::Malformed` where no string lexeme begins here, `Fault::Memory` where `strbuf` could
+/// not grow. Afterwards the place is where the fault was found, and `strbuf` holds a prefix of
+/// the text.
 #[inline(always)]
 pub fn read_string(p: &mut Place, i: &mut Chars<'_>, strbuf: &mut String) -> Result<(), Fault>
     ensures found { OnOk result ((characters : List ℕ)
@@ -222,7 +223,7 @@ pub fn read_string(p: &mut Place, i: &mut Chars<'_>, strbuf: &mut String) -> Res
         × (string_bytes strbuf.new ≡ encode_utf8_all characters)) }
     ensures place { OnOk result (Counts p.old i.old p.new i.new) }
 
-    // Memory is asked for only where the buffer has no room for the text.
+    // Memory is requested only where the buffer lacks the capacity for the text.
     ensures memory { result ≡ Err Fault.Memory → (characters rest : List ℕ)
         → IsString (text_at p.old i.old) characters rest
         → string_capacity strbuf.old < length (encode_utf8_all characters) }

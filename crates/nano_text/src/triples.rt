@@ -1,8 +1,9 @@
-// Numbers below 1,000 as three digits, and those below 100 as two.
+//! Numbers below 1,000 as three digits, and those below 100 as two.
+
 ghost use Rattle.std.specs.Prelude.{◌≡◌, ◌+◌, ◌/◌, ◌%◌, ◌<◌, ◌∷◌, []};
 ghost use Rattle.nano_text.specs.Digits.{three_digits};
 
-/// The three digits of each number below 1,000, one number behind the other.
+/// The three digits of each number below 1,000, one number after the other.
 const TRIPLES: &str = "\
       000001002003004005006007008009010011012013014015016017018019020021022023024\
       025026027028029030031032033034035036037038039040041042043044045046047048049\
@@ -45,7 +46,7 @@ const TRIPLES: &str = "\
       950951952953954955956957958959960961962963964965966967968969970971972973974\
       975976977978979980981982983984985986987988989990991992993994995996997998999";
 
-/// The three digits of a number, zeros in front.
+/// The three digits of a number, with leading zeros.
 #[inline(always)]
 pub fn triple(number: u64) -> &'static str
     requires { number < 1000 }
@@ -55,7 +56,7 @@ pub fn triple(number: u64) -> &'static str
     &TRIPLES[start..start + 3]
 }
 
-/// The two digits of a number, a zero in front: the last two of its three.
+/// The two digits of a number, with a leading zero: the last two of its three.
 #[inline(always)]
 pub fn pair(number: u64) -> &'static str
     requires { number < 100 }

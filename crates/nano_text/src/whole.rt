@@ -1,11 +1,12 @@
-// Whole numbers of few digits, which nearly all numbers are: their digits are looked at in one loop,
-// and taken at once. What is odd is left to the run (`run`), with nothing taken.
+//! Whole numbers of few digits, which nearly all numbers are: their digits are looked at in one
+//! loop, and taken at once. What is odd is left to the run (`run`), with nothing taken.
+
 ghost use Rattle.std.specs.Prelude.{◌≡◌, ◌<◌, ◌≤◌, ◌^◌, true, false, IfSome};
 ghost use Rattle.std.specs.Prelude.{length, get_or, pos, neg_ℤ};
 ghost use Rattle.std.specs.Char.{is_ascii_digit, digit_value};
 ghost use Rattle.std.specs.Str.Iter.{chars_rest};
 ghost use Rattle.std.specs.Str.Parse.{digits_value, digits_value_after};
-ghost use Rattle.nano_text.specs.Front.{front, behind};
+ghost use Rattle.nano_text.specs.Prefix.{prefix, following};
 ghost use Rattle.nano_text.specs.Number.{continues};
 ghost use Rattle.nano_text.specs.Outcomes.{Counts};
 ghost use Rattle.nano_text.specs.Place.{held, before_nul, text_at};
@@ -16,14 +17,14 @@ use std::str::Chars;
 /// No number of so many digits, and one before them, is too large for 64 bits.
 const MOST: usize = 18;
 
-/// Digits that follow, and the character behind them.
+/// Digits that follow, and the character after them.
 #[derive(Clone, Copy)]
 pub(crate) struct Ahead {
     /// How many they are.
     pub(crate) len: usize,
-    /// The number that they write, behind a first digit.
+    /// The number that they encode, after a first digit.
     pub(crate) value: u64,
-    /// The character behind them.
+    /// The character after them.
     pub(crate) next: u8,
 }
 
@@ -35,14 +36,14 @@ fn ends_whole(byte: u8) -> bool
     byte == b',' || byte >= b' ' && byte < b'.' || byte == b']' || byte == b'}'
 }
 
-/// Looks at the digits that these bytes begin with, behind a first digit. `None` where they are
-/// many, or what follows is odd.
+/// Looks at the digits that these bytes begin with, after a first digit. `None` where they are
+/// many, or what follows is unusual.
 #[inline(always)]
 fn digits_ahead(first: u64, bytes: &[u8]) -> Option<Ahead>
     requires { first < 10 }
-    ensures len { IfSome result (λ ahead. ahead.len ≡ length (front is_ascii_digit bytes.now)) }
+    ensures len { IfSome result (λ ahead. ahead.len ≡ length (prefix is_ascii_digit bytes.now)) }
     ensures value { IfSome result (λ ahead. ahead.value
-        ≡ digits_value_after 10 first (front is_ascii_digit bytes.now)) }
+        ≡ digits_value_after 10 first (prefix is_ascii_digit bytes.now)) }
     ensures next { IfSome result (λ ahead. (ahead.len < length bytes.now)
         × (ahead.next ≡ get_or bytes.now ahead.len 0)) }
     ensures ends { IfSome result (λ ahead. (continues None None ahead.next ≡ false)
@@ -65,15 +66,15 @@ fn digits_ahead(first: u64, bytes: &[u8]) -> Option<Ahead>
     None
 }
 
-/// Takes the digits that follow, and the character behind them.
+/// Takes the digits that follow, and the character after them.
 #[inline(always)]
-pub(crate) fn stand_behind(p: &mut Place, i: &mut Chars<'_>, ahead: Ahead)
-    requires len { ahead.len ≡ length (front is_ascii_digit (chars_rest i.old)) }
+pub(crate) fn stand_after(p: &mut Place, i: &mut Chars<'_>, ahead: Ahead)
+    requires len { ahead.len ≡ length (prefix is_ascii_digit (chars_rest i.old)) }
     requires within { ahead.len < length (chars_rest i.old) }
     requires next { ahead.next ≡ get_or (chars_rest i.old) ahead.len 0 }
     requires in_line { 32 ≤ ahead.next }
     requires ascii { ahead.next < 128 }
-    ensures rest { text_at p.new i.new ≡ before_nul (behind is_ascii_digit (held i.old)) }
+    ensures rest { text_at p.new i.new ≡ before_nul (following is_ascii_digit (held i.old)) }
     ensures cur { p.new.cur ≡ ahead.next }
     ensures place { Counts p.old i.old p.new i.new }
 {
@@ -89,9 +90,9 @@ pub(crate) fn stand_behind(p: &mut Place, i: &mut Chars<'_>, ahead: Ahead)
 #[inline(always)]
 pub(crate) fn unsigned_ahead(cur: char, bytes: &[u8]) -> Option<Ahead>
     ensures digit { IfSome result (λ _. is_ascii_digit cur ≡ true) }
-    ensures len { IfSome result (λ ahead. ahead.len ≡ length (front is_ascii_digit bytes.now)) }
+    ensures len { IfSome result (λ ahead. ahead.len ≡ length (prefix is_ascii_digit bytes.now)) }
     ensures value { IfSome result (λ ahead. ahead.value
-        ≡ digits_value_after 10 (digit_value cur) (front is_ascii_digit bytes.now)) }
+        ≡ digits_value_after 10 (digit_value cur) (prefix is_ascii_digit bytes.now)) }
     ensures next { IfSome result (λ ahead. (ahead.len < length bytes.now)
         × (ahead.next ≡ get_or bytes.now ahead.len 0)) }
     ensures ends { IfSome result (λ ahead. (continues None None ahead.next ≡ false)
@@ -109,9 +110,9 @@ pub(crate) fn unsigned_ahead(cur: char, bytes: &[u8]) -> Option<Ahead>
 pub(crate) fn negative_ahead(cur: char, bytes: &[u8]) -> Option<Ahead>
     ensures minus { IfSome result (λ _. cur ≡ 45) }
     ensures some { IfSome result (λ ahead. 0 < ahead.len) }
-    ensures len { IfSome result (λ ahead. ahead.len ≡ length (front is_ascii_digit bytes.now)) }
+    ensures len { IfSome result (λ ahead. ahead.len ≡ length (prefix is_ascii_digit bytes.now)) }
     ensures value { IfSome result (λ ahead. ahead.value
-        ≡ digits_value 10 (front is_ascii_digit bytes.now)) }
+        ≡ digits_value 10 (prefix is_ascii_digit bytes.now)) }
     ensures next { IfSome result (λ ahead. (ahead.len < length bytes.now)
         × (ahead.next ≡ get_or bytes.now ahead.len 0)) }
     ensures ends { IfSome result (λ ahead. (continues None None ahead.next ≡ false)

@@ -1,8 +1,9 @@
-// Texts that are written with escapes: a run of characters that stand for themselves is appended
-// at once.
+//! Texts that are written with escapes: a run of characters that stand for themselves is appended
+//! at once.
+
 ghost use Rattle.std.specs.Prelude.{◌≡◌, ◌≤◌, ◌<◌, ◌++◌, ◌∷◌, [], true, Bool, List, ℕ, IfOk, OnOk};
 ghost use Rattle.std.specs.Prelude.{OnErr, chars, flat_map, encode_utf8_all, string_bytes, length};
-ghost use Rattle.nano_text.specs.Front.{front};
+ghost use Rattle.nano_text.specs.Prefix.{prefix};
 ghost use Rattle.nano_text.specs.Outcomes.{Appends, AppendsPart};
 
 use std::alloc::AllocError;
@@ -18,7 +19,8 @@ pub trait Escaping {
     fn stands_as_itself(c: u32) -> bool
         ensures { result ≡ stands c };
 
-    /// Appends a character as it is written. A refused growth leaves what was written so far.
+    /// Appends a character as it is written. If an allocation fails, what was written so far
+    /// remains.
     fn append_character(out: &mut String, c: char) -> Result<(), AllocError>
         ensures ok { OnOk result (Appends out.old out.new (written c)) }
         ensures err { OnErr result (AppendsPart out.old out.new) };
@@ -29,11 +31,11 @@ pub trait Escaping {
     ghost as_itself: { (c : ℕ) → stands c ≡ true → written c ≡ c ∷ [] };
 }
 
-/// How many bytes stand for themselves before the first that doesn't. Inlined, so that a row of a
-/// known length is looked at without a loop.
+/// How many bytes stand for themselves before the first that doesn't. Inlined, so that a slice
+/// of a known length is checked without a loop.
 #[inline(always)]
-fn plain_front<E: Escaping>(bytes: &[u8]) -> usize
-    ensures { result ≡ length (front E.stands bytes.now) }
+fn plain_prefix<E: Escaping>(bytes: &[u8]) -> usize
+    ensures { result ≡ length (prefix E.stands bytes.now) }
 {
     for (len, byte) in bytes.iter().enumerate() {
         if !E::stands_as_itself(u32::from(*byte)) {
@@ -45,24 +47,25 @@ fn plain_front<E: Escaping>(bytes: &[u8]) -> usize
 
 /// How many bytes stand for themselves before the first that doesn't, looked at four a turn.
 fn plain_len<E: Escaping>(bytes: &[u8]) -> usize
-    ensures { result ≡ length (front E.stands bytes.now) }
+    ensures { result ≡ length (prefix E.stands bytes.now) }
 {
     let mut rest = bytes;
     let mut len = 0;
     'fours: while let Some(parts) = rest.split_first_chunk::<4>() {
-        let (four, behind) = parts;
-        let plain = plain_front::<E>(four);
+        let (four, following) = parts;
+        let plain = plain_prefix::<E>(four);
         if plain < 4 {
             return len + plain;
         }
         len += 4;
-        rest = behind;
+        rest = following;
     }
-    len + plain_front::<E>(rest)
+    len + plain_prefix::<E>(rest)
 }
 
-/// Appends the longest front of a text that stands for itself, at once, and the character behind
-/// it. Answers what is left of the text. A refused growth leaves what was written so far.
+/// Appends the longest prefix of a text that stands for itself, at once, and the character
+/// after it. Returns what is left of the text. If an allocation fails, what was written so far
+/// remains.
 fn append_run<'a, E: Escaping>(out: &mut String, text: &'a str) -> Result<&'a str, AllocError>
     ensures ok { IfOk result (λ rest. (run : List ℕ)
         × (string_bytes out.new ≡ string_bytes out.old ++ run)
@@ -72,9 +75,9 @@ fn append_run<'a, E: Escaping>(out: &mut String, text: &'a str) -> Result<&'a st
         → length rest.now < length text.now) }
     ensures err { OnErr result (AppendsPart out.old out.new) }
 {
-    let (plain, behind) = text.split_at(plain_len::<E>(text.as_bytes()));
+    let (plain, following) = text.split_at(plain_len::<E>(text.as_bytes()));
     out.push_str(plain)?;
-    let mut characters = behind.chars();
+    let mut characters = following.chars();
     if let Some(c) = characters.next() {
         E::append_character(out, c)?;
     }
@@ -82,7 +85,7 @@ fn append_run<'a, E: Escaping>(out: &mut String, text: &'a str) -> Result<&'a st
 }
 
 /// Appends the characters of a text as a format writes them: those that stand for themselves at
-/// once, up to the next that doesn't. A refused growth leaves what was written so far.
+/// once, up to the next that doesn't. If an allocation fails, what was written so far remains.
 pub fn append_characters<E: Escaping>(out: &mut String, text: &str) -> Result<(), AllocError>
     ensures ok { OnOk result (Appends out.old out.new (flat_map E.written (chars text.now))) }
     ensures err { OnErr result (AppendsPart out.old out.new) }

@@ -2,7 +2,7 @@
 use Rattle.std.proofs.Common.{◌≡◌, ◌+◌, ◌<◌, max, List, [], ◌∷◌, ◌++◌, Vec, Global, length-append, arith, refl, ap, ◌∙◌}
 use denote.Param.Weighed.{most, most-append}
 use Rattle.nano_toml.specs.Data.{Values, more_values, values}
-use Rattle.nano_toml.specs.Fronts.{push_value}
+use Rattle.nano_toml.specs.Prefixes.{push_value}
 use Rattle.nano_toml.specs.Reading.{arrays_view}
 use Rattle.nano_toml.specs.View.{view, values_view}
 use Rattle.nano_toml.specs.declared.value.Toml.{Toml, SimpleArray}

@@ -1,9 +1,10 @@
 -- Where a bracket is cut from a text, and where none is.
 use Rattle.std.proofs.Common.{◌≡◌, ℕ, List, [], ◌∷◌, ◌==◌, ◌⊎◌, inl, inr, Bool, true, false, if◌then◌else◌, eqb-true, codes, bytes_eq, Option, Some, option_map, refl, ap, sym, ◌∙◌, subst, true≢false}
 use Rattle.nano_toml.specs.Characters.{starts_word, starts_number, is_quote}
-use Rattle.nano_toml.specs.Cut.{Cut, Lexeme, a_mark, a_word, a_string, a_number, mark_token}
+use Rattle.nano_toml.specs.Cut.{Cut, Lexeme, a_punctuator, a_word, a_string, a_number, punctuator_token}
 use Rattle.nano_toml.specs.Number.{Body, is_nan, is_infinity, is_decimal, is_date, is_integer, body_token, is_minus}
-use Rattle.nano_toml.specs.Scan.{tail, behind_gaps, next_behind_gaps}
+use Rattle.nano_toml.specs.Scan.{tail, after_gaps}
+use Rattle.nano_toml.specs.ScanLaws.{next_after_gaps}
 use Rattle.nano_toml.specs.Span.{begins}
 use Rattle.nano_toml.specs.Taken.{a_token, token_of, Took}
 use Rattle.nano_toml.specs.Token.{Token, nan, infinity, boolean, ident, comma, open_bracket, close_bracket, equals}
@@ -12,9 +13,9 @@ use Rattle.nano_toml.specs.declared.token.TomlTok.{TomlTok}
 use Rattle.nano_toml.specs.declared.token.TomlTok.TheVariants as tok
 use Rattle.nano_toml.proofs.CutLaws.{at_lexeme, scanned_cut}
 use Rattle.nano_toml.proofs.GapCut.{gaps_scanned}
-use Rattle.nano_toml.proofs.LexemeCut.{lexeme_scanned, mark_cases}
+use Rattle.nano_toml.proofs.LexemeCut.{lexeme_scanned, punctuator_cases}
 use Rattle.nano_toml.proofs.NameCut.{NoName, Took-no_name}
-use Rattle.nano_toml.proofs.NextSteps.{mark_next, mark_some}
+use Rattle.nano_toml.proofs.NextSteps.{punctuator_next, punctuator_some}
 
 -- ---- a bracket that was taken
 
@@ -22,21 +23,21 @@ begins_this : (k : ℕ) (now : List ℕ) → begins (λ d. d == k) now ≡ true 
 begins_this k [] h = cc h
 begins_this k (c ∷ cs) h = ap (λ (d : ℕ). d ∷ cs) (eqb-true c k h)
 
-bracket_is_mark : (k : ℕ) → k ≡ 91 ⊎ k ≡ 93 → (starts_word k ≡ false) × (starts_number k ≡ false) × (is_quote k ≡ false)
-bracket_is_mark k (inl e) = rw e (refl, refl, refl)
-bracket_is_mark k (inr e) = rw e (refl, refl, refl)
+bracket_is_punctuator : (k : ℕ) → k ≡ 91 ⊎ k ≡ 93 → (starts_word k ≡ false) × (starts_number k ≡ false) × (is_quote k ≡ false)
+bracket_is_punctuator k (inl e) = rw e (refl, refl, refl)
+bracket_is_punctuator k (inr e) = rw e (refl, refl, refl)
 
-pub taken_bracket : (text now rest : List ℕ) (k : ℕ) (found : Bool) (token : Token) → now ≡ behind_gaps false text → found ≡ begins (λ d. d == k) now → rest ≡ (if found then tail now else now)
-    → found ≡ true → k ≡ 91 ⊎ k ≡ 93 → mark_token k ≡ Some token → Cut text token rest
-taken_bracket text now rest k found token skipped tells left is_here bracket mark =
-    let here : now ≡ k ∷ tail now = begins_this k now (sym tells ∙ is_here) in
-    let behind : rest ≡ tail now = subst (λ (b : Bool). rest ≡ (if b then tail now else now)) is_here left in
-    let odd = bracket_is_mark k bracket in
-    let some : Some (a_token token) ≡ option_map (λ t. a_token t) (mark_token k) = sym (ap (λ (m : Option Token). option_map (λ t. a_token t) m) mark) in
-    let at : next_behind_gaps now ≡ Some (record { next = a_token token; rest = tail now }) =
-    mark_next now (tail now) k here odd.0 odd.1 odd.2 ∙ mark_some (mark_token k) (tail now) (a_token token) some in
+pub taken_bracket : (text now rest : List ℕ) (k : ℕ) (found : Bool) (token : Token) → now ≡ after_gaps false text → found ≡ begins (λ d. d == k) now → rest ≡ (if found then tail now else now)
+    → found ≡ true → k ≡ 91 ⊎ k ≡ 93 → punctuator_token k ≡ Some token → Cut text token rest
+taken_bracket text now rest k found token skipped reports left is_here bracket punctuator =
+    let here : now ≡ k ∷ tail now = begins_this k now (sym reports ∙ is_here) in
+    let following : rest ≡ tail now = subst (λ (b : Bool). rest ≡ (if b then tail now else now)) is_here left in
+    let odd = bracket_is_punctuator k bracket in
+    let some : Some (a_token token) ≡ option_map (λ t. a_token t) (punctuator_token k) = sym (ap (λ (m : Option Token). option_map (λ t. a_token t) m) punctuator) in
+    let at : next_after_gaps now ≡ Some (record { next = a_token token; rest = tail now }) =
+    punctuator_next now (tail now) k here odd.0 odd.1 odd.2 ∙ punctuator_some (punctuator_token k) (tail now) (a_token token) some in
     scanned_cut text (record { next = a_token token; rest = rest })
-    (ap next_behind_gaps (sym skipped) ∙ (at ∙ ap (λ (t : List ℕ). Some (record { next = a_token token; rest = t })) (sym behind)))
+    (ap next_after_gaps (sym skipped) ∙ (at ∙ ap (λ (t : List ℕ). Some (record { next = a_token token; rest = t })) (sym following)))
 
 -- ---- where none stands
 
@@ -45,9 +46,9 @@ is_bracket open_bracket = true
 is_bracket close_bracket = true
 is_bracket t = false
 
-mark_is_bracket : (k : ℕ) (token : Token) → k ≡ 91 ⊎ k ≡ 93 → mark_token k ≡ Some token → true ≡ is_bracket token
-mark_is_bracket k token (inl o) m = let some : Some open_bracket ≡ Some token = sym (ap mark_token o) ∙ m in let same : open_bracket ≡ token = cc some in ap is_bracket same
-mark_is_bracket k token (inr o) m = let some : Some close_bracket ≡ Some token = sym (ap mark_token o) ∙ m in let same : close_bracket ≡ token = cc some in ap is_bracket same
+punctuator_is_bracket : (k : ℕ) (token : Token) → k ≡ 91 ⊎ k ≡ 93 → punctuator_token k ≡ Some token → true ≡ is_bracket token
+punctuator_is_bracket k token (inl o) m = let some : Some open_bracket ≡ Some token = sym (ap punctuator_token o) ∙ m in let same : open_bracket ≡ token = cc some in ap is_bracket same
+punctuator_is_bracket k token (inr o) m = let some : Some close_bracket ≡ Some token = sym (ap punctuator_token o) ∙ m in let same : close_bracket ≡ token = cc some in ap is_bracket same
 
 value_no_bracket : (t f i n : Bool) (word : List ℕ) → is_bracket (if t then boolean true else if f then boolean false else if i then infinity false else if n then nan false else ident word) ≡ false
 value_no_bracket true f i n word = refl
@@ -67,28 +68,28 @@ body_no_bracket minus (is_date first more) = refl
 body_no_bracket true (is_integer whole) = refl
 body_no_bracket false (is_integer whole) = refl
 
-same_bracket : (c k : ℕ) → k ≡ 91 ⊎ k ≡ 93 → (c ≡ 44) ⊎ ((c ≡ 91) ⊎ ((c ≡ 93) ⊎ (c ≡ 61))) → mark_token k ≡ mark_token c → (c == k) ≡ true
-same_bracket c k (inl o) (inl e) m = let clash : Some open_bracket ≡ Some comma = sym (ap mark_token o) ∙ (m ∙ ap mark_token e) in cc clash
+same_bracket : (c k : ℕ) → k ≡ 91 ⊎ k ≡ 93 → (c ≡ 44) ⊎ ((c ≡ 91) ⊎ ((c ≡ 93) ⊎ (c ≡ 61))) → punctuator_token k ≡ punctuator_token c → (c == k) ≡ true
+same_bracket c k (inl o) (inl e) m = let clash : Some open_bracket ≡ Some comma = sym (ap punctuator_token o) ∙ (m ∙ ap punctuator_token e) in cc clash
 same_bracket c k (inl o) (inr (inl e)) m = rw (e, o) refl
-same_bracket c k (inl o) (inr (inr (inl e))) m = let clash : Some open_bracket ≡ Some close_bracket = sym (ap mark_token o) ∙ (m ∙ ap mark_token e) in cc clash
-same_bracket c k (inl o) (inr (inr (inr e))) m = let clash : Some open_bracket ≡ Some equals = sym (ap mark_token o) ∙ (m ∙ ap mark_token e) in cc clash
-same_bracket c k (inr o) (inl e) m = let clash : Some close_bracket ≡ Some comma = sym (ap mark_token o) ∙ (m ∙ ap mark_token e) in cc clash
-same_bracket c k (inr o) (inr (inl e)) m = let clash : Some close_bracket ≡ Some open_bracket = sym (ap mark_token o) ∙ (m ∙ ap mark_token e) in cc clash
+same_bracket c k (inl o) (inr (inr (inl e))) m = let clash : Some open_bracket ≡ Some close_bracket = sym (ap punctuator_token o) ∙ (m ∙ ap punctuator_token e) in cc clash
+same_bracket c k (inl o) (inr (inr (inr e))) m = let clash : Some open_bracket ≡ Some equals = sym (ap punctuator_token o) ∙ (m ∙ ap punctuator_token e) in cc clash
+same_bracket c k (inr o) (inl e) m = let clash : Some close_bracket ≡ Some comma = sym (ap punctuator_token o) ∙ (m ∙ ap punctuator_token e) in cc clash
+same_bracket c k (inr o) (inr (inl e)) m = let clash : Some close_bracket ≡ Some open_bracket = sym (ap punctuator_token o) ∙ (m ∙ ap punctuator_token e) in cc clash
 same_bracket c k (inr o) (inr (inr (inl e))) m = rw (e, o) refl
-same_bracket c k (inr o) (inr (inr (inr e))) m = let clash : Some close_bracket ≡ Some equals = sym (ap mark_token o) ∙ (m ∙ ap mark_token e) in cc clash
+same_bracket c k (inr o) (inr (inr (inr e))) m = let clash : Some close_bracket ≡ Some equals = sym (ap punctuator_token o) ∙ (m ∙ ap punctuator_token e) in cc clash
 
-bracket_begins : (text rest : List ℕ) (k : ℕ) (token : Token) → k ≡ 91 ⊎ k ≡ 93 → mark_token k ≡ Some token → Lexeme text token rest → begins (λ d. d == k) text ≡ true
-bracket_begins text rest k token b mark (a_mark c m split) = ap (begins (λ d. d == k)) split ∙ same_bracket c k b (mark_cases c token m) (mark ∙ sym m)
-bracket_begins text rest k token b mark (a_word word w e split is) = absurd (true≢false (mark_is_bracket k token b mark ∙ (ap is_bracket is ∙ word_no_bracket word)))
-bracket_begins text rest k token b mark (a_string chars s is) = absurd (true≢false (mark_is_bracket k token b mark ∙ ap is_bracket is))
-bracket_begins text rest k token b mark (a_number n) = absurd (true≢false (mark_is_bracket k token b mark ∙ (ap is_bracket n.is ∙ body_no_bracket (is_minus n.sign) n.body)))
+bracket_begins : (text rest : List ℕ) (k : ℕ) (token : Token) → k ≡ 91 ⊎ k ≡ 93 → punctuator_token k ≡ Some token → Lexeme text token rest → begins (λ d. d == k) text ≡ true
+bracket_begins text rest k token b punctuator (a_punctuator c m split) = ap (begins (λ d. d == k)) split ∙ same_bracket c k b (punctuator_cases c token m) (punctuator ∙ sym m)
+bracket_begins text rest k token b punctuator (a_word word w e split is) = absurd (true≢false (punctuator_is_bracket k token b punctuator ∙ (ap is_bracket is ∙ word_no_bracket word)))
+bracket_begins text rest k token b punctuator (a_string chars s is) = absurd (true≢false (punctuator_is_bracket k token b punctuator ∙ ap is_bracket is))
+bracket_begins text rest k token b punctuator (a_number n) = absurd (true≢false (punctuator_is_bracket k token b punctuator ∙ (ap is_bracket n.is ∙ body_no_bracket (is_minus n.sign) n.body)))
 
-pub no_bracket_cut : (text now : List ℕ) (k : ℕ) (token : Token) → now ≡ behind_gaps false text → begins (λ d. d == k) now ≡ false → k ≡ 91 ⊎ k ≡ 93 → mark_token k ≡ Some token
+pub no_bracket_cut : (text now : List ℕ) (k : ℕ) (token : Token) → now ≡ after_gaps false text → begins (λ d. d == k) now ≡ false → k ≡ 91 ⊎ k ≡ 93 → punctuator_token k ≡ Some token
     → (rest : List ℕ) → Cut text token rest → ⊥
-no_bracket_cut text now k token skipped none b mark rest h =
+no_bracket_cut text now k token skipped none b punctuator rest h =
     let from = at_lexeme h.from _ (lexeme_scanned h.from rest token h.lexeme) in
-    let here : now ≡ h.from = skipped ∙ (ap (behind_gaps false) h.split ∙ (gaps_scanned h.gaps h.from h.are_gaps ∙ from.0)) in
-    true≢false (sym (bracket_begins h.from rest k token b mark h.lexeme) ∙ (ap (begins (λ d. d == k)) (sym here) ∙ none))
+    let here : now ≡ h.from = skipped ∙ (ap (after_gaps false) h.split ∙ (gaps_scanned h.gaps h.from h.are_gaps ∙ from.0)) in
+    true≢false (sym (bracket_begins h.from rest k token b punctuator h.lexeme) ∙ (ap (begins (λ d. d == k)) (sym here) ∙ none))
 
 -- ---- where a name was looked for, and then an opening bracket
 
@@ -98,8 +99,8 @@ pub record NoOpening (text now : List ℕ) : Type 0 where
   pub no_bracket : (rest : List ℕ) → Cut text open_bracket rest → ⊥
 
 pub NoOpening-from : (text here now : List ℕ) → NoName text here → now ≡ here → ((rest : List ℕ) → Cut here open_bracket rest → ⊥) → NoOpening text now
-NoOpening-from text here now looked kept none = record {
-  no_name = record { same = kept ∙ looked.same; none = looked.none };
+NoOpening-from text here now looked unchanged none = record {
+  no_name = record { same = unchanged ∙ looked.same; none = looked.none };
   no_bracket = subst (λ (t : List ℕ). (rest : List ℕ) → Cut t open_bracket rest → ⊥) looked.same none;
 }
 

@@ -24,15 +24,15 @@ until_element-none (pair name d ∷ xs) n = ap (λ ys. pair name d ∷ ys) (unti
 until_element-none (scope name ∷ xs) n = ap (λ ys. scope name ∷ ys) (until_element-none xs n)
 until_element-none (element key ∷ xs) n = absurd n
 
-until_element-stops : (xs behind : List Statement) (key : List ℕ) → until_element (xs ++ element key ∷ behind) ≡ until_element xs
-until_element-stops [] behind key = refl
-until_element-stops (pair name d ∷ xs) behind key = ap (λ ys. pair name d ∷ ys) (until_element-stops xs behind key)
-until_element-stops (scope name ∷ xs) behind key = ap (λ ys. scope name ∷ ys) (until_element-stops xs behind key)
-until_element-stops (element other ∷ xs) behind key = refl
+until_element-stops : (xs following : List Statement) (key : List ℕ) → until_element (xs ++ element key ∷ following) ≡ until_element xs
+until_element-stops [] following key = refl
+until_element-stops (pair name d ∷ xs) following key = ap (λ ys. pair name d ∷ ys) (until_element-stops xs following key)
+until_element-stops (scope name ∷ xs) following key = ap (λ ys. scope name ∷ ys) (until_element-stops xs following key)
+until_element-stops (element other ∷ xs) following key = refl
 
 -- what stands from a header on is not in the root
-pub root_pairs-element : (before behind : List Statement) (key : List ℕ) → root_pairs (before ++ element key ∷ behind) ≡ root_pairs before
-root_pairs-element before behind key = ap (pairs []) (until_element-stops before behind key)
+pub root_pairs-element : (before following : List Statement) (key : List ℕ) → root_pairs (before ++ element key ∷ following) ≡ root_pairs before
+root_pairs-element before following key = ap (pairs []) (until_element-stops before following key)
 
 NoElement-append : (xs ys : List Statement) → NoElement xs → NoElement ys → NoElement (xs ++ ys)
 NoElement-append [] ys n m = m
@@ -50,23 +50,23 @@ cond-append : {A : Type 0} (b : Bool) (x : A) (xs ys : List A) → cond b (x ∷
 cond-append true x xs ys = refl
 cond-append false x xs ys = refl
 
-element_pairs-append : (key : List ℕ) (before xs behind : List Statement) (name : List ℕ)
-    → element_pairs key before (xs ++ element name ∷ behind) ≡ element_pairs key before xs ++ element_pairs key (before ++ xs) (element name ∷ behind)
-element_pairs-append key before [] behind name = ap (λ b. element_pairs key b (element name ∷ behind)) (sym (append-nil before))
-element_pairs-append key before (pair n d ∷ xs) behind name =
-    element_pairs-append key (before ++ pair n d ∷ []) xs behind name
-    ∙ ap (λ b. element_pairs key (before ++ pair n d ∷ []) xs ++ element_pairs key b (element name ∷ behind)) (append_assoc before (pair n d ∷ []) xs)
-element_pairs-append key before (scope n ∷ xs) behind name =
-    element_pairs-append key (before ++ scope n ∷ []) xs behind name
-    ∙ ap (λ b. element_pairs key (before ++ scope n ∷ []) xs ++ element_pairs key b (element name ∷ behind)) (append_assoc before (scope n ∷ []) xs)
-element_pairs-append key before (element n ∷ xs) behind name =
+element_pairs-append : (key : List ℕ) (before xs following : List Statement) (name : List ℕ)
+    → element_pairs key before (xs ++ element name ∷ following) ≡ element_pairs key before xs ++ element_pairs key (before ++ xs) (element name ∷ following)
+element_pairs-append key before [] following name = ap (λ b. element_pairs key b (element name ∷ following)) (sym (append-nil before))
+element_pairs-append key before (pair n d ∷ xs) following name =
+    element_pairs-append key (before ++ pair n d ∷ []) xs following name
+    ∙ ap (λ b. element_pairs key (before ++ pair n d ∷ []) xs ++ element_pairs key b (element name ∷ following)) (append_assoc before (pair n d ∷ []) xs)
+element_pairs-append key before (scope n ∷ xs) following name =
+    element_pairs-append key (before ++ scope n ∷ []) xs following name
+    ∙ ap (λ b. element_pairs key (before ++ scope n ∷ []) xs ++ element_pairs key b (element name ∷ following)) (append_assoc before (scope n ∷ []) xs)
+element_pairs-append key before (element n ∷ xs) following name =
     let now = before ++ element n ∷ [] in
     let more =
-    element_pairs-append key now xs behind name
-    ∙ ap (λ b. element_pairs key now xs ++ element_pairs key b (element name ∷ behind)) (append_assoc before (element n ∷ []) xs) in
-    ap (λ ss. cond (bytes_eq key n) (pairs now ss ∷ element_pairs key now (xs ++ element name ∷ behind)) (element_pairs key now (xs ++ element name ∷ behind))) (until_element-stops xs behind name)
+    element_pairs-append key now xs following name
+    ∙ ap (λ b. element_pairs key now xs ++ element_pairs key b (element name ∷ following)) (append_assoc before (element n ∷ []) xs) in
+    ap (λ ss. cond (bytes_eq key n) (pairs now ss ∷ element_pairs key now (xs ++ element name ∷ following)) (element_pairs key now (xs ++ element name ∷ following))) (until_element-stops xs following name)
     ∙ (ap (λ es. cond (bytes_eq key n) (pairs now (until_element xs) ∷ es) es) more
-    ∙ cond-append (bytes_eq key n) (pairs now (until_element xs)) (element_pairs key now xs) (element_pairs key (before ++ element n ∷ xs) (element name ∷ behind)))
+    ∙ cond-append (bytes_eq key n) (pairs now (until_element xs)) (element_pairs key now xs) (element_pairs key (before ++ element n ∷ xs) (element name ∷ following)))
 
 -- ---- scopes
 
@@ -130,15 +130,15 @@ NoneNamed-none (pair name d ∷ xs) ps n = NoneNamed-none xs ps n
 NoneNamed-none (scope name ∷ xs) ps n = NoneNamed-none xs ps n
 NoneNamed-none (element key ∷ xs) ps n = absurd n
 
-NoneNamed-at : (xs behind : List Statement) (key : List ℕ) (ps : List Pair) → NoneNamed (xs ++ element key ∷ behind) ps → last_value key ps ≡ None
-NoneNamed-at [] behind key ps n = n.0
-NoneNamed-at (element name ∷ xs) behind key ps n = NoneNamed-at xs behind key ps n.1
-NoneNamed-at (scope name ∷ xs) behind key ps n = NoneNamed-at xs behind key ps n
-NoneNamed-at (pair name d ∷ xs) behind key ps n = NoneNamed-at xs behind key ps n
+NoneNamed-at : (xs following : List Statement) (key : List ℕ) (ps : List Pair) → NoneNamed (xs ++ element key ∷ following) ps → last_value key ps ≡ None
+NoneNamed-at [] following key ps n = n.0
+NoneNamed-at (element name ∷ xs) following key ps n = NoneNamed-at xs following key ps n.1
+NoneNamed-at (scope name ∷ xs) following key ps n = NoneNamed-at xs following key ps n
+NoneNamed-at (pair name d ∷ xs) following key ps n = NoneNamed-at xs following key ps n
 
 pub IsLawful-from : (ss : List Statement) → NoneNamed ss (root_pairs ss) → IsLawful ss
-IsLawful-from ss n before behind key e =
-    NoneNamed-at before behind key (root_pairs ss) (subst (λ (us : List Statement). NoneNamed us (root_pairs ss)) e n)
+IsLawful-from ss n before following key e =
+    NoneNamed-at before following key (root_pairs ss) (subst (λ (us : List Statement). NoneNamed us (root_pairs ss)) e n)
 
 -- ---- one statement further
 
@@ -176,12 +176,12 @@ pushed_there [] last found ps table none is has = (more_tables table no_tables, 
 pushed_there (qs ∷ pss) last found ps table none (ts, have, e) has = (push ts table, HaveLast-push (qs ∷ pss) ts ps table have has, ap (λ o. Some (pushed o table)) e)
 
 -- what one element adds at a key
-one_element : (key name : List ℕ) (before behind : List Statement) → NoElement behind
-    → element_pairs key before (element name ∷ behind) ≡ cond (bytes_eq key name) (pairs (before ++ element name ∷ []) behind ∷ []) []
-one_element key name before behind none =
+one_element : (key name : List ℕ) (before following : List Statement) → NoElement following
+    → element_pairs key before (element name ∷ following) ≡ cond (bytes_eq key name) (pairs (before ++ element name ∷ []) following ∷ []) []
+one_element key name before following none =
     let now = before ++ element name ∷ [] in
-    ap (λ ss. cond (bytes_eq key name) (pairs now ss ∷ element_pairs key now behind) (element_pairs key now behind)) (until_element-none behind none)
-    ∙ ap (λ es. cond (bytes_eq key name) (pairs now behind ∷ es) es) (element_pairs-none key now behind none)
+    ap (λ ss. cond (bytes_eq key name) (pairs now ss ∷ element_pairs key now following) (element_pairs key now following)) (until_element-none following none)
+    ∙ ap (λ es. cond (bytes_eq key name) (pairs now following ∷ es) es) (element_pairs-none key now following none)
 
 at_element : (b : Bool) (key name : List ℕ) (pss : List (List Pair)) (ps : List Pair) (last : Option Data) (old new table : Table) → bytes_eq key name ≡ b → (bytes_eq key name ≡ true → last ≡ None)
     → IsFound pss last (at key old) → HasLast ps table → at key new ≡ cond b (Some (pushed (at name old) table)) (at key old) → IsFound (pss ++ cond b (ps ∷ []) []) last (at key new)
@@ -192,13 +192,13 @@ at_element false key name pss ps last old new table is none found has puts =
     subst (λ (o : Option Data). IsFound (pss ++ []) last o) (sym puts) (subst (λ (xs : List (List Pair)). IsFound xs last (at key old)) (sym (append-nil pss)) found)
 
 -- the table of an element, at the end of its Array
-pub IsTableOf-element : (before behind : List Statement) (name : List ℕ) (old new table : Table) → NoElement behind → IsTableOf before old → HasLast (pairs (before ++ element name ∷ []) behind) table
-    → last_value name (root_pairs before) ≡ None → Puts old name (pushed (at name old) table) new → IsTableOf (before ++ element name ∷ behind) new
-IsTableOf-element before behind name old new table none is has free puts key =
-    let ps = pairs (before ++ element name ∷ []) behind in
-    let elements : element_pairs key [] (before ++ element name ∷ behind) ≡ element_pairs key [] before ++ cond (bytes_eq key name) (ps ∷ []) [] =
-    element_pairs-append key [] before behind name ∙ ap (λ es. element_pairs key [] before ++ es) (one_element key name before behind none) in
-    rw (elements, root_pairs-element before behind name)
+pub IsTableOf-element : (before following : List Statement) (name : List ℕ) (old new table : Table) → NoElement following → IsTableOf before old → HasLast (pairs (before ++ element name ∷ []) following) table
+    → last_value name (root_pairs before) ≡ None → Puts old name (pushed (at name old) table) new → IsTableOf (before ++ element name ∷ following) new
+IsTableOf-element before following name old new table none is has free puts key =
+    let ps = pairs (before ++ element name ∷ []) following in
+    let elements : element_pairs key [] (before ++ element name ∷ following) ≡ element_pairs key [] before ++ cond (bytes_eq key name) (ps ∷ []) [] =
+    element_pairs-append key [] before following name ∙ ap (λ es. element_pairs key [] before ++ es) (one_element key name before following none) in
+    rw (elements, root_pairs-element before following name)
     (at_element (bytes_eq key name) key name (element_pairs key [] before) ps (last_value key (root_pairs before)) old new table refl
     (λ b. ap (λ (k : List ℕ). last_value k (root_pairs before)) ((bytes_eq-Decides key name).0 b) ∙ free) (is key) has (puts key))
 
@@ -296,21 +296,21 @@ NoneNamed-scope done name n = rw (root_pairs-scope done name) (NoneNamed-append 
 pub NoneNamed-element : (done : List Statement) (key : List ℕ) → NoneNamed done (root_pairs done) → last_value key (root_pairs done) ≡ None → NoneNamed (done ++ element key ∷ []) (root_pairs (done ++ element key ∷ []))
 NoneNamed-element done key n free = rw (root_pairs-element done [] key) (NoneNamed-append done (element key ∷ []) (root_pairs done) n (free, tt))
 
--- the statements, where one more stands behind the last header
-behind_header : (done before behind : List Statement) (key : List ℕ) (s : Statement) → done ≡ before ++ element key ∷ behind → done ++ s ∷ [] ≡ before ++ element key ∷ (behind ++ s ∷ [])
-behind_header done before behind key s e = ap (λ ss. ss ++ s ∷ []) e ∙ append_assoc before (element key ∷ behind) (s ∷ [])
+-- the statements, where one more comes after the last header
+after_header : (done before following : List Statement) (key : List ℕ) (s : Statement) → done ≡ before ++ element key ∷ following → done ++ s ∷ [] ≡ before ++ element key ∷ (following ++ s ∷ [])
+after_header done before following key s e = ap (λ ss. ss ++ s ∷ []) e ∙ append_assoc before (element key ∷ following) (s ∷ [])
 
-root_pairs-behind : (done before behind : List Statement) (key : List ℕ) (s : Statement) → done ≡ before ++ element key ∷ behind → root_pairs (done ++ s ∷ []) ≡ root_pairs done
-root_pairs-behind done before behind key s e =
-    ap root_pairs (behind_header done before behind key s e)
-    ∙ (root_pairs-element before (behind ++ s ∷ []) key ∙ (sym (root_pairs-element before behind key) ∙ ap root_pairs (sym e)))
+root_pairs-following : (done before following : List Statement) (key : List ℕ) (s : Statement) → done ≡ before ++ element key ∷ following → root_pairs (done ++ s ∷ []) ≡ root_pairs done
+root_pairs-following done before following key s e =
+    ap root_pairs (after_header done before following key s e)
+    ∙ (root_pairs-element before (following ++ s ∷ []) key ∙ (sym (root_pairs-element before following key) ∙ ap root_pairs (sym e)))
 
 pub NoneNamed-pair : (done : List Statement) (root : Table) (key : Option (List ℕ)) (table : Table) (name : List ℕ) (d : Data) → Stands done root key table → NoneNamed done (root_pairs done)
     → NoneNamed (done ++ pair name d ∷ []) (root_pairs (done ++ pair name d ∷ []))
 NoneNamed-pair done root None table name d (none, is, empty) n =
     NoneNamed-none (done ++ pair name d ∷ []) (root_pairs (done ++ pair name d ∷ [])) (NoElement-append done (pair name d ∷ []) none tt)
-NoneNamed-pair done root (Some key) table name d (before, behind, e, none, is, has) n =
-    rw (root_pairs-behind done before behind key (pair name d) e) (NoneNamed-append done (pair name d ∷ []) (root_pairs done) n tt)
+NoneNamed-pair done root (Some key) table name d (before, following, e, none, is, has) n =
+    rw (root_pairs-following done before following key (pair name d) e) (NoneNamed-append done (pair name d ∷ []) (root_pairs done) n tt)
 
 scope_table : (done : List Statement) (root : Table) (name : List ℕ) → NoElement done → IsTableOf done root → IsTableOf (done ++ scope name ∷ []) root
 scope_table done root name none is key =
@@ -321,14 +321,14 @@ scope_table done root name none is key =
 pub Stands-scope : (done : List Statement) (root : Table) (key : Option (List ℕ)) (table : Table) (name : List ℕ) → Stands done root key table → Stands (done ++ scope name ∷ []) root key table
 Stands-scope done root None table name (none, is, empty) =
     (NoElement-append done (scope name ∷ []) none tt, scope_table done root name none is, empty)
-Stands-scope done root (Some key) table name (before, behind, e, none, is, has) = (
+Stands-scope done root (Some key) table name (before, following, e, none, is, has) = (
   before,
-  behind ++ scope name ∷ [],
-  behind_header done before behind key (scope name) e,
-  NoElement-append behind (scope name ∷ []) none tt,
+  following ++ scope name ∷ [],
+  after_header done before following key (scope name) e,
+  NoElement-append following (scope name ∷ []) none tt,
   is,
   subst (λ (ps : List Pair). HasLast ps table)
-      (sym (pairs-append (before ++ element key ∷ []) behind (scope name ∷ []) ∙ append-nil (pairs (before ++ element key ∷ []) behind))) has,
+      (sym (pairs-append (before ++ element key ∷ []) following (scope name ∷ []) ∙ append-nil (pairs (before ++ element key ∷ []) following))) has,
 )
 
 -- a pair of the root
@@ -340,33 +340,33 @@ Stands-root_pair done old new table name d (none, is, empty) puts =
 -- a pair of an element
 pub Stands-element_pair : (done : List Statement) (root old new : Table) (key name : List ℕ) (d : Data) → Stands done root (Some key) old → Puts old (full_key (scope_of done) name) d new
     → Stands (done ++ pair name d ∷ []) root (Some key) new
-Stands-element_pair done root old new key name d (before, behind, e, none, is, has) puts =
+Stands-element_pair done root old new key name d (before, following, e, none, is, has) puts =
     let now = before ++ element key ∷ [] in
-    let whole : now ++ behind ≡ done = append_assoc before (element key ∷ []) behind ∙ sym e in
-    let last = HasLast-push (pairs now behind) old new (full_key (scope_of done) name) d has puts in (
+    let whole : now ++ following ≡ done = append_assoc before (element key ∷ []) following ∙ sym e in
+    let last = HasLast-push (pairs now following) old new (full_key (scope_of done) name) d has puts in (
       before,
-      behind ++ pair name d ∷ [],
-      behind_header done before behind key (pair name d) e,
-      NoElement-append behind (pair name d ∷ []) none tt,
+      following ++ pair name d ∷ [],
+      after_header done before following key (pair name d) e,
+      NoElement-append following (pair name d ∷ []) none tt,
       is,
       subst (λ (ps : List Pair). HasLast ps new)
-          (ap (λ (ss : List Statement). pairs now behind ++ (full_key (scope_of ss) name, d) ∷ []) (sym whole) ∙ sym (pairs-append now behind (pair name d ∷ []))) last,
+          (ap (λ (ss : List Statement). pairs now following ++ (full_key (scope_of ss) name, d) ∷ []) (sym whole) ∙ sym (pairs-append now following (pair name d ∷ []))) last,
     )
 
 -- a new element
 pub Stands-element : (done : List Statement) (root table : Table) (key : List ℕ) → IsTableOf done root → table ≡ no_pairs → Stands (done ++ element key ∷ []) root (Some key) table
 Stands-element done root table key is empty = (done, [], refl, tt, is, λ k. ap (at k) empty)
 
-free_before : (done before behind : List Statement) (key : List ℕ) → done ≡ before ++ element key ∷ behind → NoneNamed done (root_pairs done) → last_value key (root_pairs before) ≡ None
-free_before done before behind key e n =
-    ap (last_value key) (sym (ap root_pairs e ∙ root_pairs-element before behind key))
-    ∙ NoneNamed-at before behind key (root_pairs done) (subst (λ (ss : List Statement). NoneNamed ss (root_pairs done)) e n)
+free_before : (done before following : List Statement) (key : List ℕ) → done ≡ before ++ element key ∷ following → NoneNamed done (root_pairs done) → last_value key (root_pairs before) ≡ None
+free_before done before following key e n =
+    ap (last_value key) (sym (ap root_pairs e ∙ root_pairs-element before following key))
+    ∙ NoneNamed-at before following key (root_pairs done) (subst (λ (ss : List Statement). NoneNamed ss (root_pairs done)) e n)
 
 -- the last element's table can be pushed
 pub Stands-can_push : (done : List Statement) (root table : Table) (key : List ℕ) → Stands done root (Some key) table → NoneNamed done (root_pairs done) → CanPush (at key root)
-Stands-can_push done root table key (before, behind, e, none, is, has) n = can_push before key root is (free_before done before behind key e n)
+Stands-can_push done root table key (before, following, e, none, is, has) n = can_push before key root is (free_before done before following key e n)
 
 -- and then the root is the table of all the statements
 pub Stands-whole : (done : List Statement) (old new table : Table) (key : List ℕ) → Stands done old (Some key) table → NoneNamed done (root_pairs done) → Puts old key (pushed (at key old) table) new → IsTableOf done new
-Stands-whole done old new table key (before, behind, e, none, is, has) n puts =
-    subst (λ (ss : List Statement). IsTableOf ss new) (sym e) (IsTableOf-element before behind key old new table none is has (free_before done before behind key e n) puts)
+Stands-whole done old new table key (before, following, e, none, is, has) n puts =
+    subst (λ (ss : List Statement). IsTableOf ss new) (sym e) (IsTableOf-element before following key old new table none is has (free_before done before following key e n) puts)

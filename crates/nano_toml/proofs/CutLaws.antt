@@ -4,7 +4,8 @@ use Rattle.nano_toml.specs.Token.{Token}
 use Rattle.nano_toml.specs.Taken.{Next, a_token, the_end, Took}
 use Rattle.nano_toml.specs.Skipped.{last_comment_text, IsLastComment}
 use Rattle.nano_toml.specs.Cut.{Cut, CutEnd, CutsNothing, IsCutInOneWay}
-use Rattle.nano_toml.specs.Scan.{Taken, taken, behind_gaps, lexeme_at, next_behind_gaps, next_at}
+use Rattle.nano_toml.specs.Scan.{Taken, taken, after_gaps}
+use Rattle.nano_toml.specs.ScanLaws.{lexeme_at, next_after_gaps, next_at}
 use Rattle.nano_toml.proofs.Gaps.{gaps_stop}
 use Rattle.nano_toml.proofs.GapCut.{gaps_scanned, last_comment_scanned, Skips, to_rest, to_end, skips}
 use Rattle.nano_toml.proofs.LexemeCut.{lexeme_scanned, scanned_lexeme, lexeme_no_gap}
@@ -12,37 +13,37 @@ use Rattle.nano_toml.proofs.NumberCut.{same_taken}
 
 -- ---- what is cut is scanned
 
-pub at_lexeme : (from : List ℕ) (got : Taken) → lexeme_at from ≡ Some got → (behind_gaps false from ≡ from) × (next_behind_gaps from ≡ Some got)
+pub at_lexeme : (from : List ℕ) (got : Taken) → lexeme_at from ≡ Some got → (after_gaps false from ≡ from) × (next_after_gaps from ≡ Some got)
 at_lexeme [] got h = cc h
 at_lexeme (c ∷ cs) got h = let n = lexeme_no_gap c cs got h in (gaps_stop (c ∷ cs) n.0 n.1, h)
 
 pub cut_scanned : (text rest : List ℕ) (token : Token) → Cut text token rest → next_at text ≡ taken token rest
 cut_scanned text rest token h =
     let l = at_lexeme h.from _ (lexeme_scanned h.from rest token h.lexeme) in
-    ap (λ (t : List ℕ). next_at t) h.split ∙ (ap next_behind_gaps (gaps_scanned h.gaps h.from h.are_gaps ∙ l.0) ∙ l.1)
+    ap (λ (t : List ℕ). next_at t) h.split ∙ (ap next_after_gaps (gaps_scanned h.gaps h.from h.are_gaps ∙ l.0) ∙ l.1)
 
-last_scanned : (last : Option (List ℕ)) → IsLastComment last → behind_gaps false (last_comment_text last) ≡ []
+last_scanned : (last : Option (List ℕ)) → IsLastComment last → after_gaps false (last_comment_text last) ≡ []
 last_scanned None h = refl
 last_scanned (Some body) h = last_comment_scanned body h
 
 pub end_scanned : (text : List ℕ) → CutEnd text → next_at text ≡ Some (record { next = the_end; rest = [] })
-end_scanned text h = ap next_behind_gaps (ap (behind_gaps false) h.split ∙ (gaps_scanned h.gaps (last_comment_text h.last) h.are_gaps ∙ last_scanned h.last h.is_last))
+end_scanned text h = ap next_after_gaps (ap (after_gaps false) h.split ∙ (gaps_scanned h.gaps (last_comment_text h.last) h.are_gaps ∙ last_scanned h.last h.is_last))
 
 -- ---- what is scanned is cut
 
 took_end : (text : List ℕ) (got : Taken) → CutEnd text → Some (record { next = the_end; rest = [] }) ≡ Some got → Took text got.next got.rest
 took_end text got e h = let same : record { next = the_end; rest = [] } ≡ got = same_taken h in subst (λ (x : Taken). Took text x.next x.rest) same (e, refl)
 
-took_skipped : (text rest : List ℕ) (got : Taken) → Skips text rest → next_behind_gaps rest ≡ Some got → Took text got.next got.rest
+took_skipped : (text rest : List ℕ) (got : Taken) → Skips text rest → next_after_gaps rest ≡ Some got → Took text got.next got.rest
 took_skipped text [] got (to_rest gaps are split) h = took_end text got (record { gaps = gaps; last = None; are_gaps = are; is_last = tt; split = split }) h
 took_skipped text (c ∷ cs) got (to_rest gaps are split) h =
     let l = scanned_lexeme c cs got h in
     subst (λ (n : Next). Took text n got.rest) (sym l.1) (record { gaps = gaps; from = c ∷ cs; are_gaps = are; lexeme = l.2; split = split })
 took_skipped text rest got (to_end gaps body are none split nothing) h =
-    took_end text got (record { gaps = gaps; last = Some body; are_gaps = are; is_last = none; split = split }) (ap next_behind_gaps (sym nothing) ∙ h)
+    took_end text got (record { gaps = gaps; last = Some body; are_gaps = are; is_last = none; split = split }) (ap next_after_gaps (sym nothing) ∙ h)
 
 pub scanned_cut : (text : List ℕ) (got : Taken) → next_at text ≡ Some got → Took text got.next got.rest
-scanned_cut text got h = took_skipped text (behind_gaps false text) got (skips text) h
+scanned_cut text got h = took_skipped text (after_gaps false text) got (skips text) h
 
 pub scanned_nothing : (text : List ℕ) → next_at text ≡ None → CutsNothing text
 scanned_nothing text h = (

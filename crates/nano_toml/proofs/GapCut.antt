@@ -3,27 +3,27 @@ use Rattle.std.proofs.Common.{◌≡◌, ℕ, List, [], ◌∷◌, ◌++◌, Boo
 use Rattle.std.proofs.lemmas.Bool.Decides.{eqb_tells}
 use Rattle.nano_toml.specs.Characters.{is_space, is_line_feed, NoneOf}
 use Rattle.nano_toml.specs.Skipped.{Gap, space, comment, gaps_text, AreGaps}
-use Rattle.nano_toml.specs.Scan.{behind_gaps}
+use Rattle.nano_toml.specs.Scan.{after_gaps}
 
 -- ---- what is skipped is scanned
 
-comment_scanned : (body rest : List ℕ) → NoneOf is_line_feed body → behind_gaps true (body ++ 10 ∷ rest) ≡ behind_gaps false rest
+comment_scanned : (body rest : List ℕ) → NoneOf is_line_feed body → after_gaps true (body ++ 10 ∷ rest) ≡ after_gaps false rest
 comment_scanned [] rest h = refl
 comment_scanned (c ∷ cs) rest h = rw h.0 (comment_scanned cs rest h.1)
 
-pub last_comment_scanned : (body : List ℕ) → NoneOf is_line_feed body → behind_gaps true body ≡ []
+pub last_comment_scanned : (body : List ℕ) → NoneOf is_line_feed body → after_gaps true body ≡ []
 last_comment_scanned [] h = refl
 last_comment_scanned (c ∷ cs) h = rw h.0 (last_comment_scanned cs h.1)
 
 space_no_comment : (c : ℕ) → is_space c ≡ true → eqb c 35 ≡ false
 space_no_comment c h = elim (eqb_tells c 35) [ inl e ↦ absurd (true≢false (sym h ∙ ap is_space e.1)) | inr e ↦ e.0 ]
 
-pub gaps_scanned : (gaps : List Gap) (rest : List ℕ) → AreGaps gaps → behind_gaps false (gaps_text gaps ++ rest) ≡ behind_gaps false rest
+pub gaps_scanned : (gaps : List Gap) (rest : List ℕ) → AreGaps gaps → after_gaps false (gaps_text gaps ++ rest) ≡ after_gaps false rest
 gaps_scanned [] rest h = refl
 gaps_scanned (space c ∷ gaps) rest h = rw (space_no_comment c h.0, h.0) (gaps_scanned gaps rest h.1)
 gaps_scanned (comment body ∷ gaps) rest h =
     let text : ((body ++ 10 ∷ []) ++ gaps_text gaps) ++ rest ≡ body ++ 10 ∷ (gaps_text gaps ++ rest) = simp append_assoc in
-    ap (behind_gaps true) text ∙ (comment_scanned body (gaps_text gaps ++ rest) h.0 ∙ gaps_scanned gaps rest h.1)
+    ap (after_gaps true) text ∙ (comment_scanned body (gaps_text gaps ++ rest) h.0 ∙ gaps_scanned gaps rest h.1)
 
 -- ---- what is scanned is skipped
 
@@ -56,19 +56,19 @@ more_comment c cs rest h (by_feed body more none split s) = by_feed (c ∷ body)
 more_comment c cs rest h (by_end none nothing) = by_end (h, none) nothing
 
 mutual
-  pub skips : (text : List ℕ) → Skips text (behind_gaps false text)
+  pub skips : (text : List ℕ) → Skips text (after_gaps false text)
   skips [] = to_rest [] tt refl
   skips (c ∷ cs) = elim (eqb_tells c 35) [
-    | inl e ↦ rw e.0 (open_comment c cs (behind_gaps true cs) e.1 (ends_comment cs))
-    | inr e ↦ rw e.0 (elim (is_space c) as (λ (b : Bool). is_space c ≡ b → Skips (c ∷ cs) (cond b (behind_gaps false cs) (c ∷ cs))) [
-      | true ↦ λ h. add_space c cs (behind_gaps false cs) h (skips cs)
+    | inl e ↦ rw e.0 (open_comment c cs (after_gaps true cs) e.1 (ends_comment cs))
+    | inr e ↦ rw e.0 (elim (is_space c) as (λ (b : Bool). is_space c ≡ b → Skips (c ∷ cs) (cond b (after_gaps false cs) (c ∷ cs))) [
+      | true ↦ λ h. add_space c cs (after_gaps false cs) h (skips cs)
       | false ↦ λ h. to_rest [] tt refl
     ] refl)
   ]
 
-  ends_comment : (text : List ℕ) → EndsComment text (behind_gaps true text)
+  ends_comment : (text : List ℕ) → EndsComment text (after_gaps true text)
   ends_comment [] = by_end tt refl
   ends_comment (c ∷ cs) = elim (eqb_tells c 10) [
     | inl e ↦ rw e.0 (by_feed [] cs tt (ap (λ (d : ℕ). d ∷ cs) e.1) (skips cs))
-    | inr e ↦ rw e.0 (more_comment c cs (behind_gaps true cs) e.0 (ends_comment cs))
+    | inr e ↦ rw e.0 (more_comment c cs (after_gaps true cs) e.0 (ends_comment cs))
   ]

@@ -2,34 +2,34 @@
 use Rattle.std.proofs.Common.{◌≡◌, ℕ, ◌<◌, List, [], ◌∷◌, length, true, false, not, eqb, eqb-true, refl, ap, sym, ◌∙◌, inl, inr, true≢false, arith}
 use Rattle.std.proofs.lemmas.Bool.Decides.{eqb_tells}
 use Rattle.nano_toml.specs.Characters.{is_space, is_line_feed}
-use Rattle.nano_toml.specs.Span.{begins, behind}
-use Rattle.nano_toml.specs.Scan.{behind_gaps}
-use Rattle.nano_toml.proofs.Spans.{behind_not_longer}
+use Rattle.nano_toml.specs.Span.{begins, following}
+use Rattle.nano_toml.specs.Scan.{after_gaps}
+use Rattle.nano_toml.proofs.Spans.{after_not_longer}
 
-at_feed : (c : ℕ) (cs : List ℕ) → c ≡ 10 → behind_gaps true (c ∷ cs) ≡ behind_gaps false (behind (λ d. not (is_line_feed d)) (c ∷ cs))
+at_feed : (c : ℕ) (cs : List ℕ) → c ≡ 10 → after_gaps true (c ∷ cs) ≡ after_gaps false (following (λ d. not (is_line_feed d)) (c ∷ cs))
 at_feed c cs e = rw e refl
 
 -- a comment goes up to its line feed, which is white space
-pub comment_gaps : (text : List ℕ) → behind_gaps true text ≡ behind_gaps false (behind (λ c. not (is_line_feed c)) text)
+pub comment_gaps : (text : List ℕ) → after_gaps true text ≡ after_gaps false (following (λ c. not (is_line_feed c)) text)
 comment_gaps [] = refl
 comment_gaps (c ∷ cs) = elim (eqb_tells c 10) [ inl h ↦ at_feed c cs h.1 | inr h ↦ rw h.0 (comment_gaps cs) ]
 
-pub gaps_from_comment : (text : List ℕ) → begins (λ c. eqb c 35) text ≡ true → behind_gaps false text ≡ behind_gaps false (behind (λ c. not (is_line_feed c)) text)
+pub gaps_from_comment : (text : List ℕ) → begins (λ c. eqb c 35) text ≡ true → after_gaps false text ≡ after_gaps false (following (λ c. not (is_line_feed c)) text)
 gaps_from_comment [] h = refl
 gaps_from_comment (c ∷ cs) h = rw (eqb-true c 35 h) (comment_gaps cs)
 
-pub comment_shorter : (text : List ℕ) → begins (λ c. eqb c 35) text ≡ true → length (behind (λ c. not (is_line_feed c)) text) < length text
+pub comment_shorter : (text : List ℕ) → begins (λ c. eqb c 35) text ≡ true → length (following (λ c. not (is_line_feed c)) text) < length text
 comment_shorter [] h = absurd (true≢false (sym h))
-comment_shorter (c ∷ cs) h = rw (eqb-true c 35 h) (omega (arith, behind_not_longer (λ d. not (is_line_feed d)) cs))
+comment_shorter (c ∷ cs) h = rw (eqb-true c 35 h) (omega (arith, after_not_longer (λ d. not (is_line_feed d)) cs))
 
 -- white space is skipped
-pub gaps_at_space : (c : ℕ) (text rest : List ℕ) → text ≡ c ∷ rest → begins (λ d. eqb d 35) text ≡ false → begins is_space text ≡ true → behind_gaps false text ≡ behind_gaps false rest
+pub gaps_at_space : (c : ℕ) (text rest : List ℕ) → text ≡ c ∷ rest → begins (λ d. eqb d 35) text ≡ false → begins is_space text ≡ true → after_gaps false text ≡ after_gaps false rest
 gaps_at_space c text rest t n s =
     let no : eqb c 35 ≡ false = sym (ap (begins (λ d. eqb d 35)) t) ∙ n in
     let yes : is_space c ≡ true = sym (ap (begins is_space) t) ∙ s in
     rw (t, no, yes) refl
 
--- where no gap begins, none is behind
-pub gaps_stop : (text : List ℕ) → begins (λ c. eqb c 35) text ≡ false → begins is_space text ≡ false → behind_gaps false text ≡ text
+-- where no gap begins, there is none to skip
+pub gaps_stop : (text : List ℕ) → begins (λ c. eqb c 35) text ≡ false → begins is_space text ≡ false → after_gaps false text ≡ text
 gaps_stop [] h s = refl
 gaps_stop (c ∷ cs) h s = rw (h, s) refl

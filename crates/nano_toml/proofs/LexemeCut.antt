@@ -2,13 +2,14 @@
 use Rattle.std.proofs.Common.{◌≡◌, ℕ, ◌≤◌, List, [], ◌∷◌, Bool, true, false, ◌==◌, Option, Some, None, option_map, refl, ap, sym, ◌∙◌, subst, inl, inr, ◌⊎◌, arith}
 use Rattle.std.proofs.lemmas.Bool.Decides.{eqb_tells, nat_tests}
 use Rattle.nano_toml.specs.Characters.{is_space, is_quote, is_sign, starts_word, starts_number, is_in_word}
-use Rattle.nano_toml.specs.Span.{begins, front, behind}
+use Rattle.nano_toml.specs.Span.{begins, prefix, following}
 use Rattle.nano_toml.specs.Token.{Token, string}
 use Rattle.nano_toml.specs.Taken.{a_token}
 use Rattle.nano_toml.specs.Word.{word_token}
 use Rattle.nano_toml.specs.Quoted.{IsString, empty, short, triple}
-use Rattle.nano_toml.specs.Cut.{mark_token, Lexeme, a_mark, a_word, a_string, a_number}
-use Rattle.nano_toml.specs.Scan.{Taken, taken, Content, behind_one_quote, number_at, lexeme_at}
+use Rattle.nano_toml.specs.Cut.{punctuator_token, Lexeme, a_punctuator, a_word, a_string, a_number}
+use Rattle.nano_toml.specs.Scan.{Taken, taken, Content, after_one_quote, number_at}
+use Rattle.nano_toml.specs.ScanLaws.{lexeme_at}
 use Rattle.nano_toml.proofs.WordCut.{word_scanned, scanned_word, at_word}
 use Rattle.nano_toml.proofs.StringCut.{string_scanned, scanned_string}
 use Rattle.nano_toml.proofs.NumberCut.{number_scanned, scanned_number, same_taken}
@@ -30,17 +31,17 @@ at_number c cs h = rw (number_no_word c h, h) refl
 abbrev pub string_taken : Option Content → Option Taken
 string_taken content = option_map (λ found. record { next = a_token (string found.bytes); rest = found.rest }) content
 
-abbrev pub mark_taken : Option Token → List ℕ → Option Taken
-mark_taken token rest = option_map (λ found. record { next = a_token found; rest = rest }) token
+abbrev pub punctuator_taken : Option Token → List ℕ → Option Taken
+punctuator_taken token rest = option_map (λ found. record { next = a_token found; rest = rest }) token
 
-pub at_quote : (c : ℕ) (cs : List ℕ) → c ≡ 34 → lexeme_at (c ∷ cs) ≡ string_taken (behind_one_quote cs)
+pub at_quote : (c : ℕ) (cs : List ℕ) → c ≡ 34 → lexeme_at (c ∷ cs) ≡ string_taken (after_one_quote cs)
 at_quote c cs e = rw e refl
 
-pub at_other : (c : ℕ) (cs : List ℕ) → starts_word c ≡ false → starts_number c ≡ false → is_quote c ≡ false → lexeme_at (c ∷ cs) ≡ mark_taken (mark_token c) cs
+pub at_other : (c : ℕ) (cs : List ℕ) → starts_word c ≡ false → starts_number c ≡ false → is_quote c ≡ false → lexeme_at (c ∷ cs) ≡ punctuator_taken (punctuator_token c) cs
 at_other c cs w n q = rw (w, n, q) refl
 
-pub mark_cases : (c : ℕ) (token : Token) → mark_token c ≡ Some token → (c ≡ 44) ⊎ ((c ≡ 91) ⊎ ((c ≡ 93) ⊎ (c ≡ 61)))
-mark_cases c token h = elim (eqb_tells c 44) [
+pub punctuator_cases : (c : ℕ) (token : Token) → punctuator_token c ≡ Some token → (c ≡ 44) ⊎ ((c ≡ 91) ⊎ ((c ≡ 93) ⊎ (c ≡ 61)))
+punctuator_cases c token h = elim (eqb_tells c 44) [
   | inl e ↦ inl e.1
   | inr e ↦
       let h1 = rw e.0 at h in
@@ -63,11 +64,11 @@ mark_cases c token h = elim (eqb_tells c 44) [
 abbrev IsOther : ℕ → Type 0
 IsOther c = (starts_word c ≡ false) × (starts_number c ≡ false) × (is_quote c ≡ false)
 
-mark_other : (c : ℕ) → (c ≡ 44) ⊎ ((c ≡ 91) ⊎ ((c ≡ 93) ⊎ (c ≡ 61))) → IsOther c
-mark_other c (inl e) = rw e (refl, refl, refl)
-mark_other c (inr (inl e)) = rw e (refl, refl, refl)
-mark_other c (inr (inr (inl e))) = rw e (refl, refl, refl)
-mark_other c (inr (inr (inr e))) = rw e (refl, refl, refl)
+punctuator_other : (c : ℕ) → (c ≡ 44) ⊎ ((c ≡ 91) ⊎ ((c ≡ 93) ⊎ (c ≡ 61))) → IsOther c
+punctuator_other c (inl e) = rw e (refl, refl, refl)
+punctuator_other c (inr (inl e)) = rw e (refl, refl, refl)
+punctuator_other c (inr (inr (inl e))) = rw e (refl, refl, refl)
+punctuator_other c (inr (inr (inr e))) = rw e (refl, refl, refl)
 
 -- ---- a lexeme is scanned
 
@@ -81,9 +82,9 @@ number_lexeme [] h = cc h
 number_lexeme (c ∷ cs) h = at_number c cs h
 
 pub lexeme_scanned : (text rest : List ℕ) (token : Token) → Lexeme text token rest → lexeme_at text ≡ taken token rest
-lexeme_scanned text rest token (a_mark c m split) =
-    let other = mark_other c (mark_cases c token m) in
-    ap lexeme_at split ∙ (at_other c rest other.0 other.1 other.2 ∙ ap (λ (t : Option Token). mark_taken t rest) m)
+lexeme_scanned text rest token (a_punctuator c m split) =
+    let other = punctuator_other c (punctuator_cases c token m) in
+    ap lexeme_at split ∙ (at_other c rest other.0 other.1 other.2 ∙ ap (λ (t : Option Token). punctuator_taken t rest) m)
 lexeme_scanned text rest token (a_word word w e split is) = ap lexeme_at split ∙ (word_scanned word rest w e ∙ ap (λ (t : Token). taken t rest) (sym is))
 lexeme_scanned text rest token (a_string chars s is) =
     let q = string_quote text chars rest s in
@@ -100,24 +101,24 @@ lexeme_of text rest token got lexeme h =
     let same : record { next = a_token token; rest = rest } ≡ got = same_taken h in
     (token, ap (λ (x : Taken). x.next) (sym same), subst (λ (x : Taken). Lexeme text token x.rest) same lexeme)
 
-scanned_quote : (cs : List ℕ) (got : Taken) (content : Option Content) → behind_one_quote cs ≡ content → string_taken content ≡ Some got → LexemeAt (34 ∷ cs) got
+scanned_quote : (cs : List ℕ) (got : Taken) (content : Option Content) → after_one_quote cs ≡ content → string_taken content ≡ Some got → LexemeAt (34 ∷ cs) got
 scanned_quote cs got None e h = cc h
 scanned_quote cs got (Some content) e h =
     let s = scanned_string cs content e in
     lexeme_of (34 ∷ cs) content.rest (string content.bytes) got (a_string s.0 s.1 (ap string s.2)) h
 
-scanned_mark : (c : ℕ) (cs : List ℕ) (got : Taken) (token : Option Token) → mark_token c ≡ token → mark_taken token cs ≡ Some got → LexemeAt (c ∷ cs) got
-scanned_mark c cs got None e h = cc h
-scanned_mark c cs got (Some token) e h = lexeme_of (c ∷ cs) cs token got (a_mark c e refl) h
+scanned_punctuator : (c : ℕ) (cs : List ℕ) (got : Taken) (token : Option Token) → punctuator_token c ≡ token → punctuator_taken token cs ≡ Some got → LexemeAt (c ∷ cs) got
+scanned_punctuator c cs got None e h = cc h
+scanned_punctuator c cs got (Some token) e h = lexeme_of (c ∷ cs) cs token got (a_punctuator c e refl) h
 
 scanned_by : (c : ℕ) (cs : List ℕ) (got : Taken) (w n : Bool) → starts_word c ≡ w → starts_number c ≡ n → lexeme_at (c ∷ cs) ≡ Some got → LexemeAt (c ∷ cs) got
-scanned_by c cs got true n w e h = lexeme_of (c ∷ cs) (behind is_in_word (c ∷ cs)) (word_token (front is_in_word (c ∷ cs))) got (scanned_word c cs w) (sym (at_word c cs w) ∙ h)
+scanned_by c cs got true n w e h = lexeme_of (c ∷ cs) (following is_in_word (c ∷ cs)) (word_token (prefix is_in_word (c ∷ cs))) got (scanned_word c cs w) (sym (at_word c cs w) ∙ h)
 scanned_by c cs got false true w n h =
     let r = scanned_number c cs got (is_sign c) refl n (sym (at_number c cs n) ∙ h) in
     (r.0, r.1, a_number r.2)
 scanned_by c cs got false false w n h = elim (eqb_tells c 34) [
-  | inl q ↦ subst (λ (d : ℕ). LexemeAt (d ∷ cs) got) (sym q.1) (scanned_quote cs got (behind_one_quote cs) refl (sym (at_quote c cs q.1) ∙ h))
-  | inr q ↦ scanned_mark c cs got (mark_token c) refl (sym (at_other c cs w n q.0) ∙ h)
+  | inl q ↦ subst (λ (d : ℕ). LexemeAt (d ∷ cs) got) (sym q.1) (scanned_quote cs got (after_one_quote cs) refl (sym (at_quote c cs q.1) ∙ h))
+  | inr q ↦ scanned_punctuator c cs got (punctuator_token c) refl (sym (at_other c cs w n q.0) ∙ h)
 ]
 
 pub scanned_lexeme : (c : ℕ) (cs : List ℕ) (got : Taken) → lexeme_at (c ∷ cs) ≡ Some got → LexemeAt (c ∷ cs) got

@@ -3,12 +3,12 @@ use Rattle.std.proofs.Common.{◌≡◌, ℕ, ◌<◌, ◌≤◌, ◌^◌, List,
 use Rattle.std.proofs.lemmas.Bool.Decides.{eqb_tells, nat_tests}
 use Rattle.std.proofs.Math.Bool.{or-true}
 use Rattle.nano_toml.specs.Characters.{is_sign, is_digit, starts_number, is_in_digits, is_in_date, goes_on_integer, Each}
-use Rattle.nano_toml.specs.Span.{begins, front, behind}
+use Rattle.nano_toml.specs.Span.{begins, prefix, following}
 use Rattle.nano_toml.specs.Token.{Token, signed, decimal, nan, infinity, date}
 use Rattle.nano_toml.specs.Taken.{Next, a_token}
-use Rattle.nano_toml.specs.Number.{Body, is_nan, is_infinity, is_decimal, is_date, is_integer, body_text, digits, value, IsInRange, IsBody, goes_on, kept_sign, integer_token, body_token, sign_text, is_minus, SignFits, IsNumber}
-use Rattle.nano_toml.specs.Scan.{Taken, taken, any_digit, fitting, integer_from, integer_at, decimal_at, date_at, behind_digits, behind_word, behind_sign, number_at}
-use Rattle.nano_toml.proofs.Spans.{front_again, behind_again, span_split, behind_stops, front_passes}
+use Rattle.nano_toml.specs.Number.{Body, is_nan, is_infinity, is_decimal, is_date, is_integer, body_text, digits, value, IsInRange, IsBody, goes_on, unchanged_sign, integer_token, body_token, sign_text, is_minus, SignFits, IsNumber}
+use Rattle.nano_toml.specs.Scan.{Taken, taken, any_digit, fitting, integer_from, integer_at, decimal_at, date_at, after_digits, after_word, after_sign, number_at}
+use Rattle.nano_toml.proofs.Spans.{prefix_again, after_again, span_split, after_stops, prefix_passes}
 use Rattle.nano_toml.proofs.Signs.{at_digits, at_nan, at_infinity, past_sign}
 
 -- ---- digits
@@ -25,13 +25,13 @@ no_digits : (run : List ℕ) → any_digit run ≡ false → digits run ≡ []
 no_digits [] h = refl
 no_digits (c ∷ cs) h = elim (is_digit c) as (λ (b : Bool). b || any_digit cs ≡ false → cond b (c ∷ digits cs) (digits cs) ≡ []) [ true ↦ λ g. cc g | false ↦ λ g. no_digits cs g ] h
 
-some_behind : (a b : List ℕ) → any_digit a ≡ false → 0 < length (digits a ++ digits b) → 0 < length (digits b)
-some_behind a b e h = rw (no_digits a e) at h
+some_after : (a b : List ℕ) → any_digit a ≡ false → 0 < length (digits a ++ digits b) → 0 < length (digits b)
+some_after a b e h = rw (no_digits a e) at h
 
 both_any : (a b : List ℕ) → 0 < length (digits a ++ digits b) → any_digit a || any_digit b ≡ true
 both_any a b h = elim (any_digit a) as (λ (x : Bool). any_digit a ≡ x → x || any_digit b ≡ true) [
   | true ↦ λ e. refl
-  | false ↦ λ e. any_if_some b (some_behind a b e h)
+  | false ↦ λ e. any_if_some b (some_after a b e h)
 ] refl
 
 both_some : (a b : List ℕ) → any_digit a || any_digit b ≡ true → 0 < length (digits a ++ digits b)
@@ -80,7 +80,7 @@ integer_of true true n next h = signed_of n next (nat_lt n (2 ^ 64)) (nat_le n (
 
 -- ---- a body is scanned
 
--- digits and what may stand behind them begin with no letter
+-- digits and what may come after them begin with no letter
 no_letter : (letter d : ℕ) (run rest : List ℕ) → is_in_digits letter ≡ false → (d == letter) ≡ false → Each is_in_digits run → begins (λ c. c == letter) (run ++ d ∷ rest) ≡ false
 no_letter letter d [] rest n e h = e
 no_letter letter d (c ∷ cs) rest n e h = elim (eqb_tells c letter) [ inl s ↦ absurd (true≢false (sym h.0 ∙ (ap is_in_digits s.1 ∙ n))) | inr s ↦ s.0 ]
@@ -107,41 +107,41 @@ stops_digits : (rest : List ℕ) → begins goes_on_integer rest ≡ false → b
 stops_digits [] h = refl
 stops_digits (c ∷ cs) h = goes_on_digits c h
 
-integer_ends : (minus : Bool) (whole rest : List ℕ) → begins goes_on_integer rest ≡ false → behind_digits minus whole rest ≡ integer_at minus whole rest
+integer_ends : (minus : Bool) (whole rest : List ℕ) → begins goes_on_integer rest ≡ false → after_digits minus whole rest ≡ integer_at minus whole rest
 integer_ends minus whole [] h = refl
 integer_ends minus whole (c ∷ cs) h = rw (goes_on_point c h, goes_on_minus c h) refl
 
 decimal_scanned : (minus : Bool) (whole part rest : List ℕ) → IsBody minus (is_decimal whole part) → begins is_in_digits rest ≡ false → decimal_at minus whole (part ++ rest) ≡ taken (body_token minus (is_decimal whole part)) rest
 decimal_scanned minus whole part rest h e =
-    rw (front_again is_in_digits part rest h.1 e, behind_again is_in_digits part rest h.1 e, both_any whole part h.2)
-    (ap (λ (t : List ℕ). taken (decimal t) rest) (append_assoc (kept_sign minus) (digits whole) (46 ∷ digits part)))
+    rw (prefix_again is_in_digits part rest h.1 e, after_again is_in_digits part rest h.1 e, both_any whole part h.2)
+    (ap (λ (t : List ℕ). taken (decimal t) rest) (append_assoc (unchanged_sign minus) (digits whole) (46 ∷ digits part)))
 
 date_scanned : (minus : Bool) (first more rest : List ℕ) → IsBody minus (is_date first more) → begins is_in_date rest ≡ false → date_at minus first (more ++ rest) ≡ taken (body_token minus (is_date first more)) rest
 date_scanned minus first more rest h e =
-    rw (front_again is_in_date more rest h.1 e, behind_again is_in_date more rest h.1 e)
-    (ap (λ (t : List ℕ). taken (date t) rest) (append_assoc (kept_sign minus) (digits first) (45 ∷ more)))
+    rw (prefix_again is_in_date more rest h.1 e, after_again is_in_date more rest h.1 e)
+    (ap (λ (t : List ℕ). taken (date t) rest) (append_assoc (unchanged_sign minus) (digits first) (45 ∷ more)))
 
 -- digits, and a character that stops them
-behind_run : (minus : Bool) (run : List ℕ) (d : ℕ) (rest : List ℕ) → Each is_in_digits run → is_in_digits d ≡ false → (d == 110) ≡ false → (d == 105) ≡ false → behind_sign minus (run ++ d ∷ rest) ≡ behind_digits minus run (d ∷ rest)
-behind_run minus run d rest h e n i =
+after_run : (minus : Bool) (run : List ℕ) (d : ℕ) (rest : List ℕ) → Each is_in_digits run → is_in_digits d ≡ false → (d == 110) ≡ false → (d == 105) ≡ false → after_sign minus (run ++ d ∷ rest) ≡ after_digits minus run (d ∷ rest)
+after_run minus run d rest h e n i =
     at_digits minus (run ++ d ∷ rest) (no_letter 110 d run rest refl n h) (no_letter 105 d run rest refl i h)
-    ∙ (ap (λ (w : List ℕ). behind_digits minus w (behind is_in_digits (run ++ d ∷ rest))) (front_again is_in_digits run (d ∷ rest) h e)
-    ∙ ap (λ (t : List ℕ). behind_digits minus run t) (behind_again is_in_digits run (d ∷ rest) h e))
+    ∙ (ap (λ (w : List ℕ). after_digits minus w (following is_in_digits (run ++ d ∷ rest))) (prefix_again is_in_digits run (d ∷ rest) h e)
+    ∙ ap (λ (t : List ℕ). after_digits minus run t) (after_again is_in_digits run (d ∷ rest) h e))
 
-pub body_scanned : (minus : Bool) (body : Body) (rest : List ℕ) → IsBody minus body → begins (goes_on body) rest ≡ false → behind_sign minus (body_text body ++ rest) ≡ taken (body_token minus body) rest
+pub body_scanned : (minus : Bool) (body : Body) (rest : List ℕ) → IsBody minus body → begins (goes_on body) rest ≡ false → after_sign minus (body_text body ++ rest) ≡ taken (body_token minus body) rest
 body_scanned minus is_nan rest h e = refl
 body_scanned minus is_infinity rest h e = refl
 body_scanned minus (is_decimal whole part) rest h e =
-    ap (λ (t : List ℕ). behind_sign minus t) (append_assoc whole (46 ∷ part) rest)
-    ∙ (behind_run minus whole 46 (part ++ rest) h.0 refl refl refl ∙ decimal_scanned minus whole part rest h e)
+    ap (λ (t : List ℕ). after_sign minus t) (append_assoc whole (46 ∷ part) rest)
+    ∙ (after_run minus whole 46 (part ++ rest) h.0 refl refl refl ∙ decimal_scanned minus whole part rest h e)
 body_scanned minus (is_date first more) rest h e =
-    ap (λ (t : List ℕ). behind_sign minus t) (append_assoc first (45 ∷ more) rest)
-    ∙ (behind_run minus first 45 (more ++ rest) h.0 refl refl refl ∙ date_scanned minus first more rest h e)
+    ap (λ (t : List ℕ). after_sign minus t) (append_assoc first (45 ∷ more) rest)
+    ∙ (after_run minus first 45 (more ++ rest) h.0 refl refl refl ∙ date_scanned minus first more rest h e)
 body_scanned minus (is_integer whole) rest h e =
     let some = has_length whole h.1 in
     at_digits minus (whole ++ rest) (no_letter_alone 110 whole rest refl some h.0) (no_letter_alone 105 whole rest refl some h.0)
-    ∙ (ap (λ (w : List ℕ). behind_digits minus w (behind is_in_digits (whole ++ rest))) (front_again is_in_digits whole rest h.0 (stops_digits rest e))
-    ∙ (ap (λ (t : List ℕ). behind_digits minus whole t) (behind_again is_in_digits whole rest h.0 (stops_digits rest e))
+    ∙ (ap (λ (w : List ℕ). after_digits minus w (following is_in_digits (whole ++ rest))) (prefix_again is_in_digits whole rest h.0 (stops_digits rest e))
+    ∙ (ap (λ (t : List ℕ). after_digits minus whole t) (after_again is_in_digits whole rest h.0 (stops_digits rest e))
     ∙ (integer_ends minus whole rest e
     ∙ (ap (λ (b : Bool). option_map (λ next. record { next = next; rest = rest }) (integer_from minus b (fitting (value whole)))) (any_if_some whole h.1)
     ∙ ap (λ (n : Option Next). option_map (λ next. record { next = next; rest = rest }) n) (integer_in_range minus (value whole) h.2)))))
@@ -162,7 +162,7 @@ pub record BodyAt (minus : Bool) (text : List ℕ) (got : Taken) : Type 0 where
   pub split : text ≡ body_text body ++ got.rest
   pub ends : begins (goes_on body) got.rest ≡ false
 
-word_split : (word text rest : List ℕ) → behind_word word text ≡ Some rest → text ≡ word ++ rest
+word_split : (word text rest : List ℕ) → after_word word text ≡ Some rest → text ≡ word ++ rest
 word_split [] text rest h = cc h
 word_split (w ∷ ws) [] rest h = cc h
 word_split (w ∷ ws) (c ∷ cs) rest h = elim (eqb_tells c w) [
@@ -170,7 +170,7 @@ word_split (w ∷ ws) (c ∷ cs) rest h = elim (eqb_tells c w) [
   | inr e ↦ let none = rw e.0 at h in cc none
 ]
 
-word_taken : (token : Token) (word text : List ℕ) (got : Taken) (o : Option (List ℕ)) → behind_word word text ≡ o → option_map (λ rest. record { next = a_token token; rest = rest }) o ≡ Some got → (got.next ≡ a_token token) × (text ≡ word ++ got.rest)
+word_taken : (token : Token) (word text : List ℕ) (got : Taken) (o : Option (List ℕ)) → after_word word text ≡ o → option_map (λ rest. record { next = a_token token; rest = rest }) o ≡ Some got → (got.next ≡ a_token token) × (text ≡ word ++ got.rest)
 word_taken token word text got None e h = cc h
 word_taken token word text got (Some rest) e h =
     let same : record { next = a_token token; rest = rest } ≡ got = same_taken h in
@@ -190,39 +190,39 @@ integer_taken minus whole rest got (Some next) each e k h =
       ends = ap (λ (x : Taken). begins goes_on_integer x.rest) (sym same) ∙ e;
     }
 
-decimal_taken : (minus : Bool) (whole text : List ℕ) (got : Taken) (b : Bool) → Each is_in_digits whole → any_digit whole || any_digit (front is_in_digits text) ≡ b
-    → cond b (taken (decimal ((kept_sign minus ++ digits whole) ++ (46 ∷ digits (front is_in_digits text)))) (behind is_in_digits text)) None ≡ Some got → BodyAt minus (whole ++ 46 ∷ text) got
+decimal_taken : (minus : Bool) (whole text : List ℕ) (got : Taken) (b : Bool) → Each is_in_digits whole → any_digit whole || any_digit (prefix is_in_digits text) ≡ b
+    → cond b (taken (decimal ((unchanged_sign minus ++ digits whole) ++ (46 ∷ digits (prefix is_in_digits text)))) (following is_in_digits text)) None ≡ Some got → BodyAt minus (whole ++ 46 ∷ text) got
 decimal_taken minus whole text got false each e h = cc h
 decimal_taken minus whole text got true each e h =
-    let part = front is_in_digits text in
-    let same : record { next = a_token (decimal ((kept_sign minus ++ digits whole) ++ (46 ∷ digits (front is_in_digits text)))); rest = behind is_in_digits text } ≡ got = same_taken h in
+    let part = prefix is_in_digits text in
+    let same : record { next = a_token (decimal ((unchanged_sign minus ++ digits whole) ++ (46 ∷ digits (prefix is_in_digits text)))); rest = following is_in_digits text } ≡ got = same_taken h in
     record {
-      body = is_decimal whole (front is_in_digits text);
-      good = (each, front_passes is_in_digits text, both_some whole (front is_in_digits text) e);
-      is = ap (λ (x : Taken). x.next) (sym same) ∙ ap (λ (t : List ℕ). a_token (decimal t)) (append_assoc (kept_sign minus) (digits whole) (46 ∷ digits (front is_in_digits text)));
-      split = ap (λ (t : List ℕ). whole ++ 46 ∷ t) (span_split is_in_digits text) ∙ (sym (append_assoc whole (46 ∷ front is_in_digits text) (behind is_in_digits text))
-          ∙ ap (λ (x : Taken). (whole ++ 46 ∷ front is_in_digits text) ++ x.rest) same);
-      ends = ap (λ (x : Taken). begins is_in_digits x.rest) (sym same) ∙ behind_stops is_in_digits text;
+      body = is_decimal whole (prefix is_in_digits text);
+      good = (each, prefix_passes is_in_digits text, both_some whole (prefix is_in_digits text) e);
+      is = ap (λ (x : Taken). x.next) (sym same) ∙ ap (λ (t : List ℕ). a_token (decimal t)) (append_assoc (unchanged_sign minus) (digits whole) (46 ∷ digits (prefix is_in_digits text)));
+      split = ap (λ (t : List ℕ). whole ++ 46 ∷ t) (span_split is_in_digits text) ∙ (sym (append_assoc whole (46 ∷ prefix is_in_digits text) (following is_in_digits text))
+          ∙ ap (λ (x : Taken). (whole ++ 46 ∷ prefix is_in_digits text) ++ x.rest) same);
+      ends = ap (λ (x : Taken). begins is_in_digits x.rest) (sym same) ∙ after_stops is_in_digits text;
     }
 
 date_taken : (minus : Bool) (first text : List ℕ) (got : Taken) → Each is_in_digits first → date_at minus first text ≡ Some got → BodyAt minus (first ++ 45 ∷ text) got
 date_taken minus first text got each h =
-    let same : record { next = a_token (date ((kept_sign minus ++ digits first) ++ (45 ∷ front is_in_date text))); rest = behind is_in_date text } ≡ got = same_taken h in
+    let same : record { next = a_token (date ((unchanged_sign minus ++ digits first) ++ (45 ∷ prefix is_in_date text))); rest = following is_in_date text } ≡ got = same_taken h in
     record {
-      body = is_date first (front is_in_date text);
-      good = (each, front_passes is_in_date text);
-      is = ap (λ (x : Taken). x.next) (sym same) ∙ ap (λ (t : List ℕ). a_token (date t)) (append_assoc (kept_sign minus) (digits first) (45 ∷ front is_in_date text));
-      split = ap (λ (t : List ℕ). first ++ 45 ∷ t) (span_split is_in_date text) ∙ (sym (append_assoc first (45 ∷ front is_in_date text) (behind is_in_date text))
-          ∙ ap (λ (x : Taken). (first ++ 45 ∷ front is_in_date text) ++ x.rest) same);
-      ends = ap (λ (x : Taken). begins is_in_date x.rest) (sym same) ∙ behind_stops is_in_date text;
+      body = is_date first (prefix is_in_date text);
+      good = (each, prefix_passes is_in_date text);
+      is = ap (λ (x : Taken). x.next) (sym same) ∙ ap (λ (t : List ℕ). a_token (date t)) (append_assoc (unchanged_sign minus) (digits first) (45 ∷ prefix is_in_date text));
+      split = ap (λ (t : List ℕ). first ++ 45 ∷ t) (span_split is_in_date text) ∙ (sym (append_assoc first (45 ∷ prefix is_in_date text) (following is_in_date text))
+          ∙ ap (λ (x : Taken). (first ++ 45 ∷ prefix is_in_date text) ++ x.rest) same);
+      ends = ap (λ (x : Taken). begins is_in_date x.rest) (sym same) ∙ after_stops is_in_date text;
     }
 
-digits_taken : (minus : Bool) (whole rest : List ℕ) (got : Taken) → Each is_in_digits whole → begins is_in_digits rest ≡ false → behind_digits minus whole rest ≡ Some got → BodyAt minus (whole ++ rest) got
+digits_taken : (minus : Bool) (whole rest : List ℕ) (got : Taken) → Each is_in_digits whole → begins is_in_digits rest ≡ false → after_digits minus whole rest ≡ Some got → BodyAt minus (whole ++ rest) got
 digits_taken minus whole [] got each e h = integer_taken minus whole [] got (integer_from minus (any_digit whole) (fitting (value whole))) each refl refl h
 digits_taken minus whole (c ∷ cs) got each e h = elim (eqb_tells c 46) [
   | inl p ↦
       subst (λ (d : ℕ). BodyAt minus (whole ++ d ∷ cs) got) (sym p.1)
-      (decimal_taken minus whole cs got (any_digit whole || any_digit (front is_in_digits cs)) each refl (rw p.0 at h))
+      (decimal_taken minus whole cs got (any_digit whole || any_digit (prefix is_in_digits cs)) each refl (rw p.0 at h))
   | inr p ↦
       let other = rw p.0 at h in
       elim (eqb_tells c 45) [
@@ -233,17 +233,17 @@ digits_taken minus whole (c ∷ cs) got each e h = elim (eqb_tells c 46) [
       ]
 ]
 
-scanned_digits : (minus : Bool) (text : List ℕ) (got : Taken) → behind_digits minus (front is_in_digits text) (behind is_in_digits text) ≡ Some got → BodyAt minus text got
+scanned_digits : (minus : Bool) (text : List ℕ) (got : Taken) → after_digits minus (prefix is_in_digits text) (following is_in_digits text) ≡ Some got → BodyAt minus text got
 scanned_digits minus text got h =
     subst (λ (t : List ℕ). BodyAt minus t got) (sym (span_split is_in_digits text))
-    (digits_taken minus (front is_in_digits text) (behind is_in_digits text) got (front_passes is_in_digits text) (behind_stops is_in_digits text) h)
+    (digits_taken minus (prefix is_in_digits text) (following is_in_digits text) got (prefix_passes is_in_digits text) (after_stops is_in_digits text) h)
 
-pub scanned_body : (minus : Bool) (text : List ℕ) (got : Taken) (n i : Bool) → begins (λ c. c == 110) text ≡ n → begins (λ c. c == 105) text ≡ i → behind_sign minus text ≡ Some got → BodyAt minus text got
+pub scanned_body : (minus : Bool) (text : List ℕ) (got : Taken) (n i : Bool) → begins (λ c. c == 110) text ≡ n → begins (λ c. c == 105) text ≡ i → after_sign minus text ≡ Some got → BodyAt minus text got
 scanned_body minus text got true i n e h =
-    let w = word_taken (nan minus) (110 ∷ (97 ∷ (110 ∷ []))) text got (behind_word (110 ∷ (97 ∷ (110 ∷ []))) text) refl (sym (at_nan minus text n) ∙ h) in
+    let w = word_taken (nan minus) (110 ∷ (97 ∷ (110 ∷ []))) text got (after_word (110 ∷ (97 ∷ (110 ∷ []))) text) refl (sym (at_nan minus text n) ∙ h) in
     record { body = is_nan; good = tt; is = w.0; split = w.1; ends = never got.rest }
 scanned_body minus text got false true n e h =
-    let w = word_taken (infinity minus) (105 ∷ (110 ∷ (102 ∷ []))) text got (behind_word (105 ∷ (110 ∷ (102 ∷ []))) text) refl (sym (at_infinity minus text n e) ∙ h) in
+    let w = word_taken (infinity minus) (105 ∷ (110 ∷ (102 ∷ []))) text got (after_word (105 ∷ (110 ∷ (102 ∷ []))) text) refl (sym (at_infinity minus text n e) ∙ h) in
     record { body = is_infinity; good = tt; is = w.0; split = w.1; ends = never got.rest }
 scanned_body minus text got false false n e h = scanned_digits minus text got (sym (at_digits minus text n e) ∙ h)
 

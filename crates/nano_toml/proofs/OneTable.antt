@@ -1,13 +1,14 @@
--- The table of a list of statements is one: what it has at a key is read off the list, and its keys are in order.
+-- The table of a list of statements is one: what it has at a key is read off the list, and its keys
+-- are in order.
 use Rattle.std.proofs.Common.{◌≡◌, ℕ, List, [], ◌∷◌, Option, Some, None, option_map, refl, sym, ap, ◌∙◌, subst}
 use Rattle.nano_toml.specs.Data.{Data, tables, Tables, at}
-use Rattle.nano_toml.specs.OneTable.{Pairs, HasOneTable, SpellsOneTable}
+use Rattle.nano_toml.specs.OneTable.{Pairs, HasOneTable, EncodesOneTable}
 use Rattle.nano_toml.specs.Statements.{Statement}
 use Rattle.nano_toml.specs.StatementTable.{Pair, last_value, HasLast, root_pairs, element_pairs, HaveLast, IsFound, IsTableOf}
 use Rattle.nano_toml.specs.View.{view, view_step, tables_view, table_view}
 use Rattle.nano_toml.specs.declared.value.Toml.{Toml, map-Toml, out-Toml, fold_out-Toml}
 use Rattle.nano_toml.specs.declared.value.Toml.TheOpen.{Toml-F}
-use Rattle.nano_toml.proofs.ReadLemmas.{spells_one}
+use Rattle.nano_toml.proofs.ReadLemmas.{encodes_one}
 use Rattle.nano_toml.proofs.TableViews.{Map, same_table_from_at, ascending_table, at-table_view, found, tables_map}
 
 -- what an Array means is the tables of some maps
@@ -59,6 +60,6 @@ one_table ss es fs a b =
     same_table_from_at _ _ (ascending_table es) (ascending_table fs)
     (λ key. one_found (element_pairs key [] ss) (last_value key (root_pairs ss)) key es fs (a key) (b key))
 
-pub spells_one_table : (cs : List ℕ) → SpellsOneTable cs
-spells_one_table cs es fs (ss, a, lawful, is) (us, b, good, has) =
-    one_table ss es fs is (subst (λ (xs : List Statement). IsTableOf xs (table_view fs)) (spells_one cs us ss b a) has)
+pub encodes_one_table : (cs : List ℕ) → EncodesOneTable cs
+encodes_one_table cs es fs (ss, a, lawful, is) (us, b, good, has) =
+    one_table ss es fs is (subst (λ (xs : List Statement). IsTableOf xs (table_view fs)) (encodes_one cs us ss b a) has)

@@ -3,18 +3,19 @@ use Rattle.std.proofs.Common.{◌≡◌, ℕ, ◌<◌, ◌≤◌, List, [], ◌�
 use Rattle.nano_toml.specs.Built.{IsPlain}
 use Rattle.nano_toml.specs.Cut.{Cut, CutEnd, CutsNothing, Tokens}
 use Rattle.nano_toml.specs.Data.{Data, Values}
-use Rattle.nano_toml.specs.Fronts.{Front, closed, is_open, nothing, array_front, value_front, pair_of, statement_front, closing, push_value, Begins, Reads, ReadsNothing, ClosesNothing}
-use Rattle.nano_toml.specs.Reading.{scalar_at, IsNext, SpellsNothing}
-use Rattle.nano_toml.specs.Statements.{Statement, pair, Spells, AreStatements}
-use Rattle.nano_toml.specs.StatementTable.{IsLawful, SpellsNoTable}
+use Rattle.nano_toml.specs.Prefixes.{Prefix, closed, is_open, nothing, push_value, Begins, Parses, ParsesNothing, ClosesNothing}
+use Rattle.nano_toml.specs.PrefixesLaws.{array_prefix, value_prefix, pair_of, statement_prefix, closing}
+use Rattle.nano_toml.specs.Reading.{scalar_at, IsNext, EncodesNothing}
+use Rattle.nano_toml.specs.Statements.{Statement, pair, Encodes, AreStatements}
+use Rattle.nano_toml.specs.StatementTable.{IsLawful, EncodesNoTable}
 use Rattle.nano_toml.specs.Taken.{Next, a_token, the_end, nothing_yet, token_of, Took}
 use Rattle.nano_toml.specs.Token.{Token, close_bracket}
 use Rattle.nano_toml.specs.declared.token.TomlTok.{TomlTok}
 use Rattle.nano_toml.specs.declared.token.TomlTok.TheVariants as tok
 use Rattle.nano_toml.proofs.CutLength.{Cut-shorter}
-use Rattle.nano_toml.proofs.FrontLemmas.{scalar_front, scalar_value}
+use Rattle.nano_toml.proofs.PrefixLemmas.{scalar_prefix, scalar_value}
 use Rattle.nano_toml.proofs.CutLaws.{cut_in_one_way}
-use Rattle.nano_toml.proofs.StatementLemmas.{AreStatements-cons, AreStatements-open, AreStatements-closed, AreStatements-is_open, AreStatements-nothing, AreStatements-nil, one_list, front_plain, front_open_plain}
+use Rattle.nano_toml.proofs.StatementLemmas.{AreStatements-cons, AreStatements-open, AreStatements-closed, AreStatements-is_open, AreStatements-nothing, AreStatements-nil, one_list, prefix_plain, prefix_open_plain}
 
 -- ---- tokens of a text
 
@@ -27,12 +28,12 @@ Tokens-append [] us text middle a b = subst (λ (m : List ℕ). Tokens m us) (sy
 Tokens-append (t ∷ ts) us text middle a b = (a.0, a.1, Tokens-append ts us a.0 middle a.2 b)
 
 -- the tokens of a text that begins with these go on with those of what is left
-Tokens-behind : (ts all : List Token) (text now : List ℕ) → Begins ts text now → Tokens text all → (rest : List Token) × (all ≡ ts ++ rest) × Tokens now rest
-Tokens-behind [] all text now b k = (all, refl, subst (λ (m : List ℕ). Tokens m all) b k)
-Tokens-behind (t ∷ ts) [] text now b k = absurd ((cut_in_one_way text).1 t b.0 b.1 k)
-Tokens-behind (t ∷ ts) (u ∷ all) text now (middle, c, b) (other, d, k) =
+Tokens-following : (ts all : List Token) (text now : List ℕ) → Begins ts text now → Tokens text all → (rest : List Token) × (all ≡ ts ++ rest) × Tokens now rest
+Tokens-following [] all text now b k = (all, refl, subst (λ (m : List ℕ). Tokens m all) b k)
+Tokens-following (t ∷ ts) [] text now b k = absurd ((cut_in_one_way text).1 t b.0 b.1 k)
+Tokens-following (t ∷ ts) (u ∷ all) text now (middle, c, b) (other, d, k) =
     let one = (cut_in_one_way text).0 t u middle other c d in
-    let r = Tokens-behind ts all middle now b (subst (λ (m : List ℕ). Tokens m all) (sym one.1) k) in
+    let r = Tokens-following ts all middle now b (subst (λ (m : List ℕ). Tokens m all) (sym one.1) k) in
     (r.0, ap (λ w. w ∷ all) (sym one.0) ∙ ap (λ ws. t ∷ ws) r.1, r.2)
 
 Begins-shorter : (ts : List Token) (text rest : List ℕ) → Begins ts text rest → length rest ≤ length text
@@ -46,7 +47,7 @@ nothing_cut : (text : List ℕ) (ts : List Token) → CutsNothing text → Token
 nothing_cut text [] n k = n.1 k
 nothing_cut text (t ∷ ts) n k = n.0 t k.0 k.1
 
--- an empty text has no tokens, which its end shows
+-- an empty text has no tokens, which its end proves
 no_tokens : (ts : List Token) (text : List ℕ) → CutEnd text → Tokens text ts → ts ≡ []
 no_tokens [] text e k = refl
 no_tokens (t ∷ ts) text e (rest, c, k) = absurd ((cut_in_one_way text).1 t rest c e)
@@ -54,64 +55,64 @@ no_tokens (t ∷ ts) text e (rest, c, k) = absurd ((cut_in_one_way text).1 t res
 -- ---- as far as the tokens were read
 
 -- what f finds in the text, g finds in what is left of it
-pub record GoesOn {A : Type 0} (f : List Token → Front A) (text : List ℕ) (g : List Token → Front A) (now : List ℕ) : Type 0 where
+pub record GoesOn {A : Type 0} (f : List Token → Prefix A) (text : List ℕ) (g : List Token → Prefix A) (now : List ℕ) : Type 0 where
   pub tokens : List Token
   pub begins : Begins tokens text now
   pub same : (more : List Token) → f (tokens ++ more) ≡ g more
 
-pub GoesOn-start : {A : Type 0} (f : List Token → Front A) (text : List ℕ) → GoesOn f text f text
+pub GoesOn-start : {A : Type 0} (f : List Token → Prefix A) (text : List ℕ) → GoesOn f text f text
 GoesOn-start f text = record { tokens = []; begins = refl; same = λ more. refl }
 
 -- one token further
-pub GoesOn-token : {A : Type 0} (f g h : List Token → Front A) (text now rest : List ℕ) (t : Token) → GoesOn f text g now → Cut now t rest → ((more : List Token) → g (t ∷ more) ≡ h more) → GoesOn f text h rest
+pub GoesOn-token : {A : Type 0} (f g h : List Token → Prefix A) (text now rest : List ℕ) (t : Token) → GoesOn f text g now → Cut now t rest → ((more : List Token) → g (t ∷ more) ≡ h more) → GoesOn f text h rest
 GoesOn-token f g h text now rest t on c e = record {
   tokens = on.tokens ++ t ∷ [];
   begins = Begins-push on.tokens (t ∷ []) text now rest on.begins (rest, c, refl);
   same = λ more. ap f (append_assoc on.tokens (t ∷ []) more) ∙ (on.same (t ∷ more) ∙ e more);
 }
 
-pub Reads-closed : {A : Type 0} (f g : List Token → Front A) (text now : List ℕ) (a : A) → GoesOn f text g now → ((more : List Token) → g more ≡ closed a more) → Reads f text a now
-Reads-closed f g text now a on e = inl (on.tokens, on.begins, λ more. on.same more ∙ e more)
+pub Parses-closed : {A : Type 0} (f g : List Token → Prefix A) (text now : List ℕ) (a : A) → GoesOn f text g now → ((more : List Token) → g more ≡ closed a more) → Parses f text a now
+Parses-closed f g text now a on e = inl (on.tokens, on.begins, λ more. on.same more ∙ e more)
 
-pub Reads-on : {A : Type 0} (f g : List Token → Front A) (text now rest : List ℕ) (a : A) → GoesOn f text g now → Reads g now a rest → Reads f text a rest
-Reads-on f g text now rest a on (inl (ts, b, e)) =
+pub Parses-on : {A : Type 0} (f g : List Token → Prefix A) (text now rest : List ℕ) (a : A) → GoesOn f text g now → Parses g now a rest → Parses f text a rest
+Parses-on f g text now rest a on (inl (ts, b, e)) =
     inl (on.tokens ++ ts, Begins-push on.tokens ts text now rest on.begins b, λ more. ap f (append_assoc on.tokens ts more) ∙ (on.same (ts ++ more) ∙ e more))
-Reads-on f g text now rest a on (inr (ts, k, e, none)) =
+Parses-on f g text now rest a on (inr (ts, k, e, none)) =
     inr (on.tokens ++ ts, Tokens-append on.tokens ts text now on.begins k, on.same ts ∙ e, none)
 
-pub Reads-open : {A : Type 0} (f g : List Token → Front A) (text now rest : List ℕ) (a : A) → GoesOn f text g now → Took now the_end rest → g [] ≡ is_open a → Reads f text a rest
-Reads-open f g text now rest a on k e = Reads-on f g text now rest a on (inr ([], k.0, e, k.1))
+pub Parses-open : {A : Type 0} (f g : List Token → Prefix A) (text now rest : List ℕ) (a : A) → GoesOn f text g now → Took now the_end rest → g [] ≡ is_open a → Parses f text a rest
+Parses-open f g text now rest a on k e = Parses-on f g text now rest a on (inr ([], k.0, e, k.1))
 
-pub ReadsNothing-on : {A : Type 0} (f g : List Token → Front A) (text now : List ℕ) → GoesOn f text g now → ReadsNothing g now → ReadsNothing f text
-ReadsNothing-on f g text now on none ts k =
-    let r = Tokens-behind on.tokens ts text now on.begins k in
+pub ParsesNothing-on : {A : Type 0} (f g : List Token → Prefix A) (text now : List ℕ) → GoesOn f text g now → ParsesNothing g now → ParsesNothing f text
+ParsesNothing-on f g text now on none ts k =
+    let r = Tokens-following on.tokens ts text now on.begins k in
     ap f r.1 ∙ (on.same r.0 ∙ none r.0 r.2)
 
-pub ReadsNothing-cut : {A : Type 0} (f : List Token → Front A) (text : List ℕ) → CutsNothing text → ReadsNothing f text
-ReadsNothing-cut f text n ts k = absurd (nothing_cut text ts n k)
+pub ParsesNothing-cut : {A : Type 0} (f : List Token → Prefix A) (text : List ℕ) → CutsNothing text → ParsesNothing f text
+ParsesNothing-cut f text n ts k = absurd (nothing_cut text ts n k)
 
 -- f finds nothing where this stands next
-abbrev pub Fails : {A : Type 0} → (List Token → Front A) → Next → Type 0
+abbrev pub Fails : {A : Type 0} → (List Token → Prefix A) → Next → Type 0
 Fails f (a_token t) = (more : List Token) → f (t ∷ more) ≡ nothing
 Fails f the_end = f [] ≡ nothing
 Fails f nothing_yet = Unit {0}
 
-pub ReadsNothing-fails : {A : Type 0} (f : List Token → Front A) (text rest : List ℕ) (n : Next) → Took text n rest → Fails f n → ReadsNothing f text
-ReadsNothing-fails f text rest (a_token t) k none [] e = absurd ((cut_in_one_way text).1 t rest k e)
-ReadsNothing-fails f text rest (a_token t) k none (u ∷ ts) e =
+pub ParsesNothing-fails : {A : Type 0} (f : List Token → Prefix A) (text rest : List ℕ) (n : Next) → Took text n rest → Fails f n → ParsesNothing f text
+ParsesNothing-fails f text rest (a_token t) k none [] e = absurd ((cut_in_one_way text).1 t rest k e)
+ParsesNothing-fails f text rest (a_token t) k none (u ∷ ts) e =
     ap (λ w. f (w ∷ ts)) (sym ((cut_in_one_way text).0 t u rest e.0 k e.1).0) ∙ none ts
-ReadsNothing-fails f text rest the_end k none ts e = ap f (no_tokens ts text k.0 e) ∙ none
-ReadsNothing-fails f text rest nothing_yet k none ts e = absurd k
+ParsesNothing-fails f text rest the_end k none ts e = ap f (no_tokens ts text k.0 e) ∙ none
+ParsesNothing-fails f text rest nothing_yet k none ts e = absurd k
 
--- behind one token
-pub GoesOn-first : {A : Type 0} (f g : List Token → Front A) (text rest : List ℕ) (t : Token) → Cut text t rest → ((more : List Token) → f (t ∷ more) ≡ g more) → GoesOn f text g rest
+-- after one token
+pub GoesOn-first : {A : Type 0} (f g : List Token → Prefix A) (text rest : List ℕ) (t : Token) → Cut text t rest → ((more : List Token) → f (t ∷ more) ≡ g more) → GoesOn f text g rest
 GoesOn-first f g text rest t c e = GoesOn-token f f g text text rest t (GoesOn-start f text) c e
 
-pub Reads-token : {A : Type 0} (f g : List Token → Front A) (text now rest : List ℕ) (t : Token) (a : A) → Cut text t now → ((more : List Token) → f (t ∷ more) ≡ g more) → Reads g now a rest → Reads f text a rest
-Reads-token f g text now rest t a c e r = Reads-on f g text now rest a (GoesOn-first f g text now t c e) r
+pub Parses-token : {A : Type 0} (f g : List Token → Prefix A) (text now rest : List ℕ) (t : Token) (a : A) → Cut text t now → ((more : List Token) → f (t ∷ more) ≡ g more) → Parses g now a rest → Parses f text a rest
+Parses-token f g text now rest t a c e r = Parses-on f g text now rest a (GoesOn-first f g text now t c e) r
 
-pub ReadsNothing-token : {A : Type 0} (f g : List Token → Front A) (text now : List ℕ) (t : Token) → Cut text t now → ((more : List Token) → f (t ∷ more) ≡ g more) → ReadsNothing g now → ReadsNothing f text
-ReadsNothing-token f g text now t c e none = ReadsNothing-on f g text now (GoesOn-first f g text now t c e) none
+pub ParsesNothing-token : {A : Type 0} (f g : List Token → Prefix A) (text now : List ℕ) (t : Token) → Cut text t now → ((more : List Token) → f (t ∷ more) ≡ g more) → ParsesNothing g now → ParsesNothing f text
+ParsesNothing-token f g text now t c e none = ParsesNothing-on f g text now (GoesOn-first f g text now t c e) none
 
 -- ---- the token that was taken
 
@@ -141,33 +142,33 @@ pub token_not_at_end : (text rest : List ℕ) (t : TomlTok) → (t ≡ tok.Eof �
 token_not_at_end text rest t h k e = not_at_end text rest (token_of t) (no_end t h) k e
 
 -- a scalar in an array
-pub GoesOn-scalar : (f : List Token → Front Data) (outer : List Values) (here : Values) (text now rest : List ℕ) (n : Next) (d : Data) → scalar_at n ≡ Some d
-    → GoesOn f text (array_front outer here) now → Took now n rest → GoesOn f text (array_front outer (push_value here d)) rest
+pub GoesOn-scalar : (f : List Token → Prefix Data) (outer : List Values) (here : Values) (text now rest : List ℕ) (n : Next) (d : Data) → scalar_at n ≡ Some d
+    → GoesOn f text (array_prefix outer here) now → Took now n rest → GoesOn f text (array_prefix outer (push_value here d)) rest
 GoesOn-scalar f outer here text now rest (a_token t) d s on k =
-    GoesOn-token f (array_front outer here) (array_front outer (push_value here d)) text now rest t on k (λ more. scalar_front outer here t d more s)
+    GoesOn-token f (array_prefix outer here) (array_prefix outer (push_value here d)) text now rest t on k (λ more. scalar_prefix outer here t d more s)
 GoesOn-scalar f outer here text now rest the_end d s on k = absurd (cc)
 GoesOn-scalar f outer here text now rest nothing_yet d s on k = absurd k
 
 -- a scalar by itself
-pub Reads-scalar : (text rest : List ℕ) (n : Next) (d : Data) → scalar_at n ≡ Some d → Took text n rest → Reads value_front text d rest
-Reads-scalar text rest (a_token t) d s k =
-    Reads-closed value_front (closed d) text rest d (GoesOn-first value_front (closed d) text rest t k (λ more. scalar_value t d more s)) (λ more. refl)
-Reads-scalar text rest the_end d s k = absurd (cc)
-Reads-scalar text rest nothing_yet d s k = absurd k
+pub Parses-scalar : (text rest : List ℕ) (n : Next) (d : Data) → scalar_at n ≡ Some d → Took text n rest → Parses value_prefix text d rest
+Parses-scalar text rest (a_token t) d s k =
+    Parses-closed value_prefix (closed d) text rest d (GoesOn-first value_prefix (closed d) text rest t k (λ more. scalar_value t d more s)) (λ more. refl)
+Parses-scalar text rest the_end d s k = absurd (cc)
+Parses-scalar text rest nothing_yet d s k = absurd k
 
-pub Reads-shorter : {A : Type 0} (f : List Token → Front A) (text rest : List ℕ) (a : A) → Reads f text a rest → length rest ≤ length text
-Reads-shorter f text rest a (inl (ts, b, e)) = Begins-shorter ts text rest b
-Reads-shorter f text rest a (inr (ts, k, e, none)) = omega (arith, ap length none)
+pub Parses-shorter : {A : Type 0} (f : List Token → Prefix A) (text rest : List ℕ) (a : A) → Parses f text a rest → length rest ≤ length text
+Parses-shorter f text rest a (inl (ts, b, e)) = Begins-shorter ts text rest b
+Parses-shorter f text rest a (inr (ts, k, e, none)) = omega (arith, ap length none)
 
 -- ---- closing brackets
 
-not_close : {A : Type 0} (f : List Token → Front A) (t : Token) (more : List Token) → (t ≡ close_bracket → ⊥) → closing f (t ∷ more) ≡ nothing
+not_close : {A : Type 0} (f : List Token → Prefix A) (t : Token) (more : List Token) → (t ≡ close_bracket → ⊥) → closing f (t ∷ more) ≡ nothing
 not_close f close_bracket more h = absurd (h refl)
 not_close f _ more h = refl
 
-pub ReadsNothing-closing : {A : Type 0} (f : List Token → Front A) (text : List ℕ) → ClosesNothing text → ReadsNothing (closing f) text
-ReadsNothing-closing f text none [] k = refl
-ReadsNothing-closing f text none (t ∷ ts) k =
+pub ParsesNothing-closing : {A : Type 0} (f : List Token → Prefix A) (text : List ℕ) → ClosesNothing text → ParsesNothing (closing f) text
+ParsesNothing-closing f text none [] k = refl
+ParsesNothing-closing f text none (t ∷ ts) k =
     not_close f t ts (λ e. none k.0 (subst (λ (u : Token). Cut text u k.0) e k.1))
 
 pub ClosesNothing-took : (text rest : List ℕ) (n : Next) → Took text n rest → (n ≡ a_token close_bracket → ⊥) → ClosesNothing text
@@ -180,15 +181,15 @@ ClosesNothing-cut text n rest c = n.0 close_bracket rest c
 
 -- ---- pairs
 
-pair_of-closed : (name : List ℕ) (front : Front Data) (d : Data) (more : List Token) → front ≡ closed d more → pair_of name front ≡ closed (pair name d) more
-pair_of-closed name front d more e = ap (pair_of name) e
+pair_of-closed : (name : List ℕ) (prefix : Prefix Data) (d : Data) (more : List Token) → prefix ≡ closed d more → pair_of name prefix ≡ closed (pair name d) more
+pair_of-closed name prefix d more e = ap (pair_of name) e
 
-pub Reads-pair : (name text rest : List ℕ) (d : Data) → Reads value_front text d rest → Reads (λ ts. pair_of name (value_front ts)) text (pair name d) rest
-Reads-pair name text rest d (inl (ts, b, e)) = inl (ts, b, λ more. ap (pair_of name) (e more))
-Reads-pair name text rest d (inr (ts, k, e, none)) = inr (ts, k, ap (pair_of name) e, none)
+pub Parses-pair : (name text rest : List ℕ) (d : Data) → Parses value_prefix text d rest → Parses (λ ts. pair_of name (value_prefix ts)) text (pair name d) rest
+Parses-pair name text rest d (inl (ts, b, e)) = inl (ts, b, λ more. ap (pair_of name) (e more))
+Parses-pair name text rest d (inr (ts, k, e, none)) = inr (ts, k, ap (pair_of name) e, none)
 
-pub ReadsNothing-pair : (name text : List ℕ) → ReadsNothing value_front text → ReadsNothing (λ ts. pair_of name (value_front ts)) text
-ReadsNothing-pair name text none ts k = ap (pair_of name) (none ts k)
+pub ParsesNothing-pair : (name text : List ℕ) → ParsesNothing value_prefix text → ParsesNothing (λ ts. pair_of name (value_prefix ts)) text
+ParsesNothing-pair name text none ts k = ap (pair_of name) (none ts k)
 
 -- ---- statements of a text
 
@@ -204,20 +205,20 @@ same_tokens (t ∷ ts) (u ∷ us) text k m =
     let more = same_tokens ts us k.0 k.2 (subst (λ (r : List ℕ). Tokens r us) (sym one.1) m.2) in
     ap (λ w. w ∷ ts) one.0 ∙ ap (λ ws. u ∷ ws) more
 
-nothing_left : (more : List Statement) (rest : List ℕ) → rest ≡ [] → Spells rest more → more ≡ []
+nothing_left : (more : List Statement) (rest : List ℕ) → rest ≡ [] → Encodes rest more → more ≡ []
 nothing_left more rest none (us, m, are) =
     AreStatements-nil more (subst (λ (ts : List Token). AreStatements ts more) (no_tokens us rest (empty_end rest none) m) are)
 
-pub IsNext-some : (text rest : List ℕ) (s : Statement) → Reads statement_front text s rest → IsNext text (Some s) rest
+pub IsNext-some : (text rest : List ℕ) (s : Statement) → Parses statement_prefix text s rest → IsNext text (Some s) rest
 IsNext-some text rest s (inl (ts, b, e)) = (
   λ more (us, k, are). (ts ++ us, Tokens-append ts us text rest b k, AreStatements-cons (ts ++ us) us s more (e us) are),
   λ ss (all, k, are).
-      let r = Tokens-behind ts all text rest b k in
-      let g = AreStatements-closed all r.0 s ss (ap statement_front r.1 ∙ e r.0) are in
+      let r = Tokens-following ts all text rest b k in
+      let g = AreStatements-closed all r.0 s ss (ap statement_prefix r.1 ∙ e r.0) are in
       (g.0, g.1, (r.0, r.2, g.2)),
 )
 IsNext-some text rest s (inr (ts, k, e, none)) = (
-  λ more spells. (ts, k, subst (λ (us : List Statement). AreStatements ts (s ∷ us)) (sym (nothing_left more rest none spells)) (AreStatements-open ts s e)),
+  λ more is_encoded. (ts, k, subst (λ (us : List Statement). AreStatements ts (s ∷ us)) (sym (nothing_left more rest none is_encoded)) (AreStatements-open ts s e)),
   λ ss (all, m, are). (
     [],
     AreStatements-is_open ts s ss e (subst (λ (us : List Token). AreStatements us ss) (sym (same_tokens ts all text k m)) are),
@@ -232,53 +233,53 @@ IsNext-none text rest k = (
 )
 
 -- no statement begins the text, which has a token
-pub SpellsNothing-some : (text : List ℕ) → ReadsNothing statement_front text → (CutEnd text → ⊥) → SpellsNothing text
-SpellsNothing-some text none some ss (ts, k, are) =
+pub EncodesNothing-some : (text : List ℕ) → ParsesNothing statement_prefix text → (CutEnd text → ⊥) → EncodesNothing text
+EncodesNothing-some text none some ss (ts, k, are) =
     let none = AreStatements-nothing ts ss (none ts k) are in
     some (subst (λ (us : List Token). Tokens text us) none.0 k)
 
-pub SpellsNothing-cut : (text : List ℕ) → CutsNothing text → SpellsNothing text
-SpellsNothing-cut text n ss (ts, k, are) = nothing_cut text ts n k
+pub EncodesNothing-cut : (text : List ℕ) → CutsNothing text → EncodesNothing text
+EncodesNothing-cut text n ss (ts, k, are) = nothing_cut text ts n k
 
--- a text spells one list at most
-pub spells_one : (text : List ℕ) (one other : List Statement) → Spells text one → Spells text other → one ≡ other
-spells_one text one other (ts, k, are) (us, m, others) =
+-- a text encodes at most one list
+pub encodes_one : (text : List ℕ) (one other : List Statement) → Encodes text one → Encodes text other → one ≡ other
+encodes_one text one other (ts, k, are) (us, m, others) =
     one_list one other ts are (subst (λ (ws : List Token). AreStatements ws other) (sym (same_tokens ts us text k m)) others)
 
 -- the value of a pair that was read is no Array
-pub Reads-plain : (text rest : List ℕ) (s : Statement) → Reads statement_front text s rest → IsPlain s
-Reads-plain text rest s (inl (ts, b, e)) = front_plain (ts ++ []) [] s (e [])
-Reads-plain text rest s (inr (ts, k, e, none)) = front_open_plain ts s e
+pub Parses-plain : (text rest : List ℕ) (s : Statement) → Parses statement_prefix text s rest → IsPlain s
+Parses-plain text rest s (inl (ts, b, e)) = prefix_plain (ts ++ []) [] s (e [])
+Parses-plain text rest s (inr (ts, k, e, none)) = prefix_open_plain ts s e
 
 -- ---- statements read one after another
 
--- the text spells these statements, and then what is left of it spells
+-- the text encodes these statements, and then what is left of it encodes
 pub record ReadSoFar (text : List ℕ) (done : List Statement) (now : List ℕ) : Type 0 where
-  pub joins : (more : List Statement) → Spells now more → Spells text (done ++ more)
-  pub splits : (ss : List Statement) → Spells text ss → (more : List Statement) × (ss ≡ done ++ more) × Spells now more
+  pub joins : (more : List Statement) → Encodes now more → Encodes text (done ++ more)
+  pub splits : (ss : List Statement) → Encodes text ss → (more : List Statement) × (ss ≡ done ++ more) × Encodes now more
 
 pub ReadSoFar-start : (text : List ℕ) → ReadSoFar text [] text
-ReadSoFar-start text = record { joins = λ more spells. spells; splits = λ ss spells. (ss, refl, spells) }
+ReadSoFar-start text = record { joins = λ more is_encoded. is_encoded; splits = λ ss is_encoded. (ss, refl, is_encoded) }
 
 pub ReadSoFar-next : (text now rest : List ℕ) (done : List Statement) (s : Statement) → ReadSoFar text done now → IsNext now (Some s) rest → ReadSoFar text (done ++ s ∷ []) rest
 ReadSoFar-next text now rest done s so next = record {
-  joins = λ more spells. subst (λ (ss : List Statement). Spells text ss) (sym (append_assoc done (s ∷ []) more)) (so.joins (s ∷ more) (next.0 more spells));
-  splits = λ ss spells.
-      let one = so.splits ss spells in
+  joins = λ more is_encoded. subst (λ (ss : List Statement). Encodes text ss) (sym (append_assoc done (s ∷ []) more)) (so.joins (s ∷ more) (next.0 more is_encoded));
+  splits = λ ss is_encoded.
+      let one = so.splits ss is_encoded in
       let two = next.1 one.0 one.2 in
       (two.0, one.1 ∙ (ap (λ us. done ++ us) two.1 ∙ sym (append_assoc done (s ∷ []) two.0)), two.2);
 }
 
-pub ReadSoFar-end : (text now rest : List ℕ) (done : List Statement) → ReadSoFar text done now → IsNext now None rest → Spells text done
-ReadSoFar-end text now rest done so next = subst (λ (ss : List Statement). Spells text ss) (append-nil done) (so.joins [] next.0)
+pub ReadSoFar-end : (text now rest : List ℕ) (done : List Statement) → ReadSoFar text done now → IsNext now None rest → Encodes text done
+ReadSoFar-end text now rest done so next = subst (λ (ss : List Statement). Encodes text ss) (append-nil done) (so.joins [] next.0)
 
-pub ReadSoFar-nothing : (text now : List ℕ) (done : List Statement) → ReadSoFar text done now → SpellsNothing now → SpellsNoTable text
-ReadSoFar-nothing text now done so none ss spells lawful = let one = so.splits ss spells in none one.0 one.2
+pub ReadSoFar-nothing : (text now : List ℕ) (done : List Statement) → ReadSoFar text done now → EncodesNothing now → EncodesNoTable text
+ReadSoFar-nothing text now done so none ss is_encoded lawful = let one = so.splits ss is_encoded in none one.0 one.2
 
 -- a statement that makes the others unlawful
 pub ReadSoFar-unlawful : (text now rest : List ℕ) (done : List Statement) (s : Statement) → ReadSoFar text done now → IsNext now (Some s) rest
-    → ((more : List Statement) → IsLawful (done ++ s ∷ more) → ⊥) → SpellsNoTable text
-ReadSoFar-unlawful text now rest done s so next unlawful ss spells lawful =
-    let one = so.splits ss spells in
+    → ((more : List Statement) → IsLawful (done ++ s ∷ more) → ⊥) → EncodesNoTable text
+ReadSoFar-unlawful text now rest done s so next unlawful ss is_encoded lawful =
+    let one = so.splits ss is_encoded in
     let two = next.1 one.0 one.2 in
     unlawful two.0 (subst IsLawful (one.1 ∙ ap (λ us. done ++ us) two.1) lawful)

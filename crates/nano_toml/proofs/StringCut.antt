@@ -5,8 +5,8 @@ use Rattle.std.proofs.lemmas.Bool.Decides.{eqb_tells}
 use Rattle.nano_toml.specs.Characters.{is_quote, Each}
 use Rattle.nano_toml.specs.Span.{begins}
 use Rattle.nano_toml.specs.Quoted.{Piece, plain, escaped, quotes, pieces_text, pieces_chars, AreShortPieces, StopsQuotes, AreTriplePieces, IsString, empty, short, triple}
-use Rattle.nano_toml.specs.Scan.{Content, a_backslash, some_quotes, short_at, triple_at, behind_one_quote, behind_two_quotes}
-use Rattle.nano_toml.proofs.Spans.{front_again, behind_again}
+use Rattle.nano_toml.specs.Scan.{Content, a_backslash, some_quotes, short_at, triple_at, after_one_quote, after_two_quotes}
+use Rattle.nano_toml.proofs.Spans.{prefix_again, after_again}
 use Rattle.nano_toml.proofs.Quotes.{run_gathered, run_settled, run_ended}
 
 -- ---- between single quotes
@@ -29,7 +29,7 @@ pub record ShortInside (bytes text : List ℕ) (content : Content) : Type 0 wher
   pub split : text ≡ pieces_text pieces ++ 34 ∷ content.rest
   pub are : content.bytes ≡ bytes ++ encode_utf8_all (pieces_chars pieces)
 
--- behind a backslash
+-- after a backslash
 record ShortEscape (bytes text : List ℕ) (content : Content) : Type 0 where
   first : ℕ
   more : List ℕ
@@ -95,7 +95,7 @@ encoded_append : (xs ys : List ℕ) → encode_utf8_all (xs ++ ys) ≡ encode_ut
 encoded_append [] ys = refl
 encoded_append (x ∷ xs) ys = ap (λ (t : List ℕ). encode_utf8 x ++ t) (encoded_append xs ys) ∙ sym (append_assoc (encode_utf8 x) (encode_utf8_all xs) (encode_utf8_all ys))
 
--- behind a run of quotes stands another piece
+-- after a run of quotes comes another piece
 run_stops : (more : List Piece) (rest : List ℕ) → StopsQuotes more → AreTriplePieces more → begins is_quote (pieces_text more ++ rest) ≡ false
 run_stops [] rest s h = absurd s
 run_stops (plain c ∷ more) rest s h = ne_eqb c 34 h.0
@@ -105,7 +105,7 @@ run_stops (quotes run ∷ more) rest s h = absurd s
 run_scanned : (bytes run rest : List ℕ) → Each is_quote run → length run ≢ 3 → begins is_quote rest ≡ false → triple_at bytes (some_quotes []) (run ++ rest) ≡ triple_at (bytes ++ run) (some_quotes []) rest
 run_scanned bytes run rest h n e =
     run_gathered bytes [] (run ++ rest)
-    ∙ (rw (front_again is_quote run rest h e, behind_again is_quote run rest h e) (run_settled bytes run rest e (ne_eqb (length run) 3 n)))
+    ∙ (rw (prefix_again is_quote run rest h e, after_again is_quote run rest h e) (run_settled bytes run rest e (ne_eqb (length run) 3 n)))
 
 pub triple_scanned : (pieces : List Piece) (bytes rest : List ℕ) → AreTriplePieces pieces → begins is_quote rest ≡ false
     → triple_at bytes (some_quotes []) (pieces_text pieces ++ 34 ∷ (34 ∷ (34 ∷ rest))) ≡ Some (record { bytes = bytes ++ encode_utf8_all (pieces_chars pieces); rest = rest })
@@ -134,7 +134,7 @@ pub record TripleInside (bytes text : List ℕ) (content : Content) : Type 0 whe
   pub are : content.bytes ≡ bytes ++ encode_utf8_all (pieces_chars pieces)
   pub ends : begins is_quote content.rest ≡ false
 
--- behind a backslash
+-- after a backslash
 record TripleEscape (bytes text : List ℕ) (content : Content) : Type 0 where
   first : ℕ
   more : List ℕ
@@ -159,10 +159,10 @@ triple_escaped c bytes cs content e h = record {
   ends = h.inside.ends;
 }
 
--- a run of other than three quotes in front is one more piece, unless it is empty
-behind_run : (bytes run text : List ℕ) (content : Content) → Each is_quote run → length run ≢ 3 → (h : TripleInside (bytes ++ run) text content) → StopsQuotes h.pieces → TripleInside bytes (run ++ text) content
-behind_run bytes [] text content q n h s = subst (λ (bs : List ℕ). TripleInside bs text content) (append-nil bytes) h
-behind_run bytes (q ∷ qs) text content each n h s =
+-- a leading run of other than three quotes is one more piece, unless it is empty
+after_run : (bytes run text : List ℕ) (content : Content) → Each is_quote run → length run ≢ 3 → (h : TripleInside (bytes ++ run) text content) → StopsQuotes h.pieces → TripleInside bytes (run ++ text) content
+after_run bytes [] text content q n h s = subst (λ (bs : List ℕ). TripleInside bs text content) (append-nil bytes) h
+after_run bytes (q ∷ qs) text content each n h s =
     let run = q ∷ qs in
     let given : encode_utf8_all ((q ∷ qs) ++ pieces_chars h.pieces) ≡ (q ∷ qs) ++ encode_utf8_all (pieces_chars h.pieces) =
     encoded_append (q ∷ qs) (pieces_chars h.pieces) ∙ ap (λ (t : List ℕ). t ++ encode_utf8_all (pieces_chars h.pieces)) (quotes_encoded (q ∷ qs) each) in
@@ -209,8 +209,8 @@ mutual
           | inr t ↦
               let inside = rw t.0 at other in
               elim (eqb_tells c 92) [
-                | inl b ↦ behind_run bytes run (c ∷ cs) content q t.1 (triple_escaped c (bytes ++ run) cs content b.1 (scanned_triple_escape cs (bytes ++ run) content (rw b.0 at inside))) tt
-                | inr b ↦ behind_run bytes run (c ∷ cs) content q t.1 (triple_plain c (bytes ++ run) cs content e.1 b.1 (scanned_triple cs ((bytes ++ run) ++ encode_utf8 c) [] content tt (rw b.0 at inside))) tt
+                | inl b ↦ after_run bytes run (c ∷ cs) content q t.1 (triple_escaped c (bytes ++ run) cs content b.1 (scanned_triple_escape cs (bytes ++ run) content (rw b.0 at inside))) tt
+                | inr b ↦ after_run bytes run (c ∷ cs) content q t.1 (triple_plain c (bytes ++ run) cs content e.1 b.1 (scanned_triple cs ((bytes ++ run) ++ encode_utf8 c) [] content tt (rw b.0 at inside))) tt
               ]
         ]
   ]
@@ -228,10 +228,10 @@ short_begins (plain c ∷ more) rest n h = ne_eqb c 34 h.0.0
 short_begins (escaped c ∷ more) rest n h = refl
 short_begins (quotes run ∷ more) rest n h = absurd h.0
 
-at_short : (text : List ℕ) → begins is_quote text ≡ false → behind_one_quote text ≡ short_at [] false text
+at_short : (text : List ℕ) → begins is_quote text ≡ false → after_one_quote text ≡ short_at [] false text
 at_short text e = rw e refl
 
-pub string_scanned : (text chars rest : List ℕ) → IsString (34 ∷ text) chars rest → behind_one_quote text ≡ Some (record { bytes = encode_utf8_all chars; rest = rest })
+pub string_scanned : (text chars rest : List ℕ) → IsString (34 ∷ text) chars rest → after_one_quote text ≡ Some (record { bytes = encode_utf8_all chars; rest = rest })
 string_scanned text chars rest (empty split ends none) =
     let inside : text ≡ 34 ∷ rest = cc split in
     rw (inside, none, ends) refl
@@ -259,14 +259,14 @@ string_empty text content e h = ([], empty (ap (λ (x : Content). 34 ∷ (34 ∷
 string_triple : (text : List ℕ) (content : Content) → TripleInside [] text content → StringAt (34 ∷ (34 ∷ (34 ∷ text))) content
 string_triple text content h = (pieces_chars h.pieces, triple h.pieces h.good (ap (λ (t : List ℕ). 34 ∷ (34 ∷ (34 ∷ t))) h.split) h.ends refl, h.are)
 
-scanned_two : (text : List ℕ) (content : Content) → behind_two_quotes text ≡ Some content → StringAt (34 ∷ (34 ∷ text)) content
+scanned_two : (text : List ℕ) (content : Content) → after_two_quotes text ≡ Some content → StringAt (34 ∷ (34 ∷ text)) content
 scanned_two [] content h = string_empty [] content refl (same_content h)
 scanned_two (c ∷ cs) content h = elim (eqb_tells c 34) [
   | inl e ↦ rw e.1 (string_triple cs content (scanned_triple cs [] [] content tt (rw e.0 at h)))
   | inr e ↦ string_empty (c ∷ cs) content e.0 (same_content (rw e.0 at h))
 ]
 
-pub scanned_string : (text : List ℕ) (content : Content) → behind_one_quote text ≡ Some content → StringAt (34 ∷ text) content
+pub scanned_string : (text : List ℕ) (content : Content) → after_one_quote text ≡ Some content → StringAt (34 ∷ text) content
 scanned_string [] content h = cc h
 scanned_string (c ∷ cs) content h = elim (eqb_tells c 34) [
   | inl e ↦ rw e.1 (scanned_two cs content (rw e.0 at h))

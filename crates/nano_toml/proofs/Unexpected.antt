@@ -1,7 +1,7 @@
 -- Where a token may not stand.
 use Rattle.std.proofs.Common.{◌≡◌, ℕ, List, String, Global, None, refl}
 use Rattle.nano_toml.specs.Data.{Values}
-use Rattle.nano_toml.specs.Fronts.{array_front, value_front, pair_front, element_front, header_front, statement_front}
+use Rattle.nano_toml.specs.PrefixesLaws.{array_prefix, value_prefix, pair_prefix, element_prefix, header_prefix, statement_prefix}
 use Rattle.nano_toml.specs.Reading.{scalar_at}
 use Rattle.nano_toml.specs.Taken.{a_token, token_of}
 use Rattle.nano_toml.specs.Token.{close_bracket}
@@ -13,19 +13,19 @@ pub no_close : (t : TomlTok) → (t ≡ tok.BlockClose → ⊥) → token_of t �
 no_close tok.BlockClose h e = h refl
 no_close _ h e = cc
 
-pub no_pair : (name : List ℕ) (t : TomlTok) → (t ≡ tok.Equals → ⊥) → Fails (pair_front name) (token_of t)
+pub no_pair : (name : List ℕ) (t : TomlTok) → (t ≡ tok.Equals → ⊥) → Fails (pair_prefix name) (token_of t)
 no_pair name tok.Equals h = absurd (h refl)
 no_pair name tok.Eof h = refl
 no_pair name tok.Bof h = tt
 no_pair name _ h = λ more. refl
 
-pub no_element : (t : TomlTok) → ((key : String Global) → t ≡ tok.Ident key → ⊥) → Fails element_front (token_of t)
+pub no_element : (t : TomlTok) → ((key : String Global) → t ≡ tok.Ident key → ⊥) → Fails element_prefix (token_of t)
 no_element (tok.Ident key) h = absurd (h key refl)
 no_element tok.Eof h = refl
 no_element tok.Bof h = tt
 no_element _ h = λ more. refl
 
-pub no_header : (t : TomlTok) → ((name : String Global) → t ≡ tok.Ident name → ⊥) → ((name : String Global) → t ≡ tok.Str name → ⊥) → (t ≡ tok.BlockOpen → ⊥) → Fails header_front (token_of t)
+pub no_header : (t : TomlTok) → ((name : String Global) → t ≡ tok.Ident name → ⊥) → ((name : String Global) → t ≡ tok.Str name → ⊥) → (t ≡ tok.BlockOpen → ⊥) → Fails header_prefix (token_of t)
 no_header (tok.Ident name) h k o = absurd (h name refl)
 no_header (tok.Str name) h k o = absurd (k name refl)
 no_header tok.BlockOpen h k o = absurd (o refl)
@@ -33,7 +33,7 @@ no_header tok.Eof h k o = refl
 no_header tok.Bof h k o = tt
 no_header _ h k o = λ more. refl
 
-pub no_statement : (t : TomlTok) → ((name : String Global) → t ≡ tok.Ident name → ⊥) → ((name : String Global) → t ≡ tok.Str name → ⊥) → (t ≡ tok.BlockOpen → ⊥) → Fails statement_front (token_of t)
+pub no_statement : (t : TomlTok) → ((name : String Global) → t ≡ tok.Ident name → ⊥) → ((name : String Global) → t ≡ tok.Str name → ⊥) → (t ≡ tok.BlockOpen → ⊥) → Fails statement_prefix (token_of t)
 no_statement (tok.Ident name) h k o = absurd (h name refl)
 no_statement (tok.Str name) h k o = absurd (k name refl)
 no_statement tok.BlockOpen h k o = absurd (o refl)
@@ -43,7 +43,7 @@ no_statement _ h k o = λ more. refl
 
 -- what is no scalar, no bracket, no comma and not the end may not stand in an array
 pub no_item : (outer : List Values) (here : Values) (t : TomlTok) → scalar_at (token_of t) ≡ None
-    → (t ≡ tok.Comma → ⊥) → (t ≡ tok.BlockOpen → ⊥) → (t ≡ tok.BlockClose → ⊥) → (t ≡ tok.Eof → ⊥) → Fails (array_front outer here) (token_of t)
+    → (t ≡ tok.Comma → ⊥) → (t ≡ tok.BlockOpen → ⊥) → (t ≡ tok.BlockClose → ⊥) → (t ≡ tok.Eof → ⊥) → Fails (array_prefix outer here) (token_of t)
 no_item outer here tok.Comma s c o b e = absurd (c refl)
 no_item outer here tok.BlockOpen s c o b e = absurd (o refl)
 no_item outer here tok.BlockClose s c o b e = absurd (b refl)
@@ -54,7 +54,7 @@ no_item outer here (tok.Ident name) s c o b e = λ more. refl
 no_item outer here _ s c o b e = absurd (cc)
 
 -- what is no scalar and no bracket begins no value
-pub no_value : (t : TomlTok) → scalar_at (token_of t) ≡ None → (t ≡ tok.BlockOpen → ⊥) → Fails value_front (token_of t)
+pub no_value : (t : TomlTok) → scalar_at (token_of t) ≡ None → (t ≡ tok.BlockOpen → ⊥) → Fails value_prefix (token_of t)
 no_value tok.BlockOpen s o = absurd (o refl)
 no_value tok.Eof s o = refl
 no_value tok.Bof s o = tt

@@ -2,9 +2,10 @@
 use Rattle.std.proofs.Common.{◌≡◌, ℕ, ◌+◌, ◌-◌, ◌*◌, ◌^◌, ◌≤◌, nat_lt, List, [], ◌∷◌, Bool, true, false, cond, Some, None, refl, sym, ◌∙◌, arith}
 use Rattle.std.proofs.lemmas.Bool.Decides.{nat_tests}
 use Rattle.nano_toml.specs.Number.{value_from}
-use Rattle.nano_toml.specs.Scan.{fitting, more_value, value_at}
+use Rattle.nano_toml.specs.Scan.{fitting, more_value}
+use Rattle.nano_toml.specs.ScanLaws.{value_at}
 
--- a value that is too great stays so
+-- a value that is too large remains too large
 value_none : (ds : List ℕ) → value_at None ds ≡ None
 value_none [] = refl
 value_none (c ∷ cs) = value_none cs

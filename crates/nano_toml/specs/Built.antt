@@ -1,7 +1,7 @@
 -- The table of statements while it is built. Contracts of private functions alone name these words.
 use Rattle.std.proofs.Common.{Bor}
-use Rattle.std.specs.Prelude.{◌≡◌, ℕ, List, [], ◌∷◌, ◌++◌, Option, Some, None}
-use Rattle.std.specs.Prelude.{string_bytes, if◌then◌else◌}
+use Rattle.std.specs.Prelude.{◌≡◌, ℕ, List, [], ◌∷◌, ◌++◌, Option, Some, None, string_bytes}
+use Rattle.std.specs.Prelude.{if◌then◌else◌}
 use Rattle.std.specs.Str.{bytes_eq}
 use Rattle.nano_toml.specs.Data.{Data, tables, Tables, no_tables, more_tables, Table, no_pairs, at}
 use Rattle.nano_toml.specs.Statements.{Statement, element, pair}
@@ -61,8 +61,9 @@ ArePlain (s ∷ ss) = IsPlain s × ArePlain ss
 abbrev pub Stands : List Statement → Table → Option (List ℕ) → Table → Type 0
 Stands done root None table = NoElement done × IsTableOf done root × (table ≡ no_pairs)
 Stands done root (Some key) table =
-    (before behind : List Statement) × (done ≡ before ++ element key ∷ behind) × NoElement behind
-    × IsTableOf before root × HasLast (pairs (before ++ element key ∷ []) behind) table
+    (before following : List Statement) × (done ≡ before ++ element key ∷ following)
+    × NoElement following
+    × IsTableOf before root × HasLast (pairs (before ++ element key ∷ []) following) table
 
 -- the characters of a key, if there is one
 abbrev pub key_of : Option (Bor (List ℕ)) → Option (List ℕ)

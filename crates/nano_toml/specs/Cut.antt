@@ -10,24 +10,25 @@ use Rattle.nano_toml.specs.Quoted.{IsString}
 use Rattle.nano_toml.specs.Number.{IsNumber}
 
 -- the tokens of one character
-abbrev pub mark_token : ℕ → Option Token
-mark_token c =
+abbrev pub punctuator_token : ℕ → Option Token
+punctuator_token c =
     if c == 44 then Some comma
     else if c == 91 then Some open_bracket
     else if c == 93 then Some close_bracket
     else if c == 61 then Some equals
     else None
 
--- the text begins with one lexeme of the token, and rest stands behind it
+-- the text begins with one lexeme of the token, and rest comes after it
 pub data Lexeme (text : List ℕ) (token : Token) (rest : List ℕ) : Type 0 where
-  a_mark : (c : ℕ) → mark_token c ≡ Some token → text ≡ c ∷ rest → Lexeme text token rest
+  a_punctuator : (c : ℕ) → punctuator_token c ≡ Some token → text ≡ c ∷ rest
+      → Lexeme text token rest
   a_word : (word : List ℕ) → IsWord word → begins is_in_word rest ≡ false → text ≡ word ++ rest
       → token ≡ word_token word → Lexeme text token rest
   a_string : (chars : List ℕ) → IsString text chars rest → token ≡ string (encode_utf8_all chars)
       → Lexeme text token rest
   a_number : IsNumber text token rest → Lexeme text token rest
 
--- the token is cut from the text: behind what is skipped stands one lexeme, and then rest
+-- the token is split off the text: after what is skipped comes one lexeme, and then rest
 pub record Cut (text : List ℕ) (token : Token) (rest : List ℕ) : Type 0 where
   pub gaps : List Gap
   pub from : List ℕ

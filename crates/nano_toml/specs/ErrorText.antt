@@ -1,4 +1,4 @@
--- What an error tells, and the line that it prints.
+-- What an error reports, and the line that it prints.
 use Rattle.std.below.core.specs.declared.int.usize.TheConstants.{MAX}
 use Rattle.std.specs.Prelude.{◌≡◌, ℕ, ◌+◌, List, ◌++◌, codes, min, string_bytes}
 use Rattle.std.specs.Fmt.{decimal}
@@ -15,15 +15,15 @@ word_of lexeme.Infinity = codes "inf"
 word_of lexeme.Quoted = codes "string"
 word_of lexeme.Character = codes "tokenizer"
 
--- the text is the message of the fault; a token is shown in some form, and want of memory has no
--- message
-abbrev pub Tells : Fault → List ℕ → Type 0
-Tells fault.Memory text = ⊥
-Tells (fault.Malformed lexeme) text =
+-- the text is the message of the fault; a token is shown in some form, and out of memory has
+-- no message
+abbrev pub Reports : Fault → List ℕ → Type 0
+Reports fault.Memory text = ⊥
+Reports (fault.Malformed lexeme) text =
     text ≡ codes "Cannot parse toml " ++ (word_of lexeme ++ codes " ")
-Tells (fault.Unexpected token) text =
+Reports (fault.Unexpected token) text =
     (shown : List ℕ) × (text ≡ codes "Unexpected token " ++ (shown ++ codes " "))
-Tells (fault.OtherKind key) text =
+Reports (fault.OtherKind key) text =
     text ≡ codes "Array header on another kind " ++ (string_bytes key ++ codes " ")
 
 -- the fault of a header `[[key]]` on a key that a pair gave
@@ -33,9 +33,9 @@ IsOtherKind e key = ⊥
 
 -- the text is the message of a fault
 abbrev pub IsMessage : List ℕ → Type 0
-IsMessage text = (fault : Fault) × Tells fault text
+IsMessage text = (fault : Fault) × Reports fault text
 
--- counted from 1 in place of 0; the count stands still at the greatest number
+-- counted from 1 in place of 0; the count saturates at the greatest number
 abbrev pub from_one : ℕ → ℕ
 from_one n = min (n + 1) MAX
 

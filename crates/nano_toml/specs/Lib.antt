@@ -3,9 +3,10 @@ pub mod Characters
 pub mod Cut
 pub mod Data
 pub mod ErrorText
-pub mod Fronts
+pub mod Prefixes
+pub mod PrefixesLaws
 pub mod Kinds
-pub mod LiveText
+pub mod RemainingText
 pub mod Number
 pub mod OneTable
 pub mod Outcomes
@@ -14,7 +15,9 @@ pub mod Plain
 pub mod Quoted
 pub mod Reading
 pub mod SameData
+pub mod SameDataLaws
 pub mod Scan
+pub mod ScanLaws
 pub mod Skipped
 pub mod Span
 pub mod StatementTable

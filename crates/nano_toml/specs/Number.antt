@@ -1,5 +1,5 @@
--- Numbers: a sign, and what stands behind it. What that may be, which token it is, and what may not
--- follow.
+-- Numbers: a sign, and what comes after it. What that may be, which token it is, and what may
+-- not follow.
 use Rattle.std.specs.Prelude.{◌≡◌, ℕ, pos, neg_ℤ, ◌+◌, ◌-◌, ◌*◌, ◌^◌, ◌<◌, ◌≤◌, ◌==◌, Bool, true}
 use Rattle.std.specs.Prelude.{false, cond, List, [], ◌∷◌, ◌++◌, length, codes, filter, Option, Some}
 use Rattle.std.specs.Prelude.{None}
@@ -8,13 +8,13 @@ use Rattle.nano_toml.specs.Characters.{Each}
 use Rattle.nano_toml.specs.Span.{begins}
 use Rattle.nano_toml.specs.Token.{Token, unsigned, signed, decimal, nan, infinity, date}
 
--- what stands behind the sign. Digits are written with underscores in any place
+-- what comes after the sign. Digits are written with underscores in any place
 pub data Body : Type 0 where
   is_nan : Body
   is_infinity : Body
-  -- the digits before the point, and those behind it
+  -- the digits before the point, and those after it
   is_decimal : List ℕ → List ℕ → Body
-  -- the digits before the first `-`, and what stands behind it
+  -- the digits before the first `-`, and what comes after it
   is_date : List ℕ → List ℕ → Body
   is_integer : List ℕ → Body
 
@@ -30,7 +30,7 @@ body_text (is_integer whole) = whole
 abbrev pub digits : List ℕ → List ℕ
 digits run = filter is_digit run
 
--- the number that digits write, behind others that write n
+-- the number that digits encode, after others that encode n
 abbrev pub value_from : ℕ → List ℕ → ℕ
 value_from n [] = n
 value_from n (c ∷ cs) = value_from (n * 10 + (c - 48)) cs
@@ -63,9 +63,9 @@ goes_on (is_decimal whole part) c = is_in_digits c
 goes_on (is_date first more) c = is_in_date c
 goes_on (is_integer whole) c = goes_on_integer c
 
--- a minus sign is kept in a text
-abbrev pub kept_sign : Bool → List ℕ
-kept_sign minus = cond minus (45 ∷ []) []
+-- a text retains a minus sign
+abbrev pub unchanged_sign : Bool → List ℕ
+unchanged_sign minus = cond minus (45 ∷ []) []
 
 abbrev pub integer_token : Bool → ℕ → Token
 integer_token true n = signed (neg_ℤ (pos n))
@@ -75,8 +75,8 @@ abbrev pub body_token : Bool → Body → Token
 body_token minus is_nan = nan minus
 body_token minus is_infinity = infinity minus
 body_token minus (is_decimal whole part) =
-    decimal (kept_sign minus ++ (digits whole ++ 46 ∷ digits part))
-body_token minus (is_date first more) = date (kept_sign minus ++ (digits first ++ 45 ∷ more))
+    decimal (unchanged_sign minus ++ (digits whole ++ 46 ∷ digits part))
+body_token minus (is_date first more) = date (unchanged_sign minus ++ (digits first ++ 45 ∷ more))
 body_token minus (is_integer whole) = integer_token minus (value whole)
 
 -- the character of a sign, if there is one
@@ -93,7 +93,7 @@ abbrev pub SignFits : Option ℕ → List ℕ → Type 0
 SignFits None text = begins is_digit text ≡ true
 SignFits (Some c) text = is_sign c ≡ true
 
--- the text begins with a number, and rest stands behind it
+-- the text begins with a number, and rest comes after it
 pub record IsNumber (text : List ℕ) (token : Token) (rest : List ℕ) : Type 0 where
   pub sign : Option ℕ
   pub body : Body

@@ -3,7 +3,7 @@
 use Rattle.std.specs.Prelude.{◌≡◌, ℕ, List, String}
 use Rattle.std.specs.declared.alloc.Global.{Global}
 use Rattle.nano_toml.specs.Statements.{Statement}
-use Rattle.nano_toml.specs.StatementTable.{IsTableOf, SpellsTable}
+use Rattle.nano_toml.specs.StatementTable.{IsTableOf, EncodesTable}
 use Rattle.nano_toml.specs.View.{table_view}
 use Rattle.nano_toml.specs.declared.value.Toml.{Toml}
 
@@ -17,8 +17,8 @@ HasOneTable ss =
     (one other : Pairs) → IsTableOf ss (table_view one) → IsTableOf ss (table_view other)
     → table_view one ≡ table_view other
 
--- two tables that the text spells are one
-abbrev pub SpellsOneTable : List ℕ → Type 0
-SpellsOneTable text =
-    (one other : Pairs) → SpellsTable text (table_view one) → SpellsTable text (table_view other)
+-- two tables that the text encodes are equal
+abbrev pub EncodesOneTable : List ℕ → Type 0
+EncodesOneTable text =
+    (one other : Pairs) → EncodesTable text (table_view one) → EncodesTable text (table_view other)
     → table_view one ≡ table_view other

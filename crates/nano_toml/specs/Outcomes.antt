@@ -1,9 +1,10 @@
--- What the calls of the tokenizer and of the reader answer. Want of memory says nothing of a text.
-use Rattle.std.specs.Prelude.{◌≡◌, ◌≢◌, ℕ, List, ◌++◌, Option, Some, Result, IfOk, IfErr}
-use Rattle.std.specs.Prelude.{String, string_bytes}
+-- What the calls of the tokenizer and of the reader return. Out of memory says nothing about a
+-- text.
+use Rattle.std.specs.Prelude.{◌≡◌, ◌≢◌, ℕ, List, ◌++◌, Option, Some, Result, IfOk, IfErr, String}
+use Rattle.std.specs.Prelude.{string_bytes}
 use Rattle.std.specs.declared.alloc.Global.{Global}
 use Rattle.nano_toml.specs.Data.{Data}
-use Rattle.nano_toml.specs.Fronts.{Front, Reads}
+use Rattle.nano_toml.specs.Prefixes.{Prefix, Parses}
 use Rattle.nano_toml.specs.Reading.{statement_view}
 use Rattle.nano_toml.specs.Scan.{Content, Taken}
 use Rattle.nano_toml.specs.Statements.{Statement as Stated}
@@ -16,31 +17,32 @@ use Rattle.nano_toml.specs.declared.statements.Statement.{Statement}
 use Rattle.nano_toml.specs.declared.token.TomlTok.{TomlTok}
 use Rattle.nano_toml.specs.declared.value.Toml.{Toml}
 
--- what holds where the call tells a fault of the text
+-- what holds where the call reports a fault of the text
 abbrev pub OnFault : {A : Type 0} → Result A Fault → Type 0 → Type 0
 OnFault result holds = IfErr result (λ e. e ≢ Memory → holds)
 
--- the fault of the text that the call tells
+-- the fault of the text that the call reports
 abbrev pub FaultIs : {A : Type 0} → Result A Fault → Fault → Type 0
 FaultIs result fault = IfErr result (λ e. e ≢ Memory → e ≡ fault)
 
--- the call puts more behind the text
+-- the call appends more to the text
 abbrev pub Appends : String Global → String Global → List ℕ → Type 0
 Appends old new more = string_bytes new ≡ string_bytes old ++ more
 
--- a string that was found, and what is left behind it
+-- a string that was found, and what is left after it
 abbrev pub content : String Global → List ℕ → Option Content
 content text left = Some (record { bytes = string_bytes text; rest = left })
 
--- the call answers the token that the scan finds, and left is left behind it
+-- the call returns the token that the scan finds, and left is left after it
 abbrev pub Takes : {E : Type 0} → Result TomlTok E → Option Taken → List ℕ → Type 0
 Takes result scan left = IfOk result (λ t. scan ≡ Some (record { next = token_of t; rest = left }))
 
--- the call answers the value that stands at the front of the text, and left is left behind it
-abbrev pub ReadsValue : Result Toml Fault → (List Token → Front Data) → List ℕ → List ℕ → Type 0
-ReadsValue result front text left = IfOk result (λ value. Reads front text (view value) left)
+-- the call returns the value that is the prefix of the text, and left is left after it
+abbrev pub ParsesValue : Result Toml Fault → (List Token → Prefix Data) → List ℕ → List ℕ → Type 0
+ParsesValue result prefix text left = IfOk result (λ value. Parses prefix text (view value) left)
 
 -- the same of a statement
-abbrev pub ReadsStatement :
-    Result Statement Fault → (List Token → Front Stated) → List ℕ → List ℕ → Type 0
-ReadsStatement result front text left = IfOk result (λ s. Reads front text (statement_view s) left)
+abbrev pub ParsesStatement :
+    Result Statement Fault → (List Token → Prefix Stated) → List ℕ → List ℕ → Type 0
+ParsesStatement result prefix text left = IfOk result
+    (λ s. Parses prefix text (statement_view s) left)

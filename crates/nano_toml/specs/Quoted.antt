@@ -56,7 +56,7 @@ AreTriplePieces (quotes run ∷ more) =
     Each is_quote run × (0 < length run) × (length run ≢ 3)
     × StopsQuotes more × AreTriplePieces more
 
--- the text begins with a string of these characters, and rest stands behind it
+-- the text begins with a string of these characters, and rest comes after it
 pub data IsString (text chars rest : List ℕ) : Type 0 where
   empty : text ≡ 34 ∷ (34 ∷ rest) → begins is_quote rest ≡ false → chars ≡ []
       → IsString text chars rest

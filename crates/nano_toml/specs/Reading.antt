@@ -2,7 +2,7 @@
 use Rattle.std.specs.Prelude.{◌≡◌, ℕ, List, [], ◌∷◌, Option, Some, None, string_bytes, Vec}
 use Rattle.std.specs.declared.alloc.Global.{Global}
 use Rattle.nano_toml.specs.Data.{Data, Values}
-use Rattle.nano_toml.specs.Statements.{Statement, scope, element, pair, Spells, scalar_of}
+use Rattle.nano_toml.specs.Statements.{Statement, scope, element, pair, Encodes, scalar_of}
 use Rattle.nano_toml.specs.Taken.{Next, a_token, the_end, nothing_yet}
 use Rattle.nano_toml.specs.View.{view, values_view}
 use Rattle.nano_toml.specs.declared.statements.Name.{Name}
@@ -33,15 +33,15 @@ abbrev pub arrays_view : List (Vec Toml Global) → List Values → List Values
 arrays_view [] inner = inner
 arrays_view (array ∷ arrays) inner = arrays_view arrays (values_view array.items ∷ inner)
 
--- what stands in the text next: no statement and nothing else, or this statement and then what rest
--- spells
+-- what comes next in the text: no statement and nothing else, or this statement and then what
+-- rest encodes
 abbrev pub IsNext : List ℕ → Option Statement → List ℕ → Type 0
-IsNext text None rest = Spells text [] × ((ss : List Statement) → Spells text ss → ss ≡ [])
+IsNext text None rest = Encodes text [] × ((ss : List Statement) → Encodes text ss → ss ≡ [])
 IsNext text (Some s) rest =
-    ((more : List Statement) → Spells rest more → Spells text (s ∷ more))
-    × ((ss : List Statement) → Spells text ss
-    → (more : List Statement) × (ss ≡ s ∷ more) × Spells rest more)
+    ((more : List Statement) → Encodes rest more → Encodes text (s ∷ more))
+    × ((ss : List Statement) → Encodes text ss
+    → (more : List Statement) × (ss ≡ s ∷ more) × Encodes rest more)
 
--- the text spells no statements
-abbrev pub SpellsNothing : List ℕ → Type 0
-SpellsNothing text = (ss : List Statement) → Spells text ss → ⊥
+-- the text encodes no statements
+abbrev pub EncodesNothing : List ℕ → Type 0
+EncodesNothing text = (ss : List Statement) → Encodes text ss → ⊥

@@ -3,7 +3,7 @@ use Rattle.std.specs.Prelude.{◌≡◌, ℕ, List, [], ◌∷◌, ◌++◌, Opt
 use Rattle.std.specs.Prelude.{unwrap_or}
 use Rattle.std.specs.Str.{bytes_eq}
 use Rattle.nano_toml.specs.Data.{Data, tables, Tables, no_tables, more_tables, Table, at}
-use Rattle.nano_toml.specs.Statements.{Statement, scope, element, pair, Spells}
+use Rattle.nano_toml.specs.Statements.{Statement, scope, element, pair, Encodes}
 
 -- a full key and its value
 abbrev pub Pair : Type 0
@@ -88,16 +88,16 @@ IsLawful ss =
     (before after : List Statement) (key : List ℕ) → ss ≡ before ++ element key ∷ after
     → last_value key (root_pairs ss) ≡ None
 
--- the text spells lawful statements, and this is their table
-abbrev pub SpellsTable : List ℕ → Table → Type 0
-SpellsTable text table =
-    (ss : List Statement) × Spells text ss × IsLawful ss × IsTableOf ss table
+-- the text encodes lawful statements, and this is their table
+abbrev pub EncodesTable : List ℕ → Table → Type 0
+EncodesTable text table =
+    (ss : List Statement) × Encodes text ss × IsLawful ss × IsTableOf ss table
 
--- the text spells no lawful statements
-abbrev pub SpellsNoTable : List ℕ → Type 0
-SpellsNoTable text = (ss : List Statement) → Spells text ss → IsLawful ss → ⊥
+-- the text encodes no lawful statements
+abbrev pub EncodesNoTable : List ℕ → Type 0
+EncodesNoTable text = (ss : List Statement) → Encodes text ss → IsLawful ss → ⊥
 
--- two lists that the text spells are one
-abbrev pub SpellsOneList : List ℕ → Type 0
-SpellsOneList text =
-    (one other : List Statement) → Spells text one → Spells text other → one ≡ other
+-- two lists that the text encodes are equal
+abbrev pub EncodesOneList : List ℕ → Type 0
+EncodesOneList text =
+    (one other : List Statement) → Encodes text one → Encodes text other → one ≡ other

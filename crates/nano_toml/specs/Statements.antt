@@ -1,4 +1,4 @@
--- Values and statements as tokens, and the statements that a text spells.
+-- Values and statements as tokens, and the statements that a text encodes.
 use Rattle.std.specs.Prelude.{◌≡◌, ℕ, pos, List, [], ◌∷◌, ◌++◌, ◌⊎◌, Option, Some, None}
 use Rattle.std.specs.List.{AllByRecursion}
 use Rattle.nano_toml.specs.Cut.{Tokens}
@@ -83,6 +83,6 @@ AreStatements ts (s ∷ ss) =
     × (ts ≡ here ++ more))
     ⊎ (IsStatement IsOpen ts s × (ss ≡ []))
 
--- the text spells the statements
-abbrev pub Spells : List ℕ → List Statement → Type 0
-Spells text ss = (ts : List Token) × Tokens text ts × AreStatements ts ss
+-- the text encodes the statements
+abbrev pub Encodes : List ℕ → List Statement → Type 0
+Encodes text ss = (ts : List Token) × Tokens text ts × AreStatements ts ss

@@ -1,19 +1,20 @@
-//! Why a text was refused.
+//! Why a text was rejected.
 
 use std::alloc::AllocError;
 use std::error::Error;
 use std::fmt;
 
-/// Why a text was refused, and where.
+/// Why a text was rejected, and where.
 ///
 /// The messages, each with a space at its end:
 /// `Cannot parse toml {what} `, where the characters begin no token;
 /// `Unexpected token {token} `, where a token stands where none of its kind may;
-/// `Array header on another kind {key} `, where a header `[[key]]` names a key that a pair gave.
-/// Where memory was wanted, `memory` is true and `msg` is empty.
+/// `Array header on another kind {key} `, where a header `[[key]]` names a key that a pair
+/// gave.
+/// On out of memory, `memory` is true and `msg` is empty.
 ///
-/// The place is where reading stood: behind the last character that was taken, which may be the one
-/// that follows the token at fault.
+/// The place is where reading stopped: after the last character that was taken, which may be
+/// the one that follows the token at fault.
 #[derive(Drop)]
 pub struct TomlErr {
     /// What is wrong.
@@ -29,7 +30,7 @@ pub struct TomlErr {
 impl TomlErr {
     ghost use Rattle.std.specs.Prelude.{◌≡◌, IfOk, string_bytes};
 
-    /// A copy of the error. The error of the copy is want of memory.
+    /// A copy of the error. Copying itself fails only with out of memory.
     pub fn clone(&self) -> Result<TomlErr, AllocError>
         ensures message { IfOk result (λ copy. string_bytes copy.msg ≡ string_bytes self.now.msg) }
         ensures line { IfOk result (λ copy. copy.line ≡ self.now.line) }

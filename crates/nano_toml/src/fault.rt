@@ -32,7 +32,7 @@ impl Lexeme {
     }
 }
 
-/// Why the reader stopped: want of memory, or what is wrong with the text.
+/// Why the reader stopped: out of memory, or what is wrong with the text.
 #[derive(Drop)]
 pub(crate) enum Fault {
     Memory,

@@ -3,9 +3,9 @@
 
 ghost use Rattle.std.specs.Prelude.{ℕ, List};
 ghost use Rattle.nano_toml.specs.Cut.{IsCutInOneWay};
-ghost use Rattle.nano_toml.specs.OneTable.{HasOneTable, SpellsOneTable};
+ghost use Rattle.nano_toml.specs.OneTable.{HasOneTable, EncodesOneTable};
 ghost use Rattle.nano_toml.specs.SameData.{EqIsReflexive, EqIsSymmetric, EqIsTransitive};
-ghost use Rattle.nano_toml.specs.StatementTable.{SpellsOneList};
+ghost use Rattle.nano_toml.specs.StatementTable.{EncodesOneList};
 ghost use Rattle.nano_toml.specs.Statements.{Statement};
 
 /// Each value equals itself by `==`, `Nan` included.
@@ -28,9 +28,9 @@ pub fn text_is_cut_in_one_way()
     ensures { (text : List ℕ) → IsCutInOneWay text }
 {}
 
-/// A text spells one list of statements at most.
-pub fn text_spells_one_list()
-    ensures { (text : List ℕ) → SpellsOneList text }
+/// A text encodes at most one list of statements.
+pub fn text_encodes_one_list()
+    ensures { (text : List ℕ) → EncodesOneList text }
 {}
 
 /// A list of statements has one table at most: two tables of it have the same value.
@@ -38,7 +38,7 @@ pub fn list_has_one_table()
     ensures { (statements : List Statement) → HasOneTable statements }
 {}
 
-/// A text spells one table at most: two answers of `parse` for one text have the same value.
-pub fn text_spells_one_table()
-    ensures { (text : List ℕ) → SpellsOneTable text }
+/// A text encodes at most one table: two results of `parse` for one text have the same value.
+pub fn text_encodes_one_table()
+    ensures { (text : List ℕ) → EncodesOneTable text }
 {}

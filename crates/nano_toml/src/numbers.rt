@@ -1,16 +1,17 @@
-// Numbers and dates.
+//! Numbers and dates.
+
 ghost use Rattle.std.specs.Prelude.{◌≡◌, ◌==◌, ◌^◌, ◌++◌, pos, neg_ℤ, nat_le, true};
 ghost use Rattle.std.specs.Prelude.{Some, None, OnOk, OnErr, IfOk, IfErr, string_bytes};
 ghost use Rattle.std.specs.Prelude.{if◌then◌else◌};
 ghost use Rattle.nano_toml.specs.Characters.{is_sign, is_digit, starts_number, is_in_digits};
 ghost use Rattle.nano_toml.specs.Characters.{is_in_date};
-ghost use Rattle.nano_toml.specs.LiveText.{live};
-ghost use Rattle.nano_toml.specs.Number.{digits, value, kept_sign};
+ghost use Rattle.nano_toml.specs.RemainingText.{remaining};
+ghost use Rattle.nano_toml.specs.Number.{digits, value, unchanged_sign};
 ghost use Rattle.nano_toml.specs.Outcomes.{OnFault, FaultIs, Appends, Takes};
 ghost use Rattle.nano_toml.specs.Scan.{n_a_n, i_n_f, number_from};
 ghost use Rattle.nano_toml.specs.Scan.{tail, any_digit, fitting, more_value, decimal_at, date_at};
 ghost use Rattle.nano_toml.specs.Scan.{integer_from, word_at, number_at};
-ghost use Rattle.nano_toml.specs.Span.{front, behind, begins};
+ghost use Rattle.nano_toml.specs.Span.{prefix, following, begins};
 ghost use Rattle.nano_toml.specs.Taken.{token_of};
 ghost use Rattle.nano_toml.specs.Token.{nan, infinity};
 
@@ -84,7 +85,7 @@ fn has_digit(run: &str) -> bool
     false
 }
 
-/// Puts the digits of a run behind the text.
+/// Appends the digits of a run to the text.
 fn push_digits(text: &mut String, run: &str) -> Result<(), AllocError>
     ensures { OnOk result (Appends text.old text.new (digits run.now)) }
 {
@@ -121,8 +122,8 @@ fn negative(size: u64) -> Option<i64>
 fn integer(minus: bool, digits: Digits) -> Result<TomlTok, Fault>
     ensures found { IfOk result
         (λ t. integer_from minus digits.any digits.value ≡ Some (token_of t)) }
-    ensures refused { OnErr result (integer_from minus digits.any digits.value ≡ None) }
-    ensures told { IfErr result (λ e. e ≡ Fault.Malformed Lexeme.Number) }
+    ensures rejected { OnErr result (integer_from minus digits.any digits.value ≡ None) }
+    ensures reported { IfErr result (λ e. e ≡ Fault.Malformed Lexeme.Number) }
 {
     match digits.value {
         Some(size) if digits.any => {
@@ -138,12 +139,12 @@ fn integer(minus: bool, digits: Digits) -> Result<TomlTok, Fault>
     }
 }
 
-/// The sign that is kept of a number's text and the digits of a run, with room for more bytes.
+/// The sign that a number's text retains and the digits of a run, with capacity for more bytes.
 fn start_text(alloc: Global, minus: bool, run: &str, more: usize) -> Result<String, AllocError>
-    ensures { IfOk result (λ text. string_bytes text ≡ kept_sign minus ++ digits run.now) }
+    ensures { IfOk result (λ text. string_bytes text ≡ unchanged_sign minus ++ digits run.now) }
 {
-    let room = run.len().saturating_add(more).saturating_add(1);
-    let mut text = String::with_capacity(alloc, room)?;
+    let capacity = run.len().saturating_add(more).saturating_add(1);
+    let mut text = String::with_capacity(alloc, capacity)?;
     if minus {
         text.push('-')?;
     }
@@ -154,9 +155,9 @@ fn start_text(alloc: Global, minus: bool, run: &str, more: usize) -> Result<Stri
 impl<'a> Cursor<'a> {
     /// Takes a sign, if there is one, and answers whether it is a minus.
     fn read_sign(&mut self) -> bool
-        ensures minus { result ≡ begins (λ c. c == 45) (live self.old) }
-        ensures rest { live self.new
-            ≡ (if begins is_sign (live self.old) then tail (live self.old) else live self.old) }
+        ensures minus { result ≡ begins (λ c. c == 45) (remaining self.old) }
+        ensures rest { remaining self.new
+            ≡ (if begins is_sign (remaining self.old) then tail (remaining self.old) else remaining self.old) }
     {
         let first = self.first();
         let minus = first == b'-';
@@ -168,26 +169,26 @@ impl<'a> Cursor<'a> {
 
     /// Takes digits and underscores.
     fn read_digits(&mut self) -> &'a str
-        ensures text { result.now ≡ front is_in_digits (live self.old) }
-        ensures rest { live self.new ≡ behind is_in_digits (live self.old) }
+        ensures text { result.now ≡ prefix is_in_digits (remaining self.old) }
+        ensures rest { remaining self.new ≡ following is_in_digits (remaining self.old) }
     {
         self.take_while(is_in_digits)
     }
 
     /// Takes digits, `:`, `-` and `T`.
     fn read_rest_of_date(&mut self) -> &'a str
-        ensures text { result.now ≡ front is_in_date (live self.old) }
-        ensures rest { live self.new ≡ behind is_in_date (live self.old) }
+        ensures text { result.now ≡ prefix is_in_date (remaining self.old) }
+        ensures rest { remaining self.new ≡ following is_in_date (remaining self.old) }
     {
         self.take_while(is_in_date)
     }
 
-    /// Reads a decimal, behind its point, with these digits before the point.
+    /// Reads a decimal, after its point, with these digits before the point.
     fn read_decimal(&mut self, alloc: Global, minus: bool, whole: &str) -> Result<TomlTok, Fault>
         ensures found { Takes result
-            (decimal_at minus whole.now (live self.old)) (live self.new) }
-        ensures refused { OnFault result (decimal_at minus whole.now (live self.old) ≡ None) }
-        ensures told { FaultIs result (Fault.Malformed Lexeme.Number) }
+            (decimal_at minus whole.now (remaining self.old)) (remaining self.new) }
+        ensures rejected { OnFault result (decimal_at minus whole.now (remaining self.old) ≡ None) }
+        ensures reported { FaultIs result (Fault.Malformed Lexeme.Number) }
     {
         let part = self.read_digits();
         let before = has_digit(whole);
@@ -202,9 +203,9 @@ impl<'a> Cursor<'a> {
         }
     }
 
-    /// Reads a date, behind its first minus, with these digits before it.
+    /// Reads a date, after its first minus, with these digits before it.
     fn read_date(&mut self, alloc: Global, minus: bool, first: &str) -> Result<TomlTok, AllocError>
-        ensures { Takes result (date_at minus first.now (live self.old)) (live self.new) }
+        ensures { Takes result (date_at minus first.now (remaining self.old)) (remaining self.new) }
     {
         let more = self.read_rest_of_date();
         let mut text = start_text(alloc, minus, first, more.len().saturating_add(1))?;
@@ -215,9 +216,9 @@ impl<'a> Cursor<'a> {
 
     /// Reads `nan`.
     fn read_nan(&mut self, minus: bool) -> Result<TomlTok, Fault>
-        ensures found { Takes result (word_at (nan minus) n_a_n (live self.old)) (live self.new) }
-        ensures refused { OnFault result (word_at (nan minus) n_a_n (live self.old) ≡ None) }
-        ensures told { FaultIs result (Fault.Malformed Lexeme.Nan) }
+        ensures found { Takes result (word_at (nan minus) n_a_n (remaining self.old)) (remaining self.new) }
+        ensures rejected { OnFault result (word_at (nan minus) n_a_n (remaining self.old) ≡ None) }
+        ensures reported { FaultIs result (Fault.Malformed Lexeme.Nan) }
     {
         if self.take(b'n') && self.take(b'a') && self.take(b'n') {
             Ok(TomlTok::Nan(minus))
@@ -229,8 +230,8 @@ impl<'a> Cursor<'a> {
     /// Reads `inf`.
     fn read_infinity(&mut self, minus: bool) -> Result<TomlTok, Fault>
         ensures found { Takes result
-            (word_at (infinity minus) i_n_f (live self.old)) (live self.new) }
-        ensures refused { OnFault result (word_at (infinity minus) i_n_f (live self.old) ≡ None) }
+            (word_at (infinity minus) i_n_f (remaining self.old)) (remaining self.new) }
+        ensures rejected { OnFault result (word_at (infinity minus) i_n_f (remaining self.old) ≡ None) }
     {
         if !self.take(b'i') || !self.take(b'n') {
             Err(Fault::Malformed(Lexeme::Nan))
@@ -241,11 +242,11 @@ impl<'a> Cursor<'a> {
         }
     }
 
-    /// Reads a number that starts with digits, behind its sign.
+    /// Reads a number that starts with digits, after its sign.
     fn read_from_digits(&mut self, alloc: Global, minus: bool) -> Result<TomlTok, Fault>
-        ensures found { Takes result (number_from minus (live self.old)) (live self.new) }
-        ensures refused { OnFault result (number_from minus (live self.old) ≡ None) }
-        ensures told { FaultIs result (Fault.Malformed Lexeme.Number) }
+        ensures found { Takes result (number_from minus (remaining self.old)) (remaining self.new) }
+        ensures rejected { OnFault result (number_from minus (remaining self.old) ≡ None) }
+        ensures reported { FaultIs result (Fault.Malformed Lexeme.Number) }
     {
         let whole = self.read_digits();
         if self.take(b'.') {
@@ -259,8 +260,8 @@ impl<'a> Cursor<'a> {
 
     /// Reads a number or a date.
     pub(crate) fn read_number(&mut self, alloc: Global) -> Result<TomlTok, Fault>
-        ensures found { Takes result (number_at (live self.old)) (live self.new) }
-        ensures refused { OnFault result (number_at (live self.old) ≡ None) }
+        ensures found { Takes result (number_at (remaining self.old)) (remaining self.new) }
+        ensures rejected { OnFault result (number_at (remaining self.old) ≡ None) }
     {
         let minus = self.read_sign();
         let first = self.first();

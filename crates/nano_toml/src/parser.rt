@@ -1,11 +1,11 @@
 //! Reads a whole text.
 
 ghost use Rattle.std.specs.Prelude.{◌≡◌, [], true, false, IfOk, IfErr, chars, string_bytes};
-ghost use Rattle.nano_toml.specs.ErrorText.{Tells, IsMessage};
-ghost use Rattle.nano_toml.specs.LiveText.{live, live_text, taken};
+ghost use Rattle.nano_toml.specs.ErrorText.{Reports, IsMessage};
+ghost use Rattle.nano_toml.specs.RemainingText.{remaining, remaining_text, taken};
 ghost use Rattle.nano_toml.specs.Outcomes.{OnFault};
 ghost use Rattle.nano_toml.specs.Place.{IsPlaceIn, line_of, column_of};
-ghost use Rattle.nano_toml.specs.StatementTable.{SpellsTable, SpellsNoTable};
+ghost use Rattle.nano_toml.specs.StatementTable.{EncodesTable, EncodesNoTable};
 ghost use Rattle.nano_toml.specs.View.{table_view};
 
 use crate::error::TomlErr;
@@ -24,11 +24,11 @@ pub struct TomlParser {
     place: Place,
 }
 
-// The table that a text spells.
+// The table that a text encodes.
 fn read_table(reader: &mut Reader) -> Result<Table, Fault>
     ensures found { IfOk result
-        (λ table. SpellsTable (live reader.old.cursor) (table_view table.entries)) }
-    ensures refused { OnFault result (SpellsNoTable (live reader.old.cursor)) }
+        (λ table. EncodesTable (remaining reader.old.cursor) (table_view table.entries)) }
+    ensures rejected { OnFault result (EncodesNoTable (remaining reader.old.cursor)) }
 {
     let mut builder = Builder::new(reader.alloc);
     'statements: while let Some(statement) = reader.read_statement()? {
@@ -37,11 +37,11 @@ fn read_table(reader: &mut Reader) -> Result<Table, Fault>
     Ok(builder.finish(reader.alloc)?)
 }
 
-// What is wrong with the text, or want of memory.
+// What is wrong with the text, or out of memory.
 #[cold]
 #[inline(never)]
 fn message(alloc: Global, fault: Fault) -> Result<String, AllocError>
-    ensures { IfOk result (λ text. Tells fault (string_bytes text)) }
+    ensures { IfOk result (λ text. Reports fault (string_bytes text)) }
 {
     match fault {
         Fault::Memory => Err(AllocError),
@@ -61,20 +61,20 @@ fn message(alloc: Global, fault: Fault) -> Result<String, AllocError>
 fn error_at(input: &str, reader: &Reader, fault: Fault) -> TomlErr
     ensures line { result.line ≡ line_of (taken input.now reader.now.cursor.rest) }
     ensures col { result.col ≡ column_of (taken input.now reader.now.cursor.rest) }
-    ensures told { result.memory ≡ false → Tells fault (string_bytes result.msg) }
+    ensures reported { result.memory ≡ false → Reports fault (string_bytes result.msg) }
     ensures empty { result.memory ≡ true → string_bytes result.msg ≡ [] }
 {
-    let place = Place::behind(input, reader.cursor.taken(input));
+    let place = Place::following(input, reader.cursor.taken(input));
     TomlParser { place }.error(reader.alloc, fault)
 }
 
 impl TomlParser {
-    // The error of a fault that was found here. Where there was no memory for its message, it is
-    // want of memory.
+    // The error of a fault that was found here. If the allocation of its message fails, the
+    // error is out of memory.
     fn error(self, alloc: Global, fault: Fault) -> TomlErr
         ensures line { result.line ≡ self.place.line }
         ensures col { result.col ≡ self.place.col }
-        ensures told { result.memory ≡ false → Tells fault (string_bytes result.msg) }
+        ensures reported { result.memory ≡ false → Reports fault (string_bytes result.msg) }
         ensures empty { result.memory ≡ true → string_bytes result.msg ≡ [] }
     {
         let (msg, memory) = match message(alloc, fault) {
@@ -89,26 +89,26 @@ impl TomlParser {
         }
     }
 
-    /// The table that a text spells.
+    /// The table that a text encodes.
     ///
-    /// It is answered exactly where the text, before its first NUL, is a list of lawful statements:
+    /// It is returned exactly if the text, before its first NUL, is a list of valid statements:
     /// `[name]`, `[[key]]` and `name = value`, with nothing between them but white space and
     /// comments. An array at the very end of the text may lack its closing brackets.
     ///
-    /// A pair stands under its name, or `scope.name` behind a header `[scope]`. Of a key that
-    /// stands twice the last value counts. Each header `[[key]]` adds a table to the `Array` at its
-    /// key, which has the pairs behind the header, up to the next one; the scope stays. A header
-    /// `[[key]]` on a key that a pair gave is not lawful.
+    /// A pair goes under its name, or under `scope.name` after a header `[scope]`. If a key
+    /// occurs twice, the last value counts. Each header `[[key]]` adds a table to the `Array`
+    /// at its key. That table has the pairs after the header, up to the next one; the scope is
+    /// unchanged. A header `[[key]]` on a key that a pair gave is not valid.
     ///
     /// The error says why there is no table, and where that was found; or, with `memory`, that
-    /// memory was wanted.
+    /// memory ran out.
     pub fn parse(alloc: Global, input: &str) -> Result<HashMap<String, Toml>, TomlErr>
         ensures found { IfOk result
-            (λ table. SpellsTable (live_text input.now) (table_view table.entries)) }
-        ensures refused { IfErr result
-            (λ e. e.memory ≡ false → SpellsNoTable (live_text input.now)) }
+            (λ table. EncodesTable (remaining_text input.now) (table_view table.entries)) }
+        ensures rejected { IfErr result
+            (λ e. e.memory ≡ false → EncodesNoTable (remaining_text input.now)) }
         ensures place { IfErr result (λ e. IsPlaceIn (chars input.now) e.line e.col) }
-        ensures told { IfErr result (λ e. e.memory ≡ false → IsMessage (string_bytes e.msg)) }
+        ensures reported { IfErr result (λ e. e.memory ≡ false → IsMessage (string_bytes e.msg)) }
         ensures empty { IfErr result (λ e. e.memory ≡ true → string_bytes e.msg ≡ []) }
     {
         let mut reader = Reader::new(alloc, input);

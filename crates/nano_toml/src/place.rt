@@ -13,8 +13,8 @@ pub(crate) struct Place {
 }
 
 impl Place {
-    /// The place behind so many characters of a text.
-    pub(crate) fn behind(text: &str, taken: usize) -> Place
+    /// The place after so many characters of a text.
+    pub(crate) fn following(text: &str, taken: usize) -> Place
         ensures line { result.line ≡ line_of (take taken (chars text.now)) }
         ensures col { result.col ≡ column_of (take taken (chars text.now)) }
     {

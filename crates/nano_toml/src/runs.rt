@@ -1,9 +1,10 @@
-// Runs of characters, which are taken at once.
+//! Runs of characters, which are taken at once.
+
 ghost use Rattle.std.specs.Prelude.{◌≡◌, ℕ, Bool, length, encode_utf8_all};
 ghost use Rattle.nano_toml.specs.Characters.{IsByteTest};
-ghost use Rattle.nano_toml.specs.LiveText.{live};
+ghost use Rattle.nano_toml.specs.RemainingText.{remaining};
 ghost use Rattle.nano_toml.specs.Plain.{is_plain, is_in_line};
-ghost use Rattle.nano_toml.specs.Span.{front, behind, IsTest};
+ghost use Rattle.nano_toml.specs.Span.{prefix, following, IsTest};
 
 use crate::state::Cursor;
 
@@ -24,7 +25,7 @@ pub(crate) fn is_in_line(c: u8) -> bool
 /// How many bytes stand before the first that doesn't pass the test.
 fn run_len<F: Fn(u8) -> bool>(bytes: &[u8], test: F) -> usize
     requires { F.IsAlwaysCallable test }
-    ensures { (p : ℕ → Bool) → IsTest (F.post test) p → result ≡ length (front p bytes.now) }
+    ensures { (p : ℕ → Bool) → IsTest (F.post test) p → result ≡ length (prefix p bytes.now) }
 {
     for (len, byte) in bytes.iter().enumerate() {
         if !test(*byte) {
@@ -35,15 +36,15 @@ fn run_len<F: Fn(u8) -> bool>(bytes: &[u8], test: F) -> usize
 }
 
 impl<'a> Cursor<'a> {
-    /// Takes the longest front of characters that pass the test. The first byte of a character
-    /// tells whether it passes.
+    /// Takes the longest prefix of characters that pass the test. The first byte of a character
+    /// decides whether it passes.
     pub(crate) fn take_while<F: Fn(u8) -> bool>(&mut self, test: F) -> &'a str
         requires callable { F.IsAlwaysCallable test }
         requires by_bytes { (p : ℕ → Bool) × IsByteTest p × IsTest (F.post test) p }
         ensures text { (p : ℕ → Bool) → IsByteTest p → IsTest (F.post test) p
-            → result.now ≡ encode_utf8_all (front p (live self.old)) }
+            → result.now ≡ encode_utf8_all (prefix p (remaining self.old)) }
         ensures rest { (p : ℕ → Bool) → IsByteTest p → IsTest (F.post test) p
-            → live self.new ≡ behind p (live self.old) }
+            → remaining self.new ≡ following p (remaining self.old) }
     {
         let held = self.rest.as_str();
         let (run, rest) = held.split_at(run_len(held.as_bytes(), test));

@@ -17,13 +17,13 @@ pub fn same_value(one: &Toml, other: &Toml) -> bool
     'lists: loop {
         match (a, b) {
             (Toml::SimpleArray(x), Toml::SimpleArray(y)) => {
-                let Some((last_x, front_x)) = x.as_slice().split_last() else {
+                let Some((last_x, prefix_x)) = x.as_slice().split_last() else {
                     return y.is_empty();
                 };
-                let Some((last_y, front_y)) = y.as_slice().split_last() else {
+                let Some((last_y, prefix_y)) = y.as_slice().split_last() else {
                     return false;
                 };
-                if !same_values(front_x, front_y) {
+                if !same_values(prefix_x, prefix_y) {
                     return false;
                 }
                 a = last_x;

@@ -1,13 +1,14 @@
-// The place in a text, and the steps to the next character and to the next token.
+//! The place in a text, and the steps to the next character and to the next token.
+
 ghost use Rattle.std.specs.Prelude.{◌≡◌, ◌≢◌, ℕ, Bool, List, [], ◌∷◌, ◌<◌, ◌==◌, ◌-◌, ◌⊎◌};
 ghost use Rattle.std.specs.Prelude.{Some, true, false, chars, length, IfOk, option_map, not};
 ghost use Rattle.std.specs.Prelude.{if◌then◌else◌};
 ghost use Rattle.nano_toml.specs.Characters.{is_space, is_line_feed, IsByteTest};
-ghost use Rattle.nano_toml.specs.Cut.{mark_token, Cut, CutsNothing};
-ghost use Rattle.nano_toml.specs.LiveText.{live, live_text, held};
+ghost use Rattle.nano_toml.specs.Cut.{punctuator_token, Cut, CutsNothing};
+ghost use Rattle.nano_toml.specs.RemainingText.{remaining, remaining_text, held};
 ghost use Rattle.nano_toml.specs.Outcomes.{OnFault};
-ghost use Rattle.nano_toml.specs.Scan.{behind_gaps, tail};
-ghost use Rattle.nano_toml.specs.Span.{begins, behind};
+ghost use Rattle.nano_toml.specs.Scan.{after_gaps, tail};
+ghost use Rattle.nano_toml.specs.Span.{begins, following};
 ghost use Rattle.nano_toml.specs.Taken.{a_token, token_of, Took};
 ghost use Rattle.nano_toml.specs.Token.{Token};
 
@@ -32,8 +33,8 @@ fn is_space(c: u8) -> bool
 }
 
 /// The token of one character, if it is one.
-fn mark(c: u8) -> Option<TomlTok>
-    ensures { option_map (λ t. token_of t) result ≡ option_map (λ t. a_token t) (mark_token c) }
+fn punctuator(c: u8) -> Option<TomlTok>
+    ensures { option_map (λ t. token_of t) result ≡ option_map (λ t. a_token t) (punctuator_token c) }
 {
     match c {
         b',' => Some(TomlTok::Comma),
@@ -47,7 +48,7 @@ fn mark(c: u8) -> Option<TomlTok>
 impl<'a> Cursor<'a> {
     /// The start of a text.
     pub(crate) fn new(input: &'a str) -> Cursor<'a>
-        ensures { live result ≡ live_text input.now }
+        ensures { remaining result ≡ remaining_text input.now }
     {
         Cursor {
             rest: input.chars(),
@@ -56,7 +57,7 @@ impl<'a> Cursor<'a> {
 
     /// A cursor at the same place.
     pub(crate) fn again(&self) -> Cursor<'a>
-        ensures { live result ≡ live self.now }
+        ensures { remaining result ≡ remaining self.now }
     {
         Cursor {
             rest: self.rest.as_str().chars(),
@@ -66,8 +67,8 @@ impl<'a> Cursor<'a> {
     /// The first byte of what is left, or 0 at its end: a test of bytes can be made of it in place
     /// of the character.
     pub(crate) fn first(&self) -> u8
-        ensures end { result ≡ 0 → live self.now ≡ [] }
-        ensures test { (p : ℕ → Bool) → IsByteTest p → begins p (live self.now) ≡ p result }
+        ensures end { result ≡ 0 → remaining self.now ≡ [] }
+        ensures test { (p : ℕ → Bool) → IsByteTest p → begins p (remaining self.now) ≡ p result }
     {
         match self.rest.as_str().as_bytes().first() {
             Some(byte) => *byte,
@@ -77,8 +78,8 @@ impl<'a> Cursor<'a> {
 
     /// Takes one character, and answers it, or NUL at the end.
     pub(crate) fn next(&mut self) -> char
-        ensures taken { result ≢ 0 → live self.old ≡ result ∷ live self.new }
-        ensures end { result ≡ 0 → live self.old ≡ [] }
+        ensures taken { result ≢ 0 → remaining self.old ≡ result ∷ remaining self.new }
+        ensures end { result ≡ 0 → remaining self.old ≡ [] }
     {
         let _text = self.rest.as_str();
         match self.rest.next() {
@@ -92,16 +93,16 @@ impl<'a> Cursor<'a> {
         ensures { result ≡ length (chars text.now) - (length (held self.now.rest) - 1) }
     {
         let left = self.rest.as_str();
-        let behind = left.chars().count().saturating_sub(1);
-        text.chars().count().saturating_sub(behind)
+        let following = left.chars().count().saturating_sub(1);
+        text.chars().count().saturating_sub(following)
     }
 
     /// Takes this character of ASCII, if it stands here, and answers whether it does.
     pub(crate) fn take(&mut self, wanted: u8) -> bool
         requires some { wanted ≢ 0 }
         requires ascii { wanted < 128 }
-        ensures found { result ≡ begins (λ c. c == wanted) (live self.old) }
-        ensures rest { live self.new ≡ (if result then tail (live self.old) else live self.old) }
+        ensures found { result ≡ begins (λ c. c == wanted) (remaining self.old) }
+        ensures rest { remaining self.new ≡ (if result then tail (remaining self.old) else remaining self.old) }
     {
         let found = self.first() == wanted;
         if found {
@@ -112,14 +113,14 @@ impl<'a> Cursor<'a> {
 
     /// Takes what stands before the next line feed.
     fn skip_line(&mut self)
-        ensures { live self.new ≡ behind (λ c. not (is_line_feed c)) (live self.old) }
+        ensures { remaining self.new ≡ following (λ c. not (is_line_feed c)) (remaining self.old) }
     {
         self.take_while(is_in_line);
     }
 
     /// Takes white space and comments.
     pub(crate) fn skip(&mut self)
-        ensures { live self.new ≡ behind_gaps false (live self.old) }
+        ensures { remaining self.new ≡ after_gaps false (remaining self.old) }
     {
         'gaps: loop {
             let first = self.first();
@@ -133,15 +134,15 @@ impl<'a> Cursor<'a> {
         }
     }
 
-    /// Takes what is skipped and this bracket behind it, if it stands there, and answers whether it
-    /// does. If not, nothing is taken.
+    /// Takes what is skipped and this bracket after it, if it is there, and returns whether it
+    /// is. If not, nothing is taken.
     pub(crate) fn next_bracket(&mut self, wanted: u8) -> bool
         requires { wanted ≡ 91 ⊎ wanted ≡ 93 }
-        ensures cut { result ≡ true → (token : Token) → mark_token wanted ≡ Some token
-            → Cut (live self.old) token (live self.new) }
-        ensures none { result ≡ false → live self.new ≡ live self.old }
-        ensures no_bracket { result ≡ false → (token : Token) → mark_token wanted ≡ Some token
-            → (rest : List ℕ) → Cut (live self.old) token rest → ⊥ }
+        ensures cut { result ≡ true → (token : Token) → punctuator_token wanted ≡ Some token
+            → Cut (remaining self.old) token (remaining self.new) }
+        ensures none { result ≡ false → remaining self.new ≡ remaining self.old }
+        ensures no_bracket { result ≡ false → (token : Token) → punctuator_token wanted ≡ Some token
+            → (rest : List ℕ) → Cut (remaining self.old) token rest → ⊥ }
     {
         let mut ahead = self.again();
         ahead.skip();
@@ -154,8 +155,8 @@ impl<'a> Cursor<'a> {
 
     /// Cuts one token, or the end of the text.
     pub(crate) fn next_tok(&mut self, alloc: Global) -> Result<TomlTok, Fault>
-        ensures cut { IfOk result (λ t. Took (live self.old) (token_of t) (live self.new)) }
-        ensures refused { OnFault result (CutsNothing (live self.old)) }
+        ensures cut { IfOk result (λ t. Took (remaining self.old) (token_of t) (remaining self.new)) }
+        ensures rejected { OnFault result (CutsNothing (remaining self.old)) }
     {
         self.skip();
         let first = self.first();
@@ -172,7 +173,7 @@ impl<'a> Cursor<'a> {
         if first == 0 {
             return Ok(TomlTok::Eof);
         }
-        match mark(first) {
+        match punctuator(first) {
             Some(token) => {
                 self.next();
                 Ok(token)

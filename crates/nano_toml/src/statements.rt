@@ -5,13 +5,15 @@ ghost use Rattle.std.specs.Prelude.{option_map, Some, None, length};
 ghost use Rattle.nano_toml.specs.Built.{IsPlain};
 ghost use Rattle.nano_toml.specs.Cut.{Cut, CutsNothing};
 ghost use Rattle.nano_toml.specs.Data.{no_values};
-ghost use Rattle.nano_toml.specs.Fronts.{ReadsNothing, ClosesNothing, array_front};
-ghost use Rattle.nano_toml.specs.Fronts.{value_front, pair_front, scope_front, element_front};
-ghost use Rattle.nano_toml.specs.Fronts.{header_front, close_all};
-ghost use Rattle.nano_toml.specs.LiveText.{live, live_text};
-ghost use Rattle.nano_toml.specs.Outcomes.{OnFault, ReadsValue, ReadsStatement};
+ghost use Rattle.nano_toml.specs.Prefixes.{ParsesNothing, ClosesNothing};
+ghost use Rattle.nano_toml.specs.PrefixesLaws.{array_prefix};
+ghost use Rattle.nano_toml.specs.PrefixesLaws.{value_prefix, pair_prefix, scope_prefix, element_prefix};
+ghost use Rattle.nano_toml.specs.PrefixesLaws.{header_prefix};
+ghost use Rattle.nano_toml.specs.Prefixes.{close_all};
+ghost use Rattle.nano_toml.specs.RemainingText.{remaining, remaining_text};
+ghost use Rattle.nano_toml.specs.Outcomes.{OnFault, ParsesValue, ParsesStatement};
 ghost use Rattle.nano_toml.specs.Reading.{name_view, statement_view, scalar_at, arrays_view, IsNext};
-ghost use Rattle.nano_toml.specs.Reading.{SpellsNothing};
+ghost use Rattle.nano_toml.specs.Reading.{EncodesNothing};
 ghost use Rattle.nano_toml.specs.Taken.{token_of, Took};
 ghost use Rattle.nano_toml.specs.Token.{close_bracket};
 ghost use Rattle.nano_toml.specs.View.{view, values_view};
@@ -65,7 +67,7 @@ pub(crate) struct Reader<'a> {
 // The value that is one token, or the token again.
 fn scalar(tok: TomlTok) -> Result<Toml, TomlTok>
     ensures found { IfOk result (λ value. scalar_at (token_of tok) ≡ Some (view value)) }
-    ensures refused { IfErr result (λ _. scalar_at (token_of tok) ≡ None) }
+    ensures rejected { IfErr result (λ _. scalar_at (token_of tok) ≡ None) }
 {
     match tok {
         TomlTok::Str(text) => Ok(Toml::Str(text)),
@@ -95,7 +97,7 @@ fn close_all(mut outer: Vec<Vec<Toml>>, mut here: Vec<Toml>) -> Result<Toml, All
 impl<'a> Reader<'a> {
     /// A reader at the start of a text.
     pub(crate) fn new(alloc: Global, input: &'a str) -> Reader<'a>
-        ensures { live result.cursor ≡ live_text input.now }
+        ensures { remaining result.cursor ≡ remaining_text input.now }
     {
         Reader {
             alloc,
@@ -106,14 +108,14 @@ impl<'a> Reader<'a> {
     // The next token, or the end.
     fn read_token(&mut self) -> Result<TomlTok, Fault>
         ensures cut { IfOk result
-            (λ t. Took (live self.old.cursor) (token_of t) (live self.new.cursor)) }
-        ensures refused { OnFault result (CutsNothing (live self.old.cursor)) }
+            (λ t. Took (remaining self.old.cursor) (token_of t) (remaining self.new.cursor)) }
+        ensures rejected { OnFault result (CutsNothing (remaining self.old.cursor)) }
     {
         self.cursor.next_tok(self.alloc)
     }
 
-    // The fault of a text in which something else was to stand here. It is apart and cold, so that
-    // where nothing is wrong no room is made for it.
+    // The fault of a text in which something else was expected here. It is a separate, cold
+    // function, so that no space is reserved for it where nothing is wrong.
     #[cold]
     #[inline(never)]
     fn unexpected(&mut self) -> Fault {
@@ -126,8 +128,8 @@ impl<'a> Reader<'a> {
     // A closing bracket.
     fn read_close_bracket(&mut self) -> Result<(), Fault>
         ensures cut { OnOk result
-            (Cut (live self.old.cursor) close_bracket (live self.new.cursor)) }
-        ensures refused { OnFault result (ClosesNothing (live self.old.cursor)) }
+            (Cut (remaining self.old.cursor) close_bracket (remaining self.new.cursor)) }
+        ensures rejected { OnFault result (ClosesNothing (remaining self.old.cursor)) }
     {
         if !self.cursor.next_bracket(b']') {
             return Err(self.unexpected());
@@ -135,13 +137,13 @@ impl<'a> Reader<'a> {
         Ok(())
     }
 
-    // The rest of an array behind its bracket. The arrays that are still open stand in a vector, so
-    // that depth takes memory and no stack.
+    // The rest of an array after its bracket. The arrays that are still open are in a vector,
+    // so that depth takes memory and no stack.
     fn read_array(&mut self) -> Result<Toml, Fault>
-        ensures found { ReadsValue result (array_front [] no_values)
-            (live self.old.cursor) (live self.new.cursor) }
-        ensures refused { OnFault result
-            (ReadsNothing (array_front [] no_values) (live self.old.cursor)) }
+        ensures found { ParsesValue result (array_prefix [] no_values)
+            (remaining self.old.cursor) (remaining self.new.cursor) }
+        ensures rejected { OnFault result
+            (ParsesNothing (array_prefix [] no_values) (remaining self.old.cursor)) }
     {
         let mut outer: Vec<Vec<Toml>> = Vec::new(self.alloc);
         let mut here: Vec<Toml> = Vec::new(self.alloc);
@@ -169,9 +171,9 @@ impl<'a> Reader<'a> {
 
     // A value.
     fn read_value(&mut self) -> Result<Toml, Fault>
-        ensures found { ReadsValue result value_front
-            (live self.old.cursor) (live self.new.cursor) }
-        ensures refused { OnFault result (ReadsNothing value_front (live self.old.cursor)) }
+        ensures found { ParsesValue result value_prefix
+            (remaining self.old.cursor) (remaining self.new.cursor) }
+        ensures rejected { OnFault result (ParsesNothing value_prefix (remaining self.old.cursor)) }
     {
         match self.read_token()? {
             TomlTok::BlockOpen => self.read_array(),
@@ -182,12 +184,12 @@ impl<'a> Reader<'a> {
         }
     }
 
-    // The rest of a pair behind its name.
+    // The rest of a pair after its name.
     fn read_pair(&mut self, name: Name<'a>) -> Result<Statement<'a>, Fault>
-        ensures found { ReadsStatement result (pair_front (name_view name.entry))
-            (live self.old.cursor) (live self.new.cursor) }
-        ensures refused { OnFault result
-            (ReadsNothing (pair_front (name_view name.entry)) (live self.old.cursor)) }
+        ensures found { ParsesStatement result (pair_prefix (name_view name.entry))
+            (remaining self.old.cursor) (remaining self.new.cursor) }
+        ensures rejected { OnFault result
+            (ParsesNothing (pair_prefix (name_view name.entry)) (remaining self.old.cursor)) }
     {
         match self.read_token()? {
             TomlTok::Equals => {
@@ -198,22 +200,22 @@ impl<'a> Reader<'a> {
         }
     }
 
-    // The rest of a scope behind its name.
+    // The rest of a scope after its name.
     fn read_scope(&mut self, name: Name<'a>) -> Result<Statement<'a>, Fault>
-        ensures found { ReadsStatement result (scope_front (name_view name.entry))
-            (live self.old.cursor) (live self.new.cursor) }
-        ensures refused { OnFault result
-            (ReadsNothing (scope_front (name_view name.entry)) (live self.old.cursor)) }
+        ensures found { ParsesStatement result (scope_prefix (name_view name.entry))
+            (remaining self.old.cursor) (remaining self.new.cursor) }
+        ensures rejected { OnFault result
+            (ParsesNothing (scope_prefix (name_view name.entry)) (remaining self.old.cursor)) }
     {
         self.read_close_bracket()?;
         Ok(Statement::Scope(name))
     }
 
-    // The rest of an element's header behind its two brackets.
+    // The rest of an element's header after its two brackets.
     fn read_element(&mut self) -> Result<Statement<'a>, Fault>
-        ensures found { ReadsStatement result element_front
-            (live self.old.cursor) (live self.new.cursor) }
-        ensures refused { OnFault result (ReadsNothing element_front (live self.old.cursor)) }
+        ensures found { ParsesStatement result element_prefix
+            (remaining self.old.cursor) (remaining self.new.cursor) }
+        ensures rejected { OnFault result (ParsesNothing element_prefix (remaining self.old.cursor)) }
     {
         let Some(key) = self.cursor.next_name() else {
             return Err(Fault::Unexpected(self.read_token()?));
@@ -223,11 +225,11 @@ impl<'a> Reader<'a> {
         Ok(Statement::Element(key))
     }
 
-    // The rest of a header behind its first bracket.
+    // The rest of a header after its first bracket.
     fn read_header(&mut self) -> Result<Statement<'a>, Fault>
-        ensures found { ReadsStatement result header_front
-            (live self.old.cursor) (live self.new.cursor) }
-        ensures refused { OnFault result (ReadsNothing header_front (live self.old.cursor)) }
+        ensures found { ParsesStatement result header_prefix
+            (remaining self.old.cursor) (remaining self.new.cursor) }
+        ensures rejected { OnFault result (ParsesNothing header_prefix (remaining self.old.cursor)) }
     {
         if let Some(name) = self.cursor.next_name() {
             return self.read_scope(Name::Word(name));
@@ -244,11 +246,11 @@ impl<'a> Reader<'a> {
     /// The next statement, or none at the end of the text.
     pub(crate) fn read_statement(&mut self) -> Result<Option<Statement<'a>>, Fault>
         ensures found { IfOk result (λ s. IsNext
-            (live self.old.cursor) (option_map statement_view s) (live self.new.cursor)) }
-        ensures refused { OnFault result (SpellsNothing (live self.old.cursor)) }
+            (remaining self.old.cursor) (option_map statement_view s) (remaining self.new.cursor)) }
+        ensures rejected { OnFault result (EncodesNothing (remaining self.old.cursor)) }
         ensures plain { IfOk result (λ s. IfSome s (λ s. IsPlain (statement_view s))) }
         ensures shorter { IfOk result (λ s. IfSome s
-            (λ _. length (live self.new.cursor) < length (live self.old.cursor))) }
+            (λ _. length (remaining self.new.cursor) < length (remaining self.old.cursor))) }
     {
         if let Some(name) = self.cursor.next_name() {
             return Ok(Some(self.read_pair(Name::Word(name))?));

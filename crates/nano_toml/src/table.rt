@@ -101,8 +101,8 @@ fn full_key(alloc: Global, scope: &str, name: &str) -> Result<String, AllocError
     if scope.is_empty() {
         return String::from_str(alloc, name);
     }
-    let room = scope.len().saturating_add(1).saturating_add(name.len());
-    let mut key = String::with_capacity(alloc, room)?;
+    let capacity = scope.len().saturating_add(1).saturating_add(name.len());
+    let mut key = String::with_capacity(alloc, capacity)?;
     key.push_str(scope)?;
     key.push('.')?;
     key.push_str(name)?;
@@ -140,10 +140,10 @@ impl<'a> Builder<'a> {
         requires { (done : List Stated) × IsBuilt done self.old }
         ensures built { (done : List Stated) → IsBuilt done self.old
             → OnOk result (IsBuilt (done ++ element key.now ∷ []) self.new) }
-        ensures refused { (done : List Stated) → IsBuilt done self.old
+        ensures rejected { (done : List Stated) → IsBuilt done self.old
             → OnFault result
             ((more : List Stated) → IsLawful (done ++ element key.now ∷ more) → ⊥) }
-        ensures told { IfErr result (λ e. e ≢ Memory → IsOtherKind e key.now) }
+        ensures reported { IfErr result (λ e. e ≢ Memory → IsOtherKind e key.now) }
     {
         self.end_element(alloc)?;
         if !is_free(&self.root, key) {
@@ -173,13 +173,14 @@ impl<'a> Builder<'a> {
         }
     }
 
-    /// Adds a statement. A fault but want of memory is a header that names a key which a pair gave.
+    /// Adds a statement. A fault other than out of memory is a header that names a key which a
+    /// pair gave.
     pub(crate) fn add(&mut self, alloc: Global, statement: Statement<'a>) -> Result<(), Fault>
         requires { (done : List Stated) × IsBuilt done self.old }
         ensures built { (done : List Stated) → IsBuilt done self.old
             → IsPlain (statement_view statement.entry)
             → OnOk result (IsBuilt (done ++ statement_view statement.entry ∷ []) self.new) }
-        ensures refused { (done : List Stated) → IsBuilt done self.old
+        ensures rejected { (done : List Stated) → IsBuilt done self.old
             → OnFault result
             ((more : List Stated) → IsLawful (done ++ statement_view statement.entry ∷ more) → ⊥) }
     {

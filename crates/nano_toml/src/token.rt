@@ -1,4 +1,4 @@
-// The tokens of a text.
+//! The tokens of a text.
 
 /// A token of a TOML text.
 #[derive(Drop, Debug, PartialEq)]

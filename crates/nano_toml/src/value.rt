@@ -43,7 +43,8 @@ pub enum Toml {
 impl PartialEq for Toml {
     ghost use Rattle.std.specs.Prelude.{◌≡◌, ◌↔◌, IsTrue};
     ghost use Rattle.nano_toml.specs.View.{view};
-    ghost use Rattle.nano_toml.specs.SameData.{view_eq, view_eq_laws};
+    ghost use Rattle.nano_toml.specs.SameData.{view_eq};
+    ghost use Rattle.nano_toml.specs.SameDataLaws.{view_eq_laws};
 
     ghost eq = { view_eq };
 
@@ -58,7 +59,7 @@ impl PartialEq for Toml {
 }
 
 impl Eq for Toml {
-    ghost use Rattle.nano_toml.specs.SameData.{view_eq_equiv};
+    ghost use Rattle.nano_toml.specs.SameDataLaws.{view_eq_equiv};
 
     ghost laws = { view_eq_equiv };
 }
@@ -99,8 +100,8 @@ impl Toml {
         }
     }
 
-    // Drops the values one after another: those of a list come behind those that are left. Where
-    // there is no room for them, the list is dropped by itself.
+    // Drops the values one after another: those of a list come after those that are left. If
+    // there is no space for them, the list is dropped by itself.
     #[cycle(release)]
     fn release(mut left: Vec<Toml>) {
         'values: while let Some(value) = left.pop() {

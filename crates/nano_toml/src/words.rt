@@ -1,10 +1,11 @@
-// Words.
+//! Words.
+
 ghost use Rattle.std.specs.Prelude.{◌≡◌, ℕ, List, IfOk, IfSome, IfNone, IsSome};
 ghost use Rattle.nano_toml.specs.Characters.{starts_word, is_in_word};
 ghost use Rattle.nano_toml.specs.Cut.{Cut};
-ghost use Rattle.nano_toml.specs.LiveText.{live};
+ghost use Rattle.nano_toml.specs.RemainingText.{remaining};
 ghost use Rattle.nano_toml.specs.Reading.{scalar_at};
-ghost use Rattle.nano_toml.specs.Span.{front, behind};
+ghost use Rattle.nano_toml.specs.Span.{prefix, following};
 ghost use Rattle.nano_toml.specs.Taken.{token_of, a_token};
 ghost use Rattle.nano_toml.specs.Token.{ident};
 ghost use Rattle.nano_toml.specs.Word.{word_token};
@@ -53,19 +54,19 @@ pub(crate) fn word_token(alloc: Global, word: &str) -> Result<TomlTok, AllocErro
 impl<'a> Cursor<'a> {
     /// Takes a word.
     pub(crate) fn read_word(&mut self) -> &'a str
-        ensures text { result.now ≡ front is_in_word (live self.old) }
-        ensures rest { live self.new ≡ behind is_in_word (live self.old) }
+        ensures text { result.now ≡ prefix is_in_word (remaining self.old) }
+        ensures rest { remaining self.new ≡ following is_in_word (remaining self.old) }
     {
         self.take_while(is_in_word)
     }
 
-    /// Takes what is skipped and the name behind it, if a name stands there. If not, nothing is
+    /// Takes what is skipped and the name after it, if there is a name. If not, nothing is
     /// taken.
     pub(crate) fn next_name(&mut self) -> Option<&'a str>
-        ensures cut { IfSome result (λ name. Cut (live self.old) (ident name.now) (live self.new)) }
-        ensures none { IfNone result (live self.new ≡ live self.old) }
+        ensures cut { IfSome result (λ name. Cut (remaining self.old) (ident name.now) (remaining self.new)) }
+        ensures none { IfNone result (remaining self.new ≡ remaining self.old) }
         ensures no_name { IfNone result
-            ((name rest : List ℕ) → Cut (live self.old) (ident name) rest → ⊥) }
+            ((name rest : List ℕ) → Cut (remaining self.old) (ident name) rest → ⊥) }
     {
         let mut ahead = self.again();
         ahead.skip();

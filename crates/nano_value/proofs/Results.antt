@@ -1,4 +1,4 @@
--- What a result shows that is no error.
+-- What holds of a result that is not an error.
 use Rattle.std.specs.Prelude.{false}
 use Rattle.std.specs.Result.{is_err}
 use Rattle.std.proofs.Common.{◌≡◌, Result, Ok, Err, OnOk}

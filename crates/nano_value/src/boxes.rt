@@ -1,4 +1,5 @@
-// Boxes: each means its content.
+//! Boxes: each means its content.
+
 use crate::value::{Key, OrderedKey, Value};
 
 impl<T: Value> Value for Box<T> {

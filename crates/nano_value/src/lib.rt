@@ -1,10 +1,11 @@
-//! What the values of a program mean, and which of them `==` tells apart.
+//! What the values of a program mean, and which of them `==` distinguishes.
 //!
-//! The formats of this repository speak of meanings alone: a number, a text, nothing, or two
-//! meanings. Two values are the same if they mean the same, whatever their capacity or the order in
-//! which they are walked.
+//! The formats of this repository deal with meanings alone: a number, a text, nothing, or two
+//! meanings. Two values are the same if they mean the same, whatever their capacity or the
+//! order in which they are walked.
 #![tactic(auto)]
 
+mod bools;
 mod boxes;
 pub mod laws;
 mod lists;
@@ -17,7 +18,6 @@ mod ordered_sets;
 mod ranks;
 mod sets;
 mod texts;
-mod truths;
 mod tuples;
 mod value;
 

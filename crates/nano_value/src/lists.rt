@@ -1,9 +1,10 @@
-// Lists, slices and arrays: the meanings of the items, in order.
+//! Lists, slices and arrays: the meanings of the items, in order.
+
 ghost use Rattle.std.specs.Prelude.{◌≡◌, ◌<◌, length, map};
 ghost use Rattle.nano_value.specs.Meaning.{listed, usize_bound};
 ghost use Rattle.nano_value.specs.Legal.{LegalArray, LegalList};
-ghost use Rattle.nano_value.specs.MeaningOrder.{lists, lists_follow};
-ghost use Rattle.nano_value.specs.Exact.{lists_tell};
+ghost use Rattle.nano_value.specs.MeaningOrderLaws.{lists, lists_follow};
+ghost use Rattle.nano_value.specs.ExactLaws.{lists_tell};
 
 use crate::value::{Key, OrderedKey, Value};
 use std::collections::LinkedList;

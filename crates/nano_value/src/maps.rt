@@ -1,4 +1,5 @@
-// Hash maps: each means the table of its entries, in whatever order they are walked.
+//! Hash maps: each means the table of its entries, in whatever order they are walked.
+
 ghost use Rattle.nano_value.specs.Tables.{table_of, table_means, LegalMap};
 
 use crate::value::{Key, Value};

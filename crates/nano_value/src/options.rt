@@ -1,9 +1,10 @@
-// Options: absent, or what the item means.
+//! Options: absent, or what the item means.
+
 ghost use Rattle.std.specs.Option.{option_map};
 ghost use Rattle.nano_value.specs.Meaning.{optional};
 ghost use Rattle.nano_value.specs.Legal.{LegalOption};
-ghost use Rattle.nano_value.specs.MeaningOrder.{options, options_follow};
-ghost use Rattle.nano_value.specs.Exact.{options_tell};
+ghost use Rattle.nano_value.specs.MeaningOrderLaws.{options, options_follow};
+ghost use Rattle.nano_value.specs.ExactLaws.{options_tell};
 
 use crate::value::{Key, OrderedKey, Value};
 
@@ -12,7 +13,7 @@ impl<T: Value> Value for Option<T> {
 
     ghost legal = { LegalOption T.legal };
 
-    #[tactic(auto, using(crate::specs::Legal::some_is_legal, crate::specs::Legal::none_is_legal))]
+    #[tactic(auto, using(crate::specs::LegalLaws::some_is_legal, crate::specs::LegalLaws::none_is_legal))]
     fn known(&self) {
         if let Some(value) = self {
             value.known();

@@ -1,4 +1,5 @@
-// Sets: each means its items, in whatever order they are walked.
+//! Sets: each means its items, in whatever order they are walked.
+
 ghost use Rattle.nano_value.specs.Sets.{item_set, set_means, LegalSet};
 
 use crate::value::{Key, Value};

@@ -1,41 +1,43 @@
--- What forms tell of their values, of any format whose values fit what is written of them.
+-- What forms say of their values, in any format where what is written of a value decodes to
+-- it.
 use Rattle.std.proofs.Common.{◌≡◌, ◌↔◌, ℕ, List, ◌++◌, [], sym, ◌∙◌, subst, refl, append-nil, true}
 use Rattle.nano_value.specs.Meaning.{Meaning}
-use Rattle.nano_value.specs.Ties.{Ties}
-use Rattle.nano_bin.specs.Format.{Format as BinFormat, spells_written, writes_same}
-use Rattle.text_values.specs.CutLaws.{CutLaws}
-use Rattle.text_values.specs.Cutting.{Cutting}
-use Rattle.text_values.specs.Format.{Format as TextFormat}
-use Rattle.text_values.specs.Spelling.{Grammar}
-use Rattle.text_values.proofs.RoundTrip.{written_fits, one_fits_text}
-use Rattle.nanoserde.specs.Laws.{OneForm, FormsTellValues, FormOfForm, ReadBack}
+use Rattle.nano_value.specs.Agrees.{Agrees}
+use Rattle.nano_bin.specs.Codec.{Codec as BinCodec}
+use Rattle.nano_bin.specs.CodecLaws.{encodes_written, writes_same}
+use Rattle.nano_grammar.specs.CutLaws.{CutLaws}
+use Rattle.nano_grammar.specs.Cutting.{Cutting}
+use Rattle.nano_grammar.specs.Codec.{Codec as TextCodec}
+use Rattle.nano_grammar.specs.Encoding.{Grammar}
+use Rattle.nano_grammar.proofs.RoundTrip.{written_decodes, one_text_decodes}
+use Rattle.nanoserde.specs.Promises.{OneForm, FormsTellValues, FormOfForm, ReadBack}
 use Rattle.nanoserde.specs.Normal.{NormalForm, BeginsBytes, BeginsText, text_bytes}
 
--- of an input, and of what is written, at most one value fits; what fits an input fits what is
--- written of it; and what means the same is written alike
-pub record AreForms {A : Type 0} (means : A → Meaning) (fits fits_written : List ℕ → Meaning → Type 0)
+-- an input, and what is written, decodes to at most one value; what is written of the value
+-- that an input decodes to decodes to that value; and what means the same is written alike
+pub record AreForms {A : Type 0} (means : A → Meaning) (fits decodes_written : List ℕ → Meaning → Type 0)
     (written : A → List ℕ) : Type 0 where
   pub one : (input : List ℕ) (m n : Meaning) → fits input m → fits input n → m ≡ n
-  pub one_written : (bytes : List ℕ) (m n : Meaning) → fits_written bytes m → fits_written bytes n
+  pub one_written : (bytes : List ℕ) (m n : Meaning) → decodes_written bytes m → decodes_written bytes n
       → m ≡ n
-  pub back : (input : List ℕ) (x : A) → fits input (means x) → fits_written (written x) (means x)
+  pub back : (input : List ℕ) (x : A) → fits input (means x) → decodes_written (written x) (means x)
   pub same : (x y : A) → means x ≡ means y → written x ≡ written y
 
-module _ {A : Type 0} {means : A → Meaning} {fits fits_written : List ℕ → Meaning → Type 0}
-    {written : A → List ℕ} (f : AreForms means fits fits_written written) where
+module _ {A : Type 0} {means : A → Meaning} {fits decodes_written : List ℕ → Meaning → Type 0}
+    {written : A → List ℕ} (f : AreForms means fits decodes_written written) where
   pub one_form : OneForm means fits written
   one_form input first second p q =
       let one = f.one input (means p.value) (means q.value) p.fitting q.fitting in
       p.is ∙ (f.same p.value q.value one ∙ sym q.is)
 
-  pub read_back : ReadBack means fits written fits_written
+  pub read_back : ReadBack means fits written decodes_written
   read_back input form p =
-      subst (λ l. fits_written l (means p.value)) (sym p.is) (f.back input p.value p.fitting)
+      subst (λ l. decodes_written l (means p.value)) (sym p.is) (f.back input p.value p.fitting)
 
   pub tell_values : FormsTellValues means fits written
   tell_values input other first second p q = (
     (λ e.
-        let there = subst (λ l. fits_written l (means p.value)) e (read_back input first p) in
+        let there = subst (λ l. decodes_written l (means p.value)) e (read_back input first p) in
         f.one_written second (means p.value) (means q.value) there (read_back other second q)),
     (λ e. p.is ∙ (f.same p.value q.value e ∙ sym q.is)),
   )
@@ -52,74 +54,74 @@ module _ {A : Type 0} {means : A → Meaning} {fits : List ℕ → Meaning → T
 
 -- ---- bytes
 
-module _ {A : Type 0} {means : A → Meaning} {legal : Meaning → Type 0} (b : BinFormat A)
-    (ties : Ties means legal b.writing.means b.spelling.legal) (is : b.is_read ≡ true) where
+module _ {A : Type 0} {means : A → Meaning} {legal : Meaning → Type 0} (b : BinCodec A)
+    (agrees : Agrees means legal b.canonical.means b.encoding.legal) (is : b.is_decodable ≡ true) where
   one_in_bytes : (bytes : List ℕ) (m n : Meaning) → BeginsBytes b bytes m → BeginsBytes b bytes n
       → m ≡ n
   one_in_bytes bytes m n h k =
-      let s = b.spelling.laws in
-      let one = s.one_front h.front k.front h.rest k.rest m n h.spells k.spells
+      let s = b.encoding.laws in
+      let one = s.one_prefix h.prefix k.prefix h.rest k.rest m n h.is_encoded k.is_encoded
       (sym h.whole ∙ k.whole) in
-      s.one_value k.front m n (subst (λ l. b.spelling.spelled l m) one h.spells) k.spells
+      s.one_value k.prefix m n (subst (λ l. b.encoding.encodes l m) one h.is_encoded) k.is_encoded
 
   written_begins : (x : A) → legal (means x)
-      → BeginsBytes b (b.writing.written x) (means x)
+      → BeginsBytes b (b.canonical.written x) (means x)
   written_begins x h = record {
-    front = b.writing.written x;
+    prefix = b.canonical.written x;
     rest = [];
-    whole = sym (append-nil (b.writing.written x));
-    spells = spells_written b ties is x h;
+    whole = sym (append-nil (b.canonical.written x));
+    is_encoded = encodes_written b agrees is x h;
   }
 
-  pub bytes_are_forms : AreForms means (BeginsBytes b) (BeginsBytes b) b.writing.written
+  pub bytes_are_forms : AreForms means (BeginsBytes b) (BeginsBytes b) b.canonical.written
   bytes_are_forms = record {
     one = one_in_bytes;
     one_written = one_in_bytes;
     back = λ input x h.
         written_begins x
-        (ties.is_legal (means x) (b.spelling.laws.is_legal h.front (means x) h.spells));
-    same = writes_same b ties;
+        (agrees.is_legal (means x) (b.encoding.laws.is_legal h.prefix (means x) h.is_encoded));
+    same = writes_same b agrees;
   }
 
   -- ---- the bytes of the value of a text
 
-  module _ {T : Type 0} {c : Cutting T} {g : Grammar T} (r : CutLaws c g) (t : TextFormat c g A)
-      (text_ties : Ties means legal t.writing.means t.spelling.legal) where
-    pub texts_as_bytes : AreForms means (BeginsText t) (BeginsBytes b) b.writing.written
+  module _ {T : Type 0} {c : Cutting T} {g : Grammar T} (r : CutLaws c g) (t : TextCodec c g A)
+      (text_agrees : Agrees means legal t.canonical.means t.encoding.legal) where
+    pub texts_as_bytes : AreForms means (BeginsText t) (BeginsBytes b) b.canonical.written
     texts_as_bytes = record {
-      one = λ input. one_fits_text r t.spelling.laws _;
+      one = λ input. one_text_decodes r t.encoding.laws _;
       one_written = one_in_bytes;
       back = λ input x h.
           written_begins x
-          (text_ties.is_legal (means x) (t.spelling.laws.is_legal h.2.0 (means x) h.2.2));
-      same = writes_same b ties;
+          (text_agrees.is_legal (means x) (t.encoding.laws.is_legal h.2.0 (means x) h.2.2));
+      same = writes_same b agrees;
     }
 
 -- ---- texts
 
 module _ {A : Type 0} {T : Type 0} {c : Cutting T} {g : Grammar T} (r : CutLaws c g)
-    (t : TextFormat c g A) where
-  -- what fits a text fits what is written of it
-  text_back : (input : List ℕ) (x : A) → BeginsText t input (t.writing.means x)
-      → BeginsText t (text_bytes t x) (t.writing.means x)
+    (t : TextCodec c g A) where
+  -- what is written of a value that a text decodes to decodes to that value
+  text_back : (input : List ℕ) (x : A) → BeginsText t input (t.canonical.means x)
+      → BeginsText t (text_bytes t x) (t.canonical.means x)
   text_back input x h =
-      let m = t.writing.means x in
-      let legal = t.spelling.laws.is_legal h.2.0 m h.2.2 in
-      let sound = t.spelled_is_sound x h.2.0 h.2.2 in
-      written_fits r t.spelling.spelled (t.writing.tokens x) (t.writing.text 0 x) (text_bytes t x) m
+      let m = t.canonical.means x in
+      let legal = t.encoding.laws.is_legal h.2.0 m h.2.2 in
+      let sound = t.encoded_is_sound x h.2.0 h.2.2 in
+      written_decodes r t.encoding.encodes (t.canonical.tokens x) (t.canonical.text 0 x) (text_bytes t x) m
       (t.is_written x legal 0) refl (t.reads_back x legal sound)
 
-  own_texts_are_forms : AreForms t.writing.means (BeginsText t) (BeginsText t) (text_bytes t)
+  own_texts_are_forms : AreForms t.canonical.means (BeginsText t) (BeginsText t) (text_bytes t)
   own_texts_are_forms = record {
-    one = λ input. one_fits_text r t.spelling.laws _;
-    one_written = λ input. one_fits_text r t.spelling.laws _;
+    one = λ input. one_text_decodes r t.encoding.laws _;
+    one_written = λ input. one_text_decodes r t.encoding.laws _;
     back = text_back;
-    same = λ x y e i. Rattle.std.proofs.Common.encode_utf8_all (t.writing.same_text x y e 0 i);
+    same = λ x y e i. Rattle.std.proofs.Common.encode_utf8_all (t.canonical.same_text x y e 0 i);
   }
 
   pub texts_are_forms : {means : A → Meaning} {legal : Meaning → Type 0}
-      → Ties means legal t.writing.means t.spelling.legal
+      → Agrees means legal t.canonical.means t.encoding.legal
       → AreForms means (BeginsText t) (BeginsText t) (text_bytes t)
-  texts_are_forms ties =
-      subst (λ m. AreForms m (BeginsText t) (BeginsText t) (text_bytes t)) ties.means_is
+  texts_are_forms agrees =
+      subst (λ m. AreForms m (BeginsText t) (BeginsText t) (text_bytes t)) agrees.means_is
       own_texts_are_forms

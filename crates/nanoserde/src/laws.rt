@@ -1,6 +1,6 @@
 //! The promises of normal forms and of converted inputs, each the contract of a function that does
 //! nothing else.
-ghost use Rattle.nanoserde.specs.Laws.{OneForm, FormsTellValues, FormOfForm, ReadBack};
+ghost use Rattle.nanoserde.specs.Promises.{OneForm, FormsTellValues, FormOfForm, ReadBack};
 ghost use Rattle.nanoserde.specs.Normal.{BeginsBytes, BeginsText, text_bytes};
 
 use crate::{BothBin, BothJson, BothRon, DeJson, DeRon};
@@ -8,9 +8,9 @@ use crate::{BothBin, BothJson, BothRon, DeJson, DeRon};
 /// Bytes have at most one normal form, the normal forms of two inputs are equal exactly where their
 /// values are the same, and a normal form is its own.
 pub fn normal_bytes<T: BothBin>()
-    ensures one { OneForm T.means (BeginsBytes T.bin) T.bin.writing.written }
-    ensures tell { FormsTellValues T.means (BeginsBytes T.bin) T.bin.writing.written }
-    ensures again { FormOfForm T.means (BeginsBytes T.bin) T.bin.writing.written }
+    ensures one { OneForm T.means (BeginsBytes T.bin) T.bin.canonical.written }
+    ensures tell { FormsTellValues T.means (BeginsBytes T.bin) T.bin.canonical.written }
+    ensures again { FormOfForm T.means (BeginsBytes T.bin) T.bin.canonical.written }
 {}
 
 /// A JSON text has at most one normal form, the normal forms of two inputs are equal exactly where
@@ -29,18 +29,18 @@ pub fn normal_ron_texts<T: BothRon>()
     ensures again { FormOfForm T.means (BeginsText T.ron) (text_bytes T.ron) }
 {}
 
-/// A JSON text is converted to one list of bytes, two are converted alike exactly where their values
-/// are the same, and the bytes are read back as the value of the text.
+/// A JSON text is converted to one list of bytes, two are converted alike exactly where their
+/// values are the same, and the bytes are read back as the value of the text.
 pub fn json_as_bytes<T: DeJson + BothBin>()
-    ensures one { OneForm T.means (BeginsText T.json) T.bin.writing.written }
-    ensures tell { FormsTellValues T.means (BeginsText T.json) T.bin.writing.written }
-    ensures back { ReadBack T.means (BeginsText T.json) T.bin.writing.written (BeginsBytes T.bin) }
+    ensures one { OneForm T.means (BeginsText T.json) T.bin.canonical.written }
+    ensures tell { FormsTellValues T.means (BeginsText T.json) T.bin.canonical.written }
+    ensures back { ReadBack T.means (BeginsText T.json) T.bin.canonical.written (BeginsBytes T.bin) }
 {}
 
 /// A RON text is converted to one list of bytes, two are converted alike exactly where their values
 /// are the same, and the bytes are read back as the value of the text.
 pub fn ron_as_bytes<T: DeRon + BothBin>()
-    ensures one { OneForm T.means (BeginsText T.ron) T.bin.writing.written }
-    ensures tell { FormsTellValues T.means (BeginsText T.ron) T.bin.writing.written }
-    ensures back { ReadBack T.means (BeginsText T.ron) T.bin.writing.written (BeginsBytes T.bin) }
+    ensures one { OneForm T.means (BeginsText T.ron) T.bin.canonical.written }
+    ensures tell { FormsTellValues T.means (BeginsText T.ron) T.bin.canonical.written }
+    ensures back { ReadBack T.means (BeginsText T.ron) T.bin.canonical.written (BeginsBytes T.bin) }
 {}

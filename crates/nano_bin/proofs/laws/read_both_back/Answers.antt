@@ -10,8 +10,8 @@ returns-clause-second g c at =
 
 pub returns-clause-moved : goal.returns-clause-moved
 returns-clause-moved g c at =
-    let V = g.A.BinFormat.bin.writing.written c.args.first.now in
-    let W = g.B.BinFormat.bin.writing.written c.args.second.now in
+    let V = g.A.BinCodec.bin.canonical.written c.args.first.now in
+    let W = g.B.BinCodec.bin.canonical.written c.args.second.now in
     let one = c.in_ok-one.ensures.moved (first_stands _ _ _ _ at) in
     let two = c.in_ok-other.ensures.moved (next_stands _ _ _ _ _ at one) in
     let parts = length-append V W in

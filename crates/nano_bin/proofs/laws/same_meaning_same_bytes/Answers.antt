@@ -1,5 +1,5 @@
-use Rattle.nano_bin.specs.Format.{writes_same}
+use Rattle.nano_bin.specs.CodecLaws.{writes_same}
 use Rattle.nano_bin.proofs.laws.same_meaning_same_bytes.Goals as goal
 
 pub returns : goal.returns
-returns g c = writes_same g.T.BinFormat.bin g.met.T.BinFormat.ties _ _
+returns g c = writes_same g.T.BinCodec.bin g.met.T.BinCodec.agrees _ _

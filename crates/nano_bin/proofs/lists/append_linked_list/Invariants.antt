@@ -1,6 +1,6 @@
 -- what is appended, and the items that are left, are all
-use Rattle.bin_bytes.proofs.Writers.{WritesSoFar}
+use Rattle.nano_bytes.proofs.Writers.{WritesSoFar}
 use Rattle.nano_bin.proofs.lists.append_linked_list.Given as goal
 
 abbrev pub invariant-loop-item : goal.invariant-loop-item
-invariant-loop-item g l = WritesSoFar g.T.BinFormat.bin.writing.written l.fn.output.items l.output.items l.item-iterator l.items
+invariant-loop-item g l = WritesSoFar g.T.BinCodec.bin.canonical.written l.fn.output.items l.output.items l.item-iterator l.items

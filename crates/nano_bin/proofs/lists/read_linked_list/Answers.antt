@@ -2,9 +2,9 @@ use Rattle.std.proofs.Common.{◌≡◌, ◌++◌, ◌∷◌, [], map, arith, ap
 use Rattle.std.proofs.lemmas.Grind.{common_steps}
 use Rattle.std.proofs.lemmas.List.{map-append}
 use Rattle.std.proofs.lemmas.Result.{err_from_is_err_and}
-use Rattle.nano_bin.proofs.Readers.{count_refused, count_reads_push}
-use Rattle.bin_bytes.specs.Reading.{Reads}
-use Rattle.bin_bytes.specs.Items.{SpellsCount}
+use Rattle.nano_bin.proofs.Readers.{count_rejected, count_reads_push}
+use Rattle.nano_bytes.specs.Reading.{Decodes}
+use Rattle.nano_bytes.specs.Items.{EncodesCount}
 use Rattle.nano_bin.proofs.lists.read_linked_list.Goals as goal
 
 pub loop-preserved : goal.loop-preserved
@@ -12,17 +12,17 @@ loop-preserved g c =
     let means = g.T.Value.means in
     let item = c.in_ok-item.item in
     let grown : c.push_back.new.self ≡ c.loop.items ++ item ∷ [] = grind (arith, common_steps) in
-    rw (ap (map means) grown ∙ map-append means c.loop.items (item ∷ [])) (count_reads_push g.T.BinFormat.bin.spelling.spelled _ _ _ _ _ _ _ c.loop.invariant c.in_ok-item.ensures.ok)
+    rw (ap (map means) grown ∙ map-append means c.loop.items (item ∷ [])) (count_reads_push g.T.BinCodec.bin.encoding.encodes _ _ _ _ _ _ _ c.loop.invariant c.in_ok-item.ensures.ok)
 
 pub returns-in_err-item-clause-err : goal.returns-in_err-item-clause-err
 returns-in_err-item-clause-err g c =
-    let S = g.T.BinFormat.bin.spelling in
+    let S = g.T.BinCodec.bin.encoding in
     let p = err_from_is_err_and c.from_residual.result c.from_residual.ensures.1 in
-    rw (p.1, p.2) (λ h. count_refused S.spelled S.laws _ _ _ _ _ _ c.loop.invariant c.loop-test.true (c.in_err-item.ensures.err h))
+    rw (p.1, p.2) (λ h. count_rejected S.encodes S.laws _ _ _ _ _ _ c.loop.invariant c.loop-test.true (c.in_err-item.ensures.err h))
 
 pub returns-clause-ok : goal.returns-clause-ok
 returns-clause-ok g c =
     let less = c.loop.auto.counter-end in
     let more = c.loop-test.false in
     let all : c.loop.counter ≡ c.args.count = omega (arith, less, more) in
-    subst (λ n. Reads (SpellsCount n g.T.BinFormat.bin.spelling.spelled) c.args.bytes.now c.args.offset.now (map g.T.Value.means c.loop.items) c.loop.at) all c.loop.invariant
+    subst (λ n. Decodes (EncodesCount n g.T.BinCodec.bin.encoding.encodes) c.args.bytes.now c.args.offset.now (map g.T.Value.means c.loop.items) c.loop.at) all c.loop.invariant

@@ -1,19 +1,19 @@
 use Rattle.std.proofs.Common.{◌∙◌, ◌++◌, ap, append_assoc}
-use Rattle.nano_value.specs.Ascending.{ascending-sorted}
-use Rattle.nano_value.specs.OrderedMaps.{sorted_entries}
-use Rattle.bin_bytes.proofs.Writers.{write_start, write_step, write_end, cut_back, cut_back_behind, on_err_always}
+use Rattle.nano_value.specs.AscendingLaws.{ascending-sorted}
+use Rattle.nano_value.specs.OrderedMapsLaws.{sorted_entries}
+use Rattle.nano_bytes.proofs.Writers.{write_start, write_step, write_end, cut_back, cut_back_after, on_err_always}
 use Rattle.nano_bin.specs.Tuples.{written_pair}
 use Rattle.nano_bin.proofs.ordered_maps.append_btree_map.Goals as goal
 
 pub loop-key-init : goal.loop-key-init
 loop-key-init g c =
-    let W = written_pair g.K.BinFormat.bin.writing.written g.V.BinFormat.bin.writing.written in
+    let W = written_pair g.K.BinCodec.bin.canonical.written g.V.BinCodec.bin.canonical.written in
     write_start W _ _ _ c.into_iter-key-iterator.ensures.into_iter_gives.0
 
 pub loop-key-preserved : goal.loop-key-preserved
 loop-key-preserved g c =
-    let K = g.K.BinFormat.bin.writing.written in
-    let V = g.V.BinFormat.bin.writing.written in
+    let K = g.K.BinCodec.bin.canonical.written in
+    let V = g.V.BinCodec.bin.canonical.written in
     let key = c.in-Some.key.now in
     let value = c.in-Some.value.now in
     let before = c.loop-key.output.items in
@@ -22,18 +22,18 @@ loop-key-preserved g c =
 
 pub returns-in_err-append_part-clause-err : goal.returns-in_err-append_part-clause-err
 returns-in_err-append_part-clause-err g c =
-    let W = written_pair g.K.BinFormat.bin.writing.written g.V.BinFormat.bin.writing.written in
+    let W = written_pair g.K.BinCodec.bin.canonical.written g.V.BinCodec.bin.canonical.written in
     on_err_always c.from_residual.result (c.in_err-append_part.ensures.err ∙ cut_back W c.args.start c.args.output.now.items c.loop-key.output.items _ c.args.entries.now.entries c.requires c.loop-key.invariant)
 
 pub returns-in_err-append_part-2-clause-err : goal.returns-in_err-append_part-2-clause-err
 returns-in_err-append_part-2-clause-err g c =
-    let K = g.K.BinFormat.bin.writing.written in
-    let W = written_pair K g.V.BinFormat.bin.writing.written in
-    on_err_always c.from_residual-in_err-append_part-2.result (c.in_err-append_part-2.ensures.err ∙ cut_back_behind W c.args.start c.args.output.now.items c.loop-key.output.items c.append_part.new.output.items (K c.in-Some.key.now) _ c.args.entries.now.entries c.requires c.loop-key.invariant c.in_ok-append_part.ensures.ok)
+    let K = g.K.BinCodec.bin.canonical.written in
+    let W = written_pair K g.V.BinCodec.bin.canonical.written in
+    on_err_always c.from_residual-in_err-append_part-2.result (c.in_err-append_part-2.ensures.err ∙ cut_back_after W c.args.start c.args.output.now.items c.loop-key.output.items c.append_part.new.output.items (K c.in-Some.key.now) _ c.args.entries.now.entries c.requires c.loop-key.invariant c.in_ok-append_part.ensures.ok)
 
 pub returns-clause-ok : goal.returns-clause-ok
 returns-clause-ok g c =
-    let W = written_pair g.K.BinFormat.bin.writing.written g.V.BinFormat.bin.writing.written in
+    let W = written_pair g.K.BinCodec.bin.canonical.written g.V.BinCodec.bin.canonical.written in
     write_end W _ _ _ _ c.loop-key.invariant c.in-None.ensures.steps.0
 
 pub returns-clause-ordered : goal.returns-clause-ordered

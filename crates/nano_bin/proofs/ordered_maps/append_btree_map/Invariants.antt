@@ -1,7 +1,7 @@
 -- what is appended, and the entries that are left, are all
-use Rattle.bin_bytes.proofs.Writers.{WritesSoFar}
+use Rattle.nano_bytes.proofs.Writers.{WritesSoFar}
 use Rattle.nano_bin.specs.Tuples.{written_pair}
 use Rattle.nano_bin.proofs.ordered_maps.append_btree_map.Given as goal
 
 abbrev pub invariant-loop-key : goal.invariant-loop-key
-invariant-loop-key g l = WritesSoFar (written_pair g.K.BinFormat.bin.writing.written g.V.BinFormat.bin.writing.written) l.fn.output.items l.output.items l.key-iterator l.entries.entries
+invariant-loop-key g l = WritesSoFar (written_pair g.K.BinCodec.bin.canonical.written g.V.BinCodec.bin.canonical.written) l.fn.output.items l.output.items l.key-iterator l.entries.entries

@@ -2,18 +2,20 @@ use Rattle.std.proofs.Common.{◌≡◌, sym, ap, subst, arith, refl}
 use Rattle.std.proofs.lemmas.Map.Keys.{IsDistinct-from_sorted}
 use Rattle.std.specs.Map.{keys_of}
 use Rattle.std.specs.Ordering.{eq_by_cmp}
-use Rattle.nano_value.specs.Ascending.{key_order}
+use Rattle.nano_value.specs.AscendingLaws.{key_order}
 use Rattle.std.proofs.lemmas.Result.{err_from_is_err_and}
-use Rattle.nano_value.specs.Tables.{table_of, table_of-insert}
+use Rattle.nano_value.specs.Tables.{table_of}
+use Rattle.nano_value.specs.TablesLaws.{table_of-insert}
 use Rattle.nano_value.proofs.Results.{was_ok}
-use Rattle.nano_bin.specs.Tuples.{SpellsPair, pair_spelling}
-use Rattle.nano_bin.proofs.Readers.{count_refused}
+use Rattle.nano_bin.specs.Tuples.{EncodesPair}
+use Rattle.nano_bin.specs.TuplesLaws.{pair_encoding}
+use Rattle.nano_bin.proofs.Readers.{count_rejected}
 use Rattle.nano_bin.proofs.MapReaders.{table_reads_none, table_reads_insert, no_pair}
-use Rattle.nano_bin.specs.Maps.{ReadsTable}
+use Rattle.nano_bin.specs.Maps.{DecodesTable}
 use Rattle.nano_bin.proofs.ordered_maps.read_btree_map.Goals as goal
 
 pub loop-init : goal.loop-init
-loop-init g c = record { reads = table_reads_none g.K.BinFormat.bin.spelling.spelled g.V.BinFormat.bin.spelling.spelled _ _ _ (ap (table_of g.K.Value.means g.V.Value.means) c.new-entries.ensures.empty); ordered = c.new-entries.ensures.ordered }
+loop-init g c = record { reads = table_reads_none g.K.BinCodec.bin.encoding.encodes g.V.BinCodec.bin.encoding.encodes _ _ _ (ap (table_of g.K.Value.means g.V.Value.means) c.new-entries.ensures.empty); ordered = c.new-entries.ensures.ordered }
 
 pub loop-preserved : goal.loop-preserved
 loop-preserved g c =
@@ -25,21 +27,21 @@ loop-preserved g c =
     let is = IsDistinct-from_sorted R (keys_of c.insert.new.self.entries) c.insert.ensures.ordered in
     let updated = was_ok c.insert.result (sym c.if-is_err.ensures.value) c.insert.ensures.updates in
     record {
-      reads = table_reads_insert g.K.BinFormat.bin.spelling.spelled g.V.BinFormat.bin.spelling.spelled _ _ _ _ _ _ _ _ _ c.loop.invariant.reads c.in_ok-key.ensures.ok
-          (table_of-insert K.means V.means (eq_by_cmp R) order.ties c.loop.entries.entries c.insert.new.self.entries c.in_ok-key.key c.in_ok-key.value was is updated.1 updated.3);
+      reads = table_reads_insert g.K.BinCodec.bin.encoding.encodes g.V.BinCodec.bin.encoding.encodes _ _ _ _ _ _ _ _ _ c.loop.invariant.reads c.in_ok-key.ensures.ok
+          (table_of-insert K.means V.means (eq_by_cmp R) order.decides c.loop.entries.entries c.insert.new.self.entries c.in_ok-key.key c.in_ok-key.value was is updated.1 updated.3);
       ordered = c.insert.ensures.ordered;
     }
 
 pub returns-in_err-key-clause-err : goal.returns-in_err-key-clause-err
 returns-in_err-key-clause-err g c =
-    let S = g.K.BinFormat.bin.spelling in
-    let R = g.V.BinFormat.bin.spelling in
+    let S = g.K.BinCodec.bin.encoding in
+    let R = g.V.BinCodec.bin.encoding in
     let p = err_from_is_err_and c.from_residual.result c.from_residual.ensures.1 in
-    rw (p.1, p.2) (λ h. count_refused (SpellsPair S.spelled R.spelled) (pair_spelling S.laws R.laws) _ _ _ _ _ _ c.loop.invariant.reads.reads c.loop-test.true (no_pair S.spelled R.spelled _ (c.in_err-key.ensures.err h)))
+    rw (p.1, p.2) (λ h. count_rejected (EncodesPair S.encodes R.encodes) (pair_encoding S.laws R.laws) _ _ _ _ _ _ c.loop.invariant.reads.reads c.loop-test.true (no_pair S.encodes R.encodes _ (c.in_err-key.ensures.err h)))
 
 pub returns-clause-ok : goal.returns-clause-ok
 returns-clause-ok g c =
     let less = c.loop.auto.counter-end in
     let more = c.loop-test.false in
     let all : c.loop.counter ≡ c.args.count = omega (arith, less, more) in
-    subst (λ n. ReadsTable g.K.BinFormat.bin.spelling.spelled g.V.BinFormat.bin.spelling.spelled n c.args.bytes.now c.args.offset.now (table_of g.K.Value.means g.V.Value.means c.loop.entries.entries) c.loop.at) all c.loop.invariant.reads
+    subst (λ n. DecodesTable g.K.BinCodec.bin.encoding.encodes g.V.BinCodec.bin.encoding.encodes n c.args.bytes.now c.args.offset.now (table_of g.K.Value.means g.V.Value.means c.loop.entries.entries) c.loop.at) all c.loop.invariant.reads

@@ -1,23 +1,24 @@
 use Rattle.std.proofs.Common.{◌∙◌, ap}
 use Rattle.std.specs.Map.{keys_of}
-use Rattle.nano_value.specs.Ascending.{ascending-sorted}
-use Rattle.nano_value.specs.OrderedSets.{sorted_marked}
-use Rattle.nano_value.specs.Sets.{marked, keys_of-marked}
-use Rattle.bin_bytes.proofs.Writers.{write_start, write_step, write_end, cut_back, on_err_always}
+use Rattle.nano_value.specs.AscendingLaws.{ascending-sorted}
+use Rattle.nano_value.specs.OrderedSetsLaws.{sorted_marked}
+use Rattle.nano_value.specs.Sets.{marked}
+use Rattle.nano_value.specs.SetsLaws.{keys_of-marked}
+use Rattle.nano_bytes.proofs.Writers.{write_start, write_step, write_end, cut_back, on_err_always}
 use Rattle.nano_bin.proofs.sets.append_btree_set.Goals as goal
 
 pub loop-item-init : goal.loop-item-init
-loop-item-init g c = write_start g.T.BinFormat.bin.writing.written _ _ _ c.into_iter-item-iterator.ensures.into_iter_gives.0
+loop-item-init g c = write_start g.T.BinCodec.bin.canonical.written _ _ _ c.into_iter-item-iterator.ensures.into_iter_gives.0
 
 pub loop-item-preserved : goal.loop-item-preserved
-loop-item-preserved g c = write_step g.T.BinFormat.bin.writing.written _ _ _ _ _ _ c.in-Some.item.now c.loop-item.invariant c.in-Some.ensures.steps c.in_ok-append_part.ensures.ok
+loop-item-preserved g c = write_step g.T.BinCodec.bin.canonical.written _ _ _ _ _ _ c.in-Some.item.now c.loop-item.invariant c.in-Some.ensures.steps c.in_ok-append_part.ensures.ok
 
 pub returns-in_err-append_part-clause-err : goal.returns-in_err-append_part-clause-err
 returns-in_err-append_part-clause-err g c =
-    on_err_always c.from_residual.result (c.in_err-append_part.ensures.err ∙ cut_back g.T.BinFormat.bin.writing.written _ _ _ _ _ c.requires c.loop-item.invariant)
+    on_err_always c.from_residual.result (c.in_err-append_part.ensures.err ∙ cut_back g.T.BinCodec.bin.canonical.written _ _ _ _ _ c.requires c.loop-item.invariant)
 
 pub returns-clause-ok : goal.returns-clause-ok
-returns-clause-ok g c = write_end g.T.BinFormat.bin.writing.written _ _ _ _ c.loop-item.invariant c.in-None.ensures.steps.0
+returns-clause-ok g c = write_end g.T.BinCodec.bin.canonical.written _ _ _ _ c.loop-item.invariant c.in-None.ensures.steps.0
 
 pub returns-clause-ordered : goal.returns-clause-ordered
 returns-clause-ordered g c =

@@ -1,8 +1,8 @@
 -- what is appended, and the items that are left, are all
 use Rattle.std.proofs.Common.{drop}
 use Rattle.std.specs.Map.Iter.{deref}
-use Rattle.bin_bytes.proofs.Writers.{WritesSoFar}
+use Rattle.nano_bytes.proofs.Writers.{WritesSoFar}
 use Rattle.nano_bin.proofs.sets.append_hash_set.Given as goal
 
 abbrev pub invariant-loop-item : goal.invariant-loop-item
-invariant-loop-item g l = WritesSoFar (λ x. g.T.BinFormat.bin.writing.written (deref x)) l.fn.output.items l.output.items (drop l.item-index l.items) l.items
+invariant-loop-item g l = WritesSoFar (λ x. g.T.BinCodec.bin.canonical.written (deref x)) l.fn.output.items l.output.items (drop l.item-index l.items) l.items

@@ -1,11 +1,11 @@
 use Rattle.std.proofs.Common.{◌∙◌, ap, sym}
 use Rattle.nano_value.specs.Tables.{table_of, table_means}
-use Rattle.nano_json.specs.Maps.{map_format}
+use Rattle.nano_json.specs.MapsLaws.{map_codec}
 use Rattle.nano_json.proofs.laws.the_entries_decide_the_text.Goals as goal
 
 pub returns : goal.returns
 returns g c es fs d e =
-    let k = g.met.K.JsonFormat.ties.means_is in
-    let v = g.met.V.JsonFormat.ties.means_is in
+    let k = g.met.K.JsonCodec.agrees.means_is in
+    let v = g.met.V.JsonCodec.agrees.means_is in
     let same = (λ i. table_of (k i) (v i) es) ∙ (e ∙ (λ i. table_of (sym k i) (sym v i) fs)) in
-    (map_format g.K.Key.order g.K.JsonFormat.json g.V.JsonFormat.json).writing.same_text es fs (ap table_means same) d
+    (map_codec g.K.Key.order g.K.JsonCodec.json g.V.JsonCodec.json).canonical.same_text es fs (ap table_means same) d

@@ -3,89 +3,89 @@ use Rattle.std.proofs.lemmas.Grind.{common_steps}
 use Rattle.std.proofs.lemmas.List.{map-append, length-map, length-append}
 use Rattle.std.proofs.lemmas.Result.{err_from_is_err_and}
 use Rattle.nano_value.specs.Meaning.{Meaning, listed}
-use Rattle.text_values.proofs.ArrayReading.{not_closing, item_missing, item_too_many}
-use Rattle.text_values.proofs.Containers.{ReadSoFar, read_start, read_next, read_found, read_open_refused, read_comma_refused}
-use Rattle.text_values.proofs.Reading.{image_spans, image_refused, count_spans, count_refused}
-use Rattle.json_tokens.specs.Brackets.{blocks}
-use Rattle.json_tokens.specs.Json.{json, block_brackets}
-use Rattle.json_tokens.specs.State.{at}
+use Rattle.nano_grammar.proofs.ArrayReading.{not_closing, item_missing, item_too_many}
+use Rattle.nano_grammar.proofs.Containers.{ReadSoFar, read_start, read_next, read_found, read_open_rejected, read_comma_rejected}
+use Rattle.nano_grammar.proofs.Reading.{image_spans, image_rejected, count_spans, count_rejected}
+use Rattle.nano_json_tokens.specs.Brackets.{blocks}
+use Rattle.nano_json_tokens.specs.JsonLaws.{json, block_brackets}
+use Rattle.nano_json_tokens.specs.State.{at}
 use Rattle.nano_json.proofs.Json.{json_laws}
 use Rattle.nano_json.proofs.lists.read_items.Goals as goal
 
 pub loop-index-init : goal.loop-index-init
 loop-index-init g c = record {
-  read = rw c.new-items.ensures.items (read_start json_laws g.T.JsonFormat.json.spelling.laws blocks block_brackets (at c.args.state.now c.args.input.now) (at c.block_open.new.self c.block_open.new.i) c.in_ok-block_open.ensures.taken);
+  read = rw c.new-items.ensures.items (read_start json_laws g.T.JsonCodec.json.encoding.laws blocks block_brackets (at c.args.state.now c.args.input.now) (at c.block_open.new.self c.block_open.new.i) c.in_ok-block_open.ensures.taken);
   count = ap length c.new-items.ensures.items;
 }
 
 pub loop-index-preserved : goal.loop-index-preserved
 loop-index-preserved g c =
-    let s = g.T.JsonFormat.json.spelling in
+    let s = g.T.JsonCodec.json.encoding in
     let means = g.T.Value.means in
     let start = at c.args.state.now c.args.input.now in
     let here = at c.loop-index.state c.loop-index.input in
-    let behind = at c.de_json.new.state c.de_json.new.input in
+    let following = at c.de_json.new.state c.de_json.new.input in
     let next = at c.eat_comma_block.new.self c.eat_comma_block.new.i in
     let item = means c.in_ok-item.item in
-    let other = not_closing json_laws blocks block_brackets s.laws here behind item c.in_ok-item.ensures.fits in
-    let more = read_next json_laws s.laws blocks block_brackets start here behind next (map means c.loop-index.items.items) item c.loop-index.invariant.read other c.in_ok-item.ensures.fits c.in_ok-eat_comma_block.ensures.taken in
+    let other = not_closing json_laws blocks block_brackets s.laws here following item c.in_ok-item.ensures.decodes in
+    let more = read_next json_laws s.laws blocks block_brackets start here following next (map means c.loop-index.items.items) item c.loop-index.invariant.read other c.in_ok-item.ensures.decodes c.in_ok-eat_comma_block.ensures.taken in
     let same = sym (map-append means c.loop-index.items.items (c.in_ok-item.item ∷ [])) in
     let long = length-append c.loop-index.items.items (c.in_ok-item.item ∷ []) in
     let count = c.loop-index.invariant.count in
     rw (c.push.ensures.items, c.if-is_err.ensures.negation) (record {
-      read = subst (λ (ms : List Meaning). ReadSoFar json_laws blocks s.spelled start next ms) same more;
+      read = subst (λ (ms : List Meaning). ReadSoFar json_laws blocks s.encodes start next ms) same more;
       count = omega (arith, long, count);
     })
 
-pub returns-clause-fits : goal.returns-clause-fits
-returns-clause-fits g c =
-    let s = g.T.JsonFormat.json.spelling in
+pub returns-clause-decodes : goal.returns-clause-decodes
+returns-clause-decodes g c =
+    let s = g.T.JsonCodec.json.encoding in
     let start = at c.args.state.now c.args.input.now in
     let end = at c.block_close.new.self c.block_close.new.i in
     let taken = map g.T.Value.means c.loop-index.items.items in
     let full : length c.loop-index.items.items ≡ c.args.count = grind (arith, common_steps) in
     let found = read_found json_laws s.laws blocks block_brackets start (at c.loop-index.state c.loop-index.input) end taken c.loop-index.invariant.read c.in_ok-block_close.ensures.taken in
-    image_spans json listed start end taken (count_spans json_laws blocks s.spelled start c.args.count end taken (length-map c.loop-index.items.items g.T.Value.means ∙ full) found)
+    image_spans json listed start end taken (count_spans json_laws blocks s.encodes start c.args.count end taken (length-map c.loop-index.items.items g.T.Value.means ∙ full) found)
 
-pub returns-in_err-block_open-clause-refused : goal.returns-in_err-block_open-clause-refused
-returns-in_err-block_open-clause-refused g c =
+pub returns-in_err-block_open-clause-rejected : goal.returns-in_err-block_open-clause-rejected
+returns-in_err-block_open-clause-rejected g c =
     let p = err_from_is_err_and c.from_residual.result c.from_residual.ensures.1 in
-    let s = g.T.JsonFormat.json.spelling in
+    let s = g.T.JsonCodec.json.encoding in
     let start = at c.args.state.now c.args.input.now in
-    let r = c.in_err-block_open.ensures.refused in
-    rw (p.1, p.2) (λ known. image_refused json listed start (count_refused json_laws blocks s.spelled start c.args.count (read_open_refused json_laws s.laws blocks block_brackets start (r.0 known))), r.1.0)
+    let r = c.in_err-block_open.ensures.rejected in
+    rw (p.1, p.2) (λ known. image_rejected json listed start (count_rejected json_laws blocks s.encodes start c.args.count (read_open_rejected json_laws s.laws blocks block_brackets start (r.0 known))), r.1.0)
 
-pub returns-in_err-item-clause-refused : goal.returns-in_err-item-clause-refused
-returns-in_err-item-clause-refused g c =
+pub returns-in_err-item-clause-rejected : goal.returns-in_err-item-clause-rejected
+returns-in_err-item-clause-rejected g c =
     let p = err_from_is_err_and c.from_residual-in_err-item.result c.from_residual-in_err-item.ensures.1 in
-    let s = g.T.JsonFormat.json.spelling in
+    let s = g.T.JsonCodec.json.encoding in
     let start = at c.args.state.now c.args.input.now in
     let here = at c.loop-index.state c.loop-index.input in
     let taken = map g.T.Value.means c.loop-index.items.items in
     let few : length taken < c.args.count = let long = length-map c.loop-index.items.items g.T.Value.means in let count = c.loop-index.invariant.count in let less = c.loop-index-test.true in omega (arith, long, count, less) in
-    let r = c.in_err-item.ensures.refused in
-    rw (p.1, p.2) (λ known. image_refused json listed start (item_missing json_laws blocks block_brackets s.laws start here taken c.loop-index.invariant.read c.args.count few (r.0 known)), r.1)
+    let r = c.in_err-item.ensures.rejected in
+    rw (p.1, p.2) (λ known. image_rejected json listed start (item_missing json_laws blocks block_brackets s.laws start here taken c.loop-index.invariant.read c.args.count few (r.0 known)), r.1)
 
-pub returns-in_err-eat_comma_block-clause-refused : goal.returns-in_err-eat_comma_block-clause-refused
-returns-in_err-eat_comma_block-clause-refused g c =
+pub returns-in_err-eat_comma_block-clause-rejected : goal.returns-in_err-eat_comma_block-clause-rejected
+returns-in_err-eat_comma_block-clause-rejected g c =
     let p = err_from_is_err_and c.from_residual-in_err-eat_comma_block.result c.from_residual-in_err-eat_comma_block.ensures.1 in
-    let s = g.T.JsonFormat.json.spelling in
+    let s = g.T.JsonCodec.json.encoding in
     let means = g.T.Value.means in
     let start = at c.args.state.now c.args.input.now in
     let here = at c.loop-index.state c.loop-index.input in
-    let behind = at c.de_json.new.state c.de_json.new.input in
+    let following = at c.de_json.new.state c.de_json.new.input in
     let item = means c.in_ok-item.item in
-    let other = not_closing json_laws blocks block_brackets s.laws here behind item c.in_ok-item.ensures.fits in
-    let r = c.in_err-eat_comma_block.ensures.refused in
-    rw (p.1, p.2) (λ known. image_refused json listed start (count_refused json_laws blocks s.spelled start c.args.count (read_comma_refused json_laws s.laws blocks block_brackets start here behind (map means c.loop-index.items.items) item c.loop-index.invariant.read other c.in_ok-item.ensures.fits (r.0 known))), r.1.0)
+    let other = not_closing json_laws blocks block_brackets s.laws here following item c.in_ok-item.ensures.decodes in
+    let r = c.in_err-eat_comma_block.ensures.rejected in
+    rw (p.1, p.2) (λ known. image_rejected json listed start (count_rejected json_laws blocks s.encodes start c.args.count (read_comma_rejected json_laws s.laws blocks block_brackets start here following (map means c.loop-index.items.items) item c.loop-index.invariant.read other c.in_ok-item.ensures.decodes (r.0 known))), r.1.0)
 
-pub returns-in_err-block_close-clause-refused : goal.returns-in_err-block_close-clause-refused
-returns-in_err-block_close-clause-refused g c =
+pub returns-in_err-block_close-clause-rejected : goal.returns-in_err-block_close-clause-rejected
+returns-in_err-block_close-clause-rejected g c =
     let p = err_from_is_err_and c.from_residual-in_err-block_close.result c.from_residual-in_err-block_close.ensures.1 in
-    let s = g.T.JsonFormat.json.spelling in
+    let s = g.T.JsonCodec.json.encoding in
     let start = at c.args.state.now c.args.input.now in
     let here = at c.loop-index.state c.loop-index.input in
     let taken = map g.T.Value.means c.loop-index.items.items in
     let full : length c.loop-index.items.items ≡ c.args.count = grind (arith, common_steps) in
-    let r = c.in_err-block_close.ensures.refused in
-    rw (p.1, p.2) (λ known. image_refused json listed start (item_too_many json_laws blocks block_brackets s.laws start here taken c.loop-index.invariant.read c.args.count (length-map c.loop-index.items.items g.T.Value.means ∙ full) (r.0 known)), r.1.0)
+    let r = c.in_err-block_close.ensures.rejected in
+    rw (p.1, p.2) (λ known. image_rejected json listed start (item_too_many json_laws blocks block_brackets s.laws start here taken c.loop-index.invariant.read c.args.count (length-map c.loop-index.items.items g.T.Value.means ∙ full) (r.0 known)), r.1.0)

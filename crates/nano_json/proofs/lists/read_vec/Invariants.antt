@@ -1,15 +1,15 @@
 use Rattle.std.specs.Prelude.{map}
-use Rattle.text_values.proofs.Containers.{ReadSoFar}
-use Rattle.text_values.proofs.TokensLeft.{tokens_left}
-use Rattle.json_tokens.specs.Brackets.{blocks}
-use Rattle.json_tokens.specs.Scan.{is_end}
-use Rattle.json_tokens.specs.State.{at}
+use Rattle.nano_grammar.proofs.Containers.{ReadSoFar}
+use Rattle.nano_grammar.proofs.TokensLeft.{tokens_left}
+use Rattle.nano_json_tokens.specs.Brackets.{blocks}
+use Rattle.nano_json_tokens.specs.Scan.{is_end}
+use Rattle.nano_json_tokens.specs.State.{at}
 use Rattle.nano_json.proofs.Json.{json_laws}
 use Rattle.nano_json.proofs.lists.read_vec.Given as goal
 
 abbrev pub invariant-items : goal.invariant-items
 invariant-items g l =
-    ReadSoFar json_laws blocks g.T.JsonFormat.json.spelling.spelled (at l.fn.state l.fn.input)
+    ReadSoFar json_laws blocks g.T.JsonCodec.json.encoding.encodes (at l.fn.state l.fn.input)
     (at l.state l.input) (map g.T.Value.means l.items.items)
 
 abbrev pub decreases-items : goal.decreases-items

@@ -1,14 +1,14 @@
 -- what is written and what is left of the entries make all of them
 use Rattle.std.proofs.Common.{false, drop, string_bytes}
 use Rattle.std.specs.Map.Iter.{deref_pair}
-use Rattle.json_tokens.specs.Brackets.{curly_marks}
+use Rattle.nano_json_tokens.specs.Brackets.{curly_punctuation}
 use Rattle.nano_json.specs.Maps.{written_entry}
-use Rattle.text_values.specs.Layouts.{no_gaps}
-use Rattle.text_values.proofs.WrittenItems.{WritesSoFar}
+use Rattle.nano_grammar.specs.Layouts.{no_gaps}
+use Rattle.nano_grammar.proofs.WrittenItems.{WritesSoFar}
 use Rattle.nano_json.proofs.maps.append_hash_map.Given as goal
 
 abbrev pub invariant-loop-key : goal.invariant-loop-key
 invariant-loop-key g l =
-    let W = written_entry (g.K.JsonFormat.json.writing.text l.fn.d) (g.V.JsonFormat.json.writing.text l.fn.d) in
-    WritesSoFar false no_gaps curly_marks (λ e. W (deref_pair e)) (string_bytes l.fn.s.out) (string_bytes l.s.out) l.first
+    let W = written_entry (g.K.JsonCodec.json.canonical.text l.fn.d) (g.V.JsonCodec.json.canonical.text l.fn.d) in
+    WritesSoFar false no_gaps curly_punctuation (λ e. W (deref_pair e)) (string_bytes l.fn.s.out) (string_bytes l.s.out) l.first
     (drop l.key-index l.entries) l.entries

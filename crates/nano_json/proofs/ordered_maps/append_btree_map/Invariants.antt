@@ -1,12 +1,12 @@
 -- what is written and what is left of the entries make all of them
 use Rattle.std.proofs.Common.{false, string_bytes}
-use Rattle.json_tokens.specs.Brackets.{curly_marks}
+use Rattle.nano_json_tokens.specs.Brackets.{curly_punctuation}
 use Rattle.nano_json.specs.Maps.{written_entry}
-use Rattle.text_values.specs.Layouts.{no_gaps}
-use Rattle.text_values.proofs.WrittenItems.{WritesSoFar}
+use Rattle.nano_grammar.specs.Layouts.{no_gaps}
+use Rattle.nano_grammar.proofs.WrittenItems.{WritesSoFar}
 use Rattle.nano_json.proofs.ordered_maps.append_btree_map.Given as goal
 
 abbrev pub invariant-loop-key : goal.invariant-loop-key
 invariant-loop-key g l =
-    let W = written_entry (g.K.JsonFormat.json.writing.text l.fn.d) (g.V.JsonFormat.json.writing.text l.fn.d) in
-    WritesSoFar false no_gaps curly_marks W (string_bytes l.fn.s.out) (string_bytes l.s.out) l.first l.key-iterator l.entries.entries
+    let W = written_entry (g.K.JsonCodec.json.canonical.text l.fn.d) (g.V.JsonCodec.json.canonical.text l.fn.d) in
+    WritesSoFar false no_gaps curly_punctuation W (string_bytes l.fn.s.out) (string_bytes l.s.out) l.first l.key-iterator l.entries.entries

@@ -1,20 +1,20 @@
 use Rattle.std.specs.BTreeMap.{IsOrdered}
 use Rattle.nano_value.specs.Tables.{table_of}
-use Rattle.text_values.proofs.MapReading.{TableSoFar}
-use Rattle.text_values.proofs.TokensLeft.{tokens_left}
-use Rattle.json_tokens.specs.Brackets.{curlies}
-use Rattle.json_tokens.specs.Json.{curly_brackets}
-use Rattle.json_tokens.specs.Scan.{is_end}
-use Rattle.json_tokens.specs.State.{at}
-use Rattle.json_tokens.specs.Token.{colon}
+use Rattle.nano_grammar.proofs.MapReading.{TableSoFar}
+use Rattle.nano_grammar.proofs.TokensLeft.{tokens_left}
+use Rattle.nano_json_tokens.specs.Brackets.{curlies}
+use Rattle.nano_json_tokens.specs.JsonLaws.{curly_brackets}
+use Rattle.nano_json_tokens.specs.Scan.{is_end}
+use Rattle.nano_json_tokens.specs.State.{at}
+use Rattle.nano_json_tokens.specs.Token.{colon}
 use Rattle.nano_json.proofs.Json.{json_laws}
 use Rattle.nano_json.proofs.ordered_maps.read_btree_map.Given as goal
 
 -- the table is that of the entries so far, and its keys ascend
 abbrev pub invariant-entries : goal.invariant-entries
 invariant-entries g l = record {
-  read : TableSoFar json_laws curlies curly_brackets colon g.K.JsonFormat.json.spelling.spelled
-      g.V.JsonFormat.json.spelling.spelled (at l.fn.state l.fn.input) (at l.state l.input)
+  read : TableSoFar json_laws curlies curly_brackets colon g.K.JsonCodec.json.encoding.encodes
+      g.V.JsonCodec.json.encoding.encodes (at l.fn.state l.fn.input) (at l.state l.input)
       (table_of g.K.Value.means g.V.Value.means l.entries.entries);
   ordered : IsOrdered g.K.Ord.cmp l.entries;
 }

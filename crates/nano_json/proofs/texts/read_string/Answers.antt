@@ -2,43 +2,43 @@ use Rattle.std.proofs.Common.{rules, ◌≡◌, sym, subst, ◌<◌, ℕ, List, 
 use Rattle.std.proofs.lemmas.Bool.{false≢true}
 use Rattle.std.proofs.lemmas.Result.{err_from_is_err_and}
 use Rattle.std.proofs.lemmas.Str.{IsUtf8-string_bytes}
-use Rattle.nano_text.specs.Place.{live}
+use Rattle.nano_text.specs.Place.{remaining}
 use Rattle.nano_value.specs.Legal.{IsText}
 use Rattle.nano_value.specs.Meaning.{text, usize_bound}
-use Rattle.text_values.proofs.Reading.{image_spans, image_refused, one_spans, one_refused, one_uncut}
-use Rattle.json_tokens.specs.Cut.{Cut}
-use Rattle.json_tokens.specs.Json.{json}
-use Rattle.json_tokens.specs.Scalars.{text_tokens}
-use Rattle.json_tokens.specs.Outcomes.{NothingCut}
-use Rattle.json_tokens.specs.State.{at, pending}
-use Rattle.json_tokens.specs.Token.{Token, str, IsStr}
-use Rattle.json_tokens.specs.declared.state.DeJsonState.{DeJsonState}
+use Rattle.nano_grammar.proofs.Reading.{image_spans, image_rejected, one_spans, one_rejected, one_uncut}
+use Rattle.nano_json_tokens.specs.Cut.{Cut}
+use Rattle.nano_json_tokens.specs.JsonLaws.{json}
+use Rattle.nano_json_tokens.specs.ScalarsLaws.{text_tokens}
+use Rattle.nano_json_tokens.specs.Outcomes.{NothingCut}
+use Rattle.nano_json_tokens.specs.State.{at, pending}
+use Rattle.nano_json_tokens.specs.Token.{Token, str, IsStr}
+use Rattle.nano_json_tokens.specs.declared.state.DeJsonState.{DeJsonState}
 use Rattle.nano_json.proofs.texts.read_string.Goals as goal
 
 a_string : (t : Token) (bytes : List ℕ) → t ≡ str bytes → IsStr t
 a_string t bytes e = subst IsStr (sym e) tt
 
-pub returns-clause-fits : goal.returns-clause-fits
-returns-clause-fits c =
+pub returns-clause-decodes : goal.returns-clause-decodes
+returns-clause-decodes c =
     let start = at c.args.state.now c.args.input.now in
-    let behind = at c.next_tok.new.self c.next_tok.new.i in
+    let following = at c.next_tok.new.self c.next_tok.new.i in
     let bytes = string_bytes c.in_ok-text.text in
     let count : length bytes < usize_bound = search rules in
-    let cut = subst (λ (s : DeJsonState). Cut (live s.cur c.args.input.now) behind.token behind.text) c.in_ok-text.ensures.emptied.1 c.in_ok-next_tok.ensures.taken in
-    image_spans json text start behind bytes
-    (one_spans json text_tokens.carries IsText start behind bytes c.in_ok-text.ensures.ok (record { count = count; utf8 = IsUtf8-string_bytes c.in_ok-text.text }) cut)
+    let cut = subst (λ (s : DeJsonState). Cut (remaining s.cur c.args.input.now) following.token following.text) c.in_ok-text.ensures.emptied.1 c.in_ok-next_tok.ensures.taken in
+    image_spans json text start following bytes
+    (one_spans json text_tokens.carries IsText start following bytes c.in_ok-text.ensures.ok (record { count = count; utf8 = IsUtf8-string_bytes c.in_ok-text.text }) cut)
 
-pub returns-in_err-text-clause-refused : goal.returns-in_err-text-clause-refused
-returns-in_err-text-clause-refused c =
+pub returns-in_err-text-clause-rejected : goal.returns-in_err-text-clause-rejected
+returns-in_err-text-clause-rejected c =
     let p = err_from_is_err_and c.from_residual.result c.from_residual.ensures.1 in
     let start = at c.args.state.now c.args.input.now in
     let r = c.in_err-text.ensures in
-    rw (p.1, p.2) (λ known. image_refused json text start (one_refused json text_tokens.carries IsText start (λ x h _. false≢true (r.succeeds (a_string (pending c.args.state.now) x h)))), r.made.0)
+    rw (p.1, p.2) (λ known. image_rejected json text start (one_rejected json text_tokens.carries IsText start (λ x h _. false≢true (r.succeeds (a_string (pending c.args.state.now) x h)))), r.made.0)
 
-pub returns-in_err-next_tok-clause-refused : goal.returns-in_err-next_tok-clause-refused
-returns-in_err-next_tok-clause-refused c =
+pub returns-in_err-next_tok-clause-rejected : goal.returns-in_err-next_tok-clause-rejected
+returns-in_err-next_tok-clause-rejected c =
     let p = err_from_is_err_and c.from_residual-in_err-next_tok.result c.from_residual-in_err-next_tok.ensures.1 in
     let start = at c.args.state.now c.args.input.now in
-    let r = c.in_err-next_tok.ensures.refused in
-    let uncut = λ (known : c.in_err-next_tok.field-0.0.memory ≡ false). subst (λ (s : DeJsonState). NothingCut (live s.cur c.args.input.now)) c.in_ok-text.ensures.emptied.1 (r.0 known) in
-    rw (p.1, p.2) (λ known. image_refused json text start (one_uncut json text_tokens.carries IsText start (λ next. uncut known next.token next.text)), r.1.0)
+    let r = c.in_err-next_tok.ensures.rejected in
+    let uncut = λ (known : c.in_err-next_tok.field-0.0.memory ≡ false). subst (λ (s : DeJsonState). NothingCut (remaining s.cur c.args.input.now)) c.in_ok-text.ensures.emptied.1 (r.0 known) in
+    rw (p.1, p.2) (λ known. image_rejected json text start (one_uncut json text_tokens.carries IsText start (λ next. uncut known next.token next.text)), r.1.0)

@@ -1,11 +1,11 @@
 use Rattle.std.proofs.Common.{[], ◌∷◌, string_bytes, encode_utf8}
 use Rattle.std.proofs.lemmas.Result.{on_ok_weaker}
-use Rattle.text_values.proofs.WrittenItems.{pushed}
-use Rattle.text_values.proofs.WrittenLists.{both_written, one_written}
+use Rattle.nano_grammar.proofs.WrittenItems.{pushed}
+use Rattle.nano_grammar.proofs.WrittenLists.{both_written, one_written}
 use Rattle.nano_json.proofs.tuples.append_part.Goals as goal
 
 pub returns-clause-ok : goal.returns-clause-ok
 returns-clause-ok g c =
     let mid = string_bytes c.ser_json.new.s.out in
     let after = string_bytes c.push.new.self in
-    on_ok_weaker c.push.result (λ last. both_written (string_bytes c.args.s.now.out) mid after (g.T.JsonFormat.json.writing.text c.args.d c.args.part.now) (c.args.mark ∷ []) c.in_ok-ser_json.ensures.ok (one_written mid after c.args.mark last)) (pushed c.push.result mid after (encode_utf8 c.args.mark) c.push.ensures.bytes)
+    on_ok_weaker c.push.result (λ last. both_written (string_bytes c.args.s.now.out) mid after (g.T.JsonCodec.json.canonical.text c.args.d c.args.part.now) (c.args.punctuator ∷ []) c.in_ok-ser_json.ensures.ok (one_written mid after c.args.punctuator last)) (pushed c.push.result mid after (encode_utf8 c.args.punctuator) c.push.ensures.bytes)

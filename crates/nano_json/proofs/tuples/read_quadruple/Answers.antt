@@ -1,29 +1,29 @@
 use Rattle.std.proofs.lemmas.Result.{err_from_is_err_and, IfOk-weaker, IfErr-weaker}
 use Rattle.nano_value.specs.Meaning.{paired}
-use Rattle.text_values.proofs.TupleReading.{tuple_found, bracket_refused, parts_refused}
-use Rattle.json_tokens.specs.Brackets.{blocks}
-use Rattle.json_tokens.specs.Json.{block_brackets}
-use Rattle.json_tokens.specs.State.{at}
-use Rattle.nano_json.specs.Tuples.{four_parts}
+use Rattle.nano_grammar.proofs.TupleReading.{tuple_found, bracket_rejected, parts_rejected}
+use Rattle.nano_json_tokens.specs.Brackets.{blocks}
+use Rattle.nano_json_tokens.specs.JsonLaws.{block_brackets}
+use Rattle.nano_json_tokens.specs.State.{at}
+use Rattle.nano_json.specs.TuplesLaws.{four_parts}
 use Rattle.nano_json.proofs.Json.{json_laws}
 use Rattle.nano_json.proofs.tuples.read_quadruple.Goals as goal
 
-pub returns-in_err-block_open-clause-refused : goal.returns-in_err-block_open-clause-refused
-returns-in_err-block_open-clause-refused g c =
+pub returns-in_err-block_open-clause-rejected : goal.returns-in_err-block_open-clause-rejected
+returns-in_err-block_open-clause-rejected g c =
     let p = err_from_is_err_and c.from_residual.result c.from_residual.ensures.1 in
     let start = at c.args.state.now c.args.input.now in
-    let r = c.in_err-block_open.ensures.refused in
-    rw (p.1, p.2) (λ known. bracket_refused json_laws blocks block_brackets (four_parts g.A.JsonFormat.json g.B.JsonFormat.json g.C.JsonFormat.json g.D.JsonFormat.json).spelling start (r.0 known), r.1.0)
+    let r = c.in_err-block_open.ensures.rejected in
+    rw (p.1, p.2) (λ known. bracket_rejected json_laws blocks block_brackets (four_parts g.A.JsonCodec.json g.B.JsonCodec.json g.C.JsonCodec.json g.D.JsonCodec.json).encoding start (r.0 known), r.1.0)
 
-pub returns-clause-fits : goal.returns-clause-fits
-returns-clause-fits g c =
+pub returns-clause-decodes : goal.returns-clause-decodes
+returns-clause-decodes g c =
     let start = at c.args.state.now c.args.input.now in
     let inside = at c.block_open.new.self c.block_open.new.i in
     let end = at c.read_four.new.state c.read_four.new.input in
-    IfOk-weaker c.read_four.result _ _ (λ x h. tuple_found json_laws blocks block_brackets (four_parts g.A.JsonFormat.json g.B.JsonFormat.json g.C.JsonFormat.json g.D.JsonFormat.json).spelling start inside end (paired (g.A.Value.means x.0, paired (g.B.Value.means x.1, paired (g.C.Value.means x.2, g.D.Value.means x.3)))) c.in_ok-block_open.ensures.taken h) c.read_four.ensures.fits
+    IfOk-weaker c.read_four.result _ _ (λ x h. tuple_found json_laws blocks block_brackets (four_parts g.A.JsonCodec.json g.B.JsonCodec.json g.C.JsonCodec.json g.D.JsonCodec.json).encoding start inside end (paired (g.A.Value.means x.0, paired (g.B.Value.means x.1, paired (g.C.Value.means x.2, g.D.Value.means x.3)))) c.in_ok-block_open.ensures.taken h) c.read_four.ensures.decodes
 
-pub returns-clause-refused : goal.returns-clause-refused
-returns-clause-refused g c =
+pub returns-clause-rejected : goal.returns-clause-rejected
+returns-clause-rejected g c =
     let start = at c.args.state.now c.args.input.now in
     let inside = at c.block_open.new.self c.block_open.new.i in
-    IfErr-weaker c.read_four.result _ _ (λ e h. (λ known. parts_refused json_laws blocks block_brackets (four_parts g.A.JsonFormat.json g.B.JsonFormat.json g.C.JsonFormat.json g.D.JsonFormat.json).spelling start inside c.in_ok-block_open.ensures.taken (h.0 known), h.1)) c.read_four.ensures.refused
+    IfErr-weaker c.read_four.result _ _ (λ e h. (λ known. parts_rejected json_laws blocks block_brackets (four_parts g.A.JsonCodec.json g.B.JsonCodec.json g.C.JsonCodec.json g.D.JsonCodec.json).encoding start inside c.in_ok-block_open.ensures.taken (h.0 known), h.1)) c.read_four.ensures.rejected

@@ -1,12 +1,12 @@
 use Rattle.std.proofs.Common.{◌≡◌, List, [], ◌∷◌, refl, ◌∙◌, subst}
 use Rattle.std.proofs.lemmas.Result.{err_from_is_err_and, IfErr-weaker}
-use Rattle.text_values.specs.Tokens.{At, Leaves}
-use Rattle.ron_tokens.specs.Brackets.{parens}
-use Rattle.ron_tokens.specs.Cut.{Cut}
-use Rattle.ron_tokens.specs.State.{at}
-use Rattle.ron_tokens.specs.Token.{Token}
-use Rattle.ron_tokens.proofs.Cuts.{cut_one_way}
-use Rattle.text_values.proofs.Tokens.{same_at}
+use Rattle.nano_grammar.specs.Tokens.{At, Leaves}
+use Rattle.nano_ron_tokens.specs.Brackets.{parens}
+use Rattle.nano_ron_tokens.specs.Cut.{Cut}
+use Rattle.nano_ron_tokens.specs.State.{at}
+use Rattle.nano_ron_tokens.specs.Token.{Token}
+use Rattle.nano_ron_tokens.proofs.Cuts.{cut_one_way}
+use Rattle.nano_grammar.proofs.Tokens.{same_at}
 use Rattle.nano_ron.proofs.bools.read_unit.Goals as goal
 
 -- where `()` stands
@@ -15,11 +15,11 @@ both : (start : At Token) (ts : List Token) (end : At Token)
     → Leaves Cut (parens.opening ∷ parens.closing ∷ []) start end
 both start ts end e l = subst (λ (us : List Token). Leaves Cut us start end) e l
 
-pub returns-in_err-paren_open-clause-refused : goal.returns-in_err-paren_open-clause-refused
-returns-in_err-paren_open-clause-refused c =
+pub returns-in_err-paren_open-clause-rejected : goal.returns-in_err-paren_open-clause-rejected
+returns-in_err-paren_open-clause-rejected c =
     let p = err_from_is_err_and c.from_residual.result c.from_residual.ensures.1 in
     let start = at c.args.state.now c.args.input.now in
-    let r = c.in_err-paren_open.ensures.refused in
+    let r = c.in_err-paren_open.ensures.rejected in
     rw (p.1, p.2) (
       λ known m h.
           let l = both start h.0 h.1 h.2.one h.3 in
@@ -27,8 +27,8 @@ returns-in_err-paren_open-clause-refused c =
       r.1.0,
     )
 
-pub returns-clause-refused : goal.returns-clause-refused
-returns-clause-refused c =
+pub returns-clause-rejected : goal.returns-clause-rejected
+returns-clause-rejected c =
     IfErr-weaker c.paren_close.result _ _ (λ e r. (
       λ known m h.
           let start = at c.args.state.now c.args.input.now in
@@ -37,4 +37,4 @@ returns-clause-refused c =
           let same = same_at Cut cut_one_way start.text l.1.0 taken.1.0 l.1.1 taken.1.1 ∙ taken.1.2 in
           r.0 known h.1 (subst (λ (z : At Token). Leaves Cut (parens.closing ∷ []) z h.1) same l.1.2),
       r.1.0,
-    )) c.paren_close.ensures.refused
+    )) c.paren_close.ensures.rejected

@@ -1,12 +1,12 @@
 use Rattle.std.proofs.Common.{◌∙◌, ap, sym}
 use Rattle.nano_value.specs.Sets.{item_set, set_means}
-use Rattle.nano_ron.specs.Sets.{set_format}
+use Rattle.nano_ron.specs.SetsLaws.{set_codec}
 use Rattle.nano_ron.proofs.laws.sets_of_the_same_items_are_written_alike.Goals as goal
 
 pub returns : goal.returns
 returns g c d e =
-    let is = g.met.T.RonFormat.ties.means_is in
+    let is = g.met.T.RonCodec.agrees.means_is in
     let xs = c.args.hashed.now.keys in
     let ys = c.args.ordered.now.keys in
     let same = (λ i. item_set (is i) xs) ∙ (e ∙ (λ i. item_set (sym is i) ys)) in
-    (set_format g.T.Key.order g.T.RonFormat.ron).writing.same_text xs ys (ap set_means same) d
+    (set_codec g.T.Key.order g.T.RonCodec.ron).canonical.same_text xs ys (ap set_means same) d

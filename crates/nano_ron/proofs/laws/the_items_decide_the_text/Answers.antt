@@ -1,10 +1,10 @@
 use Rattle.std.proofs.Common.{◌∙◌, ap, sym}
 use Rattle.nano_value.specs.Sets.{item_set, set_means}
-use Rattle.nano_ron.specs.Sets.{set_format}
+use Rattle.nano_ron.specs.SetsLaws.{set_codec}
 use Rattle.nano_ron.proofs.laws.the_items_decide_the_text.Goals as goal
 
 pub returns : goal.returns
 returns g c xs ys d e =
-    let is = g.met.T.RonFormat.ties.means_is in
+    let is = g.met.T.RonCodec.agrees.means_is in
     let same = (λ i. item_set (is i) xs) ∙ (e ∙ (λ i. item_set (sym is i) ys)) in
-    (set_format g.T.Key.order g.T.RonFormat.ron).writing.same_text xs ys (ap set_means same) d
+    (set_codec g.T.Key.order g.T.RonCodec.ron).canonical.same_text xs ys (ap set_means same) d

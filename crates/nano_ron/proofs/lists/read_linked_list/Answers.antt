@@ -3,76 +3,76 @@ use Rattle.std.proofs.lemmas.Grind.{common_steps}
 use Rattle.std.proofs.lemmas.List.{map-append, length-map}
 use Rattle.std.proofs.lemmas.Result.{err_from_is_err_and}
 use Rattle.nano_value.specs.Meaning.{Meaning, listed, usize_bound}
-use Rattle.text_values.proofs.Containers.{ReadSoFar, read_start, item_shorter, read_next, read_found, read_open_refused, read_item_refused, read_comma_refused, read_close_refused}
-use Rattle.text_values.proofs.Reading.{image_spans, image_refused, list_spans, list_refused}
-use Rattle.ron_tokens.specs.Brackets.{blocks}
-use Rattle.ron_tokens.specs.Ron.{ron, block_brackets}
-use Rattle.ron_tokens.specs.State.{at, pending}
+use Rattle.nano_grammar.proofs.Containers.{ReadSoFar, read_start, item_shorter, read_next, read_found, read_open_rejected, read_item_rejected, read_comma_rejected, read_close_rejected}
+use Rattle.nano_grammar.proofs.Reading.{image_spans, image_rejected, list_spans, list_rejected}
+use Rattle.nano_ron_tokens.specs.Brackets.{blocks}
+use Rattle.nano_ron_tokens.specs.RonLaws.{ron, block_brackets}
+use Rattle.nano_ron_tokens.specs.State.{at, pending}
 use Rattle.nano_ron.proofs.Ron.{ron_laws, close_is, not_close}
 use Rattle.nano_ron.proofs.lists.read_linked_list.Goals as goal
 
 pub items-init : goal.items-init
 items-init g c =
-    rw c.new-items.ensures (read_start ron_laws g.T.RonFormat.ron.spelling.laws blocks block_brackets (at c.args.state.now c.args.input.now) (at c.block_open.new.self c.block_open.new.i) c.in_ok-block_open.ensures.taken)
+    rw c.new-items.ensures (read_start ron_laws g.T.RonCodec.ron.encoding.laws blocks block_brackets (at c.args.state.now c.args.input.now) (at c.block_open.new.self c.block_open.new.i) c.in_ok-block_open.ensures.taken)
 
 pub items-smaller : goal.items-smaller
-items-smaller g c = item_shorter ron_laws g.T.RonFormat.ron.spelling.laws blocks block_brackets (at c.items.state c.items.input) (at c.de_ron.new.state c.de_ron.new.input) (at c.eat_comma_block.new.self c.eat_comma_block.new.i) (g.T.Value.means c.in_ok-item.item) c.in_ok-item.ensures.fits c.in_ok-eat_comma_block.ensures.taken
+items-smaller g c = item_shorter ron_laws g.T.RonCodec.ron.encoding.laws blocks block_brackets (at c.items.state c.items.input) (at c.de_ron.new.state c.de_ron.new.input) (at c.eat_comma_block.new.self c.eat_comma_block.new.i) (g.T.Value.means c.in_ok-item.item) c.in_ok-item.ensures.decodes c.in_ok-eat_comma_block.ensures.taken
 
 pub items-preserved : goal.items-preserved
 items-preserved g c =
-    let s = g.T.RonFormat.ron.spelling in
+    let s = g.T.RonCodec.ron.encoding in
     let means = g.T.Value.means in
     let start = at c.args.state.now c.args.input.now in
     let next = at c.eat_comma_block.new.self c.eat_comma_block.new.i in
     let other = not_close (pending c.items.state) (sym c.items-test.ensures) in
-    let more = read_next ron_laws s.laws blocks block_brackets start (at c.items.state c.items.input) (at c.de_ron.new.state c.de_ron.new.input) next (map means c.items.items) (means c.in_ok-item.item) c.items.invariant other c.in_ok-item.ensures.fits c.in_ok-eat_comma_block.ensures.taken in
+    let more = read_next ron_laws s.laws blocks block_brackets start (at c.items.state c.items.input) (at c.de_ron.new.state c.de_ron.new.input) next (map means c.items.items) (means c.in_ok-item.item) c.items.invariant other c.in_ok-item.ensures.decodes c.in_ok-eat_comma_block.ensures.taken in
     let grown : c.push_back.new.self ≡ c.items.items ++ c.in_ok-item.item ∷ [] = grind (arith, common_steps) in
     let same = sym (map-append means c.items.items (c.in_ok-item.item ∷ [])) in
-    rw grown (subst (λ (ms : List Meaning). ReadSoFar ron_laws blocks s.spelled start next ms) same more)
+    rw grown (subst (λ (ms : List Meaning). ReadSoFar ron_laws blocks s.encodes start next ms) same more)
 
-pub returns-clause-fits : goal.returns-clause-fits
-returns-clause-fits g c =
-    let s = g.T.RonFormat.ron.spelling in
+pub returns-clause-decodes : goal.returns-clause-decodes
+returns-clause-decodes g c =
+    let s = g.T.RonCodec.ron.encoding in
     let start = at c.args.state.now c.args.input.now in
     let end = at c.block_close.new.self c.block_close.new.i in
     let taken = map g.T.Value.means c.items.items in
     let small : length c.items.items < usize_bound = search rules in
     let count = subst (λ (n : ℕ). n < usize_bound) (sym (length-map c.items.items g.T.Value.means)) small in
     let found = read_found ron_laws s.laws blocks block_brackets start (at c.items.state c.items.input) end taken c.items.invariant c.in_ok-block_close.ensures.taken in
-    image_spans ron listed start end taken (list_spans ron_laws blocks s.spelled start end taken count found)
+    image_spans ron listed start end taken (list_spans ron_laws blocks s.encodes start end taken count found)
 
-pub returns-in_err-block_open-clause-refused : goal.returns-in_err-block_open-clause-refused
-returns-in_err-block_open-clause-refused g c =
+pub returns-in_err-block_open-clause-rejected : goal.returns-in_err-block_open-clause-rejected
+returns-in_err-block_open-clause-rejected g c =
     let p = err_from_is_err_and c.from_residual.result c.from_residual.ensures.1 in
-    let s = g.T.RonFormat.ron.spelling in
+    let s = g.T.RonCodec.ron.encoding in
     let start = at c.args.state.now c.args.input.now in
-    let r = c.in_err-block_open.ensures.refused in
-    rw (p.1, p.2) (λ known. image_refused ron listed start (list_refused ron_laws blocks s.spelled start (read_open_refused ron_laws s.laws blocks block_brackets start (r.0 known))), r.1.0)
+    let r = c.in_err-block_open.ensures.rejected in
+    rw (p.1, p.2) (λ known. image_rejected ron listed start (list_rejected ron_laws blocks s.encodes start (read_open_rejected ron_laws s.laws blocks block_brackets start (r.0 known))), r.1.0)
 
-pub returns-in_err-item-clause-refused : goal.returns-in_err-item-clause-refused
-returns-in_err-item-clause-refused g c =
+pub returns-in_err-item-clause-rejected : goal.returns-in_err-item-clause-rejected
+returns-in_err-item-clause-rejected g c =
     let p = err_from_is_err_and c.from_residual-in_err-item.result c.from_residual-in_err-item.ensures.1 in
-    let s = g.T.RonFormat.ron.spelling in
+    let s = g.T.RonCodec.ron.encoding in
     let start = at c.args.state.now c.args.input.now in
     let other = not_close (pending c.items.state) (sym c.items-test.ensures) in
-    let r = c.in_err-item.ensures.refused in
-    rw (p.1, p.2) (λ known. image_refused ron listed start (list_refused ron_laws blocks s.spelled start (read_item_refused ron_laws s.laws blocks block_brackets start (at c.items.state c.items.input) (map g.T.Value.means c.items.items) c.items.invariant other (r.0 known))), r.1)
+    let r = c.in_err-item.ensures.rejected in
+    rw (p.1, p.2) (λ known. image_rejected ron listed start (list_rejected ron_laws blocks s.encodes start (read_item_rejected ron_laws s.laws blocks block_brackets start (at c.items.state c.items.input) (map g.T.Value.means c.items.items) c.items.invariant other (r.0 known))), r.1)
 
-pub returns-in_err-eat_comma_block-clause-refused : goal.returns-in_err-eat_comma_block-clause-refused
-returns-in_err-eat_comma_block-clause-refused g c =
+pub returns-in_err-eat_comma_block-clause-rejected : goal.returns-in_err-eat_comma_block-clause-rejected
+returns-in_err-eat_comma_block-clause-rejected g c =
     let p = err_from_is_err_and c.from_residual-in_err-eat_comma_block.result c.from_residual-in_err-eat_comma_block.ensures.1 in
-    let s = g.T.RonFormat.ron.spelling in
+    let s = g.T.RonCodec.ron.encoding in
     let means = g.T.Value.means in
     let start = at c.args.state.now c.args.input.now in
     let other = not_close (pending c.items.state) (sym c.items-test.ensures) in
-    let r = c.in_err-eat_comma_block.ensures.refused in
-    rw (p.1, p.2) (λ known. image_refused ron listed start (list_refused ron_laws blocks s.spelled start (read_comma_refused ron_laws s.laws blocks block_brackets start (at c.items.state c.items.input) (at c.de_ron.new.state c.de_ron.new.input) (map means c.items.items) (means c.in_ok-item.item) c.items.invariant other c.in_ok-item.ensures.fits (r.0 known))), r.1.0)
+    let r = c.in_err-eat_comma_block.ensures.rejected in
+    rw (p.1, p.2) (λ known. image_rejected ron listed start (list_rejected ron_laws blocks s.encodes start (read_comma_rejected ron_laws s.laws blocks block_brackets start (at c.items.state c.items.input) (at c.de_ron.new.state c.de_ron.new.input) (map means c.items.items) (means c.in_ok-item.item) c.items.invariant other c.in_ok-item.ensures.decodes (r.0 known))), r.1.0)
 
-pub returns-in_err-block_close-clause-refused : goal.returns-in_err-block_close-clause-refused
-returns-in_err-block_close-clause-refused g c =
+pub returns-in_err-block_close-clause-rejected : goal.returns-in_err-block_close-clause-rejected
+returns-in_err-block_close-clause-rejected g c =
     let p = err_from_is_err_and c.from_residual-in_err-block_close.result c.from_residual-in_err-block_close.ensures.1 in
-    let s = g.T.RonFormat.ron.spelling in
+    let s = g.T.RonCodec.ron.encoding in
     let start = at c.args.state.now c.args.input.now in
     let closing = close_is (pending c.items.state) (sym c.items-test.ensures) in
-    let r = c.in_err-block_close.ensures.refused in
-    rw (p.1, p.2) (λ known. image_refused ron listed start (list_refused ron_laws blocks s.spelled start (read_close_refused ron_laws s.laws blocks block_brackets start (at c.items.state c.items.input) (map g.T.Value.means c.items.items) c.items.invariant closing (r.0 known))), r.1.0)
+    let r = c.in_err-block_close.ensures.rejected in
+    rw (p.1, p.2) (λ known. image_rejected ron listed start (list_rejected ron_laws blocks s.encodes start (read_close_rejected ron_laws s.laws blocks block_brackets start (at c.items.state c.items.input) (map g.T.Value.means c.items.items) c.items.invariant closing (r.0 known))), r.1.0)

@@ -1,16 +1,16 @@
 -- what is written and what is left of the entries make all of them
 use Rattle.std.proofs.Common.{true, drop, string_bytes}
 use Rattle.std.specs.Map.Iter.{deref_pair}
-use Rattle.nano_text.specs.Place.{counted}
-use Rattle.text_values.proofs.WrittenItems.{WritesSoFar}
-use Rattle.ron_tokens.specs.Brackets.{curly_marks}
-use Rattle.ron_tokens.specs.Styles.{lines}
+use Rattle.nano_text.specs.Place.{saturating_next}
+use Rattle.nano_grammar.proofs.WrittenItems.{WritesSoFar}
+use Rattle.nano_ron_tokens.specs.Brackets.{curly_punctuation}
+use Rattle.nano_ron_tokens.specs.Styles.{lines}
 use Rattle.nano_ron.specs.Maps.{written_entry}
 use Rattle.nano_ron.proofs.maps.append_hash_map.Given as goal
 
 abbrev pub invariant-loop-key : goal.invariant-loop-key
 invariant-loop-key g l =
-    let d = counted l.fn.d in
-    let W = written_entry (g.K.RonFormat.ron.writing.text d) (g.V.RonFormat.ron.writing.text d) in
-    WritesSoFar true (lines l.fn.d) curly_marks (λ e. W (deref_pair e))
+    let d = saturating_next l.fn.d in
+    let W = written_entry (g.K.RonCodec.ron.canonical.text d) (g.V.RonCodec.ron.canonical.text d) in
+    WritesSoFar true (lines l.fn.d) curly_punctuation (λ e. W (deref_pair e))
     (string_bytes l.fn.s.out) (string_bytes l.s.out) true (drop l.key-index l.entries) l.entries

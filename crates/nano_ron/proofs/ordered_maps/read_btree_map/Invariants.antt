@@ -1,20 +1,20 @@
 use Rattle.std.specs.BTreeMap.{IsOrdered}
 use Rattle.nano_value.specs.Tables.{table_of}
-use Rattle.text_values.proofs.MapReading.{TableSoFar}
-use Rattle.text_values.proofs.TokensLeft.{tokens_left}
-use Rattle.ron_tokens.specs.Brackets.{curlies}
-use Rattle.ron_tokens.specs.Ron.{curly_brackets}
-use Rattle.ron_tokens.specs.Marks.{is_end}
-use Rattle.ron_tokens.specs.State.{at}
-use Rattle.ron_tokens.specs.Token.{colon}
+use Rattle.nano_grammar.proofs.MapReading.{TableSoFar}
+use Rattle.nano_grammar.proofs.TokensLeft.{tokens_left}
+use Rattle.nano_ron_tokens.specs.Brackets.{curlies}
+use Rattle.nano_ron_tokens.specs.RonLaws.{curly_brackets}
+use Rattle.nano_ron_tokens.specs.PunctuationLaws.{is_end}
+use Rattle.nano_ron_tokens.specs.State.{at}
+use Rattle.nano_ron_tokens.specs.Token.{colon}
 use Rattle.nano_ron.proofs.Ron.{ron_laws}
 use Rattle.nano_ron.proofs.ordered_maps.read_btree_map.Given as goal
 
 -- the table is that of the entries so far, and its keys ascend
 abbrev pub invariant-entries : goal.invariant-entries
 invariant-entries g l = record {
-  read : TableSoFar ron_laws curlies curly_brackets colon g.K.RonFormat.ron.spelling.spelled
-      g.V.RonFormat.ron.spelling.spelled (at l.fn.state l.fn.input) (at l.state l.input)
+  read : TableSoFar ron_laws curlies curly_brackets colon g.K.RonCodec.ron.encoding.encodes
+      g.V.RonCodec.ron.encoding.encodes (at l.fn.state l.fn.input) (at l.state l.input)
       (table_of g.K.Value.means g.V.Value.means l.entries.entries);
   ordered : IsOrdered g.K.Ord.cmp l.entries;
 }

@@ -1,13 +1,13 @@
 -- what is written and what is left of the list make all of it
 use Rattle.std.proofs.Common.{false, drop, string_bytes}
-use Rattle.nano_text.specs.Place.{counted}
-use Rattle.text_values.proofs.WrittenItems.{WritesSoFar}
-use Rattle.ron_tokens.specs.Brackets.{block_marks}
-use Rattle.ron_tokens.specs.Styles.{indents}
+use Rattle.nano_text.specs.Place.{saturating_next}
+use Rattle.nano_grammar.proofs.WrittenItems.{WritesSoFar}
+use Rattle.nano_ron_tokens.specs.Brackets.{block_punctuation}
+use Rattle.nano_ron_tokens.specs.Styles.{indents}
 use Rattle.nano_ron.proofs.sets.append_hash_set.Given as goal
 
 abbrev pub invariant-loop-item : goal.invariant-loop-item
 invariant-loop-item g l =
-    WritesSoFar false (indents l.fn.d) block_marks
-    (λ x. g.T.RonFormat.ron.writing.text (counted l.fn.d) x.now)
+    WritesSoFar false (indents l.fn.d) block_punctuation
+    (λ x. g.T.RonCodec.ron.canonical.text (saturating_next l.fn.d) x.now)
     (string_bytes l.fn.s.out) (string_bytes l.s.out) l.first (drop l.item-index l.items) l.items

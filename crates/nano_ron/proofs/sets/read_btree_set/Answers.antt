@@ -1,28 +1,29 @@
 use Rattle.std.proofs.Common.{sym, ap, rules, refl}
 use Rattle.std.proofs.lemmas.Map.Keys.{IsDistinct-from_sorted}
 use Rattle.std.specs.Ordering.{eq_by_cmp}
-use Rattle.nano_value.specs.Ascending.{key_order}
+use Rattle.nano_value.specs.AscendingLaws.{key_order}
 use Rattle.std.proofs.lemmas.Result.{err_from_is_err_and}
-use Rattle.nano_value.specs.Sets.{item_set, item_set-insert}
-use Rattle.text_values.proofs.Containers.{item_shorter, set_start, set_next, ordered_found, set_open_refused, set_item_refused, set_comma_refused, set_close_refused}
-use Rattle.ron_tokens.specs.Brackets.{blocks}
-use Rattle.ron_tokens.specs.Ron.{block_brackets}
-use Rattle.ron_tokens.specs.State.{at, pending}
+use Rattle.nano_value.specs.Sets.{item_set}
+use Rattle.nano_value.specs.SetsLaws.{item_set-insert}
+use Rattle.nano_grammar.proofs.Containers.{item_shorter, set_start, set_next, ordered_found, set_open_rejected, set_item_rejected, set_comma_rejected, set_close_rejected}
+use Rattle.nano_ron_tokens.specs.Brackets.{blocks}
+use Rattle.nano_ron_tokens.specs.RonLaws.{block_brackets}
+use Rattle.nano_ron_tokens.specs.State.{at, pending}
 use Rattle.nano_ron.proofs.Ron.{ron_laws, few_left, close_is, not_close}
 use Rattle.nano_ron.proofs.sets.read_btree_set.Goals as goal
 
 pub items-init : goal.items-init
 items-init g c = record {
-  read = set_start ron_laws blocks block_brackets g.T.RonFormat.ron.spelling.laws (at c.args.state.now c.args.input.now) (at c.block_open.new.self c.block_open.new.i) (item_set g.T.Value.means c.new-items.result.keys) (ap (item_set g.T.Value.means) c.new-items.ensures.empty) c.in_ok-block_open.ensures.taken;
+  read = set_start ron_laws blocks block_brackets g.T.RonCodec.ron.encoding.laws (at c.args.state.now c.args.input.now) (at c.block_open.new.self c.block_open.new.i) (item_set g.T.Value.means c.new-items.result.keys) (ap (item_set g.T.Value.means) c.new-items.ensures.empty) c.in_ok-block_open.ensures.taken;
   ordered = c.new-items.ensures.ordered;
 }
 
 pub items-smaller : goal.items-smaller
-items-smaller g c = item_shorter ron_laws g.T.RonFormat.ron.spelling.laws blocks block_brackets (at c.items.state c.items.input) (at c.de_ron.new.state c.de_ron.new.input) (at c.eat_comma_block.new.self c.eat_comma_block.new.i) (g.T.Value.means c.in_ok-item.item) c.in_ok-item.ensures.fits c.in_ok-eat_comma_block.ensures.taken
+items-smaller g c = item_shorter ron_laws g.T.RonCodec.ron.encoding.laws blocks block_brackets (at c.items.state c.items.input) (at c.de_ron.new.state c.de_ron.new.input) (at c.eat_comma_block.new.self c.eat_comma_block.new.i) (g.T.Value.means c.in_ok-item.item) c.in_ok-item.ensures.decodes c.in_ok-eat_comma_block.ensures.taken
 
 pub items-preserved : goal.items-preserved
 items-preserved g c =
-    let s = g.T.RonFormat.ron.spelling in
+    let s = g.T.RonCodec.ron.encoding in
     let f = g.T.Value.means in
     let start = at c.args.state.now c.args.input.now in
     let next = at c.eat_comma_block.new.self c.eat_comma_block.new.i in
@@ -32,44 +33,44 @@ items-preserved g c =
     let was = IsDistinct-from_sorted R c.items.items.keys c.items.invariant.ordered in
     let is = IsDistinct-from_sorted R c.insert.new.self.keys c.insert.ensures.ordered in
     let updated = c.in-Ok.ensures.updates in
-    let insert = item_set-insert f (eq_by_cmp R) order.ties c.items.items.keys c.insert.new.self.keys c.in_ok-item.item was is updated.1 updated.3 in
+    let insert = item_set-insert f (eq_by_cmp R) order.decides c.items.items.keys c.insert.new.self.keys c.in_ok-item.item was is updated.1 updated.3 in
     record {
-      read = set_next ron_laws blocks block_brackets s.laws start (at c.items.state c.items.input) (at c.de_ron.new.state c.de_ron.new.input) next (item_set f c.items.items.keys) (item_set f c.insert.new.self.keys) (f c.in_ok-item.item) c.items.invariant.read other c.in_ok-item.ensures.fits c.in_ok-eat_comma_block.ensures.taken insert;
+      read = set_next ron_laws blocks block_brackets s.laws start (at c.items.state c.items.input) (at c.de_ron.new.state c.de_ron.new.input) next (item_set f c.items.items.keys) (item_set f c.insert.new.self.keys) (f c.in_ok-item.item) c.items.invariant.read other c.in_ok-item.ensures.decodes c.in_ok-eat_comma_block.ensures.taken insert;
       ordered = c.insert.ensures.ordered;
     }
 
-pub returns-clause-fits : goal.returns-clause-fits
-returns-clause-fits g c =
-    let s = g.T.RonFormat.ron.spelling in
+pub returns-clause-decodes : goal.returns-clause-decodes
+returns-clause-decodes g c =
+    let s = g.T.RonCodec.ron.encoding in
     let start = at c.args.state.now c.args.input.now in
     let here = at c.items.state c.items.input in
     let end = at c.block_close.new.self c.block_close.new.i in
-    let few = few_left c.args.state.now c.args.input.now (search (rules, c.bytes_left-room.ensures.value, c.bytes_left-room.ensures.small)) in
+    let few = few_left c.args.state.now c.args.input.now (search (rules, c.bytes_left-capacity.ensures.value, c.bytes_left-capacity.ensures.small)) in
     ordered_found ron_laws blocks block_brackets s.laws g.T.Ord.cmp g.T.Value.means c.items.items.keys c.items.invariant.ordered start here end c.items.invariant.read few c.in_ok-block_close.ensures.taken
 
-pub returns-in_err-block_open-clause-refused : goal.returns-in_err-block_open-clause-refused
-returns-in_err-block_open-clause-refused g c =
+pub returns-in_err-block_open-clause-rejected : goal.returns-in_err-block_open-clause-rejected
+returns-in_err-block_open-clause-rejected g c =
     let p = err_from_is_err_and c.from_residual.result c.from_residual.ensures.1 in
-    let r = c.in_err-block_open.ensures.refused in
-    rw (p.1, p.2) (λ known. set_open_refused ron_laws blocks block_brackets g.T.RonFormat.ron.spelling.laws (at c.args.state.now c.args.input.now) (r.0 known), r.1.0)
+    let r = c.in_err-block_open.ensures.rejected in
+    rw (p.1, p.2) (λ known. set_open_rejected ron_laws blocks block_brackets g.T.RonCodec.ron.encoding.laws (at c.args.state.now c.args.input.now) (r.0 known), r.1.0)
 
-pub returns-in_err-item-clause-refused : goal.returns-in_err-item-clause-refused
-returns-in_err-item-clause-refused g c =
+pub returns-in_err-item-clause-rejected : goal.returns-in_err-item-clause-rejected
+returns-in_err-item-clause-rejected g c =
     let p = err_from_is_err_and c.from_residual-in_err-item.result c.from_residual-in_err-item.ensures.1 in
     let other = not_close (pending c.items.state) (sym c.items-test.ensures) in
-    let r = c.in_err-item.ensures.refused in
-    rw (p.1, p.2) (λ known. set_item_refused ron_laws blocks block_brackets g.T.RonFormat.ron.spelling.laws (at c.args.state.now c.args.input.now) (at c.items.state c.items.input) (item_set g.T.Value.means c.items.items.keys) c.items.invariant.read other (r.0 known), r.1)
+    let r = c.in_err-item.ensures.rejected in
+    rw (p.1, p.2) (λ known. set_item_rejected ron_laws blocks block_brackets g.T.RonCodec.ron.encoding.laws (at c.args.state.now c.args.input.now) (at c.items.state c.items.input) (item_set g.T.Value.means c.items.items.keys) c.items.invariant.read other (r.0 known), r.1)
 
-pub returns-in_err-eat_comma_block-clause-refused : goal.returns-in_err-eat_comma_block-clause-refused
-returns-in_err-eat_comma_block-clause-refused g c =
+pub returns-in_err-eat_comma_block-clause-rejected : goal.returns-in_err-eat_comma_block-clause-rejected
+returns-in_err-eat_comma_block-clause-rejected g c =
     let p = err_from_is_err_and c.from_residual-in_err-eat_comma_block.result c.from_residual-in_err-eat_comma_block.ensures.1 in
     let other = not_close (pending c.items.state) (sym c.items-test.ensures) in
-    let r = c.in_err-eat_comma_block.ensures.refused in
-    rw (p.1, p.2) (λ known. set_comma_refused ron_laws blocks block_brackets g.T.RonFormat.ron.spelling.laws (at c.args.state.now c.args.input.now) (at c.items.state c.items.input) (at c.de_ron.new.state c.de_ron.new.input) (item_set g.T.Value.means c.items.items.keys) (g.T.Value.means c.in_ok-item.item) c.items.invariant.read other c.in_ok-item.ensures.fits (r.0 known), r.1.0)
+    let r = c.in_err-eat_comma_block.ensures.rejected in
+    rw (p.1, p.2) (λ known. set_comma_rejected ron_laws blocks block_brackets g.T.RonCodec.ron.encoding.laws (at c.args.state.now c.args.input.now) (at c.items.state c.items.input) (at c.de_ron.new.state c.de_ron.new.input) (item_set g.T.Value.means c.items.items.keys) (g.T.Value.means c.in_ok-item.item) c.items.invariant.read other c.in_ok-item.ensures.decodes (r.0 known), r.1.0)
 
-pub returns-in_err-block_close-clause-refused : goal.returns-in_err-block_close-clause-refused
-returns-in_err-block_close-clause-refused g c =
+pub returns-in_err-block_close-clause-rejected : goal.returns-in_err-block_close-clause-rejected
+returns-in_err-block_close-clause-rejected g c =
     let p = err_from_is_err_and c.from_residual-in_err-block_close.result c.from_residual-in_err-block_close.ensures.1 in
     let closing = close_is (pending c.items.state) (sym c.items-test.ensures) in
-    let r = c.in_err-block_close.ensures.refused in
-    rw (p.1, p.2) (λ known. set_close_refused ron_laws blocks block_brackets g.T.RonFormat.ron.spelling.laws (at c.args.state.now c.args.input.now) (at c.items.state c.items.input) (item_set g.T.Value.means c.items.items.keys) c.items.invariant.read closing (r.0 known), r.1.0)
+    let r = c.in_err-block_close.ensures.rejected in
+    rw (p.1, p.2) (λ known. set_close_rejected ron_laws blocks block_brackets g.T.RonCodec.ron.encoding.laws (at c.args.state.now c.args.input.now) (at c.items.state c.items.input) (item_set g.T.Value.means c.items.items.keys) c.items.invariant.read closing (r.0 known), r.1.0)

@@ -1,7 +1,7 @@
 use Rattle.std.proofs.lemmas.Result.{err_from_is_err_and}
 use Rattle.nano_ron.proofs.slices.read_array.Goals as goal
 
-pub returns-in_err-items-clause-refused : goal.returns-in_err-items-clause-refused
-returns-in_err-items-clause-refused g c =
+pub returns-in_err-items-clause-rejected : goal.returns-in_err-items-clause-rejected
+returns-in_err-items-clause-rejected g c =
     let p = err_from_is_err_and c.from_residual.result c.from_residual.ensures.1 in
-    rw (p.1, p.2) c.in_err-items.ensures.refused
+    rw (p.1, p.2) c.in_err-items.ensures.rejected

@@ -1,13 +1,13 @@
 use Rattle.std.specs.Prelude.{◌≡◌, map, length}
-use Rattle.text_values.proofs.Containers.{ReadSoFar}
-use Rattle.ron_tokens.specs.Brackets.{parens}
-use Rattle.ron_tokens.specs.State.{at}
+use Rattle.nano_grammar.proofs.Containers.{ReadSoFar}
+use Rattle.nano_ron_tokens.specs.Brackets.{parens}
+use Rattle.nano_ron_tokens.specs.State.{at}
 use Rattle.nano_ron.proofs.Ron.{ron_laws}
 use Rattle.nano_ron.proofs.slices.read_items.Given as goal
 
 abbrev pub invariant-loop-index : goal.invariant-loop-index
 invariant-loop-index g l = record {
-  read : ReadSoFar ron_laws parens g.T.RonFormat.ron.spelling.spelled (at l.fn.state l.fn.input)
+  read : ReadSoFar ron_laws parens g.T.RonCodec.ron.encoding.encodes (at l.fn.state l.fn.input)
       (at l.state l.input) (map g.T.Value.means l.items.items);
   count : length l.items.items ≡ l._index;
 }

@@ -1,6 +1,6 @@
 use Rattle.std.proofs.Common.{[], ◌∷◌, ◌++◌, string_bytes}
 use Rattle.std.proofs.lemmas.Result.{on_ok_weaker}
-use Rattle.text_values.proofs.WrittenLists.{behind_mark, parts_written}
+use Rattle.nano_grammar.proofs.WrittenLists.{after_punctuator, parts_written}
 use Rattle.nano_ron.proofs.tuples.append_pair.Goals as goal
 
 pub returns-clause-ok : goal.returns-clause-ok
@@ -9,6 +9,6 @@ returns-clause-ok g c =
     let after = string_bytes c.append_last.new.s.out in
     let m0 = string_bytes c.push.new.self in
     let m1 = string_bytes c.append_part.new.s.out in
-    let t1 = (g.B.RonFormat.ron.writing.text c.args.d c.args.parts.now.1) ++ 41 ∷ [] in
-    let t0 = (g.A.RonFormat.ron.writing.text c.args.d c.args.parts.now.0) ++ 44 ∷ (32 ∷ t1) in
-    on_ok_weaker c.append_last.result (λ last. behind_mark (string_bytes c.args.s.now.out) m0 after 40 t0 c.in_ok-push.ensures.bytes (parts_written m0 m1 after (g.A.RonFormat.ron.writing.text c.args.d c.args.parts.now.0) comma t1 c.in_ok-append_part.ensures.ok last)) c.append_last.ensures.ok
+    let t1 = (g.B.RonCodec.ron.canonical.text c.args.d c.args.parts.now.1) ++ 41 ∷ [] in
+    let t0 = (g.A.RonCodec.ron.canonical.text c.args.d c.args.parts.now.0) ++ 44 ∷ (32 ∷ t1) in
+    on_ok_weaker c.append_last.result (λ last. after_punctuator (string_bytes c.args.s.now.out) m0 after 40 t0 c.in_ok-push.ensures.bytes (parts_written m0 m1 after (g.A.RonCodec.ron.canonical.text c.args.d c.args.parts.now.0) comma t1 c.in_ok-append_part.ensures.ok last)) c.append_last.ensures.ok

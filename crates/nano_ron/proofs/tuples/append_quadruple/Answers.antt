@@ -1,6 +1,6 @@
 use Rattle.std.proofs.Common.{[], ◌∷◌, ◌++◌, string_bytes}
 use Rattle.std.proofs.lemmas.Result.{on_ok_weaker}
-use Rattle.text_values.proofs.WrittenLists.{behind_mark, parts_written}
+use Rattle.nano_grammar.proofs.WrittenLists.{after_punctuator, parts_written}
 use Rattle.nano_ron.proofs.tuples.append_quadruple.Goals as goal
 
 pub returns-clause-ok : goal.returns-clause-ok
@@ -11,8 +11,8 @@ returns-clause-ok g c =
     let m1 = string_bytes c.append_part.new.s.out in
     let m2 = string_bytes c.append_part-2.new.s.out in
     let m3 = string_bytes c.append_part-3.new.s.out in
-    let t3 = (g.D.RonFormat.ron.writing.text c.args.d c.args.parts.now.3) ++ 41 ∷ [] in
-    let t2 = (g.C.RonFormat.ron.writing.text c.args.d c.args.parts.now.2) ++ 44 ∷ (32 ∷ t3) in
-    let t1 = (g.B.RonFormat.ron.writing.text c.args.d c.args.parts.now.1) ++ 44 ∷ (32 ∷ t2) in
-    let t0 = (g.A.RonFormat.ron.writing.text c.args.d c.args.parts.now.0) ++ 44 ∷ (32 ∷ t1) in
-    on_ok_weaker c.append_last.result (λ last. behind_mark (string_bytes c.args.s.now.out) m0 after 40 t0 c.in_ok-push.ensures.bytes (parts_written m0 m1 after (g.A.RonFormat.ron.writing.text c.args.d c.args.parts.now.0) comma t1 c.in_ok-append_part.ensures.ok (parts_written m1 m2 after (g.B.RonFormat.ron.writing.text c.args.d c.args.parts.now.1) comma t2 c.in_ok-append_part-2.ensures.ok (parts_written m2 m3 after (g.C.RonFormat.ron.writing.text c.args.d c.args.parts.now.2) comma t3 c.in_ok-append_part-3.ensures.ok last)))) c.append_last.ensures.ok
+    let t3 = (g.D.RonCodec.ron.canonical.text c.args.d c.args.parts.now.3) ++ 41 ∷ [] in
+    let t2 = (g.C.RonCodec.ron.canonical.text c.args.d c.args.parts.now.2) ++ 44 ∷ (32 ∷ t3) in
+    let t1 = (g.B.RonCodec.ron.canonical.text c.args.d c.args.parts.now.1) ++ 44 ∷ (32 ∷ t2) in
+    let t0 = (g.A.RonCodec.ron.canonical.text c.args.d c.args.parts.now.0) ++ 44 ∷ (32 ∷ t1) in
+    on_ok_weaker c.append_last.result (λ last. after_punctuator (string_bytes c.args.s.now.out) m0 after 40 t0 c.in_ok-push.ensures.bytes (parts_written m0 m1 after (g.A.RonCodec.ron.canonical.text c.args.d c.args.parts.now.0) comma t1 c.in_ok-append_part.ensures.ok (parts_written m1 m2 after (g.B.RonCodec.ron.canonical.text c.args.d c.args.parts.now.1) comma t2 c.in_ok-append_part-2.ensures.ok (parts_written m2 m3 after (g.C.RonCodec.ron.canonical.text c.args.d c.args.parts.now.2) comma t3 c.in_ok-append_part-3.ensures.ok last)))) c.append_last.ensures.ok

@@ -1,29 +1,29 @@
 use Rattle.std.proofs.lemmas.Result.{err_from_is_err_and, IfOk-weaker, IfErr-weaker}
 use Rattle.nano_value.specs.Meaning.{paired}
-use Rattle.text_values.proofs.TupleReading.{tuple_found, bracket_refused, parts_refused}
-use Rattle.ron_tokens.specs.Brackets.{parens}
-use Rattle.ron_tokens.specs.Ron.{paren_brackets}
-use Rattle.ron_tokens.specs.State.{at}
-use Rattle.nano_ron.specs.Tuples.{three_parts}
+use Rattle.nano_grammar.proofs.TupleReading.{tuple_found, bracket_rejected, parts_rejected}
+use Rattle.nano_ron_tokens.specs.Brackets.{parens}
+use Rattle.nano_ron_tokens.specs.RonLaws.{paren_brackets}
+use Rattle.nano_ron_tokens.specs.State.{at}
+use Rattle.nano_ron.specs.TuplesLaws.{three_parts}
 use Rattle.nano_ron.proofs.Ron.{ron_laws}
 use Rattle.nano_ron.proofs.tuples.read_triple.Goals as goal
 
-pub returns-in_err-paren_open-clause-refused : goal.returns-in_err-paren_open-clause-refused
-returns-in_err-paren_open-clause-refused g c =
+pub returns-in_err-paren_open-clause-rejected : goal.returns-in_err-paren_open-clause-rejected
+returns-in_err-paren_open-clause-rejected g c =
     let p = err_from_is_err_and c.from_residual.result c.from_residual.ensures.1 in
     let start = at c.args.state.now c.args.input.now in
-    let r = c.in_err-paren_open.ensures.refused in
-    rw (p.1, p.2) (λ known. bracket_refused ron_laws parens paren_brackets (three_parts g.A.RonFormat.ron g.B.RonFormat.ron g.C.RonFormat.ron).spelling start (r.0 known), r.1.0)
+    let r = c.in_err-paren_open.ensures.rejected in
+    rw (p.1, p.2) (λ known. bracket_rejected ron_laws parens paren_brackets (three_parts g.A.RonCodec.ron g.B.RonCodec.ron g.C.RonCodec.ron).encoding start (r.0 known), r.1.0)
 
-pub returns-clause-fits : goal.returns-clause-fits
-returns-clause-fits g c =
+pub returns-clause-decodes : goal.returns-clause-decodes
+returns-clause-decodes g c =
     let start = at c.args.state.now c.args.input.now in
     let inside = at c.paren_open.new.self c.paren_open.new.i in
     let end = at c.read_three.new.state c.read_three.new.input in
-    IfOk-weaker c.read_three.result _ _ (λ x h. tuple_found ron_laws parens paren_brackets (three_parts g.A.RonFormat.ron g.B.RonFormat.ron g.C.RonFormat.ron).spelling start inside end (paired (g.A.Value.means x.0, paired (g.B.Value.means x.1, g.C.Value.means x.2))) c.in_ok-paren_open.ensures.taken h) c.read_three.ensures.fits
+    IfOk-weaker c.read_three.result _ _ (λ x h. tuple_found ron_laws parens paren_brackets (three_parts g.A.RonCodec.ron g.B.RonCodec.ron g.C.RonCodec.ron).encoding start inside end (paired (g.A.Value.means x.0, paired (g.B.Value.means x.1, g.C.Value.means x.2))) c.in_ok-paren_open.ensures.taken h) c.read_three.ensures.decodes
 
-pub returns-clause-refused : goal.returns-clause-refused
-returns-clause-refused g c =
+pub returns-clause-rejected : goal.returns-clause-rejected
+returns-clause-rejected g c =
     let start = at c.args.state.now c.args.input.now in
     let inside = at c.paren_open.new.self c.paren_open.new.i in
-    IfErr-weaker c.read_three.result _ _ (λ e h. (λ known. parts_refused ron_laws parens paren_brackets (three_parts g.A.RonFormat.ron g.B.RonFormat.ron g.C.RonFormat.ron).spelling start inside c.in_ok-paren_open.ensures.taken (h.0 known), h.1)) c.read_three.ensures.refused
+    IfErr-weaker c.read_three.result _ _ (λ e h. (λ known. parts_rejected ron_laws parens paren_brackets (three_parts g.A.RonCodec.ron g.B.RonCodec.ron g.C.RonCodec.ron).encoding start inside c.in_ok-paren_open.ensures.taken (h.0 known), h.1)) c.read_three.ensures.rejected

@@ -1,32 +1,32 @@
 use Rattle.std.proofs.lemmas.Result.{err_from_is_err_and}
-use Rattle.text_values.proofs.TupleReading.{parts_found, first_part_refused, comma_refused, other_parts_refused}
-use Rattle.ron_tokens.specs.Brackets.{parens}
-use Rattle.ron_tokens.specs.Ron.{paren_brackets}
-use Rattle.ron_tokens.specs.State.{at}
-use Rattle.nano_ron.specs.Tuples.{last_format}
+use Rattle.nano_grammar.proofs.TupleReading.{parts_found, first_part_rejected, comma_rejected, other_parts_rejected}
+use Rattle.nano_ron_tokens.specs.Brackets.{parens}
+use Rattle.nano_ron_tokens.specs.RonLaws.{paren_brackets}
+use Rattle.nano_ron_tokens.specs.State.{at}
+use Rattle.nano_ron.specs.TuplesLaws.{last_codec}
 use Rattle.nano_ron.proofs.Ron.{ron_laws}
 use Rattle.nano_ron.proofs.tuples.read_two.Goals as goal
 
-pub returns-in_err-first-clause-refused : goal.returns-in_err-first-clause-refused
-returns-in_err-first-clause-refused g c =
+pub returns-in_err-first-clause-rejected : goal.returns-in_err-first-clause-rejected
+returns-in_err-first-clause-rejected g c =
     let p = err_from_is_err_and c.from_residual.result c.from_residual.ensures.1 in
     let start = at c.args.state.now c.args.input.now in
-    let r = c.in_err-first.ensures.refused in
-    rw (p.1, p.2) (λ known. first_part_refused ron_laws parens paren_brackets g.A.RonFormat.ron.spelling (last_format g.B.RonFormat.ron).spelling start (r.0 known), r.1)
+    let r = c.in_err-first.ensures.rejected in
+    rw (p.1, p.2) (λ known. first_part_rejected ron_laws parens paren_brackets g.A.RonCodec.ron.encoding (last_codec g.B.RonCodec.ron).encoding start (r.0 known), r.1)
 
-pub returns-in_err-eat_comma_paren-clause-refused : goal.returns-in_err-eat_comma_paren-clause-refused
-returns-in_err-eat_comma_paren-clause-refused g c =
+pub returns-in_err-eat_comma_paren-clause-rejected : goal.returns-in_err-eat_comma_paren-clause-rejected
+returns-in_err-eat_comma_paren-clause-rejected g c =
     let p = err_from_is_err_and c.from_residual-in_err-eat_comma_paren.result c.from_residual-in_err-eat_comma_paren.ensures.1 in
     let start = at c.args.state.now c.args.input.now in
-    let r = c.in_err-eat_comma_paren.ensures.refused in
-    rw (p.1, p.2) (λ known. comma_refused ron_laws parens paren_brackets g.A.RonFormat.ron.spelling (last_format g.B.RonFormat.ron).spelling start (at c.de_ron.new.state c.de_ron.new.input) (g.A.Value.means c.in_ok-first.first) c.in_ok-first.ensures.fits (r.0 known), r.1.0)
+    let r = c.in_err-eat_comma_paren.ensures.rejected in
+    rw (p.1, p.2) (λ known. comma_rejected ron_laws parens paren_brackets g.A.RonCodec.ron.encoding (last_codec g.B.RonCodec.ron).encoding start (at c.de_ron.new.state c.de_ron.new.input) (g.A.Value.means c.in_ok-first.first) c.in_ok-first.ensures.decodes (r.0 known), r.1.0)
 
-pub returns-in_err-last-clause-refused : goal.returns-in_err-last-clause-refused
-returns-in_err-last-clause-refused g c =
+pub returns-in_err-last-clause-rejected : goal.returns-in_err-last-clause-rejected
+returns-in_err-last-clause-rejected g c =
     let p = err_from_is_err_and c.from_residual-in_err-last.result c.from_residual-in_err-last.ensures.1 in
     let start = at c.args.state.now c.args.input.now in
-    let r = c.in_err-last.ensures.refused in
-    rw (p.1, p.2) (λ known. other_parts_refused ron_laws parens paren_brackets g.A.RonFormat.ron.spelling (last_format g.B.RonFormat.ron).spelling start (at c.de_ron.new.state c.de_ron.new.input) (at c.eat_comma_paren.new.self c.eat_comma_paren.new.i) (g.A.Value.means c.in_ok-first.first) c.in_ok-first.ensures.fits c.in_ok-eat_comma_paren.ensures.taken (r.0 known), r.1)
+    let r = c.in_err-last.ensures.rejected in
+    rw (p.1, p.2) (λ known. other_parts_rejected ron_laws parens paren_brackets g.A.RonCodec.ron.encoding (last_codec g.B.RonCodec.ron).encoding start (at c.de_ron.new.state c.de_ron.new.input) (at c.eat_comma_paren.new.self c.eat_comma_paren.new.i) (g.A.Value.means c.in_ok-first.first) c.in_ok-first.ensures.decodes c.in_ok-eat_comma_paren.ensures.taken (r.0 known), r.1)
 
-pub returns-clause-fits : goal.returns-clause-fits
-returns-clause-fits g c = parts_found ron_laws parens paren_brackets g.A.RonFormat.ron.spelling (last_format g.B.RonFormat.ron).spelling (at c.args.state.now c.args.input.now) (at c.de_ron.new.state c.de_ron.new.input) (at c.eat_comma_paren.new.self c.eat_comma_paren.new.i) (at c.read_last.new.state c.read_last.new.input) (g.A.Value.means c.in_ok-first.first) (g.B.Value.means c.in_ok-last.last) c.in_ok-first.ensures.fits c.in_ok-eat_comma_paren.ensures.taken c.in_ok-last.ensures.fits
+pub returns-clause-decodes : goal.returns-clause-decodes
+returns-clause-decodes g c = parts_found ron_laws parens paren_brackets g.A.RonCodec.ron.encoding (last_codec g.B.RonCodec.ron).encoding (at c.args.state.now c.args.input.now) (at c.de_ron.new.state c.de_ron.new.input) (at c.eat_comma_paren.new.self c.eat_comma_paren.new.i) (at c.read_last.new.state c.read_last.new.input) (g.A.Value.means c.in_ok-first.first) (g.B.Value.means c.in_ok-last.last) c.in_ok-first.ensures.decodes c.in_ok-eat_comma_paren.ensures.taken c.in_ok-last.ensures.decodes

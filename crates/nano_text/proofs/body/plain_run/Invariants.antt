@@ -1,14 +1,14 @@
 use Rattle.std.proofs.Common.{◌≡◌, ◌+◌, ◌≤◌, count_by, drop, length}
-use Rattle.nano_text.specs.Front.{front}
+use Rattle.nano_text.specs.Prefix.{prefix}
 use Rattle.nano_text.specs.Place.{begins_character}
 use Rattle.nano_text.specs.String.{is_plain_in_line}
 use Rattle.nano_text.proofs.body.plain_run.Given as goal
 
 abbrev pub invariant-loop-more : goal.invariant-loop-more
 invariant-loop-more l = record {
-  len : length (front is_plain_in_line l.bytes)
-      ≡ l.ascii + l.more + length (front is_plain_in_line (drop (l.ascii + l.more) l.bytes));
-  columns : count_by begins_character (front is_plain_in_line l.bytes)
-      ≡ l.columns + count_by begins_character (front is_plain_in_line (drop (l.ascii + l.more) l.bytes));
+  len : length (prefix is_plain_in_line l.bytes)
+      ≡ l.ascii + l.more + length (prefix is_plain_in_line (drop (l.ascii + l.more) l.bytes));
+  columns : count_by begins_character (prefix is_plain_in_line l.bytes)
+      ≡ l.columns + count_by begins_character (prefix is_plain_in_line (drop (l.ascii + l.more) l.bytes));
   few : l.columns ≤ l.ascii + l.more;
 }

@@ -6,14 +6,14 @@ use Rattle.nano_text.proofs.Bodies.{at_column, nothing_yet, run_boundary, reads_
 use Rattle.nano_text.proofs.body.read_at_once.Goals as goal
 
 -- where nothing is taken
-pub returns-in_default-clause-stays : goal.returns-in_default-clause-stays
-returns-in_default-clause-stays c e = (c.runs.invariant.place, c.runs.invariant.input)
+pub returns-in_default-clause-unchanged : goal.returns-in_default-clause-unchanged
+returns-in_default-clause-unchanged c e = (c.runs.invariant.place, c.runs.invariant.input)
 
-pub returns-in_default-short_escape-clause-stays : goal.returns-in_default-short_escape-clause-stays
-returns-in_default-short_escape-clause-stays c e = (c.runs.invariant.place, c.runs.invariant.input)
+pub returns-in_default-short_escape-clause-unchanged : goal.returns-in_default-short_escape-clause-unchanged
+returns-in_default-short_escape-clause-unchanged c e = (c.runs.invariant.place, c.runs.invariant.input)
 
-pub returns-in_default-push-clause-stays : goal.returns-in_default-push-clause-stays
-returns-in_default-push-clause-stays c e = (c.runs.invariant.place, c.runs.invariant.input)
+pub returns-in_default-push-clause-unchanged : goal.returns-in_default-push-clause-unchanged
+returns-in_default-push-clause-unchanged c e = (c.runs.invariant.place, c.runs.invariant.input)
 
 pub runs-init : goal.runs-init
 runs-init c = record {

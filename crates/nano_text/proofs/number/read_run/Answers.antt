@@ -2,9 +2,10 @@ use Rattle.std.proofs.Common.{◌≡◌, ◌+◌, ℕ, Option, Some, None, Bool,
 use Rattle.nano_text.specs.Number.{is_minus, run_text, AreGoodParts}
 use Rattle.nano_text.specs.declared.run.ExponentLen.{ExponentLen}
 use Rattle.nano_text.specs.Place.{text_at}
-use Rattle.nano_text.specs.Scan.{run_at, exponent_len, decimal_len, fraction_room, exponent_room}
+use Rattle.nano_text.specs.ScanLaws.{run_at}
+use Rattle.nano_text.specs.Scan.{exponent_len, decimal_len, fraction_capacity, exponent_capacity}
 use Rattle.nano_text.proofs.Numbers.{none_mapped, integer_found, integer_good, number_good, integer_not_decimal, decimal_not}
-use Rattle.nano_text.proofs.RunBytes.{run_length, run_room, decimal_taken}
+use Rattle.nano_text.proofs.RunBytes.{run_length, run_capacity, decimal_taken}
 use Rattle.nano_text.proofs.number.read_run.Goals as goal
 use Rattle.nano_text.proofs.number.read_run.Goals.{else-is_none-via-then-is_none+else-is_none-2, else-is_none-via-else-is_none}
 
@@ -21,47 +22,47 @@ decimal_len_same p q r = rw (p, q, r) refl
 pub decimal_len-requires : goal.decimal_len-requires
 decimal_len-requires c =
     let text = text_at c.args.p.now c.args.i.now in
-    let room = run_room c.args.p.now.cur c.args.i.now c.as_str-text.result.now c.as_str-text.utf8 c.as_str-text.ensures in
-    omega (arith, room, run_length (run_at text), ap fraction_room c.take_run-run.ensures.fraction, ap exponent_room c.take_run-run.ensures.exponent, c.as_str-text.type_inv)
+    let capacity = run_capacity c.args.p.now.cur c.args.i.now c.as_str-text.result.now c.as_str-text.utf8 c.as_str-text.ensures in
+    omega (arith, capacity, run_length (run_at text), ap fraction_capacity c.take_run-run.ensures.fraction, ap exponent_capacity c.take_run-run.ensures.exponent, c.as_str-text.type_inv)
 
 pub overflow_add-sign_len : goal.overflow_add-sign_len
 overflow_add-sign_len c =
     let taken = c.take_run-run.ensures in
-    let decimal = decimal_taken c.args.p.now.cur c.args.i.now c.as_str-text.result.now _ _ _ _ _ c.sign_len.result c.in-Some-decimal_len.behind c.as_str-text.utf8 c.as_str-text.ensures taken.sign taken.whole taken.fraction taken.exponent taken.rest (sym c.in-Some-decimal_len.ensures) c.sign_len.ensures in
-    let room = run_room c.args.p.now.cur c.args.i.now c.as_str-text.result.now c.as_str-text.utf8 c.as_str-text.ensures in
-    omega (arith, room, decimal.length_is, c.as_str-text.type_inv)
+    let decimal = decimal_taken c.args.p.now.cur c.args.i.now c.as_str-text.result.now _ _ _ _ _ c.sign_len.result c.in-Some-decimal_len.following c.as_str-text.utf8 c.as_str-text.ensures taken.sign taken.whole taken.fraction taken.exponent taken.rest (sym c.in-Some-decimal_len.ensures) c.sign_len.ensures in
+    let capacity = run_capacity c.args.p.now.cur c.args.i.now c.as_str-text.result.now c.as_str-text.utf8 c.as_str-text.ensures in
+    omega (arith, capacity, decimal.length_is, c.as_str-text.type_inv)
 
 pub overflow_add-sign_len-2 : goal.overflow_add-sign_len-2
 overflow_add-sign_len-2 c =
     let taken = c.take_run-run.ensures in
-    let decimal = decimal_taken c.args.p.now.cur c.args.i.now c.as_str-text.result.now _ _ _ _ _ c.sign_len.result c.in-Some-decimal_len.behind c.as_str-text.utf8 c.as_str-text.ensures taken.sign taken.whole taken.fraction taken.exponent taken.rest (sym c.in-Some-decimal_len.ensures) c.sign_len.ensures in
-    let room = run_room c.args.p.now.cur c.args.i.now c.as_str-text.result.now c.as_str-text.utf8 c.as_str-text.ensures in
-    omega (arith, room, decimal.length_is, c.as_str-text.type_inv)
+    let decimal = decimal_taken c.args.p.now.cur c.args.i.now c.as_str-text.result.now _ _ _ _ _ c.sign_len.result c.in-Some-decimal_len.following c.as_str-text.utf8 c.as_str-text.ensures taken.sign taken.whole taken.fraction taken.exponent taken.rest (sym c.in-Some-decimal_len.ensures) c.sign_len.ensures in
+    let capacity = run_capacity c.args.p.now.cur c.args.i.now c.as_str-text.result.now c.as_str-text.utf8 c.as_str-text.ensures in
+    omega (arith, capacity, decimal.length_is, c.as_str-text.type_inv)
 
 pub split_at-requires : goal.split_at-requires
 split_at-requires c =
     let taken = c.take_run-run.ensures in
-    let decimal = decimal_taken c.args.p.now.cur c.args.i.now c.as_str-text.result.now _ _ _ _ _ c.sign_len.result c.in-Some-decimal_len.behind c.as_str-text.utf8 c.as_str-text.ensures taken.sign taken.whole taken.fraction taken.exponent taken.rest (sym c.in-Some-decimal_len.ensures) c.sign_len.ensures in
+    let decimal = decimal_taken c.args.p.now.cur c.args.i.now c.as_str-text.result.now _ _ _ _ _ c.sign_len.result c.in-Some-decimal_len.following c.as_str-text.utf8 c.as_str-text.ensures taken.sign taken.whole taken.fraction taken.exponent taken.rest (sym c.in-Some-decimal_len.ensures) c.sign_len.ensures in
     decimal.bytes_are.boundary
 
 pub returns-clause-found : goal.returns-clause-found
 returns-clause-found c =
     let taken = c.take_run-run.ensures in
-    let decimal = decimal_taken c.args.p.now.cur c.args.i.now c.as_str-text.result.now _ _ _ _ _ c.sign_len.result c.in-Some-decimal_len.behind c.as_str-text.utf8 c.as_str-text.ensures taken.sign taken.whole taken.fraction taken.exponent taken.rest (sym c.in-Some-decimal_len.ensures) c.sign_len.ensures in
+    let decimal = decimal_taken c.args.p.now.cur c.args.i.now c.as_str-text.result.now _ _ _ _ _ c.sign_len.result c.in-Some-decimal_len.following c.as_str-text.utf8 c.as_str-text.ensures taken.sign taken.whole taken.fraction taken.exponent taken.rest (sym c.in-Some-decimal_len.ensures) c.sign_len.ensures in
     (run_text (run_at (text_at c.args.p.now c.args.i.now)), decimal.number, λ e. rw (c.in_ok-push_str.ensures.bytes, c.in_ok-push.ensures.bytes, c.clear.ensures.bytes, c.split_at.ensures.front) decimal.bytes_are.text_is)
 
 pub returns-in_err-push-clause-memory : goal.returns-in_err-push-clause-memory
 returns-in_err-push-clause-memory c error =
     let taken = c.take_run-run.ensures in
-    let decimal = decimal_taken c.args.p.now.cur c.args.i.now c.as_str-text.result.now _ _ _ _ _ c.sign_len.result c.in-Some-decimal_len.behind c.as_str-text.utf8 c.as_str-text.ensures taken.sign taken.whole taken.fraction taken.exponent taken.rest (sym c.in-Some-decimal_len.ensures) c.sign_len.ensures in
-    let count = length-append (encode_utf8 c.args.p.now.cur) (take (c.sign_len.result + c.take_run-run.result.whole.len + c.in-Some-decimal_len.behind) c.as_str-text.result.now) in
+    let decimal = decimal_taken c.args.p.now.cur c.args.i.now c.as_str-text.result.now _ _ _ _ _ c.sign_len.result c.in-Some-decimal_len.following c.as_str-text.utf8 c.as_str-text.ensures taken.sign taken.whole taken.fraction taken.exponent taken.rest (sym c.in-Some-decimal_len.ensures) c.sign_len.ensures in
+    let count = length-append (encode_utf8 c.args.p.now.cur) (take (c.sign_len.result + c.take_run-run.result.whole.len + c.in-Some-decimal_len.following) c.as_str-text.result.now) in
     (run_text (run_at (text_at c.args.p.now c.args.i.now)), _, decimal.number, omega (arith, c.in_err-push.ensures.full, c.clear.ensures.capacity, c.clear.ensures.len, ap length decimal.bytes_are.text_is, count))
 
 pub returns-in_err-push_str-clause-memory : goal.returns-in_err-push_str-clause-memory
 returns-in_err-push_str-clause-memory c error =
     let taken = c.take_run-run.ensures in
-    let decimal = decimal_taken c.args.p.now.cur c.args.i.now c.as_str-text.result.now _ _ _ _ _ c.sign_len.result c.in-Some-decimal_len.behind c.as_str-text.utf8 c.as_str-text.ensures taken.sign taken.whole taken.fraction taken.exponent taken.rest (sym c.in-Some-decimal_len.ensures) c.sign_len.ensures in
-    let count = length-append (encode_utf8 c.args.p.now.cur) (take (c.sign_len.result + c.take_run-run.result.whole.len + c.in-Some-decimal_len.behind) c.as_str-text.result.now) in
+    let decimal = decimal_taken c.args.p.now.cur c.args.i.now c.as_str-text.result.now _ _ _ _ _ c.sign_len.result c.in-Some-decimal_len.following c.as_str-text.utf8 c.as_str-text.ensures taken.sign taken.whole taken.fraction taken.exponent taken.rest (sym c.in-Some-decimal_len.ensures) c.sign_len.ensures in
+    let count = length-append (encode_utf8 c.args.p.now.cur) (take (c.sign_len.result + c.take_run-run.result.whole.len + c.in-Some-decimal_len.following) c.as_str-text.result.now) in
     (run_text (run_at (text_at c.args.p.now c.args.i.now)), _, decimal.number, omega (arith, c.in_err-push_str.ensures.full, c.in_ok-push.ensures.len, c.in_ok-push.ensures.capacity, c.clear.ensures.capacity, c.clear.ensures.len, ap length c.split_at.ensures.front, ap length decimal.bytes_are.text_is, count))
 
 pub returns-in_default-decimal_len-clause-malformed : goal.returns-in_default-decimal_len-clause-malformed

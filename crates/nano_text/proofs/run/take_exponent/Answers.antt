@@ -1,17 +1,17 @@
 use Rattle.std.proofs.Common.{sym, refl}
 use Rattle.nano_text.specs.Number.{is_letter_e}
 use Rattle.nano_text.specs.Place.{text_at}
-use Rattle.nano_text.proofs.LiveText.{live_stop}
-use Rattle.nano_text.proofs.Stops.{exponent_stop, behind_exponent_stop}
+use Rattle.nano_text.proofs.RemainingText.{remaining_stop}
+use Rattle.nano_text.proofs.Stops.{exponent_stop, after_exponent_stop}
 use Rattle.std.proofs.Common.{rules}
 use Rattle.nano_text.specs.PlaceLaws.{passes_append}
 use Rattle.nano_text.proofs.run.take_exponent.Goals as goal
 
 pub returns-then-not-is_letter_e-clause-found : goal.returns-then-not-is_letter_e-clause-found
-returns-then-not-is_letter_e-clause-found c = rw (exponent_stop (text_at c.args.p.now c.args.i.now) (live_stop is_letter_e _ c.args.i.now refl (sym c.if-not-is_letter_e.ensures))) refl
+returns-then-not-is_letter_e-clause-found c = rw (exponent_stop (text_at c.args.p.now c.args.i.now) (remaining_stop is_letter_e _ c.args.i.now refl (sym c.if-not-is_letter_e.ensures))) refl
 
 pub returns-then-not-is_letter_e-clause-rest : goal.returns-then-not-is_letter_e-clause-rest
-returns-then-not-is_letter_e-clause-rest c = sym (behind_exponent_stop (text_at c.args.p.now c.args.i.now) (live_stop is_letter_e _ c.args.i.now refl (sym c.if-not-is_letter_e.ensures)))
+returns-then-not-is_letter_e-clause-rest c = sym (after_exponent_stop (text_at c.args.p.now c.args.i.now) (remaining_stop is_letter_e _ c.args.i.now refl (sym c.if-not-is_letter_e.ensures)))
 
 pub returns-clause-place : goal.returns-clause-place
 returns-clause-place c = search (rules, passes_append)

@@ -1,9 +1,9 @@
 use Rattle.std.proofs.Common.{rules, ◌≡◌, ◌≢◌, ◌∷◌, ◌++◌, ℕ, [], refl, sym, ◌∙◌, ap, arith, length, length-append, string_bytes, encode_utf8, true, ne_eqb}
 use Rattle.nano_text.specs.Place.{text_at}
 use Rattle.nano_text.specs.String.{is_plain}
-use Rattle.nano_text.proofs.LiveText.{live_end, live-first}
+use Rattle.nano_text.proofs.RemainingText.{remaining_end, remaining-first}
 use Rattle.nano_text.proofs.Escapes.{piece_some}
-use Rattle.nano_text.proofs.TakenFront.{behind_shorter, plain_cut}
+use Rattle.nano_text.proofs.TakenPrefix.{after_shorter, plain_cut}
 use Rattle.nano_text.proofs.Strings.{reads_piece, reads_plain, no_string, written_le}
 use Rattle.nano_text.specs.PlaceLaws.{passes_append}
 use Rattle.nano_text.proofs.string.read_pieces.Goals as goal
@@ -14,12 +14,12 @@ quote_some cur e z = omega (arith, e, z)
 
 pub returns-then-p-ne34-clause-malformed : goal.returns-then-p-ne34-clause-malformed
 returns-then-p-ne34-clause-malformed c error characters rest string =
-    c.if-p-ne34.true (live-first c.args.p.now.cur 34 c.args.i.now _ string.split)
+    c.if-p-ne34.true (remaining-first c.args.p.now.cur 34 c.args.i.now _ string.split)
 
 pub returns-then-p-eq0-clause-malformed : goal.returns-then-p-eq0-clause-malformed
 returns-then-p-eq0-clause-malformed c error characters rest string =
     let quote = c.next.ensures.taken (quote_some _ c.if-p-ne34.false) ∙ ap (λ (n : ℕ). n ∷ text_at c.next.new.self c.next.new.i) c.if-p-ne34.false in
-    let at_end : text_at c.pieces.p c.pieces.i ≡ [] = rw c.if-p-eq0.true (live_end c.pieces.i) in
+    let at_end : text_at c.pieces.p c.pieces.i ≡ [] = rw c.if-p-eq0.true (remaining_end c.pieces.i) in
     no_string _ _ _ _ characters rest quote c.pieces.invariant.read (λ y e. let n : [] ≡ 34 ∷ y = sym at_end ∙ e in cc n) (λ p y good e. piece_some p y (sym at_end ∙ e)) string
 
 pub pieces-preserved : goal.pieces-preserved
@@ -42,13 +42,13 @@ pub returns-in_default-clause-malformed : goal.returns-in_default-clause-malform
 returns-in_default-clause-malformed c error characters rest string =
     let quote = c.next.ensures.taken (quote_some _ c.if-p-ne34.false) ∙ ap (λ (n : ℕ). n ∷ text_at c.next.new.self c.next.new.i) c.if-p-ne34.false in
     no_string _ _ _ _ characters rest quote c.pieces.invariant.read
-    (λ y e. let n : c.pieces.p.cur ≡ 34 = live-first c.pieces.p.cur 34 c.pieces.i y e in omega (arith, n, c.if-p-ne92.false))
+    (λ y e. let n : c.pieces.p.cur ≡ 34 = remaining-first c.pieces.p.cur 34 c.pieces.i y e in omega (arith, n, c.if-p-ne92.false))
     (λ p y good e. c.in_default.ensures.none refl p y good e) string
 
 pub pieces-smaller-then-p-ne92 : goal.pieces-smaller-then-p-ne92
 pieces-smaller-then-p-ne92 c =
     let plain : is_plain c.pieces.p.cur ≡ true = rw (ne_eqb _ 34 c.pieces-test.true, ne_eqb _ 92 c.if-p-ne92.true, ne_eqb _ 0 c.if-p-eq0.false) refl in
-    omega (arith, ap length c.in_ok-take_plain.ensures.rest, behind_shorter is_plain refl plain_cut c.pieces.p.cur c.pieces.i plain)
+    omega (arith, ap length c.in_ok-take_plain.ensures.rest, after_shorter is_plain refl plain_cut c.pieces.p.cur c.pieces.i plain)
 
 pub pieces-preserved-then-p-ne92 : goal.pieces-preserved-then-p-ne92
 pieces-preserved-then-p-ne92 c = record {

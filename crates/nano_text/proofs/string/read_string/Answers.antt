@@ -5,12 +5,12 @@ use Rattle.nano_text.proofs.string.read_string.Goals as goal
 
 pub returns-clause-memory : goal.returns-clause-memory
 returns-clause-memory c error characters rest string =
-    let stays = c.read_at_once.ensures.stays c.if-read_at_once.false in
-    let same : text_at c.read_at_once.new.p c.read_at_once.new.i ≡ text_at c.args.p.now c.args.i.now = rw (stays.0, stays.1) refl in
+    let unchanged = c.read_at_once.ensures.unchanged c.if-read_at_once.false in
+    let same : text_at c.read_at_once.new.p c.read_at_once.new.i ≡ text_at c.args.p.now c.args.i.now = rw (unchanged.0, unchanged.1) refl in
     omega (arith, c.read_at_once.ensures.capacity, c.read_pieces.ensures.memory error characters rest (subst (λ (t : List ℕ). IsString t characters rest) (sym same) string))
 
 pub returns-clause-malformed : goal.returns-clause-malformed
 returns-clause-malformed c error characters rest string =
-    let stays = c.read_at_once.ensures.stays c.if-read_at_once.false in
-    let same : text_at c.read_at_once.new.p c.read_at_once.new.i ≡ text_at c.args.p.now c.args.i.now = rw (stays.0, stays.1) refl in
+    let unchanged = c.read_at_once.ensures.unchanged c.if-read_at_once.false in
+    let same : text_at c.read_at_once.new.p c.read_at_once.new.i ≡ text_at c.args.p.now c.args.i.now = rw (unchanged.0, unchanged.1) refl in
     c.read_pieces.ensures.malformed error characters rest (subst (λ (t : List ℕ). IsString t characters rest) (sym same) string)

@@ -1,5 +1,5 @@
 use Rattle.std.proofs.Common.{refl}
-use Rattle.nano_text.proofs.Escapes.{same_behind_first}
+use Rattle.nano_text.proofs.Escapes.{same_after_first}
 use Rattle.nano_text.specs.PlaceLaws.{passes_append}
 use Rattle.nano_text.proofs.string.take_code_unit.Goals as goal
 
@@ -8,20 +8,20 @@ returns-in_err-first-clause-none c none unit rest hex text = c.in_err-first.ensu
 
 pub returns-in_err-second-clause-none : goal.returns-in_err-second-clause-none
 returns-in_err-second-clause-none c none unit rest hex text =
-    let text1 = same_behind_first _ _ _ _ _ c.in_ok-first.ensures.taken text in
+    let text1 = same_after_first _ _ _ _ _ c.in_ok-first.ensures.taken text in
     c.in_err-second.ensures.none refl unit.b _ hex.1 text1
 
 pub returns-in_err-third-clause-none : goal.returns-in_err-third-clause-none
 returns-in_err-third-clause-none c none unit rest hex text =
-    let text1 = same_behind_first _ _ _ _ _ c.in_ok-first.ensures.taken text in
-    let text2 = same_behind_first _ _ _ _ _ c.in_ok-second.ensures.taken text1 in
+    let text1 = same_after_first _ _ _ _ _ c.in_ok-first.ensures.taken text in
+    let text2 = same_after_first _ _ _ _ _ c.in_ok-second.ensures.taken text1 in
     c.in_err-third.ensures.none refl unit.c _ hex.2 text2
 
 pub returns-in_err-fourth-clause-none : goal.returns-in_err-fourth-clause-none
 returns-in_err-fourth-clause-none c none unit rest hex text =
-    let text1 = same_behind_first _ _ _ _ _ c.in_ok-first.ensures.taken text in
-    let text2 = same_behind_first _ _ _ _ _ c.in_ok-second.ensures.taken text1 in
-    let text3 = same_behind_first _ _ _ _ _ c.in_ok-third.ensures.taken text2 in
+    let text1 = same_after_first _ _ _ _ _ c.in_ok-first.ensures.taken text in
+    let text2 = same_after_first _ _ _ _ _ c.in_ok-second.ensures.taken text1 in
+    let text3 = same_after_first _ _ _ _ _ c.in_ok-third.ensures.taken text2 in
     c.in_err-fourth.ensures.none refl unit.d _ hex.3 text3
 
 pub returns-clause-taken : goal.returns-clause-taken

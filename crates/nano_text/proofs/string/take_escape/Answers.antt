@@ -1,7 +1,7 @@
 use Rattle.std.proofs.Common.{rules, ◌≡◌, ◌≢◌, ◌∷◌, [], refl, sym, ◌∙◌, arith}
 use Rattle.nano_text.specs.Place.{text_at}
 use Rattle.nano_text.specs.String.{escaped}
-use Rattle.nano_text.proofs.LiveText.{live_end}
+use Rattle.nano_text.proofs.RemainingText.{remaining_end}
 use Rattle.nano_text.proofs.Escapes.{some_follows, piece_longer}
 use Rattle.nano_text.specs.PlaceLaws.{passes_append}
 use Rattle.nano_text.proofs.string.take_escape.Goals as goal
@@ -9,7 +9,7 @@ use Rattle.nano_text.proofs.string.take_escape.Goals as goal
 pub returns-then-p-eq0-clause-none : goal.returns-then-p-eq0-clause-none
 returns-then-p-eq0-clause-none c none piece rest good text =
     let some : c.args.p.now.cur ≢ 0 = λ e. omega (arith, e, c.requires) in
-    let at_end : text_at c.next.new.self c.next.new.i ≡ [] = rw c.if-p-eq0.true (live_end c.next.new.i) in
+    let at_end : text_at c.next.new.self c.next.new.i ≡ [] = rw c.if-p-eq0.true (remaining_end c.next.new.i) in
     let alone : text_at c.args.p.now c.args.i.now ≡ 92 ∷ [] = rw (c.next.ensures.taken some, at_end, c.requires) refl in
     piece_longer piece rest good (sym alone ∙ text)
 

@@ -1,7 +1,7 @@
 use Rattle.std.proofs.Common.{◌≢◌, ◌<◌, ◌≤◌, ◌⊎◌, inl, inr, refl, arith}
 use Rattle.nano_text.specs.String.{scalar, pair, unit_value}
-use Rattle.nano_text.proofs.LiveText.{live-first}
-use Rattle.nano_text.proofs.Escapes.{some_anyway, IfSome-from_SomeIff, unit_of_piece, paired, same_behind_first}
+use Rattle.nano_text.proofs.RemainingText.{remaining-first}
+use Rattle.nano_text.proofs.Escapes.{some_anyway, IfSome-from_SomeIff, unit_of_piece, paired, same_after_first}
 use Rattle.nano_text.specs.PlaceLaws.{passes_append}
 use Rattle.nano_text.proofs.string.take_unicode.Goals as goal
 use Rattle.nano_text.proofs.string.take_unicode.Goals.{then-lead-lt55296-via-then-lead-lt55296, then-lead-lt55296-via-else-lead-lt55296+then-lead-gt57343, then-lead-gt56319-via-then-lead-gt56319, then-lead-gt56319-via-else-lead-gt56319+then-p-ne92}
@@ -28,7 +28,7 @@ returns-then-lead-gt56319-clause-none c none piece rest good text =
     let pair = paired piece unit.0 _ _ rest good text unit.3 low high in
     elim c.then-lead-gt56319.branch [
       | then-lead-gt56319-via-then-lead-gt56319 w ↦ omega (arith, unit.2, pair.leads, w.if-lead-gt56319.true)
-      | then-lead-gt56319-via-else-lead-gt56319+then-p-ne92 w ↦ w.if-p-ne92.true (live-first c.take_code_unit.new.p.cur 92 c.take_code_unit.new.i _ pair.split)
+      | then-lead-gt56319-via-else-lead-gt56319+then-p-ne92 w ↦ w.if-p-ne92.true (remaining-first c.take_code_unit.new.p.cur 92 c.take_code_unit.new.i _ pair.split)
     ]
 
 pub returns-then-p-ne117-clause-none : goal.returns-then-p-ne117-clause-none
@@ -38,8 +38,8 @@ returns-then-p-ne117-clause-none c none piece rest good text =
     let high : unit_value unit.0 < 0xE000 = omega (arith, unit.2, c.if-lead-gt57343.false) in
     let pair = paired piece unit.0 _ _ rest good text unit.3 low high in
     let some : c.take_code_unit.new.p.cur ≢ 0 = λ e. omega (arith, e, c.if-p-ne92.false) in
-    let behind = same_behind_first _ _ _ _ _ (c.next.ensures.taken some) pair.split in
-    c.if-p-ne117.true (live-first c.next.new.self.cur 117 c.next.new.i _ behind)
+    let following = same_after_first _ _ _ _ _ (c.next.ensures.taken some) pair.split in
+    c.if-p-ne117.true (remaining-first c.next.new.self.cur 117 c.next.new.i _ following)
 
 pub returns-in_err-trail-clause-none : goal.returns-in_err-trail-clause-none
 returns-in_err-trail-clause-none c none piece rest good text =
@@ -48,9 +48,9 @@ returns-in_err-trail-clause-none c none piece rest good text =
     let high : unit_value unit.0 < 0xE000 = omega (arith, unit.2, c.if-lead-gt57343.false) in
     let pair = paired piece unit.0 _ _ rest good text unit.3 low high in
     let some : c.take_code_unit.new.p.cur ≢ 0 = λ e. omega (arith, e, c.if-p-ne92.false) in
-    let behind = same_behind_first _ _ _ _ _ (c.next.ensures.taken some) pair.split in
+    let following = same_after_first _ _ _ _ _ (c.next.ensures.taken some) pair.split in
     let more : c.next.new.self.cur ≢ 0 = λ e. omega (arith, e, c.if-p-ne117.false) in
-    let digits = same_behind_first _ _ _ _ _ (c.next-2.ensures.taken more) behind in
+    let digits = same_after_first _ _ _ _ _ (c.next-2.ensures.taken more) following in
     c.in_err-trail.ensures.none refl pair.trail rest pair.trail_hex digits
 
 pub returns-clause-taken : goal.returns-clause-taken

@@ -1,6 +1,6 @@
 use Rattle.std.proofs.Common.{sym, ◌∙◌, ap, subst, length, string_bytes}
 use Rattle.std.specs.Str.{IsCharBoundary}
-use Rattle.nano_text.specs.Front.{front}
+use Rattle.nano_text.specs.Prefix.{prefix}
 use Rattle.std.specs.Str.Iter.{chars_rest}
 use Rattle.nano_text.proofs.WrittenRuns.{cut_run, run_more, run_last}
 use Rattle.nano_text.proofs.written.append_run.Goals as goal
@@ -10,7 +10,7 @@ pub split_at-requires : goal.split_at-requires
 split_at-requires g c =
     let e = g.E.Escaping in
     let laws = g.met.E.Escaping in
-    let count = c.plain_len.ensures ∙ ap (λ bs. length (front e.stands bs)) c.as_bytes.ensures.value in
+    let count = c.plain_len.ensures ∙ ap (λ bs. length (prefix e.stands bs)) c.as_bytes.ensures.value in
     subst (IsCharBoundary c.args.text.now) (sym count)
     (cut_run e.stands e.written laws.wide_stands laws.as_itself c.args.text.now c.utf8.text).boundary
 
@@ -18,7 +18,7 @@ pub returns-clause-ok : goal.returns-clause-ok
 returns-clause-ok g c =
     let e = g.E.Escaping in
     let laws = g.met.E.Escaping in
-    let count = c.plain_len.ensures ∙ ap (λ bs. length (front e.stands bs)) c.as_bytes.ensures.value in
+    let count = c.plain_len.ensures ∙ ap (λ bs. length (prefix e.stands bs)) c.as_bytes.ensures.value in
     let text = c.args.text.now in
     let plain = c.split_at.result.0.now in
     let tail = c.split_at.result.1.now in

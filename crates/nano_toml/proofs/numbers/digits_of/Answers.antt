@@ -1,7 +1,7 @@
 use Rattle.std.proofs.Common.{◌≡◌, Some, ◌∙◌, arith}
 use Rattle.std.proofs.lemmas.Grind.{common_steps}
 use Rattle.nano_toml.specs.Number.{digits}
-use Rattle.nano_toml.specs.Scan.{value_at}
+use Rattle.nano_toml.specs.ScanLaws.{value_at}
 use Rattle.nano_toml.proofs.Values.{value_fitting}
 use Rattle.nano_toml.proofs.numbers.digits_of.Goals as goal
 

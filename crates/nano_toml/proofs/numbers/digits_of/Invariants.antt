@@ -1,6 +1,7 @@
 use Rattle.std.proofs.Common.{◌≡◌, ◌||◌, Some, drop}
 use Rattle.nano_toml.specs.Number.{digits}
-use Rattle.nano_toml.specs.Scan.{any_digit, value_at}
+use Rattle.nano_toml.specs.Scan.{any_digit}
+use Rattle.nano_toml.specs.ScanLaws.{value_at}
 use Rattle.nano_toml.proofs.numbers.digits_of.Given as goal
 
 abbrev pub invariant-loop-byte : goal.invariant-loop-byte

@@ -1,6 +1,6 @@
 use Rattle.std.proofs.Common.{◌≡◌, ◌+◌, ℕ, Bool, length, drop}
-use Rattle.nano_toml.specs.Span.{front, IsTest}
+use Rattle.nano_toml.specs.Span.{prefix, IsTest}
 use Rattle.nano_toml.proofs.runs.run_len.Given as goal
 
 abbrev pub invariant-loop-len : goal.invariant-loop-len
-invariant-loop-len g l = (p : ℕ → Bool) → IsTest (goal.F-post g l.test) p → length (front p l.bytes) ≡ l.len + length (front p (drop l.len l.bytes))
+invariant-loop-len g l = (p : ℕ → Bool) → IsTest (goal.F-post g l.test) p → length (prefix p l.bytes) ≡ l.len + length (prefix p (drop l.len l.bytes))

@@ -9,7 +9,7 @@ use Rattle.nano_toml.specs.View.{view, values_view, tables_view, table_view}
 use Rattle.nano_toml.specs.declared.value.Toml.{Toml, SimpleArray}
 use Rattle.nano_toml.proofs.value.Toml.TheLaws.{the_size}
 use Rattle.nano_toml.proofs.ArrayViews.{values_view-push, values_view-push_same, size-last}
-use Rattle.nano_toml.specs.Fronts.{push_value}
+use Rattle.nano_toml.specs.Prefixes.{push_value}
 use Rattle.nano_toml.proofs.TableViews.{at-table_view, same_tables_from_entries, values_view-from_places, length-from_values_view, tables_view-from_places, length-from_tables_view, view-Array, view-SimpleArray, Map, value_here, table_here, is_some-at, has_key}
 use Rattle.nano_toml.specs.Data.{at, tables, Tables, values, Values}
 use Rattle.nano_toml.proofs.same.+same.Goals as goal
@@ -131,14 +131,14 @@ pub same_value-returns-in_default-split_last-2 : goal.same_value-returns-in_defa
 same_value-returns-in_default-split_last-2 t c =
     let v = c.in-SimpleArray-SimpleArray in
     let no_y : length v.y.items ≡ 0 = ap length (sym c.as_slice-in-SimpleArray-SimpleArray.ensures.value) ∙ c.in_default-split_last-2.ensures.cases in
-    let some_x : length c.in-Some.front_x.now + 1 ≡ length v.x.items = c.in-Some.ensures.cases.1 ∙ ap length c.as_slice.ensures.value in
+    let some_x : length c.in-Some.prefix_x.now + 1 ≡ length v.x.items = c.in-Some.ensures.cases.1 ∙ ap length c.as_slice.ensures.value in
     (λ e. absurd (true≢false (sym e)), λ e. absurd (let h = length-from_values_view _ _ (list_one _ _ v.x v.y v.is-0 v.is-1 (c.lists.invariant.1.1 e)) in omega arith))
 
 pub same_value-returns-then-not-same_values : goal.same_value-returns-then-not-same_values
 same_value-returns-then-not-same_values t c =
     let v = c.in-SimpleArray-SimpleArray in
-    let at_x : v.x.items ≡ c.in-Some.front_x.now ++ c.in-Some.last_x.now ∷ [] = sym c.as_slice.ensures.value ∙ c.in-Some.ensures.cases.0 in
-    let at_y : v.y.items ≡ c.in-Some-split_last.front_y.now ++ c.in-Some-split_last.last_y.now ∷ [] = sym c.as_slice-in-SimpleArray-SimpleArray.ensures.value ∙ c.in-Some-split_last.ensures.cases.0 in (
+    let at_x : v.x.items ≡ c.in-Some.prefix_x.now ++ c.in-Some.last_x.now ∷ [] = sym c.as_slice.ensures.value ∙ c.in-Some.ensures.cases.0 in
+    let at_y : v.y.items ≡ c.in-Some-split_last.prefix_y.now ++ c.in-Some-split_last.last_y.now ∷ [] = sym c.as_slice-in-SimpleArray-SimpleArray.ensures.value ∙ c.in-Some-split_last.ensures.cases.0 in (
       λ e. absurd (true≢false (sym e)),
       λ e.
           let all = list_one _ _ v.x v.y v.is-0 v.is-1 (c.lists.invariant.1.1 e) in
@@ -149,13 +149,13 @@ same_value-returns-then-not-same_values t c =
 pub same_value-lists-preserved : goal.same_value-lists-preserved
 same_value-lists-preserved t c =
     let v = c.in-SimpleArray-SimpleArray in
-    let at_x : v.x.items ≡ c.in-Some.front_x.now ++ c.in-Some.last_x.now ∷ [] = sym c.as_slice.ensures.value ∙ c.in-Some.ensures.cases.0 in
-    let at_y : v.y.items ≡ c.in-Some-split_last.front_y.now ++ c.in-Some-split_last.last_y.now ∷ [] = sym c.as_slice-in-SimpleArray-SimpleArray.ensures.value ∙ c.in-Some-split_last.ensures.cases.0 in
+    let at_x : v.x.items ≡ c.in-Some.prefix_x.now ++ c.in-Some.last_x.now ∷ [] = sym c.as_slice.ensures.value ∙ c.in-Some.ensures.cases.0 in
+    let at_y : v.y.items ≡ c.in-Some-split_last.prefix_y.now ++ c.in-Some-split_last.last_y.now ∷ [] = sym c.as_slice-in-SimpleArray-SimpleArray.ensures.value ∙ c.in-Some-split_last.ensures.cases.0 in
     let smaller : the_size c.in-Some.last_x.now < the_size c.lists.a.now = subst (λ w. the_size c.in-Some.last_x.now < the_size w) (sym v.is-0) (size-last v.x _ _ at_x) in
-    let fronts = c.same_values.ensures.0 c.if-not-same_values.false in (
+    let prefixes = c.same_values.ensures.0 c.if-not-same_values.false in (
       omega (arith, c.lists.invariant.0),
       (
-        λ e. c.lists.invariant.1.0 (one_list _ _ v.x v.y v.is-0 v.is-1 (ap values_view at_x ∙ (pushed_same _ _ _ _ fronts e ∙ sym (ap values_view at_y)))),
+        λ e. c.lists.invariant.1.0 (one_list _ _ v.x v.y v.is-0 v.is-1 (ap values_view at_x ∙ (pushed_same _ _ _ _ prefixes e ∙ sym (ap values_view at_y)))),
         λ e. (values_view-push_same _ _ _ _ (sym (ap values_view at_x) ∙ (list_one _ _ v.x v.y v.is-0 v.is-1 (c.lists.invariant.1.1 e) ∙ ap values_view at_y))).1,
       ),
     )

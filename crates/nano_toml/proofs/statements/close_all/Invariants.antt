@@ -1,5 +1,5 @@
 use Rattle.std.proofs.Common.{◌≡◌, [], vec_len}
-use Rattle.nano_toml.specs.Fronts.{close_all as all_closed}
+use Rattle.nano_toml.specs.Prefixes.{close_all as all_closed}
 use Rattle.nano_toml.specs.Reading.{arrays_view}
 use Rattle.nano_toml.specs.View.{values_view}
 use Rattle.nano_toml.proofs.statements.close_all.Given as goal

@@ -1,7 +1,7 @@
 use Rattle.std.proofs.Common.{subst}
 use Rattle.std.specs.List.{IsDistinct}
 use Rattle.std.specs.Map.{keys_of}
-use Rattle.nano_value.specs.LastValues.{in_order}
+use Rattle.nano_value.specs.LastValuesLaws.{in_order}
 use Rattle.nano_value.proofs.laws.ascending_is_in_order.Goals as goal
 
 pub returns : goal.returns

@@ -5,17 +5,17 @@ use Rattle.nanoserde.proofs.laws.ron_as_bytes.Goals as goal
 pub returns-clause-one : goal.returns-clause-one
 returns-clause-one g c =
     one_form
-    (texts_as_bytes g.T.BinFormat.bin g.met.T.BinFormat.ties g.met.T.DeBin.is_read
-    ron_laws g.T.RonFormat.ron g.met.T.RonFormat.ties)
+    (texts_as_bytes g.T.BinCodec.bin g.met.T.BinCodec.agrees g.met.T.DeBin.is_decodable
+    ron_laws g.T.RonCodec.ron g.met.T.RonCodec.agrees)
 
 pub returns-clause-tell : goal.returns-clause-tell
 returns-clause-tell g c =
     tell_values
-    (texts_as_bytes g.T.BinFormat.bin g.met.T.BinFormat.ties g.met.T.DeBin.is_read
-    ron_laws g.T.RonFormat.ron g.met.T.RonFormat.ties)
+    (texts_as_bytes g.T.BinCodec.bin g.met.T.BinCodec.agrees g.met.T.DeBin.is_decodable
+    ron_laws g.T.RonCodec.ron g.met.T.RonCodec.agrees)
 
 pub returns-clause-back : goal.returns-clause-back
 returns-clause-back g c =
     read_back
-    (texts_as_bytes g.T.BinFormat.bin g.met.T.BinFormat.ties g.met.T.DeBin.is_read
-    ron_laws g.T.RonFormat.ron g.met.T.RonFormat.ties)
+    (texts_as_bytes g.T.BinCodec.bin g.met.T.BinCodec.agrees g.met.T.DeBin.is_decodable
+    ron_laws g.T.RonCodec.ron g.met.T.RonCodec.agrees)

@@ -1,22 +1,22 @@
 use Rattle.std.proofs.lemmas.Result.{err_from_is_err_and}
-use Rattle.nano_bin.specs.Tuples.{SpellsPair}
-use Rattle.nano_bin.specs.Lists.{SpellsList}
+use Rattle.nano_bin.specs.Tuples.{EncodesPair}
+use Rattle.nano_bin.specs.Lists.{EncodesList}
 use Rattle.nano_bin.specs.Maps.{map_means}
 use Rattle.nano_bin.proofs.MapReaders.{ordered_map_reads}
-use Rattle.nano_bin.proofs.Readers.{list_refused, list_items_refused, image_refused}
+use Rattle.nano_bin.proofs.Readers.{list_rejected, list_items_rejected, image_rejected}
 use Rattle.nano_bin.proofs.ordered_maps.BTreeMapDeBin.de_bin.Goals as goal
 
 pub returns-clause-ok : goal.returns-clause-ok
-returns-clause-ok g c = ordered_map_reads g.K.BinFormat.bin.spelling.spelled g.V.BinFormat.bin.spelling.spelled g.K.Ord.cmp g.K.Value.means g.V.Value.means c.in_ok-entries.entries.entries c.in_ok-entries.ensures.ordered _ _ _ _ _ c.in_ok-count.ensures.ok c.in_ok-entries.ensures.ok
+returns-clause-ok g c = ordered_map_reads g.K.BinCodec.bin.encoding.encodes g.V.BinCodec.bin.encoding.encodes g.K.Ord.cmp g.K.Value.means g.V.Value.means c.in_ok-entries.entries.entries c.in_ok-entries.ensures.ordered _ _ _ _ _ c.in_ok-count.ensures.ok c.in_ok-entries.ensures.ok
 
 pub returns-in_err-count-clause-err : goal.returns-in_err-count-clause-err
 returns-in_err-count-clause-err g c =
-    let S = SpellsPair g.K.BinFormat.bin.spelling.spelled g.V.BinFormat.bin.spelling.spelled in
+    let S = EncodesPair g.K.BinCodec.bin.encoding.encodes g.V.BinCodec.bin.encoding.encodes in
     let p = err_from_is_err_and c.from_residual.result c.from_residual.ensures.1 in
-    rw (p.1, p.2) (λ _. image_refused (SpellsList S) map_means _ (list_refused S _ c.in_err-count.ensures.err))
+    rw (p.1, p.2) (λ _. image_rejected (EncodesList S) map_means _ (list_rejected S _ c.in_err-count.ensures.err))
 
 pub returns-in_err-entries-clause-err : goal.returns-in_err-entries-clause-err
 returns-in_err-entries-clause-err g c =
-    let S = SpellsPair g.K.BinFormat.bin.spelling.spelled g.V.BinFormat.bin.spelling.spelled in
+    let S = EncodesPair g.K.BinCodec.bin.encoding.encodes g.V.BinCodec.bin.encoding.encodes in
     let p = err_from_is_err_and c.from_residual-in_err-entries.result c.from_residual-in_err-entries.ensures.1 in
-    rw (p.1, p.2) (λ h. image_refused (SpellsList S) map_means _ (list_items_refused S _ _ _ _ c.in_ok-count.ensures.ok (c.in_err-entries.ensures.err h)))
+    rw (p.1, p.2) (λ h. image_rejected (EncodesList S) map_means _ (list_items_rejected S _ _ _ _ c.in_ok-count.ensures.ok (c.in_err-entries.ensures.err h)))

@@ -1,7 +1,7 @@
 use Rattle.std.proofs.lemmas.Result.{err_from_is_err_and}
 use Rattle.nano_value.specs.Meaning.{text}
-use Rattle.nano_bin.specs.Texts.{SpellsText}
-use Rattle.nano_bin.proofs.Readers.{text_reads, text_refused, text_bytes_refused, image_reads, image_refused}
+use Rattle.nano_bin.specs.Texts.{EncodesText}
+use Rattle.nano_bin.proofs.Readers.{text_reads, text_rejected, text_bytes_rejected, image_reads, image_rejected}
 use Rattle.nano_bin.proofs.texts.StringDeBin.de_bin.Goals as goal
 
 pub returns-clause-ok : goal.returns-clause-ok
@@ -10,9 +10,9 @@ returns-clause-ok c = image_reads text _ _ _ _ (text_reads _ _ _ _ _ _ c.in_ok-c
 pub returns-in_err-count-clause-err : goal.returns-in_err-count-clause-err
 returns-in_err-count-clause-err c =
     let p = err_from_is_err_and c.from_residual.result c.from_residual.ensures.1 in
-    rw (p.1, p.2) (λ _. image_refused SpellsText text _ (text_refused _ c.in_err-count.ensures.err))
+    rw (p.1, p.2) (λ _. image_rejected EncodesText text _ (text_rejected _ c.in_err-count.ensures.err))
 
 pub returns-in_err-text-clause-err : goal.returns-in_err-text-clause-err
 returns-in_err-text-clause-err c =
     let p = err_from_is_err_and c.from_residual-in_err-text.result c.from_residual-in_err-text.ensures.1 in
-    rw (p.1, p.2) (λ h. image_refused SpellsText text _ (text_bytes_refused _ _ _ _ c.in_ok-count.ensures.ok (c.in_err-text.ensures.err h)))
+    rw (p.1, p.2) (λ h. image_rejected EncodesText text _ (text_bytes_rejected _ _ _ _ c.in_ok-count.ensures.ok (c.in_err-text.ensures.err h)))

@@ -1,8 +1,8 @@
 -- so many items stand between the start and the offset
 use Rattle.std.proofs.Common.{map}
-use Rattle.bin_bytes.specs.Reading.{Reads}
-use Rattle.bin_bytes.specs.Items.{SpellsCount}
+use Rattle.nano_bytes.specs.Reading.{Decodes}
+use Rattle.nano_bytes.specs.Items.{EncodesCount}
 use Rattle.nano_bin.proofs.traits.DeBin.de_bin_items.Given as goal
 
 abbrev pub invariant-loop : goal.invariant-loop
-invariant-loop g l = Reads (SpellsCount l.counter g.Self.BinFormat.bin.spelling.spelled) l.bytes l.fn.offset (map g.Self.Value.means l.items.items) l.at
+invariant-loop g l = Decodes (EncodesCount l.counter g.Self.BinCodec.bin.encoding.encodes) l.bytes l.fn.offset (map g.Self.Value.means l.items.items) l.at

@@ -1,7 +1,7 @@
 -- what is appended, and the items that are left, are all
 use Rattle.std.proofs.Common.{drop}
-use Rattle.bin_bytes.proofs.Writers.{WritesSoFar}
+use Rattle.nano_bytes.proofs.Writers.{WritesSoFar}
 use Rattle.nano_bin.proofs.traits.SerBin.ser_bin_items.Given as goal
 
 abbrev pub invariant-loop-item : goal.invariant-loop-item
-invariant-loop-item g l = WritesSoFar g.Self.BinFormat.bin.writing.written l.fn.output.items l.output.items (drop l.item-index l.items) l.items
+invariant-loop-item g l = WritesSoFar g.Self.BinCodec.bin.canonical.written l.fn.output.items l.output.items (drop l.item-index l.items) l.items

@@ -1,5 +1,5 @@
-use Rattle.nano_text.specs.KeptWriting.{kept_by}
+use Rattle.nano_text.specs.RollbackLaws.{unchanged_by}
 use Rattle.nano_json.proofs.lists.RefSliceSerJson.ser_json.Goals as goal
 
-pub keep_written-requires : goal.keep_written-requires
-keep_written-requires g c = kept_by c.append_list-written.result c.args.s.now.out c.append_list-written.new.s.out c.len-start.result _ c.len-start.ensures c.append_list-written.ensures.ok c.append_list-written.ensures.err
+pub rollback_on_error-requires : goal.rollback_on_error-requires
+rollback_on_error-requires g c = unchanged_by c.append_list-written.result c.args.s.now.out c.append_list-written.new.s.out c.len-start.result _ c.len-start.ensures c.append_list-written.ensures.ok c.append_list-written.ensures.err

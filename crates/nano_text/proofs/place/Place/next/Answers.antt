@@ -1,6 +1,6 @@
 use Rattle.std.proofs.Common.{refl, subst, IsUtf8, ne_eqb}
 use Rattle.nano_text.specs.PlaceLaws.{passes_next}
-use Rattle.nano_text.proofs.LiveText.{held_next, held_none, live_next, live_last, live_taken, live_none}
+use Rattle.nano_text.proofs.RemainingText.{held_next, held_none, remaining_next, remaining_last, remaining_taken, remaining_none}
 use Rattle.nano_text.proofs.place.Place.next.Goals as goal
 
 pub returns-then-c-eq10-clause-place : goal.returns-then-c-eq10-clause-place
@@ -28,28 +28,28 @@ returns-else-c-eq10-clause-held c =
 pub returns-then-c-eq10-clause-taken : goal.returns-then-c-eq10-clause-taken
 returns-then-c-eq10-clause-taken c =
     let text = subst IsUtf8 c.as_str-text.ensures c.as_str-text.utf8 in
-    live_next _ _ _ _ (held_next c.args.i.now c.next.new.self c.in-Some.c text c.in-Some.ensures.steps.0)
+    remaining_next _ _ _ _ (held_next c.args.i.now c.next.new.self c.in-Some.c text c.in-Some.ensures.steps.0)
 
 pub returns-else-c-eq10-clause-taken : goal.returns-else-c-eq10-clause-taken
 returns-else-c-eq10-clause-taken c =
     let text = subst IsUtf8 c.as_str-text.ensures c.as_str-text.utf8 in
-    live_next _ _ _ _ (held_next c.args.i.now c.next.new.self c.in-Some.c text c.in-Some.ensures.steps.0)
+    remaining_next _ _ _ _ (held_next c.args.i.now c.next.new.self c.in-Some.c text c.in-Some.ensures.steps.0)
 
 pub returns-in-None-clause-taken : goal.returns-in-None-clause-taken
-returns-in-None-clause-taken c = live_last _ _ _ (held_none c.args.i.now c.in-None.ensures.steps.0.0)
+returns-in-None-clause-taken c = remaining_last _ _ _ (held_none c.args.i.now c.in-None.ensures.steps.0.0)
 
 pub returns-then-c-eq10-clause-rest : goal.returns-then-c-eq10-clause-rest
 returns-then-c-eq10-clause-rest c =
     let text = subst IsUtf8 c.as_str-text.ensures c.as_str-text.utf8 in
-    live_taken c.in-Some.c c.args.i.now c.next.new.self (held_next c.args.i.now c.next.new.self c.in-Some.c text c.in-Some.ensures.steps.0)
+    remaining_taken c.in-Some.c c.args.i.now c.next.new.self (held_next c.args.i.now c.next.new.self c.in-Some.c text c.in-Some.ensures.steps.0)
 
 pub returns-else-c-eq10-clause-rest : goal.returns-else-c-eq10-clause-rest
 returns-else-c-eq10-clause-rest c =
     let text = subst IsUtf8 c.as_str-text.ensures c.as_str-text.utf8 in
-    live_taken c.in-Some.c c.args.i.now c.next.new.self (held_next c.args.i.now c.next.new.self c.in-Some.c text c.in-Some.ensures.steps.0)
+    remaining_taken c.in-Some.c c.args.i.now c.next.new.self (held_next c.args.i.now c.next.new.self c.in-Some.c text c.in-Some.ensures.steps.0)
 
 pub returns-in-None-clause-rest : goal.returns-in-None-clause-rest
-returns-in-None-clause-rest c = live_none c.args.i.now c.next.new.self (held_none c.args.i.now c.in-None.ensures.steps.0.0)
+returns-in-None-clause-rest c = remaining_none c.args.i.now c.next.new.self (held_none c.args.i.now c.in-None.ensures.steps.0.0)
 
 pub returns-then-c-eq10-clause-passes : goal.returns-then-c-eq10-clause-passes
 returns-then-c-eq10-clause-passes c =

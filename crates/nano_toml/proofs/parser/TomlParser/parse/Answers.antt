@@ -1,6 +1,6 @@
 use Rattle.std.proofs.Common.{◌-◌, sym, subst, take, drop, take-append-drop, chars, length}
-use Rattle.nano_toml.specs.LiveText.{held}
-use Rattle.nano_toml.specs.StatementTable.{SpellsTable}
+use Rattle.nano_toml.specs.RemainingText.{held}
+use Rattle.nano_toml.specs.StatementTable.{EncodesTable}
 use Rattle.nano_toml.specs.View.{table_view}
 use Rattle.nano_toml.proofs.parser.TomlParser.parse.Goals as goal
 
@@ -12,4 +12,4 @@ returns-in-Err-clause-place c =
 
 pub returns-in-Ok-clause-found : goal.returns-in-Ok-clause-found
 returns-in-Ok-clause-found c =
-    subst (λ text. SpellsTable text (table_view c.in-Ok.table.entries)) c.new-reader.ensures c.in-Ok.ensures.found
+    subst (λ text. EncodesTable text (table_view c.in-Ok.table.entries)) c.new-reader.ensures c.in-Ok.ensures.found

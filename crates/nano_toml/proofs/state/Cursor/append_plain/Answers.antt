@@ -1,8 +1,8 @@
 use Rattle.std.proofs.Common.{ap, refl, length, arith}
-use Rattle.nano_toml.specs.LiveText.{live}
+use Rattle.nano_toml.specs.RemainingText.{remaining}
 use Rattle.nano_toml.specs.Plain.{is_plain}
 use Rattle.nano_toml.proofs.ByteTests.{plain_test}
-use Rattle.nano_toml.proofs.Spans.{behind_shorter}
+use Rattle.nano_toml.proofs.Spans.{after_shorter}
 use Rattle.nano_toml.proofs.state.Cursor.append_plain.Goals as goal
 
 pub take_while-plain-requires-clause-by_bytes : goal.take_while-plain-requires-clause-by_bytes
@@ -13,7 +13,7 @@ returns-clause-rest c = c.take_while-plain.ensures.rest is_plain plain_test (λ 
 
 pub returns-clause-shorter : goal.returns-clause-shorter
 returns-clause-shorter c =
-    omega (arith, ap length (c.take_while-plain.ensures.rest is_plain plain_test (λ b r says. says)), behind_shorter is_plain (live c.args.self.now) c.requires)
+    omega (arith, ap length (c.take_while-plain.ensures.rest is_plain plain_test (λ b r says. says)), after_shorter is_plain (remaining c.args.self.now) c.requires)
 
 pub returns-clause-text : goal.returns-clause-text
 returns-clause-text c = rw (c.in_ok-push_str.ensures.bytes, c.take_while-plain.ensures.text is_plain plain_test (λ b r says. says)) refl

@@ -1,6 +1,6 @@
 use Rattle.std.proofs.Common.{ap, sym, ◌∙◌}
 use Rattle.std.specs.Option.{option_copied}
-use Rattle.nano_toml.proofs.RunFronts.{first_byte, no_byte}
+use Rattle.nano_toml.proofs.RunPrefixes.{first_byte, no_byte}
 use Rattle.nano_toml.proofs.state.Cursor.first.Goals as goal
 
 pub returns-in-Some-clause-end : goal.returns-in-Some-clause-end

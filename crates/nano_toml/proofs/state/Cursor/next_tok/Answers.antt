@@ -1,66 +1,67 @@
 use Rattle.std.proofs.Common.{◌==◌, [], not, ap, sym, ◌∙◌, refl, ne_eqb, eq-eqb, ℕ}
 use Rattle.std.proofs.lemmas.Result.{err_from_is_err_and}
 use Rattle.nano_toml.specs.Characters.{starts_word, starts_number, is_quote}
-use Rattle.nano_toml.specs.LiveText.{live}
-use Rattle.nano_toml.specs.Scan.{next_behind_gaps, number_at}
+use Rattle.nano_toml.specs.RemainingText.{remaining}
+use Rattle.nano_toml.specs.ScanLaws.{next_after_gaps}
+use Rattle.nano_toml.specs.Scan.{number_at}
 use Rattle.nano_toml.specs.Taken.{the_end, token_of}
-use Rattle.nano_toml.specs.Cut.{mark_token}
+use Rattle.nano_toml.specs.Cut.{punctuator_token}
 use Rattle.nano_toml.proofs.ByteTests.{start_test, number_test, quote_test, some_test}
 use Rattle.nano_toml.proofs.CutLaws.{scanned_cut, scanned_nothing}
 use Rattle.nano_toml.proofs.LexemeCut.{string_taken}
-use Rattle.nano_toml.proofs.LiveText.{past_first, past_this}
-use Rattle.nano_toml.proofs.NextSteps.{word_next, number_next, string_next, mark_step, no_mark_step, mark_some, found_cut, refused_cut}
+use Rattle.nano_toml.proofs.RemainingText.{past_first, past_this}
+use Rattle.nano_toml.proofs.NextSteps.{word_next, number_next, string_next, punctuator_step, no_punctuator_step, punctuator_some, found_cut, rejected_cut}
 use Rattle.nano_toml.proofs.state.Cursor.next_tok.Goals as goal
 
 pub returns-then-starts_word-clause-cut : goal.returns-then-starts_word-clause-cut
 returns-then-starts_word-clause-cut c =
     let start = c.first-first.ensures.test starts_word start_test ∙ sym c.if-starts_word.ensures in
-    scanned_cut _ _ (ap next_behind_gaps (sym c.skip.ensures)
-    ∙ word_next (live c.skip.new.self) _ (live c.read_word.new.self) _ start c.read_word.ensures.text c.read_word.ensures.rest c.in_ok-word_token.ensures)
+    scanned_cut _ _ (ap next_after_gaps (sym c.skip.ensures)
+    ∙ word_next (remaining c.skip.new.self) _ (remaining c.read_word.new.self) _ start c.read_word.ensures.text c.read_word.ensures.rest c.in_ok-word_token.ensures)
 
 pub returns-then-starts_number-clause-cut : goal.returns-then-starts_number-clause-cut
 returns-then-starts_number-clause-cut c =
     let start = c.first-first.ensures.test starts_number number_test ∙ sym c.if-starts_number.ensures in
-    found_cut c.read_number.result (live c.args.self.now) (live c.read_number.new.self) (number_at (live c.skip.new.self)) (ap next_behind_gaps (sym c.skip.ensures) ∙ number_next (live c.skip.new.self) start) c.read_number.ensures.found
+    found_cut c.read_number.result (remaining c.args.self.now) (remaining c.read_number.new.self) (number_at (remaining c.skip.new.self)) (ap next_after_gaps (sym c.skip.ensures) ∙ number_next (remaining c.skip.new.self) start) c.read_number.ensures.found
 
-pub returns-then-starts_number-clause-refused : goal.returns-then-starts_number-clause-refused
-returns-then-starts_number-clause-refused c =
+pub returns-then-starts_number-clause-rejected : goal.returns-then-starts_number-clause-rejected
+returns-then-starts_number-clause-rejected c =
     let start = c.first-first.ensures.test starts_number number_test ∙ sym c.if-starts_number.ensures in
-    refused_cut c.read_number.result (live c.args.self.now) (number_at (live c.skip.new.self)) (ap next_behind_gaps (sym c.skip.ensures) ∙ number_next (live c.skip.new.self) start) c.read_number.ensures.refused
+    rejected_cut c.read_number.result (remaining c.args.self.now) (number_at (remaining c.skip.new.self)) (ap next_after_gaps (sym c.skip.ensures) ∙ number_next (remaining c.skip.new.self) start) c.read_number.ensures.rejected
 
-pub returns-in_err-read_string-clause-refused : goal.returns-in_err-read_string-clause-refused
-returns-in_err-read_string-clause-refused c =
+pub returns-in_err-read_string-clause-rejected : goal.returns-in_err-read_string-clause-rejected
+returns-in_err-read_string-clause-rejected c =
     let quote = c.first-first.ensures.test is_quote quote_test ∙ eq-eqb _ 34 c.if-first-eq34.true in
     let p = err_from_is_err_and c.from_residual-in_err-read_string.result c.from_residual-in_err-read_string.ensures.1 in
-    let past = past_this 34 (live c.skip.new.self) (live c.next.new.self) c.next.result c.next.ensures.taken c.next.ensures.end quote in
-    let at = ap next_behind_gaps (sym c.skip.ensures) ∙ string_next (live c.skip.new.self) (live c.next.new.self) 34 past refl in
-    rw (p.1, p.2) (λ n. scanned_nothing (live c.args.self.now) (at ∙ ap string_taken (c.in_err-read_string.ensures.refused n)))
+    let past = past_this 34 (remaining c.skip.new.self) (remaining c.next.new.self) c.next.result c.next.ensures.taken c.next.ensures.end quote in
+    let at = ap next_after_gaps (sym c.skip.ensures) ∙ string_next (remaining c.skip.new.self) (remaining c.next.new.self) 34 past refl in
+    rw (p.1, p.2) (λ n. scanned_nothing (remaining c.args.self.now) (at ∙ ap string_taken (c.in_err-read_string.ensures.rejected n)))
 
 pub returns-then-first-eq34-clause-cut : goal.returns-then-first-eq34-clause-cut
 returns-then-first-eq34-clause-cut c =
     let quote = c.first-first.ensures.test is_quote quote_test ∙ eq-eqb _ 34 c.if-first-eq34.true in
-    let past = past_this 34 (live c.skip.new.self) (live c.next.new.self) c.next.result c.next.ensures.taken c.next.ensures.end quote in
-    let at = ap next_behind_gaps (sym c.skip.ensures) ∙ string_next (live c.skip.new.self) (live c.next.new.self) 34 past refl in
-    scanned_cut (live c.args.self.now) _ (at ∙ ap string_taken c.in_ok-read_string.ensures.found)
+    let past = past_this 34 (remaining c.skip.new.self) (remaining c.next.new.self) c.next.result c.next.ensures.taken c.next.ensures.end quote in
+    let at = ap next_after_gaps (sym c.skip.ensures) ∙ string_next (remaining c.skip.new.self) (remaining c.next.new.self) 34 past refl in
+    scanned_cut (remaining c.args.self.now) _ (at ∙ ap string_taken c.in_ok-read_string.ensures.found)
 
 pub returns-then-first-eq0-clause-cut : goal.returns-then-first-eq0-clause-cut
 returns-then-first-eq0-clause-cut c =
     let nothing = c.first-first.ensures.end c.if-first-eq0.true in
-    let end = scanned_cut (live c.args.self.now) (record { next = the_end; rest = [] }) (ap next_behind_gaps (sym c.skip.ensures ∙ nothing)) in
+    let end = scanned_cut (remaining c.args.self.now) (record { next = the_end; rest = [] }) (ap next_after_gaps (sym c.skip.ensures ∙ nothing)) in
     (end.0, nothing)
 
 pub returns-in-Some-clause-cut : goal.returns-in-Some-clause-cut
 returns-in-Some-clause-cut c =
     let some = c.first-first.ensures.test (λ (d : ℕ). not (d == 0)) some_test ∙ ap not (ne_eqb _ 0 c.if-first-eq0.false) in
-    let past = past_first (λ (d : ℕ). not (d == 0)) (live c.skip.new.self) (live c.next-in-Some.new.self) c.next-in-Some.result c.next-in-Some.ensures.taken c.next-in-Some.ensures.end some in
-    let at = ap next_behind_gaps (sym c.skip.ensures)
-    ∙ mark_step (live c.skip.new.self) (live c.next-in-Some.new.self) c.next-in-Some.result c.first-first.result past c.first-first.ensures.test
+    let past = past_first (λ (d : ℕ). not (d == 0)) (remaining c.skip.new.self) (remaining c.next-in-Some.new.self) c.next-in-Some.result c.next-in-Some.ensures.taken c.next-in-Some.ensures.end some in
+    let at = ap next_after_gaps (sym c.skip.ensures)
+    ∙ punctuator_step (remaining c.skip.new.self) (remaining c.next-in-Some.new.self) c.next-in-Some.result c.first-first.result past c.first-first.ensures.test
     (sym c.if-starts_word.ensures) (sym c.if-starts_number.ensures) (ne_eqb _ 34 c.if-first-eq34.false) in
-    scanned_cut (live c.args.self.now) (record { next = token_of c.in-Some.token; rest = live c.next-in-Some.new.self }) (at ∙ mark_some (mark_token c.first-first.result) _ (token_of c.in-Some.token) c.in-Some.ensures)
+    scanned_cut (remaining c.args.self.now) (record { next = token_of c.in-Some.token; rest = remaining c.next-in-Some.new.self }) (at ∙ punctuator_some (punctuator_token c.first-first.result) _ (token_of c.in-Some.token) c.in-Some.ensures)
 
-pub returns-in-None-clause-refused : goal.returns-in-None-clause-refused
-returns-in-None-clause-refused c =
-    let at = ap next_behind_gaps (sym c.skip.ensures)
-    ∙ no_mark_step (live c.skip.new.self) c.first-first.result c.first-first.ensures.test c.if-first-eq0.false
+pub returns-in-None-clause-rejected : goal.returns-in-None-clause-rejected
+returns-in-None-clause-rejected c =
+    let at = ap next_after_gaps (sym c.skip.ensures)
+    ∙ no_punctuator_step (remaining c.skip.new.self) c.first-first.result c.first-first.ensures.test c.if-first-eq0.false
     (sym c.if-starts_word.ensures) (sym c.if-starts_number.ensures) (ne_eqb _ 34 c.if-first-eq34.false) c.in-None.ensures in
-    λ _. scanned_nothing (live c.args.self.now) at
+    λ _. scanned_nothing (remaining c.args.self.now) at

@@ -1,14 +1,14 @@
 use Rattle.std.proofs.Common.{◌∙◌, ◌∷◌, ap, List, ℕ}
-use Rattle.nano_toml.specs.LiveText.{live}
-use Rattle.nano_toml.proofs.LiveText.{past_this}
+use Rattle.nano_toml.specs.RemainingText.{remaining}
+use Rattle.nano_toml.proofs.RemainingText.{past_this}
 use Rattle.nano_toml.proofs.state.Cursor.read_escaped.Goals as goal
 
-pub returns-then-escaped-eq0-clause-refused : goal.returns-then-escaped-eq0-clause-refused
-returns-then-escaped-eq0-clause-refused c =
-    let past = past_this 92 (live c.args.self.now) (live c.next.new.self) c.next.result c.next.ensures.taken c.next.ensures.end c.requires in
+pub returns-then-escaped-eq0-clause-rejected : goal.returns-then-escaped-eq0-clause-rejected
+returns-then-escaped-eq0-clause-rejected c =
+    let past = past_this 92 (remaining c.args.self.now) (remaining c.next.new.self) c.next.result c.next.ensures.taken c.next.ensures.end c.requires in
     λ _. past ∙ ap (λ (l : List ℕ). 92 ∷ l) (c.next-escaped.ensures.end c.if-escaped-eq0.true)
 
 pub returns-clause-found : goal.returns-clause-found
 returns-clause-found c =
-    let past = past_this 92 (live c.args.self.now) (live c.next.new.self) c.next.result c.next.ensures.taken c.next.ensures.end c.requires in
+    let past = past_this 92 (remaining c.args.self.now) (remaining c.next.new.self) c.next.result c.next.ensures.taken c.next.ensures.end c.requires in
     (c.next-escaped.result, past ∙ ap (λ (l : List ℕ). 92 ∷ l) (c.next-escaped.ensures.taken c.if-escaped-eq0.false), c.in_ok-push.ensures.bytes)

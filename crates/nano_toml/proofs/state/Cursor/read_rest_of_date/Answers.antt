@@ -1,15 +1,15 @@
 use Rattle.std.proofs.Common.{refl, ◌∙◌}
 use Rattle.nano_toml.specs.Characters.{is_in_date}
-use Rattle.nano_toml.specs.LiveText.{live}
+use Rattle.nano_toml.specs.RemainingText.{remaining}
 use Rattle.nano_toml.proofs.ByteTests.{date_test}
-use Rattle.nano_toml.proofs.Utf8Fronts.{front_ascii}
+use Rattle.nano_toml.proofs.Utf8Prefixes.{prefix_ascii}
 use Rattle.nano_toml.proofs.state.Cursor.read_rest_of_date.Goals as goal
 
 pub take_while-requires-clause-by_bytes : goal.take_while-requires-clause-by_bytes
 take_while-requires-clause-by_bytes c = (is_in_date, date_test, λ b r says. says)
 
 pub returns-clause-text : goal.returns-clause-text
-returns-clause-text c = c.take_while.ensures.text is_in_date date_test (λ b r says. says) ∙ front_ascii is_in_date date_test refl (live c.args.self.now)
+returns-clause-text c = c.take_while.ensures.text is_in_date date_test (λ b r says. says) ∙ prefix_ascii is_in_date date_test refl (remaining c.args.self.now)
 
 pub returns-clause-rest : goal.returns-clause-rest
 returns-clause-rest c = c.take_while.ensures.rest is_in_date date_test (λ b r says. says)

@@ -1,8 +1,8 @@
 use Rattle.std.proofs.Common.{◌==◌, ℕ, sym, ◌∙◌, refl}
 use Rattle.nano_toml.specs.Characters.{is_sign}
-use Rattle.nano_toml.specs.LiveText.{live}
+use Rattle.nano_toml.specs.RemainingText.{remaining}
 use Rattle.nano_toml.proofs.ByteTests.{minus_test, sign_test}
-use Rattle.nano_toml.proofs.LiveText.{tail_past}
+use Rattle.nano_toml.proofs.RemainingText.{tail_past}
 use Rattle.nano_toml.proofs.state.Cursor.read_sign.Goals as goal
 
 pub returns-then-is_sign-clause-minus : goal.returns-then-is_sign-clause-minus
@@ -11,7 +11,7 @@ returns-then-is_sign-clause-minus c = sym (c.first-first.ensures.test (λ (d : �
 pub returns-then-is_sign-clause-rest : goal.returns-then-is_sign-clause-rest
 returns-then-is_sign-clause-rest c =
     let some = c.first-first.ensures.test is_sign sign_test ∙ sym c.if-is_sign.ensures in
-    rw some (tail_past is_sign (live c.args.self.now) (live c.next.new.self) c.next.result c.next.ensures.taken c.next.ensures.end some)
+    rw some (tail_past is_sign (remaining c.args.self.now) (remaining c.next.new.self) c.next.result c.next.ensures.taken c.next.ensures.end some)
 
 pub returns-else-is_sign-clause-minus : goal.returns-else-is_sign-clause-minus
 returns-else-is_sign-clause-minus c = sym (c.first-first.ensures.test (λ (d : ℕ). d == 45) minus_test)

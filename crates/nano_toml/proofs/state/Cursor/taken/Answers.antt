@@ -10,4 +10,4 @@ returns c =
     let utf8 = subst IsUtf8 c.as_str-left.ensures c.as_str-left.utf8 in
     let left = count_from_yields_List c.chars.result c.count.result c.count.ensures.ran (YieldsList-from_chars rest utf8 (cc)) in
     let all = count_from_yields_List c.chars-2.result c.count-2.result c.count-2.ensures.ran (YieldsList-from_chars c.args.text.now c.utf8.text (cc)) in
-    rw (c.saturating_sub.ensures, c.saturating_sub-behind.ensures, all, left) refl
+    rw (c.saturating_sub.ensures, c.saturating_sub-following.ensures, all, left) refl

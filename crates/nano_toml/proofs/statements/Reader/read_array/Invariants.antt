@@ -1,7 +1,7 @@
 use Rattle.std.proofs.Common.{[], length}
 use Rattle.nano_toml.specs.Data.{no_values}
-use Rattle.nano_toml.specs.Fronts.{array_front}
-use Rattle.nano_toml.specs.LiveText.{live}
+use Rattle.nano_toml.specs.PrefixesLaws.{array_prefix}
+use Rattle.nano_toml.specs.RemainingText.{remaining}
 use Rattle.nano_toml.specs.Reading.{arrays_view}
 use Rattle.nano_toml.specs.View.{values_view}
 use Rattle.nano_toml.proofs.ReadLemmas.{GoesOn}
@@ -9,7 +9,7 @@ use Rattle.nano_toml.proofs.statements.Reader.read_array.Given as goal
 
 abbrev pub invariant-tokens : goal.invariant-tokens
 invariant-tokens l =
-    GoesOn (array_front [] no_values) (live l.initial.self.cursor) (array_front (arrays_view l.outer.items []) (values_view l.here.items)) (live l.self.cursor)
+    GoesOn (array_prefix [] no_values) (remaining l.initial.self.cursor) (array_prefix (arrays_view l.outer.items []) (values_view l.here.items)) (remaining l.self.cursor)
 
 abbrev pub decreases-tokens : goal.decreases-tokens
-decreases-tokens l = length (live l.self.cursor)
+decreases-tokens l = length (remaining l.self.cursor)

@@ -1,22 +1,23 @@
 use Rattle.std.proofs.Common.{refl}
 use Rattle.std.proofs.lemmas.Result.{err_from_is_err_and}
-use Rattle.nano_toml.specs.Fronts.{closed, scope_front}
-use Rattle.nano_toml.specs.LiveText.{live}
+use Rattle.nano_toml.specs.Prefixes.{closed}
+use Rattle.nano_toml.specs.PrefixesLaws.{scope_prefix}
+use Rattle.nano_toml.specs.RemainingText.{remaining}
 use Rattle.nano_toml.specs.Reading.{name_view}
 use Rattle.nano_toml.specs.Statements.{scope}
 use Rattle.nano_toml.specs.Token.{close_bracket}
-use Rattle.nano_toml.proofs.ReadLemmas.{GoesOn-first, Reads-closed, ReadsNothing-closing}
+use Rattle.nano_toml.proofs.ReadLemmas.{GoesOn-first, Parses-closed, ParsesNothing-closing}
 use Rattle.nano_toml.proofs.statements.Reader.read_scope.Goals as goal
 
-pub returns-in_err-read_close_bracket-clause-refused : goal.returns-in_err-read_close_bracket-clause-refused
-returns-in_err-read_close_bracket-clause-refused c =
+pub returns-in_err-read_close_bracket-clause-rejected : goal.returns-in_err-read_close_bracket-clause-rejected
+returns-in_err-read_close_bracket-clause-rejected c =
     let p = err_from_is_err_and c.from_residual.result c.from_residual.ensures.1 in
-    rw (p.1, p.2) (λ n. ReadsNothing-closing (closed (scope (name_view c.args.name))) (live c.args.self.now.cursor) (c.in_err-read_close_bracket.ensures.refused n))
+    rw (p.1, p.2) (λ n. ParsesNothing-closing (closed (scope (name_view c.args.name))) (remaining c.args.self.now.cursor) (c.in_err-read_close_bracket.ensures.rejected n))
 
 pub returns-clause-found : goal.returns-clause-found
 returns-clause-found c =
     let name = name_view c.args.name in
-    let text = live c.args.self.now.cursor in
-    let rest = live c.read_close_bracket.new.self.cursor in
-    Reads-closed (scope_front name) (closed (scope name)) text rest (scope name)
-    (GoesOn-first (scope_front name) (closed (scope name)) text rest close_bracket c.in_ok-read_close_bracket.ensures.cut (λ more. refl)) (λ more. refl)
+    let text = remaining c.args.self.now.cursor in
+    let rest = remaining c.read_close_bracket.new.self.cursor in
+    Parses-closed (scope_prefix name) (closed (scope name)) text rest (scope name)
+    (GoesOn-first (scope_prefix name) (closed (scope name)) text rest close_bracket c.in_ok-read_close_bracket.ensures.cut (λ more. refl)) (λ more. refl)

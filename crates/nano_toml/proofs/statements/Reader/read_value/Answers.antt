@@ -1,33 +1,33 @@
 use Rattle.std.proofs.Common.{refl, []}
 use Rattle.std.proofs.lemmas.Result.{err_from_is_err_and, IfOk-weaker, IfErr-weaker}
 use Rattle.nano_toml.specs.Data.{no_values}
-use Rattle.nano_toml.specs.Fronts.{array_front, value_front}
-use Rattle.nano_toml.specs.LiveText.{live}
+use Rattle.nano_toml.specs.PrefixesLaws.{array_prefix, value_prefix}
+use Rattle.nano_toml.specs.RemainingText.{remaining}
 use Rattle.nano_toml.specs.Taken.{token_of}
 use Rattle.nano_toml.specs.Token.{open_bracket}
 use Rattle.nano_toml.specs.View.{view}
 use Rattle.nano_toml.specs.declared.token.TomlTok.TheVariants as tok
-use Rattle.nano_toml.proofs.ReadLemmas.{Took-at, Reads-scalar, Reads-token, ReadsNothing-cut, ReadsNothing-fails, ReadsNothing-token}
+use Rattle.nano_toml.proofs.ReadLemmas.{Took-at, Parses-scalar, Parses-token, ParsesNothing-cut, ParsesNothing-fails, ParsesNothing-token}
 use Rattle.nano_toml.proofs.Unexpected.{no_value}
 use Rattle.nano_toml.proofs.statements.Reader.read_value.Goals as goal
 
-pub returns-in_err-tok-clause-refused : goal.returns-in_err-tok-clause-refused
-returns-in_err-tok-clause-refused c =
+pub returns-in_err-tok-clause-rejected : goal.returns-in_err-tok-clause-rejected
+returns-in_err-tok-clause-rejected c =
     let p = err_from_is_err_and c.from_residual.result c.from_residual.ensures.1 in
-    rw (p.1, p.2) (λ n. ReadsNothing-cut value_front (live c.args.self.now.cursor) (c.in_err-tok.ensures.refused n))
+    rw (p.1, p.2) (λ n. ParsesNothing-cut value_prefix (remaining c.args.self.now.cursor) (c.in_err-tok.ensures.rejected n))
 
 pub returns-in-BlockOpen-clause-found : goal.returns-in-BlockOpen-clause-found
 returns-in-BlockOpen-clause-found c =
-    IfOk-weaker c.read_array.result _ _ (λ value r. Reads-token value_front (array_front [] no_values) (live c.args.self.now.cursor) (live c.read_token.new.self.cursor) (live c.read_array.new.self.cursor) open_bracket (view value) (Took-at (live c.args.self.now.cursor) (live c.read_token.new.self.cursor) c.in_ok-tok.tok tok.BlockOpen c.in-BlockOpen.is c.in_ok-tok.ensures.cut) (λ more. refl) r) c.read_array.ensures.found
+    IfOk-weaker c.read_array.result _ _ (λ value r. Parses-token value_prefix (array_prefix [] no_values) (remaining c.args.self.now.cursor) (remaining c.read_token.new.self.cursor) (remaining c.read_array.new.self.cursor) open_bracket (view value) (Took-at (remaining c.args.self.now.cursor) (remaining c.read_token.new.self.cursor) c.in_ok-tok.tok tok.BlockOpen c.in-BlockOpen.is c.in_ok-tok.ensures.cut) (λ more. refl) r) c.read_array.ensures.found
 
-pub returns-in-BlockOpen-clause-refused : goal.returns-in-BlockOpen-clause-refused
-returns-in-BlockOpen-clause-refused c =
-    IfErr-weaker c.read_array.result _ _ (λ e r n. ReadsNothing-token value_front (array_front [] no_values) (live c.args.self.now.cursor) (live c.read_token.new.self.cursor) open_bracket (Took-at (live c.args.self.now.cursor) (live c.read_token.new.self.cursor) c.in_ok-tok.tok tok.BlockOpen c.in-BlockOpen.is c.in_ok-tok.ensures.cut) (λ more. refl) (r n)) c.read_array.ensures.refused
+pub returns-in-BlockOpen-clause-rejected : goal.returns-in-BlockOpen-clause-rejected
+returns-in-BlockOpen-clause-rejected c =
+    IfErr-weaker c.read_array.result _ _ (λ e r n. ParsesNothing-token value_prefix (array_prefix [] no_values) (remaining c.args.self.now.cursor) (remaining c.read_token.new.self.cursor) open_bracket (Took-at (remaining c.args.self.now.cursor) (remaining c.read_token.new.self.cursor) c.in_ok-tok.tok tok.BlockOpen c.in-BlockOpen.is c.in_ok-tok.ensures.cut) (λ more. refl) (r n)) c.read_array.ensures.rejected
 
 pub returns-in-Ok-clause-found : goal.returns-in-Ok-clause-found
 returns-in-Ok-clause-found c =
-    Reads-scalar (live c.args.self.now.cursor) (live c.read_token.new.self.cursor) (token_of c.in_ok-tok.tok) (view c.in-Ok.value) c.in-Ok.ensures.found c.in_ok-tok.ensures.cut
+    Parses-scalar (remaining c.args.self.now.cursor) (remaining c.read_token.new.self.cursor) (token_of c.in_ok-tok.tok) (view c.in-Ok.value) c.in-Ok.ensures.found c.in_ok-tok.ensures.cut
 
-pub returns-in-Err-clause-refused : goal.returns-in-Err-clause-refused
-returns-in-Err-clause-refused c =
-    λ n. ReadsNothing-fails value_front (live c.args.self.now.cursor) (live c.read_token.new.self.cursor) (token_of c.in_ok-tok.tok) c.in_ok-tok.ensures.cut (no_value c.in_ok-tok.tok c.in-Err.ensures.refused c.in_default.not-BlockOpen)
+pub returns-in-Err-clause-rejected : goal.returns-in-Err-clause-rejected
+returns-in-Err-clause-rejected c =
+    λ n. ParsesNothing-fails value_prefix (remaining c.args.self.now.cursor) (remaining c.read_token.new.self.cursor) (token_of c.in_ok-tok.tok) c.in_ok-tok.ensures.cut (no_value c.in_ok-tok.tok c.in-Err.ensures.rejected c.in_default.not-BlockOpen)

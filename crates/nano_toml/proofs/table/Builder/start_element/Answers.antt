@@ -4,8 +4,8 @@ use Rattle.nano_toml.specs.View.{table_view}
 use Rattle.nano_toml.proofs.BuildLemmas.{Stands-element, NoneNamed-element, plain_push, scope_of-element, key_free, key_taken}
 use Rattle.nano_toml.proofs.table.Builder.start_element.Goals as goal
 
-pub returns-then-not-is_free-clause-refused : goal.returns-then-not-is_free-clause-refused
-returns-then-not-is_free-clause-refused c done built kind more lawful =
+pub returns-then-not-is_free-clause-rejected : goal.returns-then-not-is_free-clause-rejected
+returns-then-not-is_free-clause-rejected c done built kind more lawful =
     let whole = c.in_ok-end_element.ensures done built in
     key_taken done c.args.key.now (table_view c.end_element.new.self.root.entries) whole.root
     (λ free. true≢false (sym (c.is_free.ensures.1 free) ∙ c.if-not-is_free.true)) more lawful

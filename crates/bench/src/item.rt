@@ -1,0 +1,101 @@
+//! A record of a number and a note: in bytes the pair of them, in JSON named fields, as in RON
+//! (`item_ron`).
+
+ghost use Rattle.std.specs.Prelude.{codes, refl};
+ghost use Rattle.nano_value.specs.AgreesLaws.{agreed};
+ghost use Rattle.nano_bin.specs.Codec.{codec_as as seen_as};
+ghost use Rattle.nano_json.specs.Codec.{codec_as};
+ghost use Rattle.nano_schema_json.specs.FieldsLaws.{must, may, also, ascii_names, fields_codec};
+
+use nano_bin::{BinCodec, DeBin, DeBinErr, SerBin, append_part};
+use nano_json::{DeJson, DeJsonErr, DeJsonState, JsonCodec, SerJson, SerJsonState};
+use nano_schema_json::{Optional, OptionalPart, Required, RequiredPart, read_fields, write_fields};
+use nano_value::Value;
+use std::alloc::{AllocError, Global};
+use std::marker::PhantomData;
+use std::str::Chars;
+
+/// A record.
+#[derive(Drop)]
+pub struct Item {
+    pub value: i32,
+    pub note: Option<String>,
+}
+
+impl Value for Item {
+    ghost means = { λ item. ⟦<(i32, Option<String>) as Value>⟧.means (item.value, item.note) };
+
+    ghost legal = { ⟦<(i32, Option<String>) as Value>⟧.legal };
+
+    #[tactic(auto, using(nano_value::specs::LegalLaws::pair_is_legal))]
+    fn known(&self) {
+        self.value.known();
+        self.note.known();
+    }
+}
+
+impl BinCodec for Item {
+    ghost bin = { seen_as (λ item. (item.value, item.note))
+        ⟦<(i32, Option<String>) as BinCodec>⟧.bin };
+
+    ghost agrees = { agreed };
+}
+
+impl SerBin for Item {
+    fn ser_bin(&self, alloc: Global, output: &mut Vec<u8>) -> Result<(), AllocError> {
+        let start = output.len();
+        self.value.ser_bin(alloc, output)?;
+        append_part(alloc, &self.note, output, start)
+    }
+}
+
+impl DeBin for Item {
+    ghost is_decodable = { refl };
+
+    fn de_bin(alloc: Global, offset: &mut usize, bytes: &[u8]) -> Result<Item, DeBinErr> {
+        let (value, note) = <(i32, Option<String>)>::de_bin(alloc, offset, bytes)?;
+        Ok(Item { value, note })
+    }
+}
+
+impl JsonCodec for Item {
+    ghost json = { codec_as (λ item. (item.value, item.note)) (fields_codec
+        (also (must (codes "value") ⟦<i32 as JsonCodec>⟧.json)
+        (may (codes "note") ⟦<String as JsonCodec>⟧.json))
+        (ascii_names refl) refl) };
+
+    ghost agrees = { agreed };
+}
+
+impl SerJson for Item {
+    fn ser_json(&self, alloc: Global, d: usize, s: &mut SerJsonState) -> Result<(), AllocError> {
+        let value = RequiredPart {
+            name: "value",
+            value: &self.value,
+        };
+        let note = OptionalPart {
+            name: "note",
+            value: &self.note,
+        };
+        write_fields(alloc, &(value, note), d, s)
+    }
+}
+
+impl DeJson for Item {
+    fn de_json(
+        alloc: Global,
+        state: &mut DeJsonState,
+        input: &mut Chars<'_>,
+    ) -> Result<Item, DeJsonErr> {
+        let value = Required {
+            name: "value",
+            of: PhantomData,
+        };
+        let note = Optional {
+            name: "note",
+            of: PhantomData,
+        };
+        let (value, note) = read_fields(&(value, note), alloc, state, input)?;
+        Ok(Item { value, note })
+    }
+}

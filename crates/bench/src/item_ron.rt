@@ -1,0 +1,56 @@
+//! The record in RON: named fields between parentheses.
+
+ghost use Rattle.std.specs.Prelude.{codes, refl};
+ghost use Rattle.nano_value.specs.AgreesLaws.{agreed};
+ghost use Rattle.nano_ron.specs.Codec.{codec_as};
+ghost use Rattle.nano_schema_ron.specs.FieldsLaws.{must, may, also, word_names};
+ghost use Rattle.nano_schema_ron.specs.Fields.{fields_codec};
+
+use crate::item::Item;
+use nano_ron::{DeRon, DeRonErr, DeRonState, RonCodec, SerRon, SerRonState};
+use nano_schema_ron::{Optional, OptionalPart, Required, RequiredPart, read_fields, write_fields};
+use std::alloc::{AllocError, Global};
+use std::marker::PhantomData;
+use std::str::Chars;
+
+impl RonCodec for Item {
+    ghost ron = { codec_as (λ item. (item.value, item.note)) (fields_codec
+        (also (must (codes "value") ⟦<i32 as RonCodec>⟧.ron)
+        (may (codes "note") ⟦<String as RonCodec>⟧.ron))
+        (word_names refl) refl) };
+
+    ghost agrees = { agreed };
+}
+
+impl SerRon for Item {
+    fn ser_ron(&self, alloc: Global, d: usize, s: &mut SerRonState) -> Result<(), AllocError> {
+        let value = RequiredPart {
+            name: "value",
+            value: &self.value,
+        };
+        let note = OptionalPart {
+            name: "note",
+            value: &self.note,
+        };
+        write_fields(alloc, &(value, note), d, s)
+    }
+}
+
+impl DeRon for Item {
+    fn de_ron(
+        alloc: Global,
+        state: &mut DeRonState,
+        input: &mut Chars<'_>,
+    ) -> Result<Item, DeRonErr> {
+        let value = Required {
+            name: "value",
+            of: PhantomData,
+        };
+        let note = Optional {
+            name: "note",
+            of: PhantomData,
+        };
+        let (value, note) = read_fields(&(value, note), alloc, state, input)?;
+        Ok(Item { value, note })
+    }
+}

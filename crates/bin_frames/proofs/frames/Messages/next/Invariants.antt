@@ -1,7 +1,0 @@
--- what is left is what was left
-use Rattle.std.specs.Io.KnownBytes.{Keeps}
-use Rattle.bin_frames.specs.Left.{left}
-use Rattle.bin_frames.proofs.frames.Messages.next.Given as goal
-
-abbrev pub invariant-reads : goal.invariant-reads
-invariant-reads g l = Keeps (left g.R.Read.remaining l.fn.self) (left g.R.Read.remaining l.self)

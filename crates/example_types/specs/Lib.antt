@@ -1,0 +1,4 @@
+pub mod CommandLaws
+pub mod Event
+pub mod MessageLaws
+pub mod Signal

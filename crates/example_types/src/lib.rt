@@ -1,0 +1,25 @@
+//! Examples: user-defined types in bytes, in JSON and in RON. Each file is one that a user
+//! copies.
+//!
+//! `Server`, `Event`, `Signal` and `Query` are described once by a schema, and get each format
+//! from it. `Limits` and `Tags` are encoded as their one field. `Command` implements bytes and
+//! `Message` implements JSON by hand, without a schema.
+#![tactic(auto)]
+
+mod command;
+mod event;
+mod limits;
+mod message;
+mod query;
+mod server;
+mod signal;
+mod tags;
+
+pub use command::Command;
+pub use event::Event;
+pub use limits::Limits;
+pub use message::Message;
+pub use query::Query;
+pub use server::Server;
+pub use signal::Signal;
+pub use tags::Tags;

@@ -1,9 +1,0 @@
-pub mod Names
-pub mod Fields
-pub mod Variants
-pub mod Marks
-pub mod FieldReading
-pub mod FieldTexts
-pub mod VariantReading
-pub mod Laws
-pub mod Formats

@@ -1,5 +1,0 @@
-use Rattle.json_tokens.proofs.Cuts.{end_cut}
-use Rattle.json_tokens.proofs.laws.the_end_follows_white_space.Goals as goal
-
-pub returns : goal.returns
-returns c = end_cut

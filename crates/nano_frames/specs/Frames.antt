@@ -1,0 +1,51 @@
+-- Frames: each is the code of a list of bytes, and these are the code of a message.
+use Rattle.std.specs.Prelude.{◌≡◌, ◌≢◌, ℕ, List, [], ◌++◌, length, map, Option}
+use Rattle.std.specs.Io.KnownBytes.{Appends, Consumes, IsAtEnd}
+use Rattle.nano_value.specs.Meaning.{Meaning, whole, listed}
+use Rattle.nano_bin.specs.ListsLaws.{list_codec}
+use Rattle.nano_bin.specs.NumbersLaws.{u8_codec}
+
+-- the bytes are the code of a list of bytes
+abbrev pub IsFrame : List ℕ → List ℕ → Type 0
+IsFrame bytes code = (list_codec u8_codec).encoding.encodes bytes (listed (map whole code))
+
+-- a writer got a frame of this code, and nothing else
+pub record AppendsFrame (code : List ℕ) (old new : Option (List ℕ)) : Type 0 where
+  pub frame : List ℕ
+  pub is : IsFrame frame code
+  pub written : Appends old new frame
+
+-- a reader gave this many bytes, none only at its end, and they come after the others
+pub record DecodesAfter (known left : Option (List ℕ)) (old new : List ℕ) (count : ℕ) : Type 0 where
+  pub came : List ℕ
+  pub following : new ≡ old ++ came
+  pub consumed : Consumes known left came
+  pub many : length came ≡ count
+  pub ended : count ≡ 0 → IsAtEnd left
+
+-- a frame was taken whose bytes encode the message
+pub record TakesMessage (encodes : List ℕ → Meaning → Type 0) (old new : Option (List ℕ))
+    (m : Meaning) : Type 0 where
+  pub frame : List ℕ
+  pub code : List ℕ
+  pub is : IsFrame frame code
+  pub taken : Consumes old new frame
+  pub is_encoded : encodes code m
+
+-- the bytes begin with a frame of this code
+pub record BeginsWithFrame (bytes code : List ℕ) : Type 0 where
+  pub frame : List ℕ
+  pub rest : List ℕ
+  pub whole : bytes ≡ frame ++ rest
+  pub is : IsFrame frame code
+
+-- there are bytes, and no frame at their beginning
+pub record IsCut (bytes : List ℕ) : Type 0 where
+  pub some : bytes ≢ []
+  pub none : (code : List ℕ) → BeginsWithFrame bytes code → ⊥
+
+-- the bytes begin with a frame, and its content encodes no message
+pub record HoldsNoMessage (encodes : List ℕ → Meaning → Type 0) (bytes : List ℕ) : Type 0 where
+  pub code : List ℕ
+  pub begins : BeginsWithFrame bytes code
+  pub none : (m : Meaning) → encodes code m → ⊥

@@ -1,0 +1,168 @@
+//! Messages of any type, each in a frame: the code of its code, as a list of bytes.
+
+ghost use Rattle.std.specs.Prelude.{◌≡◌, ◌<◌, ◌+◌, ◌≢◌, ◌≤◌, ◌++◌, List, ℕ, length, drop};
+ghost use Rattle.std.specs.Prelude.{Some, IfOk, IfErr, IfSome, IfNone, OnOk, OnErr, IsErrOf};
+ghost use Rattle.std.specs.Io.KnownBytes.{Keeps, IsAtEnd};
+ghost use Rattle.nano_bytes.specs.Reading.{Decodes, DecodesToNothing};
+ghost use Rattle.nano_frames.specs.Faults.{IsOfStream};
+ghost use Rattle.nano_frames.specs.Frames.{IsFrame, AppendsFrame, DecodesAfter, TakesMessage};
+ghost use Rattle.nano_frames.specs.Frames.{IsCut, HoldsNoMessage};
+
+use crate::error::{Fault, no_memory};
+use nano_bin::{DeBin, DeBinKind, SerBin};
+use nano_value::Value;
+use std::alloc::{AllocError, Global};
+use std::io::{self, ErrorKind, Read, Write};
+
+/// Writes a message, in its frame, after those that were written.
+///
+/// An error is the writer's, or out of memory; after it, a prefix of the frame may be written.
+pub fn put<T: SerBin, W: Write>(alloc: Global, message: &T, output: &mut W) -> io::Result<()>
+    ensures { OnOk result (AppendsFrame (T.bin.canonical.written message.now)
+        (W.contents output.old) (W.contents output.new)) }
+{
+    let code = message.serialize_bin(alloc)?;
+    code.known();
+    output.write_all(&code.serialize_bin(alloc)?)
+}
+
+/// Messages read from a stream, one after the other, in chunks of any size.
+#[derive(Drop)]
+pub struct Messages<R> {
+    input: R,
+    chunk: Vec<u8>,
+    bytes: Vec<u8>,
+    offset: usize,
+    ghost capacity: { 0 < length chunk.items },
+    ghost within: { offset ≤ length bytes.items },
+}
+
+impl<R: Read> Messages<R> {
+    ghost use Rattle.nano_frames.specs.Left.{left};
+
+    /// Those that the reader gives. At most `chunk` bytes are read at a time, and at least one.
+    /// Nothing is read yet.
+    pub fn new(alloc: Global, input: R, chunk: usize) -> Result<Messages<R>, AllocError>
+    where
+        R: Drop,
+        ensures { IfOk result (λ messages.
+            Keeps (R.remaining input) (left R.remaining messages)) }
+    {
+        Ok(Messages {
+            input,
+            chunk: vec![in alloc; 0; chunk.max(1)]?,
+            bytes: Vec::new(alloc),
+            offset: 0,
+        })
+    }
+
+    /// Takes the next message with its frame, or answers none where the stream is at its end.
+    ///
+    /// `Cut` reports that bytes are left and no frame begins there, `Bad` that one does and its
+    /// code is no message, and `Stream` that a read or an allocation failed. Neither a fault
+    /// nor the end takes anything of what is left, so a call after it begins at the same place.
+    /// A frame's count reserves no memory before its bytes have arrived.
+    pub fn next<T: DeBin>(&mut self, alloc: Global) -> Result<Option<T>, Fault>
+        ensures taken { IfOk result (λ answer. IfSome answer (λ message.
+            TakesMessage T.bin.encoding.encodes (left R.remaining self.old)
+            (left R.remaining self.new) (T.means message))) }
+        ensures ended { IfOk result (λ answer. IfNone answer (IsAtEnd (left R.remaining self.old))) }
+        ensures end_unchanged { IfOk result (λ answer. IfNone answer
+            (Keeps (left R.remaining self.old) (left R.remaining self.new))) }
+        ensures cut { IsErrOf result Fault.Cut → IfSome (left R.remaining self.old) IsCut }
+        ensures bad { IfErr result (λ fault. (error : _) → fault ≡ Fault.Bad error →
+            IfSome (left R.remaining self.old) (HoldsNoMessage T.bin.encoding.encodes)) }
+        ensures unchanged { OnErr result (Keeps (left R.remaining self.old) (left R.remaining self.new)) }
+    {
+        'reads: for _ in 0..u64::MAX {
+            if let Some((code, end)) = self.frame(alloc)? {
+                let message = message_of(alloc, &code)?;
+                self.offset = end;
+                return Ok(Some(message));
+            }
+            let count = self.fill()?;
+            if count == 0 {
+                if self.offset < self.bytes.len() {
+                    return Err(Fault::Cut);
+                }
+                return Ok(None);
+            }
+        }
+        // So many reads have not filled one frame. They lost nothing, and a later call goes on.
+        Err(Fault::Stream(ErrorKind::Interrupted.into()))
+    }
+
+    /// The code in the frame that begins at the offset, and the place after the frame.
+    fn frame(&self, alloc: Global) -> Result<Option<(Vec<u8>, usize)>, Fault>
+        ensures some { IfOk result (λ found. IfSome found (λ f.
+            Decodes IsFrame self.now.bytes.items self.now.offset f.0.items f.1)) }
+        ensures none { IfOk result (λ found. IfNone found
+            (DecodesToNothing IsFrame (drop self.now.offset self.now.bytes.items))) }
+        ensures fault { IfErr result IsOfStream }
+    {
+        let mut end = self.offset;
+        match Vec::de_bin(alloc, &mut end, &self.bytes) {
+            Ok(code) => Ok(Some((code, end))),
+            Err(error) => match error.kind {
+                DeBinKind::Memory => Err(no_memory()),
+                _ => Ok(None),
+            },
+        }
+    }
+
+    /// Reads a chunk after the bytes that are left, and returns how many bytes arrived.
+    fn fill(&mut self) -> Result<usize, Fault>
+        ensures ok { IfOk result (DecodesAfter (R.remaining self.old.input) (R.remaining self.new.input)
+            (drop self.old.offset self.old.bytes.items) (drop self.new.offset self.new.bytes.items)) }
+        ensures err { OnErr result (Keeps (left R.remaining self.old) (left R.remaining self.new)) }
+        ensures fault { IfErr result IsOfStream }
+    {
+        self.forget();
+        match read_after(&mut self.input, &mut self.chunk, &mut self.bytes) {
+            Ok(count) => Ok(count),
+            Err(error) => Err(Fault::Stream(error)),
+        }
+    }
+
+    /// Lets go of the bytes before the offset.
+    fn forget(&mut self)
+        ensures same { drop self.new.offset self.new.bytes.items
+            ≡ drop self.old.offset self.old.bytes.items }
+        ensures input { self.new.input ≡ self.old.input }
+        ensures offset { self.new.offset ≡ 0 }
+    {
+        let end = self.offset;
+        self.offset = 0;
+        self.bytes.drain(..end);
+    }
+}
+
+/// Reads a chunk after the bytes that are there, and returns how many bytes arrived.
+fn read_after<R: Read>(input: &mut R, chunk: &mut [u8], bytes: &mut Vec<u8>) -> io::Result<usize>
+    requires { 0 < length chunk.old }
+    ensures ok { IfOk result (DecodesAfter (R.remaining input.old) (R.remaining input.new)
+        bytes.old.items bytes.new.items) }
+    ensures err { OnErr result (bytes.new.items ≡ bytes.old.items) }
+    ensures unchanged { OnErr result (Keeps (R.remaining input.old) (R.remaining input.new)) }
+{
+    bytes.reserve(chunk.len())?;
+    let count = input.read(chunk)?;
+    bytes.extend_from_slice(&chunk[..count]).unwrap();
+    Ok(count)
+}
+
+/// The message whose code these bytes are.
+fn message_of<T: DeBin>(alloc: Global, code: &[u8]) -> Result<T, Fault>
+    ensures ok { IfOk result (λ message. T.bin.encoding.encodes code.now (T.means message)) }
+    ensures bad { IfErr result (λ fault. (error : _) → fault ≡ Fault.Bad error →
+        (m : _) → T.bin.encoding.encodes code.now m → ⊥) }
+    ensures cut { IfErr result (λ fault. fault ≢ Fault.Cut) }
+{
+    match T::deserialize_bin_whole(alloc, code) {
+        Ok(message) => Ok(message),
+        Err(error) => match error.kind {
+            DeBinKind::Memory => Err(no_memory()),
+            _ => Err(Fault::Bad(error)),
+        },
+    }
+}

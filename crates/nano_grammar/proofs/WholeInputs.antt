@@ -1,0 +1,144 @@
+-- What the readers of whole inputs know of a text.
+use Rattle.std.proofs.Common.{◌≡◌, ◌≢◌, inl, inr, ℕ, ◌<◌, ◌≤◌, Some, None, ◌==◌, Bool, true, false, List, [], ◌∷◌, ◌++◌, length, take, drop, chars}
+use Rattle.std.proofs.Common.{encode_utf8_all, sym, ◌∙◌, ap, subst, arith, append-nil, get_or}
+use Rattle.std.specs.Str.{IsUtf8, NonePass, NoCharPasses}
+use Rattle.std.specs.Bool.{MatchBool}
+use Rattle.std.specs.Str.Pattern.{HasCharAt, FindsChar}
+use Rattle.std.proofs.lemmas.Bool.{false≢true}
+use Rattle.std.proofs.lemmas.List.{take-append-drop}
+use Rattle.std.proofs.lemmas.Str.{chars-encodes, chars-append, chars_past_char, chars_from_encodes, len_utf8_bounds}
+use Rattle.std.proofs.lemmas.Str.{IsCharBoundary-before_ascii, IsUtf8-take, IsUtf8-drop}
+use Rattle.nano_text.specs.Place.{remaining_text}
+use Rattle.nano_grammar.specs.CutLaws.{CutLaws}
+use Rattle.nano_grammar.specs.Cutting.{Cutting, IsValueText}
+use Rattle.nano_grammar.specs.Encoding.{Grammar, IsEncoding}
+use Rattle.nano_grammar.specs.Textual.{AllTextual, is_textual}
+use Rattle.nano_grammar.specs.Tokens.{At, Begins, Cuts, Leaves, Spans, TextDecodesTo, TextDecodesToNothing}
+use Rattle.nano_grammar.specs.Whole.{HoldsNul, DecodesBefore, WholeDecodesTo, GoesOn, WholeDecodesToNothing, end_message}
+use Rattle.nano_grammar.proofs.RoundTrip.{textual_scalars, written_is_remaining, one_text_decodes}
+use Rattle.nano_grammar.proofs.TokenLaws.{decodes_where_text_begins}
+use Rattle.nano_grammar.proofs.Tokens.{begins_after, leaves_after, same_at, same_end}
+
+-- ---- NUL
+
+-- no NUL stands in characters of which none is one
+none_passes : (cs prefix following : List ℕ) → NonePass (λ c. c == 0) cs → cs ≡ prefix ++ 0 ∷ following → ⊥
+none_passes [] [] following h e = absurd (cc)
+none_passes [] (x ∷ prefix) following h e = absurd (cc)
+none_passes (c ∷ cs) [] following h e = absurd (cc)
+none_passes (c ∷ cs) (x ∷ prefix) following h e = none_passes cs prefix following h.1 (cc e)
+
+module _ (bytes : List ℕ) (utf8 : IsUtf8 bytes) where
+  -- where a byte of the text is NUL, the text holds that character
+  nul_at : (i j : ℕ) → HasCharAt 0 bytes i j → j ≤ length bytes → HoldsNul bytes
+  nul_at i j at within =
+      let ends = at.ends in
+      let wide = (len_utf8_bounds 0).0 in
+      let inside : i < length bytes = omega (arith, ends, wide, within) in
+      let zero : get_or bytes i 0 ≡ 0 = at.byte (omega arith) in
+      let ascii : get_or bytes i 0 < 128 = rw zero (omega arith) in
+      let cut = IsCharBoundary-before_ascii bytes i inside ascii in
+      let before = IsUtf8-take bytes i utf8 cut in
+      let after = IsUtf8-drop bytes i utf8 cut in
+      let split = ap chars (sym (take-append-drop i bytes)) ∙ chars-append (take i bytes) (drop i bytes) before in
+      let first = chars_past_char (drop i bytes) (drop j bytes) 0 after at.split in
+      (chars (take i bytes), chars (drop j bytes), split ∙ ap (λ l. chars (take i bytes) ++ l) first)
+
+  no_nul : NoCharPasses (λ c. c == 0) bytes → HoldsNul bytes → ⊥
+  no_nul none held =
+      let same = chars_from_encodes none.0 bytes utf8 none.1 in
+      none_passes none.0 held.0 held.1 none.2 (same ∙ held.2)
+
+  -- a search for NUL says whether the text holds one
+  pub tells_nul : (found : Bool)
+      → MatchBool found ((i : ℕ) × (j : ℕ) × FindsChar 0 bytes (Some (i, j)) × (i ≤ j) × (j ≤ length bytes)) (FindsChar 0 bytes None)
+      → MatchBool found (HoldsNul bytes) (HoldsNul bytes → ⊥)
+  tells_nul true h = nul_at h.0 h.1 h.2.1 h.4
+  tells_nul false h = no_nul h
+
+-- no NUL stands in what is written
+textual_no_nul : (cs prefix following : List ℕ) → AllTextual cs → cs ≡ prefix ++ 0 ∷ following → ⊥
+textual_no_nul [] [] following h e = absurd (cc)
+textual_no_nul [] (x ∷ prefix) following h e = absurd (cc)
+textual_no_nul (c ∷ cs) [] following h e =
+    let first : c ≡ 0 = cc e in
+    let wrong : is_textual 0 ≡ true = subst (λ (x : ℕ). is_textual x ≡ true) first h.0 in
+    absurd (false≢true wrong)
+textual_no_nul (c ∷ cs) (x ∷ prefix) following h e =
+    let rest : cs ≡ prefix ++ 0 ∷ following = cc e in
+    textual_no_nul cs prefix following h.1 rest
+
+written_no_nul : (cs bytes : List ℕ) → AllTextual cs → bytes ≡ encode_utf8_all cs → HoldsNul bytes → ⊥
+written_no_nul cs bytes h is held =
+    let same : chars bytes ≡ cs = ap chars is ∙ chars-encodes cs (textual_scalars cs h) in
+    textual_no_nul cs held.0 held.1 h (sym same ∙ held.2)
+
+-- ---- messages
+
+abbrev IsNone : List ℕ → Type 0
+IsNone [] = Unit {0}
+IsNone (c ∷ cs) = ⊥
+
+-- the message of an out-of-memory error is unchanged
+pub no_message : (given unchanged : List ℕ) → (given ≢ end_message → unchanged ≡ given) → given ≡ [] → unchanged ≡ []
+no_message given unchanged same none =
+    same (λ e. subst IsNone (sym none ∙ e) tt) ∙ none
+
+-- ---- values
+
+module _ {T : Type 0} {c : Cutting T} {g : Grammar T} (r : CutLaws c g) where
+  module _ {V : Type 0} (S : List T → V → Type 0) where
+    -- a text with a token after the value decodes to the value
+    pub before_decodes : (next : T) (text : List ℕ) (v : V) → DecodesBefore c.cut S next text v → TextDecodesTo c.cut S text v
+    before_decodes next text v h = (decodes_where_text_begins c.cut S text v).1 (h.0, next, h.1, h.2)
+
+    -- a value that is read from the first token on has the pending token after it
+    pub spans_before : (text : List ℕ) (start end : At T) (v : V) → c.cut text start.token start.text
+        → Spans c.cut S start end v → DecodesBefore c.cut S end.token text v
+    spans_before text start end v h s = (s.0, s.1, begins_after c.cut s.0 start end text h s.2)
+
+    -- where the beginning of a text decodes to nothing, the whole text decodes to nothing, and
+    -- nothing goes on there
+    pub nothing_whole : (end : T) (bytes : List ℕ) → TextDecodesToNothing c.cut S (remaining_text bytes) → WholeDecodesToNothing c.cut S end bytes
+    nothing_whole end bytes none v h = none v (before_decodes end (remaining_text bytes) v h.fits)
+
+    pub nothing_goes_on : (end : T) (bytes : List ℕ) → TextDecodesToNothing c.cut S (remaining_text bytes) → GoesOn c.cut S end bytes → ⊥
+    nothing_goes_on end bytes none h = none h.value (before_decodes h.next (remaining_text bytes) h.value h.fits)
+
+  module _ {V : Type 0} {P : V → Type 0} {S : List T → V → Type 0} (s : IsEncoding g P S) where
+    -- one token comes after the decoded value
+    pub one_after : (t u : T) (text : List ℕ) (v w : V) → DecodesBefore c.cut S t text v → DecodesBefore c.cut S u text w → t ≡ u
+    one_after t u text v w a b =
+        let m = leaves_after c.cut a.0 t text a.2 in
+        let n = leaves_after c.cut b.0 u text b.2 in
+        let start = same_at c.cut r.one_way text n.0 m.0 n.2 m.2 in
+        let moved = subst (λ (z : At T). Leaves c.cut b.0 z (record { token = u; text = n.1 })) start n.3 in
+        let ends = same_end c.cut r.one_way S s.none_begins a.0 b.0 v w m.0 (record { token = t; text = m.1 }) (record { token = u; text = n.1 }) a.1 b.1 m.3 moved in
+        ap (λ (z : At T). z.token) ends.1
+
+    -- where a value goes on, the whole text decodes to nothing
+    pub goes_on_whole : (end : T) (bytes : List ℕ) → GoesOn c.cut S end bytes → WholeDecodesToNothing c.cut S end bytes
+    goes_on_whole end bytes on v h = elim on.more [
+      | inl other ↦ other (one_after on.next end (remaining_text bytes) on.value v on.fits h.fits)
+      | inr nul ↦ h.no_nul nul
+    ]
+
+    -- the whole text that is written of a value decodes to it
+    pub written_whole : (ts : List T) (text bytes : List ℕ) (v : V) → IsValueText c ts text → bytes ≡ encode_utf8_all text → S ts v → WholeDecodesTo c.cut S r.end bytes v
+    written_whole ts text bytes v written is is_encoded = record {
+      fits =
+          let remaining : remaining_text bytes ≡ text = ap remaining_text is ∙ written_is_remaining text written.textual in
+          let again = written.cut_again [] r.end_follows in
+          let cuts = subst (λ (l : List ℕ). Cuts c.cut ts l []) (append-nil text) again in
+          let begins = begins_cut ts text [] r.end [] cuts r.end_is_cut in
+          (ts, is_encoded, subst (λ (l : List ℕ). Begins c.cut (ts ++ r.end ∷ []) l) (sym remaining) begins);
+      no_nul = written_no_nul text bytes written.textual is;
+    } where
+      begins_cut : (us : List T) (l rest : List ℕ) (end : T) (left : List ℕ) → Cuts c.cut us l rest → c.cut rest end left → Begins c.cut (us ++ end ∷ []) l
+      begins_cut [] l rest end left e k = (left, subst (λ (x : List ℕ). c.cut x end left) (sym e) k, tt)
+      begins_cut (u ∷ us) l rest end left k h = (k.0, k.1, begins_cut us k.0 rest end left k.2 h)
+
+    -- of a whole input, at most one value
+    pub one_whole : (end : T) (bytes : List ℕ) (v w : V) → WholeDecodesTo c.cut S end bytes v → WholeDecodesTo c.cut S end bytes w → v ≡ w
+    one_whole end bytes v w a b =
+        one_text_decodes r s (remaining_text bytes) v w (before_decodes S end (remaining_text bytes) v a.fits) (before_decodes S end (remaining_text bytes) w b.fits)

@@ -1,0 +1,6 @@
+pub mod Reporting
+pub mod LexemeKinds
+pub mod Cuts
+pub mod Capacity
+pub mod Shorter
+pub mod BracketCounts

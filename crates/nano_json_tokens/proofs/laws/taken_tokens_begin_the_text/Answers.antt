@@ -1,0 +1,9 @@
+use Rattle.nano_grammar.proofs.Tokens.{begins_from_leaves, leaves_from_begins}
+use Rattle.nano_json_tokens.specs.Cut.{Cut}
+use Rattle.nano_json_tokens.proofs.laws.taken_tokens_begin_the_text.Goals as goal
+
+pub returns : goal.returns
+returns c ts next start = (
+  λ taken. begins_from_leaves Cut ts start (record { token = next; text = taken.0 }) taken.1,
+  λ begun. leaves_from_begins Cut ts next start begun,
+)

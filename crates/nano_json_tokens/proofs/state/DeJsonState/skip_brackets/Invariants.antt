@@ -1,0 +1,15 @@
+use Rattle.nano_json_tokens.specs.State.{at}
+use Rattle.nano_json_tokens.specs.Outcomes.{Counts}
+use Rattle.nano_json_tokens.proofs.BracketCounts.{Counting, Capacity}
+use Rattle.nano_json_tokens.proofs.Shorter.{left}
+use Rattle.nano_json_tokens.proofs.state.DeJsonState.skip_brackets.Given as goal
+
+abbrev pub invariant-tokens : goal.invariant-tokens
+invariant-tokens l = record {
+  counting : Counting (at l.fn.self l.fn.i) (at l.self l.i) l.depth;
+  place : Counts l.fn.self l.fn.i l.self l.i;
+  capacity : Capacity (at l.self l.i) l.depth;
+}
+
+abbrev pub decreases-tokens : goal.decreases-tokens
+decreases-tokens l = left (at l.self l.i)

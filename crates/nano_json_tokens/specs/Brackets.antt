@@ -1,0 +1,21 @@
+-- The brackets and the comma of lists and maps, as tokens and as characters.
+use Rattle.std.specs.Prelude.{ℕ}
+use Rattle.nano_grammar.specs.Items.{ListPunctuation}
+use Rattle.nano_json_tokens.specs.Token.{Token, comma, curly_open, curly_close, block_open}
+use Rattle.nano_json_tokens.specs.Token.{block_close}
+
+-- square brackets
+abbrev pub blocks : ListPunctuation Token
+blocks = record { opening = block_open; closing = block_close; comma = comma }
+
+-- curly brackets
+abbrev pub curlies : ListPunctuation Token
+curlies = record { opening = curly_open; closing = curly_close; comma = comma }
+
+-- [ ] ,
+abbrev pub block_punctuation : ListPunctuation ℕ
+block_punctuation = record { opening = 91; closing = 93; comma = 44 }
+
+-- { } ,
+abbrev pub curly_punctuation : ListPunctuation ℕ
+curly_punctuation = record { opening = 123; closing = 125; comma = 44 }

@@ -1,0 +1,17 @@
+pub mod Token
+pub mod Cut
+pub mod State
+pub mod Skipped
+pub mod Messages
+pub mod Outcomes
+pub mod Scan
+pub mod Promises
+pub mod Punctuation
+pub mod Brackets
+pub mod Written
+pub mod WrittenLaws
+pub mod CutAgainLaws
+pub mod WrittenTextLaws
+pub mod Json
+pub mod JsonLaws
+pub mod ScalarsLaws

@@ -1,0 +1,264 @@
+//! How a reader's state takes the next token: white space, and one lexeme.
+
+ghost use Rattle.std.specs.Prelude.{◌≡◌, ◌≢◌, ℕ, List, OnOk, IfErr, IfSome, Some, None, false};
+ghost use Rattle.std.specs.Option.{option_map};
+ghost use Rattle.nano_text.specs.Prefix.{following};
+ghost use Rattle.nano_text.specs.Place.{remaining};
+ghost use Rattle.nano_json_tokens.specs.Cut.{is_space, starts_number, Cut, IsLexeme, IsRunOf};
+ghost use Rattle.nano_json_tokens.specs.Cut.{IsQuoted};
+ghost use Rattle.nano_json_tokens.specs.Outcomes.{NothingCut, NoCapacity, Counts};
+ghost use Rattle.nano_json_tokens.specs.Scan.{punctuator_of, NoneLexeme, NoneRunOf, NoneQuoted};
+ghost use Rattle.nano_json_tokens.specs.Scan.{NoCapacityForLexeme, NoCapacityForRun, NoCapacityForQuoted};
+ghost use Rattle.nano_json_tokens.specs.State.{token_of, pending, KeepsOtherBuffers};
+
+use crate::state::DeJsonState;
+use crate::token::DeJsonTok;
+use crate::words::is_word;
+use nano_text::{Fault, Number, read_number, read_string};
+use std::str::Chars;
+
+/// Why no token was taken. The message is made where the error is reported to the caller, so
+/// code that reads many tokens returns one byte.
+#[derive(Clone, Copy)]
+pub(crate) enum Rejection {
+    /// The character starts no token.
+    NoToken,
+    /// The word in `identbuf` is no token.
+    Word,
+    /// A number run that is not good.
+    Number,
+    /// A string that has no end, or a bad escape.
+    String,
+    /// The end of the text inside a skipped field.
+    Field,
+    /// Allocation failed.
+    Memory,
+}
+
+impl DeJsonState {
+    /// Takes the next token. An error leaves the pending token, and the place where the error
+    /// was found.
+    ///
+    /// A comma, a colon or a closing curly bracket directly follows most values and names. It
+    /// is taken here, inlined, and what makes errors is inlined in the callers too. A separate
+    /// function takes any other token, so no error is written where a token is taken.
+    #[inline(always)]
+    pub(crate) fn scan_after_value(&mut self, i: &mut Chars<'_>) -> Result<(), Rejection>
+        ensures taken { OnOk result
+            (Cut (remaining self.old.cur i.old) (pending self.new) (remaining self.new.cur i.new)) }
+        ensures buffers { OnOk result (KeepsOtherBuffers self.old self.new) }
+        ensures place { OnOk result (Counts self.old i.old self.new i.new) }
+        ensures rejected { IfErr result (λ r. r ≢ Rejection.Memory
+            → NothingCut (remaining self.old.cur i.old)) }
+        ensures capacity { IfErr result (λ r. r ≡ Rejection.Memory
+            → NoCapacity self.old (remaining self.old.cur i.old)) }
+    {
+        if let Some(tok) = separator(self.cur) {
+            self.next(i);
+            self.tok = tok;
+            return Ok(());
+        }
+        self.scan_token(i)
+    }
+
+    /// Takes the next token, whatever it is.
+    #[inline(never)]
+    pub(crate) fn scan_token(&mut self, i: &mut Chars<'_>) -> Result<(), Rejection>
+        ensures taken { OnOk result
+            (Cut (remaining self.old.cur i.old) (pending self.new) (remaining self.new.cur i.new)) }
+        ensures buffers { OnOk result (KeepsOtherBuffers self.old self.new) }
+        ensures place { OnOk result (Counts self.old i.old self.new i.new) }
+        ensures rejected { IfErr result (λ r. r ≢ Rejection.Memory
+            → NothingCut (remaining self.old.cur i.old)) }
+        ensures capacity { IfErr result (λ r. r ≡ Rejection.Memory
+            → NoCapacity self.old (remaining self.old.cur i.old)) }
+    {
+        self.skip_space(i);
+        self.take_lexeme(i)
+    }
+
+    /// Passes over white space, of which most texts have none here.
+    #[inline(always)]
+    fn skip_space(&mut self, i: &mut Chars<'_>)
+        ensures remaining { remaining self.new.cur i.new ≡ following is_space (remaining self.old.cur i.old) }
+        ensures place { Counts self.old i.old self.new i.new }
+        ensures tok { self.new.tok ≡ self.old.tok }
+        ensures strbuf { self.new.strbuf ≡ self.old.strbuf }
+        ensures numbuf { self.new.numbuf ≡ self.old.numbuf }
+        ensures identbuf { self.new.identbuf ≡ self.old.identbuf }
+    {
+        if is_space(self.cur) {
+            self.skip_spaces(i);
+        }
+    }
+
+    /// Passes over white space, character by character.
+    #[inline(never)]
+    fn skip_spaces(&mut self, i: &mut Chars<'_>)
+        ensures remaining { remaining self.new.cur i.new ≡ following is_space (remaining self.old.cur i.old) }
+        ensures place { Counts self.old i.old self.new i.new }
+        ensures tok { self.new.tok ≡ self.old.tok }
+        ensures strbuf { self.new.strbuf ≡ self.old.strbuf }
+        ensures numbuf { self.new.numbuf ≡ self.old.numbuf }
+        ensures identbuf { self.new.identbuf ≡ self.old.identbuf }
+    {
+        'space: while is_space(self.cur) {
+            self.next(i);
+        }
+    }
+
+    /// Takes the token that begins here, where no white space stands. Most are a number, a
+    /// string or a punctuator; it may be another.
+    #[inline(always)]
+    fn take_lexeme(&mut self, i: &mut Chars<'_>) -> Result<(), Rejection>
+        ensures taken { OnOk result
+            (IsLexeme (pending self.new) (remaining self.old.cur i.old) (remaining self.new.cur i.new)) }
+        ensures buffers { OnOk result (KeepsOtherBuffers self.old self.new) }
+        ensures place { OnOk result (Counts self.old i.old self.new i.new) }
+        ensures rejected { IfErr result (λ r. r ≢ Rejection.Memory
+            → NoneLexeme (remaining self.old.cur i.old)) }
+        ensures capacity { IfErr result (λ r. r ≡ Rejection.Memory
+            → NoCapacityForLexeme self.old (remaining self.old.cur i.old)) }
+    {
+        if starts_number(self.cur) {
+            return self.take_number(i);
+        }
+        if self.cur == '"' {
+            return self.take_string(i);
+        }
+        if let Some(tok) = punctuator(self.cur) {
+            self.next(i);
+            self.tok = tok;
+            return Ok(());
+        }
+        self.take_other(i)
+    }
+
+    /// Takes the word that begins here, or the end.
+    #[inline(never)]
+    fn take_other(&mut self, i: &mut Chars<'_>) -> Result<(), Rejection>
+        requires no_number { starts_number self.old.cur ≡ false }
+        requires no_string { self.old.cur ≢ 34 }
+        requires no_punctuator { punctuator_of self.old.cur ≡ None }
+        ensures taken { OnOk result
+            (IsLexeme (pending self.new) (remaining self.old.cur i.old) (remaining self.new.cur i.new)) }
+        ensures buffers { OnOk result (KeepsOtherBuffers self.old self.new) }
+        ensures place { OnOk result (Counts self.old i.old self.new i.new) }
+        ensures rejected { IfErr result (λ r. r ≢ Rejection.Memory
+            → NoneLexeme (remaining self.old.cur i.old)) }
+        ensures capacity { IfErr result (λ r. r ≡ Rejection.Memory
+            → NoCapacityForLexeme self.old (remaining self.old.cur i.old)) }
+    {
+        if is_word(self.cur) {
+            return self.take_word(i);
+        }
+        if self.cur == '\0' {
+            self.tok = DeJsonTok::Eof;
+            return Ok(());
+        }
+        Err(Rejection::NoToken)
+    }
+
+    /// Takes the number that begins here.
+    #[inline(always)]
+    fn take_number(&mut self, i: &mut Chars<'_>) -> Result<(), Rejection>
+        ensures taken { OnOk result
+            (IsRunOf (pending self.new) (remaining self.old.cur i.old) (remaining self.new.cur i.new)) }
+        ensures buffers { OnOk result (KeepsOtherBuffers self.old self.new) }
+        ensures place { OnOk result (Counts self.old i.old self.new i.new) }
+        ensures rejected { IfErr result (λ r. r ≢ Rejection.Memory
+            → NoneRunOf (remaining self.old.cur i.old)) }
+        ensures capacity { IfErr result (λ r. r ≡ Rejection.Memory
+            → NoCapacityForRun self.old (remaining self.old.cur i.old)) }
+    {
+        let mut place = self.place();
+        let read = read_number(&mut place, i, &mut self.numbuf);
+        self.stand_at(place);
+        match read {
+            Ok(number) => {
+                self.tok = match number {
+                    Number::U64(value) => DeJsonTok::U64(value),
+                    Number::I64(value) => DeJsonTok::I64(value),
+                    Number::Dec => DeJsonTok::F64,
+                };
+                Ok(())
+            }
+            Err(fault) => match fault {
+                Fault::Malformed => Err(Rejection::Number),
+                Fault::Memory => Err(Rejection::Memory),
+            },
+        }
+    }
+
+    /// Takes the string that begins here.
+    #[inline(never)]
+    fn take_string(&mut self, i: &mut Chars<'_>) -> Result<(), Rejection>
+        ensures taken { OnOk result
+            (IsQuoted (pending self.new) (remaining self.old.cur i.old) (remaining self.new.cur i.new)) }
+        ensures buffers { OnOk result (KeepsOtherBuffers self.old self.new) }
+        ensures place { OnOk result (Counts self.old i.old self.new i.new) }
+        ensures rejected { IfErr result (λ r. r ≢ Rejection.Memory
+            → NoneQuoted (remaining self.old.cur i.old)) }
+        ensures capacity { IfErr result (λ r. r ≡ Rejection.Memory
+            → NoCapacityForQuoted self.old (remaining self.old.cur i.old)) }
+    {
+        let mut place = self.place();
+        let read = read_string(&mut place, i, &mut self.strbuf);
+        self.stand_at(place);
+        match read {
+            Ok(()) => {
+                self.tok = DeJsonTok::Str;
+                Ok(())
+            }
+            Err(fault) => match fault {
+                Fault::Malformed => Err(Rejection::String),
+                Fault::Memory => Err(Rejection::Memory),
+            },
+        }
+    }
+}
+
+#[inline]
+fn is_space(c: char) -> bool
+    ensures { result ≡ is_space c }
+{
+    c == '\n' || c == '\r' || c == '\t' || c == ' '
+}
+
+#[inline]
+fn starts_number(c: char) -> bool
+    ensures { result ≡ starts_number c }
+{
+    c.is_ascii_digit() || c == '-' || c == '+'
+}
+
+/// The punctuator that a character is, if it is one that follows a value or a name.
+#[inline(always)]
+fn separator(c: char) -> Option<DeJsonTok>
+    ensures { IfSome result (λ t. (strbuf numbuf : List ℕ)
+        → punctuator_of c ≡ Some (token_of t strbuf numbuf)) }
+{
+    match c {
+        ',' => Some(DeJsonTok::Comma),
+        ':' => Some(DeJsonTok::Colon),
+        '}' => Some(DeJsonTok::CurlyClose),
+        _ => None,
+    }
+}
+
+/// The punctuator that a character is.
+#[inline]
+fn punctuator(c: char) -> Option<DeJsonTok>
+    ensures { (strbuf numbuf : List ℕ)
+        → option_map (λ t. token_of t strbuf numbuf) result ≡ punctuator_of c }
+{
+    match c {
+        ':' => Some(DeJsonTok::Colon),
+        ',' => Some(DeJsonTok::Comma),
+        '[' => Some(DeJsonTok::BlockOpen),
+        ']' => Some(DeJsonTok::BlockClose),
+        '{' => Some(DeJsonTok::CurlyOpen),
+        '}' => Some(DeJsonTok::CurlyClose),
+        _ => None,
+    }
+}

@@ -1,0 +1,22 @@
+-- What is proved of Sets.
+use Rattle.std.specs.Prelude.{List}
+use Rattle.std.specs.declared.cmp.Ordering.{Ordering}
+use Rattle.nano_value.specs.MeaningOrder.{MeaningOrder}
+use Rattle.nano_grammar.specs.SetsLaws.{set_of as of_items, set_codec as codec_of_items}
+use Rattle.nano_grammar.specs.SetsLaws.{ordered_codec as ordered_codec_of}
+use Rattle.nano_ron_tokens.specs.Brackets.{blocks}
+use Rattle.nano_ron_tokens.specs.RonLaws.{block_brackets}
+use Rattle.nano_ron_tokens.specs.StylesLaws.{indent_style}
+use Rattle.nano_ron.specs.Codec.{Codec}
+use Rattle.nano_ron.specs.Encoding.{Encoding}
+
+abbrev pub set_of : Encoding → Encoding
+set_of s = of_items blocks block_brackets s
+
+abbrev pub set_codec : {K : Type 0} → MeaningOrder → Codec K → Codec (List K)
+set_codec o f = codec_of_items indent_style block_brackets o f
+
+-- of sets that hold their items in an order
+abbrev pub ordered_codec : {K : Type 0} → MeaningOrder → (K → K → Ordering) → Codec K
+    → Codec (List K)
+ordered_codec o R f = ordered_codec_of indent_style block_brackets o f R

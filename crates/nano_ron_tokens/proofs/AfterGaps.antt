@@ -1,0 +1,45 @@
+-- What is cut after a gap.
+use Rattle.std.proofs.Common.{◌≡◌, ℕ, List, ◌++◌, inl, inr, sym, ◌∙◌, subst}
+use Rattle.nano_ron_tokens.specs.Token.{Token}
+use Rattle.nano_ron_tokens.specs.Cut.{IsLexeme, Cut}
+use Rattle.nano_ron_tokens.specs.Gaps.{IsGap}
+use Rattle.nano_ron_tokens.specs.Outcomes.{NothingCut}
+use Rattle.nano_ron_tokens.specs.Scan.{IsStop, BeginsNoComment, AfterGap}
+use Rattle.nano_ron_tokens.proofs.Cuts.{end_elsewhere, is_unended}
+use Rattle.nano_ron_tokens.proofs.LexemeKinds.{kind_at, the_end, only_end, lexeme_stops}
+use Rattle.nano_ron_tokens.proofs.Skipping.{skips_one_way, skips_go_on, unended_stops}
+
+-- without the gap before a token it is cut too
+pub gap_is_left_out : (gap text rest : List ℕ) (t : Token) → IsGap gap → Cut (gap ++ text) t rest → Cut text t rest
+gap_is_left_out gap text rest t is h =
+    let more = skips_go_on gap h.gap text h.body is h.skipped (lexeme_stops t h.body rest h.lexeme) h.split in
+    record { gap = more.0; body = h.body; split = more.2; skipped = more.1; lexeme = h.lexeme }
+
+-- after the gap of a cut comes what is after every gap
+pub cut_lexeme : (text between rest : List ℕ) (t : Token) → AfterGap text between → IsStop between → Cut text t rest → IsLexeme t between rest
+cut_lexeme text between rest t g stop h =
+    let ends : IsStop g.body = elim g.left [ inl same ↦ subst IsStop (sym same) stop | inr u ↦ unended_stops g.body u.0 ] in
+    let same = skips_one_way h.gap g.gap h.body g.body h.skipped g.skipped (lexeme_stops t h.body rest h.lexeme) ends (sym h.split ∙ g.split) in
+    let lexeme = subst (λ (body : List ℕ). IsLexeme t body rest) same h.lexeme in
+    elim g.left [
+      | inl e ↦ subst (λ (body : List ℕ). IsLexeme t body rest) e lexeme
+      | inr u ↦ end_elsewhere t g.body between rest u.0 (inl u.1) lexeme
+    ]
+
+pub lexeme_cut : (text between rest : List ℕ) (t : Token) → AfterGap text between → IsLexeme t between rest → Cut text t rest
+lexeme_cut text between rest t g h = record {
+  gap = g.gap;
+  body = g.body;
+  split = g.split;
+  skipped = g.skipped;
+  lexeme = elim g.left [
+    | inl e ↦ subst (λ (body : List ℕ). IsLexeme t body rest) (sym e) h
+    | inr u ↦ end_elsewhere t between g.body rest (inl u.1) u.0 h
+  ];
+}
+
+-- nothing is cut where a slash begins no comment
+pub none_cut : (text between : List ℕ) → AfterGap text between → kind_at between ≡ the_end → BeginsNoComment between → NothingCut text
+none_cut text between g kind none t rest h =
+    let lexeme = cut_lexeme text between rest t g none.0 h in
+    none.1 (is_unended t between rest (only_end t between rest kind lexeme))

@@ -1,0 +1,12 @@
+pub mod Reporting
+pub mod Unchanged
+pub mod Skipping
+pub mod Blanks
+pub mod Comments
+pub mod LexemeKinds
+pub mod Cuts
+pub mod AfterGaps
+pub mod WordRuns
+pub mod Capacity
+pub mod Indents
+pub mod Shorter

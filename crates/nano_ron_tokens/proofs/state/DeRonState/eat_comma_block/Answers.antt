@@ -1,0 +1,13 @@
+use Rattle.std.proofs.Common.{◌≡◌, sym, ◌∙◌, ap, string_bytes}
+use Rattle.nano_ron_tokens.specs.Token.{comma}
+use Rattle.nano_ron_tokens.specs.State.{pending, token_of}
+use Rattle.nano_ron_tokens.proofs.Reporting.{reports, none_after}
+use Rattle.nano_ron_tokens.proofs.state.DeRonState.eat_comma_block.Goals as goal
+
+pub returns-in-Comma-clause-rejected : goal.returns-in-Comma-clause-rejected
+returns-in-Comma-clause-rejected c =
+    let s = c.args.self.now in
+    let is_comma : pending s ≡ comma = ap (λ t. token_of t (string_bytes s.strbuf) (string_bytes s.numbuf) (string_bytes s.identbuf)) c.in-Comma.is in
+    reports c.scan_value_token.result c.scan_value_token.new.self _ _
+    (λ h. (λ closing. let x = sym is_comma ∙ closing in cc x, none_after comma s c.args.i.now h))
+    c.scan_value_token.ensures.rejected

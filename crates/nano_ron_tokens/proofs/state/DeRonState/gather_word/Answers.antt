@@ -1,0 +1,56 @@
+use Rattle.std.proofs.Common.{◌≡◌, ◌++◌, List, ℕ, ◌∙◌, ap, refl, length, length-append, string_bytes, arith}
+use Rattle.std.proofs.lemmas.Result.{err_from_is_err_and}
+use Rattle.nano_text.specs.Prefix.{prefix}
+use Rattle.nano_text.specs.Place.{held, remaining}
+use Rattle.nano_text.proofs.TakenPrefix.{prefix_boundary, remaining_after, prefix_bytes, prefix_capacity, passes_in_line}
+use Rattle.nano_ron_tokens.specs.Cut.{is_word}
+use Rattle.nano_ron_tokens.specs.State.{place_of}
+use Rattle.nano_ron_tokens.proofs.Cuts.{starts_is_word}
+use Rattle.nano_ron_tokens.proofs.WordRuns.{word_cut, word_in_line, word_bytes}
+use Rattle.nano_ron_tokens.proofs.state.DeRonState.gather_word.Goals as goal
+
+pub split_at-requires : goal.split_at-requires
+split_at-requires c =
+    let count = c.word_len-len.ensures ∙ ap (λ (bs : List ℕ). length (prefix is_word bs)) c.as_bytes.ensures.value in
+    prefix_boundary is_word refl word_cut c.as_str-text.result.now c.word_len-len.result c.as_str-text.utf8 count
+
+pub returns-clause-remaining : goal.returns-clause-remaining
+returns-clause-remaining c =
+    let text = c.as_str-text in
+    let passes = starts_is_word c.args.self.now.cur c.requires in
+    let count = c.word_len-len.ensures ∙ ap (λ (bs : List ℕ). length (prefix is_word bs)) c.as_bytes.ensures.value in
+    c.next.ensures.rest ∙ remaining_after is_word refl word_cut c.args.self.now.cur c.word_len-len.result c.args.i.now c.chars.result text.result.now passes text.utf8 text.ensures count (c.chars.ensures.rest ∙ c.split_at.ensures.back)
+
+pub returns-clause-gathered : goal.returns-clause-gathered
+returns-clause-gathered c =
+    let text = c.as_str-text in
+    let passes = starts_is_word c.args.self.now.cur c.requires in
+    let count = c.word_len-len.ensures ∙ ap (λ (bs : List ℕ). length (prefix is_word bs)) c.as_bytes.ensures.value in
+    let prefix_is = prefix_bytes is_word refl word_cut c.args.self.now.cur c.word_len-len.result c.args.i.now text.result.now passes text.utf8 text.ensures count in
+    rw (c.next.ensures.identbuf, c.in_ok-push_str.ensures.bytes, c.in_ok-push.ensures.bytes, c.clear.ensures.bytes, c.split_at.ensures.front) (prefix_is ∙ word_bytes (remaining c.args.self.now.cur c.args.i.now))
+
+pub returns-clause-place : goal.returns-clause-place
+returns-clause-place c =
+    let text = c.as_str-text in
+    let count = c.word_len-len.ensures ∙ ap (λ (bs : List ℕ). length (prefix is_word bs)) c.as_bytes.ensures.value in
+    passes_in_line is_word refl word_cut (place_of c.args.self.now) _ (place_of c.next.new.self) c.word_len-len.result c.args.i.now
+    c.chars.result text.result.now (held c.next.new.i) text.utf8 text.ensures count
+    (c.chars.ensures.rest ∙ c.split_at.ensures.back) (word_in_line text.result.now) (omega arith) refl c.saturating_add-self.ensures c.next.ensures.counts
+
+pub returns-in_err-push-clause-full : goal.returns-in_err-push-clause-full
+returns-in_err-push-clause-full c =
+    let error = err_from_is_err_and c.from_residual.result c.from_residual.ensures.1 in
+    let passes = starts_is_word c.args.self.now.cur c.requires in
+    let first = prefix_capacity is_word refl word_cut c.args.self.now.cur c.args.i.now passes in
+    let bytes = ap length (word_bytes (remaining c.args.self.now.cur c.args.i.now)) in
+    rw error.1 (omega (arith, first, bytes, c.in_err-push.ensures.full, c.clear.ensures.capacity, ap length c.clear.ensures.bytes))
+
+pub returns-in_err-push_str-clause-full : goal.returns-in_err-push_str-clause-full
+returns-in_err-push_str-clause-full c =
+    let error = err_from_is_err_and c.from_residual-in_err-push_str.result c.from_residual-in_err-push_str.ensures.1 in
+    let text = c.as_str-text in
+    let passes = starts_is_word c.args.self.now.cur c.requires in
+    let count = c.word_len-len.ensures ∙ ap (λ (bs : List ℕ). length (prefix is_word bs)) c.as_bytes.ensures.value in
+    let prefix_is = prefix_bytes is_word refl word_cut c.args.self.now.cur c.word_len-len.result c.args.i.now text.result.now passes text.utf8 text.ensures count in
+    let all : string_bytes c.push.new.self ++ c.split_at.result.0.now ≡ prefix is_word (remaining c.args.self.now.cur c.args.i.now) = rw (c.in_ok-push.ensures.bytes, c.clear.ensures.bytes, c.split_at.ensures.front) (prefix_is ∙ word_bytes (remaining c.args.self.now.cur c.args.i.now)) in
+    rw error.1 (omega (arith, c.in_err-push_str.ensures.full, c.in_ok-push.ensures.capacity, c.clear.ensures.capacity, ap length all, length-append (string_bytes c.push.new.self) c.split_at.result.0.now))

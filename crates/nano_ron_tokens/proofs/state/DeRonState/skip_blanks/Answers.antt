@@ -1,0 +1,27 @@
+use Rattle.std.proofs.Common.{ℕ, List, ◌∙◌, ap, refl, length, arith}
+use Rattle.nano_text.specs.Prefix.{prefix}
+use Rattle.nano_text.specs.Place.{held}
+use Rattle.nano_text.proofs.TakenPrefix.{prefix_boundary}
+use Rattle.nano_ron_tokens.specs.Scan.{is_blank}
+use Rattle.nano_ron_tokens.specs.State.{place_of}
+use Rattle.nano_ron_tokens.proofs.Blanks.{blank_cut, remaining_blanks, passes_blanks}
+use Rattle.nano_ron_tokens.proofs.state.DeRonState.skip_blanks.Goals as goal
+
+pub split_at-requires : goal.split_at-requires
+split_at-requires c =
+    let count = c.blanks_len-len.ensures ∙ ap (λ (bs : List ℕ). length (prefix is_blank bs)) c.as_bytes.ensures.value in
+    prefix_boundary is_blank refl blank_cut c.as_str-text.result.now c.blanks_len-len.result c.as_str-text.utf8 count
+
+pub returns-clause-remaining : goal.returns-clause-remaining
+returns-clause-remaining c =
+    let text = c.as_str-text in
+    let count = c.blanks_len-len.ensures ∙ ap (λ (bs : List ℕ). length (prefix is_blank bs)) c.as_bytes.ensures.value in
+    c.next.ensures.rest ∙ remaining_blanks c.blanks_len-len.result c.args.i.now c.chars.result text.result.now text.utf8 text.ensures count (c.chars.ensures.rest ∙ c.split_at.ensures.back)
+
+pub returns-clause-place : goal.returns-clause-place
+returns-clause-place c =
+    let text = c.as_str-text in
+    let count = c.blanks_len-len.ensures ∙ ap (λ (bs : List ℕ). length (prefix is_blank bs)) c.as_bytes.ensures.value in
+    passes_blanks c.blanks_len-len.result c.args.i.now c.chars.result text.result.now text.utf8 text.ensures count
+    (c.chars.ensures.rest ∙ c.split_at.ensures.back) (place_of c.args.self.now) _ (place_of c.next.new.self) (held c.next.new.i)
+    (omega arith) refl c.saturating_add-self.ensures c.next.ensures.counts

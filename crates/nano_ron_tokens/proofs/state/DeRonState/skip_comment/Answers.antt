@@ -1,0 +1,40 @@
+use Rattle.std.proofs.Common.{arith, refl, ne_eqb}
+use Rattle.nano_text.proofs.RemainingText.{remaining_stop}
+use Rattle.nano_text.specs.Place.{remaining}
+use Rattle.nano_text.specs.PlaceLaws.{passes_append}
+use Rattle.nano_ron_tokens.proofs.Comments.{line_comment_at, block_comment_at, no_comment_at, is_slash, is_star}
+use Rattle.nano_ron_tokens.proofs.state.DeRonState.skip_comment.Goals as goal
+
+pub returns-then-self-eq47-clause-skipped : goal.returns-then-self-eq47-clause-skipped
+returns-then-self-eq47-clause-skipped c known =
+    let cur = c.args.self.now.cur in
+    let next = c.next.new.self.cur in
+    let last = c.next-then-self-eq47 in
+    line_comment_at cur next (remaining cur c.args.i.now) (remaining next c.next.new.i) (remaining last.new.self.cur last.new.i)
+    (remaining c.skip_line.new.self.cur c.skip_line.new.i) (c.next.ensures.taken (λ z. omega (arith, z, c.requires))) c.requires
+    (last.ensures.taken (λ z. omega (arith, z, c.if-self-eq47.true))) c.if-self-eq47.true c.skip_line.ensures.skipped
+
+pub returns-then-self-eq47-clause-place : goal.returns-then-self-eq47-clause-place
+returns-then-self-eq47-clause-place c =
+    passes_append (passes_append c.next.ensures.counts c.next-then-self-eq47.ensures.counts) c.skip_line.ensures.place
+
+pub returns-then-self-eq42-clause-skipped : goal.returns-then-self-eq42-clause-skipped
+returns-then-self-eq42-clause-skipped c known =
+    let cur = c.args.self.now.cur in
+    let next = c.next.new.self.cur in
+    let last = c.next-then-self-eq42 in
+    block_comment_at cur next (remaining cur c.args.i.now) (remaining next c.next.new.i) (remaining last.new.self.cur last.new.i)
+    (remaining c.skip_block.new.self.cur c.skip_block.new.i) (c.next.ensures.taken (λ z. omega (arith, z, c.requires))) c.requires
+    (last.ensures.taken (λ z. omega (arith, z, c.if-self-eq42.true))) c.if-self-eq42.true c.skip_block.ensures.skipped
+
+pub returns-then-self-eq42-clause-place : goal.returns-then-self-eq42-clause-place
+returns-then-self-eq42-clause-place c =
+    passes_append (passes_append c.next.ensures.counts c.next-then-self-eq42.ensures.counts) c.skip_block.ensures.place
+
+pub returns-clause-rejected : goal.returns-clause-rejected
+returns-clause-rejected c known =
+    let cur = c.args.self.now.cur in
+    let next = c.next.new.self.cur in
+    no_comment_at cur (remaining cur c.args.i.now) (remaining next c.next.new.i) (c.next.ensures.taken (λ z. omega (arith, z, c.requires))) c.requires
+    (remaining_stop is_slash next c.next.new.i refl (ne_eqb next 47 c.if-self-eq47.false))
+    (remaining_stop is_star next c.next.new.i refl (ne_eqb next 42 c.if-self-eq42.false))

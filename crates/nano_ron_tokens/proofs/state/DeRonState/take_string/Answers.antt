@@ -1,0 +1,19 @@
+use Rattle.std.proofs.Common.{sym, subst}
+use Rattle.nano_text.specs.Place.{remaining, text_at}
+use Rattle.nano_text.specs.String.{IsString}
+use Rattle.nano_text.specs.declared.place.Place.{Place}
+use Rattle.nano_ron_tokens.proofs.Cuts.{quoted_string}
+use Rattle.nano_ron_tokens.proofs.Capacity.{quoted_outgrows}
+use Rattle.nano_ron_tokens.proofs.state.DeRonState.take_string.Goals as goal
+
+pub returns-in-Malformed-clause-rejected : goal.returns-in-Malformed-clause-rejected
+returns-in-Malformed-clause-rejected c known t rest h =
+    let s = quoted_string t (remaining c.args.self.now.cur c.args.i.now) rest h in
+    c.in-Err.ensures.malformed (cc c.in-Malformed.is) s.0 rest (subst (λ (p : Place). IsString (text_at p c.args.i.now) s.0 rest) (sym c.place-place.ensures) s.1)
+
+pub returns-in-Memory-clause-capacity : goal.returns-in-Memory-clause-capacity
+returns-in-Memory-clause-capacity c known t rest h =
+    let capacity = c.in-Err.ensures.memory (cc c.in-Memory.is) in
+    let text = remaining c.args.self.now.cur c.args.i.now in
+    quoted_outgrows c.args.self.now t text rest
+    (λ cs left is. capacity cs left (subst (λ (p : Place). IsString (text_at p c.args.i.now) cs left) (sym c.place-place.ensures) is)) h

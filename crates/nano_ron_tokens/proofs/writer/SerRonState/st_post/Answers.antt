@@ -1,0 +1,7 @@
+use Rattle.nano_text.specs.RollbackLaws.{unchanged_by}
+use Rattle.nano_ron_tokens.proofs.writer.SerRonState.st_post.Goals as goal
+
+pub rollback_on_error-requires : goal.rollback_on_error-requires
+rollback_on_error-requires c =
+    unchanged_by c.append_closing-written.result c.args.self.now.out c.append_closing-written.new.self.out c.len-start.result _ c.len-start.ensures
+    c.append_closing-written.ensures.ok c.append_closing-written.ensures.err

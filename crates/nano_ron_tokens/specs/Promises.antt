@@ -1,0 +1,28 @@
+-- Laws of the definitions.
+use Rattle.std.specs.Prelude.{◌≡◌, ◌↔◌, ℕ, List, [], ◌∷◌, ◌++◌}
+use Rattle.nano_grammar.specs.Tokens.{At, BeginsAt, Leaves, IsOneWay}
+use Rattle.nano_ron_tokens.specs.Token.{Token, end}
+use Rattle.nano_ron_tokens.specs.Cut.{Cut}
+use Rattle.nano_ron_tokens.specs.Gaps.{IsGap, IsUnended}
+
+-- a text is cut in one way: one token, one rest
+abbrev pub CutsOneWay : Type 0
+CutsOneWay = IsOneWay Cut
+
+-- the end is cut where a gap, and after it at most a comment that has no end, are the whole
+-- text, and leaves nothing
+abbrev pub EndsAfterGaps : Type 0
+EndsAfterGaps = (text rest : List ℕ) → Cut text end rest
+    ↔ (((gap following : List ℕ) × IsGap gap × IsUnended following × (text ≡ gap ++ following))
+    × (rest ≡ []))
+
+-- a gap before a token changes nothing
+abbrev pub GapsAreSkipped : Type 0
+GapsAreSkipped = (gap text rest : List ℕ) (t : Token) → IsGap gap
+    → (Cut text t rest ↔ Cut (gap ++ text) t rest)
+
+-- taking tokens up to another one is the same as beginning with them and that one
+abbrev pub TakenTokensBegin : Type 0
+TakenTokensBegin = (ts : List Token) (next : Token) (start : At Token)
+    → ((rest : List ℕ) × Leaves Cut ts start (record { token = next; text = rest }))
+    ↔ BeginsAt Cut (ts ++ next ∷ []) start

@@ -1,0 +1,7 @@
+-- What is proved of Punctuation.
+use Rattle.std.specs.Prelude.{Bool, true, false}
+use Rattle.nano_ron_tokens.specs.Token.{Token, end}
+
+abbrev pub is_end : Token → Bool
+is_end end = true
+is_end _ = false

@@ -1,0 +1,61 @@
+-- The tokens of RON, each with the text that it carries, as bytes of UTF-8.
+use Rattle.std.specs.Prelude.{ℕ, ℤ, pos, Bool, ◌==◌, not, List, Option, Some, None}
+
+pub data Token : Type 0 where
+  -- a word of any meaning but a truth value, with its characters
+  ident : List ℕ → Token
+  -- a string, with its characters
+  str : List ℕ → Token
+  u64 : ℕ → Token
+  i64 : ℤ → Token
+  -- a number with a point or an exponent, with its run
+  f64 : List ℕ → Token
+  bool : Bool → Token
+  -- a character between apostrophes
+  character : ℕ → Token
+  colon : Token
+  curly_open : Token
+  curly_close : Token
+  paren_open : Token
+  paren_close : Token
+  block_open : Token
+  block_close : Token
+  comma : Token
+  -- before the first token
+  bof : Token
+  -- after the last one
+  end : Token
+
+-- the integer that a token is, if it is one
+abbrev pub integer_of : Token → Option ℤ
+integer_of (u64 n) = Some (pos n)
+integer_of (i64 z) = Some z
+integer_of _ = None
+
+-- the truth value that a token stands for, if it does: a whole number without a minus sign stands
+-- for false where it is 0, and else for true
+abbrev pub truth_of : Token → Option Bool
+truth_of (bool b) = Some b
+truth_of (u64 n) = Some (not (n == 0))
+truth_of _ = None
+
+abbrev pub IsStr : Token → Type 0
+IsStr (str bytes) = Unit {0}
+IsStr _ = ⊥
+
+abbrev pub IsIdent : Token → Type 0
+IsIdent (ident name) = Unit {0}
+IsIdent _ = ⊥
+
+-- a number of any kind
+abbrev pub IsNumeric : Token → Type 0
+IsNumeric (u64 n) = Unit {0}
+IsNumeric (i64 z) = Unit {0}
+IsNumeric (f64 run) = Unit {0}
+IsNumeric _ = ⊥
+
+-- a token that is written as a word
+abbrev pub IsLiteral : Token → Type 0
+IsLiteral (ident name) = Unit {0}
+IsLiteral (bool b) = Unit {0}
+IsLiteral _ = ⊥

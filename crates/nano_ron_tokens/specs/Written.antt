@@ -1,0 +1,47 @@
+-- What is written of scalars and between tokens, and what may follow what is written.
+use Rattle.std.specs.Prelude.{◌≡◌, ℕ, ◌==◌, ◌||◌, ◌&&◌, not, Bool, zero, suc, true, List, [], ◌∷◌}
+use Rattle.std.specs.Prelude.{◌++◌, if◌then◌else◌, codes, chars}
+use Rattle.std.specs.List.{flat_map}
+use Rattle.nano_text.specs.String.{Piece, plain, escaped, piece_text}
+use Rattle.nano_ron_tokens.specs.Gaps.{is_space}
+
+-- what may follow a written value: white space , : ) ] }
+abbrev pub may_follow : ℕ → Bool
+may_follow c = (is_space c || ((c == 44) || (c == 58))) || ((c == 41) || ((c == 93) || (c == 125)))
+
+-- nothing follows, or what may follow a written value does
+abbrev pub MayFollow : List ℕ → Type 0
+MayFollow [] = Unit {0}
+MayFollow (c ∷ cs) = may_follow c ≡ true
+
+-- four spaces for each level
+abbrev pub indent : ℕ → List ℕ
+indent zero = []
+indent (suc d) = codes "    " ++ indent d
+
+-- ---- scalars
+
+-- a character that is written as itself
+abbrev pub stands_as_itself : ℕ → Bool
+stands_as_itself c = not (c == 10) && (not (c == 13) && (not (c == 9) && (not (c == 0)
+    && (not (c == 92) && not (c == 34)))))
+
+-- how a character stands in a written string: as itself, or by an escape
+abbrev pub written_piece : ℕ → Piece
+written_piece c =
+    if c == 10 then escaped 110
+    else if c == 13 then escaped 114
+    else if c == 9 then escaped 116
+    else if c == 0 then escaped 48
+    else if c == 92 then escaped 92
+    else if c == 34 then escaped 34
+    else plain c
+
+-- the characters of a text as they stand in a written string
+abbrev pub written_characters : List ℕ → List ℕ
+written_characters cs = flat_map (λ c. piece_text (written_piece c)) cs
+
+-- a quote, each character as it stands in a written string, a quote; of a text by its bytes of
+-- UTF-8
+abbrev pub written_text : List ℕ → List ℕ
+written_text bytes = 34 ∷ (written_characters (chars bytes) ++ 34 ∷ [])

@@ -1,0 +1,28 @@
+//! User-defined structs and enums described once by a schema, for every format: the names and
+//! types of the fields, the variants with their content, how a value is split into them, and
+//! how it is made from them.
+//!
+//! A format reads and writes what the schema describes; the type's own impls are one term and
+//! one call each.
+#![tactic(auto)]
+
+mod choice;
+mod choices;
+mod contents;
+mod fields;
+mod record;
+mod rows;
+
+pub use choice::{Choice, ChoiceParts, known_choice};
+pub use choices::{
+    BorrowedChoices, Choices, Either, Label, Name, NamedVariant, Variant, called, variant,
+};
+pub use contents::{Alone, OnePart, Tupled, no_content, one_part, tuple};
+pub use fields::{Borrowed, FromNames, Optional, Required, Shape, named};
+pub use nano_value::Value;
+pub use record::{Parts, Record, known_record};
+pub use rows::{
+    Fields2, Fields3, Fields4, Fields5, Fields6, Fields7, Fields8, fields2, fields3, fields4,
+    fields5, fields6, fields7, fields8, into_fields2, into_fields3, into_fields4, into_fields5,
+    into_fields6, into_fields7, into_fields8,
+};

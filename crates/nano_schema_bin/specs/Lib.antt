@@ -1,0 +1,4 @@
+pub mod Choices
+pub mod ChoicesLaws
+pub mod Record
+pub mod Choice

@@ -1,0 +1,55 @@
+-- Named fields in JSON: between curly brackets, with their names as they are between quotes. A
+-- field whose name is not known is passed over.
+use Rattle.std.specs.Prelude.{◌≡◌, ℕ, true, List, Option}
+use Rattle.nano_grammar.specs.Codec.{Codec}
+use Rattle.nano_schema_text.specs.BothFieldsLaws.{also_fields}
+use Rattle.nano_schema_text.specs.FieldCodec.{AreNames, FieldsCodec}
+use Rattle.nano_schema_text.specs.FieldCodecLaws.{must_field, may_field}
+use Rattle.nano_schema_text.specs.Fields.{FieldStyle}
+use Rattle.nano_json_tokens.specs.JsonLaws.{json, curly_style, entry_style, null_style}
+use Rattle.nano_json_tokens.specs.JsonLaws.{curly_brackets}
+use Rattle.nano_json_tokens.specs.Json.{json_grammar}
+use Rattle.nano_json_tokens.specs.ScalarsLaws.{str_injective}
+use Rattle.nano_json_tokens.specs.Skipped.{SkippedField}
+use Rattle.nano_json_tokens.specs.Token.{str}
+use Rattle.nano_json_tokens.proofs.BracketCounts.{skipped_apart}
+use Rattle.nano_schema_json.specs.Names.{IsPlainName, are_ascii_names, quoted_name}
+use Rattle.nano_schema_json.specs.NamesLaws.{name_is_written, each_ascii}
+pub use Rattle.nano_schema_text.specs.StructCodecLaws.{fields_codec}
+
+abbrev pub json_fields : FieldStyle json json_grammar
+json_fields = record {
+  list = curly_style;
+  brackets = curly_brackets;
+  pair = entry_style;
+  none = null_style;
+  name = λ name. str name;
+  injective = str_injective;
+  begins = λ name. tt;
+  Skipped = SkippedField;
+  skipped_apart = skipped_apart;
+  IsName = IsPlainName;
+  name_text = quoted_name;
+  name_is_written = name_is_written;
+}
+
+-- ---- the schema of a user-defined struct
+
+-- a field that must be there
+abbrev pub must : {A : Type 0} → List ℕ → Codec json json_grammar A → FieldsCodec json_fields A
+must = must_field json_fields
+
+-- a field that may be missing, and is not written where it is none
+abbrev pub may : {A : Type 0} → List ℕ → Codec json json_grammar A
+    → FieldsCodec json_fields (Option A)
+may = may_field json_fields
+
+-- fields, and more fields
+abbrev pub also : {A B : Type 0} → FieldsCodec json_fields A → FieldsCodec json_fields B
+    → FieldsCodec json_fields (A × B)
+also = also_fields
+
+-- names of ASCII can be written: `ascii_names refl` checks it for given names
+pub ascii_names : {names : List (List ℕ)} → are_ascii_names names ≡ true
+    → AreNames json_fields names
+ascii_names {names} h = record { each = each_ascii names h }

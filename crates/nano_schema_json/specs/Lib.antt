@@ -1,0 +1,16 @@
+pub mod Names
+pub mod NamesLaws
+pub mod FieldsLaws
+pub mod Variants
+pub mod VariantsLaws
+pub mod Punctuation
+pub mod FieldReading
+pub mod FieldReadingLaws
+pub mod FieldTexts
+pub mod VariantReading
+pub mod Promises
+pub mod CodecsLaws
+pub mod Record
+pub mod Contents
+pub mod ContentsLaws
+pub mod Choice

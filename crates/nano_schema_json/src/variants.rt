@@ -1,0 +1,194 @@
+//! The variants of enums, read: a name, and between curly brackets a name with its content.
+
+ghost use Rattle.std.specs.Prelude.{◌≡◌, ◌++◌, ◌∷◌, [], ℕ, List, true, false, OnOk, IfOk, IfErr};
+ghost use Rattle.std.specs.Prelude.{OnErr, string_bytes, codes};
+ghost use Rattle.std.specs.declared.str.Chars.{Chars};
+ghost use Rattle.nano_schema_json.specs.FieldReadingLaws.{fields_of};
+ghost use Rattle.nano_schema_json.specs.VariantReading.{Closed, name_tokens, NoVariantBegins};
+ghost use Rattle.nano_schema_json.specs.Variants.{alone, opened};
+ghost use Rattle.nano_json_tokens.specs.Outcomes.{Takes, NoneHere};
+ghost use Rattle.nano_json.specs.Readers.{Decodes, Rejects, Reports};
+ghost use Rattle.nano_json.specs.State.{at, ended};
+ghost use Rattle.nano_json.specs.Token.{str, colon, curly_close};
+
+use crate::fields::Fields;
+use crate::read::read_fields;
+use nano_json::{DeJson, DeJsonErr, DeJsonState, DeJsonTok, end_on_error};
+use std::alloc::Global;
+use std::str::Chars;
+
+/// The name of a variant, and how it stood.
+#[derive(Drop)]
+pub enum VariantName {
+    /// A name alone, as of a variant without content: `"Name"`.
+    Unit(String),
+    /// The name of a variant with content, which comes after it: `{"Name":`.
+    Content(String),
+}
+
+/// Takes the name that the value of an enum begins with: a string, or `{`, a string and a
+/// colon. The token after it is pending then, which is the first of the content.
+///
+/// Where a token other than a string or `{` is pending, it is rejected with
+/// `Unexpected token {token} expected String or { `. Every error leaves the state at the end of
+/// the text.
+pub fn read_variant_name(
+    alloc: Global,
+    state: &mut DeJsonState,
+    input: &mut Chars<'_>,
+) -> Result<VariantName, DeJsonErr>
+    ensures taken { IfOk result (λ name.
+        Takes (name_tokens name) state.old input.old state.new input.new) }
+    ensures rejected { IfErr result (Reports (NoVariantBegins (at state.old input.old))) }
+    ensures ended { OnErr result (at state.new input.new ≡ ended) }
+{
+    let read = read_name(alloc, state, input);
+    end_on_error(state, read)
+}
+
+/// Takes the name that the value of an enum begins with. On an error, the state may be at any
+/// position.
+fn read_name(
+    alloc: Global,
+    state: &mut DeJsonState,
+    input: &mut Chars<'_>,
+) -> Result<VariantName, DeJsonErr>
+    ensures taken { IfOk result (λ name.
+        Takes (name_tokens name) state.old input.old state.new input.new) }
+    ensures rejected { IfErr result (Reports (NoVariantBegins (at state.old input.old))) }
+{
+    match state.tok {
+        DeJsonTok::Str => read_alone(alloc, state, input),
+        DeJsonTok::CurlyOpen => read_opened(alloc, state, input),
+        _ => Err(state.err_token(alloc, "String or {")),
+    }
+}
+
+/// Takes the pending string. On an error, the state may be at any position.
+fn read_alone(
+    alloc: Global,
+    state: &mut DeJsonState,
+    input: &mut Chars<'_>,
+) -> Result<VariantName, DeJsonErr>
+    ensures taken { IfOk result (λ name.
+        Takes (name_tokens name) state.old input.old state.new input.new) }
+    ensures rejected { IfErr result (Reports
+        ((name : List ℕ) → NoneHere (alone name) state.old input.old)) }
+{
+    let name = state.as_string(alloc)?;
+    state.next_tok(alloc, input)?;
+    Ok(VariantName::Unit(name))
+}
+
+/// Takes the pending `{`, a string and a colon. On an error, the state may be at any position.
+fn read_opened(
+    alloc: Global,
+    state: &mut DeJsonState,
+    input: &mut Chars<'_>,
+) -> Result<VariantName, DeJsonErr>
+    ensures taken { IfOk result (λ name.
+        Takes (name_tokens name) state.old input.old state.new input.new) }
+    ensures rejected { IfErr result (Reports
+        ((name : List ℕ) → NoneHere (opened name) state.old input.old)) }
+{
+    state.curly_open(alloc, input)?;
+    let name = read_key(alloc, state, input)?;
+    Ok(VariantName::Content(name))
+}
+
+/// Takes a string and a colon. On an error, the state may be at any position.
+fn read_key(
+    alloc: Global,
+    state: &mut DeJsonState,
+    input: &mut Chars<'_>,
+) -> Result<String, DeJsonErr>
+    ensures taken { IfOk result (λ name.
+        Takes (str (string_bytes name) ∷ colon ∷ []) state.old input.old state.new input.new) }
+    ensures rejected { IfErr result (Reports
+        ((name : List ℕ) → NoneHere (str name ∷ colon ∷ []) state.old input.old)) }
+{
+    if state.next_str().is_none() {
+        return Err(state.err_token(alloc, "String"));
+    }
+    let name = state.as_string(alloc)?;
+    state.next_colon(alloc, input)?;
+    Ok(name)
+}
+
+/// Reads the content of a variant and the `}` after it, where its name is taken.
+///
+/// An error other than out of memory says that no content with a `}` after it is encoded there,
+/// with one more token or the end after that. Every error leaves the state at the end of the
+/// text.
+pub fn read_content<T: DeJson>(
+    alloc: Global,
+    state: &mut DeJsonState,
+    input: &mut Chars<'_>,
+) -> Result<T, DeJsonErr>
+    ensures decodes { Decodes (Closed T.json.encoding.encodes) T.means
+        (at state.old input.old) (at state.new input.new) result }
+    ensures rejected { Rejects (Closed T.json.encoding.encodes) (at state.old input.old) result }
+    ensures ended { OnErr result (at state.new input.new ≡ ended) }
+{
+    let content = T::de_json(alloc, state, input)?;
+    close_content(alloc, state, input)?;
+    Ok(content)
+}
+
+/// Reads named fields, as the content of a variant whose name is taken, and the `}` after them.
+///
+/// An error other than out of memory says that no such fields with a `}` after them stand
+/// there, with one more token or the end after that. Every error leaves the state at the end of
+/// the text.
+pub fn read_fields_content<F: Fields>(
+    fields: &F,
+    alloc: Global,
+    state: &mut DeJsonState,
+    input: &mut Chars<'_>,
+) -> Result<F::Values, DeJsonErr>
+where
+    F::Values: Drop,
+    ensures decodes { Decodes
+        (Closed (fields_of (F.codec (F.names_of fields.now)).struct).encodes) F.means
+        (at state.old input.old) (at state.new input.new) result }
+    ensures rejected { Rejects (Closed (fields_of (F.codec (F.names_of fields.now)).struct).encodes)
+        (at state.old input.old) result }
+    ensures ended { OnErr result (at state.new input.new ≡ ended) }
+{
+    let values = read_fields(fields, alloc, state, input)?;
+    close_content(alloc, state, input)?;
+    Ok(values)
+}
+
+/// Takes the `}` after the content of a variant. Every error leaves the state at the end of the
+/// text.
+fn close_content(
+    alloc: Global,
+    state: &mut DeJsonState,
+    input: &mut Chars<'_>,
+) -> Result<(), DeJsonErr>
+    ensures taken { OnOk result
+        (Takes (curly_close ∷ []) state.old input.old state.new input.new) }
+    ensures rejected { IfErr result (Reports (NoneHere (curly_close ∷ []) state.old input.old)) }
+    ensures ended { OnErr result (at state.new input.new ≡ ended) }
+{
+    let closed = state.curly_close(alloc, input);
+    end_on_error(state, closed)
+}
+
+/// The error for a name that no variant has: `Enum not defined {name}`. It leaves the state at
+/// the end of the text.
+#[cold]
+#[inline(never)]
+pub fn unknown_variant(alloc: Global, state: &mut DeJsonState, name: &str) -> DeJsonErr
+    ensures msg { result.memory ≡ false
+        → string_bytes result.msg ≡ codes "Enum not defined " ++ name.now }
+    ensures memory { result.memory ≡ true → string_bytes result.msg ≡ [] }
+    ensures line { result.line ≡ state.old.line }
+    ensures col { result.col ≡ state.old.col }
+    ensures ended { (i : Chars) → at state.new i ≡ ended }
+{
+    let error = state.err_enum(alloc, name);
+    state.fail();
+    error
+}

@@ -1,0 +1,4 @@
+pub mod Pending
+pub mod WrittenFields
+pub mod VariantReaders
+pub mod ChoiceReaders

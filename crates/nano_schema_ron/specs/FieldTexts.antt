@@ -1,0 +1,12 @@
+-- Fields one below the other, as they are written.
+use Rattle.std.specs.Prelude.{ℕ, List, [], ◌∷◌, ◌++◌}
+use Rattle.std.specs.List.{flat_map}
+use Rattle.nano_ron_tokens.specs.Written.{indent}
+
+-- after the indent of a level, with a comma and a line feed after it
+abbrev pub on_a_line : ℕ → List ℕ → List ℕ
+on_a_line d text = indent d ++ (text ++ 44 ∷ (10 ∷ []))
+
+-- items one below the other, each on a line of its own
+abbrev pub on_lines : {A : Type 0} → ℕ → (A → List ℕ) → List A → List ℕ
+on_lines d W xs = flat_map (λ x. on_a_line d (W x)) xs

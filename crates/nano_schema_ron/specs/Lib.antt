@@ -1,0 +1,14 @@
+pub mod Names
+pub mod NamesLaws
+pub mod Fields
+pub mod FieldsLaws
+pub mod Punctuation
+pub mod FieldReading
+pub mod FieldReadingLaws
+pub mod FieldTexts
+pub mod Variants
+pub mod VariantsLaws
+pub mod Promises
+pub mod Record
+pub mod ContentsLaws
+pub mod Choice

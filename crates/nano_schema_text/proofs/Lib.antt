@@ -1,0 +1,5 @@
+pub mod LastFields
+pub mod FieldReading
+pub mod KnownNames
+pub mod StructReading
+pub mod ChoiceReaders

@@ -1,0 +1,120 @@
+-- The first byte of what is left, and runs of it that are taken at once.
+use Rattle.std.proofs.Common.{◌≡◌, ℕ, List, [], ◌∷◌, ◌==◌, ◌||◌, Bool, true, false, cond, not, Some, None, nat_eq, drop, take, length, chars, encode_utf8_all, IsUtf8, refl, ap, sym, ◌∙◌, subst, eqb-true, true≢false}
+use Rattle.std.proofs.Math.Seq.{drop-append_seam}
+use Rattle.std.proofs.StrCases.{chars_of_empty}
+use Rattle.std.proofs.lemmas.List.{take_at}
+use Rattle.std.proofs.lemmas.Str.{encodes-chars}
+use Rattle.std.specs.List.{slice_get}
+use Rattle.std.specs.Str.{IsCharBoundary}
+use Rattle.std.specs.Str.Iter.{chars_rest}
+use Rattle.std.specs.declared.str.Chars.{Chars}
+use Rattle.nano_toml.specs.Characters.{IsByteTest, is_line_feed}
+use Rattle.nano_toml.specs.RemainingText.{held, remaining_of, before_nul}
+use Rattle.nano_toml.specs.Plain.{is_in_line}
+use Rattle.nano_toml.specs.Span.{begins, prefix, following}
+use Rattle.nano_toml.proofs.RemainingText.{remaining_none}
+use Rattle.nano_toml.proofs.Spans.{span_split}
+use Rattle.nano_toml.proofs.ByteTests.{some_test}
+use Rattle.nano_toml.proofs.Utf8Prefixes.{begins_encodes, cut_after_prefix, prefix_before_nul, after_before_nul}
+
+-- ---- the first byte
+
+begins_before_nul : (test : ℕ → Bool) → test 0 ≡ false → (cs : List ℕ) → begins test (before_nul cs) ≡ begins test cs
+begins_before_nul test stops [] = refl
+begins_before_nul test stops (c ∷ cs) = elim (nat_eq c 0) as (λ (b : Bool). nat_eq c 0 ≡ b → begins test (cond b [] (c ∷ before_nul cs)) ≡ test c) [
+  | true ↦ λ e. sym (ap test (eqb-true c 0 e) ∙ stops)
+  | false ↦ λ e. refl
+] refl
+
+begins_remaining : (test : ℕ → Bool) → IsByteTest test → (s : Chars) → IsUtf8 (chars_rest s) → begins test (remaining_of s) ≡ begins test (chars_rest s)
+unfolding remaining_of
+begins_remaining test h s utf8 =
+    begins_before_nul test h.0 (held s) ∙ (sym (begins_encodes test h (held s)) ∙ ap (begins test) (encodes-chars (chars_rest s) utf8))
+
+begins_first : (test : ℕ → Bool) (bytes : List ℕ) (b : ℕ) → slice_get bytes 0 ≡ Some b → begins test bytes ≡ test b
+begins_first test [] b e = cc e
+begins_first test (x ∷ xs) b e = let same : x ≡ b = cc e in ap test same
+
+no_first : (bytes : List ℕ) → slice_get bytes 0 ≡ None → length bytes ≡ 0
+no_first [] e = refl
+no_first (x ∷ xs) e = cc e
+
+nothing_begins : (cs : List ℕ) → begins (λ c. not (c == 0)) (before_nul cs) ≡ false → before_nul cs ≡ []
+nothing_begins [] e = refl
+nothing_begins (c ∷ cs) e = elim (nat_eq c 0) as (λ (b : Bool). nat_eq c 0 ≡ b → begins (λ d. not (d == 0)) (cond b [] (c ∷ before_nul cs)) ≡ false → cond b [] (c ∷ before_nul cs) ≡ []) [
+  | true ↦ λ z f. refl
+  | false ↦ λ z f. let here : true ≡ false = rw z at f in absurd (true≢false here)
+] refl e
+
+-- what a byte says that stands first
+pub record IsFirst (s : Chars) (b : ℕ) : Type 0 where
+  pub end : b ≡ 0 → remaining_of s ≡ []
+  pub test : (p : ℕ → Bool) → IsByteTest p → begins p (remaining_of s) ≡ p b
+
+nothing_remaining : (s : Chars) → begins (λ c. not (c == 0)) (remaining_of s) ≡ false → remaining_of s ≡ []
+unfolding remaining_of
+nothing_remaining s e = nothing_begins (held s) e
+
+pub first_byte : (s : Chars) (text bytes : List ℕ) (b : ℕ) → IsUtf8 text → text ≡ chars_rest s → bytes ≡ text → Some b ≡ slice_get bytes 0 → IsFirst s b
+first_byte s text bytes b utf8 is same e =
+    let u : IsUtf8 (chars_rest s) = subst IsUtf8 is utf8 in
+    let at : slice_get (chars_rest s) 0 ≡ Some b = sym (e ∙ ap (λ (bs : List ℕ). slice_get bs 0) (same ∙ is)) in
+    let tested : (p : ℕ → Bool) → IsByteTest p → begins p (remaining_of s) ≡ p b = λ p h. begins_remaining p h s u ∙ begins_first p (chars_rest s) b at in
+    record {
+      end = λ z. nothing_remaining s (tested (λ c. not (c == 0)) some_test ∙ ap (λ (c : ℕ). not (c == 0)) z);
+      test = tested;
+    }
+
+pub no_byte : (s : Chars) (text bytes : List ℕ) → text ≡ chars_rest s → bytes ≡ text → None ≡ slice_get bytes 0 → IsFirst s 0
+no_byte s text bytes is same e =
+    let none : remaining_of s ≡ [] = remaining_none s (chars_of_empty (chars_rest s) (no_first (chars_rest s) (sym (e ∙ ap (λ (bs : List ℕ). slice_get bs 0) (same ∙ is))))) in
+    record {
+      end = λ z. none;
+      test = λ p h. ap (begins p) none ∙ sym h.0;
+    }
+
+-- ---- runs
+
+-- so many bytes are the longest prefix that passes the test
+pub record IsRun (test : ℕ → Bool) (s : Chars) (n : ℕ) : Type 0 where
+  pub boundary : IsCharBoundary (chars_rest s) n
+  pub prefix_is : take n (chars_rest s) ≡ encode_utf8_all (prefix test (remaining_of s))
+  pub after_is : (t : Chars) → chars_rest t ≡ drop n (chars_rest s) → remaining_of t ≡ following test (remaining_of s)
+
+drop_prefix : (test : ℕ → Bool) (text : List ℕ) → drop (length (prefix test text)) text ≡ following test text
+drop_prefix test text = ap (drop (length (prefix test text))) (span_split test text) ∙ drop-append_seam (prefix test text) (following test text)
+
+take_prefix : (test : ℕ → Bool) (text : List ℕ) → take (length (prefix test text)) text ≡ prefix test text
+take_prefix test text = ap (take (length (prefix test text))) (span_split test text) ∙ take_at (prefix test text) (following test text) (length (prefix test text)) refl
+
+prefix_remaining : (test : ℕ → Bool) → IsByteTest test → (s : Chars) → IsUtf8 (chars_rest s) → prefix test (chars_rest s) ≡ encode_utf8_all (prefix test (remaining_of s))
+unfolding remaining_of
+prefix_remaining test h s utf8 = (cut_after_prefix test h (chars_rest s) utf8).prefix_is ∙ ap encode_utf8_all (sym (prefix_before_nul test h.0 (held s)))
+
+after_remaining : (test : ℕ → Bool) → IsByteTest test → (s t : Chars) → IsUtf8 (chars_rest s) → chars_rest t ≡ following test (chars_rest s) → remaining_of t ≡ following test (remaining_of s)
+unfolding remaining_of
+after_remaining test h s t utf8 e =
+    ap before_nul (ap chars e ∙ (cut_after_prefix test h (chars_rest s) utf8).after_is) ∙ sym (after_before_nul test h.0 (held s))
+
+pub run_of : (test : ℕ → Bool) → IsByteTest test → (s : Chars) (text bytes : List ℕ) (n : ℕ) → IsUtf8 text → text ≡ chars_rest s → bytes ≡ text → n ≡ length (prefix test bytes) → IsRun test s n
+run_of test h s text bytes n utf8 is same count =
+    let u : IsUtf8 (chars_rest s) = subst IsUtf8 is utf8 in
+    let len : n ≡ length (prefix test (chars_rest s)) = count ∙ ap (λ (bs : List ℕ). length (prefix test bs)) (same ∙ is) in
+    record {
+      boundary = subst (λ (k : ℕ). IsCharBoundary (chars_rest s) k) (sym len) (cut_after_prefix test h (chars_rest s) u).boundary;
+      prefix_is = ap (λ (k : ℕ). take k (chars_rest s)) len ∙ (take_prefix test (chars_rest s) ∙ prefix_remaining test h s u);
+      after_is = λ t e. after_remaining test h s t u (e ∙ (ap (λ (k : ℕ). drop k (chars_rest s)) len ∙ drop_prefix test (chars_rest s)));
+    }
+
+-- ---- a line ends at its line feed, or where the text ends
+
+to_feed : (cs : List ℕ) → following is_in_line (before_nul cs) ≡ following (λ c. not (is_line_feed c)) (before_nul cs)
+to_feed [] = refl
+to_feed (c ∷ cs) = elim (nat_eq c 0) as (λ (b : Bool). nat_eq c 0 ≡ b → following is_in_line (cond b [] (c ∷ before_nul cs)) ≡ following (λ d. not (is_line_feed d)) (cond b [] (c ∷ before_nul cs))) [
+  | true ↦ λ e. refl
+  | false ↦ λ e. rw e (elim (c == 10) as (λ (f : Bool). cond (not (f || false)) (following is_in_line (before_nul cs)) (c ∷ before_nul cs) ≡ cond (not f) (following (λ d. not (is_line_feed d)) (before_nul cs)) (c ∷ before_nul cs)) [ true ↦ refl | false ↦ to_feed cs ])
+] refl
+
+pub line_after : (s : Chars) → following is_in_line (remaining_of s) ≡ following (λ c. not (is_line_feed c)) (remaining_of s)
+unfolding remaining_of
+line_after s = to_feed (held s)

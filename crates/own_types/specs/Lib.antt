@@ -1,4 +1,0 @@
-pub mod Command
-pub mod Event
-pub mod Message
-pub mod Signal

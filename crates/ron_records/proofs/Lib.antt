@@ -1,3 +1,0 @@
-pub mod Pending
-pub mod WrittenFields
-pub mod VariantReaders

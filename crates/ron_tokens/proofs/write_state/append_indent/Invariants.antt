@@ -1,8 +1,0 @@
-use Rattle.std.proofs.Common.{◌≡◌, ◌++◌, string_bytes}
-use Rattle.ron_tokens.specs.Written.{indent}
-use Rattle.ron_tokens.proofs.write_state.append_indent.Given as goal
-
-abbrev pub invariant-loop-level : goal.invariant-loop-level
-invariant-loop-level l = record {
-  out : string_bytes l.out ≡ string_bytes l.fn.out ++ indent l._level;
-}

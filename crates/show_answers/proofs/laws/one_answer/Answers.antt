@@ -1,5 +1,0 @@
-use Rattle.show_answers.proofs.AnswerLemmas.{one_answer, every_kind}
-use Rattle.show_answers.proofs.laws.one_answer.Goals as goal
-
-pub returns : goal.returns
-returns c = one_answer _ (every_kind _ c.all_tied.ensures)

@@ -1,0 +1,26 @@
+//! Tests of user-defined types over the public surfaces of `nanoserde` and `example_types`. They are
+//! a crate of their own, so that they are proved beside them.
+#![tactic(auto)]
+
+#[cfg(test)]
+mod bin_tests;
+#[cfg(test)]
+mod call_tests;
+#[cfg(test)]
+mod checks;
+#[cfg(test)]
+mod fault_tests;
+#[cfg(test)]
+mod json_tests;
+#[cfg(test)]
+mod part_tests;
+#[cfg(test)]
+mod record_tests;
+#[cfg(test)]
+mod ron_tests;
+#[cfg(test)]
+mod row_tests;
+#[cfg(test)]
+mod type_checks;
+#[cfg(test)]
+mod type_row_tests;

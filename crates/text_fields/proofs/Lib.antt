@@ -1,4 +1,0 @@
-pub mod LastFields
-pub mod FieldReading
-pub mod KnownNames
-pub mod StructReading

@@ -1,9 +1,0 @@
-//! Texts of either form, JSON or RON, as the end of a file's name says: values read from the whole
-//! of one and written, and what is wrong with a text, shown where it stands.
-#![tactic(auto)]
-
-mod form;
-mod refusal;
-
-pub use form::Form;
-pub use refusal::{Refusal, TextFault};
