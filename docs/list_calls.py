@@ -62,7 +62,7 @@ def public_functions(crate):
 
 
 def calls(path):
-    """The names that the file calls, those that it has under another name among them."""
+    """The names that the file calls, with those under another name."""
     text = COMMENT.sub("", path.read_text())
     names = set(re.findall(r"(?<!fn )\b(\w+)(?:::<[^()]*>)?\(", text))
     others = re.findall(r"\b(\w+) as (\w+)", text)
@@ -72,7 +72,7 @@ def calls(path):
 def test_files(below, libraries):
     """Each file that tests run, with its calls and the crates that they stand on."""
     for tests in below:
-        if tests.endswith("_tests"):
+        if tests.startswith("test_"):
             stands_on = all_below(below, tests)
             for crate in sorted(stands_on - set(libraries)):
                 for path in sorted(pathlib.Path("crates", crate, "src").glob("**/*.rt")):

@@ -30,12 +30,15 @@ VALUES = INSTANCES | set("Type List Bool ℕ Meaning Option T ListPunctuation Ga
 # The source files whose contracts are the headline, the crate whose types have the encodings that
 # these speak of, and the most lines of its definitions.
 HEADLINES = {
-    "bytes": (["nano_bin/src/traits.rt", "nano_bin/src/laws.rt"], "nano_bin", 400),
-    "JSON": (["nano_json/src/traits.rt", "nano_json/src/laws.rt"], "nano_json", 900),
-    "RON": (["nano_ron/src/traits.rt", "nano_ron/src/laws.rt"], "nano_ron", 1000),
+    "bytes": (["nano_bin/src/traits.rt"], "nano_bin", 400),
+    "JSON": (["nano_json/src/traits.rt"], "nano_json", 900),
+    "RON": (["nano_ron/src/traits.rt"], "nano_ron", 1000),
     "TOML": (["nano_toml/src/parser.rt"], None, 500),
+    "the place of an error of TOML": (["nano_toml/src/parser.rt"], None, None),
     "the program": (["nano_show_answers/src/answers.rt"], None, None),
 }
+# Clauses of the same calls that are a headline of their own, by the definition that they cite.
+APART = dict.fromkeys(["IsErrorAt", "IsFirstError"], "the place of an error of TOML")
 
 
 def conclusion(text):
@@ -164,9 +167,11 @@ def cited(places, types):
                 yield from (names[word] for word in WORD.findall(member.group(1)) if word in names)
 
 
-def closure(specs, places, types):
+def closure(specs, headline, places, types):
     """The items that the contracts of the sources rest on."""
-    queue = [specs.find(*name) for name in cited(places, types)]
+    own = {name for name, other in APART.items() if other == headline}
+    queue = [specs.find(*name) for name in cited(places, types)
+             if (name[2] in own if own else name[2] not in APART)]
     found = {}
     while queue:
         item = queue.pop()
@@ -184,7 +189,7 @@ def main():
     names = pathlib.Path("crates.txt").read_text().splitlines()
     order = [line.split(":")[0].split()[0] for line in names if line and line[0] != "#"]
     for headline, (places, types, most) in HEADLINES.items():
-        items = closure(specs, places, types)
+        items = closure(specs, headline, places, types)
         files = {}
         for item in items:
             files.setdefault(item.file, []).append(item)

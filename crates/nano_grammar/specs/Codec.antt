@@ -5,10 +5,9 @@ use Rattle.nano_grammar.specs.Cutting.{Cutting, IsValueText}
 use Rattle.nano_grammar.specs.Encoding.{Grammar, Encoding, StartsWith}
 use Rattle.nano_grammar.specs.Canonical.{Canonical, canonical_as}
 
--- a value is sound if no Some inside it holds a value whose canonical text begins with the
--- token for an absent value. The canonical text of a legal value is cut into its tokens. Those
--- of a sound legal value encode its meaning. What is encoded is sound. What is written with
--- the token for an absent value at its beginning has only encodings that begin so
+-- A value is sound if no Some in it holds one that is written beginning with the token for an
+-- absent value. The text of a legal value is cut into its tokens; those of a sound one encode it.
+-- What is encoded is sound. If what is written of a value begins so, each of its encodings does
 pub record Codec {T : Type 0} (c : Cutting T) (g : Grammar T) (A : Type 0) : Type 1 where
   pub canonical : Canonical c A
   pub encoding : Encoding g

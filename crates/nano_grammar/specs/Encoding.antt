@@ -4,8 +4,7 @@ use Rattle.nano_value.specs.Meaning.{Meaning}
 use Rattle.nano_grammar.specs.Items.{ListPunctuation, OneValue}
 use Rattle.nano_grammar.specs.Tokens.{NoneBeginsAnother}
 
--- what the encodings of values must know of a format's tokens: which of them may begin a
--- value, and which stands for an absent value
+-- of a format's tokens: which may begin a value, and which stands for an absent value
 pub record Grammar (T : Type 0) : Type 1 where
   pub may_begin : T → Type 0
   pub none : T

@@ -131,14 +131,14 @@ module _ {T : Type 0} {c : Cutting T} {g : Grammar T} (s : ListStyle c)
       (each_is_written (saturating_next d) xs h)
 
   each_reads_back : (xs : List A) → AllByRecursion f.encoding.legal (map f.canonical.means xs)
-      → (AllSound s are f) xs
+      → AllSound s are f xs
       → AllByRecursion (λ x. f.encoding.encodes (f.canonical.tokens x) (f.canonical.means x)) xs
   each_reads_back [] h k = tt
   each_reads_back (x ∷ xs) h k = (f.reads_back x h.0 k.0, each_reads_back xs h.1 k.1)
 
   -- the tokens of the items, between brackets
   pub items_read_back : (xs : List A) → AllByRecursion f.encoding.legal (map f.canonical.means xs)
-      → (AllSound s are f) xs
+      → AllSound s are f xs
       → EncodedList s.tokens f.encoding.encodes (list_tokens s f.canonical.tokens xs)
       (map f.canonical.means xs)
   items_read_back xs h k =
@@ -147,13 +147,13 @@ module _ {T : Type 0} {c : Cutting T} {g : Grammar T} (s : ListStyle c)
 
   pub each_is_sound : (xs : List A)
       → AllByRecursion (λ m. (ts : List T) × f.encoding.encodes ts m) (map f.canonical.means xs)
-      → (AllSound s are f) xs
+      → AllSound s are f xs
   each_is_sound [] h = tt
   each_is_sound (x ∷ xs) h = (f.encoded_is_sound x h.0.0 h.0.1, each_is_sound xs h.1)
 
   pub items_are_sound : (xs : List A) (ts : List T) (ms : List Meaning)
       → EncodedList s.tokens f.encoding.encodes ts ms → ms ≡ map f.canonical.means xs
-      → (AllSound s are f) xs
+      → AllSound s are f xs
   items_are_sound xs ts ms h e =
       each_is_sound xs
       (subst (AllByRecursion (λ m. (ts : List T) × f.encoding.encodes ts m)) e
@@ -167,7 +167,7 @@ module _ {T : Type 0} {c : Cutting T} {g : Grammar T} (s : ListStyle c)
 
   pub list_reads_back : (xs : List A)
       → (list_of s.tokens are f.encoding).legal (listed (map f.canonical.means xs))
-      → (AllSound s are f) xs
+      → AllSound s are f xs
       → (list_of s.tokens are f.encoding).encodes (list_tokens s f.canonical.tokens xs)
       (listed (map f.canonical.means xs))
   list_reads_back xs h k =
@@ -199,7 +199,7 @@ module _ {T : Type 0} {c : Cutting T} {g : Grammar T} (s : ListStyle c)
 
     pub array_reads_back : (xs : List A)
         → (array_of s.tokens are count f.encoding).legal (listed (map f.canonical.means xs))
-        → (AllSound s are f) xs
+        → AllSound s are f xs
         → (array_of s.tokens are count f.encoding).encodes (list_tokens s f.canonical.tokens xs)
         (listed (map f.canonical.means xs))
     array_reads_back xs h k =

@@ -73,7 +73,7 @@ module _ {T : Type 0} {c : Cutting T} (s : ListStyle c) (p : PairStyle c) {K V :
     (o : MeaningOrder) (v : Canonical c K) (w : Canonical c V) where
   pub map_same : (es fs : List (K × V))
       → table_means (table_of v.means w.means es) ≡ table_means (table_of v.means w.means fs)
-      → (d : ℕ) → (map_text s p o v w) d es ≡ (map_text s p o v w) d fs
+      → (d : ℕ) → map_text s p o v w d es ≡ map_text s p o v w d fs
   map_same es fs e d =
       let R = by_meaning v.means o in
       let W = pair_text p v w (saturating_next d) in
@@ -106,7 +106,7 @@ module _ {T : Type 0} {c : Cutting T} {g : Grammar T} (s : ListStyle c)
   -- what holds of all of a table holds of the entries in order
   entries_have : (P Q : Meaning → Type 0) (es : List (K × V))
       → AllOfTable P Q (table_of k.canonical.means v.canonical.means es)
-      → AllOfList (BothOfPair P Q) (map means_entry ((entries_of s are p divides o k v) es))
+      → AllOfList (BothOfPair P Q) (map means_entry (entries_of s are p divides o k v es))
   entries_have P Q es table =
       let R = by_meaning k.canonical.means o in
       let order = by_meaning-orders k.canonical.means o in
@@ -115,7 +115,7 @@ module _ {T : Type 0} {c : Cutting T} {g : Grammar T} (s : ListStyle c)
   entries_legal : (es : List (K × V))
       → LegalMap k.encoding.legal v.encoding.legal (means_map es)
       → AllOfList (BothOfPair k.encoding.legal v.encoding.legal)
-      (map means_entry ((entries_of s are p divides o k v) es))
+      (map means_entry (entries_of s are p divides o k v es))
   entries_legal es legal =
       let P = k.encoding.legal in
       let Q = v.encoding.legal in
@@ -141,8 +141,8 @@ module _ {T : Type 0} {c : Cutting T} {g : Grammar T} (s : ListStyle c)
       laid_out_written c s.tokens s.punctuation s.punctuation_is s.ends (s.gaps d) (s.gaps_are d)
       (pair_tokens p k.canonical v.canonical)
       (pair_text p k.canonical v.canonical (saturating_next d))
-      ((entries_of s are p divides o k v) es)
-      (each_entry_is_written (saturating_next d) ((entries_of s are p divides o k v) es)
+      (entries_of s are p divides o k v es)
+      (each_entry_is_written (saturating_next d) (entries_of s are p divides o k v es)
       all.items)
 
   abbrev EntryEncoded : List T → Meaning × Meaning → Type 0
@@ -150,7 +150,7 @@ module _ {T : Type 0} {c : Cutting T} {g : Grammar T} (s : ListStyle c)
 
   entries_read_back : (es : List (K × V))
       → AllByRecursion (BothOfPair k.encoding.legal v.encoding.legal) (map means_entry es)
-      → (AllSoundEntries s are p divides o k v) es
+      → AllSoundEntries s are p divides o k v es
       → AllByRecursion (λ e. EntryEncoded (pair_tokens p k.canonical v.canonical e) (means_entry e))
       es
   entries_read_back [] legal sound = tt
@@ -163,22 +163,22 @@ module _ {T : Type 0} {c : Cutting T} {g : Grammar T} (s : ListStyle c)
 
   pub map_reads_back : (es : List (K × V))
       → LegalMap k.encoding.legal v.encoding.legal (means_map es)
-      → (SoundEntries s are p divides o k v) es
+      → SoundEntries s are p divides o k v es
       → EncodesMap s.tokens p.token k.encoding.encodes v.encoding.encodes
       (map_tokens s p o k.canonical v.canonical es) (means_map es)
   map_reads_back es legal sound =
       let R = by_meaning k.canonical.means o in
       let order = by_meaning-orders k.canonical.means o in
       let all = entries_legal es legal in
-      let each = entries_read_back ((entries_of s are p divides o k v) es) all.items sound in
+      let each = entries_read_back (entries_of s are p divides o k v es) all.items sound in
       let same = table_of-ascending R k.canonical.means order v.canonical.means es in
       record {
-        part = map means_entry ((entries_of s are p divides o k v) es);
+        part = map means_entry (entries_of s are p divides o k v es);
         has = record {
           count = all.count;
           items = laid_out_encoded s.ends s.tokens EntryEncoded
               (pair_tokens p k.canonical v.canonical)
-              means_entry ((entries_of s are p divides o k v) es) each;
+              means_entry (entries_of s are p divides o k v es) each;
         };
         is = ap table_means (sym same);
       }
@@ -198,7 +198,7 @@ module _ {T : Type 0} {c : Cutting T} {g : Grammar T} (s : ListStyle c)
 
   entries_sound : (es : List (K × V))
       → AllByRecursion (BothOfPair KeyEncoded ValueEncoded) (map means_entry es)
-      → (AllSoundEntries s are p divides o k v) es
+      → AllSoundEntries s are p divides o k v es
   entries_sound [] h = tt
   entries_sound (e ∷ es) h =
       let key = k.encoded_is_sound e.0 h.0.0.0 h.0.0.1 in
@@ -207,7 +207,7 @@ module _ {T : Type 0} {c : Cutting T} {g : Grammar T} (s : ListStyle c)
 
   pub map_is_sound : (es : List (K × V)) (ts : List T)
       → EncodesMap s.tokens p.token k.encoding.encodes v.encoding.encodes ts (means_map es)
-      → (SoundEntries s are p divides o k v) es
+      → SoundEntries s are p divides o k v es
   map_is_sound es ts h =
       let encodes = each_is_encoded s.tokens EntryEncoded h.part ts h.has.items in
       let each = both_encoded h.part encodes in
@@ -218,7 +218,7 @@ module _ {T : Type 0} {c : Cutting T} {g : Grammar T} (s : ListStyle c)
       let all = all_of_last_values KeyEncoded ValueEncoded h.part list in
       let same = table_means-injective _ _ h.is in
       let table = subst (AllOfTable KeyEncoded ValueEncoded) (sym same) all in
-      entries_sound ((entries_of s are p divides o k v) es)
+      entries_sound (entries_of s are p divides o k v es)
       (entries_have KeyEncoded ValueEncoded es table).items
 
   abbrev pub map_codec : Codec c g (List (K × V))

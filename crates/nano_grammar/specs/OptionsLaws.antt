@@ -15,6 +15,9 @@ use Rattle.nano_grammar.specs.Canonical.{Canonical}
 use Rattle.nano_grammar.specs.Options.{NoneStyle, EncodesOption, option_text, option_tokens}
 use Rattle.nano_grammar.specs.Options.{SoundOption}
 
+pub some_injective : {A : Type 0} (x y : A) → Some x ≡ Some y → x ≡ y
+some_injective x y e = cc e
+
 -- ---- the encoding
 
 module _ {T : Type 0} (g : Grammar T) {A : Type 0} {P : A → Type 0} {S : List T → A → Type 0}
@@ -62,7 +65,7 @@ option_of {g = g} s =
 module _ {T : Type 0} {c : Cutting T} {g : Grammar T} (n : NoneStyle c g) {A : Type 0} where
   pub option_same : (w : Canonical c A) (x y : Option A)
       → optional (option_map w.means x) ≡ optional (option_map w.means y)
-      → (d : ℕ) → (option_text n) (w.text d) x ≡ (option_text n) (w.text d) y
+      → (d : ℕ) → option_text n (w.text d) x ≡ option_text n (w.text d) y
   option_same w None None e d = refl
   option_same w None (Some y) e d = absurd (cc)
   option_same w (Some x) None e d = absurd (cc)
@@ -72,7 +75,7 @@ module _ {T : Type 0} {c : Cutting T} {g : Grammar T} (n : NoneStyle c g) {A : T
   option_canonical w = record {
     means = λ x. optional (option_map w.means x);
     text = λ d. (option_text n) (w.text d);
-    tokens = (option_tokens n) w.tokens;
+    tokens = option_tokens n w.tokens;
     same_text = option_same w;
   }
 
@@ -108,7 +111,7 @@ module _ {T : Type 0} {c : Cutting T} {g : Grammar T} (n : NoneStyle c g) {A : T
   option_is_written (Some x) h d = f.is_written x (present_legal x h.part h.has h.is) d
 
   pub option_reads_back : (x : Option A) → (option_of f.encoding).legal (option_means x)
-      → (SoundOption n f) x
+      → SoundOption n f x
       → (option_of f.encoding).encodes (option_tokens n f.canonical.tokens x) (option_means x)
   option_reads_back None h k = record { part = None; has = refl; is = refl }
   option_reads_back (Some x) h k = record {
@@ -118,7 +121,7 @@ module _ {T : Type 0} {c : Cutting T} {g : Grammar T} (n : NoneStyle c g) {A : T
   }
 
   pub option_is_sound : (x : Option A) (ts : List T)
-      → (option_of f.encoding).encodes ts (option_means x) → (SoundOption n f) x
+      → (option_of f.encoding).encodes ts (option_means x) → SoundOption n f x
   option_is_sound None ts h = tt
   option_is_sound (Some x) ts h =
       let item = present_encoded x ts h.part h.has h.is in

@@ -60,32 +60,32 @@ module _ {T : Type 0} {c : Cutting T} {g : Grammar T} (s : ListStyle c)
   none_encoded : {X : Type 0} (es : List (K × V)) (ts : List T) → Encoded ts (found es false) → X
   none_encoded es ts h = no_list_is_unordered _ _ (sym h.is)
 
-  pub ordered_map_is_written : (es : List (K × V)) → Legal ((means s are p divides o k v R) es)
+  pub ordered_map_is_written : (es : List (K × V)) → Legal (means s are p divides o k v R es)
       → (d : ℕ)
-      → IsValueText c ((tokens s are p divides o k v R) es) ((text s are p divides o k v R) d es)
+      → IsValueText c (tokens s are p divides o k v R es) (text s are p divides o k v R d es)
   ordered_map_is_written es legal d =
       elim (is_sorted R es) as
       (λ b. Legal (found es b)
-      → IsValueText c ((tokens s are p divides o k v R) es)
-      ((text s are p divides o k v R) d es)) [
+      → IsValueText c (tokens s are p divides o k v R es)
+      (text s are p divides o k v R d es)) [
         | true ↦ λ h. map_is_written s are p divides o k v es h d
         | false ↦ none_legal es
       ] legal
 
-  pub ordered_map_reads_back : (es : List (K × V)) → Legal ((means s are p divides o k v R) es)
-      → (Sound s are p divides o k v R) es
-      → Encoded ((tokens s are p divides o k v R) es) ((means s are p divides o k v R) es)
+  pub ordered_map_reads_back : (es : List (K × V)) → Legal (means s are p divides o k v R es)
+      → Sound s are p divides o k v R es
+      → Encoded (tokens s are p divides o k v R es) (means s are p divides o k v R es)
   ordered_map_reads_back es legal sound =
       elim (is_sorted R es) as
-      (λ b. Legal (found es b) → Encoded ((tokens s are p divides o k v R) es) (found es b)) [
+      (λ b. Legal (found es b) → Encoded (tokens s are p divides o k v R es) (found es b)) [
         | true ↦ λ h. map_reads_back s are p divides o k v es h sound
         | false ↦ none_legal es
       ] legal
 
   pub ordered_map_is_sound : (es : List (K × V)) (ts : List T)
-      → Encoded ts ((means s are p divides o k v R) es) → (Sound s are p divides o k v R) es
+      → Encoded ts (means s are p divides o k v R es) → Sound s are p divides o k v R es
   ordered_map_is_sound es ts =
-      elim (is_sorted R es) as (λ b. Encoded ts (found es b) → (Sound s are p divides o k v R) es) [
+      elim (is_sorted R es) as (λ b. Encoded ts (found es b) → Sound s are p divides o k v R es) [
         | true ↦ map_is_sound s are p divides o k v es ts
         | false ↦ none_encoded es ts
       ]

@@ -43,13 +43,13 @@ and_then {g = g} punctuator s t =
 module _ {T : Type 0} {c : Cutting T} (p : PairStyle c) {A B : Type 0} (v : Canonical c A)
     (w : Canonical c B) where
   pub both_same : (x y : A × B) → v.means x.0 ≡ v.means y.0 → w.means x.1 ≡ w.means y.1
-      → (d : ℕ) → (pair_text p v w) d x ≡ (pair_text p v w) d y
+      → (d : ℕ) → pair_text p v w d x ≡ pair_text p v w d y
   both_same x y e k d i =
       v.same_text x.0 y.0 e d i ++ p.punctuator ∷ (p.gap ++ w.same_text x.1 y.1 k d i)
 
   pub next_same : (x y : A × B)
       → paired (pair_map v.means w.means x) ≡ paired (pair_map v.means w.means y)
-      → (d : ℕ) → (pair_text p v w) d x ≡ (pair_text p v w) d y
+      → (d : ℕ) → pair_text p v w d x ≡ pair_text p v w d y
   next_same x y e d =
       let same = both_injective (v.means x.0) (w.means x.1) (v.means y.0) (w.means y.1) e in
       both_same x y same.0 same.1 d
@@ -96,7 +96,7 @@ module _ {T : Type 0} {c : Cutting T} {g : Grammar T} (p : PairStyle c)
       let legal = parts_legal x k in
       both_are_written x legal.0 legal.1 d
 
-  pub next_reads_back : (x : A × B) → both_of.legal (both_mean x) → (BothSound p divides f h) x
+  pub next_reads_back : (x : A × B) → both_of.legal (both_mean x) → BothSound p divides f h x
       → both_of.encodes (pair_tokens p f.canonical h.canonical x) (both_mean x)
   next_reads_back x k sound =
       let legal = parts_legal x k in
@@ -109,7 +109,7 @@ module _ {T : Type 0} {c : Cutting T} {g : Grammar T} (p : PairStyle c)
       }
 
   pub next_is_sound : (x : A × B) (ts : List T) → both_of.encodes ts (both_mean x)
-      → (BothSound p divides f h) x
+      → BothSound p divides f h x
   next_is_sound x ts k =
       let same = both_injective _ _ k.part.0 k.part.1 k.is in
       let first = subst (f.encoding.encodes k.has.0) (sym same.0) k.has.3 in

@@ -74,7 +74,7 @@ set_of {g = g} punctuation are s = record {
 module _ {T : Type 0} {c : Cutting T} (s : ListStyle c) {K : Type 0} (o : MeaningOrder)
     (w : Canonical c K) where
   same_set_text : (xs ys : List K) → item_set w.means xs ≡ item_set w.means ys → (d : ℕ)
-      → (set_text s o w) d xs ≡ (set_text s o w) d ys
+      → set_text s o w d xs ≡ set_text s o w d ys
   same_set_text xs ys e d =
       let R = by_meaning w.means o in
       let W = w.text (saturating_next d) in
@@ -86,12 +86,12 @@ module _ {T : Type 0} {c : Cutting T} (s : ListStyle c) {K : Type 0} (o : Meanin
 
   pub set_same : (xs ys : List K)
       → set_means (item_set w.means xs) ≡ set_means (item_set w.means ys) → (d : ℕ)
-      → (set_text s o w) d xs ≡ (set_text s o w) d ys
+      → set_text s o w d xs ≡ set_text s o w d ys
   set_same xs ys e = same_set_text xs ys (set_means-injective _ _ e)
 
   pub ordered_same : (R : K → K → Ordering) (xs ys : List K)
       → ordered_means R w.means xs ≡ ordered_means R w.means ys → (d : ℕ)
-      → (set_text s o w) d xs ≡ (set_text s o w) d ys
+      → set_text s o w d xs ≡ set_text s o w d ys
   ordered_same R xs ys e = same_set_text xs ys (ordered_means-sets R w.means xs ys e)
 
   -- of hashed sets
@@ -121,34 +121,34 @@ module _ {T : Type 0} {c : Cutting T} {g : Grammar T} (s : ListStyle c)
 
   -- what holds of all of a set holds of the items in order
   items_have : (P : Meaning → Type 0) (ks : List K) → AllOfSet P (item_set f.canonical.means ks)
-      → AllOfList P (map f.canonical.means ((items_of s are o f) ks))
+      → AllOfList P (map f.canonical.means (items_of s are o f ks))
   items_have P ks set =
       let R = by_meaning f.canonical.means o in
       all_items R f.canonical.means (by_meaning-orders f.canonical.means o) P ks set
 
   items_legal : (ks : List K) → LegalSet f.encoding.legal (means_set ks)
-      → AllOfList f.encoding.legal (map f.canonical.means ((items_of s are o f) ks))
+      → AllOfList f.encoding.legal (map f.canonical.means (items_of s are o f ks))
   items_legal ks legal =
       let P = f.encoding.legal in
       items_have P ks (subst (AllOfSet P) (sym (set_means-injective _ _ legal.is)) legal.has)
 
   pub set_is_written : (ks : List K) → LegalSet f.encoding.legal (means_set ks) → (d : ℕ)
       → IsValueText c (set_tokens s o f.canonical ks) (set_text s o f.canonical d ks)
-  set_is_written ks legal = items_are_written s are f ((items_of s are o f) ks)
+  set_is_written ks legal = items_are_written s are f (items_of s are o f ks)
       (items_legal ks legal).items
 
   pub set_reads_back : (ks : List K) → LegalSet f.encoding.legal (means_set ks)
-      → (SoundSet s are o f) ks
+      → SoundSet s are o f ks
       → EncodesSet s.tokens f.encoding.encodes (set_tokens s o f.canonical ks) (means_set ks)
   set_reads_back ks legal sound =
       let R = by_meaning f.canonical.means o in
       let all = items_legal ks legal in
       let order = by_meaning-orders f.canonical.means o in
       record {
-        part = map f.canonical.means ((items_of s are o f) ks);
+        part = map f.canonical.means (items_of s are o f ks);
         has = record {
           count = all.count;
-          items = items_read_back s are f ((items_of s are o f) ks) all.items sound;
+          items = items_read_back s are f (items_of s are o f ks) all.items sound;
         };
         is = ap set_means (sym (item_set-ascending R f.canonical.means order ks));
       }
@@ -157,13 +157,13 @@ module _ {T : Type 0} {c : Cutting T} {g : Grammar T} (s : ListStyle c)
   ItemEncoded m = (ts : List T) × f.encoding.encodes ts m
 
   pub set_is_sound : (ks : List K) (ts : List T)
-      → EncodesSet s.tokens f.encoding.encodes ts (means_set ks) → (SoundSet s are o f) ks
+      → EncodesSet s.tokens f.encoding.encodes ts (means_set ks) → SoundSet s are o f ks
   set_is_sound ks ts h =
       let each = each_is_encoded s.tokens f.encoding.encodes h.part ts h.has.items in
       let all = all_of_items ItemEncoded h.part (record { count = h.has.count; items = each }) in
       let same = set_means-injective _ _ h.is in
       let set = subst (AllOfSet ItemEncoded) (sym same) all in
-      each_is_sound s are f ((items_of s are o f) ks) (items_have ItemEncoded ks set).items
+      each_is_sound s are f (items_of s are o f ks) (items_have ItemEncoded ks set).items
 
   -- of hashed sets
   abbrev pub set_codec : Codec c g (List K)
@@ -205,7 +205,7 @@ module _ {T : Type 0} {c : Cutting T} {g : Grammar T} (s : ListStyle c)
         ] legal
 
     pub ordered_reads_back : (ks : List K) → Legal (ordered_means R f.canonical.means ks)
-        → (SoundSet s are o f) ks
+        → SoundSet s are o f ks
         → Encoded (set_tokens s o f.canonical ks) (ordered_means R f.canonical.means ks)
     ordered_reads_back ks legal sound =
         elim (is_sorted R (marked ks)) as (λ b. Legal (found ks b)
@@ -215,9 +215,9 @@ module _ {T : Type 0} {c : Cutting T} {g : Grammar T} (s : ListStyle c)
         ] legal
 
     pub ordered_is_sound : (ks : List K) (ts : List T)
-        → Encoded ts (ordered_means R f.canonical.means ks) → (SoundSet s are o f) ks
+        → Encoded ts (ordered_means R f.canonical.means ks) → SoundSet s are o f ks
     ordered_is_sound ks ts =
-        elim (is_sorted R (marked ks)) as (λ b. Encoded ts (found ks b) → (SoundSet s are o f) ks) [
+        elim (is_sorted R (marked ks)) as (λ b. Encoded ts (found ks b) → SoundSet s are o f ks) [
           | true ↦ set_is_sound ks ts
           | false ↦ none_encoded ks ts
         ]

@@ -3,7 +3,7 @@
 -- A cut is a relation: `cut text token rest` says that the text begins with this token and
 -- leaves that rest. An encoding is a relation too: `encodes tokens value` says that these
 -- tokens, in this order, encode the value.
-use Rattle.std.specs.Prelude.{◌≡◌, ℕ, List, [], ◌∷◌, ◌++◌, Result, IfOk}
+use Rattle.std.specs.Prelude.{◌≡◌, ℕ, List, [], ◌∷◌, ◌++◌}
 
 -- a pending token, and the text after it
 pub record At (T : Type 0) : Type 0 where
@@ -67,18 +67,6 @@ module _ {T V : Type 0} (cut : List ℕ → T → List ℕ → Type 0) (encodes 
   -- no encoding of a value begins the text, with one more token or the end after it
   abbrev pub TextDecodesToNothing : List ℕ → Type 0
   TextDecodesToNothing text = (value : V) → TextDecodesTo text value → ⊥
-
--- a value that is read is encoded from here to there, by what it means
-abbrev pub Decodes : {T V A E : Type 0} → (List ℕ → T → List ℕ → Type 0) → (List T → V → Type 0)
-    → (A → V) → At T → At T → Result A E → Type 0
-Decodes cut encodes means start end result =
-    IfOk result (λ value. Spans cut encodes start end (means value))
-
--- a value that is read is encoded at the beginning of the text, by what it means
-abbrev pub DecodesText : {T V A E : Type 0} → (List ℕ → T → List ℕ → Type 0)
-    → (List T → V → Type 0) → (A → V) → List ℕ → Result A E → Type 0
-DecodesText cut encodes means text result =
-    IfOk result (λ value. TextDecodesTo cut encodes text (means value))
 
 -- ---- what is cut, and what follows it
 

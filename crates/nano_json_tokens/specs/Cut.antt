@@ -9,10 +9,11 @@ use Rattle.nano_text.specs.String.{IsString}
 use Rattle.nano_text.specs.declared.number.Number.TheVariants.{U64, I64, Dec}
 use Rattle.nano_json_tokens.specs.Token.{Token, str, u64, i64, f64, bool, null, colon, curly_open}
 use Rattle.nano_json_tokens.specs.Token.{curly_close, block_open, block_close, comma, end}
+use Rattle.nano_text.specs.Characters.{carriage_return, line_feed, tab}
 
 -- line feed, carriage return, tab, space
 abbrev pub is_space : ℕ → Bool
-is_space c = (((c == 10) || (c == 13)) || (c == 9)) || (c == 32)
+is_space c = (((c == line_feed) || (c == carriage_return)) || (c == tab)) || (c == 32)
 
 -- a character of a word: a letter or `_`
 abbrev pub is_word : ℕ → Bool

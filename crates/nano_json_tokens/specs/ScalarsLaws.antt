@@ -17,6 +17,7 @@ use Rattle.nano_json_tokens.specs.JsonLaws.{json}
 use Rattle.nano_json_tokens.specs.Token.{Token, str, u64, i64, bool, null, integer_of}
 use Rattle.nano_json_tokens.specs.Written.{written_truth, written_text}
 use Rattle.nano_json_tokens.specs.WrittenLaws.{signed_token}
+use Rattle.nano_grammar.specs.OptionsLaws.{some_injective}
 
 -- ---- which token carries what
 
@@ -38,9 +39,6 @@ unsigned_tokens = record {
   begins = u64_begins;
   some = u64_is_some;
 }
-
-pub some_injective : {A : Type 0} (x y : A) → Some x ≡ Some y → x ≡ y
-some_injective x y e = cc e
 
 pub integer_begins : (t : Token) (z : ℤ) → integer_of t ≡ Some z → MayBegin t
 integer_begins (u64 n) z e = tt

@@ -5,6 +5,9 @@ use Rattle.std.specs.Char.{digit_char}
 use Rattle.std.specs.List.{flat_map}
 use Rattle.nano_text.specs.String.{Piece, CodeUnit, plain, escaped, scalar, piece_text}
 use Rattle.nano_json_tokens.specs.Cut.{is_space}
+use Rattle.nano_text.specs.Characters.{backslash, backspace, carriage_return, form_feed, letter_b}
+use Rattle.nano_text.specs.Characters.{letter_f, letter_n, letter_r, letter_t, line_feed, quote}
+use Rattle.nano_text.specs.Characters.{tab}
 
 -- what may follow a written value: white space , : ] }
 abbrev pub may_follow : ℕ → Bool
@@ -31,18 +34,18 @@ four_digits c = record { a = 48; b = 48; c = digit_char (c / 16); d = digit_char
 
 -- a character that is written as itself
 abbrev pub stands_as_itself : ℕ → Bool
-stands_as_itself c = not (is_control c) && (not (c == 34) && not (c == 92))
+stands_as_itself c = not (is_control c) && (not (c == quote) && not (c == backslash))
 
 -- how a character stands in a written string: as itself, or by an escape
 abbrev pub written_piece : ℕ → Piece
 written_piece c =
-    if c == 8 then escaped 98
-    else if c == 12 then escaped 102
-    else if c == 10 then escaped 110
-    else if c == 13 then escaped 114
-    else if c == 9 then escaped 116
-    else if c == 92 then escaped 92
-    else if c == 34 then escaped 34
+    if c == backspace then escaped letter_b
+    else if c == form_feed then escaped letter_f
+    else if c == line_feed then escaped letter_n
+    else if c == carriage_return then escaped letter_r
+    else if c == tab then escaped letter_t
+    else if c == backslash then escaped backslash
+    else if c == quote then escaped quote
     else if is_control c then scalar (four_digits c)
     else plain c
 
@@ -53,4 +56,4 @@ written_characters cs = flat_map (λ c. piece_text (written_piece c)) cs
 -- a quote, each character as it stands in a written string, a quote; of a text by its bytes of
 -- UTF-8
 abbrev pub written_text : List ℕ → List ℕ
-written_text bytes = 34 ∷ (written_characters (chars bytes) ++ 34 ∷ [])
+written_text bytes = quote ∷ (written_characters (chars bytes) ++ quote ∷ [])

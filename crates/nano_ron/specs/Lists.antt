@@ -12,10 +12,11 @@ use Rattle.nano_ron_tokens.specs.Brackets.{block_punctuation, paren_punctuation}
 use Rattle.nano_ron_tokens.specs.RonLaws.{ron}
 use Rattle.nano_ron_tokens.specs.Styles.{indents, spaces}
 use Rattle.nano_ron_tokens.specs.Written.{indent}
+use Rattle.nano_text.specs.Characters.{line_feed}
 
 -- an item of a list at a level, on a line of its own, with a comma after it
 abbrev pub on_a_line : ℕ → List ℕ → List ℕ
-on_a_line d text = indent (saturating_next d) ++ (text ++ (44 ∷ (10 ∷ [])))
+on_a_line d text = indent (saturating_next d) ++ (text ++ (44 ∷ (line_feed ∷ [])))
 
 -- an item of a list at a level, after an indent, and after a comma unless it is the first
 abbrev pub after_indent : ℕ → Bool → List ℕ → List ℕ

@@ -1,6 +1,6 @@
 -- What the readers of values answer.
 use Rattle.std.specs.Prelude.{◌≡◌, ◌↔◌, ℕ, List, [], true, false, Result, IfOk, IfErr, string_bytes}
-use Rattle.nano_grammar.specs.Tokens.{At, Decodes as DecodesIn, DecodesText as DecodesTextIn}
+use Rattle.nano_grammar.specs.Tokens.{At, Spans, TextDecodesTo}
 use Rattle.nano_grammar.specs.Whole.{WholeDecodesTo, GoesOn, WholeDecodesToNothing, end_message}
 use Rattle.nano_ron_tokens.specs.Cut.{Cut}
 use Rattle.nano_ron_tokens.specs.Token.{Token, end as end_token}
@@ -14,11 +14,12 @@ Reports fact e = (e.memory ≡ false → fact) × (e.memory ≡ true → string_
 module _ {V A : Type 0} (encodes : List Token → V → Type 0) where
   -- a value that is read is encoded from here to there, by what it means
   abbrev pub Decodes : (A → V) → At Token → At Token → Result A DeRonErr → Type 0
-  Decodes means start end result = DecodesIn Cut encodes means start end result
+  Decodes means start end result = IfOk result (λ value. Spans Cut encodes start end (means value))
 
   -- a value that is read is encoded at the beginning of the text, by what it means
   abbrev pub DecodesText : (A → V) → List ℕ → Result A DeRonErr → Type 0
-  DecodesText means text result = DecodesTextIn Cut encodes means text result
+  DecodesText means text result = IfOk result
+      (λ value. TextDecodesTo Cut encodes text (means value))
 
   -- a value that is read is encoded by the whole input, by what it means
   abbrev pub DecodesWhole : (A → V) → List ℕ → Result A DeRonErr → Type 0
@@ -38,8 +39,7 @@ module _ {V A : Type 0} (encodes : List Token → V → Type 0) where
   RejectsWhole bytes result =
       IfErr result (Reports (WholeDecodesToNothing Cut encodes end_token bytes))
 
-  -- an error other than out of memory has the message `Cannot parse end ` exactly where a value
-  -- decodes, and another token or a NUL follows it
+  -- the message is `Cannot parse end ` exactly where a value decodes, and more comes after it
   abbrev pub NamesTheEnd : List ℕ → Result A DeRonErr → Type 0
   NamesTheEnd bytes result = IfErr result (λ e. e.memory ≡ false
       → (string_bytes e.msg ≡ end_message) ↔ GoesOn Cut encodes end_token bytes)

@@ -18,9 +18,7 @@ use Rattle.nano_ron_tokens.specs.Gaps.{IsGap, IsUnended}
 use Rattle.nano_ron_tokens.specs.Scan.{punctuator_of, word_token}
 use Rattle.nano_ron_tokens.proofs.LexemeKinds.{punctuator_kind, word_kind, number_kind, quoted_kind, single_kind, end_kind, unended_kind, only_punctuator, only_word, only_number, only_quoted, only_single, only_end, lexeme_stops}
 use Rattle.nano_ron_tokens.proofs.Skipping.{skips_one_way}
-
-some_injective : {A : Type 0} (x y : A) → Some x ≡ Some y → x ≡ y
-some_injective x y e = cc e
+use Rattle.nano_grammar.specs.OptionsLaws.{some_injective}
 
 pick : {A : Type 0} (b : Bool) (x y z : A) → cond b x y ≡ z → ((b ≡ true) × (x ≡ z)) ⊎ ((b ≡ false) × (y ≡ z))
 pick true x y z e = inl (refl, e)

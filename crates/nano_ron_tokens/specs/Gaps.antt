@@ -1,14 +1,15 @@
 -- What stands between tokens: white space and comments.
 use Rattle.std.specs.Prelude.{◌≡◌, ◌≢◌, ◌⊎◌, ℕ, ◌==◌, ◌||◌, Bool, true, List, [], ◌∷◌, ◌++◌, codes}
 use Rattle.std.specs.List.{AllByRecursion, flat_map}
+use Rattle.nano_text.specs.Characters.{carriage_return, line_feed, tab}
 
 -- line feed, carriage return, tab, space
 abbrev pub is_space : ℕ → Bool
-is_space c = (((c == 10) || (c == 13)) || (c == 9)) || (c == 32)
+is_space c = (((c == line_feed) || (c == carriage_return)) || (c == tab)) || (c == 32)
 
 -- no line feed stands in the characters
 abbrev pub IsOneLine : List ℕ → Type 0
-IsOneLine = AllByRecursion (λ c. c ≢ 10)
+IsOneLine = AllByRecursion (λ c. c ≢ line_feed)
 
 -- no `*/` stands in the characters
 abbrev pub HoldsNoEnd : List ℕ → Type 0
@@ -28,7 +29,7 @@ IsSkip (block cs) = HoldsNoEnd cs
 
 abbrev pub skip_text : Skip → List ℕ
 skip_text (space c) = c ∷ []
-skip_text (line cs) = codes "//" ++ (cs ++ 10 ∷ [])
+skip_text (line cs) = codes "//" ++ (cs ++ line_feed ∷ [])
 skip_text (block cs) = codes "/*" ++ (cs ++ codes "*/")
 
 -- any number of these

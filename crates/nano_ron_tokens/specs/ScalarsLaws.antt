@@ -20,6 +20,7 @@ use Rattle.nano_ron_tokens.specs.RonLaws.{ron}
 use Rattle.nano_ron_tokens.specs.Token.{Token, str, u64, i64, bool, integer_of, truth_of}
 use Rattle.nano_ron_tokens.specs.WrittenLaws.{written_truth, signed_token}
 use Rattle.nano_ron_tokens.specs.Written.{written_text}
+use Rattle.nano_grammar.specs.OptionsLaws.{some_injective}
 
 -- ---- which token carries what
 
@@ -41,9 +42,6 @@ unsigned_tokens = record {
   begins = u64_begins;
   some = u64_is_some;
 }
-
-pub some_injective : {A : Type 0} (x y : A) → Some x ≡ Some y → x ≡ y
-some_injective x y e = cc e
 
 pub integer_begins : (t : Token) (z : ℤ) → integer_of t ≡ Some z → MayBegin t
 integer_begins (u64 n) z e = tt

@@ -8,6 +8,7 @@ use Rattle.nano_ron_tokens.specs.Gaps.{HoldsNoEnd, is_space}
 use Rattle.nano_ron_tokens.specs.Outcomes.{Outgrows}
 use Rattle.nano_ron_tokens.specs.Token.{Token, ident, bool, colon, curly_open, curly_close}
 use Rattle.nano_ron_tokens.specs.Token.{block_open, block_close, comma, paren_open, paren_close}
+use Rattle.nano_text.specs.Characters.{line_feed}
 
 -- no lexeme, no number run, no string and no character that is a token stands here
 abbrev pub NoneLexeme : List ℕ → Type 0
@@ -68,7 +69,7 @@ IsStop body = (s : Skip) (more : List ℕ) → IsSkip s → body ≡ skip_text s
 
 -- the line and its line feed stand before the rest; or it has none, and nothing is left
 abbrev pub AfterLine : List ℕ → List ℕ → Type 0
-AfterLine text rest = ((cs : List ℕ) × (text ≡ cs ++ 10 ∷ rest) × IsOneLine cs)
+AfterLine text rest = ((cs : List ℕ) × (text ≡ cs ++ line_feed ∷ rest) × IsOneLine cs)
     ⊎ (IsOneLine text × (rest ≡ []))
 
 -- the first `*/` stands before the rest; or there is none, and nothing is left

@@ -3,13 +3,14 @@ use Rattle.std.specs.Prelude.{ℕ, [], ◌∷◌}
 use Rattle.nano_text.specs.Place.{saturating_next}
 use Rattle.nano_grammar.specs.Layouts.{Gaps}
 use Rattle.nano_ron_tokens.specs.Written.{indent}
+use Rattle.nano_text.specs.Characters.{line_feed}
 
 -- each item on a line of its own, with a comma after it
 abbrev pub lines : ℕ → Gaps ℕ
 lines d = record {
-  after_opening = 10 ∷ [];
+  after_opening = line_feed ∷ [];
   before_item = indent (saturating_next d);
-  after_comma = 10 ∷ [];
+  after_comma = line_feed ∷ [];
   before_closing = indent d;
 }
 

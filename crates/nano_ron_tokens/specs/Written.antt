@@ -4,6 +4,8 @@ use Rattle.std.specs.Prelude.{◌++◌, if◌then◌else◌, codes, chars}
 use Rattle.std.specs.List.{flat_map}
 use Rattle.nano_text.specs.String.{Piece, plain, escaped, piece_text}
 use Rattle.nano_ron_tokens.specs.Gaps.{is_space}
+use Rattle.nano_text.specs.Characters.{backslash, carriage_return, digit_0, letter_n, letter_r}
+use Rattle.nano_text.specs.Characters.{letter_t, line_feed, quote, tab}
 
 -- what may follow a written value: white space , : ) ] }
 abbrev pub may_follow : ℕ → Bool
@@ -23,18 +25,19 @@ indent (suc d) = codes "    " ++ indent d
 
 -- a character that is written as itself
 abbrev pub stands_as_itself : ℕ → Bool
-stands_as_itself c = not (c == 10) && (not (c == 13) && (not (c == 9) && (not (c == 0)
-    && (not (c == 92) && not (c == 34)))))
+stands_as_itself c = not (c == line_feed) &&
+    (not (c == carriage_return) && (not (c == tab) && (not (c == 0)
+    && (not (c == backslash) && not (c == quote)))))
 
 -- how a character stands in a written string: as itself, or by an escape
 abbrev pub written_piece : ℕ → Piece
 written_piece c =
-    if c == 10 then escaped 110
-    else if c == 13 then escaped 114
-    else if c == 9 then escaped 116
-    else if c == 0 then escaped 48
-    else if c == 92 then escaped 92
-    else if c == 34 then escaped 34
+    if c == line_feed then escaped letter_n
+    else if c == carriage_return then escaped letter_r
+    else if c == tab then escaped letter_t
+    else if c == 0 then escaped digit_0
+    else if c == backslash then escaped backslash
+    else if c == quote then escaped quote
     else plain c
 
 -- the characters of a text as they stand in a written string
@@ -44,4 +47,4 @@ written_characters cs = flat_map (λ c. piece_text (written_piece c)) cs
 -- a quote, each character as it stands in a written string, a quote; of a text by its bytes of
 -- UTF-8
 abbrev pub written_text : List ℕ → List ℕ
-written_text bytes = 34 ∷ (written_characters (chars bytes) ++ 34 ∷ [])
+written_text bytes = quote ∷ (written_characters (chars bytes) ++ quote ∷ [])

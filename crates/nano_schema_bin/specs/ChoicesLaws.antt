@@ -33,8 +33,8 @@ module _ {A : Type 0} (f : Codec A) where
   module _ {B : Type 0} (others : Chosen B) where
     pub next_meant : (from : ℕ) (x : Either A B)
         → either_is (λ a. tagged from (f.canonical.means a)) (others.means (suc from)) x
-        ≡ tagged (((by_next_tag f others) x).tag + from)
-        (content_of (variant (body f) others.bodies) ((by_next_tag f others) x))
+        ≡ tagged ((by_next_tag f others x).tag + from)
+        (content_of (variant (body f) others.bodies) (by_next_tag f others x))
     next_meant from (First x) = last_meant from x
     next_meant from (Later y) =
         let place = (others.by_tag y).tag in

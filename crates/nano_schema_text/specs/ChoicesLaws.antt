@@ -20,7 +20,7 @@ use Rattle.nano_schema_text.specs.Choices.{before, Placed, Content, Chosen, Choi
 module _ {T : Type 0} {c : Cutting T} {g : Grammar T} (s : VariantStyle c g) where
   -- ---- one variant among others
 
-  abbrev pub alone_placed : (Placed s) (Unit {0})
+  abbrev pub alone_placed : Placed s (Unit {0})
   alone_placed = record {
     means = λ _. nothing;
     text = λ name d x. s.alone_text name;
@@ -33,7 +33,7 @@ module _ {T : Type 0} {c : Cutting T} {g : Grammar T} (s : VariantStyle c g) whe
     after_text = λ _ _ _ _. refl;
   }
 
-  abbrev pub body_placed : (body : Body s) → (Placed s) body.Fields
+  abbrev pub body_placed : (body : Body s) → Placed s body.Fields
   body_placed body = record {
     means = body.codec.canonical.means;
     text = λ name d x. s.content_text name (body.codec.canonical.text d x);
@@ -49,14 +49,14 @@ module _ {T : Type 0} {c : Cutting T} {g : Grammar T} (s : VariantStyle c g) whe
 module _ {T : Type 0} {c : Cutting T} {g : Grammar T} {s : VariantStyle c g} where
   module _ {A B : Type 0} (name : List ℕ) (p : Placed s A) (others : Chosen s B) where
     pub next_meant : (from : ℕ) (x : Either A B)
-        → seen_means from (p.put name others.variants) ((seen_next name p others) x)
+        → seen_means from (p.put name others.variants) (seen_next name p others x)
         ≡ either_is (λ a. tagged from (p.means a)) (others.means (suc from)) x
     next_meant from (First x) = p.here_means name others.variants from x
     next_meant from (Later y) =
         p.after_means name others.variants from (others.seen y) ∙ others.meant (suc from) y
 
     pub next_written : (d : ℕ) (x : Either A B)
-        → seen_text (p.put name others.variants) d ((seen_next name p others) x)
+        → seen_text (p.put name others.variants) d (seen_next name p others x)
         ≡ either_is (p.text name d) (others.text d) x
     next_written d (First x) = p.here_text name others.variants d x
     next_written d (Later y) =

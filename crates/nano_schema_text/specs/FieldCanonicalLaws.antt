@@ -30,7 +30,7 @@ module _ {T : Type 0} {c : Cutting T} {g : Grammar T} (s : FieldStyle c g) where
 
   module _ {A : Type 0} (name : List ℕ) (w : Canonical c A) where
     pub must_same : (x y : A) → w.means x ≡ w.means y → (d : ℕ)
-        → map ((field_text s) d) (written_field name w x ∷ []) ≡ map ((field_text s) d)
+        → map (field_text s d) (written_field name w x ∷ []) ≡ map (field_text s d)
         (written_field name w y ∷ [])
     must_same x y e d =
         ap (λ l. (s.name_text name ++ s.pair.punctuator ∷ (s.pair.gap ++ l)) ∷ [])
@@ -38,7 +38,7 @@ module _ {T : Type 0} {c : Cutting T} {g : Grammar T} (s : FieldStyle c g) where
 
     pub may_same : (x y : Option A)
         → optional (option_map w.means x) ≡ optional (option_map w.means y) → (d : ℕ)
-        → map ((field_text s) d) (written_if_some name w x) ≡ map ((field_text s) d)
+        → map (field_text s d) (written_if_some name w x) ≡ map (field_text s d)
         (written_if_some name w y)
     may_same None None e d = refl
     may_same None (Some y) e d = absurd (cc)
@@ -46,7 +46,7 @@ module _ {T : Type 0} {c : Cutting T} {g : Grammar T} (s : FieldStyle c g) where
     may_same (Some x) (Some y) e d = must_same x y (both_injective _ _ _ _ e).0 d
 
     -- a field that is always written
-    abbrev pub must_write : (FieldsCanonical s) A
+    abbrev pub must_write : FieldsCanonical s A
     must_write = record {
       means = w.means;
       names = name ∷ [];
@@ -55,7 +55,7 @@ module _ {T : Type 0} {c : Cutting T} {g : Grammar T} (s : FieldStyle c g) where
     }
 
     -- a field that is not written where it is none
-    abbrev pub may_write : (FieldsCanonical s) (Option A)
+    abbrev pub may_write : FieldsCanonical s (Option A)
     may_write = record {
       means = λ x. optional (option_map w.means x);
       names = name ∷ [];
@@ -65,20 +65,20 @@ module _ {T : Type 0} {c : Cutting T} {g : Grammar T} (s : FieldStyle c g) where
 
   -- ---- fields, and more fields
 
-  module _ {A B : Type 0} (v : FieldsCanonical A) (w : FieldsCanonical B) where
+  module _ {A B : Type 0} (v : FieldsCanonical s A) (w : FieldsCanonical s B) where
     pub also_same : (x y : A × B)
         → paired (pair_map v.means w.means x) ≡ paired (pair_map v.means w.means y) → (d : ℕ)
-        → map ((field_text s) d) (v.fields x.0 ++ w.fields x.1) ≡ map ((field_text s) d)
+        → map (field_text s d) (v.fields x.0 ++ w.fields x.1) ≡ map (field_text s d)
         (v.fields y.0 ++ w.fields y.1)
     also_same x y e d =
         let same = both_injective (v.means x.0) (w.means x.1) (v.means y.0) (w.means y.1) e in
         let first = v.same_texts x.0 y.0 same.0 d in
         let second = w.same_texts x.1 y.1 same.1 d in
-        map-append ((field_text s) d) (v.fields x.0) (w.fields x.1)
+        map-append (field_text s d) (v.fields x.0) (w.fields x.1)
         ∙ ((λ i. first i ++ second i)
-        ∙ sym (map-append ((field_text s) d) (v.fields y.0) (w.fields y.1)))
+        ∙ sym (map-append (field_text s d) (v.fields y.0) (w.fields y.1)))
 
-    abbrev pub also_write : (FieldsCanonical s) (A × B)
+    abbrev pub also_write : FieldsCanonical s (A × B)
     also_write = record {
       means = λ x. paired (pair_map v.means w.means x);
       names = v.names ++ w.names;
@@ -88,11 +88,11 @@ module _ {T : Type 0} {c : Cutting T} {g : Grammar T} (s : FieldStyle c g) where
 
   -- ---- a struct
 
-  module _ {A : Type 0} (w : FieldsCanonical A) where
+  module _ {A : Type 0} (w : FieldsCanonical s A) where
     pub struct_same : (x y : A) → w.means x ≡ w.means y → (d : ℕ)
-        → (fields_text s) d (w.fields x) ≡ (fields_text s) d (w.fields y)
+        → fields_text s d (w.fields x) ≡ fields_text s d (w.fields y)
     struct_same x y e d =
-        let each = (field_text s) (saturating_next d) in
+        let each = field_text s (saturating_next d) in
         laid_out_same s.list.ends (s.list.gaps d) s.list.punctuation each each (w.fields x)
         (w.fields y)
         (w.same_texts x y e (saturating_next d))

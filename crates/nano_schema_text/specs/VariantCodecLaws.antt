@@ -17,13 +17,14 @@ use Rattle.nano_schema_text.specs.Variants.{VariantStyle, Variants, no_variants,
 use Rattle.nano_schema_text.specs.Variants.{variant, has_name, names_differ, unit_named, found}
 use Rattle.nano_schema_text.specs.Variants.{either_found, content_named, sums_of, EncodesFound}
 use Rattle.nano_schema_text.specs.Variants.{EncodesFrom, EncodesVariant}
-use Rattle.nano_schema_text.specs.VariantLaws.{some_injective, unit_has_name, other_name}
+use Rattle.nano_schema_text.specs.VariantLaws.{unit_has_name, other_name}
 use Rattle.nano_schema_text.specs.VariantLaws.{content_has_name, unit_is_legal, found_is_legal}
 use Rattle.nano_schema_text.specs.VariantLaws.{variants_of}
 use Rattle.nano_schema_text.specs.VariantCanonical.{Body, encodings, Seen, tag_of, seen_means}
 use Rattle.nano_schema_text.specs.VariantCanonical.{seen_text, seen_tokens, names_are_good}
 use Rattle.nano_schema_text.specs.VariantCanonicalLaws.{first_is_none_after, variants_canonical}
 use Rattle.nano_schema_text.specs.VariantCodec.{SoundContent}
+use Rattle.nano_grammar.specs.OptionsLaws.{some_injective}
 
 -- ---- the laws of it
 

@@ -15,9 +15,7 @@ use Rattle.nano_schema_text.specs.Variants.{variant, has_name, names_differ, uni
 use Rattle.nano_schema_text.specs.Variants.{nobody, found, either_found, content_named, sums_of}
 use Rattle.nano_schema_text.specs.Variants.{LegalEncoded, Closed, EncodesFound, NameAlone}
 use Rattle.nano_schema_text.specs.Variants.{NameAndContent, EncodesVariant}
-
-pub some_injective : {A : Type 0} (x y : A) → Some x ≡ Some y → x ≡ y
-some_injective x y e = cc e
+use Rattle.nano_grammar.specs.OptionsLaws.{some_injective}
 
 -- ---- names
 

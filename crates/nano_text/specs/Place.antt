@@ -4,6 +4,7 @@ use Rattle.std.specs.Prelude.{nat_lt, nat_le, chars, if◌then◌else◌, min, �
 use Rattle.std.specs.Str.Iter.{chars_rest}
 use Rattle.std.specs.declared.str.Chars.{Chars}
 use Rattle.nano_text.specs.declared.place.Place.{Place}
+use Rattle.nano_text.specs.Characters.{line_feed}
 
 -- the characters that an iterator over a text still holds
 abbrev pub held : Chars → List ℕ
@@ -39,7 +40,7 @@ saturating_next n = min (n + 1) (2 ^ 64 - 1)
 abbrev pub place_after : Place → List ℕ → Place
 place_after place [] = record place { cur = 0 }
 place_after place (c ∷ cs) =
-    if c == 10
+    if c == line_feed
     then record { cur = c; line = saturating_next place.line; col = 0 }
     else record { cur = c; line = place.line; col = saturating_next place.col }
 
@@ -60,7 +61,7 @@ pub record Passes (old : Place) (before : List ℕ) (new : Place) (after : List 
 
 -- the byte of a line feed, which is its character
 abbrev pub is_line_feed : ℕ → Bool
-is_line_feed b = b == 10
+is_line_feed b = b == line_feed
 
 -- a byte of UTF-8 that a character begins with
 abbrev pub begins_character : ℕ → Bool

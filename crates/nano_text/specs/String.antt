@@ -4,6 +4,9 @@ use Rattle.std.specs.Prelude.{◌≡◌, ◌≢◌, ℕ, ◌+◌, ◌-◌, ◌*�
 use Rattle.std.specs.Prelude.{Bool, true, List, [], ◌∷◌, ◌++◌, flat_map, map, if◌then◌else◌}
 use Rattle.std.specs.Char.{digit_value, is_ascii_hexdigit}
 use Rattle.std.specs.List.{AllByRecursion}
+use Rattle.nano_text.specs.Characters.{backspace, tab, line_feed, form_feed, carriage_return, quote}
+use Rattle.nano_text.specs.Characters.{digit_0, backslash, letter_b, letter_f, letter_n, letter_r}
+use Rattle.nano_text.specs.Characters.{letter_t, letter_u}
 
 -- a code unit of UTF-16, by its four hexadecimal digits
 pub record CodeUnit : Type 0 where
@@ -14,7 +17,7 @@ pub record CodeUnit : Type 0 where
 
 -- a character that stands for itself: no quote, no backslash, no NUL
 abbrev pub is_plain : ℕ → Bool
-is_plain c = not (c == 34) && (not (c == 92) && not (c == 0))
+is_plain c = not (c == quote) && (not (c == backslash) && not (c == 0))
 
 -- the same, and no control character
 abbrev pub is_plain_in_line : ℕ → Bool
@@ -44,15 +47,17 @@ IsHex u = (is_ascii_hexdigit u.a ≡ true) × (is_ascii_hexdigit u.b ≡ true)
 -- how a piece is written
 abbrev pub piece_text : Piece → List ℕ
 piece_text (plain c) = c ∷ []
-piece_text (escaped c) = 92 ∷ (c ∷ [])
-piece_text (scalar u) = 92 ∷ (117 ∷ unit_text u)
-piece_text (pair u v) = 92 ∷ (117 ∷ (unit_text u ++ (92 ∷ (117 ∷ unit_text v))))
+piece_text (escaped c) = backslash ∷ (c ∷ [])
+piece_text (scalar u) = backslash ∷ (letter_u ∷ unit_text u)
+piece_text (pair u v) = backslash ∷
+    (letter_u ∷ (unit_text u ++ (backslash ∷ (letter_u ∷ unit_text v))))
 
 -- what an escape of one character stands for: n r t b f 0, and else itself
 abbrev pub escaped_char : ℕ → ℕ
 escaped_char c =
-    if c == 110 then 10 else if c == 114 then 13 else if c == 116 then 9
-    else if c == 98 then 8 else if c == 102 then 12 else if c == 48 then 0 else c
+    if c == letter_n then line_feed else if c == letter_r then carriage_return
+    else if c == letter_t then tab else if c == letter_b then backspace
+    else if c == letter_f then form_feed else if c == digit_0 then 0 else c
 
 -- the character that a piece stands for
 abbrev pub piece_char : Piece → ℕ
@@ -64,8 +69,8 @@ piece_char (pair u v) = 0x10000 + (unit_value u - 0xD800) * 0x400 + (unit_value 
 -- a plain character is no quote, backslash or NUL; u begins no escape of one character; a code unit
 -- alone is no surrogate
 abbrev pub IsPiece : Piece → Type 0
-IsPiece (plain c) = (c ≢ 34) × (c ≢ 92) × (c ≢ 0)
-IsPiece (escaped c) = (c ≢ 117) × (c ≢ 0)
+IsPiece (plain c) = (c ≢ quote) × (c ≢ backslash) × (c ≢ 0)
+IsPiece (escaped c) = (c ≢ letter_u) × (c ≢ 0)
 IsPiece (scalar u) = IsHex u × ((unit_value u < 0xD800) ⊎ (0xE000 ≤ unit_value u))
 IsPiece (pair u v) = IsHex u × IsHex v
     × (0xD800 ≤ unit_value u) × (unit_value u < 0xDC00)
@@ -75,5 +80,5 @@ IsPiece (pair u v) = IsHex u × IsHex v
 pub record IsString (text characters rest : List ℕ) : Type 0 where
   pub pieces : List Piece
   pub good : AllByRecursion IsPiece pieces
-  pub split : text ≡ 34 ∷ (flat_map piece_text pieces ++ 34 ∷ rest)
+  pub split : text ≡ quote ∷ (flat_map piece_text pieces ++ quote ∷ rest)
   pub characters_are : characters ≡ map piece_char pieces

@@ -9,7 +9,7 @@ ghost use Rattle.nano_text.specs.Outcomes.{Counts};
 ghost use Rattle.nano_text.specs.Place.{begins_character, text_at};
 ghost use Rattle.nano_text.specs.String.{IsString, escaped_char, is_plain_in_line};
 
-use crate::place::Place;
+use crate::place::{Place, begins_character};
 use std::str::Chars;
 
 const BACKSPACE: char = '\u{8}';
@@ -21,13 +21,6 @@ fn is_plain_in_line(byte: u8) -> bool
     ensures { result ≡ is_plain_in_line byte }
 {
     byte >= b' ' && byte != b'"' && byte != b'\\'
-}
-
-/// Whether a character begins with this byte of UTF-8.
-fn begins_character(byte: u8) -> bool
-    ensures { result ≡ begins_character byte }
-{
-    byte < 0x80 || 0xC0 <= byte
 }
 
 /// Whether a byte surely is an ASCII character that stands for itself in a string, and in its
@@ -69,7 +62,7 @@ fn ascii_run(bytes: &[u8]) -> usize
 
 /// The longest prefix of some bytes that stands for itself in its line.
 #[derive(Clone, Copy)]
-struct PlainRun {
+struct LineRun {
     /// How many bytes it has.
     len: usize,
     /// How many characters.
@@ -78,7 +71,7 @@ struct PlainRun {
 
 /// Measures the bytes before the first that is odd.
 #[inline(always)]
-fn plain_run(bytes: &[u8]) -> PlainRun
+fn line_run(bytes: &[u8]) -> LineRun
     ensures len { result.len ≡ length (prefix is_plain_in_line bytes.now) }
     ensures columns { result.columns
         ≡ count_by begins_character (prefix is_plain_in_line bytes.now) }
@@ -88,13 +81,13 @@ fn plain_run(bytes: &[u8]) -> PlainRun
     for (more, byte) in bytes[ascii..].iter().enumerate() {
         if !is_plain_in_line(*byte) {
             let len = ascii + more;
-            return PlainRun { len, columns };
+            return LineRun { len, columns };
         }
         if begins_character(*byte) {
             columns += 1;
         }
     }
-    PlainRun {
+    LineRun {
         len: bytes.len(),
         columns,
     }
@@ -157,7 +150,7 @@ pub(crate) fn read_at_once(p: &mut Place, i: &mut Chars<'_>, strbuf: &mut String
     let mut col = p.col;
     let mut rest = i.as_str();
     'runs: loop {
-        let run = plain_run(rest.as_bytes());
+        let run = line_run(rest.as_bytes());
         let (plain, following) = rest.split_at(run.len);
         let Ok(()) = strbuf.push_str(plain) else {
             return false;

@@ -86,12 +86,16 @@ fn last_line(text: &str) -> &str
     }
 }
 
+/// Whether a character begins with this byte of UTF-8.
+pub(crate) fn begins_character(byte: u8) -> bool
+    ensures { result ≡ begins_character byte }
+{
+    byte < 0x80 || 0xC0 <= byte
+}
+
 /// How many characters these bytes of UTF-8 begin.
 fn characters(bytes: &[u8]) -> usize
     ensures { result ≡ count_by begins_character bytes.now }
 {
-    bytes
-        .iter()
-        .filter(|byte| **byte < 0x80 || 0xC0 <= **byte)
-        .count()
+    bytes.iter().filter(|byte| begins_character(**byte)).count()
 }

@@ -1,7 +1,8 @@
 -- White space and comments.
-use Rattle.std.proofs.Common.{◌≡◌, ℕ, ◌<◌, List, [], ◌∷◌, length, true, false, not, eqb, eqb-true, refl, ap, sym, ◌∙◌, inl, inr, true≢false, arith}
+use Rattle.std.proofs.Common.{◌≡◌, ℕ, ◌<◌, List, [], ◌∷◌, length, true, false, not, eqb, eqb-true, refl, ap, sym, ◌∙◌, inl, inr, true≢false, arith, Bool, cond, ◌||◌}
 use Rattle.std.proofs.lemmas.Bool.Decides.{eqb_tells}
 use Rattle.nano_toml.specs.Characters.{is_space, is_line_feed}
+use Rattle.nano_toml.specs.Skipped.{begins_gap}
 use Rattle.nano_toml.specs.Span.{begins, following}
 use Rattle.nano_toml.specs.Scan.{after_gaps}
 use Rattle.nano_toml.proofs.Spans.{after_not_longer}
@@ -33,3 +34,26 @@ gaps_at_space c text rest t n s =
 pub gaps_stop : (text : List ℕ) → begins (λ c. eqb c 35) text ≡ false → begins is_space text ≡ false → after_gaps false text ≡ text
 gaps_stop [] h s = refl
 gaps_stop (c ∷ cs) h s = rw (h, s) refl
+
+not_either : (a b : Bool) → (a || b) ≡ false → (a ≡ false) × (b ≡ false)
+not_either true b h = absurd (true≢false h)
+not_either false b h = (refl, h)
+
+-- no gap begins after the gaps
+pub after_no_gap : (comment : Bool) (text : List ℕ) → begins begins_gap (after_gaps comment text) ≡ false
+after_no_gap true [] = refl
+after_no_gap false [] = refl
+after_no_gap true (c ∷ cs) = elim (is_line_feed c) as (λ (b : Bool). begins begins_gap (cond b (after_gaps false cs) (after_gaps true cs)) ≡ false) [ true ↦ after_no_gap false cs | false ↦ after_no_gap true cs ]
+after_no_gap false (c ∷ cs) = elim (eqb_tells c 35) [
+  | inl h ↦ rw h.0 (after_no_gap true cs)
+  | inr h ↦ rw h.0 (elim (is_space c) as (λ (b : Bool). is_space c ≡ b → begins begins_gap (cond b (after_gaps false cs) (c ∷ cs)) ≡ false) [
+    | true ↦ λ s. after_no_gap false cs
+    | false ↦ λ s. rw (s, h.0) refl
+  ] refl)
+]
+
+pub gaps_none : (text : List ℕ) → begins begins_gap text ≡ false → after_gaps false text ≡ text
+gaps_none [] h = refl
+gaps_none (c ∷ cs) h =
+    let parts = not_either (is_space c) (eqb c 35) h in
+    rw (parts.1, parts.0) refl

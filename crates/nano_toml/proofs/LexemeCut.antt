@@ -77,7 +77,7 @@ string_quote text chars rest (empty split ends none) = (34 ∷ rest, split)
 string_quote text chars rest (short pieces some good split are) = (_, split)
 string_quote text chars rest (triple pieces good split ends are) = (_, split)
 
-number_lexeme : (text : List ℕ) → begins starts_number text ≡ true → lexeme_at text ≡ number_at text
+pub number_lexeme : (text : List ℕ) → begins starts_number text ≡ true → lexeme_at text ≡ number_at text
 number_lexeme [] h = cc h
 number_lexeme (c ∷ cs) h = at_number c cs h
 

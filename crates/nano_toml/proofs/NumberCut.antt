@@ -81,7 +81,7 @@ integer_of true true n next h = signed_of n next (nat_lt n (2 ^ 64)) (nat_le n (
 -- ---- a body is scanned
 
 -- digits and what may come after them begin with no letter
-no_letter : (letter d : ℕ) (run rest : List ℕ) → is_in_digits letter ≡ false → (d == letter) ≡ false → Each is_in_digits run → begins (λ c. c == letter) (run ++ d ∷ rest) ≡ false
+pub no_letter : (letter d : ℕ) (run rest : List ℕ) → is_in_digits letter ≡ false → (d == letter) ≡ false → Each is_in_digits run → begins (λ c. c == letter) (run ++ d ∷ rest) ≡ false
 no_letter letter d [] rest n e h = e
 no_letter letter d (c ∷ cs) rest n e h = elim (eqb_tells c letter) [ inl s ↦ absurd (true≢false (sym h.0 ∙ (ap is_in_digits s.1 ∙ n))) | inr s ↦ s.0 ]
 
@@ -107,7 +107,7 @@ stops_digits : (rest : List ℕ) → begins goes_on_integer rest ≡ false → b
 stops_digits [] h = refl
 stops_digits (c ∷ cs) h = goes_on_digits c h
 
-integer_ends : (minus : Bool) (whole rest : List ℕ) → begins goes_on_integer rest ≡ false → after_digits minus whole rest ≡ integer_at minus whole rest
+pub integer_ends : (minus : Bool) (whole rest : List ℕ) → begins goes_on_integer rest ≡ false → after_digits minus whole rest ≡ integer_at minus whole rest
 integer_ends minus whole [] h = refl
 integer_ends minus whole (c ∷ cs) h = rw (goes_on_point c h, goes_on_minus c h) refl
 

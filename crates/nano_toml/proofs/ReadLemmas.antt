@@ -8,6 +8,7 @@ use Rattle.nano_toml.specs.PrefixesLaws.{array_prefix, value_prefix, pair_of, st
 use Rattle.nano_toml.specs.Reading.{scalar_at, IsNext, EncodesNothing}
 use Rattle.nano_toml.specs.Statements.{Statement, pair, Encodes, AreStatements}
 use Rattle.nano_toml.specs.StatementTable.{IsLawful, EncodesNoTable}
+use Rattle.nano_toml.specs.Stops.{Fails}
 use Rattle.nano_toml.specs.Taken.{Next, a_token, the_end, nothing_yet, token_of, Took}
 use Rattle.nano_toml.specs.Token.{Token, close_bracket}
 use Rattle.nano_toml.specs.declared.token.TomlTok.{TomlTok}
@@ -19,7 +20,7 @@ use Rattle.nano_toml.proofs.StatementLemmas.{AreStatements-cons, AreStatements-o
 
 -- ---- tokens of a text
 
-Begins-push : (ts us : List Token) (text middle rest : List ℕ) → Begins ts text middle → Begins us middle rest → Begins (ts ++ us) text rest
+pub Begins-push : (ts us : List Token) (text middle rest : List ℕ) → Begins ts text middle → Begins us middle rest → Begins (ts ++ us) text rest
 Begins-push [] us text middle rest a b = subst (λ (m : List ℕ). Begins us m rest) (sym a) b
 Begins-push (t ∷ ts) us text middle rest a b = (a.0, a.1, Begins-push ts us a.0 middle rest a.2 b)
 
@@ -28,7 +29,7 @@ Tokens-append [] us text middle a b = subst (λ (m : List ℕ). Tokens m us) (sy
 Tokens-append (t ∷ ts) us text middle a b = (a.0, a.1, Tokens-append ts us a.0 middle a.2 b)
 
 -- the tokens of a text that begins with these go on with those of what is left
-Tokens-following : (ts all : List Token) (text now : List ℕ) → Begins ts text now → Tokens text all → (rest : List Token) × (all ≡ ts ++ rest) × Tokens now rest
+pub Tokens-following : (ts all : List Token) (text now : List ℕ) → Begins ts text now → Tokens text all → (rest : List Token) × (all ≡ ts ++ rest) × Tokens now rest
 Tokens-following [] all text now b k = (all, refl, subst (λ (m : List ℕ). Tokens m all) b k)
 Tokens-following (t ∷ ts) [] text now b k = absurd ((cut_in_one_way text).1 t b.0 b.1 k)
 Tokens-following (t ∷ ts) (u ∷ all) text now (middle, c, b) (other, d, k) =
@@ -43,12 +44,12 @@ Begins-shorter (t ∷ ts) text rest (middle, c, b) =
     let more = Begins-shorter ts middle rest b in
     omega arith
 
-nothing_cut : (text : List ℕ) (ts : List Token) → CutsNothing text → Tokens text ts → ⊥
+pub nothing_cut : (text : List ℕ) (ts : List Token) → CutsNothing text → Tokens text ts → ⊥
 nothing_cut text [] n k = n.1 k
 nothing_cut text (t ∷ ts) n k = n.0 t k.0 k.1
 
 -- an empty text has no tokens, which its end proves
-no_tokens : (ts : List Token) (text : List ℕ) → CutEnd text → Tokens text ts → ts ≡ []
+pub no_tokens : (ts : List Token) (text : List ℕ) → CutEnd text → Tokens text ts → ts ≡ []
 no_tokens [] text e k = refl
 no_tokens (t ∷ ts) text e (rest, c, k) = absurd ((cut_in_one_way text).1 t rest c e)
 
@@ -90,12 +91,6 @@ ParsesNothing-on f g text now on none ts k =
 
 pub ParsesNothing-cut : {A : Type 0} (f : List Token → Prefix A) (text : List ℕ) → CutsNothing text → ParsesNothing f text
 ParsesNothing-cut f text n ts k = absurd (nothing_cut text ts n k)
-
--- f finds nothing where this stands next
-abbrev pub Fails : {A : Type 0} → (List Token → Prefix A) → Next → Type 0
-Fails f (a_token t) = (more : List Token) → f (t ∷ more) ≡ nothing
-Fails f the_end = f [] ≡ nothing
-Fails f nothing_yet = Unit {0}
 
 pub ParsesNothing-fails : {A : Type 0} (f : List Token → Prefix A) (text rest : List ℕ) (n : Next) → Took text n rest → Fails f n → ParsesNothing f text
 ParsesNothing-fails f text rest (a_token t) k none [] e = absurd ((cut_in_one_way text).1 t rest k e)
@@ -162,7 +157,7 @@ Parses-shorter f text rest a (inr (ts, k, e, none)) = omega (arith, ap length no
 
 -- ---- closing brackets
 
-not_close : {A : Type 0} (f : List Token → Prefix A) (t : Token) (more : List Token) → (t ≡ close_bracket → ⊥) → closing f (t ∷ more) ≡ nothing
+pub not_close : {A : Type 0} (f : List Token → Prefix A) (t : Token) (more : List Token) → (t ≡ close_bracket → ⊥) → closing f (t ∷ more) ≡ nothing
 not_close f close_bracket more h = absurd (h refl)
 not_close f _ more h = refl
 

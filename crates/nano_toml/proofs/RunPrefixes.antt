@@ -87,6 +87,10 @@ drop_prefix test text = ap (drop (length (prefix test text))) (span_split test t
 take_prefix : (test : ℕ → Bool) (text : List ℕ) → take (length (prefix test text)) text ≡ prefix test text
 take_prefix test text = ap (take (length (prefix test text))) (span_split test text) ∙ take_at (prefix test text) (following test text) (length (prefix test text)) refl
 
+-- the bytes of a run, cut off a text by their number
+pub run_bytes : (test : ℕ → Bool) (text bytes : List ℕ) (n : ℕ) → bytes ≡ text → n ≡ length (prefix test bytes) → take n text ≡ prefix test bytes
+run_bytes test text bytes n same count = ap (λ (t : List ℕ). take n t) (sym same) ∙ (ap (λ (k : ℕ). take k bytes) count ∙ take_prefix test bytes)
+
 prefix_remaining : (test : ℕ → Bool) → IsByteTest test → (s : Chars) → IsUtf8 (chars_rest s) → prefix test (chars_rest s) ≡ encode_utf8_all (prefix test (remaining_of s))
 unfolding remaining_of
 prefix_remaining test h s utf8 = (cut_after_prefix test h (chars_rest s) utf8).prefix_is ∙ ap encode_utf8_all (sym (prefix_before_nul test h.0 (held s)))

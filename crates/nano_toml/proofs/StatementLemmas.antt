@@ -1,5 +1,5 @@
 -- Tokens are the statements of one list at most.
-use Rattle.std.proofs.Common.{◌≡◌, ℕ, Some, List, [], ◌∷◌, ◌++◌, sym, refl, ap, ◌∙◌, subst, inl, inr, ◌⊎◌}
+use Rattle.std.proofs.Common.{◌≡◌, ℕ, Some, List, [], ◌∷◌, ◌++◌, sym, refl, ap, ◌∙◌, subst, inl, inr, ◌⊎◌, append-nil}
 use Rattle.nano_toml.specs.Built.{IsPlain}
 use Rattle.nano_toml.specs.Data.{Data, Tables, tables}
 use Rattle.nano_toml.specs.Prefixes.{Prefix, closed, is_open, nothing}
@@ -18,7 +18,7 @@ pair_first : (t : Token) (name : List ℕ) (more : List Token) → IsName t name
 pair_first t name more (inl e) = ap (λ u. statement_prefix (u ∷ equals ∷ more)) e
 pair_first t name more (inr e) = ap (λ u. statement_prefix (u ∷ equals ∷ more)) e
 
-statement_prefix-closed : (s : Statement) (here more : List Token) → IsStatement IsClosed here s → statement_prefix (here ++ more) ≡ closed s more
+pub statement_prefix-closed : (s : Statement) (here more : List Token) → IsStatement IsClosed here s → statement_prefix (here ++ more) ≡ closed s more
 statement_prefix-closed (scope name) here more (t, n, e) = ap (λ ts. statement_prefix (ts ++ more)) e ∙ scope_first t name more n
 statement_prefix-closed (element name) here more e = ap (λ ts. statement_prefix (ts ++ more)) e
 statement_prefix-closed (pair name d) here more (t, value, n, k, e) =
@@ -173,3 +173,16 @@ prefix_plain ts rest s e = let f = found_closed (statement_prefix ts) ts s rest 
 
 pub prefix_open_plain : (ts : List Token) (s : Statement) → statement_prefix ts ≡ is_open s → IsPlain s
 prefix_open_plain ts s e = open_plain ts s (found_open (statement_prefix ts) ts s e (statement_prefix_found ts))
+
+-- a header is not open
+pub prefix_open_element : (ts : List Token) (key : List ℕ) → statement_prefix ts ≡ is_open (element key) → ⊥
+prefix_open_element ts key e =
+    let is = found_open (statement_prefix ts) ts (element key) e (statement_prefix_found ts) in
+    let clash : closed (element key) [] ≡ is_open (element key) = sym (ap statement_prefix is) ∙ e in
+    cc clash
+
+-- tokens that are closed to their end are a statement
+pub closed_statement : (ts : List Token) (s : Statement) → statement_prefix ts ≡ closed s [] → IsStatement IsClosed ts s
+closed_statement ts s e =
+    let found = found_closed (statement_prefix ts) ts s [] e (statement_prefix_found ts) in
+    subst (λ (us : List Token). IsStatement IsClosed us s) (sym (found.1 ∙ append-nil found.0)) found.2

@@ -3,11 +3,11 @@ use Rattle.std.proofs.Common.{◌≡◌, ℕ, List, String, Global, None, refl}
 use Rattle.nano_toml.specs.Data.{Values}
 use Rattle.nano_toml.specs.PrefixesLaws.{array_prefix, value_prefix, pair_prefix, element_prefix, header_prefix, statement_prefix}
 use Rattle.nano_toml.specs.Reading.{scalar_at}
+use Rattle.nano_toml.specs.Stops.{Fails}
 use Rattle.nano_toml.specs.Taken.{a_token, token_of}
 use Rattle.nano_toml.specs.Token.{close_bracket}
 use Rattle.nano_toml.specs.declared.token.TomlTok.{TomlTok}
 use Rattle.nano_toml.specs.declared.token.TomlTok.TheVariants as tok
-use Rattle.nano_toml.proofs.ReadLemmas.{Fails}
 
 pub no_close : (t : TomlTok) → (t ≡ tok.BlockClose → ⊥) → token_of t ≡ a_token close_bracket → ⊥
 no_close tok.BlockClose h e = h refl

@@ -3,6 +3,7 @@ pub mod Characters
 pub mod Cut
 pub mod Data
 pub mod ErrorText
+pub mod FirstError
 pub mod Prefixes
 pub mod PrefixesLaws
 pub mod Kinds
@@ -14,6 +15,8 @@ pub mod Place
 pub mod Plain
 pub mod Quoted
 pub mod Reading
+pub mod Remaining
+pub mod RemainingLaws
 pub mod SameData
 pub mod SameDataLaws
 pub mod Scan
@@ -22,6 +25,8 @@ pub mod Skipped
 pub mod Span
 pub mod StatementTable
 pub mod Statements
+pub mod Stops
+pub mod StopsLaws
 pub mod Taken
 pub mod Token
 pub mod View

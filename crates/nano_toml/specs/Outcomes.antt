@@ -12,7 +12,8 @@ use Rattle.nano_toml.specs.Taken.{token_of}
 use Rattle.nano_toml.specs.Token.{Token}
 use Rattle.nano_toml.specs.View.{view}
 use Rattle.nano_toml.specs.declared.fault.Fault.{Fault}
-use Rattle.nano_toml.specs.declared.fault.Fault.TheVariants.{Memory}
+use Rattle.nano_toml.specs.declared.fault.Fault.TheVariants.{Memory, Malformed}
+use Rattle.nano_toml.specs.declared.fault.Lexeme.{Lexeme}
 use Rattle.nano_toml.specs.declared.statements.Statement.{Statement}
 use Rattle.nano_toml.specs.declared.token.TomlTok.{TomlTok}
 use Rattle.nano_toml.specs.declared.value.Toml.{Toml}
@@ -24,6 +25,10 @@ OnFault result holds = IfErr result (λ e. e ≢ Memory → holds)
 -- the fault of the text that the call reports
 abbrev pub FaultIs : {A : Type 0} → Result A Fault → Fault → Type 0
 FaultIs result fault = IfErr result (λ e. e ≢ Memory → e ≡ fault)
+
+-- the fault of the text that the call tells is that of a lexeme
+abbrev pub ReportsLexeme : {A : Type 0} → Result A Fault → Type 0
+ReportsLexeme result = IfErr result (λ e. e ≢ Memory → (lexeme : Lexeme) × (e ≡ Malformed lexeme))
 
 -- the call appends more to the text
 abbrev pub Appends : String Global → String Global → List ℕ → Type 0

@@ -21,10 +21,19 @@ remaining_of rest = before_nul (held rest)
 abbrev pub remaining : Cursor → List ℕ
 remaining cursor = remaining_of cursor.rest
 
--- the characters of a text that were taken, where this is left, and the one that stands next
-abbrev pub taken : List ℕ → Chars → List ℕ
-taken bytes left = take (length (chars bytes) - (length (held left) - 1)) (chars bytes)
-
 -- the remaining input of a whole input
 abbrev pub remaining_text : List ℕ → List ℕ
 remaining_text bytes = before_nul (chars bytes)
+
+-- how many characters of an input stand before what remains
+abbrev pub before_count : List ℕ → List ℕ → ℕ
+before_count bytes remaining = length (remaining_text bytes) - length remaining
+
+-- how many characters of an input were taken, where this remains, with the one that stands next
+abbrev pub taken_count : List ℕ → List ℕ → ℕ
+taken_count bytes remaining =
+    length (chars bytes) - ((length (chars bytes) - before_count bytes remaining) - 1)
+
+-- the characters of an input that were taken, where this remains, and the one that stands next
+abbrev pub taken : List ℕ → List ℕ → List ℕ
+taken bytes remaining = take (taken_count bytes remaining) (chars bytes)

@@ -1,6 +1,6 @@
 -- What is skipped before a token: white space, and comments with the line feeds that end them.
-use Rattle.std.specs.Prelude.{◌≡◌, ℕ, true, List, [], ◌∷◌, ◌++◌, flat_map, Option, Some, None}
-use Rattle.std.specs.Prelude.{IfSome}
+use Rattle.std.specs.Prelude.{◌≡◌, ℕ, ◌==◌, ◌||◌, Bool, true, List, [], ◌∷◌, ◌++◌, flat_map, Option}
+use Rattle.std.specs.Prelude.{Some, None, IfSome}
 use Rattle.std.specs.List.{AllByRecursion}
 use Rattle.nano_toml.specs.Characters.{is_space, is_line_feed, NoneOf}
 
@@ -16,6 +16,10 @@ gap_text (comment body) = 35 ∷ (body ++ 10 ∷ [])
 abbrev pub IsGap : Gap → Type 0
 IsGap (space c) = is_space c ≡ true
 IsGap (comment body) = NoneOf is_line_feed body
+
+-- the character begins a gap: white space, or `#`
+abbrev pub begins_gap : ℕ → Bool
+begins_gap c = is_space c || (c == 35)
 
 abbrev pub AreGaps : List Gap → Type 0
 AreGaps gaps = AllByRecursion IsGap gaps

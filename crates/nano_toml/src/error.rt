@@ -1,6 +1,6 @@
 //! Why a text was rejected.
 
-use std::alloc::AllocError;
+use std::alloc::{AllocError, Global};
 use std::error::Error;
 use std::fmt;
 
@@ -31,14 +31,14 @@ impl TomlErr {
     ghost use Rattle.std.specs.Prelude.{◌≡◌, IfOk, string_bytes};
 
     /// A copy of the error. Copying itself fails only with out of memory.
-    pub fn clone(&self) -> Result<TomlErr, AllocError>
+    pub fn clone(&self, alloc: Global) -> Result<TomlErr, AllocError>
         ensures message { IfOk result (λ copy. string_bytes copy.msg ≡ string_bytes self.now.msg) }
         ensures line { IfOk result (λ copy. copy.line ≡ self.now.line) }
         ensures col { IfOk result (λ copy. copy.col ≡ self.now.col) }
         ensures memory { IfOk result (λ copy. copy.memory ≡ self.now.memory) }
     {
         Ok(TomlErr {
-            msg: self.msg.clone()?,
+            msg: String::from_str(alloc, self.msg.as_str())?,
             line: self.line,
             col: self.col,
             memory: self.memory,

@@ -3,9 +3,10 @@
 
 ghost use Rattle.std.specs.Prelude.{ℕ, List};
 ghost use Rattle.nano_toml.specs.Cut.{IsCutInOneWay};
+ghost use Rattle.nano_toml.specs.FirstError.{HasOneFirstError, IsFirstError};
 ghost use Rattle.nano_toml.specs.OneTable.{HasOneTable, EncodesOneTable};
 ghost use Rattle.nano_toml.specs.SameData.{EqIsReflexive, EqIsSymmetric, EqIsTransitive};
-ghost use Rattle.nano_toml.specs.StatementTable.{EncodesOneList};
+ghost use Rattle.nano_toml.specs.StatementTable.{EncodesOneList, EncodesNoTable};
 ghost use Rattle.nano_toml.specs.Statements.{Statement};
 
 /// Each value equals itself by `==`, `Nan` included.
@@ -41,4 +42,14 @@ pub fn list_has_one_table()
 /// A text encodes at most one table: two results of `parse` for one text have the same value.
 pub fn text_encodes_one_table()
     ensures { (text : List ℕ) → EncodesOneTable text }
+{}
+
+/// A text has one first error at most: so the place that `parse` tells is one place.
+pub fn text_has_one_first_error()
+    ensures { (text : List ℕ) → HasOneFirstError text }
+{}
+
+/// A text that has a first error encodes no table.
+pub fn text_with_an_error_encodes_no_table()
+    ensures { (text remaining : List ℕ) → IsFirstError text remaining → EncodesNoTable text }
 {}

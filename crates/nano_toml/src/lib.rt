@@ -2,9 +2,11 @@
 //! dates and arrays of these, and tables in arrays.
 #![tactic(auto)]
 
+mod arrays;
 pub mod error;
 mod fault;
 pub mod laws;
+mod named;
 mod numbers;
 mod parser;
 mod place;

@@ -1,19 +1,19 @@
 //! Numbers and dates.
 
-ghost use Rattle.std.specs.Prelude.{◌≡◌, ◌==◌, ◌^◌, ◌++◌, pos, neg_ℤ, nat_le, true};
+ghost use Rattle.std.specs.Prelude.{◌≡◌, ◌==◌, ◌^◌, ◌++◌, pos, neg_ℤ, nat_le, true, length};
 ghost use Rattle.std.specs.Prelude.{Some, None, OnOk, OnErr, IfOk, IfErr, string_bytes};
 ghost use Rattle.std.specs.Prelude.{if◌then◌else◌};
 ghost use Rattle.nano_toml.specs.Characters.{is_sign, is_digit, starts_number, is_in_digits};
 ghost use Rattle.nano_toml.specs.Characters.{is_in_date};
 ghost use Rattle.nano_toml.specs.RemainingText.{remaining};
 ghost use Rattle.nano_toml.specs.Number.{digits, value, unchanged_sign};
-ghost use Rattle.nano_toml.specs.Outcomes.{OnFault, FaultIs, Appends, Takes};
-ghost use Rattle.nano_toml.specs.Scan.{n_a_n, i_n_f, number_from};
+ghost use Rattle.nano_toml.specs.Outcomes.{OnFault, FaultIs, Appends, Takes, ReportsLexeme};
+ghost use Rattle.nano_toml.specs.Remaining.{point_remaining, number_remaining};
+ghost use Rattle.nano_toml.specs.Scan.{number_from};
 ghost use Rattle.nano_toml.specs.Scan.{tail, any_digit, fitting, more_value, decimal_at, date_at};
-ghost use Rattle.nano_toml.specs.Scan.{integer_from, word_at, number_at};
+ghost use Rattle.nano_toml.specs.Scan.{integer_from, number_at};
 ghost use Rattle.nano_toml.specs.Span.{prefix, following, begins};
 ghost use Rattle.nano_toml.specs.Taken.{token_of};
-ghost use Rattle.nano_toml.specs.Token.{nan, infinity};
 
 use crate::fault::{Fault, Lexeme};
 use crate::state::Cursor;
@@ -50,27 +50,36 @@ fn is_in_date(c: u8) -> bool
     is_digit(c) || c == b':' || c == b'-' || c == b'T'
 }
 
-/// Digits with underscores: whether there is a digit, and their value, unless it is too great.
+/// Digits with underscores: how many characters they are, whether there is a digit, and their
+/// value, unless it is too great.
 #[derive(Clone, Copy)]
 struct Digits {
+    len: usize,
     any: bool,
     value: Option<u64>,
 }
 
-/// What digits with underscores say.
-fn digits_of(run: &str) -> Digits
-    ensures any { result.any ≡ any_digit run.now }
-    ensures value { result.value ≡ fitting (value run.now) }
+/// Takes digits and underscores off the prefix of bytes, and builds their value digit by digit.
+fn digits_of(bytes: &[u8]) -> Digits
+    ensures len { result.len ≡ length (prefix is_in_digits bytes.now) }
+    ensures any { result.any ≡ any_digit (prefix is_in_digits bytes.now) }
+    ensures value { result.value ≡ fitting (value (prefix is_in_digits bytes.now)) }
 {
     let mut any = false;
     let mut value = Some(0);
-    for byte in run.as_bytes() {
+    for (len, byte) in bytes.iter().enumerate() {
         if is_digit(*byte) {
             any = true;
             value = with_digit(value, *byte);
+        } else if *byte != b'_' {
+            return Digits { len, any, value };
         }
     }
-    Digits { any, value }
+    Digits {
+        len: bytes.len(),
+        any,
+        value,
+    }
 }
 
 /// Whether there is a digit.
@@ -175,6 +184,20 @@ impl<'a> Cursor<'a> {
         self.take_while(is_in_digits)
     }
 
+    /// Takes digits and underscores, and what they say is found as they are taken.
+    fn read_integer(&mut self) -> (&'a str, Digits)
+        ensures text { result.0.now ≡ prefix is_in_digits (remaining self.old) }
+        ensures any { result.1.any ≡ any_digit result.0.now }
+        ensures value { result.1.value ≡ fitting (value result.0.now) }
+        ensures rest { remaining self.new ≡ following is_in_digits (remaining self.old) }
+    {
+        let held = self.rest.as_str();
+        let digits = digits_of(held.as_bytes());
+        let (run, rest) = held.split_at(digits.len);
+        self.rest = rest.chars();
+        (run, digits)
+    }
+
     /// Takes digits, `:`, `-` and `T`.
     fn read_rest_of_date(&mut self) -> &'a str
         ensures text { result.now ≡ prefix is_in_date (remaining self.old) }
@@ -189,6 +212,8 @@ impl<'a> Cursor<'a> {
             (decimal_at minus whole.now (remaining self.old)) (remaining self.new) }
         ensures rejected { OnFault result (decimal_at minus whole.now (remaining self.old) ≡ None) }
         ensures reported { FaultIs result (Fault.Malformed Lexeme.Number) }
+        ensures remaining { OnFault result
+            (remaining self.new ≡ following is_in_digits (remaining self.old)) }
     {
         let part = self.read_digits();
         let before = has_digit(whole);
@@ -214,47 +239,21 @@ impl<'a> Cursor<'a> {
         Ok(TomlTok::Date(text))
     }
 
-    /// Reads `nan`.
-    fn read_nan(&mut self, minus: bool) -> Result<TomlTok, Fault>
-        ensures found { Takes result (word_at (nan minus) n_a_n (remaining self.old)) (remaining self.new) }
-        ensures rejected { OnFault result (word_at (nan minus) n_a_n (remaining self.old) ≡ None) }
-        ensures reported { FaultIs result (Fault.Malformed Lexeme.Nan) }
-    {
-        if self.take(b'n') && self.take(b'a') && self.take(b'n') {
-            Ok(TomlTok::Nan(minus))
-        } else {
-            Err(Fault::Malformed(Lexeme::Nan))
-        }
-    }
-
-    /// Reads `inf`.
-    fn read_infinity(&mut self, minus: bool) -> Result<TomlTok, Fault>
-        ensures found { Takes result
-            (word_at (infinity minus) i_n_f (remaining self.old)) (remaining self.new) }
-        ensures rejected { OnFault result (word_at (infinity minus) i_n_f (remaining self.old) ≡ None) }
-    {
-        if !self.take(b'i') || !self.take(b'n') {
-            Err(Fault::Malformed(Lexeme::Nan))
-        } else if self.take(b'f') {
-            Ok(TomlTok::Inf(minus))
-        } else {
-            Err(Fault::Malformed(Lexeme::Infinity))
-        }
-    }
-
     /// Reads a number that starts with digits, after its sign.
     fn read_from_digits(&mut self, alloc: Global, minus: bool) -> Result<TomlTok, Fault>
         ensures found { Takes result (number_from minus (remaining self.old)) (remaining self.new) }
         ensures rejected { OnFault result (number_from minus (remaining self.old) ≡ None) }
         ensures reported { FaultIs result (Fault.Malformed Lexeme.Number) }
+        ensures remaining { OnFault result
+            (remaining self.new ≡ point_remaining (following is_in_digits (remaining self.old))) }
     {
-        let whole = self.read_digits();
+        let (whole, digits) = self.read_integer();
         if self.take(b'.') {
             self.read_decimal(alloc, minus, whole)
         } else if self.take(b'-') {
             Ok(self.read_date(alloc, minus, whole)?)
         } else {
-            integer(minus, digits_of(whole))
+            integer(minus, digits)
         }
     }
 
@@ -262,6 +261,8 @@ impl<'a> Cursor<'a> {
     pub(crate) fn read_number(&mut self, alloc: Global) -> Result<TomlTok, Fault>
         ensures found { Takes result (number_at (remaining self.old)) (remaining self.new) }
         ensures rejected { OnFault result (number_at (remaining self.old) ≡ None) }
+        ensures reported { ReportsLexeme result }
+        ensures remaining { OnFault result (remaining self.new ≡ number_remaining (remaining self.old)) }
     {
         let minus = self.read_sign();
         let first = self.first();

@@ -2,6 +2,7 @@
 
 ghost use Rattle.std.specs.Prelude.{◌≡◌, [], true, false, IfOk, IfErr, chars, string_bytes};
 ghost use Rattle.nano_toml.specs.ErrorText.{Reports, IsMessage};
+ghost use Rattle.nano_toml.specs.FirstError.{IsErrorAt, IsFirstError};
 ghost use Rattle.nano_toml.specs.RemainingText.{remaining, remaining_text, taken};
 ghost use Rattle.nano_toml.specs.Outcomes.{OnFault};
 ghost use Rattle.nano_toml.specs.Place.{IsPlaceIn, line_of, column_of};
@@ -29,6 +30,8 @@ fn read_table(reader: &mut Reader) -> Result<Table, Fault>
     ensures found { IfOk result
         (λ table. EncodesTable (remaining reader.old.cursor) (table_view table.entries)) }
     ensures rejected { OnFault result (EncodesNoTable (remaining reader.old.cursor)) }
+    ensures error { OnFault result
+        (IsFirstError (remaining reader.old.cursor) (remaining reader.new.cursor)) }
 {
     let mut builder = Builder::new(reader.alloc);
     'statements: while let Some(statement) = reader.read_statement()? {
@@ -59,8 +62,8 @@ fn message(alloc: Global, fault: Fault) -> Result<String, AllocError>
 
 // The error of a fault that was found where the reader of the text stands.
 fn error_at(input: &str, reader: &Reader, fault: Fault) -> TomlErr
-    ensures line { result.line ≡ line_of (taken input.now reader.now.cursor.rest) }
-    ensures col { result.col ≡ column_of (taken input.now reader.now.cursor.rest) }
+    ensures line { result.line ≡ line_of (taken input.now (remaining reader.now.cursor)) }
+    ensures col { result.col ≡ column_of (taken input.now (remaining reader.now.cursor)) }
     ensures reported { result.memory ≡ false → Reports fault (string_bytes result.msg) }
     ensures empty { result.memory ≡ true → string_bytes result.msg ≡ [] }
 {
@@ -91,23 +94,29 @@ impl TomlParser {
 
     /// The table that a text encodes.
     ///
-    /// It is returned exactly if the text, before its first NUL, is a list of valid statements:
+    /// It is answered exactly where the text, before its first NUL, is a list of lawful statements:
     /// `[name]`, `[[key]]` and `name = value`, with nothing between them but white space and
     /// comments. An array at the very end of the text may lack its closing brackets.
     ///
-    /// A pair goes under its name, or under `scope.name` after a header `[scope]`. If a key
-    /// occurs twice, the last value counts. Each header `[[key]]` adds a table to the `Array`
-    /// at its key. That table has the pairs after the header, up to the next one; the scope is
-    /// unchanged. A header `[[key]]` on a key that a pair gave is not valid.
+    /// A pair stands under its name, or `scope.name` after a header `[scope]`. Of a key that
+    /// stands twice the last value counts. Each header `[[key]]` adds a table to the `Array` at its
+    /// key, which has the pairs after the header, up to the next one; the scope remains. A header
+    /// `[[key]]` on a key that a pair gave is not lawful.
     ///
     /// The error says why there is no table, and where that was found; or, with `memory`, that
-    /// memory ran out.
+    /// memory was wanted. Where it is of the text, it is the first one, and its place is after all
+    /// that was taken and the one character that stands next: after a token that can't stand
+    /// there, after what can begin a lexeme that goes on wrong, or after a header `[[key]]` on a
+    /// key that a pair gave. The text ends at its first NUL, which is the character that stands
+    /// next there.
     pub fn parse(alloc: Global, input: &str) -> Result<HashMap<String, Toml>, TomlErr>
         ensures found { IfOk result
             (λ table. EncodesTable (remaining_text input.now) (table_view table.entries)) }
         ensures rejected { IfErr result
             (λ e. e.memory ≡ false → EncodesNoTable (remaining_text input.now)) }
         ensures place { IfErr result (λ e. IsPlaceIn (chars input.now) e.line e.col) }
+        ensures error { IfErr result
+            (λ e. e.memory ≡ false → IsErrorAt (chars input.now) e.line e.col) }
         ensures reported { IfErr result (λ e. e.memory ≡ false → IsMessage (string_bytes e.msg)) }
         ensures empty { IfErr result (λ e. e.memory ≡ true → string_bytes e.msg ≡ []) }
     {

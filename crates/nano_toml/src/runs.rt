@@ -3,7 +3,7 @@
 ghost use Rattle.std.specs.Prelude.{◌≡◌, ℕ, Bool, length, encode_utf8_all};
 ghost use Rattle.nano_toml.specs.Characters.{IsByteTest};
 ghost use Rattle.nano_toml.specs.RemainingText.{remaining};
-ghost use Rattle.nano_toml.specs.Plain.{is_plain, is_in_line};
+ghost use Rattle.nano_toml.specs.Plain.{is_plain, is_in_line, is_remaining};
 ghost use Rattle.nano_toml.specs.Span.{prefix, following, IsTest};
 
 use crate::state::Cursor;
@@ -20,6 +20,13 @@ pub(crate) fn is_in_line(c: u8) -> bool
     ensures { result ≡ is_in_line c }
 {
     c != b'\n' && c != 0
+}
+
+/// Whether a character, or a byte of UTF-8, doesn't end the text.
+pub(crate) fn is_remaining(c: u8) -> bool
+    ensures { result ≡ is_remaining c }
+{
+    c != 0
 }
 
 /// How many bytes stand before the first that doesn't pass the test.

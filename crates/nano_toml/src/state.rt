@@ -1,20 +1,22 @@
 //! The place in a text, and the steps to the next character and to the next token.
 
 ghost use Rattle.std.specs.Prelude.{◌≡◌, ◌≢◌, ℕ, Bool, List, [], ◌∷◌, ◌<◌, ◌==◌, ◌-◌, ◌⊎◌};
-ghost use Rattle.std.specs.Prelude.{Some, true, false, chars, length, IfOk, option_map, not};
+ghost use Rattle.std.specs.Prelude.{Some, true, false, chars, length, IfOk, IfErr, option_map, not};
 ghost use Rattle.std.specs.Prelude.{if◌then◌else◌};
 ghost use Rattle.nano_toml.specs.Characters.{is_space, is_line_feed, IsByteTest};
 ghost use Rattle.nano_toml.specs.Cut.{punctuator_token, Cut, CutsNothing};
-ghost use Rattle.nano_toml.specs.RemainingText.{remaining, remaining_text, held};
+ghost use Rattle.nano_toml.specs.RemainingText.{remaining, remaining_text, taken_count};
 ghost use Rattle.nano_toml.specs.Outcomes.{OnFault};
 ghost use Rattle.nano_toml.specs.Scan.{after_gaps, tail};
 ghost use Rattle.nano_toml.specs.Span.{begins, following};
+ghost use Rattle.nano_toml.specs.Stops.{Breaks};
 ghost use Rattle.nano_toml.specs.Taken.{a_token, token_of, Took};
 ghost use Rattle.nano_toml.specs.Token.{Token};
+ghost use Rattle.nano_toml.specs.declared.fault.Fault.TheVariants.{Memory};
 
 use crate::fault::{Fault, Lexeme};
 use crate::numbers::starts_number;
-use crate::runs::is_in_line;
+use crate::runs::{is_in_line, is_remaining};
 use crate::token::TomlTok;
 use crate::words::{starts_word, word_token};
 use std::alloc::Global;
@@ -76,25 +78,43 @@ impl<'a> Cursor<'a> {
         }
     }
 
-    /// Takes one character, and answers it, or NUL at the end.
+    /// Takes one character, and answers it, or NUL at the end. A NUL ends the text: it isn't taken.
     pub(crate) fn next(&mut self) -> char
         ensures taken { result ≢ 0 → remaining self.old ≡ result ∷ remaining self.new }
         ensures end { result ≡ 0 → remaining self.old ≡ [] }
+        ensures unchanged { result ≡ 0 → remaining self.new ≡ [] }
     {
-        let _text = self.rest.as_str();
-        match self.rest.next() {
-            Some(c) => c,
+        let mut ahead = self.rest.as_str().chars();
+        match ahead.next() {
+            Some(c) => {
+                if c != '\0' {
+                    self.rest = ahead;
+                }
+                c
+            }
             None => '\0',
         }
     }
 
+    /// How many characters remain.
+    fn remaining(&self) -> usize
+        ensures { result ≡ length (remaining self.now) }
+    {
+        let mut ahead = self.again();
+        let _held = ahead.rest.as_str();
+        ahead.take_while(is_remaining).chars().count()
+    }
+
     /// How many characters of the text were taken, the one that stands here among them.
     pub(crate) fn taken(&self, text: &str) -> usize
-        ensures { result ≡ length (chars text.now) - (length (held self.now.rest) - 1) }
+        ensures { result ≡ taken_count text.now (remaining self.now) }
     {
-        let left = self.rest.as_str();
-        let following = left.chars().count().saturating_sub(1);
-        text.chars().count().saturating_sub(following)
+        let before = Cursor::new(text)
+            .remaining()
+            .saturating_sub(self.remaining());
+        let all = text.chars().count();
+        let after = all.saturating_sub(before).saturating_sub(1);
+        all.saturating_sub(after)
     }
 
     /// Takes this character of ASCII, if it stands here, and answers whether it does.
@@ -157,6 +177,7 @@ impl<'a> Cursor<'a> {
     pub(crate) fn next_tok(&mut self, alloc: Global) -> Result<TomlTok, Fault>
         ensures cut { IfOk result (λ t. Took (remaining self.old) (token_of t) (remaining self.new)) }
         ensures rejected { OnFault result (CutsNothing (remaining self.old)) }
+        ensures broken { IfErr result (λ e. e ≢ Memory → Breaks e (remaining self.old) (remaining self.new)) }
     {
         self.skip();
         let first = self.first();

@@ -1,21 +1,21 @@
 //! Reads values and statements, token by token.
 
-ghost use Rattle.std.specs.Prelude.{◌≡◌, ◌<◌, [], IfOk, IfErr, IfSome, OnOk};
+ghost use Rattle.std.specs.Prelude.{◌≡◌, ◌≢◌, ◌<◌, [], IfOk, IfErr, IfSome, OnOk};
 ghost use Rattle.std.specs.Prelude.{option_map, Some, None, length};
 ghost use Rattle.nano_toml.specs.Built.{IsPlain};
 ghost use Rattle.nano_toml.specs.Cut.{Cut, CutsNothing};
-ghost use Rattle.nano_toml.specs.Data.{no_values};
-ghost use Rattle.nano_toml.specs.Prefixes.{ParsesNothing, ClosesNothing};
-ghost use Rattle.nano_toml.specs.PrefixesLaws.{array_prefix};
-ghost use Rattle.nano_toml.specs.PrefixesLaws.{value_prefix, pair_prefix, scope_prefix, element_prefix};
-ghost use Rattle.nano_toml.specs.PrefixesLaws.{header_prefix};
-ghost use Rattle.nano_toml.specs.Prefixes.{close_all};
+ghost use Rattle.nano_toml.specs.Prefixes.{Parses, ParsesNothing, ClosesNothing, close_all};
+ghost use Rattle.nano_toml.specs.PrefixesLaws.{pair_prefix, scope_prefix, element_prefix};
+ghost use Rattle.nano_toml.specs.PrefixesLaws.{header_prefix, statement_prefix};
 ghost use Rattle.nano_toml.specs.RemainingText.{remaining, remaining_text};
-ghost use Rattle.nano_toml.specs.Outcomes.{OnFault, ParsesValue, ParsesStatement};
-ghost use Rattle.nano_toml.specs.Reading.{name_view, statement_view, scalar_at, arrays_view, IsNext};
-ghost use Rattle.nano_toml.specs.Reading.{EncodesNothing};
+ghost use Rattle.nano_toml.specs.Outcomes.{OnFault, ParsesStatement};
+ghost use Rattle.nano_toml.specs.Reading.{name_view, statement_view, scalar_at, arrays_view};
+ghost use Rattle.nano_toml.specs.Reading.{IsNext, EncodesNothing};
+ghost use Rattle.nano_toml.specs.Stops.{Breaks, Rejects, StandsNext, StopsAt};
+ghost use Rattle.nano_toml.specs.StopsLaws.{close_prefix};
 ghost use Rattle.nano_toml.specs.Taken.{token_of, Took};
 ghost use Rattle.nano_toml.specs.Token.{close_bracket};
+ghost use Rattle.nano_toml.specs.declared.fault.Fault.TheVariants.{Memory};
 ghost use Rattle.nano_toml.specs.View.{view, values_view};
 
 use crate::fault::Fault;
@@ -23,7 +23,6 @@ use crate::state::Cursor;
 use crate::token::TomlTok;
 use crate::value::Toml;
 use std::alloc::{AllocFailed, Global};
-use std::mem;
 
 /// A name of a text.
 #[derive(Drop)]
@@ -65,9 +64,10 @@ pub(crate) struct Reader<'a> {
 }
 
 // The value that is one token, or the token again.
-fn scalar(tok: TomlTok) -> Result<Toml, TomlTok>
+pub(crate) fn scalar(tok: TomlTok) -> Result<Toml, TomlTok>
     ensures found { IfOk result (λ value. scalar_at (token_of tok) ≡ Some (view value)) }
     ensures rejected { IfErr result (λ _. scalar_at (token_of tok) ≡ None) }
+    ensures same { IfErr result (λ again. again ≡ tok) }
 {
     match tok {
         TomlTok::Str(text) => Ok(Toml::Str(text)),
@@ -83,7 +83,10 @@ fn scalar(tok: TomlTok) -> Result<Toml, TomlTok>
 }
 
 // Closes the arrays around an array, the innermost first.
-fn close_all(mut outer: Vec<Vec<Toml>>, mut here: Vec<Toml>) -> Result<Toml, AllocFailed<Toml>>
+pub(crate) fn close_all(
+    mut outer: Vec<Vec<Toml>>,
+    mut here: Vec<Toml>,
+) -> Result<Toml, AllocFailed<Toml>>
     ensures { IfOk result
         (λ value. view value ≡ close_all (arrays_view outer.items []) (values_view here.items)) }
 {
@@ -106,10 +109,12 @@ impl<'a> Reader<'a> {
     }
 
     // The next token, or the end.
-    fn read_token(&mut self) -> Result<TomlTok, Fault>
+    pub(crate) fn read_token(&mut self) -> Result<TomlTok, Fault>
         ensures cut { IfOk result
             (λ t. Took (remaining self.old.cursor) (token_of t) (remaining self.new.cursor)) }
         ensures rejected { OnFault result (CutsNothing (remaining self.old.cursor)) }
+        ensures broken { IfErr result
+            (λ e. e ≢ Memory → Breaks e (remaining self.old.cursor) (remaining self.new.cursor)) }
     {
         self.cursor.next_tok(self.alloc)
     }
@@ -118,7 +123,9 @@ impl<'a> Reader<'a> {
     // function, so that no space is reserved for it where nothing is wrong.
     #[cold]
     #[inline(never)]
-    fn unexpected(&mut self) -> Fault {
+    fn unexpected(&mut self) -> Fault
+        ensures { StandsNext result (remaining self.old.cursor) (remaining self.new.cursor) }
+    {
         match self.read_token() {
             Ok(tok) => Fault::Unexpected(tok),
             Err(fault) => fault,
@@ -130,58 +137,13 @@ impl<'a> Reader<'a> {
         ensures cut { OnOk result
             (Cut (remaining self.old.cursor) close_bracket (remaining self.new.cursor)) }
         ensures rejected { OnFault result (ClosesNothing (remaining self.old.cursor)) }
+        ensures rejects { IfErr result (λ e. e ≢ Memory
+            → Rejects close_prefix e (remaining self.old.cursor) (remaining self.new.cursor)) }
     {
         if !self.cursor.next_bracket(b']') {
             return Err(self.unexpected());
         }
         Ok(())
-    }
-
-    // The rest of an array after its bracket. The arrays that are still open are in a vector,
-    // so that depth takes memory and no stack.
-    fn read_array(&mut self) -> Result<Toml, Fault>
-        ensures found { ParsesValue result (array_prefix [] no_values)
-            (remaining self.old.cursor) (remaining self.new.cursor) }
-        ensures rejected { OnFault result
-            (ParsesNothing (array_prefix [] no_values) (remaining self.old.cursor)) }
-    {
-        let mut outer: Vec<Vec<Toml>> = Vec::new(self.alloc);
-        let mut here: Vec<Toml> = Vec::new(self.alloc);
-        'tokens: loop {
-            match self.read_token()? {
-                TomlTok::Comma => {}
-                TomlTok::BlockOpen => {
-                    outer.push(mem::replace(&mut here, Vec::new(self.alloc)))?;
-                }
-                TomlTok::BlockClose => match outer.pop() {
-                    None => return Ok(Toml::SimpleArray(here)),
-                    Some(mut around) => {
-                        around.push(Toml::SimpleArray(here))?;
-                        here = around;
-                    }
-                },
-                TomlTok::Eof => return Ok(close_all(outer, here)?),
-                tok => match scalar(tok) {
-                    Ok(value) => here.push(value)?,
-                    Err(tok) => return Err(Fault::Unexpected(tok)),
-                },
-            }
-        }
-    }
-
-    // A value.
-    fn read_value(&mut self) -> Result<Toml, Fault>
-        ensures found { ParsesValue result value_prefix
-            (remaining self.old.cursor) (remaining self.new.cursor) }
-        ensures rejected { OnFault result (ParsesNothing value_prefix (remaining self.old.cursor)) }
-    {
-        match self.read_token()? {
-            TomlTok::BlockOpen => self.read_array(),
-            tok => match scalar(tok) {
-                Ok(value) => Ok(value),
-                Err(tok) => Err(Fault::Unexpected(tok)),
-            },
-        }
     }
 
     // The rest of a pair after its name.
@@ -190,6 +152,8 @@ impl<'a> Reader<'a> {
             (remaining self.old.cursor) (remaining self.new.cursor) }
         ensures rejected { OnFault result
             (ParsesNothing (pair_prefix (name_view name.entry)) (remaining self.old.cursor)) }
+        ensures stops { StopsAt result (pair_prefix (name_view name.entry))
+            (remaining self.old.cursor) (remaining self.new.cursor) }
     {
         match self.read_token()? {
             TomlTok::Equals => {
@@ -206,6 +170,8 @@ impl<'a> Reader<'a> {
             (remaining self.old.cursor) (remaining self.new.cursor) }
         ensures rejected { OnFault result
             (ParsesNothing (scope_prefix (name_view name.entry)) (remaining self.old.cursor)) }
+        ensures stops { StopsAt result (scope_prefix (name_view name.entry))
+            (remaining self.old.cursor) (remaining self.new.cursor) }
     {
         self.read_close_bracket()?;
         Ok(Statement::Scope(name))
@@ -216,6 +182,8 @@ impl<'a> Reader<'a> {
         ensures found { ParsesStatement result element_prefix
             (remaining self.old.cursor) (remaining self.new.cursor) }
         ensures rejected { OnFault result (ParsesNothing element_prefix (remaining self.old.cursor)) }
+        ensures stops { StopsAt result element_prefix
+            (remaining self.old.cursor) (remaining self.new.cursor) }
     {
         let Some(key) = self.cursor.next_name() else {
             return Err(Fault::Unexpected(self.read_token()?));
@@ -230,6 +198,8 @@ impl<'a> Reader<'a> {
         ensures found { ParsesStatement result header_prefix
             (remaining self.old.cursor) (remaining self.new.cursor) }
         ensures rejected { OnFault result (ParsesNothing header_prefix (remaining self.old.cursor)) }
+        ensures stops { StopsAt result header_prefix
+            (remaining self.old.cursor) (remaining self.new.cursor) }
     {
         if let Some(name) = self.cursor.next_name() {
             return self.read_scope(Name::Word(name));
@@ -248,6 +218,10 @@ impl<'a> Reader<'a> {
         ensures found { IfOk result (λ s. IsNext
             (remaining self.old.cursor) (option_map statement_view s) (remaining self.new.cursor)) }
         ensures rejected { OnFault result (EncodesNothing (remaining self.old.cursor)) }
+        ensures stops { StopsAt result statement_prefix
+            (remaining self.old.cursor) (remaining self.new.cursor) }
+        ensures reads { IfOk result (λ s. IfSome s (λ s. Parses statement_prefix
+            (remaining self.old.cursor) (statement_view s) (remaining self.new.cursor))) }
         ensures plain { IfOk result (λ s. IfSome s (λ s. IsPlain (statement_view s))) }
         ensures shorter { IfOk result (λ s. IfSome s
             (λ _. length (remaining self.new.cursor) < length (remaining self.old.cursor))) }

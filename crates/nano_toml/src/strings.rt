@@ -44,6 +44,7 @@ impl<'a> Cursor<'a> {
             × Appends text.old text.new (encode_utf8 c)) }
         ensures rejected { OnFault result (remaining self.old ≡ 92 ∷ []) }
         ensures reported { FaultIs result (Fault.Malformed Lexeme.Quoted) }
+        ensures remaining { OnFault result (remaining self.new ≡ []) }
     {
         self.next();
         let escaped = self.next();
@@ -63,6 +64,7 @@ impl<'a> Cursor<'a> {
         ensures rejected { OnFault result
             (short_at (string_bytes text.old) false (remaining self.old) ≡ None) }
         ensures reported { FaultIs result (Fault.Malformed Lexeme.Quoted) }
+        ensures remaining { OnFault result (remaining self.new ≡ []) }
     {
         'pieces: loop {
             match self.first() {
@@ -112,6 +114,7 @@ impl<'a> Cursor<'a> {
         ensures rejected { OnFault result
             (triple_at (string_bytes text.old) (some_quotes []) (remaining self.old) ≡ None) }
         ensures reported { FaultIs result (Fault.Malformed Lexeme.Quoted) }
+        ensures remaining { OnFault result (remaining self.new ≡ []) }
     {
         'pieces: loop {
             match self.first() {
@@ -133,6 +136,7 @@ impl<'a> Cursor<'a> {
             (λ text. after_one_quote (remaining self.old) ≡ content text (remaining self.new)) }
         ensures rejected { OnFault result (after_one_quote (remaining self.old) ≡ None) }
         ensures reported { FaultIs result (Fault.Malformed Lexeme.Quoted) }
+        ensures remaining { OnFault result (remaining self.new ≡ []) }
     {
         let mut text = String::new(alloc);
         if !self.take(b'"') {

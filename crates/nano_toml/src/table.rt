@@ -1,6 +1,6 @@
 //! The table of statements, built one statement after another.
 
-ghost use Rattle.std.specs.Prelude.{◌≡◌, ◌≢◌, ◌↔◌, List, [], ◌∷◌, ◌++◌, IsTrue, Some, OnOk};
+ghost use Rattle.std.specs.Prelude.{◌≡◌, ◌≢◌, ◌↔◌, ℕ, List, [], ◌∷◌, ◌++◌, IsTrue, Some, OnOk};
 ghost use Rattle.std.specs.Prelude.{IfOk, IfErr, string_bytes};
 ghost use Rattle.nano_toml.specs.Built.{IsBuilt, IsWhole, IsPlain, IsTables, CanPush, Puts, pushed};
 ghost use Rattle.nano_toml.specs.Data.{at};
@@ -183,6 +183,8 @@ impl<'a> Builder<'a> {
         ensures rejected { (done : List Stated) → IsBuilt done self.old
             → OnFault result
             ((more : List Stated) → IsLawful (done ++ statement_view statement.entry ∷ more) → ⊥) }
+        ensures reported { OnFault result
+            ((key : List ℕ) × (statement_view statement.entry ≡ element key)) }
     {
         match statement {
             Statement::Scope(name) => {

@@ -11,4 +11,6 @@ fn laws_can_be_called(_rt: HostRuntime) {
     laws::text_encodes_one_list();
     laws::list_has_one_table();
     laws::text_encodes_one_table();
+    laws::text_has_one_first_error();
+    laws::text_with_an_error_encodes_no_table();
 }

@@ -245,7 +245,7 @@ fn equality(rt: HostRuntime) -> Result<(), Fail> {
 
 // Whether the error is copied, and shown to whom looks into it.
 fn is_cloned(alloc: Global, error: &TomlErr) -> Result<bool, AllocError> {
-    let copy = error.clone()?;
+    let copy = error.clone(alloc)?;
     let shown = format!(in alloc; "{copy:?}")?;
     let is_copy = copy.msg.as_str() == "Cannot parse toml tokenizer " && !copy.memory;
     let is_there = copy.line == 0 && copy.col == 5;

@@ -25,14 +25,14 @@ runs-init c = record {
 
 pub split_at-requires : goal.split_at-requires
 split_at-requires c =
-    run_boundary c.runs.rest.now _ c.plain_run-run.result.len c.runs.invariant.read.utf8 c.as_bytes.ensures.value c.plain_run-run.ensures.len
+    run_boundary c.runs.rest.now _ c.line_run-run.result.len c.runs.invariant.read.utf8 c.as_bytes.ensures.value c.line_run-run.ensures.len
 
 pub split_at-requires-then-begins_with_quote : goal.split_at-requires-then-begins_with_quote
 split_at-requires-then-begins_with_quote c =
     let q = at_column c.args.p.now c.saturating_add-col.result in
     let run = reads_run (held c.args.i.now) c.args.p.now (at_column c.args.p.now c.runs.col) q (string_bytes c.runs.strbuf) c.runs.rest.now c.as_bytes.result.now
-    c.split_at.result.0.now c.split_at.result.1.now (string_bytes c.push_str.new.self) c.plain_run-run.result.len c.plain_run-run.result.columns
-    c.runs.invariant.read c.as_bytes.ensures.value c.plain_run-run.ensures.len c.plain_run-run.ensures.columns c.split_at.ensures.front
+    c.split_at.result.0.now c.split_at.result.1.now (string_bytes c.push_str.new.self) c.line_run-run.result.len c.line_run-run.result.columns
+    c.runs.invariant.read c.as_bytes.ensures.value c.line_run-run.ensures.len c.line_run-run.ensures.columns c.split_at.ensures.front
     c.split_at.ensures.back c.in-Ok.ensures.bytes refl c.saturating_add-col.ensures in
     let quote = c.begins_with_quote.ensures c.if-begins_with_quote.true in
     quote_boundary c.split_at.result.1.now _ quote.0 run.utf8 c.as_bytes-in-runs.ensures.value quote.1
@@ -41,8 +41,8 @@ pub returns-then-begins_with_quote-clause-found : goal.returns-then-begins_with_
 returns-then-begins_with_quote-clause-found c e =
     let q = at_column c.args.p.now c.saturating_add-col.result in
     let run = reads_run (held c.args.i.now) c.args.p.now (at_column c.args.p.now c.runs.col) q (string_bytes c.runs.strbuf) c.runs.rest.now c.as_bytes.result.now
-    c.split_at.result.0.now c.split_at.result.1.now (string_bytes c.push_str.new.self) c.plain_run-run.result.len c.plain_run-run.result.columns
-    c.runs.invariant.read c.as_bytes.ensures.value c.plain_run-run.ensures.len c.plain_run-run.ensures.columns c.split_at.ensures.front
+    c.split_at.result.0.now c.split_at.result.1.now (string_bytes c.push_str.new.self) c.line_run-run.result.len c.line_run-run.result.columns
+    c.runs.invariant.read c.as_bytes.ensures.value c.line_run-run.ensures.len c.line_run-run.ensures.columns c.split_at.ensures.front
     c.split_at.ensures.back c.in-Ok.ensures.bytes refl c.saturating_add-col.ensures in
     let quote = c.begins_with_quote.ensures c.if-begins_with_quote.true in
     string_read_at_once c.args.p.now.cur c.args.i.now c.chars.result c.args.p.now q (string_bytes c.push_str.new.self) c.split_at.result.1.now
@@ -54,8 +54,8 @@ returns-then-begins_with_quote-clause-place c e =
     let q = at_column c.args.p.now c.saturating_add-col.result in
     let r : Place = record c.runs.p { col = c.saturating_add-p.result } in
     let run = reads_run (held c.args.i.now) c.args.p.now (at_column c.args.p.now c.runs.col) q (string_bytes c.runs.strbuf) c.runs.rest.now c.as_bytes.result.now
-    c.split_at.result.0.now c.split_at.result.1.now (string_bytes c.push_str.new.self) c.plain_run-run.result.len c.plain_run-run.result.columns
-    c.runs.invariant.read c.as_bytes.ensures.value c.plain_run-run.ensures.len c.plain_run-run.ensures.columns c.split_at.ensures.front
+    c.split_at.result.0.now c.split_at.result.1.now (string_bytes c.push_str.new.self) c.line_run-run.result.len c.line_run-run.result.columns
+    c.runs.invariant.read c.as_bytes.ensures.value c.line_run-run.ensures.len c.line_run-run.ensures.columns c.split_at.ensures.front
     c.split_at.ensures.back c.in-Ok.ensures.bytes refl c.saturating_add-col.ensures in
     let quote = c.begins_with_quote.ensures c.if-begins_with_quote.true in
     let passed = passes_quote (held c.args.i.now) c.args.p.now q r (string_bytes c.push_str.new.self) c.split_at.result.1.now
@@ -67,8 +67,8 @@ pub split_at-requires-in-runs : goal.split_at-requires-in-runs
 split_at-requires-in-runs c =
     let q = at_column c.args.p.now c.saturating_add-col.result in
     let run = reads_run (held c.args.i.now) c.args.p.now (at_column c.args.p.now c.runs.col) q (string_bytes c.runs.strbuf) c.runs.rest.now c.as_bytes.result.now
-    c.split_at.result.0.now c.split_at.result.1.now (string_bytes c.push_str.new.self) c.plain_run-run.result.len c.plain_run-run.result.columns
-    c.runs.invariant.read c.as_bytes.ensures.value c.plain_run-run.ensures.len c.plain_run-run.ensures.columns c.split_at.ensures.front
+    c.split_at.result.0.now c.split_at.result.1.now (string_bytes c.push_str.new.self) c.line_run-run.result.len c.line_run-run.result.columns
+    c.runs.invariant.read c.as_bytes.ensures.value c.line_run-run.ensures.len c.line_run-run.ensures.columns c.split_at.ensures.front
     c.split_at.ensures.back c.in-Ok.ensures.bytes refl c.saturating_add-col.ensures in
     let escape = c.in-Some.ensures in
     escape_boundary c.split_at.result.1.now _ escape.1 escape.0 run.utf8 c.as_bytes-in-runs-2.ensures.value escape.2 escape.4
@@ -78,8 +78,8 @@ runs-preserved c =
     let q = at_column c.args.p.now c.saturating_add-col.result in
     let r = at_column c.args.p.now c.saturating_add-col-in-runs.result in
     let run = reads_run (held c.args.i.now) c.args.p.now (at_column c.args.p.now c.runs.col) q (string_bytes c.runs.strbuf) c.runs.rest.now c.as_bytes.result.now
-    c.split_at.result.0.now c.split_at.result.1.now (string_bytes c.push_str.new.self) c.plain_run-run.result.len c.plain_run-run.result.columns
-    c.runs.invariant.read c.as_bytes.ensures.value c.plain_run-run.ensures.len c.plain_run-run.ensures.columns c.split_at.ensures.front
+    c.split_at.result.0.now c.split_at.result.1.now (string_bytes c.push_str.new.self) c.line_run-run.result.len c.line_run-run.result.columns
+    c.runs.invariant.read c.as_bytes.ensures.value c.line_run-run.ensures.len c.line_run-run.ensures.columns c.split_at.ensures.front
     c.split_at.ensures.back c.in-Ok.ensures.bytes refl c.saturating_add-col.ensures in
     let escape = c.in-Some.ensures in
     record {

@@ -11,6 +11,7 @@ use Rattle.nano_toml.proofs.CutLaws.{scanned_cut, scanned_nothing}
 use Rattle.nano_toml.proofs.LexemeCut.{string_taken}
 use Rattle.nano_toml.proofs.RemainingText.{past_first, past_this}
 use Rattle.nano_toml.proofs.NextSteps.{word_next, number_next, string_next, punctuator_step, no_punctuator_step, punctuator_some, found_cut, rejected_cut}
+use Rattle.nano_toml.proofs.Broken.{broken_number, broken_string, broken_other}
 use Rattle.nano_toml.proofs.state.Cursor.next_tok.Goals as goal
 
 pub returns-then-starts_word-clause-cut : goal.returns-then-starts_word-clause-cut
@@ -65,3 +66,20 @@ returns-in-None-clause-rejected c =
     ∙ no_punctuator_step (remaining c.skip.new.self) c.first-first.result c.first-first.ensures.test c.if-first-eq0.false
     (sym c.if-starts_word.ensures) (sym c.if-starts_number.ensures) (ne_eqb _ 34 c.if-first-eq34.false) c.in-None.ensures in
     λ _. scanned_nothing (remaining c.args.self.now) at
+
+pub returns-then-starts_number-clause-broken : goal.returns-then-starts_number-clause-broken
+returns-then-starts_number-clause-broken c =
+    let start = c.first-first.ensures.test starts_number number_test ∙ sym c.if-starts_number.ensures in
+    broken_number c.read_number.result (remaining c.args.self.now) (remaining c.skip.new.self) (remaining c.read_number.new.self) c.skip.ensures start c.read_number.ensures.rejected c.read_number.ensures.reported c.read_number.ensures.remaining
+
+pub returns-in_err-read_string-clause-broken : goal.returns-in_err-read_string-clause-broken
+returns-in_err-read_string-clause-broken c =
+    let quote = c.first-first.ensures.test is_quote quote_test ∙ eq-eqb _ 34 c.if-first-eq34.true in
+    let p = err_from_is_err_and c.from_residual-in_err-read_string.result c.from_residual-in_err-read_string.ensures.1 in
+    let past = past_this 34 (remaining c.skip.new.self) (remaining c.next.new.self) c.next.result c.next.ensures.taken c.next.ensures.end quote in
+    rw (p.1, p.2) (λ n. broken_string _ (remaining c.args.self.now) (remaining c.skip.new.self) (remaining c.next.new.self) (remaining c.read_string.new.self) c.skip.ensures past (c.in_err-read_string.ensures.rejected n) (c.in_err-read_string.ensures.reported n) (c.in_err-read_string.ensures.remaining n))
+
+pub returns-in-None-clause-broken : goal.returns-in-None-clause-broken
+returns-in-None-clause-broken c =
+    λ _. broken_other (remaining c.args.self.now) (remaining c.skip.new.self) c.first-first.result c.skip.ensures c.first-first.ensures.test c.if-first-eq0.false
+    (sym c.if-starts_word.ensures) (sym c.if-starts_number.ensures) (ne_eqb _ 34 c.if-first-eq34.false) c.in-None.ensures

@@ -14,6 +14,8 @@ use Rattle.nano_toml.proofs.ArrayViews.{arrays_view-push, values_view-push, valu
 use Rattle.nano_toml.proofs.ReadLemmas.{Took-at, GoesOn-scalar, GoesOn-token, Parses-closed, Parses-open, ParsesNothing-on, ParsesNothing-cut, ParsesNothing-fails}
 use Rattle.nano_toml.proofs.TableViews.{view-SimpleArray}
 use Rattle.nano_toml.proofs.Unexpected.{no_item}
+use Rattle.nano_toml.specs.declared.fault.Fault.TheVariants.{Unexpected}
+use Rattle.nano_toml.proofs.StopLemmas.{Stops-on, Stops-broken, Stops-reported, can_find_array}
 use Rattle.nano_toml.proofs.statements.Reader.read_array.Goals as goal
 
 pub returns-in_err-tok-clause-rejected : goal.returns-in_err-tok-clause-rejected
@@ -123,4 +125,29 @@ returns-in-Err-clause-rejected c =
     let prefix = array_prefix outer here in
     λ n. ParsesNothing-on start prefix text now c.tokens.invariant
     (ParsesNothing-fails prefix now rest (token_of c.in_ok-tok.tok) c.in_ok-tok.ensures.cut
+    (no_item outer here c.in_ok-tok.tok c.in-Err.ensures.rejected c.in_default.not-Comma c.in_default.not-BlockOpen c.in_default.not-BlockClose c.in_default.not-Eof))
+
+pub returns-in_err-tok-clause-stops : goal.returns-in_err-tok-clause-stops
+returns-in_err-tok-clause-stops c =
+    let text = remaining c.args.self.now.cursor in
+    let now = remaining c.tokens.self.cursor in
+    let rest = remaining c.read_token.new.self.cursor in
+    let outer = arrays_view c.tokens.outer.items [] in
+    let here = values_view c.tokens.here.items in
+    let start = array_prefix [] no_values in
+    let prefix = array_prefix outer here in
+    let p = err_from_is_err_and c.from_residual.result c.from_residual.ensures.1 in
+    rw (p.1, p.2) (λ n. Stops-on start prefix _ text now rest c.tokens.invariant (Stops-broken prefix _ now rest (can_find_array outer here) (c.in_err-tok.ensures.broken n)))
+
+pub returns-in-Err-clause-stops : goal.returns-in-Err-clause-stops
+returns-in-Err-clause-stops c =
+    let text = remaining c.args.self.now.cursor in
+    let now = remaining c.tokens.self.cursor in
+    let rest = remaining c.read_token.new.self.cursor in
+    let outer = arrays_view c.tokens.outer.items [] in
+    let here = values_view c.tokens.here.items in
+    let start = array_prefix [] no_values in
+    let prefix = array_prefix outer here in
+    λ n. Stops-on start prefix (Unexpected c.in-Err.tok) text now rest c.tokens.invariant
+    (Stops-reported prefix c.in-Err.tok c.in_ok-tok.tok now rest (can_find_array outer here) c.in-Err.ensures.same c.in_ok-tok.ensures.cut
     (no_item outer here c.in_ok-tok.tok c.in-Err.ensures.rejected c.in_default.not-Comma c.in_default.not-BlockOpen c.in_default.not-BlockClose c.in_default.not-Eof))

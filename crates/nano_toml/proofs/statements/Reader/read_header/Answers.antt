@@ -11,6 +11,7 @@ use Rattle.nano_toml.proofs.BracketCut.{NoOpening-from, not_open}
 use Rattle.nano_toml.proofs.NameCut.{NoName-from, Took-no_name, not_name}
 use Rattle.nano_toml.proofs.ReadLemmas.{Took-at, Parses-token, ParsesNothing-cut, ParsesNothing-fails, ParsesNothing-token}
 use Rattle.nano_toml.proofs.Unexpected.{no_header}
+use Rattle.nano_toml.proofs.StopLemmas.{Stops-token, Stops-looked, Stops-fails, can_find_header}
 use Rattle.nano_toml.proofs.statements.Reader.read_header.Goals as goal
 
 pub returns-in-Some-clause-found : goal.returns-in-Some-clause-found
@@ -75,3 +76,44 @@ returns-in-Str-clause-rejected c =
     (c.if-next_bracket.ensures.none refl) (c.if-next_bracket.ensures.no_bracket refl open_bracket refl) in
     let cut = Took-at text now c.in_ok-tok.tok (tok.Str c.in-Str.name) c.in-Str.is (Took-no_name text (remaining c.next_bracket.new.self) now (token_of c.in_ok-tok.tok) looked.no_name c.in_ok-tok.ensures.cut) in
     IfErr-weaker c.read_scope-in-Str.result _ _ (λ e r n. ParsesNothing-token header_prefix (scope_prefix name) text now (string name) cut (λ more. refl) (r n)) c.read_scope-in-Str.ensures.rejected
+
+pub returns-in-Some-clause-stops : goal.returns-in-Some-clause-stops
+returns-in-Some-clause-stops c =
+    let name = c.in-Some.name.now in
+    IfErr-weaker c.read_scope.result _ _ (λ e r n. Stops-token header_prefix (scope_prefix name) e (remaining c.args.self.now.cursor) (remaining c.next_name.new.self) (remaining c.read_scope.new.self.cursor) (ident name) c.in-Some.ensures.cut (λ more. refl) (r n)) c.read_scope.ensures.stops
+
+pub returns-then-next_bracket-clause-stops : goal.returns-then-next_bracket-clause-stops
+returns-then-next_bracket-clause-stops c =
+    let text = remaining c.args.self.now.cursor in
+    let now = remaining c.next_bracket.new.self in
+    let looked = NoName-from c.next_name.result (remaining c.args.self.now.cursor) (remaining c.next_name.new.self) c.in_default.is c.next_name.ensures.none c.next_name.ensures.no_name in
+    let cut = subst (λ (t : List ℕ). Cut t open_bracket now) looked.same (c.if-next_bracket.ensures.cut refl open_bracket refl) in
+    IfErr-weaker c.read_element.result _ _ (λ e r n. Stops-token header_prefix element_prefix e text now (remaining c.read_element.new.self.cursor) open_bracket cut (λ more. refl) (r n)) c.read_element.ensures.stops
+
+pub returns-in_err-tok-clause-stops : goal.returns-in_err-tok-clause-stops
+returns-in_err-tok-clause-stops c =
+    let looked = NoOpening-from (remaining c.args.self.now.cursor) (remaining c.next_name.new.self) (remaining c.next_bracket.new.self) (NoName-from c.next_name.result (remaining c.args.self.now.cursor) (remaining c.next_name.new.self) c.in_default.is c.next_name.ensures.none c.next_name.ensures.no_name)
+    (c.if-next_bracket.ensures.none refl) (c.if-next_bracket.ensures.no_bracket refl open_bracket refl) in
+    let rest = remaining c.read_token.new.self.cursor in
+    let p = err_from_is_err_and c.from_residual.result c.from_residual.ensures.1 in
+    rw (p.1, p.2) (λ n. Stops-looked header_prefix _ (remaining c.args.self.now.cursor) _ rest can_find_header looked.no_name.same (c.in_err-tok.ensures.broken n))
+
+pub returns-in_default-2-clause-stops : goal.returns-in_default-2-clause-stops
+returns-in_default-2-clause-stops c =
+    let text = remaining c.args.self.now.cursor in
+    let now = remaining c.next_bracket.new.self in
+    let rest = remaining c.read_token.new.self.cursor in
+    let t = c.in_ok-tok.tok in
+    let looked = NoOpening-from (remaining c.args.self.now.cursor) (remaining c.next_name.new.self) (remaining c.next_bracket.new.self) (NoName-from c.next_name.result (remaining c.args.self.now.cursor) (remaining c.next_name.new.self) c.in_default.is c.next_name.ensures.none c.next_name.ensures.no_name)
+    (c.if-next_bracket.ensures.none refl) (c.if-next_bracket.ensures.no_bracket refl open_bracket refl) in
+    λ n. Stops-fails header_prefix t text rest can_find_header (Took-no_name text now rest (token_of t) looked.no_name c.in_ok-tok.ensures.cut) (no_header t (not_name text now rest t looked.no_name c.in_ok-tok.ensures.cut) c.in_default-2.not-Str (not_open text now rest t looked c.in_ok-tok.ensures.cut))
+
+pub returns-in-Str-clause-stops : goal.returns-in-Str-clause-stops
+returns-in-Str-clause-stops c =
+    let name = string_bytes c.in-Str.name in
+    let text = remaining c.args.self.now.cursor in
+    let now = remaining c.read_token.new.self.cursor in
+    let looked = NoOpening-from (remaining c.args.self.now.cursor) (remaining c.next_name.new.self) (remaining c.next_bracket.new.self) (NoName-from c.next_name.result (remaining c.args.self.now.cursor) (remaining c.next_name.new.self) c.in_default.is c.next_name.ensures.none c.next_name.ensures.no_name)
+    (c.if-next_bracket.ensures.none refl) (c.if-next_bracket.ensures.no_bracket refl open_bracket refl) in
+    let cut = Took-at text now c.in_ok-tok.tok (tok.Str c.in-Str.name) c.in-Str.is (Took-no_name text (remaining c.next_bracket.new.self) now (token_of c.in_ok-tok.tok) looked.no_name c.in_ok-tok.ensures.cut) in
+    IfErr-weaker c.read_scope-in-Str.result _ _ (λ e r n. Stops-token header_prefix (scope_prefix name) e text now (remaining c.read_scope-in-Str.new.self.cursor) (string name) cut (λ more. refl) (r n)) c.read_scope-in-Str.ensures.stops

@@ -1,4 +1,4 @@
-use Rattle.std.proofs.Common.{refl}
+use Rattle.std.proofs.Common.{refl, []}
 use Rattle.std.proofs.lemmas.Result.{err_from_is_err_and}
 use Rattle.nano_toml.specs.Prefixes.{closed}
 use Rattle.nano_toml.specs.PrefixesLaws.{scope_prefix}
@@ -7,6 +7,7 @@ use Rattle.nano_toml.specs.Reading.{name_view}
 use Rattle.nano_toml.specs.Statements.{scope}
 use Rattle.nano_toml.specs.Token.{close_bracket}
 use Rattle.nano_toml.proofs.ReadLemmas.{GoesOn-first, Parses-closed, ParsesNothing-closing}
+use Rattle.nano_toml.proofs.StopLemmas.{Stops-closing}
 use Rattle.nano_toml.proofs.statements.Reader.read_scope.Goals as goal
 
 pub returns-in_err-read_close_bracket-clause-rejected : goal.returns-in_err-read_close_bracket-clause-rejected
@@ -21,3 +22,9 @@ returns-clause-found c =
     let rest = remaining c.read_close_bracket.new.self.cursor in
     Parses-closed (scope_prefix name) (closed (scope name)) text rest (scope name)
     (GoesOn-first (scope_prefix name) (closed (scope name)) text rest close_bracket c.in_ok-read_close_bracket.ensures.cut (λ more. refl)) (λ more. refl)
+
+pub returns-in_err-read_close_bracket-clause-stops : goal.returns-in_err-read_close_bracket-clause-stops
+returns-in_err-read_close_bracket-clause-stops c =
+    let last = closed (scope (name_view c.args.name)) in
+    let p = err_from_is_err_and c.from_residual.result c.from_residual.ensures.1 in
+    rw (p.1, p.2) (λ n. Stops-closing last _ (remaining c.args.self.now.cursor) (remaining c.read_close_bracket.new.self.cursor) [] (scope (name_view c.args.name)) refl (c.in_err-read_close_bracket.ensures.rejects n))

@@ -9,6 +9,7 @@ use Rattle.nano_toml.specs.View.{view}
 use Rattle.nano_toml.specs.declared.token.TomlTok.TheVariants as tok
 use Rattle.nano_toml.proofs.ReadLemmas.{Took-at, Parses-scalar, Parses-token, ParsesNothing-cut, ParsesNothing-fails, ParsesNothing-token}
 use Rattle.nano_toml.proofs.Unexpected.{no_value}
+use Rattle.nano_toml.proofs.StopLemmas.{Stops-token, Stops-broken, Stops-reported, can_find_value}
 use Rattle.nano_toml.proofs.statements.Reader.read_value.Goals as goal
 
 pub returns-in_err-tok-clause-rejected : goal.returns-in_err-tok-clause-rejected
@@ -31,3 +32,16 @@ returns-in-Ok-clause-found c =
 pub returns-in-Err-clause-rejected : goal.returns-in-Err-clause-rejected
 returns-in-Err-clause-rejected c =
     λ n. ParsesNothing-fails value_prefix (remaining c.args.self.now.cursor) (remaining c.read_token.new.self.cursor) (token_of c.in_ok-tok.tok) c.in_ok-tok.ensures.cut (no_value c.in_ok-tok.tok c.in-Err.ensures.rejected c.in_default.not-BlockOpen)
+
+pub returns-in_err-tok-clause-stops : goal.returns-in_err-tok-clause-stops
+returns-in_err-tok-clause-stops c =
+    let p = err_from_is_err_and c.from_residual.result c.from_residual.ensures.1 in
+    rw (p.1, p.2) (λ n. Stops-broken value_prefix _ (remaining c.args.self.now.cursor) (remaining c.read_token.new.self.cursor) can_find_value (c.in_err-tok.ensures.broken n))
+
+pub returns-in-BlockOpen-clause-stops : goal.returns-in-BlockOpen-clause-stops
+returns-in-BlockOpen-clause-stops c =
+    IfErr-weaker c.read_array.result _ _ (λ e r n. Stops-token value_prefix (array_prefix [] no_values) e (remaining c.args.self.now.cursor) (remaining c.read_token.new.self.cursor) (remaining c.read_array.new.self.cursor) open_bracket (Took-at (remaining c.args.self.now.cursor) (remaining c.read_token.new.self.cursor) c.in_ok-tok.tok tok.BlockOpen c.in-BlockOpen.is c.in_ok-tok.ensures.cut) (λ more. refl) (r n)) c.read_array.ensures.stops
+
+pub returns-in-Err-clause-stops : goal.returns-in-Err-clause-stops
+returns-in-Err-clause-stops c =
+    λ n. Stops-reported value_prefix c.in-Err.tok c.in_ok-tok.tok (remaining c.args.self.now.cursor) (remaining c.read_token.new.self.cursor) can_find_value c.in-Err.ensures.same c.in_ok-tok.ensures.cut (no_value c.in_ok-tok.tok c.in-Err.ensures.rejected c.in_default.not-BlockOpen)

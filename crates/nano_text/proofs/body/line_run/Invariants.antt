@@ -2,7 +2,7 @@ use Rattle.std.proofs.Common.{◌≡◌, ◌+◌, ◌≤◌, count_by, drop, len
 use Rattle.nano_text.specs.Prefix.{prefix}
 use Rattle.nano_text.specs.Place.{begins_character}
 use Rattle.nano_text.specs.String.{is_plain_in_line}
-use Rattle.nano_text.proofs.body.plain_run.Given as goal
+use Rattle.nano_text.proofs.body.line_run.Given as goal
 
 abbrev pub invariant-loop-more : goal.invariant-loop-more
 invariant-loop-more l = record {

@@ -1,0 +1,85 @@
+#!/usr/bin/env python3
+"""Finds what the documents cite, and fails on a name or a file that is not there.
+
+A name in backticks is looked for among the names of the sources, of the definitions, of the proofs
+and of the case tables; a path among the files. Words of Rust, of the toolchain, and of other
+libraries are listed below. Usage, at the top of the repository: python3 docs/check_claims.py
+"""
+import pathlib
+import re
+import sys
+
+TICKS = re.compile(r"`([^`\n]+)`")
+NAME = re.compile(r"[A-Za-z_][\w]*(?:-[\w]+)*")
+PATH = re.compile(r"^[\w./*-]+\.(?:rt|antt|md|py|sh|svg|edit|tsv|txt|c|rs)$|^(?:crates|docs|src|specs|proofs)/[\w./*-]*$")
+# What stands for itself: a command, a text, or an example of input.
+OTHER = re.compile(r"^(?:rt|sh|python3|cargo|echo|printf|git|valgrind|out)\b|[\"'{}\[\]<>=|\\;]|^\W|^\d")
+# Words of Rust, of its other crates, of the toolchain and of the formats.
+KNOWN = set(
+    "Some None Ok Err true false null NaN inf nan String Vec Option Box HashMap HashSet BTreeMap BTreeSet LinkedList "
+    "u8 u16 u32 u64 u128 usize i8 i16 i32 i64 i128 f32 f64 bool char str Drop Clone Debug Display PartialEq Eq Hash Ord "
+    "serde serde_json bincode ron toml nanoserde std anyhow thiserror impl derive trait struct enum match ghost ensures "
+    "requires unsafe where use mod pub fn let crate self mut ref dyn static const type as in for if else loop while "
+    "malloc Ann nanoserde-derive no_std alloc Send Sync Read Write Result Rc Arc RefCell Cell Cow Default From Into TryFrom Iterator main".split()
+)
+# Files of another place, and the two that stand for all of their kind.
+FILES = {"build.sh", "main.rs", "X.antt", "XLaws.antt", "specs/X.antt", "specs/XLaws.antt"}
+
+
+def known_names():
+    """Every name of the repository's sources, definitions, proofs, programs, mutants and scripts."""
+    names = set(KNOWN)
+    for path in pathlib.Path(".").glob("**/*"):
+        parts = path.parts
+        if "out" in parts or ".git" in parts or not path.is_file():
+            continue
+        names.update(re.findall(r"[\w-]+", path.stem), parts)
+        if path.suffix in (".rt", ".antt", ".edit", ".txt", ".py", ".sh", ".rs", ".tsv", ".c") or not path.suffix:
+            try:
+                names.update(NAME.findall(path.read_text()))
+            except UnicodeDecodeError:
+                continue
+    return names
+
+
+def is_known(name, names, cited):
+    """Whether the name is one of these, or a part of one where the citation leaves some open."""
+    if name in names or name.rstrip("s") in names:
+        return True
+    return ("*" in cited or name.endswith("_")) and any(name in known for known in names)
+
+
+def is_there(cited):
+    """Whether a file of this path, or of this end of a path, is there."""
+    if pathlib.Path(cited.rstrip("/")).exists():
+        return True
+    return any(True for _ in pathlib.Path(".").glob("crates/*/" + cited)) or any(
+        True for _ in pathlib.Path(".").glob("**/" + cited.lstrip("/")))
+
+
+def faults_of(path, names):
+    for number, line in enumerate(path.read_text().splitlines(), 1):
+        if line.startswith("    "):
+            continue
+        for cited in TICKS.findall(line):
+            if PATH.match(cited):
+                if cited not in FILES and not is_there(cited):
+                    yield number, f"no file {cited}"
+            elif not OTHER.search(cited) and " " not in cited:
+                for name in NAME.findall(cited):
+                    if not is_known(name, names, cited):
+                        yield number, f"no name {name} in `{cited}`"
+
+
+def main():
+    names, faults = known_names(), 0
+    for path in [pathlib.Path("README.md"), *sorted(pathlib.Path("docs").glob("*.md"))]:
+        for number, fault in faults_of(path, names):
+            print(f"{path}:{number}: {fault}")
+            faults += 1
+    print(f"{faults} claims that cite what is not there")
+    return 1 if faults else 0
+
+
+if __name__ == "__main__":
+    sys.exit(main())
