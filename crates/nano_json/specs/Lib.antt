@@ -6,14 +6,14 @@ pub use Rattle.nano_json_tokens.specs.Skipped
 pub use Rattle.nano_json_tokens.specs.Messages
 pub use Rattle.nano_json_tokens.specs.Outcomes
 pub use Rattle.nano_json_tokens.specs.Scan
-pub use Rattle.nano_json_tokens.specs.Laws
+pub use Rattle.nano_json_tokens.specs.Promises
 pub use Rattle.nano_json_tokens.specs.Punctuation
 pub use Rattle.nano_json_tokens.specs.Brackets
 pub use Rattle.nano_json_tokens.specs.Written
-pub use Rattle.nano_json_tokens.specs.CutAgain
-pub use Rattle.nano_json_tokens.specs.WrittenText
+pub use Rattle.nano_json_tokens.specs.CutAgainLaws
+pub use Rattle.nano_json_tokens.specs.WrittenTextLaws
 pub use Rattle.nano_json_tokens.specs.Json
-pub use Rattle.nano_json_tokens.specs.Scalars
+pub use Rattle.nano_json_tokens.specs.ScalarsLaws
 -- what it shares with other formats of texts
 pub use Rattle.nano_grammar.specs.Cutting
 pub use Rattle.nano_grammar.specs.Textual

@@ -6,15 +6,15 @@ pub use Rattle.nano_ron_tokens.specs.State
 pub use Rattle.nano_ron_tokens.specs.Messages
 pub use Rattle.nano_ron_tokens.specs.Outcomes
 pub use Rattle.nano_ron_tokens.specs.Scan
-pub use Rattle.nano_ron_tokens.specs.Laws
+pub use Rattle.nano_ron_tokens.specs.Promises
 pub use Rattle.nano_ron_tokens.specs.Punctuation
 pub use Rattle.nano_ron_tokens.specs.Brackets
 pub use Rattle.nano_ron_tokens.specs.Written
-pub use Rattle.nano_ron_tokens.specs.CutAgain
-pub use Rattle.nano_ron_tokens.specs.WrittenText
+pub use Rattle.nano_ron_tokens.specs.CutAgainLaws
+pub use Rattle.nano_ron_tokens.specs.WrittenTextLaws
 pub use Rattle.nano_ron_tokens.specs.Ron
 pub use Rattle.nano_ron_tokens.specs.Styles
-pub use Rattle.nano_ron_tokens.specs.Scalars
+pub use Rattle.nano_ron_tokens.specs.ScalarsLaws
 -- what it shares with other formats of texts
 pub use Rattle.nano_grammar.specs.Cutting
 pub use Rattle.nano_grammar.specs.Textual

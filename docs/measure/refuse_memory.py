@@ -1,0 +1,62 @@
+"""Runs the cases of a table with each request for memory refused, and counts what comes.
+
+refuse_memory.sh calls it with the built program, the built refuse_malloc.c, and the table.
+"""
+import os
+import subprocess
+import sys
+from collections import Counter
+from concurrent.futures import ThreadPoolExecutor
+
+# The calls of a state that take no memory.
+WITHOUT_MEMORY = (".next", ".fail", ".is_null", ".is_none", ".is_block_close", ".is_curly_close",
+                  ".is_paren_close", ".next_str", ".next_ident", ".err_memory")
+
+
+def run(program, library, line):
+    """What the case answers: with requests refused, and last with none refused."""
+    environment = dict(os.environ, LD_PRELOAD=library)
+    done = subprocess.run([program, "one", line], env=environment, capture_output=True, check=False)
+    lines = done.stdout.decode().split("\n")[:-1]
+    return lines[:-1], lines[-1] if lines else "stopped"
+
+
+def judged(line, answer, ample):
+    """What an answer is beside the one with ample memory."""
+    if answer == ample:
+        return "ample"
+    if answer == "no memory":
+        return "memory"
+    call = line.split("\t")[1]
+    if answer.startswith("is no memory -> ") and call not in WITHOUT_MEMORY:
+        return "memory"
+    return "other"
+
+
+def main():
+    """Runs each case, prints what is other, and the counts by format."""
+    program, library, table = sys.argv[1:]
+    with open(table, encoding="ascii") as file:
+        lines = [line.rstrip("\n") for line in file]
+    lines = [line for line in lines if line and not line.startswith("#")]
+    counts = Counter()
+    with ThreadPoolExecutor(2) as pool:
+        results = pool.map(lambda line: run(program, library, line), lines)
+        for line, (answers, ample) in zip(lines, results):
+            form = line.split("\t")[0]
+            counts[form, "cases"] += 1
+            if ample in ("no memory", "stopped", "no case"):
+                answers = answers + [ample]
+                ample = "an answer"
+            for answer in answers:
+                kind = judged(line, answer, ample)
+                counts[form, kind] += 1
+                if kind == "other":
+                    print(f"other: {line}\n  wanted {ample}\n  came {answer}")
+    for form in sorted({form for form, _ in counts}):
+        print(form, *(f"{kind} {counts[form, kind]}" for kind in ("cases", "ample", "memory", "other")))
+    return 1 if any(kind == "other" and count for (_, kind), count in counts.items()) else 0
+
+
+if __name__ == "__main__":
+    sys.exit(main())
