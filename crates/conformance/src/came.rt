@@ -1,0 +1,49 @@
+//! What comes of an input.
+
+use crate::fields::escape;
+use std::alloc::{AllocError, Global};
+
+/// What comes of an input. Out of memory is no such answer, but an `AllocError`.
+#[derive(PartialEq, Debug, Drop)]
+pub enum Came {
+    /// A text: the normal form of the value, or what the words print.
+    Text(Vec<u8>),
+    /// The bytes of the value.
+    Code(Vec<u8>),
+    /// The whole text of the error.
+    Error(Vec<u8>),
+    /// The case names a type or a format that there is none of.
+    Unknown,
+}
+
+impl Came {
+    /// The verdict as a table has it.
+    pub fn verdict(&self) -> &'static str {
+        match self {
+            Came::Text(_) | Came::Code(_) => "is",
+            Came::Error(_) => "error",
+            Came::Unknown => "unknown",
+        }
+    }
+
+    /// The answer as a table has it: bytes in pairs of digits, a text with its escapes.
+    pub fn answer(&self, alloc: Global) -> Result<String, AllocError> {
+        match self {
+            Came::Text(text) | Came::Error(text) => escape(alloc, text),
+            Came::Code(bytes) => pairs(alloc, bytes),
+            Came::Unknown => Ok(String::new(alloc)),
+        }
+    }
+}
+
+/// Bytes in pairs of lower-case hexadecimal digits, with one space between.
+fn pairs(alloc: Global, bytes: &[u8]) -> Result<String, AllocError> {
+    let mut text = String::new(alloc);
+    for byte in bytes {
+        if !text.is_empty() {
+            text.push(' ')?;
+        }
+        write!(text, "{byte:02x}")?;
+    }
+    Ok(text)
+}

@@ -1,0 +1,29 @@
+//! The date of a key in a TOML text.
+
+use crate::came::Came;
+use nanoserde::{Toml, TomlParser};
+use std::alloc::{AllocError, Global};
+
+/// The date that stands at the key, or the error of the text or of its clone.
+pub(crate) fn date_at(alloc: Global, key: &str, text: &str) -> Result<Came, AllocError> {
+    match TomlParser::parse(alloc, text) {
+        Ok(table) => match table.get(key) {
+            Some(value) => date_of(alloc, value),
+            None => Ok(Came::Unknown),
+        },
+        Err(error) if error.memory && error.msg.is_empty() => Err(AllocError),
+        Err(error) => {
+            let again = error.clone(alloc)?;
+            let reported = format!(in alloc; "{again}")?;
+            Ok(Came::Error(reported.into_bytes()))
+        }
+    }
+}
+
+/// The date, where the value is one.
+fn date_of(alloc: Global, value: &Toml) -> Result<Came, AllocError> {
+    match value {
+        Toml::Date(_) => Ok(Came::Text(value.date(alloc)?.into_bytes())),
+        _ => Ok(Came::Unknown),
+    }
+}

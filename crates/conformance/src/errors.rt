@@ -1,0 +1,85 @@
+//! Errors as answers, and out of memory reported apart by its punctuation.
+
+use crate::came::Came;
+use nanoserde::{DeBinErr, DeBinKind, DeJsonErr, DeRonErr};
+use std::alloc::{AllocError, Global};
+
+/// The bytes of a value, or the kind of the error with its `o`, `l` and `s`. An offset that the
+/// error moved is reported.
+pub(crate) fn code(
+    alloc: Global,
+    read: Result<Vec<u8>, DeBinErr>,
+    moved: usize,
+) -> Result<Came, AllocError> {
+    match read {
+        Ok(bytes) => Ok(Came::Code(bytes)),
+        Err(error) => {
+            let DeBinErr { o, l, s, kind } = error;
+            if moved != 0 {
+                text_of(format!(in alloc; "{kind:?} that moved the offset by {moved}"))
+            } else if kind == DeBinKind::Memory && l == 0 {
+                Err(AllocError)
+            } else {
+                text_of(format!(in alloc; "{kind:?} o {o} l {l} s {s}"))
+            }
+        }
+    }
+}
+
+/// A text, or the text of the error.
+pub(crate) fn json(alloc: Global, read: Result<String, DeJsonErr>) -> Result<Came, AllocError> {
+    match read {
+        Ok(text) => Ok(Came::Text(text.into_bytes())),
+        Err(error) => json_error(alloc, &error),
+    }
+}
+
+/// The bytes of a JSON text's value, or the text of the error.
+pub(crate) fn json_code(
+    alloc: Global,
+    read: Result<Vec<u8>, DeJsonErr>,
+) -> Result<Came, AllocError> {
+    match read {
+        Ok(bytes) => Ok(Came::Code(bytes)),
+        Err(error) => json_error(alloc, &error),
+    }
+}
+
+/// The text of the error.
+fn json_error(alloc: Global, error: &DeJsonErr) -> Result<Came, AllocError> {
+    match (error.memory, error.msg.is_empty()) {
+        (false, _) => text_of(format!(in alloc; "{error}")),
+        (true, true) => Err(AllocError),
+        (true, false) => text_of(format!(in alloc; "want of memory with a message: {error}")),
+    }
+}
+
+/// A text, or the text of the error.
+pub(crate) fn ron(alloc: Global, read: Result<String, DeRonErr>) -> Result<Came, AllocError> {
+    match read {
+        Ok(text) => Ok(Came::Text(text.into_bytes())),
+        Err(error) => ron_error(alloc, &error),
+    }
+}
+
+/// The bytes of a RON text's value, or the text of the error.
+pub(crate) fn ron_code(alloc: Global, read: Result<Vec<u8>, DeRonErr>) -> Result<Came, AllocError> {
+    match read {
+        Ok(bytes) => Ok(Came::Code(bytes)),
+        Err(error) => ron_error(alloc, &error),
+    }
+}
+
+/// The text of the error.
+fn ron_error(alloc: Global, error: &DeRonErr) -> Result<Came, AllocError> {
+    match (error.memory, error.msg.is_empty()) {
+        (false, _) => text_of(format!(in alloc; "{error}")),
+        (true, true) => Err(AllocError),
+        (true, false) => text_of(format!(in alloc; "want of memory with a message: {error}")),
+    }
+}
+
+/// The error of this text.
+fn text_of(text: Result<String, AllocError>) -> Result<Came, AllocError> {
+    Ok(Came::Error(text?.into_bytes()))
+}

@@ -1,0 +1,115 @@
+//! The formats that a case can name.
+
+/// A format, and how much of the input is to be a value of it.
+#[derive(Clone, Copy, PartialEq, Debug)]
+pub enum Format {
+    /// Bytes that begin with a value.
+    Bin,
+    /// Bytes that are a value.
+    BinWhole,
+    /// Bytes that begin with a value, whose JSON text is wanted.
+    BinJson,
+    /// Bytes that begin with a value, whose RON text is wanted.
+    BinRon,
+    /// JSON that begins with a value.
+    Json,
+    /// JSON that is a value.
+    JsonWhole,
+    /// JSON that begins with a value, whose bytes are wanted.
+    JsonBin,
+    /// JSON that is read a second time in the state that the first reading left.
+    JsonAgain,
+    /// RON that begins with a value.
+    Ron,
+    /// RON that is a value.
+    RonWhole,
+    /// RON that begins with a value, whose bytes are wanted.
+    RonBin,
+    /// RON that is read a second time in the state that the first reading left.
+    RonAgain,
+    /// Bytes after an offset and a space, that hold a value from that offset on.
+    BinAt,
+    /// A state of JSON's reader, and a type that is read in it or a call.
+    JsonState,
+    /// A state of RON's reader, and a type that is read in it or a call.
+    RonState,
+    /// Bytes that are written as JSON at the greatest level, or a text and a call after it.
+    JsonWrite,
+    /// Bytes that are written as RON at the greatest level, or a text and a call after it.
+    RonWrite,
+    /// A TOML text, and a key that stands in the place of a type and has a date.
+    TomlDate,
+    /// The words of `nano_show`, which stand in the place of a type.
+    Run,
+}
+
+impl Format {
+    /// The format of this name.
+    pub fn of(word: &str) -> Option<Format> {
+        match word {
+            "bin" => Some(Format::Bin),
+            "bin-whole" => Some(Format::BinWhole),
+            "bin-json" => Some(Format::BinJson),
+            "bin-ron" => Some(Format::BinRon),
+            "json" => Some(Format::Json),
+            "json-whole" => Some(Format::JsonWhole),
+            "json-bin" => Some(Format::JsonBin),
+            "ron" => Some(Format::Ron),
+            "ron-whole" => Some(Format::RonWhole),
+            "ron-bin" => Some(Format::RonBin),
+            _ => Format::of_state(word),
+        }
+    }
+
+    /// The format of this name, where its cases have a state.
+    fn of_state(word: &str) -> Option<Format> {
+        match word {
+            "bin-at" => Some(Format::BinAt),
+            "json-state" => Some(Format::JsonState),
+            "ron-state" => Some(Format::RonState),
+            "json-write" => Some(Format::JsonWrite),
+            "ron-write" => Some(Format::RonWrite),
+            "toml-date" => Some(Format::TomlDate),
+            "run" => Some(Format::Run),
+            _ => None,
+        }
+    }
+
+    /// The same format, for an input that is a value.
+    pub(crate) fn whole(self) -> Option<Format> {
+        match self {
+            Format::Bin | Format::BinWhole => Some(Format::BinWhole),
+            Format::Json | Format::JsonWhole => Some(Format::JsonWhole),
+            Format::Ron | Format::RonWhole => Some(Format::RonWhole),
+            _ => None,
+        }
+    }
+
+    /// The same format, for an input that begins with a value.
+    pub(crate) fn prefix(self) -> Format {
+        match self {
+            Format::BinWhole => Format::Bin,
+            Format::JsonWhole => Format::Json,
+            Format::RonWhole => Format::Ron,
+            other => other,
+        }
+    }
+
+    /// The same format, read a second time.
+    pub(crate) fn again(self) -> Format {
+        match self {
+            Format::JsonWhole => Format::JsonAgain,
+            Format::RonWhole => Format::RonAgain,
+            other => other,
+        }
+    }
+
+    /// The bytes of the same text.
+    pub(crate) fn as_bytes(self) -> Format {
+        match self {
+            Format::JsonWhole => Format::JsonBin,
+            Format::RonWhole => Format::RonBin,
+            other => other,
+        }
+    }
+}

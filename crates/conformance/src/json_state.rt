@@ -1,0 +1,222 @@
+//! Calls of a state of Json's reader: what is answered, and the state afterwards.
+
+use crate::came::Came;
+use crate::start::{Start, append_place, character, no_memory, start_of};
+use nanoserde::{BothJson, DeJsonErr, DeJsonState, DeJsonTok};
+use std::alloc::{AllocError, Global};
+use std::fmt::Display;
+use std::str::Chars;
+
+/// What is read as a value of a type in a state, and the state afterwards.
+pub(crate) fn read_at<T: BothJson>(alloc: Global, text: &str) -> Result<Came, AllocError> {
+    let Some(start) = start_of(text) else {
+        return Ok(Came::Unknown);
+    };
+    let mut input = start.text.chars();
+    match set_up(alloc, &start, &mut input)? {
+        None => Ok(Came::Unknown),
+        Some(mut state) => {
+            let answer = match T::de_json(alloc, &mut state, &mut input) {
+                Ok(value) => value.serialize_json(alloc)?,
+                Err(error) => reported(alloc, &error)?,
+            };
+            with_state(answer, &state, &input)
+        }
+    }
+}
+
+/// What a call answers in a state, and the state afterwards.
+pub(crate) fn call_at(alloc: Global, call: &str, text: &str) -> Result<Came, AllocError> {
+    let Some(start) = start_of(text) else {
+        return Ok(Came::Unknown);
+    };
+    let mut input = start.text.chars();
+    match set_up(alloc, &start, &mut input)? {
+        None => Ok(Came::Unknown),
+        Some(mut state) => match taken(alloc, &mut state, &mut input, call)? {
+            Some(answer) => with_state(answer, &state, &input),
+            None => Ok(Came::Unknown),
+        },
+    }
+}
+
+/// The state that is described, whose first character is taken from the input.
+fn set_up(
+    alloc: Global,
+    start: &Start<'_>,
+    input: &mut Chars<'_>,
+) -> Result<Option<DeJsonState>, AllocError> {
+    let Some(tok) = token(start) else {
+        return Ok(None);
+    };
+    let mut state = DeJsonState::new(alloc);
+    match tok {
+        DeJsonTok::Str => state.strbuf.push_str(start.content)?,
+        DeJsonTok::F64 => state.numbuf.push_str(start.content)?,
+        _ => state.identbuf.push_str(start.content)?,
+    }
+    state.tok = tok;
+    state.cur = input.next().unwrap_or('\0');
+    state.line = start.line;
+    state.col = start.col;
+    Ok(Some(state))
+}
+
+/// The pending token.
+fn token(start: &Start<'_>) -> Option<DeJsonTok> {
+    let content = start.content;
+    match start.token {
+        "U64" => Some(DeJsonTok::U64(content.parse().ok()?)),
+        "I64" => Some(DeJsonTok::I64(content.parse().ok()?)),
+        "Bool" => Some(DeJsonTok::Bool(content == "true")),
+        "Char" => Some(DeJsonTok::Char(character(content)?)),
+        name => punctuator(name),
+    }
+}
+
+/// The token of this name that carries nothing.
+fn punctuator(name: &str) -> Option<DeJsonTok> {
+    match name {
+        "Str" => Some(DeJsonTok::Str),
+        "F64" => Some(DeJsonTok::F64),
+        "BareIdent" => Some(DeJsonTok::BareIdent),
+        "Null" => Some(DeJsonTok::Null),
+        "Colon" => Some(DeJsonTok::Colon),
+        "CurlyOpen" => Some(DeJsonTok::CurlyOpen),
+        "CurlyClose" => Some(DeJsonTok::CurlyClose),
+        "BlockOpen" => Some(DeJsonTok::BlockOpen),
+        "BlockClose" => Some(DeJsonTok::BlockClose),
+        "Comma" => Some(DeJsonTok::Comma),
+        "Bof" => Some(DeJsonTok::Bof),
+        "Eof" => Some(DeJsonTok::Eof),
+        _ => None,
+    }
+}
+
+/// The answer, and the state after it.
+fn with_state(
+    mut answer: String,
+    state: &DeJsonState,
+    input: &Chars<'_>,
+) -> Result<Came, AllocError> {
+    let tok = &state.tok;
+    write!(answer, " -> {tok:?}")?;
+    match tok {
+        DeJsonTok::Str => write!(answer, "({})", state.strbuf)?,
+        DeJsonTok::F64 => write!(answer, "({})", state.numbuf)?,
+        _ => {}
+    }
+    append_place(
+        &mut answer,
+        state.line,
+        state.col,
+        state.cur,
+        input.as_str(),
+    )?;
+    Ok(Came::Text(answer.into_bytes()))
+}
+
+/// An error as an answer.
+fn reported(alloc: Global, error: &DeJsonErr) -> Result<String, AllocError> {
+    let (msg, line, col) = (error.msg.as_str(), error.line, error.col);
+    match (error.memory, msg.is_empty()) {
+        (true, true) => no_memory(alloc),
+        (true, false) => format!(in alloc; "want of memory with a message: {msg}"),
+        (false, _) => format!(in alloc; "error {msg}, at {line}:{col}"),
+    }
+}
+
+/// What a call that takes a token answers, or what another call does.
+fn taken(
+    alloc: Global,
+    state: &mut DeJsonState,
+    input: &mut Chars<'_>,
+    call: &str,
+) -> Result<Option<String>, AllocError> {
+    let taken = match call {
+        ".next_tok" => state.next_tok(alloc, input),
+        ".colon" => state.colon(alloc, input),
+        ".next_colon" => state.next_colon(alloc, input),
+        ".string" => state.string(alloc, input),
+        ".block_open" => state.block_open(alloc, input),
+        ".block_close" => state.block_close(alloc, input),
+        ".curly_open" => state.curly_open(alloc, input),
+        ".curly_close" => state.curly_close(alloc, input),
+        ".eat_comma_block" => state.eat_comma_block(alloc, input),
+        ".eat_comma_curly" => state.eat_comma_curly(alloc, input),
+        ".whole_field" => state.whole_field(alloc, input),
+        _ => return other(alloc, state, input, call),
+    };
+    match taken {
+        Ok(()) => Ok(Some(String::from_str(alloc, "ok")?)),
+        Err(error) => Ok(Some(reported(alloc, &error)?)),
+    }
+}
+
+/// What a call answers that takes no token, or one that makes a value or an error.
+fn other(
+    alloc: Global,
+    state: &mut DeJsonState,
+    input: &mut Chars<'_>,
+    call: &str,
+) -> Result<Option<String>, AllocError> {
+    match call {
+        ".next" => {
+            state.next(input);
+            Ok(Some(String::from_str(alloc, "ok")?))
+        }
+        ".fail" => {
+            state.fail();
+            Ok(Some(String::from_str(alloc, "ok")?))
+        }
+        ".as_string" => match state.as_string(alloc) {
+            Ok(text) => Ok(Some(text)),
+            Err(error) => Ok(Some(reported(alloc, &error)?)),
+        },
+        ".as_bool" => value(alloc, state.as_bool(alloc)),
+        ".u64_range_3" => value(alloc, state.u64_range(alloc, 3)),
+        ".i64_range_-5_5" => value(alloc, state.i64_range(alloc, -5, 5)),
+        ".i64_range_5_-5" => value(alloc, state.i64_range(alloc, 5, -5)),
+        _ => marked(alloc, state, call),
+    }
+}
+
+/// A value, or the error.
+fn value<V: Display + Drop>(
+    alloc: Global,
+    read: Result<V, DeJsonErr>,
+) -> Result<Option<String>, AllocError> {
+    match read {
+        Ok(value) => Ok(Some(format!(in alloc; "{value}")?)),
+        Err(error) => Ok(Some(reported(alloc, &error)?)),
+    }
+}
+
+/// What a call answers that looks at the pending token, or one that makes an error.
+fn marked(alloc: Global, state: &DeJsonState, call: &str) -> Result<Option<String>, AllocError> {
+    let is_so = match call {
+        ".is_null" => state.is_null(),
+        ".is_block_close" => state.is_block_close(),
+        ".is_curly_close" => state.is_curly_close(),
+        ".next_str" => state.next_str().is_some(),
+        _ => return made(alloc, state, call),
+    };
+    Ok(Some(format!(in alloc; "{is_so}")?))
+}
+
+/// The error that a call makes, and its clone.
+fn made(alloc: Global, state: &DeJsonState, call: &str) -> Result<Option<String>, AllocError> {
+    let error = match call {
+        ".err_exp" => state.err_exp(alloc, "k"),
+        ".err_nf" => state.err_nf(alloc, "k"),
+        ".err_enum" => state.err_enum(alloc, "V"),
+        ".err_token" => state.err_token(alloc, "x"),
+        ".err_range" => state.err_range(alloc, "x"),
+        ".err_type" => state.err_type(alloc, "x"),
+        ".err_parse" => state.err_parse(alloc, "x"),
+        ".err_memory" => state.err_memory(alloc),
+        _ => return Ok(None),
+    };
+    let again = error.clone(alloc)?;
+    Ok(Some(reported(alloc, &again)?))
+}

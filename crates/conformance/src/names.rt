@@ -1,0 +1,53 @@
+//! The intended differences from the Rust crate, by the names that docs/DIFFERENCES.md gives them.
+
+use crate::came::Came;
+
+/// The names, as they stand in docs/DIFFERENCES.md.
+const NAMES: &[&str] = &[
+    "a text that is cut short",
+    "a text that is not UTF-8",
+    "counts",
+    "i64_range",
+    "whole_field",
+    "a fault in a tuple",
+    "a character between apostrophes",
+    "/*/",
+    "\"\"",
+    "closing triple quotes",
+    "a.b",
+    "[[a]] on a key of another kind",
+];
+
+/// Whether an answer is what the Rust crate did, or differs from it by names that are known. Where
+/// there is no word on the Rust crate, it is.
+pub(crate) fn is_named(rust_crate: &str, names: &str, came: &Came) -> bool {
+    if !names.is_empty() {
+        return are_known(names);
+    }
+    match rust_crate {
+        "answered" => came.verdict() == "is",
+        "refused" => came.verdict() == "error",
+        "stopped" => false,
+        _ => true,
+    }
+}
+
+/// Whether each of the names, parted by `; `, is known.
+fn are_known(names: &str) -> bool {
+    for name in names.split("; ") {
+        if !is_known(name) {
+            return false;
+        }
+    }
+    true
+}
+
+/// Whether this is the name of an intended difference.
+fn is_known(name: &str) -> bool {
+    for known in NAMES {
+        if *known == name {
+            return true;
+        }
+    }
+    false
+}

@@ -1,0 +1,125 @@
+//! Runs tables of cases over the library's formats, and prints each case that differs.
+//!
+//! `conformance_run` runs its own tables, `conformance_run tables FILE..` these, and
+//! `conformance_run one LINE` prints what comes of the case of a table's line.
+#![tactic(auto)]
+
+use conformance::{Case, differences_of};
+use std::alloc::{AllocError, Global};
+use std::io::{self, ErrorKind};
+use std::process::ExitCode;
+use std::{env, fs};
+
+/// The tables, each with whether its cases are wrong on purpose.
+const TABLES: &[(&str, bool)] = &[
+    ("worked.tsv", false),
+    ("requests.tsv", false),
+    ("rust_crate.tsv", false),
+    ("states.tsv", false),
+    ("wrong.tsv", true),
+];
+
+/// How many cases a table has, and of how many something differs.
+#[derive(Clone, Copy)]
+struct Tally {
+    cases: u64,
+    differ: u64,
+}
+
+/// Runs the cases of a table, and prints what differs, and how many do.
+fn run_table(rt: &HostRuntime, name: &str) -> io::Result<Tally> {
+    let text = fs::read_to_string(rt, name)?;
+    let mut tally = Tally {
+        cases: 0,
+        differ: 0,
+    };
+    let mut number = 0u64;
+    for line in text.lines() {
+        number = number.saturating_add(1);
+        if let Some(differ) = run_line(rt, name, number, line)? {
+            tally.cases = tally.cases.saturating_add(1);
+            if differ {
+                tally.differ = tally.differ.saturating_add(1);
+            }
+        }
+    }
+    println!(rt; "{name}: {} cases, {} differ", tally.cases, tally.differ)?;
+    Ok(tally)
+}
+
+/// Runs a case, prints what differs, and answers whether something does.
+fn run_line(rt: &HostRuntime, name: &str, number: u64, line: &str) -> io::Result<Option<bool>> {
+    let mut report = String::new(rt.alloc());
+    match differences_of(rt.alloc(), line, &mut report)? {
+        None => Ok(None),
+        Some(0) => Ok(Some(false)),
+        Some(_) => {
+            println!(rt; "{name}:{number}: {line}")?;
+            print!(rt; "{report}")?;
+            Ok(Some(true))
+        }
+    }
+}
+
+/// Runs the program's own tables, and answers whether each did as it should.
+fn run_own(rt: &HostRuntime) -> io::Result<bool> {
+    let mut is_right = true;
+    for (name, is_wrong) in TABLES {
+        let tally = run_table(rt, name)?;
+        let wanted = if *is_wrong { tally.cases } else { 0 };
+        is_right = is_right && tally.differ == wanted;
+    }
+    Ok(is_right)
+}
+
+/// Runs tables, and answers whether nothing differs.
+fn run_files(rt: &HostRuntime, names: &[String]) -> io::Result<bool> {
+    let mut is_right = true;
+    for name in names {
+        is_right = run_table(rt, name.as_str())?.differ == 0 && is_right;
+    }
+    Ok(is_right)
+}
+
+/// What comes of the case of a line, in one text.
+fn came_of_line(alloc: Global, line: &str) -> Result<String, AllocError> {
+    match Case::of_line(alloc, line)? {
+        Some(case) => {
+            let came = case.run(alloc)?;
+            let (verdict, answer) = (came.verdict(), came.answer(alloc)?);
+            format!(in alloc; "{verdict} {answer}")
+        }
+        None => String::from_str(alloc, "no case"),
+    }
+}
+
+/// Prints what comes of one case.
+fn run_one(rt: &HostRuntime, line: &str) -> io::Result<bool> {
+    match came_of_line(rt.alloc(), line) {
+        Ok(text) => rt.println(text)?,
+        Err(_) => rt.println("no memory")?,
+    }
+    Ok(true)
+}
+
+/// Does what the words of the command line ask for.
+fn run_words(rt: &HostRuntime) -> io::Result<bool> {
+    let words: Vec<String> = env::args(rt)?.collect(rt.alloc())?;
+    match words.as_slice() {
+        [_, word, line] if word.as_str() == "one" => run_one(rt, line.as_str()),
+        [_, first, rest @ ..] if first.as_str() == "tables" => run_files(rt, rest),
+        _ => run_own(rt),
+    }
+}
+
+fn main(rt: HostRuntime) -> io::Result<ExitCode> {
+    match run_words(&rt) {
+        Ok(true) => Ok(ExitCode::SUCCESS),
+        Ok(false) => Ok(ExitCode::FAILURE),
+        Err(error) if error.kind() == ErrorKind::OutOfMemory => {
+            rt.println("no memory")?;
+            Ok(ExitCode::SUCCESS)
+        }
+        Err(error) => Err(error),
+    }
+}
