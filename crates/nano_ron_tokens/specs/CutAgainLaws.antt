@@ -19,8 +19,8 @@ use Rattle.nano_ron_tokens.specs.Cut.{is_word, starts_number, IsName, Cut, word,
 use Rattle.nano_ron_tokens.specs.Ron.{none}
 use Rattle.nano_ron_tokens.specs.RonLaws.{cut_at_once}
 use Rattle.nano_ron_tokens.specs.Token.{u64, i64, bool}
-use Rattle.nano_ron_tokens.specs.Written.{MayFollow, may_follow}
-use Rattle.nano_ron_tokens.specs.WrittenLaws.{written_truth, signed_token}
+use Rattle.nano_ron_tokens.specs.Written.{MayFollow, may_follow, written_truth}
+use Rattle.nano_ron_tokens.specs.WrittenLaws.{signed_token}
 
 -- ---- what follows goes on with no word and no number
 

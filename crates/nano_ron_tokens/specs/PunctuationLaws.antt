@@ -1,4 +1,4 @@
--- What is proved of Punctuation.
+-- A test of tokens that proofs alone need.
 use Rattle.std.specs.Prelude.{Bool, true, false}
 use Rattle.nano_ron_tokens.specs.Token.{Token, end}
 

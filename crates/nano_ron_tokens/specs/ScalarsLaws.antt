@@ -18,8 +18,8 @@ use Rattle.nano_ron_tokens.specs.WrittenTextLaws.{text_is_cut, text_textual}
 use Rattle.nano_ron_tokens.specs.Ron.{MayBegin, none, ron_grammar}
 use Rattle.nano_ron_tokens.specs.RonLaws.{ron}
 use Rattle.nano_ron_tokens.specs.Token.{Token, str, u64, i64, bool, integer_of, truth_of}
-use Rattle.nano_ron_tokens.specs.WrittenLaws.{written_truth, signed_token}
-use Rattle.nano_ron_tokens.specs.Written.{written_text}
+use Rattle.nano_ron_tokens.specs.WrittenLaws.{signed_token}
+use Rattle.nano_ron_tokens.specs.Written.{written_text, written_truth}
 use Rattle.nano_grammar.specs.OptionsLaws.{some_injective}
 
 -- ---- which token carries what

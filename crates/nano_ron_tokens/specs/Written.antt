@@ -1,6 +1,6 @@
 -- What is written of scalars and between tokens, and what may follow what is written.
-use Rattle.std.specs.Prelude.{◌≡◌, ℕ, ◌==◌, ◌||◌, ◌&&◌, not, Bool, zero, suc, true, List, [], ◌∷◌}
-use Rattle.std.specs.Prelude.{◌++◌, if◌then◌else◌, codes, chars}
+use Rattle.std.specs.Prelude.{◌≡◌, ℕ, ◌==◌, ◌||◌, ◌&&◌, not, Bool, zero, suc, true, false, List, []}
+use Rattle.std.specs.Prelude.{◌∷◌, ◌++◌, if◌then◌else◌, codes, chars}
 use Rattle.std.specs.List.{flat_map}
 use Rattle.nano_text.specs.String.{Piece, plain, escaped, piece_text}
 use Rattle.nano_ron_tokens.specs.Gaps.{is_space}
@@ -22,6 +22,10 @@ indent zero = []
 indent (suc d) = codes "    " ++ indent d
 
 -- ---- scalars
+
+abbrev pub written_truth : Bool → List ℕ
+written_truth true = codes "true"
+written_truth false = codes "false"
 
 -- a character that is written as itself
 abbrev pub stands_as_itself : ℕ → Bool

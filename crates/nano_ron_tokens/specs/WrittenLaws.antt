@@ -1,12 +1,8 @@
 -- What is proved of Written.
-use Rattle.std.specs.Prelude.{ℕ, ℤ, pos, negsuc, Bool, true, false, List, codes}
+use Rattle.std.specs.Prelude.{ℤ, pos, negsuc}
 use Rattle.nano_ron_tokens.specs.Token.{Token, u64, i64}
 
 -- ---- scalars
-
-abbrev pub written_truth : Bool → List ℕ
-written_truth true = codes "true"
-written_truth false = codes "false"
 
 -- a number is one token, with a minus sign or without
 abbrev pub signed_token : ℤ → Token
