@@ -2,7 +2,7 @@
 use Rattle.std.specs.Prelude.{◌≡◌, ◌≢◌, ◌<◌, true, false, ℕ, List, [], ◌++◌, length, codes, Result}
 use Rattle.std.specs.Prelude.{IsOk, IfOk, String, string_bytes, string_capacity}
 use Rattle.std.specs.declared.str.Chars.{Chars}
-use Rattle.nano_text.specs.Place.{held, remaining, Passes}
+use Rattle.nano_text.specs.Place.{remaining, Advances}
 use Rattle.nano_grammar.specs.Tokens.{At, Leaves}
 use Rattle.nano_json_tokens.specs.declared.error.DeJsonErr.{DeJsonErr}
 use Rattle.nano_json_tokens.specs.declared.state.DeJsonState.{DeJsonState}
@@ -49,9 +49,9 @@ FindsOther old before new after = (pending new ≢ colon)
     × Cut (remaining old.cur before) (pending new) (remaining new.cur after)
     × KeepsOtherBuffers old new
 
--- line and column count each character that was taken
+-- line and column count each character that was taken, and all of them are of the text
 abbrev pub Counts : DeJsonState → Chars → DeJsonState → Chars → Type 0
-Counts old before new after = Passes (place_of old) (held before) (place_of new) (held after)
+Counts old before new after = Advances (place_of old) before (place_of new) after
 
 -- the token's text goes to a buffer that has no capacity for it yet
 abbrev pub Outgrows : DeJsonState → Token → Type 0

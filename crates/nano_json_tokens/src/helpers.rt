@@ -19,14 +19,14 @@ use std::str::Chars;
 
 /// The calls that take the pending token. If another token is pending, they reject it, and the
 /// token and its text are unchanged. If they fail while they take the next token, the state is
-/// at the end of the text.
+/// at the end of the text. In any case line and column count the characters that were taken.
 impl DeJsonState {
     /// Takes the next token where a colon is pending.
     #[inline]
     pub fn colon(&mut self, alloc: Global, i: &mut Chars<'_>) -> Result<(), DeJsonErr>
         ensures taken { OnOk result (Takes (colon ∷ []) self.old i.old self.new i.new) }
         ensures buffers { OnOk result (KeepsOtherBuffers self.old self.new) }
-        ensures place { OnOk result (Counts self.old i.old self.new i.new) }
+        ensures place { Counts self.old i.old self.new i.new }
         ensures rejected { IfErr result
             (Reports self.new (NoneHere (colon ∷ []) self.old i.old)) }
         ensures unchanged { pending self.old ≢ colon
@@ -44,7 +44,7 @@ impl DeJsonState {
         ensures taken { OnOk result ((bytes : List ℕ)
             × Takes (str bytes ∷ []) self.old i.old self.new i.new) }
         ensures buffers { OnOk result (KeepsOtherBuffers self.old self.new) }
-        ensures place { OnOk result (Counts self.old i.old self.new i.new) }
+        ensures place { Counts self.old i.old self.new i.new }
         ensures rejected { IfErr result (Reports self.new
             ((bytes : List ℕ) → NoneHere (str bytes ∷ []) self.old i.old)) }
         ensures unchanged { ¬ IsStr (pending self.old)
@@ -62,7 +62,7 @@ impl DeJsonState {
     pub fn block_open(&mut self, alloc: Global, i: &mut Chars<'_>) -> Result<(), DeJsonErr>
         ensures taken { OnOk result (Takes (block_open ∷ []) self.old i.old self.new i.new) }
         ensures buffers { OnOk result (KeepsOtherBuffers self.old self.new) }
-        ensures place { OnOk result (Counts self.old i.old self.new i.new) }
+        ensures place { Counts self.old i.old self.new i.new }
         ensures rejected { IfErr result
             (Reports self.new (NoneHere (block_open ∷ []) self.old i.old)) }
         ensures unchanged { pending self.old ≢ block_open
@@ -80,7 +80,7 @@ impl DeJsonState {
     pub fn block_close(&mut self, alloc: Global, i: &mut Chars<'_>) -> Result<(), DeJsonErr>
         ensures taken { OnOk result (Takes (block_close ∷ []) self.old i.old self.new i.new) }
         ensures buffers { OnOk result (KeepsOtherBuffers self.old self.new) }
-        ensures place { OnOk result (Counts self.old i.old self.new i.new) }
+        ensures place { Counts self.old i.old self.new i.new }
         ensures rejected { IfErr result
             (Reports self.new (NoneHere (block_close ∷ []) self.old i.old)) }
         ensures unchanged { pending self.old ≢ block_close
@@ -98,7 +98,7 @@ impl DeJsonState {
     pub fn curly_open(&mut self, alloc: Global, i: &mut Chars<'_>) -> Result<(), DeJsonErr>
         ensures taken { OnOk result (Takes (curly_open ∷ []) self.old i.old self.new i.new) }
         ensures buffers { OnOk result (KeepsOtherBuffers self.old self.new) }
-        ensures place { OnOk result (Counts self.old i.old self.new i.new) }
+        ensures place { Counts self.old i.old self.new i.new }
         ensures rejected { IfErr result
             (Reports self.new (NoneHere (curly_open ∷ []) self.old i.old)) }
         ensures unchanged { pending self.old ≢ curly_open
@@ -116,7 +116,7 @@ impl DeJsonState {
     pub fn curly_close(&mut self, alloc: Global, i: &mut Chars<'_>) -> Result<(), DeJsonErr>
         ensures taken { OnOk result (Takes (curly_close ∷ []) self.old i.old self.new i.new) }
         ensures buffers { OnOk result (KeepsOtherBuffers self.old self.new) }
-        ensures place { OnOk result (Counts self.old i.old self.new i.new) }
+        ensures place { Counts self.old i.old self.new i.new }
         ensures rejected { IfErr result
             (Reports self.new (NoneHere (curly_close ∷ []) self.old i.old)) }
         ensures unchanged { pending self.old ≢ curly_close
@@ -135,7 +135,7 @@ impl DeJsonState {
         ensures taken { OnOk result (Takes (comma ∷ []) self.old i.old self.new i.new
             ⊎ ((pending self.old ≡ block_close) × (at self.new i.new ≡ at self.old i.old))) }
         ensures buffers { OnOk result (KeepsOtherBuffers self.old self.new) }
-        ensures place { OnOk result (Counts self.old i.old self.new i.new) }
+        ensures place { Counts self.old i.old self.new i.new }
         ensures rejected { IfErr result (Reports self.new
             ((pending self.old ≢ block_close) × NoneHere (comma ∷ []) self.old i.old)) }
         ensures closed { pending self.old ≡ block_close → IsOk result }
@@ -155,7 +155,7 @@ impl DeJsonState {
         ensures taken { OnOk result (Takes (comma ∷ []) self.old i.old self.new i.new
             ⊎ ((pending self.old ≡ curly_close) × (at self.new i.new ≡ at self.old i.old))) }
         ensures buffers { OnOk result (KeepsOtherBuffers self.old self.new) }
-        ensures place { OnOk result (Counts self.old i.old self.new i.new) }
+        ensures place { Counts self.old i.old self.new i.new }
         ensures rejected { IfErr result (Reports self.new
             ((pending self.old ≢ curly_close) × NoneHere (comma ∷ []) self.old i.old)) }
         ensures closed { pending self.old ≡ curly_close → IsOk result }
@@ -178,7 +178,7 @@ impl DeJsonState {
         ensures taken { OnOk result
             (Takes (pending self.old ∷ (colon ∷ [])) self.old i.old self.new i.new) }
         ensures buffers { OnOk result (KeepsOtherBuffers self.old self.new) }
-        ensures place { OnOk result (Counts self.old i.old self.new i.new) }
+        ensures place { Counts self.old i.old self.new i.new }
         ensures rejected { IfErr result (Reports self.new
             (NoneHere (pending self.old ∷ (colon ∷ [])) self.old i.old)) }
         ensures other { IfErr result (λ e. e.memory ≡ false → (next : At Token)

@@ -47,7 +47,7 @@ impl DeJsonState {
         ensures taken { OnOk result
             (Cut (remaining self.old.cur i.old) (pending self.new) (remaining self.new.cur i.new)) }
         ensures buffers { OnOk result (KeepsOtherBuffers self.old self.new) }
-        ensures place { OnOk result (Counts self.old i.old self.new i.new) }
+        ensures place { Counts self.old i.old self.new i.new }
         ensures rejected { IfErr result (λ r. r ≢ Rejection.Memory
             → NothingCut (remaining self.old.cur i.old)) }
         ensures capacity { IfErr result (λ r. r ≡ Rejection.Memory
@@ -67,7 +67,7 @@ impl DeJsonState {
         ensures taken { OnOk result
             (Cut (remaining self.old.cur i.old) (pending self.new) (remaining self.new.cur i.new)) }
         ensures buffers { OnOk result (KeepsOtherBuffers self.old self.new) }
-        ensures place { OnOk result (Counts self.old i.old self.new i.new) }
+        ensures place { Counts self.old i.old self.new i.new }
         ensures rejected { IfErr result (λ r. r ≢ Rejection.Memory
             → NothingCut (remaining self.old.cur i.old)) }
         ensures capacity { IfErr result (λ r. r ≡ Rejection.Memory
@@ -114,7 +114,7 @@ impl DeJsonState {
         ensures taken { OnOk result
             (IsLexeme (pending self.new) (remaining self.old.cur i.old) (remaining self.new.cur i.new)) }
         ensures buffers { OnOk result (KeepsOtherBuffers self.old self.new) }
-        ensures place { OnOk result (Counts self.old i.old self.new i.new) }
+        ensures place { Counts self.old i.old self.new i.new }
         ensures rejected { IfErr result (λ r. r ≢ Rejection.Memory
             → NoneLexeme (remaining self.old.cur i.old)) }
         ensures capacity { IfErr result (λ r. r ≡ Rejection.Memory
@@ -143,7 +143,7 @@ impl DeJsonState {
         ensures taken { OnOk result
             (IsLexeme (pending self.new) (remaining self.old.cur i.old) (remaining self.new.cur i.new)) }
         ensures buffers { OnOk result (KeepsOtherBuffers self.old self.new) }
-        ensures place { OnOk result (Counts self.old i.old self.new i.new) }
+        ensures place { Counts self.old i.old self.new i.new }
         ensures rejected { IfErr result (λ r. r ≢ Rejection.Memory
             → NoneLexeme (remaining self.old.cur i.old)) }
         ensures capacity { IfErr result (λ r. r ≡ Rejection.Memory
@@ -165,7 +165,7 @@ impl DeJsonState {
         ensures taken { OnOk result
             (IsRunOf (pending self.new) (remaining self.old.cur i.old) (remaining self.new.cur i.new)) }
         ensures buffers { OnOk result (KeepsOtherBuffers self.old self.new) }
-        ensures place { OnOk result (Counts self.old i.old self.new i.new) }
+        ensures place { Counts self.old i.old self.new i.new }
         ensures rejected { IfErr result (λ r. r ≢ Rejection.Memory
             → NoneRunOf (remaining self.old.cur i.old)) }
         ensures capacity { IfErr result (λ r. r ≡ Rejection.Memory
@@ -196,7 +196,7 @@ impl DeJsonState {
         ensures taken { OnOk result
             (IsQuoted (pending self.new) (remaining self.old.cur i.old) (remaining self.new.cur i.new)) }
         ensures buffers { OnOk result (KeepsOtherBuffers self.old self.new) }
-        ensures place { OnOk result (Counts self.old i.old self.new i.new) }
+        ensures place { Counts self.old i.old self.new i.new }
         ensures rejected { IfErr result (λ r. r ≢ Rejection.Memory
             → NoneQuoted (remaining self.old.cur i.old)) }
         ensures capacity { IfErr result (λ r. r ≡ Rejection.Memory

@@ -24,7 +24,7 @@ impl DeJsonState {
     pub fn whole_field(&mut self, alloc: Global, i: &mut Chars<'_>) -> Result<(), DeJsonErr>
         ensures taken { OnOk result ((field : List Token)
             × SkippedField field × Takes field self.old i.old self.new i.new) }
-        ensures place { OnOk result (Counts self.old i.old self.new i.new) }
+        ensures place { Counts self.old i.old self.new i.new }
         ensures rejected { IfErr result (Reports self.new
             ((field : List Token) → SkippedField field → NoneHere field self.old i.old)) }
         ensures unchanged { ¬ BeginsField (pending self.old)
@@ -49,7 +49,7 @@ impl DeJsonState {
         requires { is_opening (pending self.old) ≡ true }
         ensures taken { OnOk result ((field : List Token)
             × IsBracketed field × Takes field self.old i.old self.new i.new) }
-        ensures place { OnOk result (Counts self.old i.old self.new i.new) }
+        ensures place { Counts self.old i.old self.new i.new }
         ensures rejected { IfErr result (λ r. r ≢ Rejection.Memory
             → (field : List Token) → IsBracketed field → NoneHere field self.old i.old) }
     {

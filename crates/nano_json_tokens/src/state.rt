@@ -2,7 +2,7 @@
 
 ghost use Rattle.std.specs.Prelude.{◌≡◌, ◌≢◌, [], ◌∷◌, false, OnOk, OnErr, IfErr, string_bytes};
 ghost use Rattle.std.specs.declared.str.Chars.{Chars};
-ghost use Rattle.nano_text.specs.Place.{held, tail, remaining, before_nul, place_after};
+ghost use Rattle.nano_text.specs.Place.{held, tail, remaining, before_nul, place_after, Passes};
 ghost use Rattle.nano_json_tokens.specs.Cut.{Cut};
 ghost use Rattle.nano_json_tokens.specs.Outcomes.{IsMadeAt, Reports, NothingCut, NoCapacity, Counts};
 ghost use Rattle.nano_json_tokens.specs.State.{at, ended, pending, place_of, KeepsOtherBuffers};
@@ -64,7 +64,8 @@ impl DeJsonState {
     pub fn next(&mut self, i: &mut Chars<'_>)
         ensures place { place_of self.new ≡ place_after (place_of self.old) (held i.old) }
         ensures held { held i.new ≡ tail (held i.old) }
-        ensures counts { Counts self.old i.old self.new i.new }
+        ensures passes { Passes (place_of self.old) (held i.old) (place_of self.new) (held i.new) }
+        ensures counts { self.old.cur ≢ 0 → Counts self.old i.old self.new i.new }
         ensures rest { remaining self.new.cur i.new ≡ before_nul (held i.old) }
         ensures taken { self.old.cur ≢ 0
             → remaining self.old.cur i.old ≡ self.old.cur ∷ remaining self.new.cur i.new }
@@ -84,14 +85,14 @@ impl DeJsonState {
     ///
     /// It returns an error if no token can be cut from the remaining input, or if allocation
     /// fails. It allocates only if the buffer has no capacity for the token's text. On error,
-    /// the state is at the end of the text, as `fail` leaves it, with the line and the column
-    /// where the fault was found.
+    /// the state is at the end of the text, as `fail` leaves it, and its line and column count
+    /// the characters that were taken, up to where the fault was found.
     #[inline(always)]
     pub fn next_tok(&mut self, alloc: Global, i: &mut Chars<'_>) -> Result<(), DeJsonErr>
         ensures taken { OnOk result
             (Cut (remaining self.old.cur i.old) (pending self.new) (remaining self.new.cur i.new)) }
         ensures buffers { OnOk result (KeepsOtherBuffers self.old self.new) }
-        ensures place { OnOk result (Counts self.old i.old self.new i.new) }
+        ensures place { Counts self.old i.old self.new i.new }
         ensures rejected { IfErr result (Reports self.new (NothingCut (remaining self.old.cur i.old))) }
         ensures capacity { OnErr result (NoCapacity self.old (remaining self.old.cur i.old)) }
         ensures ended { OnErr result (at self.new i.new ≡ ended) }
@@ -113,7 +114,7 @@ impl DeJsonState {
         ensures taken { OnOk result
             (Cut (remaining self.old.cur i.old) (pending self.new) (remaining self.new.cur i.new)) }
         ensures buffers { OnOk result (KeepsOtherBuffers self.old self.new) }
-        ensures place { OnOk result (Counts self.old i.old self.new i.new) }
+        ensures place { Counts self.old i.old self.new i.new }
         ensures rejected { IfErr result (Reports self.new (NothingCut (remaining self.old.cur i.old))) }
         ensures capacity { OnErr result (NoCapacity self.old (remaining self.old.cur i.old)) }
         ensures ended { OnErr result (at self.new i.new ≡ ended) }

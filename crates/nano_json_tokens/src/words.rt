@@ -21,7 +21,7 @@ impl DeJsonState {
         ensures taken { OnOk result (
             (word_token (prefix is_word (remaining self.old.cur i.old)) ≡ Some (pending self.new))
             × (remaining self.new.cur i.new ≡ following is_word (remaining self.old.cur i.old))) }
-        ensures place { OnOk result (Counts self.old i.old self.new i.new) }
+        ensures place { Counts self.old i.old self.new i.new }
         ensures strbuf { self.new.strbuf ≡ self.old.strbuf }
         ensures numbuf { self.new.numbuf ≡ self.old.numbuf }
         ensures rejected { IfErr result (λ r. r ≢ Rejection.Memory

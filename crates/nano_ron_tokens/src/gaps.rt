@@ -1,6 +1,6 @@
 //! How a reader's state passes over what stands between tokens: white space and comments.
 
-ghost use Rattle.std.specs.Prelude.{◌≡◌, true, false, length};
+ghost use Rattle.std.specs.Prelude.{◌≡◌, ◌≢◌, true, false, length};
 ghost use Rattle.nano_text.specs.Prefix.{prefix, following, first_is};
 ghost use Rattle.nano_text.specs.Place.{held, remaining, before_nul};
 ghost use Rattle.nano_ron_tokens.specs.Gaps.{is_space};
@@ -53,7 +53,7 @@ impl DeRonState {
     #[inline]
     fn skip_blanks(&mut self, i: &mut Chars<'_>)
         ensures remaining { remaining self.new.cur i.new ≡ following is_blank (before_nul (held i.old)) }
-        ensures place { Counts self.old i.old self.new i.new }
+        ensures place { self.old.cur ≢ 0 → Counts self.old i.old self.new i.new }
         ensures unchanged { KeepsToken self.old self.new }
     {
         let text = i.as_str();

@@ -19,14 +19,14 @@ use std::str::Chars;
 
 /// The calls that take the pending token. If another token is pending, they fail, and the token
 /// is unchanged, with its text. If they fail while they take the next token, the state is at
-/// the end of the text.
+/// the end of the text. In any case line and column count the characters that were taken.
 impl DeRonState {
     /// Takes the next token where a colon is pending.
     #[inline]
     pub fn colon(&mut self, alloc: Global, i: &mut Chars<'_>) -> Result<(), DeRonErr>
         ensures taken { OnOk result (Takes (colon ∷ []) self.old i.old self.new i.new) }
         ensures buffers { OnOk result (KeepsOtherBuffers self.old self.new) }
-        ensures place { OnOk result (Counts self.old i.old self.new i.new) }
+        ensures place { Counts self.old i.old self.new i.new }
         ensures rejected { IfErr result
             (Reports self.new (NoneHere (colon ∷ []) self.old i.old)) }
         ensures unchanged { pending self.old ≢ colon
@@ -44,7 +44,7 @@ impl DeRonState {
         ensures taken { OnOk result ((name : List ℕ)
             × Takes (ident name ∷ []) self.old i.old self.new i.new) }
         ensures buffers { OnOk result (KeepsOtherBuffers self.old self.new) }
-        ensures place { OnOk result (Counts self.old i.old self.new i.new) }
+        ensures place { Counts self.old i.old self.new i.new }
         ensures rejected { IfErr result (Reports self.new
             ((name : List ℕ) → NoneHere (ident name ∷ []) self.old i.old)) }
         ensures unchanged { ¬ IsIdent (pending self.old)
@@ -62,7 +62,7 @@ impl DeRonState {
     pub fn block_open(&mut self, alloc: Global, i: &mut Chars<'_>) -> Result<(), DeRonErr>
         ensures taken { OnOk result (Takes (block_open ∷ []) self.old i.old self.new i.new) }
         ensures buffers { OnOk result (KeepsOtherBuffers self.old self.new) }
-        ensures place { OnOk result (Counts self.old i.old self.new i.new) }
+        ensures place { Counts self.old i.old self.new i.new }
         ensures rejected { IfErr result
             (Reports self.new (NoneHere (block_open ∷ []) self.old i.old)) }
         ensures unchanged { pending self.old ≢ block_open
@@ -80,7 +80,7 @@ impl DeRonState {
     pub fn block_close(&mut self, alloc: Global, i: &mut Chars<'_>) -> Result<(), DeRonErr>
         ensures taken { OnOk result (Takes (block_close ∷ []) self.old i.old self.new i.new) }
         ensures buffers { OnOk result (KeepsOtherBuffers self.old self.new) }
-        ensures place { OnOk result (Counts self.old i.old self.new i.new) }
+        ensures place { Counts self.old i.old self.new i.new }
         ensures rejected { IfErr result
             (Reports self.new (NoneHere (block_close ∷ []) self.old i.old)) }
         ensures unchanged { pending self.old ≢ block_close
@@ -98,7 +98,7 @@ impl DeRonState {
     pub fn curly_open(&mut self, alloc: Global, i: &mut Chars<'_>) -> Result<(), DeRonErr>
         ensures taken { OnOk result (Takes (curly_open ∷ []) self.old i.old self.new i.new) }
         ensures buffers { OnOk result (KeepsOtherBuffers self.old self.new) }
-        ensures place { OnOk result (Counts self.old i.old self.new i.new) }
+        ensures place { Counts self.old i.old self.new i.new }
         ensures rejected { IfErr result
             (Reports self.new (NoneHere (curly_open ∷ []) self.old i.old)) }
         ensures unchanged { pending self.old ≢ curly_open
@@ -116,7 +116,7 @@ impl DeRonState {
     pub fn curly_close(&mut self, alloc: Global, i: &mut Chars<'_>) -> Result<(), DeRonErr>
         ensures taken { OnOk result (Takes (curly_close ∷ []) self.old i.old self.new i.new) }
         ensures buffers { OnOk result (KeepsOtherBuffers self.old self.new) }
-        ensures place { OnOk result (Counts self.old i.old self.new i.new) }
+        ensures place { Counts self.old i.old self.new i.new }
         ensures rejected { IfErr result
             (Reports self.new (NoneHere (curly_close ∷ []) self.old i.old)) }
         ensures unchanged { pending self.old ≢ curly_close
@@ -134,7 +134,7 @@ impl DeRonState {
     pub fn paren_open(&mut self, alloc: Global, i: &mut Chars<'_>) -> Result<(), DeRonErr>
         ensures taken { OnOk result (Takes (paren_open ∷ []) self.old i.old self.new i.new) }
         ensures buffers { OnOk result (KeepsOtherBuffers self.old self.new) }
-        ensures place { OnOk result (Counts self.old i.old self.new i.new) }
+        ensures place { Counts self.old i.old self.new i.new }
         ensures rejected { IfErr result
             (Reports self.new (NoneHere (paren_open ∷ []) self.old i.old)) }
         ensures unchanged { pending self.old ≢ paren_open
@@ -152,7 +152,7 @@ impl DeRonState {
     pub fn paren_close(&mut self, alloc: Global, i: &mut Chars<'_>) -> Result<(), DeRonErr>
         ensures taken { OnOk result (Takes (paren_close ∷ []) self.old i.old self.new i.new) }
         ensures buffers { OnOk result (KeepsOtherBuffers self.old self.new) }
-        ensures place { OnOk result (Counts self.old i.old self.new i.new) }
+        ensures place { Counts self.old i.old self.new i.new }
         ensures rejected { IfErr result
             (Reports self.new (NoneHere (paren_close ∷ []) self.old i.old)) }
         ensures unchanged { pending self.old ≢ paren_close
@@ -171,7 +171,7 @@ impl DeRonState {
         ensures taken { OnOk result (Takes (comma ∷ []) self.old i.old self.new i.new
             ⊎ ((pending self.old ≡ block_close) × (at self.new i.new ≡ at self.old i.old))) }
         ensures buffers { OnOk result (KeepsOtherBuffers self.old self.new) }
-        ensures place { OnOk result (Counts self.old i.old self.new i.new) }
+        ensures place { Counts self.old i.old self.new i.new }
         ensures rejected { IfErr result (Reports self.new
             ((pending self.old ≢ block_close) × NoneHere (comma ∷ []) self.old i.old)) }
         ensures closed { pending self.old ≡ block_close → IsOk result }
@@ -191,7 +191,7 @@ impl DeRonState {
         ensures taken { OnOk result (Takes (comma ∷ []) self.old i.old self.new i.new
             ⊎ ((pending self.old ≡ curly_close) × (at self.new i.new ≡ at self.old i.old))) }
         ensures buffers { OnOk result (KeepsOtherBuffers self.old self.new) }
-        ensures place { OnOk result (Counts self.old i.old self.new i.new) }
+        ensures place { Counts self.old i.old self.new i.new }
         ensures rejected { IfErr result (Reports self.new
             ((pending self.old ≢ curly_close) × NoneHere (comma ∷ []) self.old i.old)) }
         ensures closed { pending self.old ≡ curly_close → IsOk result }
@@ -211,7 +211,7 @@ impl DeRonState {
         ensures taken { OnOk result (Takes (comma ∷ []) self.old i.old self.new i.new
             ⊎ ((pending self.old ≡ paren_close) × (at self.new i.new ≡ at self.old i.old))) }
         ensures buffers { OnOk result (KeepsOtherBuffers self.old self.new) }
-        ensures place { OnOk result (Counts self.old i.old self.new i.new) }
+        ensures place { Counts self.old i.old self.new i.new }
         ensures rejected { IfErr result (Reports self.new
             ((pending self.old ≢ paren_close) × NoneHere (comma ∷ []) self.old i.old)) }
         ensures closed { pending self.old ≡ paren_close → IsOk result }
@@ -234,7 +234,7 @@ impl DeRonState {
         ensures taken { OnOk result
             (Takes (pending self.old ∷ (colon ∷ [])) self.old i.old self.new i.new) }
         ensures buffers { OnOk result (KeepsOtherBuffers self.old self.new) }
-        ensures place { OnOk result (Counts self.old i.old self.new i.new) }
+        ensures place { Counts self.old i.old self.new i.new }
         ensures rejected { IfErr result (Reports self.new
             (NoneHere (pending self.old ∷ (colon ∷ [])) self.old i.old)) }
         ensures other { IfErr result (λ e. e.memory ≡ false → (next : At Token)

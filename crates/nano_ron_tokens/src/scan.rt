@@ -49,7 +49,7 @@ impl DeRonState {
         ensures taken { OnOk result
             (Cut (remaining self.old.cur i.old) (pending self.new) (remaining self.new.cur i.new)) }
         ensures buffers { OnOk result (KeepsOtherBuffers self.old self.new) }
-        ensures place { OnOk result (Counts self.old i.old self.new i.new) }
+        ensures place { Counts self.old i.old self.new i.new }
         ensures rejected { IfErr result (λ r. r ≢ Rejection.Memory
             → NothingCut (remaining self.old.cur i.old)) }
         ensures capacity { IfErr result (λ r. r ≡ Rejection.Memory
@@ -69,7 +69,7 @@ impl DeRonState {
         ensures taken { OnOk result
             (Cut (remaining self.old.cur i.old) (pending self.new) (remaining self.new.cur i.new)) }
         ensures buffers { OnOk result (KeepsOtherBuffers self.old self.new) }
-        ensures place { OnOk result (Counts self.old i.old self.new i.new) }
+        ensures place { Counts self.old i.old self.new i.new }
         ensures rejected { IfErr result (λ r. r ≢ Rejection.Memory
             → NothingCut (remaining self.old.cur i.old)) }
         ensures capacity { IfErr result (λ r. r ≡ Rejection.Memory
@@ -87,7 +87,7 @@ impl DeRonState {
         ensures taken { OnOk result
             (IsLexeme (pending self.new) (remaining self.old.cur i.old) (remaining self.new.cur i.new)) }
         ensures buffers { OnOk result (KeepsOtherBuffers self.old self.new) }
-        ensures place { OnOk result (Counts self.old i.old self.new i.new) }
+        ensures place { Counts self.old i.old self.new i.new }
         ensures rejected { IfErr result (λ r. r ≢ Rejection.Memory
             → NoneLexeme (remaining self.old.cur i.old)) }
         ensures capacity { IfErr result (λ r. r ≡ Rejection.Memory
@@ -122,7 +122,7 @@ impl DeRonState {
         ensures taken { OnOk result
             (IsRunOf (pending self.new) (remaining self.old.cur i.old) (remaining self.new.cur i.new)) }
         ensures buffers { OnOk result (KeepsOtherBuffers self.old self.new) }
-        ensures place { OnOk result (Counts self.old i.old self.new i.new) }
+        ensures place { Counts self.old i.old self.new i.new }
         ensures rejected { IfErr result (λ r. r ≢ Rejection.Memory
             → NoneRunOf (remaining self.old.cur i.old)) }
         ensures capacity { IfErr result (λ r. r ≡ Rejection.Memory
@@ -152,7 +152,7 @@ impl DeRonState {
         ensures taken { OnOk result
             (IsQuoted (pending self.new) (remaining self.old.cur i.old) (remaining self.new.cur i.new)) }
         ensures buffers { OnOk result (KeepsOtherBuffers self.old self.new) }
-        ensures place { OnOk result (Counts self.old i.old self.new i.new) }
+        ensures place { Counts self.old i.old self.new i.new }
         ensures rejected { IfErr result (λ r. r ≢ Rejection.Memory
             → NoneQuoted (remaining self.old.cur i.old)) }
         ensures capacity { IfErr result (λ r. r ≡ Rejection.Memory
@@ -179,7 +179,7 @@ impl DeRonState {
         ensures taken { OnOk result
             (IsCharacter (pending self.new) (remaining self.old.cur i.old) (remaining self.new.cur i.new)) }
         ensures buffers { OnOk result (KeepsOtherBuffers self.old self.new) }
-        ensures place { OnOk result (Counts self.old i.old self.new i.new) }
+        ensures place { Counts self.old i.old self.new i.new }
         ensures rejected { IfErr result (λ r. NoneCharacter (remaining self.old.cur i.old)) }
         ensures character { IfErr result (λ r. r ≡ Rejection.Character) }
     {

@@ -22,7 +22,7 @@ impl DeRonState {
         ensures taken { OnOk result (
             (pending self.new ≡ word_token (prefix is_word (remaining self.old.cur i.old)))
             × (remaining self.new.cur i.new ≡ following is_word (remaining self.old.cur i.old))) }
-        ensures place { OnOk result (Counts self.old i.old self.new i.new) }
+        ensures place { Counts self.old i.old self.new i.new }
         ensures strbuf { self.new.strbuf ≡ self.old.strbuf }
         ensures numbuf { self.new.numbuf ≡ self.old.numbuf }
         ensures rejected { IfErr result (λ r. (r ≡ Rejection.Memory)
@@ -53,7 +53,7 @@ impl DeRonState {
         requires { starts_word self.old.cur ≡ true }
         ensures remaining { OnOk result
             (remaining self.new.cur i.new ≡ following is_word (remaining self.old.cur i.old)) }
-        ensures place { OnOk result (Counts self.old i.old self.new i.new) }
+        ensures place { Counts self.old i.old self.new i.new }
         ensures gathered { OnOk result
             (string_bytes self.new.identbuf ≡ prefix is_word (remaining self.old.cur i.old)) }
         ensures strbuf { self.new.strbuf ≡ self.old.strbuf }

@@ -1,5 +1,5 @@
 -- Strings that are read at once: plain characters in their line, and short escapes.
-use Rattle.std.proofs.Common.{◌≡◌, ◌≢◌, ℕ, ◌+◌, ◌-◌, ◌^◌, ◌<◌, ◌≤◌, min, List, [], ◌∷◌, ◌++◌, Bool, true, false, cond, drop, take, length, chars, encode_utf8, encode_utf8_all, IsUtf8, add-one, get_or, count_by, nat_le, refl, ap, sym, ◌∙◌, subst, ne_eqb, arith}
+use Rattle.std.proofs.Common.{◌≡◌, ◌≢◌, ℕ, ◌+◌, ◌-◌, ◌^◌, ◌<◌, ◌≤◌, min, List, [], ◌∷◌, ◌++◌, Bool, true, false, cond, drop, take, length, length-append, chars, encode_utf8, encode_utf8_all, IsUtf8, add-one, get_or, count_by, nat_le, refl, ap, sym, ◌∙◌, subst, ne_eqb, arith}
 use Rattle.std.proofs.Math.Seq.{drop-cons}
 use Rattle.std.proofs.lemmas.Bool.{and_parts}
 use Rattle.std.proofs.lemmas.Bool.Decides.{nat_tests}
@@ -11,14 +11,14 @@ use Rattle.std.specs.Str.Iter.{chars_rest}
 use Rattle.std.specs.declared.str.Chars.{Chars}
 use Rattle.nano_text.specs.declared.place.Place.{Place}
 use Rattle.nano_text.specs.Prefix.{prefix, following}
-use Rattle.nano_text.specs.Place.{before_nul, held, remaining, begins_character, is_line_feed, Passes}
-use Rattle.nano_text.specs.PlaceLaws.{passes_append, passes_none}
+use Rattle.nano_text.specs.Place.{before_nul, held, remaining, tail, text_at, begins_character, is_line_feed, Passes, Advances}
+use Rattle.nano_text.specs.PlaceLaws.{passes_append, passes_none, advances_none, advances_by, tail_shorter}
 use Rattle.nano_text.specs.String.{IsString, escaped, escaped_char, is_plain, is_plain_in_line}
 use Rattle.nano_text.proofs.RemainingText.{remaining_more}
 use Rattle.nano_text.proofs.Passing.{begins_ascii, count_first, passed_line_unchanged, passed_col}
 use Rattle.nano_text.proofs.Strings.{HasRead, nothing_read, reads_piece, reads_plain, string_read}
 use Rattle.nano_text.proofs.TakenPrefix.{drop_prefix, prefix_boundary, take_prefix}
-use Rattle.nano_text.proofs.Utf8Prefixes.{CutAfterPrefix, cut_wide, prefix-before_nul, following-before_nul}
+use Rattle.nano_text.proofs.Utf8Prefixes.{CutAfterPrefix, cut_wide, prefix-append-following, prefix-before_nul, following-before_nul}
 
 -- ---- characters that stand for themselves in their line
 
@@ -121,7 +121,13 @@ pub record IsReadTo (before : List ℕ) (p q : Place) (written rest : List ℕ) 
   pub utf8 : IsUtf8 rest
   pub read : HasRead (before_nul before) written (before_nul (chars rest))
   pub place : Passes p before q (chars rest)
+  -- all that was taken is of the text
+  pub within : length before + length (before_nul (chars rest)) ≤ length (before_nul before) + length (chars rest)
   pub small : q.col < 2 ^ 64
+
+-- where place and iterator are what they were, nothing is taken
+pub unmoved : (p q : Place) (i j : Chars) → q ≡ p → j ≡ i → Advances p i q j
+unmoved p q i j place input = rw (place, input) (advances_none p i)
 
 pub nothing_yet : (i : Chars) (p : Place) (written rest : List ℕ) → IsUtf8 rest → rest ≡ chars_rest i → written ≡ [] → p.col < 2 ^ 64
     → IsReadTo (held i) p p written rest
@@ -131,6 +137,7 @@ nothing_yet i p written rest utf8 is none small =
       utf8 = utf8;
       read = rw (none, same) (nothing_read (before_nul (chars rest)));
       place = rw same (passes_none p (chars rest));
+      within = omega (arith, ap length same, ap (λ (l : List ℕ). length (before_nul l)) same);
       small = small;
     }
 
@@ -154,6 +161,7 @@ reads_run before p q r written rest bytes part left more n columns h same length
     ap (λ (l : List ℕ). before_nul (chars l)) after_run ∙ (ap before_nul cut.after_is ∙ sym (following-before_nul test refl (chars rest))) in
     let characters : part ≡ encode_utf8_all (prefix test (before_nul (chars rest))) =
     run ∙ (cut.prefix_is ∙ ap encode_utf8_all (sym (prefix-before_nul test refl (chars rest)))) in
+    let left_chars : chars left ≡ following test (chars rest) = ap chars after_run ∙ cut.after_is in
     let utf8_part = subst IsUtf8 (sym part_is) (IsUtf8-take rest n h.utf8 (run_boundary rest bytes n h.utf8 same length_is)) in
     let split : rest ≡ part ++ left = rw (part_is, left_is) (sym (take-append-drop n rest)) in
     record {
@@ -163,6 +171,17 @@ reads_run before p q r written rest bytes part left more n columns h same length
       place = passes_part p q r before part rest left h.place split utf8_part (ap (count_by is_line_feed) run ∙ no_feeds rest) h.small line
           (col ∙ ap (λ (k : ℕ). min (q.col + k) (2 ^ 64 - 1))
           (columns_are ∙ (ap (λ (l : List ℕ). count_by begins_character (prefix test l)) same ∙ ap (count_by begins_character) (sym run))));
+      within = omega (
+        arith,
+        h.within,
+        ap length left_chars,
+        ap length remaining,
+        ap length (prefix-before_nul test refl (chars rest)),
+        ap length (prefix-append-following test (chars rest)),
+        length-append (prefix test (chars rest)) (following test (chars rest)),
+        ap length (prefix-append-following test (before_nul (chars rest))),
+        length-append (prefix test (before_nul (chars rest))) (following test (before_nul (chars rest))),
+      );
       small = omega arith;
     }
 
@@ -203,6 +222,29 @@ passes_quote before p q r written rest bytes after left h same is left_is line c
     let utf8 = subst IsUtf8 (ap (take 1) here) (IsUtf8-take rest 1 h.utf8 (quote_boundary rest bytes after h.utf8 same is)) in
     passes_part p q r before (34 ∷ []) rest left h.place (here ∙ ap (λ (l : List ℕ). 34 ∷ l) (sym (left_is ∙ ap (drop 1) here))) utf8 refl h.small line col
 
+-- all that was taken is of the text: the string, and the character after it
+pub advances_quote : (i j k : Chars) (p q s : Place) (written rest bytes after : List ℕ) → IsReadTo (held i) p q written rest
+    → p.cur ≡ 34 → bytes ≡ rest → bytes ≡ 34 ∷ after → chars_rest j ≡ drop 1 rest
+    → held k ≡ tail (held j) → text_at s k ≡ before_nul (held j)
+    → Passes p (held i) s (held k) → Advances p i s k
+advances_quote i j k p q s written rest bytes after h quote same is left next_is text_is passes =
+    let here : rest ≡ 34 ∷ after = sym same ∙ is in
+    let all : chars rest ≡ 34 ∷ held j =
+    chars_after rest after 34 h.utf8 here (omega arith)
+    ∙ ap (λ (l : List ℕ). 34 ∷ chars l) (sym (left ∙ ap (drop 1) here)) in
+    let remaining : before_nul (chars rest) ≡ 34 ∷ before_nul (held j) = ap before_nul all in
+    advances_by p s i k passes
+    (omega (
+      arith,
+      h.within,
+      ap length all,
+      ap length remaining,
+      ap length next_is,
+      ap length text_is,
+      tail_shorter (held j),
+      ap length (remaining_more p.cur i (λ z. omega (arith, z, quote))),
+    ))
+
 -- ---- an escape of one character
 
 pub escape_boundary : (rest bytes after : List ℕ) (c : ℕ) → IsUtf8 rest → bytes ≡ rest → bytes ≡ 92 ∷ (c ∷ after) → c < 128 → IsCharBoundary rest 2
@@ -232,5 +274,6 @@ reads_escape before p q r written rest bytes after left more c h same is graphic
           (no_unit, λ e. omega (arith, e, graphic)) remaining more_is;
       place = passes_part p q r before (92 ∷ (c ∷ [])) rest left h.place (here ∙ ap (λ (l : List ℕ). 92 ∷ (c ∷ l)) (sym after_is)) utf8 none h.small line
           (col ∙ ap (λ (k : ℕ). min (q.col + k) (2 ^ 64 - 1)) (sym two));
+      within = omega (arith, h.within, ap length both, ap length remaining);
       small = omega arith;
     }

@@ -1,11 +1,14 @@
 -- Hexadecimal digits, code units, and which pieces begin a text.
-use Rattle.std.proofs.Common.{◌≡◌, ℕ, ◌<◌, ◌≤◌, inl, inr, List, [], ◌∷◌, ◌++◌, true, Option, Some, None, IfSome, SomeIff, ap, sym, ◌∙◌, subst, arith}
+use Rattle.std.proofs.Common.{◌≡◌, ◌≢◌, ℕ, ◌<◌, ◌≤◌, inl, inr, List, [], ◌∷◌, ◌++◌, true, Option, Some, None, IfSome, SomeIff, ap, sym, ◌∙◌, subst, arith}
 use Rattle.std.specs.Char.{digit_value, is_ascii_hexdigit}
 use Rattle.std.proofs.lemmas.Bool.Decides.{nat_tests}
 use Rattle.nano_text.specs.String.{CodeUnit, Piece, plain, escaped, scalar, pair, unit_text, unit_value, piece_text, IsHex, IsPiece}
 
 pub hex_value : (c : ℕ) → is_ascii_hexdigit c ≡ true → digit_value c < 16
 hex_value c h = grind (arith, nat_tests)
+
+pub value_some : (c : ℕ) → digit_value c < 16 → c ≢ 0
+value_some c h e = let x : digit_value 0 < 16 = subst (λ (n : ℕ). digit_value n < 16) e h in grind (arith, nat_tests)
 
 -- two ways to take the first character off a text leave the same
 pub same_after_first : (c d : ℕ) (text xs ys : List ℕ) → text ≡ c ∷ xs → text ≡ d ∷ ys → xs ≡ ys
@@ -14,15 +17,6 @@ same_after_first c d text xs ys p q = cc
 pub IfSome-from_SomeIff : (r : Option ℕ) (P : Type 0) (v : ℕ) (Q : ℕ → Type 0) → SomeIff r P v → Q v → IfSome r Q
 IfSome-from_SomeIff None P v Q h q = tt
 IfSome-from_SomeIff (Some x) P v Q h q = subst Q (sym h.1) q
-
--- what holds anyway, and what follows
-pub some_anyway : (r : Option ℕ) (P : Type 0) → P → IfSome r (λ _. P)
-some_anyway None P h = tt
-some_anyway (Some x) P h = h
-
-pub some_follows : (r : Option ℕ) (P Q : Type 0) → (P → Q) → IfSome r (λ _. P) → IfSome r (λ _. Q)
-some_follows None P Q f h = tt
-some_follows (Some x) P Q f h = f h
 
 unit_same : (u v : CodeUnit) → u.a ≡ v.a → u.b ≡ v.b → u.c ≡ v.c → u.d ≡ v.d → u ≡ v
 unit_same u v a b c d =

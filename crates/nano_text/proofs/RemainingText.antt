@@ -42,6 +42,10 @@ first_is-remaining p cur s none = elim (nat_eq cur 0) as (λ b. nat_eq cur 0 ≡
   | false ↦ λ e. refl
 ] refl
 
+-- a character that passes a test which NUL doesn't pass
+pub not_nul : (test : ℕ → Bool) (c : ℕ) → test 0 ≡ false → test c ≡ true → c ≢ 0
+not_nul test c none passes e = let both : true ≡ false = sym passes ∙ (ap test e ∙ none) in cc both
+
 -- what remains once a character is taken
 pub remaining_taken : (c : ℕ) (s t : Chars) → held s ≡ c ∷ held t → remaining c t ≡ before_nul (held s)
 unfolding remaining

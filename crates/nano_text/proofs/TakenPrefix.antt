@@ -12,16 +12,16 @@ use Rattle.std.specs.Str.Iter.{chars_rest}
 use Rattle.std.specs.declared.str.Chars.{Chars}
 use Rattle.nano_text.specs.Prefix.{prefix, following}
 use Rattle.nano_text.specs.declared.place.Place.{Place}
-use Rattle.nano_text.specs.Place.{held, remaining, before_nul, passed, IsInLine, Passes}
-use Rattle.nano_text.specs.PlaceLaws.{passes_append}
+use Rattle.nano_text.specs.Place.{held, remaining, text_at, tail, before_nul, passed, IsInLine, Passes, Advances}
+use Rattle.nano_text.specs.PlaceLaws.{passes_append, advances_by, tail_shorter}
 use Rattle.nano_text.specs.String.{is_plain}
 use Rattle.nano_text.proofs.InLine.{in_line_line, in_line_col, prefix_in_line}
-use Rattle.nano_text.proofs.RemainingText.{remaining_more}
+use Rattle.nano_text.proofs.RemainingText.{remaining_more, not_nul}
 use Rattle.nano_text.proofs.Utf8Prefixes.{CutAfterPrefix, cut_wide, cut_narrow, prefix-append-following, prefix-before_nul, following-before_nul}
 
 module _ (test : ℕ → Bool) (stops : test 0 ≡ false) (cut : (bytes : List ℕ) → IsUtf8 bytes → CutAfterPrefix test bytes) where
   no_nul : (c : ℕ) → test c ≡ true → c ≢ 0
-  no_nul c h e = let x : true ≡ false = sym h ∙ (ap test e ∙ stops) in cc x
+  no_nul c h = not_nul test c stops h
 
   pub drop_prefix : (text : List ℕ) → drop (length (prefix test text)) text ≡ following test text
   drop_prefix text = ap (drop (length (prefix test text))) (sym (prefix-append-following test text)) ∙ drop-append_seam (prefix test text) (following test text)
@@ -94,6 +94,32 @@ module _ (test : ℕ → Bool) (stops : test 0 ≡ false) (cut : (bytes : List �
       (line ∙ sym (ap (λ (bs : List ℕ). (passed p (chars bs)).line) taken ∙ in_line_line p (prefix test text) run in_line))
       (col ∙ (ap (λ (k : ℕ). min (p.col + k) (2 ^ 64 - 1)) count
       ∙ sym (ap (λ (bs : List ℕ). (passed p (chars bs)).col) taken ∙ in_line_col p (prefix test text) run in_line small))) goes_on
+
+  -- what passes that prefix and the character after it is of the text, if that begins at the current character
+  pub advances_over : (p r : Place) (n : ℕ) (before mid after : Chars) (text : List ℕ) → p.cur ≢ 0 → IsUtf8 text
+      → text ≡ chars_rest before → n ≡ length (prefix test text) → chars_rest mid ≡ drop n text
+      → held after ≡ tail (held mid) → text_at r after ≡ before_nul (held mid)
+      → Passes p (held before) r (held after) → Advances p before r after
+  advances_over p r n before mid after text some utf8 is count left after_is remaining_is passes =
+      let rest_is : chars_rest mid ≡ following test text = left ∙ (ap (λ (k : ℕ). drop k text) count ∙ drop_prefix text) in
+      let mid_is : held mid ≡ following test (held before) = ap chars rest_is ∙ ((cut text utf8).after_is ∙ ap (λ (bs : List ℕ). following test (chars bs)) is) in
+      let text_is : text_at r after ≡ following test (before_nul (held before)) =
+      remaining_is ∙ (ap before_nul mid_is ∙ sym (following-before_nul test stops (held before))) in
+      let run = prefix test (held before) in
+      advances_by p r before after passes
+      (omega (
+        arith,
+        ap length (prefix-append-following test (held before)),
+        length-append run (following test (held before)),
+        ap length mid_is,
+        ap length (prefix-append-following test (before_nul (held before))),
+        length-append (prefix test (before_nul (held before))) (following test (before_nul (held before))),
+        ap length (prefix-before_nul test stops (held before)),
+        ap length text_is,
+        ap length (remaining_more p.cur before some),
+        ap length after_is,
+        tail_shorter (held mid),
+      ))
 
 -- characters that stand for themselves in a string, which all beyond ASCII do
 plain_wide : (n : ℕ) → 128 ≤ n → is_plain n ≡ true

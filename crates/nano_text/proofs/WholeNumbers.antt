@@ -16,7 +16,8 @@ use Rattle.nano_text.specs.declared.place.Place.{Place}
 use Rattle.nano_text.specs.EachLaws.{all_append}
 use Rattle.nano_text.specs.Prefix.{first_is, prefix, following}
 use Rattle.nano_text.specs.Number.{Run, IsNumber, continues, run_text}
-use Rattle.nano_text.specs.Place.{held, remaining, before_nul, IsInLine, Passes}
+use Rattle.nano_text.specs.Place.{held, remaining, text_at, before_nul, IsInLine, Passes, Advances}
+use Rattle.nano_text.specs.PlaceLaws.{advances_by}
 use Rattle.nano_text.proofs.DigitValues.{digits-chars}
 use Rattle.nano_text.proofs.InLine.{in_line_line, in_line_col}
 use Rattle.nano_text.proofs.RemainingText.{remaining_more}
@@ -89,6 +90,28 @@ module _ (text : List ℕ) (len next : ℕ) (utf8 : IsUtf8 text) (count : len �
         col = col ∙ (ap (λ (n : ℕ). min (p.col + n) (2 ^ 64 - 1)) (sym run_len ∙ ap length (sym taken))
             ∙ sym (in_line_col p (take (len + 1) text) utf8_run in_line small));
       }
+
+  -- and all of it is of the text, if that begins at the current character
+  pub advances_number : (p q : Place) (before after : Chars) → text ≡ chars_rest before → chars_rest after ≡ drop (len + 1) text
+      → p.cur ≢ 0 → text_at q after ≡ before_nul (following is_ascii_digit (held before))
+      → Passes p (held before) q (held after) → Advances p before q after
+  advances_number p q before after same left some rest_is passes =
+      let all = held before in
+      let rest : following is_ascii_digit all ≡ next ∷ held after =
+      ap (λ (bs : List ℕ). following is_ascii_digit (chars bs)) (sym same) ∙ (chars_after ∙ ap (λ (bs : List ℕ). next ∷ chars bs) (sym left)) in
+      advances_by p q before after passes
+      (omega (
+        arith,
+        ap length (prefix-append-following is_ascii_digit all),
+        length-append (prefix is_ascii_digit all) (following is_ascii_digit all),
+        ap length rest,
+        ap length (prefix-append-following is_ascii_digit (before_nul all)),
+        length-append (prefix is_ascii_digit (before_nul all)) (following is_ascii_digit (before_nul all)),
+        ap length (prefix-before_nul is_ascii_digit refl all),
+        ap length (following-before_nul is_ascii_digit refl all),
+        ap length rest_is,
+        ap length (remaining_more p.cur before some),
+      ))
 
 -- ---- what was taken is a number
 

@@ -3,11 +3,11 @@ use Rattle.std.specs.Prelude.{◌≡◌, ◌++◌, ◌<◌, ◌^◌, ℕ, List, 
 use Rattle.std.specs.Prelude.{encode_utf8_all}
 use Rattle.std.specs.declared.str.Chars.{Chars}
 use Rattle.nano_text.specs.declared.place.Place.{Place}
-use Rattle.nano_text.specs.Place.{held, Passes}
+use Rattle.nano_text.specs.Place.{Advances}
 
--- line and column count each character that was taken
+-- line and column count each character that was taken, and all of them are of the text
 abbrev pub Counts : Place → Chars → Place → Chars → Type 0
-Counts old before new after = Passes old (held before) new (held after)
+Counts = Advances
 
 -- the number, where 64 bits hold it
 abbrev pub IsWord : Option ℕ → ℕ → Type 0

@@ -1,6 +1,6 @@
 -- The place in a text, and the text that is still to be read.
 use Rattle.std.specs.Prelude.{◌≡◌, ℕ, ◌+◌, ◌-◌, ◌==◌, ◌<◌, ◌≤◌, List, [], ◌∷◌, ◌++◌, Bool, ◌||◌}
-use Rattle.std.specs.Prelude.{nat_lt, nat_le, chars, if◌then◌else◌, min, ◌^◌}
+use Rattle.std.specs.Prelude.{nat_lt, nat_le, chars, if◌then◌else◌, length, min, ◌^◌}
 use Rattle.std.specs.Str.Iter.{chars_rest}
 use Rattle.std.specs.declared.str.Chars.{Chars}
 use Rattle.nano_text.specs.declared.place.Place.{Place}
@@ -56,6 +56,13 @@ pub record Passes (old : Place) (before : List ℕ) (new : Place) (after : List 
   pub split : before ≡ taken ++ after
   pub line : new.line ≡ (passed old taken).line
   pub col : new.col ≡ (passed old taken).col
+
+-- a reader went on: line and column count each character that was taken, and none of them stands
+-- after the text. With what remains they are no more than what remained before: the current
+-- character is taken already, and at the end it may be the NUL that ends the text
+pub record Advances (old : Place) (before : Chars) (new : Place) (after : Chars) : Type 0 where
+  pub passes : Passes old (held before) new (held after)
+  pub within : length passes.taken + length (text_at new after) ≤ length (text_at old before)
 
 -- ---- the bytes of a run that is taken at once
 

@@ -1,8 +1,9 @@
 -- The laws of places: what is passed in parts is passed as a whole.
-use Rattle.std.specs.Prelude.{◌≡◌, ℕ, List, [], ◌∷◌, ◌++◌, refl}
-use Rattle.std.proofs.Common.{sym, ◌∙◌, ap, append_assoc}
+use Rattle.std.specs.Prelude.{◌≡◌, ℕ, ◌+◌, ◌≤◌, List, [], ◌∷◌, ◌++◌, length, refl}
+use Rattle.std.proofs.Common.{sym, ◌∙◌, ap, append_assoc, arith, length-append}
+use Rattle.std.specs.declared.str.Chars.{Chars}
 use Rattle.nano_text.specs.declared.place.Place.{Place}
-use Rattle.nano_text.specs.Place.{tail, place_after, passed, Passes}
+use Rattle.nano_text.specs.Place.{held, tail, text_at, place_after, passed, Passes, Advances}
 
 passed_append : (place : Place) (xs ys : List ℕ)
     → passed place (xs ++ ys) ≡ passed (passed place xs) ys
@@ -52,3 +53,58 @@ passes_next p q (c ∷ cs) after place left =
       line = ap (λ (s : Place). s.line) place;
       col = ap (λ (s : Place). s.col) place;
     }
+
+-- ---- how a reader advances
+
+-- what was taken, counted by what the iterator held and holds
+pub advances_by : (p q : Place) (i j : Chars) → Passes p (held i) q (held j)
+    → length (held i) + length (text_at q j) ≤ length (text_at p i) + length (held j)
+    → Advances p i q j
+advances_by p q i j passes small =
+    let split = ap length passes.split in
+    record {
+      passes = passes;
+      within = omega (arith, split, length-append passes.taken (held j), small);
+    }
+
+-- and back
+pub advances_within : {p q : Place} {i j : Chars} → Advances p i q j
+    → length (held i) + length (text_at q j) ≤ length (text_at p i) + length (held j)
+advances_within {p} {q} {i} {j} h =
+    omega (arith, ap length h.passes.split, length-append h.passes.taken (held j), h.within)
+
+-- nothing is taken
+pub advances_none : (p : Place) (i : Chars) → Advances p i p i
+advances_none p i = advances_by p p i i (passes_none p (held i)) (omega arith)
+
+-- one part after another
+pub advances_append : {p q r : Place} {i j k : Chars}
+    → Advances p i q j → Advances q j r k → Advances p i r k
+advances_append {p} {q} {r} {i} {j} {k} h g =
+    advances_by p r i k (passes_append h.passes g.passes)
+    (omega (arith, advances_within h, advances_within g))
+
+-- a list is its first and what comes after it
+pub tail_shorter : (cs : List ℕ) → length cs ≤ length (tail cs) + 1
+tail_shorter [] = omega arith
+tail_shorter (c ∷ cs) = omega arith
+
+-- one step of `Place::next`, at a character of the text
+pub advances_next : (p q : Place) (i j : Chars) → Passes p (held i) q (held j)
+    → held j ≡ tail (held i) → text_at p i ≡ p.cur ∷ text_at q j → Advances p i q j
+advances_next p q i j passes left taken =
+    advances_by p q i j passes
+    (omega (arith, tail_shorter (held i), ap length left, ap length taken))
+
+-- the text ends there, whatever the iterator still holds
+pub advances_ended : {p q : Place} {i j : Chars} (r : Place) → Advances p i q j
+    → r.line ≡ q.line → r.col ≡ q.col → text_at r j ≡ [] → Advances p i r j
+advances_ended {p} {q} {i} {j} r h line col none =
+    advances_by p r i j
+    (record {
+      taken = h.passes.taken;
+      split = h.passes.split;
+      line = line ∙ h.passes.line;
+      col = col ∙ h.passes.col;
+    })
+    (omega (arith, advances_within h, ap length none))

@@ -139,7 +139,7 @@ pub(crate) fn read_at_once(p: &mut Place, i: &mut Chars<'_>, strbuf: &mut String
     ensures found { result ≡ true → (characters : List ℕ)
         × IsString (text_at p.old i.old) characters (text_at p.new i.new)
         × (string_bytes strbuf.new ≡ encode_utf8_all characters) }
-    ensures place { result ≡ true → Counts p.old i.old p.new i.new }
+    ensures place { Counts p.old i.old p.new i.new }
     ensures unchanged { result ≡ false → (p.new ≡ p.old) × (i.new ≡ i.old) }
     ensures capacity { string_capacity strbuf.old ≤ string_capacity strbuf.new }
 {

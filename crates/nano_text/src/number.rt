@@ -1,6 +1,6 @@
 //! Number lexemes.
 
-ghost use Rattle.std.specs.Prelude.{◌≡◌, ◌+◌, ◌^◌, ◌<◌, ◌≤◌, OnOk, IfOk, List, ℕ, pos, neg_ℤ};
+ghost use Rattle.std.specs.Prelude.{◌≡◌, ◌+◌, ◌^◌, ◌<◌, ◌≤◌, IfOk, List, ℕ, pos, neg_ℤ};
 ghost use Rattle.std.specs.Prelude.{length, string_bytes, string_capacity, MatchOption, SomeIff};
 ghost use Rattle.std.specs.Prelude.{IfSome};
 ghost use Rattle.std.specs.Str.Parse.{digits_value};
@@ -160,7 +160,7 @@ pub fn read_number(p: &mut Place, i: &mut Chars<'_>, numbuf: &mut String) -> Res
     ensures found { IfOk result (λ number. (run : List ℕ)
         × IsNumber (text_at p.old i.old) number run (text_at p.new i.new)
         × (number ≡ Number.Dec → string_bytes numbuf.new ≡ run)) }
-    ensures place { OnOk result (Counts p.old i.old p.new i.new) }
+    ensures place { Counts p.old i.old p.new i.new }
 
     // Memory is requested only where the buffer lacks the capacity for a decimal's text.
     ensures memory { result ≡ Err Fault.Memory → (run rest : List ℕ)
@@ -186,7 +186,7 @@ fn read_other(p: &mut Place, i: &mut Chars<'_>, numbuf: &mut String) -> Result<N
     ensures found { IfOk result (λ number. (run : List ℕ)
         × IsNumber (text_at p.old i.old) number run (text_at p.new i.new)
         × (number ≡ Number.Dec → string_bytes numbuf.new ≡ run)) }
-    ensures place { OnOk result (Counts p.old i.old p.new i.new) }
+    ensures place { Counts p.old i.old p.new i.new }
 
     // Memory is requested only where the buffer lacks the capacity for a decimal's text.
     ensures memory { result ≡ Err Fault.Memory → (run rest : List ℕ)
@@ -209,7 +209,7 @@ fn read_run(p: &mut Place, i: &mut Chars<'_>, numbuf: &mut String) -> Result<Num
     ensures found { IfOk result (λ number. (run : List ℕ)
         × IsNumber (text_at p.old i.old) number run (text_at p.new i.new)
         × (number ≡ Number.Dec → string_bytes numbuf.new ≡ run)) }
-    ensures place { OnOk result (Counts p.old i.old p.new i.new) }
+    ensures place { Counts p.old i.old p.new i.new }
 
     // Memory is requested only where the buffer lacks the capacity for a decimal's text.
     ensures memory { result ≡ Err Fault.Memory → (run rest : List ℕ)

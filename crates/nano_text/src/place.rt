@@ -3,7 +3,7 @@
 ghost use Rattle.std.specs.Prelude.{◌≡◌, ◌≢◌, ◌<◌, ◌∷◌, ◌++◌, List, ℕ, chars, count_by};
 ghost use Rattle.nano_text.specs.Outcomes.{Counts};
 ghost use Rattle.nano_text.specs.Place.{held, tail, place_after, text_at, before_nul, passed};
-ghost use Rattle.nano_text.specs.Place.{is_line_feed, begins_character};
+ghost use Rattle.nano_text.specs.Place.{Passes, is_line_feed, begins_character};
 
 use std::str::Chars;
 
@@ -24,7 +24,10 @@ impl Place {
     pub fn next(&mut self, i: &mut Chars<'_>)
         ensures place { self.new ≡ place_after self.old (held i.old) }
         ensures held { held i.new ≡ tail (held i.old) }
-        ensures passes { Counts self.old i.old self.new i.new }
+        ensures passes { Passes self.old (held i.old) self.new (held i.new) }
+
+        // At a character of the text the next one is of the text too, or the NUL that ends it.
+        ensures counts { self.old.cur ≢ 0 → Counts self.old i.old self.new i.new }
 
         // What input remains afterwards, and that the current character was taken from its
         // start.

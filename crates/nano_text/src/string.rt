@@ -65,7 +65,7 @@ fn take_plain(p: &mut Place, i: &mut Chars<'_>, strbuf: &mut String) -> Result<(
         < length (string_bytes strbuf.old
         ++ encode_utf8_all (prefix is_plain (text_at p.old i.old)))) }
     ensures rest { OnOk result (text_at p.new i.new ≡ following is_plain (text_at p.old i.old)) }
-    ensures place { OnOk result (Counts p.old i.old p.new i.new) }
+    ensures place { Counts p.old i.old p.new i.new }
     ensures taken { OnOk result
         (Appends strbuf.old strbuf.new (prefix is_plain (text_at p.old i.old))) }
 {
@@ -89,7 +89,7 @@ fn take_hex_digit(p: &mut Place, i: &mut Chars<'_>) -> Option<u32>
     ensures digit { IfSome result (λ value. (is_ascii_hexdigit p.old.cur ≡ true)
         × (value ≡ digit_value p.old.cur) × (value < 16)) }
     ensures taken { IfSome result (λ value. text_at p.old i.old ≡ p.old.cur ∷ text_at p.new i.new) }
-    ensures place { IfSome result (λ _. Counts p.old i.old p.new i.new) }
+    ensures place { Counts p.old i.old p.new i.new }
     ensures none { result ≡ None → (c : ℕ) (rest : List ℕ)
         → is_ascii_hexdigit c ≡ true → text_at p.old i.old ≡ c ∷ rest → ⊥ }
 {
@@ -104,7 +104,7 @@ fn take_code_unit(p: &mut Place, i: &mut Chars<'_>) -> Option<u32>
         × (value ≡ unit_value unit)
         × (text_at p.old i.old ≡ unit_text unit ++ text_at p.new i.new)) }
     ensures small { IfSome result (λ value. value < 0x10000) }
-    ensures place { IfSome result (λ _. Counts p.old i.old p.new i.new) }
+    ensures place { Counts p.old i.old p.new i.new }
     ensures none { result ≡ None → (unit : CodeUnit) (rest : List ℕ) → IsHex unit
         → text_at p.old i.old ≡ unit_text unit ++ rest → ⊥ }
 {
@@ -120,7 +120,7 @@ fn take_unicode(p: &mut Place, i: &mut Chars<'_>) -> Option<char>
     ensures taken { IfSome result (λ c. (piece : Piece) × IsPiece piece
         × (c ≡ piece_char piece)
         × (92 ∷ (117 ∷ text_at p.old i.old) ≡ piece_text piece ++ text_at p.new i.new)) }
-    ensures place { IfSome result (λ _. Counts p.old i.old p.new i.new) }
+    ensures place { Counts p.old i.old p.new i.new }
     ensures none { result ≡ None → (piece : Piece) (rest : List ℕ) → IsPiece piece
         → 92 ∷ (117 ∷ text_at p.old i.old) ≡ piece_text piece ++ rest → ⊥ }
 {
@@ -150,7 +150,7 @@ fn take_escape(p: &mut Place, i: &mut Chars<'_>) -> Option<char>
     ensures taken { IfSome result (λ c. (piece : Piece) × IsPiece piece
         × (c ≡ piece_char piece)
         × (text_at p.old i.old ≡ piece_text piece ++ text_at p.new i.new)) }
-    ensures place { IfSome result (λ _. Counts p.old i.old p.new i.new) }
+    ensures place { Counts p.old i.old p.new i.new }
     ensures none { result ≡ None → (piece : Piece) (rest : List ℕ) → IsPiece piece
         → text_at p.old i.old ≡ piece_text piece ++ rest → ⊥ }
 {
@@ -174,7 +174,7 @@ fn read_pieces(p: &mut Place, i: &mut Chars<'_>, strbuf: &mut String) -> Result<
     ensures found { OnOk result ((characters : List ℕ)
         × IsString (text_at p.old i.old) characters (text_at p.new i.new)
         × (string_bytes strbuf.new ≡ encode_utf8_all characters)) }
-    ensures place { OnOk result (Counts p.old i.old p.new i.new) }
+    ensures place { Counts p.old i.old p.new i.new }
     ensures memory { result ≡ Err Fault.Memory → (characters rest : List ℕ)
         → IsString (text_at p.old i.old) characters rest
         → string_capacity strbuf.old < length (encode_utf8_all characters) }
@@ -214,14 +214,14 @@ fn read_pieces(p: &mut Place, i: &mut Chars<'_>, strbuf: &mut String) -> Result<
 /// # Errors
 ///
 /// `Fault::Malformed` where no string lexeme begins here, `Fault::Memory` where `strbuf` could
-/// not grow. Afterwards the place is where the fault was found, and `strbuf` holds a prefix of
-/// the text.
+/// not grow. Afterwards line and column count what was taken, up to where the fault was found,
+/// and `strbuf` holds a prefix of the text.
 #[inline(always)]
 pub fn read_string(p: &mut Place, i: &mut Chars<'_>, strbuf: &mut String) -> Result<(), Fault>
     ensures found { OnOk result ((characters : List ℕ)
         × IsString (text_at p.old i.old) characters (text_at p.new i.new)
         × (string_bytes strbuf.new ≡ encode_utf8_all characters)) }
-    ensures place { OnOk result (Counts p.old i.old p.new i.new) }
+    ensures place { Counts p.old i.old p.new i.new }
 
     // Memory is requested only where the buffer lacks the capacity for the text.
     ensures memory { result ≡ Err Fault.Memory → (characters rest : List ℕ)

@@ -1,7 +1,7 @@
 //! Whole numbers of few digits, which nearly all numbers are: their digits are looked at in one
 //! loop, and taken at once. What is odd is left to the run (`run`), with nothing taken.
 
-ghost use Rattle.std.specs.Prelude.{◌≡◌, ◌<◌, ◌≤◌, ◌^◌, true, false, IfSome};
+ghost use Rattle.std.specs.Prelude.{◌≡◌, ◌≢◌, ◌<◌, ◌≤◌, ◌^◌, true, false, IfSome};
 ghost use Rattle.std.specs.Prelude.{length, get_or, pos, neg_ℤ};
 ghost use Rattle.std.specs.Char.{is_ascii_digit, digit_value};
 ghost use Rattle.std.specs.Str.Iter.{chars_rest};
@@ -76,7 +76,7 @@ pub(crate) fn stand_after(p: &mut Place, i: &mut Chars<'_>, ahead: Ahead)
     requires ascii { ahead.next < 128 }
     ensures rest { text_at p.new i.new ≡ before_nul (following is_ascii_digit (held i.old)) }
     ensures cur { p.new.cur ≡ ahead.next }
-    ensures place { Counts p.old i.old p.new i.new }
+    ensures place { p.old.cur ≢ 0 → Counts p.old i.old p.new i.new }
 {
     let text = i.as_str();
     let (_digits, rest) = text.split_at(ahead.len + 1);

@@ -1,11 +1,23 @@
 use Rattle.std.proofs.Common.{ℕ, List, refl, sym, ◌∙◌, ap, subst, arith, string_bytes, chars, encode_utf8, ◌++◌}
 use Rattle.nano_text.specs.declared.place.Place.{Place}
 use Rattle.nano_text.specs.Place.{Passes, held, text_at}
-use Rattle.nano_text.specs.PlaceLaws.{passes_append}
-use Rattle.nano_text.proofs.Bodies.{at_column, nothing_yet, run_boundary, reads_run, quote_boundary, string_read_at_once, passes_quote, escape_boundary, reads_escape}
+use Rattle.nano_text.specs.PlaceLaws.{passes_append, advances_none}
+use Rattle.nano_text.proofs.Bodies.{at_column, nothing_yet, run_boundary, reads_run, quote_boundary, string_read_at_once, passes_quote, advances_quote, unmoved, escape_boundary, reads_escape}
 use Rattle.nano_text.proofs.body.read_at_once.Goals as goal
 
 -- where nothing is taken
+pub returns-then-p-ne34-clause-place : goal.returns-then-p-ne34-clause-place
+returns-then-p-ne34-clause-place c = advances_none c.args.p.now c.args.i.now
+
+pub returns-in_default-clause-place : goal.returns-in_default-clause-place
+returns-in_default-clause-place c = unmoved c.args.p.now c.runs.p c.args.i.now c.runs.i c.runs.invariant.place c.runs.invariant.input
+
+pub returns-in_default-short_escape-clause-place : goal.returns-in_default-short_escape-clause-place
+returns-in_default-short_escape-clause-place c = unmoved c.args.p.now c.runs.p c.args.i.now c.runs.i c.runs.invariant.place c.runs.invariant.input
+
+pub returns-in_default-push-clause-place : goal.returns-in_default-push-clause-place
+returns-in_default-push-clause-place c = unmoved c.args.p.now c.runs.p c.args.i.now c.runs.i c.runs.invariant.place c.runs.invariant.input
+
 pub returns-in_default-clause-unchanged : goal.returns-in_default-clause-unchanged
 returns-in_default-clause-unchanged c e = (c.runs.invariant.place, c.runs.invariant.input)
 
@@ -50,7 +62,7 @@ returns-then-begins_with_quote-clause-found c e =
     (c.chars.ensures.rest ∙ c.split_at-then-begins_with_quote.ensures.back) c.next.ensures.rest
 
 pub returns-then-begins_with_quote-clause-place : goal.returns-then-begins_with_quote-clause-place
-returns-then-begins_with_quote-clause-place c e =
+returns-then-begins_with_quote-clause-place c =
     let q = at_column c.args.p.now c.saturating_add-col.result in
     let r : Place = record c.runs.p { col = c.saturating_add-p.result } in
     let run = reads_run (held c.args.i.now) c.args.p.now (at_column c.args.p.now c.runs.col) q (string_bytes c.runs.strbuf) c.runs.rest.now c.as_bytes.result.now
@@ -61,7 +73,10 @@ returns-then-begins_with_quote-clause-place c e =
     let passed = passes_quote (held c.args.i.now) c.args.p.now q r (string_bytes c.push_str.new.self) c.split_at.result.1.now
     c.as_bytes-in-runs.result.now quote.0 c.split_at-then-begins_with_quote.result.1.now run c.as_bytes-in-runs.ensures.value quote.1
     c.split_at-then-begins_with_quote.ensures.back (ap (λ (s : Place). s.line) c.runs.invariant.place) c.saturating_add-p.ensures in
-    passes_append {q = r} (subst (λ (l : List ℕ). Passes c.args.p.now (held c.args.i.now) r (chars l)) (sym c.chars.ensures.rest) passed) c.next.ensures.passes
+    let passes = passes_append {q = r} (subst (λ (l : List ℕ). Passes c.args.p.now (held c.args.i.now) r (chars l)) (sym c.chars.ensures.rest) passed) c.next.ensures.passes in
+    advances_quote c.args.i.now c.chars.result c.next.new.i c.args.p.now q c.next.new.self (string_bytes c.push_str.new.self) c.split_at.result.1.now
+    c.as_bytes-in-runs.result.now quote.0 run c.if-p-ne34.false c.as_bytes-in-runs.ensures.value quote.1
+    (c.chars.ensures.rest ∙ c.split_at-then-begins_with_quote.ensures.back) c.next.ensures.held c.next.ensures.rest passes
 
 pub split_at-requires-in-runs : goal.split_at-requires-in-runs
 split_at-requires-in-runs c =

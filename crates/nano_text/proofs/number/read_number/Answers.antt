@@ -4,7 +4,7 @@ use Rattle.std.specs.Str.Parse.{digits_value_after}
 use Rattle.nano_text.specs.Prefix.{prefix}
 use Rattle.nano_text.specs.Number.{continues}
 use Rattle.nano_text.specs.Place.{text_at}
-use Rattle.nano_text.proofs.RemainingText.{first_is-remaining}
+use Rattle.nano_text.proofs.RemainingText.{first_is-remaining, not_nul}
 use Rattle.nano_text.proofs.WholeNumbers.{unsigned_found}
 use Rattle.nano_text.proofs.number.read_number.Goals as goal
 
@@ -16,3 +16,6 @@ returns-in-Some-clause-found c =
     let value = e.value ∙ ap (λ (bs : List ℕ). digits_value_after 10 (digit_value cur) (prefix is_ascii_digit bs)) c.as_bytes.ensures.value in
     let found = unsigned_found cur c.args.i.now c.as_str.result.now c.as_str.utf8 c.as_str.ensures c.in-Some.ahead.value (text_at c.stand_after.new.p c.stand_after.new.i) e.digit value (omega arith) c.stand_after.ensures.rest ends in
     (found.0, found.1, λ decimal. cc decimal)
+
+pub returns-in-Some-clause-place : goal.returns-in-Some-clause-place
+returns-in-Some-clause-place c = c.stand_after.ensures.place (not_nul is_ascii_digit c.args.p.now.cur refl c.in-Some.ensures.digit)

@@ -21,3 +21,6 @@ returns-in-Some-negative-clause-found c =
     let is = number.1 ∙ ap (λ (n : ℕ). I64 (neg_ℤ (pos n))) value in
     let found = negative_found c.args.p.now.cur c.args.i.now c.as_str.result.now c.as_str.utf8 c.as_str.ensures c.in-Some-negative.number (text_at c.stand_after.new.p c.stand_after.new.i) e.minus some small is c.stand_after.ensures.rest ends in
     (found.0, found.1, λ decimal. let both = sym number.1 ∙ decimal in cc both)
+
+pub returns-in-Some-negative-clause-place : goal.returns-in-Some-negative-clause-place
+returns-in-Some-negative-clause-place c = c.stand_after.ensures.place (λ e. omega (arith, e, c.in-Some.ensures.minus))

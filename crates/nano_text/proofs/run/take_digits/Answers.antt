@@ -3,10 +3,11 @@ use Rattle.std.specs.Char.{is_ascii_digit}
 use Rattle.std.specs.Str.Parse.{digits_value, digits_value_after}
 use Rattle.nano_text.specs.Prefix.{prefix}
 use Rattle.nano_text.specs.Place.{held, text_at}
+use Rattle.nano_text.specs.PlaceLaws.{advances_none}
 use Rattle.nano_text.proofs.DigitValues.{digit_from_value, no_digit_from_value, digits-remaining, digits_value-remaining}
 use Rattle.nano_text.proofs.Prefixes.{prefix_stop, after_stop}
-use Rattle.nano_text.proofs.RemainingText.{remaining_stop}
-use Rattle.nano_text.proofs.TakenPrefix.{prefix_boundary, remaining_after, digits_cut, digits_in_line, passes_in_line}
+use Rattle.nano_text.proofs.RemainingText.{remaining_stop, not_nul}
+use Rattle.nano_text.proofs.TakenPrefix.{prefix_boundary, remaining_after, digits_cut, digits_in_line, passes_in_line, advances_over}
 use Rattle.nano_text.proofs.run.take_digits.Goals as goal
 
 pub returns-in_default-clause-len : goal.returns-in_default-clause-len
@@ -49,10 +50,17 @@ returns-clause-rest c =
     let count = c.digits_after-more.ensures.len ∙ ap (λ (bs : List ℕ). length (prefix is_ascii_digit bs)) c.as_bytes.ensures.value in
     c.next.ensures.rest ∙ remaining_after is_ascii_digit refl digits_cut c.args.p.now.cur c.digits_after-more.result.len c.args.i.now c.chars.result c.as_str-text.result.now digit c.as_str-text.utf8 c.as_str-text.ensures count (c.chars.ensures.rest ∙ c.split_at.ensures.back)
 
+pub returns-in_default-clause-place : goal.returns-in_default-clause-place
+returns-in_default-clause-place c = advances_none c.args.p.now c.args.i.now
+
 pub returns-clause-place : goal.returns-clause-place
 returns-clause-place c =
     let text = c.as_str-text.result.now in
     let count = c.digits_after-more.ensures.len ∙ ap (λ (bs : List ℕ). length (prefix is_ascii_digit bs)) c.as_bytes.ensures.value in
-    passes_in_line is_ascii_digit refl digits_cut c.args.p.now _ c.next.new.self c.digits_after-more.result.len c.args.i.now
+    let left = c.chars.ensures.rest ∙ c.split_at.ensures.back in
+    let some = not_nul is_ascii_digit c.args.p.now.cur refl (digit_from_value c.args.p.now.cur c.in-Some.ensures.value.0) in
+    advances_over is_ascii_digit refl digits_cut c.args.p.now c.next.new.self c.digits_after-more.result.len c.args.i.now c.chars.result
+    c.next.new.i text some c.as_str-text.utf8 c.as_str-text.ensures count left c.next.ensures.held c.next.ensures.rest
+    (passes_in_line is_ascii_digit refl digits_cut c.args.p.now _ c.next.new.self c.digits_after-more.result.len c.args.i.now
     c.chars.result text (held c.next.new.i) c.as_str-text.utf8 c.as_str-text.ensures count
-    (c.chars.ensures.rest ∙ c.split_at.ensures.back) (digits_in_line text) (omega arith) refl c.saturating_add-p.ensures c.next.ensures.passes
+    left (digits_in_line text) (omega arith) refl c.saturating_add-p.ensures c.next.ensures.passes)

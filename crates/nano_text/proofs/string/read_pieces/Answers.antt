@@ -1,11 +1,11 @@
-use Rattle.std.proofs.Common.{rules, ◌≡◌, ◌≢◌, ◌∷◌, ◌++◌, ℕ, [], refl, sym, ◌∙◌, ap, arith, length, length-append, string_bytes, encode_utf8, true, ne_eqb}
+use Rattle.std.proofs.Common.{◌≡◌, ◌≢◌, ◌∷◌, ◌++◌, ℕ, [], refl, sym, ◌∙◌, ap, arith, length, length-append, string_bytes, encode_utf8, true, ne_eqb}
 use Rattle.nano_text.specs.Place.{text_at}
 use Rattle.nano_text.specs.String.{is_plain}
 use Rattle.nano_text.proofs.RemainingText.{remaining_end, remaining-first}
 use Rattle.nano_text.proofs.Escapes.{piece_some}
 use Rattle.nano_text.proofs.TakenPrefix.{after_shorter, plain_cut}
-use Rattle.nano_text.proofs.Strings.{reads_piece, reads_plain, no_string, written_le}
-use Rattle.nano_text.specs.PlaceLaws.{passes_append}
+use Rattle.nano_text.proofs.Strings.{nothing_read, reads_piece, reads_plain, no_string, written_le}
+use Rattle.nano_text.specs.PlaceLaws.{advances_none, advances_append}
 use Rattle.nano_text.proofs.string.read_pieces.Goals as goal
 
 -- the opening quote comes off the text
@@ -27,7 +27,7 @@ pieces-preserved c =
     let piece = c.in-Some.ensures.taken in
     record {
       read = reads_piece _ _ _ _ _ piece.0 c.pieces.invariant.read piece.1 piece.3 (c.in_ok-push.ensures.bytes ∙ ap (λ (n : ℕ). string_bytes c.pieces.strbuf ++ encode_utf8 n) piece.2);
-      place = passes_append c.pieces.invariant.place c.in-Some.ensures.place;
+      place = advances_append c.pieces.invariant.place c.in-Some.ensures.place;
       capacity = omega (arith, c.pieces.invariant.capacity, c.in_ok-push.ensures.capacity);
     }
 
@@ -53,7 +53,7 @@ pieces-smaller-then-p-ne92 c =
 pub pieces-preserved-then-p-ne92 : goal.pieces-preserved-then-p-ne92
 pieces-preserved-then-p-ne92 c = record {
   read = reads_plain is_plain (λ x h. h) _ _ _ _ _ c.pieces.invariant.read c.in_ok-take_plain.ensures.rest c.in_ok-take_plain.ensures.taken;
-  place = passes_append c.pieces.invariant.place c.in_ok-take_plain.ensures.place;
+  place = advances_append c.pieces.invariant.place c.in_ok-take_plain.ensures.place;
   capacity = omega (arith, c.pieces.invariant.capacity, c.in_ok-take_plain.ensures.capacity);
 }
 
@@ -63,5 +63,28 @@ returns-in_err-take_plain-clause-memory c error characters rest string =
     let more = reads_plain is_plain (λ x h. h) _ _ _ _ _ c.pieces.invariant.read refl refl in
     omega (arith, written_le _ _ _ _ characters rest quote more string, c.pieces.invariant.capacity, c.in_err-take_plain.ensures.full)
 
+pub returns-then-p-ne34-clause-place : goal.returns-then-p-ne34-clause-place
+returns-then-p-ne34-clause-place c = advances_none c.args.p.now c.args.i.now
+
+pub pieces-init : goal.pieces-init
+pieces-init c = record {
+  read = rw c.clear.ensures.bytes (nothing_read _);
+  place = c.next.ensures.counts (quote_some _ c.if-p-ne34.false);
+  capacity = omega (arith, c.clear.ensures.capacity);
+}
+
+pub returns-then-p-eq0-clause-place : goal.returns-then-p-eq0-clause-place
+returns-then-p-eq0-clause-place c = c.pieces.invariant.place
+
+pub returns-in_err-take_plain-clause-place : goal.returns-in_err-take_plain-clause-place
+returns-in_err-take_plain-clause-place c = advances_append c.pieces.invariant.place c.in_err-take_plain.ensures.place
+
+pub returns-in_default-clause-place : goal.returns-in_default-clause-place
+returns-in_default-clause-place c = advances_append c.pieces.invariant.place c.in_default.ensures.place
+
+pub returns-in_err-push-clause-place : goal.returns-in_err-push-clause-place
+returns-in_err-push-clause-place c = advances_append c.pieces.invariant.place c.in-Some.ensures.place
+
 pub returns-clause-place : goal.returns-clause-place
-returns-clause-place c = search (rules, passes_append)
+returns-clause-place c =
+    advances_append c.pieces.invariant.place (c.next-2.ensures.counts (quote_some _ c.pieces-test.false))

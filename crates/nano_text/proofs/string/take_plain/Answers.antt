@@ -2,10 +2,12 @@ use Rattle.std.proofs.Common.{◌≡◌, ◌++◌, List, ℕ, ◌∙◌, ap, sub
 use Rattle.std.proofs.lemmas.Result.{err_from_is_err_and}
 use Rattle.std.specs.List.{AllWithin}
 use Rattle.nano_text.specs.declared.place.Place.{Place}
-use Rattle.nano_text.specs.Place.{IsInLine, held, passed, text_at}
+use Rattle.nano_text.specs.Place.{IsInLine, Passes, held, passed, text_at}
 use Rattle.nano_text.specs.Prefix.{prefix}
 use Rattle.nano_text.specs.String.{is_plain}
-use Rattle.nano_text.proofs.TakenPrefix.{prefix_boundary, remaining_after, prefix_bytes, prefix_capacity, plain_cut, passes_prefix, passes_in_line}
+use Rattle.nano_text.proofs.TakenPrefix.{prefix_boundary, remaining_after, prefix_bytes, prefix_capacity, plain_cut, passes_prefix, passes_in_line, advances_over}
+use Rattle.nano_text.proofs.RemainingText.{not_nul}
+use Rattle.nano_text.specs.PlaceLaws.{advances_none}
 use Rattle.nano_text.proofs.InLine.{taken_in_line}
 use Rattle.nano_text.proofs.string.take_plain.Goals.{then-run-lt128, else-run-lt128}
 use Rattle.nano_text.proofs.string.take_plain.Goals as goal
@@ -39,6 +41,12 @@ returns-in_err-push_str-clause-full c =
     let all : string_bytes c.push.new.self ++ c.split_at.result.0.now ≡ string_bytes c.args.strbuf.now ++ encode_utf8_all (prefix is_plain (text_at c.args.p.now c.args.i.now)) = rw (c.in_ok-push.ensures.bytes, c.split_at.ensures.front, append_assoc, prefix_is) refl in
     rw error.1 (omega (arith, c.in_err-push_str.ensures.full, c.in_ok-push.ensures.capacity, c.push.new.self.bytes.ok.0, ap length all, length-append (string_bytes c.push.new.self) c.split_at.result.0.now))
 
+pub returns-in_err-push-clause-place : goal.returns-in_err-push-clause-place
+returns-in_err-push-clause-place c = advances_none c.args.p.now c.args.i.now
+
+pub returns-in_err-push_str-clause-place : goal.returns-in_err-push_str-clause-place
+returns-in_err-push_str-clause-place c = advances_none c.args.p.now c.args.i.now
+
 pub returns-clause-place : goal.returns-clause-place
 returns-clause-place c =
     let p = c.args.p.now in
@@ -49,7 +57,7 @@ returns-clause-place c =
     let is = c.as_str-text.ensures in
     let count = c.plain_run-run.ensures.len ∙ ap (λ (bs : List ℕ). length (prefix is_plain bs)) c.as_bytes.ensures.value in
     let left = c.chars.ensures.rest ∙ c.split_at.ensures.back in
-    elim c.if-run-lt128.branch [
+    let passes : Passes p (held c.args.i.now) c.next.new.self (held c.next.new.i) = elim c.if-run-lt128.branch [
       | then-run-lt128 w ↦
           let within = subst (λ (bs : List ℕ). AllWithin IsInLine bs 0 n) c.as_bytes.ensures.value
           (c.plain_run-run.ensures.in_line w.if-run-lt128.true) in
@@ -65,4 +73,6 @@ returns-clause-place c =
           (ap (λ (s : Place). s.line) w.p-is ∙ (w.pass.ensures.line ∙ ap (λ (bs : List ℕ). (passed p (chars bs)).line) run))
           (ap (λ (s : Place). s.col) w.p-is ∙ (w.pass.ensures.col ∙ ap (λ (bs : List ℕ). (passed p (chars bs)).col) run))
           c.next.ensures.passes
-    ]
+    ] in
+    advances_over is_plain refl plain_cut p c.next.new.self n c.args.i.now c.chars.result c.next.new.i text (not_nul is_plain p.cur refl c.requires)
+    utf8 is count left c.next.ensures.held c.next.ensures.rest passes

@@ -1,8 +1,8 @@
 use Rattle.std.proofs.Common.{◌≢◌, ◌<◌, ◌≤◌, ◌⊎◌, inl, inr, refl, arith}
 use Rattle.nano_text.specs.String.{scalar, pair, unit_value}
 use Rattle.nano_text.proofs.RemainingText.{remaining-first}
-use Rattle.nano_text.proofs.Escapes.{some_anyway, IfSome-from_SomeIff, unit_of_piece, paired, same_after_first}
-use Rattle.nano_text.specs.PlaceLaws.{passes_append}
+use Rattle.nano_text.proofs.Escapes.{IfSome-from_SomeIff, unit_of_piece, paired, same_after_first}
+use Rattle.nano_text.specs.PlaceLaws.{advances_append}
 use Rattle.nano_text.proofs.string.take_unicode.Goals as goal
 use Rattle.nano_text.proofs.string.take_unicode.Goals.{then-lead-lt55296-via-then-lead-lt55296, then-lead-lt55296-via-else-lead-lt55296+then-lead-gt57343, then-lead-gt56319-via-then-lead-gt56319, then-lead-gt56319-via-else-lead-gt56319+then-p-ne92}
 
@@ -68,7 +68,30 @@ returns-clause-taken c =
       rw (lead.3, c.next.ensures.taken some, c.next-2.ensures.taken more, c.if-p-ne92.false, c.if-p-ne117.false, trail.3) refl,
     )
 
+pub returns-in_err-lead-clause-place : goal.returns-in_err-lead-clause-place
+returns-in_err-lead-clause-place c = c.in_err-lead.ensures.place
+
+pub returns-then-lead-lt55296-clause-place : goal.returns-then-lead-lt55296-clause-place
+returns-then-lead-lt55296-clause-place c = c.in_ok-lead.ensures.place
+
+pub returns-then-lead-gt56319-clause-place : goal.returns-then-lead-gt56319-clause-place
+returns-then-lead-gt56319-clause-place c = c.in_ok-lead.ensures.place
+
+pub returns-then-p-ne117-clause-place : goal.returns-then-p-ne117-clause-place
+returns-then-p-ne117-clause-place c =
+    advances_append c.in_ok-lead.ensures.place (c.next.ensures.counts (λ e. omega (arith, e, c.if-p-ne92.false)))
+
+pub returns-in_err-trail-clause-place : goal.returns-in_err-trail-clause-place
+returns-in_err-trail-clause-place c =
+    advances_append c.in_ok-lead.ensures.place (advances_append (c.next.ensures.counts (λ e. omega (arith, e, c.if-p-ne92.false)))
+    (advances_append (c.next-2.ensures.counts (λ e. omega (arith, e, c.if-p-ne117.false))) c.in_err-trail.ensures.place))
+
+pub returns-then-trail-lt56320-clause-place : goal.returns-then-trail-lt56320-clause-place
+returns-then-trail-lt56320-clause-place c =
+    advances_append c.in_ok-lead.ensures.place (advances_append (c.next.ensures.counts (λ e. omega (arith, e, c.if-p-ne92.false)))
+    (advances_append (c.next-2.ensures.counts (λ e. omega (arith, e, c.if-p-ne117.false))) c.in_ok-trail.ensures.place))
+
 pub returns-clause-place : goal.returns-clause-place
 returns-clause-place c =
-    some_anyway _ _ (passes_append c.in_ok-lead.ensures.place (passes_append c.next.ensures.passes
-    (passes_append c.next-2.ensures.passes c.in_ok-trail.ensures.place)))
+    advances_append c.in_ok-lead.ensures.place (advances_append (c.next.ensures.counts (λ e. omega (arith, e, c.if-p-ne92.false)))
+    (advances_append (c.next-2.ensures.counts (λ e. omega (arith, e, c.if-p-ne117.false))) c.in_ok-trail.ensures.place))

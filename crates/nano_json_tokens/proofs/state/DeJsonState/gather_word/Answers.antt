@@ -1,13 +1,14 @@
 use Rattle.std.proofs.Common.{sym, ◌∙◌, refl, rules, arith, append-nil, ap, length, length-append, string_bytes}
 use Rattle.std.proofs.lemmas.Grind.{common_steps}
-use Rattle.nano_text.proofs.RemainingText.{first_is-remaining}
+use Rattle.nano_text.proofs.RemainingText.{first_is-remaining, not_nul}
 use Rattle.nano_text.proofs.Prefixes.{after_stop, prefix_stop}
-use Rattle.nano_text.specs.PlaceLaws.{passes_append}
+use Rattle.nano_text.specs.PlaceLaws.{advances_append}
 use Rattle.nano_text.specs.Prefix.{prefix}
 use Rattle.nano_text.specs.Place.{remaining}
 use Rattle.std.proofs.lemmas.Result.{err_from_is_err_and}
 use Rattle.nano_json_tokens.proofs.Capacity.{word_has_one, word_is_one_byte}
 use Rattle.nano_json_tokens.specs.Cut.{is_word}
+use Rattle.nano_json_tokens.proofs.Reporting.{counts_none}
 use Rattle.nano_json_tokens.proofs.state.DeJsonState.gather_word.Goals as goal
 
 pub returns-clause-remaining : goal.returns-clause-remaining
@@ -26,7 +27,7 @@ word-preserved c = record {
   rest = search rules;
   capacity = rw c.next.ensures.identbuf (omega (arith, c.word.invariant.capacity, c.in_ok-push.ensures.capacity));
   taken = grind (arith, common_steps);
-  place = passes_append c.word.invariant.place c.next.ensures.counts;
+  place = advances_append c.word.invariant.place (c.next.ensures.counts (not_nul is_word c.word.self.cur refl (sym c.word-test.ensures)));
   strbuf = search rules;
   numbuf = search rules;
 }
@@ -40,3 +41,13 @@ returns-in_err-push-clause-full c =
     let one = word_is_one_byte c.word.self.cur (sym c.word-test.ensures) in
     let whole = ap length c.word.invariant.taken in
     rw error.1 (omega (arith, c.in_err-push.ensures.full, word.bytes.ok.0, some, one, whole, length-append (string_bytes word) left, c.word.invariant.capacity))
+
+pub word-init : goal.word-init
+word-init c = record {
+  rest = refl;
+  taken = rw c.clear.ensures.bytes refl;
+  capacity = omega (arith, c.clear.ensures.capacity);
+  place = counts_none c.args.self.now c.args.i.now;
+  strbuf = refl;
+  numbuf = refl;
+}

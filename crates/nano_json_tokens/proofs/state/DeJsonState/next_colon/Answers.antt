@@ -3,7 +3,7 @@ use Rattle.std.proofs.lemmas.Result.{err_from_is_err_and, on_ok_weaker, on_err_w
 use Rattle.std.specs.declared.str.Chars.{Chars}
 use Rattle.nano_grammar.proofs.Tokens.{same_at}
 use Rattle.nano_text.specs.Place.{remaining}
-use Rattle.nano_text.specs.PlaceLaws.{passes_append}
+use Rattle.nano_text.specs.PlaceLaws.{advances_append}
 use Rattle.nano_grammar.specs.Tokens.{At, Leaves}
 use Rattle.nano_json_tokens.specs.Token.{Token, colon}
 use Rattle.nano_json_tokens.specs.Cut.{Cut}
@@ -76,4 +76,4 @@ returns-clause-left c =
     ]
 
 pub returns-clause-place : goal.returns-clause-place
-returns-clause-place c = on_ok_weaker c.colon.result (λ h. passes_append c.in_ok-next_tok.ensures.place h) c.colon.ensures.place
+returns-clause-place c = advances_append c.in_ok-next_tok.ensures.place c.colon.ensures.place

@@ -1,7 +1,7 @@
 use Rattle.std.proofs.Common.{sym, subst, List, ℕ}
 use Rattle.std.proofs.lemmas.Result.{on_ok_weaker, IfErr-weaker}
 use Rattle.nano_text.specs.Place.{remaining}
-use Rattle.nano_text.specs.PlaceLaws.{passes_append}
+use Rattle.nano_text.specs.PlaceLaws.{advances_append}
 use Rattle.nano_json_tokens.specs.Cut.{IsLexeme}
 use Rattle.nano_json_tokens.specs.State.{pending}
 use Rattle.nano_json_tokens.proofs.Cuts.{lexeme_cut, cut_lexeme}
@@ -18,7 +18,7 @@ returns-clause-rejected c =
     IfErr-weaker c.take_lexeme.result _ _ (λ r h known t rest l. h known t rest (subst (λ (text : List ℕ). IsLexeme t text rest) (sym c.skip_space.ensures.remaining) (cut_lexeme _ t rest l))) c.take_lexeme.ensures.rejected
 
 pub returns-clause-place : goal.returns-clause-place
-returns-clause-place c = on_ok_weaker c.take_lexeme.result (λ h. passes_append c.skip_space.ensures.place h) c.take_lexeme.ensures.place
+returns-clause-place c = advances_append c.skip_space.ensures.place c.take_lexeme.ensures.place
 
 pub returns-clause-capacity : goal.returns-clause-capacity
 returns-clause-capacity c =

@@ -1,7 +1,7 @@
 use Rattle.std.proofs.Common.{arith, sym}
 use Rattle.std.proofs.lemmas.Result.{err_from_is_err_and}
 use Rattle.nano_text.proofs.RemainingText.{remaining_fewer}
-use Rattle.nano_text.specs.PlaceLaws.{passes_append}
+use Rattle.nano_text.specs.PlaceLaws.{advances_append}
 use Rattle.nano_json_tokens.specs.State.{at, pending}
 use Rattle.nano_json_tokens.proofs.BracketCounts.{start, step, goes_on, bracket_cut, end_is, end_not, capacity_start, capacity_step, capacity_below}
 use Rattle.nano_json_tokens.proofs.Shorter.{token_shorter}
@@ -42,7 +42,7 @@ tokens-preserved c =
     let more = end_not (pending c.tokens.self) (sym c.if-is_end.ensures) in
     record {
       counting = step s0 s m c.tokens.depth c.depth_after-depth.result c.tokens.invariant.counting c.tokens-test.true more c.in_ok-scan_after_value-2.ensures.taken c.depth_after-depth.ensures;
-      place = passes_append c.tokens.invariant.place c.in_ok-scan_after_value-2.ensures.place;
+      place = advances_append c.tokens.invariant.place c.in_ok-scan_after_value-2.ensures.place;
       capacity = capacity_step s m c.tokens.depth c.depth_after-depth.result c.tokens.invariant.capacity more c.in_ok-scan_after_value-2.ensures.taken c.depth_after-depth.ensures;
     }
 
@@ -52,3 +52,7 @@ returns-in_err-scan_after_value-2-clause-rejected c =
     rw (p.1, p.2) (λ known field b after l.
     let x = (goes_on (at c.args.self.now c.args.i.now) (at c.tokens.self c.tokens.i) after c.tokens.depth field c.tokens.invariant.counting c.tokens-test.true b l).1 in
     c.in_err-scan_after_value-2.ensures.rejected known x.0.token x.0.text x.1)
+
+pub returns-in_err-scan_after_value-2-clause-place : goal.returns-in_err-scan_after_value-2-clause-place
+returns-in_err-scan_after_value-2-clause-place c =
+    advances_append c.tokens.invariant.place c.in_err-scan_after_value-2.ensures.place

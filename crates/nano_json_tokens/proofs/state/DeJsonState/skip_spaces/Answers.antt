@@ -1,8 +1,9 @@
 use Rattle.std.proofs.Common.{sym, ◌∙◌, refl, rules}
-use Rattle.nano_text.proofs.RemainingText.{first_is-remaining}
+use Rattle.nano_text.proofs.RemainingText.{first_is-remaining, not_nul}
 use Rattle.nano_text.proofs.Prefixes.{after_stop}
-use Rattle.nano_text.specs.PlaceLaws.{passes_append}
+use Rattle.nano_text.specs.PlaceLaws.{advances_append}
 use Rattle.nano_json_tokens.specs.Cut.{is_space}
+use Rattle.nano_json_tokens.proofs.Reporting.{counts_none}
 use Rattle.nano_json_tokens.proofs.state.DeJsonState.skip_spaces.Goals as goal
 
 pub returns-clause-remaining : goal.returns-clause-remaining
@@ -14,8 +15,18 @@ pub space-preserved : goal.space-preserved
 space-preserved c = record {
   rest = search rules;
   tok = search rules;
-  place = passes_append c.space.invariant.place c.next.ensures.counts;
+  place = advances_append c.space.invariant.place (c.next.ensures.counts (not_nul is_space c.space.self.cur refl (sym c.space-test.ensures)));
   strbuf = search rules;
   numbuf = search rules;
   identbuf = search rules;
+}
+
+pub space-init : goal.space-init
+space-init c = record {
+  rest = refl;
+  tok = refl;
+  place = counts_none c.args.self.now c.args.i.now;
+  strbuf = refl;
+  numbuf = refl;
+  identbuf = refl;
 }

@@ -3,6 +3,7 @@ use Rattle.std.proofs.lemmas.Result.{on_ok_weaker, IfErr-weaker}
 use Rattle.nano_text.proofs.RemainingText.{first_is-remaining}
 use Rattle.nano_json_tokens.specs.Cut.{starts_number, number}
 use Rattle.nano_json_tokens.proofs.LexemeKinds.{kind_of, kind_remaining, kind_number, kind_string, only_number, only_quoted}
+use Rattle.nano_json_tokens.proofs.Cuts.{punctuator_some}
 use Rattle.nano_json_tokens.proofs.state.DeJsonState.take_lexeme.Goals as goal
 
 pub take_other-requires-clause-no_punctuator : goal.take_other-requires-clause-no_punctuator
@@ -32,3 +33,6 @@ pub returns-then-self-eq34-clause-capacity : goal.returns-then-self-eq34-clause-
 returns-then-self-eq34-clause-capacity c =
     let kind = kind_remaining c.args.self.now.cur c.args.i.now ∙ (ap kind_of c.if-self-eq34.true ∙ kind_string) in
     IfErr-weaker c.take_string.result _ _ (λ r h for_memory t rest l. h for_memory t rest (only_quoted t _ rest kind l)) c.take_string.ensures.capacity
+
+pub returns-in-Some-clause-place : goal.returns-in-Some-clause-place
+returns-in-Some-clause-place c = c.next.ensures.counts (punctuator_some _ _ (sym (c.in-Some.ensures [] [])))

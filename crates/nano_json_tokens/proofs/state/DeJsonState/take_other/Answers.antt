@@ -7,6 +7,7 @@ use Rattle.nano_json_tokens.specs.State.{pending}
 use Rattle.nano_json_tokens.proofs.Cuts.{word_lexeme, word_prefix}
 use Rattle.nano_json_tokens.proofs.LexemeKinds.{kind_remaining, kind_word, kind_none, only_word, only_none}
 use Rattle.nano_json_tokens.proofs.Capacity.{word_outgrows}
+use Rattle.nano_json_tokens.proofs.Reporting.{counts_none}
 use Rattle.nano_json_tokens.proofs.state.DeJsonState.take_other.Goals as goal
 
 pub returns-then-is_word-clause-taken : goal.returns-then-is_word-clause-taken
@@ -33,3 +34,9 @@ returns-then-is_word-clause-capacity c =
     let cur = c.args.self.now.cur in
     let kind = kind_remaining cur c.args.i.now ∙ kind_word cur c.requires.no_punctuator c.requires.no_number (ne_eqb cur 34 c.requires.no_string) (sym c.if-is_word.ensures) in
     IfErr-weaker c.take_word.result _ _ (λ r h for_memory t rest l. word_outgrows c.args.self.now t _ rest (h for_memory) (only_word t _ rest kind l)) c.take_word.ensures.capacity
+
+pub returns-then-self-eq0-clause-place : goal.returns-then-self-eq0-clause-place
+returns-then-self-eq0-clause-place c = counts_none c.args.self.now c.args.i.now
+
+pub returns-clause-place : goal.returns-clause-place
+returns-clause-place c = counts_none c.args.self.now c.args.i.now

@@ -1,7 +1,7 @@
 use Rattle.std.proofs.Common.{◌≡◌, sym, ◌∙◌, ap, string_bytes}
 use Rattle.nano_ron_tokens.specs.Token.{comma}
 use Rattle.nano_ron_tokens.specs.State.{pending, token_of}
-use Rattle.nano_ron_tokens.proofs.Reporting.{reports, none_after}
+use Rattle.nano_ron_tokens.proofs.Reporting.{reports, none_after, counts_none}
 use Rattle.nano_ron_tokens.proofs.state.DeRonState.eat_comma_paren.Goals as goal
 
 pub returns-in-Comma-clause-rejected : goal.returns-in-Comma-clause-rejected
@@ -11,3 +11,9 @@ returns-in-Comma-clause-rejected c =
     reports c.scan_value_token.result c.scan_value_token.new.self _ _
     (λ h. (λ closing. let x = sym is_comma ∙ closing in cc x, none_after comma s c.args.i.now h))
     c.scan_value_token.ensures.rejected
+
+pub returns-in_default-clause-place : goal.returns-in_default-clause-place
+returns-in_default-clause-place c = counts_none c.args.self.now c.args.i.now
+
+pub returns-in-ParenClose-clause-place : goal.returns-in-ParenClose-clause-place
+returns-in-ParenClose-clause-place c = counts_none c.args.self.now c.args.i.now

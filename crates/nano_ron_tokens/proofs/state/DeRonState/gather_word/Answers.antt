@@ -2,7 +2,9 @@ use Rattle.std.proofs.Common.{◌≡◌, ◌++◌, List, ℕ, ◌∙◌, ap, ref
 use Rattle.std.proofs.lemmas.Result.{err_from_is_err_and}
 use Rattle.nano_text.specs.Prefix.{prefix}
 use Rattle.nano_text.specs.Place.{held, remaining}
-use Rattle.nano_text.proofs.TakenPrefix.{prefix_boundary, remaining_after, prefix_bytes, prefix_capacity, passes_in_line}
+use Rattle.nano_text.proofs.TakenPrefix.{prefix_boundary, remaining_after, prefix_bytes, prefix_capacity, passes_in_line, advances_over}
+use Rattle.nano_text.proofs.RemainingText.{not_nul}
+use Rattle.nano_ron_tokens.proofs.Reporting.{counts_none}
 use Rattle.nano_ron_tokens.specs.Cut.{is_word}
 use Rattle.nano_ron_tokens.specs.State.{place_of}
 use Rattle.nano_ron_tokens.proofs.Cuts.{starts_is_word}
@@ -29,13 +31,25 @@ returns-clause-gathered c =
     let prefix_is = prefix_bytes is_word refl word_cut c.args.self.now.cur c.word_len-len.result c.args.i.now text.result.now passes text.utf8 text.ensures count in
     rw (c.next.ensures.identbuf, c.in_ok-push_str.ensures.bytes, c.in_ok-push.ensures.bytes, c.clear.ensures.bytes, c.split_at.ensures.front) (prefix_is ∙ word_bytes (remaining c.args.self.now.cur c.args.i.now))
 
+pub returns-in_err-push-clause-place : goal.returns-in_err-push-clause-place
+returns-in_err-push-clause-place c = counts_none c.args.self.now c.args.i.now
+
+pub returns-in_err-push_str-clause-place : goal.returns-in_err-push_str-clause-place
+returns-in_err-push_str-clause-place c = counts_none c.args.self.now c.args.i.now
+
 pub returns-clause-place : goal.returns-clause-place
 returns-clause-place c =
     let text = c.as_str-text in
+    let p = place_of c.args.self.now in
+    let r = place_of c.next.new.self in
     let count = c.word_len-len.ensures ∙ ap (λ (bs : List ℕ). length (prefix is_word bs)) c.as_bytes.ensures.value in
-    passes_in_line is_word refl word_cut (place_of c.args.self.now) _ (place_of c.next.new.self) c.word_len-len.result c.args.i.now
+    let left = c.chars.ensures.rest ∙ c.split_at.ensures.back in
+    let some = not_nul is_word c.args.self.now.cur refl (starts_is_word c.args.self.now.cur c.requires) in
+    advances_over is_word refl word_cut p r c.word_len-len.result c.args.i.now c.chars.result c.next.new.i text.result.now some
+    text.utf8 text.ensures count left c.next.ensures.held c.next.ensures.rest
+    (passes_in_line is_word refl word_cut p _ r c.word_len-len.result c.args.i.now
     c.chars.result text.result.now (held c.next.new.i) text.utf8 text.ensures count
-    (c.chars.ensures.rest ∙ c.split_at.ensures.back) (word_in_line text.result.now) (omega arith) refl c.saturating_add-self.ensures c.next.ensures.counts
+    left (word_in_line text.result.now) (omega arith) refl c.saturating_add-self.ensures c.next.ensures.passes)
 
 pub returns-in_err-push-clause-full : goal.returns-in_err-push-clause-full
 returns-in_err-push-clause-full c =

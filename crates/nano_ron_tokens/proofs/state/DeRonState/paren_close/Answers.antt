@@ -1,8 +1,11 @@
 use Rattle.nano_ron_tokens.specs.Token.{paren_close}
-use Rattle.nano_ron_tokens.proofs.Reporting.{reports, none_after}
+use Rattle.nano_ron_tokens.proofs.Reporting.{reports, none_after, counts_none}
 use Rattle.nano_ron_tokens.proofs.state.DeRonState.paren_close.Goals as goal
 
 pub returns-in-ParenClose-clause-rejected : goal.returns-in-ParenClose-clause-rejected
 returns-in-ParenClose-clause-rejected c =
     let none = none_after paren_close c.args.self.now c.args.i.now in
     reports c.next_tok.result c.next_tok.new.self _ _ none c.next_tok.ensures.rejected
+
+pub returns-in_default-clause-place : goal.returns-in_default-clause-place
+returns-in_default-clause-place c = counts_none c.args.self.now c.args.i.now

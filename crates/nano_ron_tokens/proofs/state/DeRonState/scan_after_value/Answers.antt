@@ -6,3 +6,8 @@ pub returns-in-Some-clause-taken : goal.returns-in-Some-clause-taken
 returns-in-Some-clause-taken c =
     let is = c.in-Some.ensures (string_bytes c.next.new.self.strbuf) (string_bytes c.next.new.self.numbuf) (string_bytes c.next.new.self.identbuf) in
     rw (c.next.ensures.taken (punctuator_some _ _ is)) (punctuator_cut _ _ _ is)
+
+pub returns-in-Some-clause-place : goal.returns-in-Some-clause-place
+returns-in-Some-clause-place c =
+    let is = c.in-Some.ensures (string_bytes c.next.new.self.strbuf) (string_bytes c.next.new.self.numbuf) (string_bytes c.next.new.self.identbuf) in
+    c.next.ensures.counts (punctuator_some _ _ is)

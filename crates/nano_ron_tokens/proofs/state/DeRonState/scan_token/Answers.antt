@@ -1,6 +1,6 @@
 use Rattle.std.proofs.Common.{refl}
 use Rattle.std.proofs.lemmas.Result.{on_ok_weaker, IfErr-weaker}
-use Rattle.nano_text.specs.PlaceLaws.{passes_append}
+use Rattle.nano_text.specs.PlaceLaws.{advances_append}
 use Rattle.nano_ron_tokens.proofs.AfterGaps.{lexeme_cut, cut_lexeme}
 use Rattle.nano_ron_tokens.proofs.Capacity.{outgrows_same}
 use Rattle.nano_ron_tokens.proofs.Skipping.{first_stops}
@@ -15,7 +15,7 @@ returns-clause-taken c =
     on_ok_weaker c.take_lexeme.result (λ h. lexeme_cut _ _ _ _ gap h) c.take_lexeme.ensures.taken
 
 pub returns-clause-place : goal.returns-clause-place
-returns-clause-place c = on_ok_weaker c.take_lexeme.result (λ h. passes_append c.skip_gaps.ensures.place h) c.take_lexeme.ensures.place
+returns-clause-place c = advances_append c.skip_gaps.ensures.place c.take_lexeme.ensures.place
 
 pub returns-clause-rejected : goal.returns-clause-rejected
 returns-clause-rejected c =

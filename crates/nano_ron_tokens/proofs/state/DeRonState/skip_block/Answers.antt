@@ -2,9 +2,10 @@ use Rattle.std.proofs.Common.{◌≡◌, ◌∙◌, ap, refl, false, ne_eqb, ari
 use Rattle.nano_text.proofs.RemainingText.{remaining_end, remaining_stop}
 use Rattle.nano_text.specs.Prefix.{first_is}
 use Rattle.nano_text.specs.Place.{remaining}
-use Rattle.nano_text.specs.PlaceLaws.{passes_append}
+use Rattle.nano_text.specs.PlaceLaws.{advances_append}
 use Rattle.nano_ron_tokens.proofs.Comments.{is_slash, block_step, block_ends, block_over}
 use Rattle.nano_ron_tokens.proofs.Unchanged.{unchanged_next}
+use Rattle.nano_ron_tokens.proofs.Reporting.{counts_none}
 use Rattle.nano_ron_tokens.proofs.state.DeRonState.skip_block.Goals as goal
 use Rattle.nano_ron_tokens.proofs.state.DeRonState.skip_block.Goals.{else-star-via-then-star+else-self-eq47, else-star-via-else-star}
 
@@ -22,7 +23,8 @@ returns-then-self-eq47-clause-skipped c =
 
 pub returns-then-self-eq47-clause-place : goal.returns-then-self-eq47-clause-place
 returns-then-self-eq47-clause-place c =
-    passes_append (passes_append c.block.invariant.place c.next.ensures.counts) c.next-then-self-eq47.ensures.counts
+    advances_append (advances_append c.block.invariant.place (c.next.ensures.counts c.block-test.true))
+    (c.next-then-self-eq47.ensures.counts (λ z. omega (arith, z, c.if-self-eq47.true)))
 
 pub block-preserved : goal.block-preserved
 block-preserved c =
@@ -37,7 +39,7 @@ block-preserved c =
     ] in
     record {
       following = λ rest h. c.block.invariant.following rest (block_step cur text more rest (e.taken c.block-test.true) star h);
-      place = passes_append c.block.invariant.place e.counts;
+      place = advances_append c.block.invariant.place (e.counts c.block-test.true);
       unchanged = unchanged_next c.block.invariant.unchanged e.tok e.strbuf e.numbuf e.identbuf;
     }
 
@@ -46,3 +48,10 @@ returns-clause-skipped c =
     let text = remaining c.block.self.cur c.block.i in
     let none = ap (λ cur. remaining cur c.block.i) c.block-test.false ∙ remaining_end c.block.i in
     c.block.invariant.following text (block_over text none)
+
+pub block-init : goal.block-init
+block-init c = record {
+  following = λ rest h. h;
+  place = counts_none c.args.self.now c.args.i.now;
+  unchanged = record { tok = refl; strbuf = refl; numbuf = refl; identbuf = refl };
+}

@@ -1,7 +1,7 @@
 use Rattle.std.proofs.Common.{arith, refl, ne_eqb}
 use Rattle.nano_text.proofs.RemainingText.{remaining_stop}
 use Rattle.nano_text.specs.Place.{remaining}
-use Rattle.nano_text.specs.PlaceLaws.{passes_append}
+use Rattle.nano_text.specs.PlaceLaws.{advances_append}
 use Rattle.nano_ron_tokens.proofs.Comments.{line_comment_at, block_comment_at, no_comment_at, is_slash, is_star}
 use Rattle.nano_ron_tokens.proofs.state.DeRonState.skip_comment.Goals as goal
 
@@ -16,7 +16,8 @@ returns-then-self-eq47-clause-skipped c known =
 
 pub returns-then-self-eq47-clause-place : goal.returns-then-self-eq47-clause-place
 returns-then-self-eq47-clause-place c =
-    passes_append (passes_append c.next.ensures.counts c.next-then-self-eq47.ensures.counts) c.skip_line.ensures.place
+    advances_append (advances_append (c.next.ensures.counts (λ z. omega (arith, z, c.requires)))
+    (c.next-then-self-eq47.ensures.counts (λ z. omega (arith, z, c.if-self-eq47.true)))) c.skip_line.ensures.place
 
 pub returns-then-self-eq42-clause-skipped : goal.returns-then-self-eq42-clause-skipped
 returns-then-self-eq42-clause-skipped c known =
@@ -29,7 +30,8 @@ returns-then-self-eq42-clause-skipped c known =
 
 pub returns-then-self-eq42-clause-place : goal.returns-then-self-eq42-clause-place
 returns-then-self-eq42-clause-place c =
-    passes_append (passes_append c.next.ensures.counts c.next-then-self-eq42.ensures.counts) c.skip_block.ensures.place
+    advances_append (advances_append (c.next.ensures.counts (λ z. omega (arith, z, c.requires)))
+    (c.next-then-self-eq42.ensures.counts (λ z. omega (arith, z, c.if-self-eq42.true)))) c.skip_block.ensures.place
 
 pub returns-clause-rejected : goal.returns-clause-rejected
 returns-clause-rejected c known =
@@ -38,3 +40,6 @@ returns-clause-rejected c known =
     no_comment_at cur (remaining cur c.args.i.now) (remaining next c.next.new.i) (c.next.ensures.taken (λ z. omega (arith, z, c.requires))) c.requires
     (remaining_stop is_slash next c.next.new.i refl (ne_eqb next 47 c.if-self-eq47.false))
     (remaining_stop is_star next c.next.new.i refl (ne_eqb next 42 c.if-self-eq42.false))
+
+pub returns-clause-place : goal.returns-clause-place
+returns-clause-place c = c.next.ensures.counts (λ z. omega (arith, z, c.requires))

@@ -2,7 +2,7 @@ use Rattle.std.proofs.Common.{◌∙◌, ℕ, List, ap, refl, subst, ne_eqb, ari
 use Rattle.std.proofs.lemmas.Bool.{or_from}
 use Rattle.nano_text.proofs.RemainingText.{remaining_stop, remaining_more}
 use Rattle.nano_text.specs.Place.{remaining}
-use Rattle.nano_text.specs.PlaceLaws.{passes_append}
+use Rattle.nano_text.specs.PlaceLaws.{advances_append}
 use Rattle.nano_ron_tokens.specs.Gaps.{is_space}
 use Rattle.nano_ron_tokens.specs.Scan.{starts_gap, AfterGap}
 use Rattle.nano_ron_tokens.proofs.Comments.{gap_over, spaces_more, comment_more, comment_shorter, after_fewer}
@@ -31,7 +31,7 @@ returns-then-not-skip_comment-clause-rejected c known t rest cut =
     (c.if-not-skip_comment.ensures.rejected refl) t rest cut
 
 pub returns-then-not-skip_comment-clause-place : goal.returns-then-not-skip_comment-clause-place
-returns-then-not-skip_comment-clause-place c = passes_append c.comments.invariant.place c.skip_comment.ensures.place
+returns-then-not-skip_comment-clause-place c = advances_append c.comments.invariant.place c.skip_comment.ensures.place
 
 pub comments-smaller : goal.comments-smaller
 comments-smaller c =
@@ -52,7 +52,7 @@ comments-preserved c =
           (comment_more text between rest (c.if-not-skip_comment.ensures.skipped refl)
           (spaces_more between rest (subst (λ (t : List ℕ). AfterGap t rest) e.remaining h)));
       no_space = e.stops;
-      place = passes_append (passes_append c.comments.invariant.place c.skip_comment.ensures.place) e.place;
+      place = advances_append (advances_append c.comments.invariant.place c.skip_comment.ensures.place) e.place;
       unchanged = unchanged_append (unchanged_append c.comments.invariant.unchanged c.skip_comment.ensures.unchanged) e.unchanged;
     }
 

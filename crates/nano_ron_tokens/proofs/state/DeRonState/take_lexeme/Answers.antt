@@ -7,9 +7,10 @@ use Rattle.nano_ron_tokens.specs.Cut.{starts_number, starts_word, is_word, IsWor
 use Rattle.nano_ron_tokens.specs.Scan.{starts_gap}
 use Rattle.nano_ron_tokens.specs.State.{pending}
 use Rattle.nano_ron_tokens.specs.Token.{Token, IsLiteral}
-use Rattle.nano_ron_tokens.proofs.Cuts.{word_lexeme, word_literal}
+use Rattle.nano_ron_tokens.proofs.Cuts.{word_lexeme, word_literal, punctuator_some}
 use Rattle.nano_ron_tokens.proofs.LexemeKinds.{kind_of, kind_remaining, kind_number, kind_string, kind_single, kind_word, kind_none, no_slash, only_number, only_quoted, only_single, only_word, only_none}
 use Rattle.nano_ron_tokens.proofs.Capacity.{word_outgrows}
+use Rattle.nano_ron_tokens.proofs.Reporting.{counts_none}
 use Rattle.nano_ron_tokens.proofs.state.DeRonState.take_lexeme.Goals as goal
 
 pub returns-then-starts_number-clause-taken : goal.returns-then-starts_number-clause-taken
@@ -82,3 +83,12 @@ returns-then-starts_word-clause-capacity c =
     let cur = c.args.self.now.cur in
     let kind = kind_remaining cur c.args.i.now ∙ kind_word cur (sym c.if-starts_word.ensures) in
     IfErr-weaker c.take_word.result _ _ (λ r h for_memory t rest l. word_outgrows c.args.self.now t _ rest h.1 (only_word t _ rest kind l)) c.take_word.ensures.rejected
+
+pub returns-in-Some-clause-place : goal.returns-in-Some-clause-place
+returns-in-Some-clause-place c = c.next.ensures.counts (punctuator_some _ _ (sym (c.in-Some.ensures [] [] [])))
+
+pub returns-then-self-eq0-clause-place : goal.returns-then-self-eq0-clause-place
+returns-then-self-eq0-clause-place c = counts_none c.args.self.now c.args.i.now
+
+pub returns-clause-place : goal.returns-clause-place
+returns-clause-place c = counts_none c.args.self.now c.args.i.now

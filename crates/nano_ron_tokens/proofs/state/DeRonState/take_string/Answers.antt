@@ -4,6 +4,7 @@ use Rattle.nano_text.specs.String.{IsString}
 use Rattle.nano_text.specs.declared.place.Place.{Place}
 use Rattle.nano_ron_tokens.proofs.Cuts.{quoted_string}
 use Rattle.nano_ron_tokens.proofs.Capacity.{quoted_outgrows}
+use Rattle.nano_ron_tokens.proofs.Reporting.{counts_at}
 use Rattle.nano_ron_tokens.proofs.state.DeRonState.take_string.Goals as goal
 
 pub returns-in-Malformed-clause-rejected : goal.returns-in-Malformed-clause-rejected
@@ -17,3 +18,18 @@ returns-in-Memory-clause-capacity c known t rest h =
     let text = remaining c.args.self.now.cur c.args.i.now in
     quoted_outgrows c.args.self.now t text rest
     (λ cs left is. capacity cs left (subst (λ (p : Place). IsString (text_at p c.args.i.now) cs left) (sym c.place-place.ensures) is)) h
+
+pub returns-in-Ok-clause-place : goal.returns-in-Ok-clause-place
+returns-in-Ok-clause-place c =
+    counts_at c.args.self.now (record c.args.self.now { strbuf = c.read_string-read.new.strbuf }) c.stand_at.new.self c.place-place.result c.read_string-read.new.p c.args.i.now c.read_string-read.new.i c.place-place.ensures
+    c.stand_at.ensures c.read_string-read.ensures.place
+
+pub returns-in-Malformed-clause-place : goal.returns-in-Malformed-clause-place
+returns-in-Malformed-clause-place c =
+    counts_at c.args.self.now (record c.args.self.now { strbuf = c.read_string-read.new.strbuf }) c.stand_at.new.self c.place-place.result c.read_string-read.new.p c.args.i.now c.read_string-read.new.i c.place-place.ensures
+    c.stand_at.ensures c.read_string-read.ensures.place
+
+pub returns-in-Memory-clause-place : goal.returns-in-Memory-clause-place
+returns-in-Memory-clause-place c =
+    counts_at c.args.self.now (record c.args.self.now { strbuf = c.read_string-read.new.strbuf }) c.stand_at.new.self c.place-place.result c.read_string-read.new.p c.args.i.now c.read_string-read.new.i c.place-place.ensures
+    c.stand_at.ensures c.read_string-read.ensures.place
