@@ -1,13 +1,20 @@
 -- Frames in what is left of a stream.
-use Rattle.std.proofs.Common.{◌≡◌, ◌≢◌, ℕ, ◌^◌, ◌<◌, List, [], ◌∷◌, ◌++◌, length, drop, map, refl, sym, ap, subst, ◌∙◌, append_assoc, append-nil, arith, length-drop, Option, Some, None, IfSome, Result, Ok, Err, OnOk}
+use Rattle.std.proofs.Common.{◌≡◌, ◌≢◌, ℕ, ◌^◌, ◌<◌, List, [], ◌∷◌, ◌++◌, length, drop, map, refl, sym, ap, subst, ◌∙◌, append_assoc, append-nil, arith, take, take-append-drop, length-drop, Option, Some, None, IfSome, Result, Ok, Err, OnOk}
 use Rattle.std.specs.Io.KnownBytes.{Appends, Consumes, Keeps, IsAtEnd, prepend_known}
+use Rattle.std.proofs.KnownBytes.{Appends-nil, Appends-trans, Appends-kept}
 use Rattle.nano_value.specs.Meaning.{Meaning, whole, listed}
 use Rattle.nano_value.specs.Legal.{IsImage, LegalUnsigned, LegalList}
 use Rattle.nano_value.specs.LegalLaws.{list_weaker}
 use Rattle.nano_bytes.specs.Reading.{Decodes, DecodesToNothing}
 use Rattle.nano_bin.specs.ListsLaws.{list_codec, list_reads_back}
 use Rattle.nano_bin.specs.NumbersLaws.{u8_codec}
-use Rattle.nano_frames.specs.Frames.{IsFrame, AppendsFrame, DecodesAfter, IsCut, HoldsNoMessage}
+use Rattle.nano_bytes.specs.declared.error.DeBinErr.{DeBinErr}
+use Rattle.nano_bytes.specs.declared.error.DeBinKind.TheVariants.{Memory}
+use Rattle.nano_bin.specs.Whole.{RejectsWhole, IsOfTrailing, NamesTrailing}
+use Rattle.nano_frames.specs.declared.error.Fault.{Fault}
+use Rattle.nano_frames.specs.declared.error.Fault.TheVariants.{Bad, Stream}
+use Rattle.nano_frames.specs.Faults.{IsOfStream, of_code}
+use Rattle.nano_frames.specs.Frames.{IsFrame, AppendsFrame, WritesUpTo, DecodesAfter, IsCut, HoldsNoMessage, RejectsCode, RejectsFrame}
 
 -- ---- what is written
 
@@ -32,6 +39,32 @@ writes_frame (Ok x) code written bytes old new legal is e h =
       written = h;
     })
 writes_frame (Err x) code written bytes old new legal is e h = tt
+
+-- nothing was written
+pub WritesUpTo-nothing : (a : Option (List ℕ)) (bytes : List ℕ) → WritesUpTo bytes a a bytes
+WritesUpTo-nothing a bytes = record { prefix = []; whole = refl; written = Appends-nil a }
+
+module _ (a b c : Option (List ℕ)) (bytes rest : List ℕ) (so_far : WritesUpTo rest a b bytes) where
+  -- one more write took so many bytes of the rest
+  pub WritesUpTo-more : (count : ℕ) (next : List ℕ) → next ≡ drop count rest
+      → Appends b c (take count rest) → WritesUpTo next a c bytes
+  WritesUpTo-more count next left h = record {
+    prefix = so_far.prefix ++ take count rest;
+    whole =
+        so_far.whole ∙ (ap (λ l. so_far.prefix ++ l)
+        (sym (take-append-drop count rest) ∙ ap (λ l. take count rest ++ l) (sym left))
+        ∙ sym (append_assoc so_far.prefix (take count rest) next));
+    written = Appends-trans a b c so_far.prefix (take count rest) so_far.written h;
+  }
+
+  -- one more write took nothing
+  pub WritesUpTo-unchanged : Keeps b c → WritesUpTo rest a c bytes
+  WritesUpTo-unchanged h =
+      record {
+        prefix = so_far.prefix;
+        whole = so_far.whole;
+        written = Appends-kept a b c so_far.prefix so_far.written h;
+      }
 
 -- ---- what is read
 
@@ -66,6 +99,50 @@ pub holds_no_message : (encodes : List ℕ → Meaning → Type 0) (old known : 
 holds_no_message encodes old known bytes code start end k r none =
     unchanged_then old (prepend_known (drop start bytes) known) (HoldsNoMessage encodes) k
     (holds_at encodes known (drop start bytes) code r.prefix (drop end bytes) r.whole r.is_encoded none)
+
+-- a frame at the offset is there, and this is the error of reading its code
+rejects_at : (encodes : List ℕ → Meaning → Type 0) (known : Option (List ℕ)) (error : DeBinErr) (bytes code prefix rest : List ℕ)
+    → bytes ≡ prefix ++ rest → IsFrame prefix code → RejectsCode encodes code error
+    → IfSome (prepend_known bytes known) (RejectsFrame encodes error)
+rejects_at encodes None error bytes code prefix rest e is r = tt
+rejects_at encodes (Some xs) error bytes code prefix rest e is r = record {
+  code = code;
+  begins = record { frame = prefix; rest = rest ++ xs; whole = ap (λ l. l ++ xs) e ∙ append_assoc prefix rest xs; is = is };
+  rejects = r;
+}
+
+pub rejects_frame : (encodes : List ℕ → Meaning → Type 0) (old known : Option (List ℕ)) (error : DeBinErr) (bytes code : List ℕ) (start end : ℕ)
+    → Keeps old (prepend_known (drop start bytes) known)
+    → Decodes IsFrame bytes start code end → RejectsCode encodes code error
+    → IfSome old (RejectsFrame encodes error)
+rejects_frame encodes old known error bytes code start end k r rejects =
+    unchanged_then old (prepend_known (drop start bytes) known) (RejectsFrame encodes error) k
+    (rejects_at encodes known error (drop start bytes) code r.prefix (drop end bytes) r.whole r.is_encoded rejects)
+
+-- with the code's size it stays the error of reading the code
+pub rejects_code : (encodes : List ℕ → Meaning → Type 0) (code : List ℕ) (error : DeBinErr) → error.kind ≢ Memory
+    → RejectsWhole encodes code error → IsOfTrailing encodes code error → NamesTrailing encodes code error
+    → RejectsCode encodes code (of_code code error)
+rejects_code encodes code error kind rejects trailing following = record {
+  size = refl;
+  not_memory = kind;
+  rejects = rejects;
+  trailing = λ is.
+      let r = trailing is in
+      record { value = r.value; fits = r.fits; more = r.more; is = ap (of_code code) r.is };
+  following = following;
+}
+
+-- the fault that is made of such an error, where it carries one
+pub fault_rejects : (encodes : List ℕ → Meaning → Type 0) (code : List ℕ) (error : DeBinErr) (fault : Fault)
+    → (error.kind ≡ Memory → IsOfStream fault) → (error.kind ≢ Memory → fault ≡ Bad (of_code code error))
+    → RejectsWhole encodes code error → IsOfTrailing encodes code error → NamesTrailing encodes code error
+    → (carried : DeBinErr) → fault ≡ Bad carried → RejectsCode encodes code carried
+fault_rejects encodes code error fault memory bad rejects trailing following carried is =
+    let not_memory : error.kind ≢ Memory =
+    (λ m. let stream = memory m in let e : Bad carried ≡ Stream stream.0 = sym is ∙ stream.1 in cc) in
+    let same : of_code code error ≡ carried = (let e : Bad (of_code code error) ≡ Bad carried = sym (bad not_memory) ∙ is in cc) in
+    subst (RejectsCode encodes code) same (rejects_code encodes code error not_memory rejects trailing following)
 
 -- ---- one more read
 

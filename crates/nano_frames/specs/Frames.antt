@@ -2,12 +2,26 @@
 use Rattle.std.specs.Prelude.{◌≡◌, ◌≢◌, ℕ, List, [], ◌++◌, length, map, Option}
 use Rattle.std.specs.Io.KnownBytes.{Appends, Consumes, IsAtEnd}
 use Rattle.nano_value.specs.Meaning.{Meaning, whole, listed}
+use Rattle.nano_bytes.specs.declared.error.DeBinErr.{DeBinErr}
+use Rattle.nano_bytes.specs.declared.error.DeBinKind.TheVariants.{Memory}
+use Rattle.nano_bin.specs.Whole.{RejectsWhole, IsOfTrailing, NamesTrailing}
 use Rattle.nano_bin.specs.ListsLaws.{list_codec}
 use Rattle.nano_bin.specs.NumbersLaws.{u8_codec}
 
 -- the bytes are the code of a list of bytes
 abbrev pub IsFrame : List ℕ → List ℕ → Type 0
 IsFrame bytes code = (list_codec u8_codec).encoding.encodes bytes (listed (map whole code))
+
+-- the frame of a code
+abbrev pub frame_of : List ℕ → List ℕ
+frame_of code = (list_codec u8_codec).canonical.written code
+
+-- a writer got the bytes up to a rest, and nothing else
+pub record WritesUpTo (rest : List ℕ) (old new : Option (List ℕ)) (bytes : List ℕ)
+    : Type 0 where
+  pub prefix : List ℕ
+  pub whole : bytes ≡ prefix ++ rest
+  pub written : Appends old new prefix
 
 -- a writer got a frame of this code, and nothing else
 pub record AppendsFrame (code : List ℕ) (old new : Option (List ℕ)) : Type 0 where
@@ -49,3 +63,19 @@ pub record HoldsNoMessage (encodes : List ℕ → Meaning → Type 0) (bytes : L
   pub code : List ℕ
   pub begins : BeginsWithFrame bytes code
   pub none : (m : Meaning) → encodes code m → ⊥
+
+-- the error of reading a code as a whole, other than out of memory
+pub record RejectsCode (encodes : List ℕ → Meaning → Type 0) (code : List ℕ) (error : DeBinErr)
+    : Type 0 where
+  pub size : error.s ≡ length code
+  pub not_memory : error.kind ≢ Memory
+  pub rejects : RejectsWhole encodes code error
+  pub trailing : IsOfTrailing encodes code error
+  pub following : NamesTrailing encodes code error
+
+-- the bytes begin with a frame, and this is the error of reading its code
+pub record RejectsFrame (encodes : List ℕ → Meaning → Type 0) (error : DeBinErr) (bytes : List ℕ)
+    : Type 0 where
+  pub code : List ℕ
+  pub begins : BeginsWithFrame bytes code
+  pub rejects : RejectsCode encodes code error

@@ -1,30 +1,17 @@
 //! Messages of any type, each in a frame: the code of its code, as a list of bytes.
 
-ghost use Rattle.std.specs.Prelude.{◌≡◌, ◌<◌, ◌+◌, ◌≢◌, ◌≤◌, ◌++◌, List, ℕ, length, drop};
+ghost use Rattle.std.specs.Prelude.{◌≡◌, ◌<◌, ◌+◌, ◌≢◌, ◌≤◌, ◌++◌, ◌↔◌, List, ℕ, length, drop, max};
 ghost use Rattle.std.specs.Prelude.{Some, IfOk, IfErr, IfSome, IfNone, OnOk, OnErr, IsErrOf};
 ghost use Rattle.std.specs.Io.KnownBytes.{Keeps, IsAtEnd};
 ghost use Rattle.nano_bytes.specs.Reading.{Decodes, DecodesToNothing};
 ghost use Rattle.nano_frames.specs.Faults.{IsOfStream};
-ghost use Rattle.nano_frames.specs.Frames.{IsFrame, AppendsFrame, DecodesAfter, TakesMessage};
-ghost use Rattle.nano_frames.specs.Frames.{IsCut, HoldsNoMessage};
+ghost use Rattle.nano_frames.specs.Frames.{IsFrame, DecodesAfter, TakesMessage, IsCut};
+ghost use Rattle.nano_frames.specs.Frames.{HoldsNoMessage, RejectsCode, RejectsFrame};
 
-use crate::error::{Fault, no_memory};
-use nano_bin::{DeBin, DeBinKind, SerBin};
-use nano_value::Value;
+use crate::error::{Fault, no_memory, rejection};
+use nano_bin::{DeBin, DeBinKind};
 use std::alloc::{AllocError, Global};
-use std::io::{self, ErrorKind, Read, Write};
-
-/// Writes a message, in its frame, after those that were written.
-///
-/// An error is the writer's, or out of memory; after it, a prefix of the frame may be written.
-pub fn put<T: SerBin, W: Write>(alloc: Global, message: &T, output: &mut W) -> io::Result<()>
-    ensures { OnOk result (AppendsFrame (T.bin.canonical.written message.now)
-        (W.contents output.old) (W.contents output.new)) }
-{
-    let code = message.serialize_bin(alloc)?;
-    code.known();
-    output.write_all(&code.serialize_bin(alloc)?)
-}
+use std::io::{self, ErrorKind, Read};
 
 /// Messages read from a stream, one after the other, in chunks of any size.
 #[derive(Drop)]
@@ -38,15 +25,16 @@ pub struct Messages<R> {
 }
 
 impl<R: Read> Messages<R> {
-    ghost use Rattle.nano_frames.specs.Left.{left};
+    ghost use Rattle.nano_frames.specs.Left.{left, chunk_size};
 
     /// Those that the reader gives. At most `chunk` bytes are read at a time, and at least one.
     /// Nothing is read yet.
     pub fn new(alloc: Global, input: R, chunk: usize) -> Result<Messages<R>, AllocError>
     where
         R: Drop,
-        ensures { IfOk result (λ messages.
+        ensures unread { IfOk result (λ messages.
             Keeps (R.remaining input) (left R.remaining messages)) }
+        ensures size { IfOk result (λ messages. chunk_size messages ≡ max chunk 1) }
     {
         Ok(Messages {
             input,
@@ -59,9 +47,10 @@ impl<R: Read> Messages<R> {
     /// Takes the next message with its frame, or answers none where the stream is at its end.
     ///
     /// `Cut` reports that bytes are left and no frame begins there, `Bad` that one does and its
-    /// code is no message, and `Stream` that a read or an allocation failed. Neither a fault
-    /// nor the end takes anything of what is left, so a call after it begins at the same place.
-    /// A frame's count reserves no memory before its bytes have arrived.
+    /// code is no message, and `Stream` that a read or an allocation failed. `Bad` carries the
+    /// error of `deserialize_bin_whole` for the code. Neither a fault nor the end takes anything
+    /// of what is left, so a call after it begins at the same place. A frame's count reserves no
+    /// memory before its bytes have arrived.
     pub fn next<T: DeBin>(&mut self, alloc: Global) -> Result<Option<T>, Fault>
         ensures taken { IfOk result (λ answer. IfSome answer (λ message.
             TakesMessage T.bin.encoding.encodes (left R.remaining self.old)
@@ -72,7 +61,10 @@ impl<R: Read> Messages<R> {
         ensures cut { IsErrOf result Fault.Cut → IfSome (left R.remaining self.old) IsCut }
         ensures bad { IfErr result (λ fault. (error : _) → fault ≡ Fault.Bad error →
             IfSome (left R.remaining self.old) (HoldsNoMessage T.bin.encoding.encodes)) }
+        ensures rejected { IfErr result (λ fault. (error : _) → fault ≡ Fault.Bad error →
+            IfSome (left R.remaining self.old) (RejectsFrame T.bin.encoding.encodes error)) }
         ensures unchanged { OnErr result (Keeps (left R.remaining self.old) (left R.remaining self.new)) }
+        ensures size { chunk_size self.new ≡ chunk_size self.old }
     {
         'reads: for _ in 0..u64::MAX {
             if let Some((code, end)) = self.frame(alloc)? {
@@ -82,9 +74,7 @@ impl<R: Read> Messages<R> {
             }
             let count = self.fill()?;
             if count == 0 {
-                if self.offset < self.bytes.len() {
-                    return Err(Fault::Cut);
-                }
+                self.ended()?;
                 return Ok(None);
             }
         }
@@ -110,12 +100,24 @@ impl<R: Read> Messages<R> {
         }
     }
 
+    /// `Cut`, and nothing else, where bytes are left.
+    fn ended(&self) -> Result<(), Fault>
+        ensures cut { IsErrOf result Fault.Cut ↔ (self.now.offset < length self.now.bytes.items) }
+        ensures only { IfErr result (λ fault. fault ≡ Fault.Cut) }
+    {
+        if self.offset < self.bytes.len() {
+            return Err(Fault::Cut);
+        }
+        Ok(())
+    }
+
     /// Reads a chunk after the bytes that are left, and returns how many bytes arrived.
     fn fill(&mut self) -> Result<usize, Fault>
         ensures ok { IfOk result (DecodesAfter (R.remaining self.old.input) (R.remaining self.new.input)
             (drop self.old.offset self.old.bytes.items) (drop self.new.offset self.new.bytes.items)) }
         ensures err { OnErr result (Keeps (left R.remaining self.old) (left R.remaining self.new)) }
         ensures fault { IfErr result IsOfStream }
+        ensures size { chunk_size self.new ≡ chunk_size self.old }
     {
         self.forget();
         match read_after(&mut self.input, &mut self.chunk, &mut self.bytes) {
@@ -130,6 +132,7 @@ impl<R: Read> Messages<R> {
             ≡ drop self.old.offset self.old.bytes.items }
         ensures input { self.new.input ≡ self.old.input }
         ensures offset { self.new.offset ≡ 0 }
+        ensures chunk { self.new.chunk ≡ self.old.chunk }
     {
         let end = self.offset;
         self.offset = 0;
@@ -155,14 +158,11 @@ fn read_after<R: Read>(input: &mut R, chunk: &mut [u8], bytes: &mut Vec<u8>) -> 
 fn message_of<T: DeBin>(alloc: Global, code: &[u8]) -> Result<T, Fault>
     ensures ok { IfOk result (λ message. T.bin.encoding.encodes code.now (T.means message)) }
     ensures bad { IfErr result (λ fault. (error : _) → fault ≡ Fault.Bad error →
-        (m : _) → T.bin.encoding.encodes code.now m → ⊥) }
+        RejectsCode T.bin.encoding.encodes code.now error) }
     ensures cut { IfErr result (λ fault. fault ≢ Fault.Cut) }
 {
     match T::deserialize_bin_whole(alloc, code) {
         Ok(message) => Ok(message),
-        Err(error) => match error.kind {
-            DeBinKind::Memory => Err(no_memory()),
-            _ => Err(Fault::Bad(error)),
-        },
+        Err(error) => Err(rejection(error, code)),
     }
 }

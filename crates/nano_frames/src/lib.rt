@@ -15,6 +15,8 @@
 mod error;
 mod frames;
 pub mod laws;
+mod writing;
 
 pub use error::Fault;
-pub use frames::{Messages, put};
+pub use frames::Messages;
+pub use writing::put;

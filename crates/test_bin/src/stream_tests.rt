@@ -1,10 +1,10 @@
 //! Streams of messages: what is written, what is taken in chunks of each size, and what a fault
 //! leaves.
 
-use crate::frame_source::Source;
+use crate::frame_source::{Sink, Source};
 use nano_frames::{Fault, Messages, put};
 use std::alloc::{AllocError, Global};
-use std::io;
+use std::io::{self, ErrorKind};
 use std::process::Abort;
 use std::test::Fail;
 
@@ -31,6 +31,57 @@ fn messages_are_written_in_frames(rt: HostRuntime) -> Result<(), Fail> {
     Ok(())
 }
 
+/// Whether a message over a writer that takes two bytes a call, and fails at one of its calls, is
+/// written up to that call, which is the last, and the fault is of this kind.
+fn is_written_up_to(
+    alloc: Global,
+    fails_at: usize,
+    kind: Option<ErrorKind>,
+    reported: ErrorKind,
+) -> Result<bool, AllocError> {
+    let mut output = Sink::new(alloc, 2, fails_at, kind)?;
+    let Err(error) = put(alloc, &7u32, &mut output) else {
+        return Ok(false);
+    };
+    let taken = fails_at.saturating_sub(1).saturating_mul(2);
+    let is_prefix = TWO.starts_with(output.taken.as_slice());
+    Ok(
+        error.kind() == reported
+            && output.calls == fails_at
+            && output.taken.len() == taken
+            && is_prefix,
+    )
+}
+
+/// Whether a message is written whole where one of the writer's calls is interrupted.
+fn is_written_whole(alloc: Global, fails_at: usize) -> Result<bool, AllocError> {
+    let mut output = Sink::new(alloc, 2, fails_at, Some(ErrorKind::Interrupted))?;
+    if put(alloc, &7u32, &mut output).is_err() {
+        return Ok(false);
+    }
+    Ok(output.calls == 7 && output.taken.as_slice() == &TWO[..12])
+}
+
+#[test]
+fn writes_that_fail_at_each_place(rt: HostRuntime) -> Result<(), Fail> {
+    let alloc = rt.alloc();
+    let broken = ErrorKind::BrokenPipe;
+    for fails_at in 1..=6 {
+        holds(
+            &rt,
+            is_written_up_to(alloc, fails_at, Some(broken), broken)?,
+            "failed",
+        );
+        holds(
+            &rt,
+            is_written_up_to(alloc, fails_at, None, ErrorKind::WriteZero)?,
+            "nothing taken",
+        );
+        holds(&rt, is_written_whole(alloc, fails_at)?, "interrupted");
+    }
+    Ok(())
+}
+
 /// Bytes, the messages that are taken from them, and the fault that is reported then, if any.
 type Row = (&'static [u8], &'static [u32], &'static str);
 
@@ -50,6 +101,16 @@ const ROWS: &[Row] = &[
     ),
     (
         b"\xff\xff\xff\xff\xff\xff\xff\xff\x07",
+        &[],
+        "the stream ends within a message",
+    ),
+    (
+        b"\x29\0\0\0\0\0\0\0 a code of forty bytes; one more is due.",
+        &[],
+        "the stream ends within a message",
+    ),
+    (
+        b"\0\0\0\x80\0\0\0\0 in place of two billion bytes, these few ones",
         &[],
         "the stream ends within a message",
     ),

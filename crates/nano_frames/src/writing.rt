@@ -1,0 +1,58 @@
+//! Messages written, each in a frame.
+
+ghost use Rattle.std.specs.Prelude.{◌≢◌, List, ℕ, IfErr, OnOk, OnErr};
+ghost use Rattle.std.specs.IoError.{error_kind};
+ghost use Rattle.std.specs.Io.KnownBytes.{Appends};
+ghost use Rattle.nano_frames.specs.Frames.{frame_of, AppendsFrame, WritesUpTo};
+
+use nano_bin::SerBin;
+use nano_value::Value;
+use std::alloc::Global;
+use std::io::{self, ErrorKind, Write};
+
+/// Writes a message, in its frame, after those that were written.
+///
+/// An error is the writer's, or `WriteZero` for a write that takes nothing, or out of memory; a
+/// write that was interrupted is tried again. After an error a prefix of the frame is written,
+/// and nothing else.
+pub fn put<T: SerBin, W: Write>(alloc: Global, message: &T, output: &mut W) -> io::Result<()>
+    ensures ok { OnOk result (AppendsFrame (T.bin.canonical.written message.now)
+        (W.contents output.old) (W.contents output.new)) }
+    ensures err { OnErr result ((rest : List ℕ) × WritesUpTo rest (W.contents output.old)
+        (W.contents output.new) (frame_of (T.bin.canonical.written message.now))) }
+    ensures retried { IfErr result (λ error. error_kind error ≢ ErrorKind.Interrupted) }
+{
+    let code = message.serialize_bin(alloc)?;
+    code.known();
+    let frame = code.serialize_bin(alloc)?;
+    write_whole(output, &frame)
+}
+
+/// Writes all of the bytes, in as many writes as it takes. After an error a prefix of them was
+/// written.
+fn write_whole<W: Write>(output: &mut W, bytes: &[u8]) -> io::Result<()>
+    ensures ok { OnOk result
+        (Appends (W.contents output.old) (W.contents output.new) bytes.now) }
+    ensures err { OnErr result ((rest : List ℕ)
+        × WritesUpTo rest (W.contents output.old) (W.contents output.new) bytes.now) }
+    ensures retried { IfErr result (λ error. error_kind error ≢ ErrorKind.Interrupted) }
+{
+    let mut rest = bytes;
+
+    // Each write may be interrupted anew, so the tries are counted.
+    'writes: for _ in 0..u64::MAX {
+        if rest.is_empty() {
+            return Ok(());
+        }
+        match output.write(rest) {
+            Ok(0) => return Err(ErrorKind::WriteZero.into()),
+            Ok(count) => rest = &rest[count..],
+            Err(error) => {
+                if error.kind() != ErrorKind::Interrupted {
+                    return Err(error);
+                }
+            }
+        }
+    }
+    Err(ErrorKind::TimedOut.into())
+}
