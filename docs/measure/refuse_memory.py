@@ -25,10 +25,10 @@ def judged(line, answer, ample):
     """What an answer is beside the one with ample memory."""
     if answer == ample:
         return "ample"
-    if answer == "no memory":
+    if answer == "out of memory":
         return "memory"
     call = line.split("\t")[1]
-    if answer.startswith("is no memory -> ") and call not in WITHOUT_MEMORY:
+    if answer.startswith("is out of memory -> ") and call not in WITHOUT_MEMORY:
         return "memory"
     return "other"
 
@@ -45,7 +45,7 @@ def main():
         for line, (answers, ample) in zip(lines, results):
             form = line.split("\t")[0]
             counts[form, "cases"] += 1
-            if ample in ("no memory", "stopped", "no case"):
+            if ample in ("out of memory", "stopped", "no case"):
                 answers = answers + [ample]
                 ample = "an answer"
             for answer in answers:
