@@ -1,5 +1,6 @@
-//! The types that a case can name. A type that contains others is instantiated over type parameters,
-//! so that a concrete type is named once: each call at a concrete type takes long to prove.
+//! The types that a case can name. A type that contains others is instantiated over type
+//! parameters, so that a concrete type is named once: each call at a concrete type takes long to
+//! prove. Arrays are named whole, since an array of a type parameter has no known size.
 
 use crate::came::Came;
 use crate::format::Format;
@@ -14,13 +15,20 @@ use std::hash::Hash;
 type Lists<T> = (Vec<T>, LinkedList<T>, HashSet<T>, BTreeSet<T>);
 
 /// An array and a text, where they are.
-type Pair<T> = Option<([T; 4], String)>;
+type Pair = Option<([u32; 4], String)>;
 
 /// What stands before and after the name of a type that has no parts.
 type Shape<'a> = (&'a str, &'a str);
 
-/// A type's shape, and the first name in its innermost bracket, or the whole where it has none.
+/// The shape of what a struct holds.
+const HELD: Shape<'static> = ("Holder<", ">");
+
+/// A type's shape, and the first name in its innermost bracket, or the whole where it has none. The
+/// name of the unit is empty.
 fn shape_and_name(kind: &str) -> Option<(Shape<'_>, &str)> {
+    if kind.is_empty() {
+        return None;
+    }
     let start = match kind.rfind(['<', '[', '(']) {
         Some(place) => place.saturating_add(1),
         None => 0,
@@ -38,11 +46,17 @@ pub(crate) fn came_of_type(
     kind: &str,
     input: &[u8],
 ) -> Result<Came, AllocError> {
-    match (kind, shape_and_name(kind)) {
-        ("u128", _) => of_bytes::<u128>(alloc, format, input),
-        ("i128", _) => of_bytes::<i128>(alloc, format, input),
-        (_, Some((shape, name))) => of_name(alloc, format, (shape, name), input),
-        _ => Ok(Came::Unknown),
+    match kind {
+        "u128" => of_bytes::<u128>(alloc, format, input),
+        "i128" => of_bytes::<i128>(alloc, format, input),
+        "[u8; 0]" => of_type::<[u8; 0]>(alloc, format, input),
+        "[u8; 2]" => of_type::<[u8; 2]>(alloc, format, input),
+        "[u16; 2]" => of_type::<[u16; 2]>(alloc, format, input),
+        "Holder<[u64; 100]>" => of_held::<[u64; 100]>(alloc, format, HELD, input),
+        _ => match shape_and_name(kind) {
+            Some((shape, name)) => of_name(alloc, format, (shape, name), input),
+            None => Ok(Came::Unknown),
+        },
     }
 }
 
@@ -57,8 +71,7 @@ fn of_name(
         "u8" => of_byte::<u8>(alloc, format, shape, input),
         "i32" => of_key::<i32>(alloc, format, shape, input),
         "String" => of_names::<String>(alloc, format, shape, input),
-        "u64" => of_long::<u64>(alloc, format, shape, input),
-        "Pair" => of_pair::<u32>(alloc, format, shape, input),
+        "Pair" => of_held::<Pair>(alloc, format, shape, input),
         "Lists" => of_lists::<i32>(alloc, format, shape, input),
         "Test" => of_held::<Test>(alloc, format, shape, input),
         "Plain" => of_held::<Plain>(alloc, format, shape, input),
@@ -78,6 +91,7 @@ fn of_number(
     match name {
         "u16" => of_one::<u16>(alloc, format, shape, input),
         "u32" => of_one::<u32>(alloc, format, shape, input),
+        "u64" => of_one::<u64>(alloc, format, shape, input),
         "usize" => of_one::<usize>(alloc, format, shape, input),
         "i8" => of_one::<i8>(alloc, format, shape, input),
         "i16" => of_one::<i16>(alloc, format, shape, input),
@@ -88,7 +102,7 @@ fn of_number(
     }
 }
 
-/// A type alone, in an option, a list or an array.
+/// A type alone, in an option or in a list.
 fn of_one<T: BothBin + BothJson + BothRon>(
     alloc: Global,
     format: Format,
@@ -99,7 +113,6 @@ fn of_one<T: BothBin + BothJson + BothRon>(
         ("", "") | ("(", ")") => of_type::<T>(alloc, format, input),
         ("Option<", ">") | ("Option<(", ")>") => of_type::<Option<T>>(alloc, format, input),
         ("Vec<", ">") | ("Vec<(", ")>") => of_type::<Vec<T>>(alloc, format, input),
-        ("[", "; 2]") => of_type::<[T; 2]>(alloc, format, input),
         _ => Ok(Came::Unknown),
     }
 }
@@ -116,29 +129,6 @@ fn of_held<T: BothBin + BothJson + BothRon>(
         ("Holder<", ">") => of_type::<Holder<T>>(alloc, format, input),
         _ => Ok(Came::Unknown),
     }
-}
-
-/// A hundred items that are held, or what one is.
-fn of_long<T: BothBin + BothJson + BothRon>(
-    alloc: Global,
-    format: Format,
-    shape: Shape<'_>,
-    input: &[u8],
-) -> Result<Came, AllocError> {
-    match shape {
-        ("Holder<[", "; 100]>") => of_type::<Holder<[T; 100]>>(alloc, format, input),
-        _ => of_one::<T>(alloc, format, shape, input),
-    }
-}
-
-/// An array and a text that are held.
-fn of_pair<T: BothBin + BothJson + BothRon>(
-    alloc: Global,
-    format: Format,
-    shape: Shape<'_>,
-    input: &[u8],
-) -> Result<Came, AllocError> {
-    of_held::<Pair<T>>(alloc, format, shape, input)
 }
 
 /// The four lists and sets that are held.
@@ -208,7 +198,6 @@ fn of_byte<T: BothBin + BothJson + BothRon + OrderedKey + Hash>(
     match shape {
         ("Box<", ">") => of_type::<Box<T>>(alloc, format, input),
         ("LinkedList<", ">") => of_type::<LinkedList<T>>(alloc, format, input),
-        ("[", "; 0]") => of_type::<[T; 0]>(alloc, format, input),
         (before, ", u8>" | ", u8>>") => of_map::<T, T>(alloc, format, before, input),
         (before, ", bool>") => of_map::<T, bool>(alloc, format, before, input),
         ("HashMap<String, Vec<", ">>") => of_type::<HashMap<String, Vec<T>>>(alloc, format, input),

@@ -53,7 +53,12 @@ fn slice_text(alloc: Global, items: &[u16]) -> Result<String, AllocError> {
 #[test]
 fn values_are_written(rt: HostRuntime) {
     let alloc = rt.alloc();
-    is_made(&rt, appended(alloc), "{[1][2,3][7,true]\"a\":\"b\"", "a writer");
+    is_made(
+        &rt,
+        appended(alloc),
+        "{[1][2,3][7,true]\"a\":\"b\"",
+        "a writer",
+    );
     is_made(&rt, slice_text(alloc, &[1, 2, 3]), "[1,2,3]", "a slice");
     is_made(&rt, slice_text(alloc, &[]), "[]", "an empty slice");
 }
