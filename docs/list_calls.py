@@ -1,9 +1,10 @@
 #!/usr/bin/env python3
 """Lists the public functions and methods of the libraries that no test file calls by name.
 
-The libraries are the crates of crates.txt above its tests. A test file counts where its crate
-stands on the function's, straight or through others; so do the files of an example that the crate
-stands on, since its tests run them. A call counts by its name alone, whatever its type. Usage, at
+The libraries are the crates of crates.txt above its tests. A test file is one of a crate of tests
+or of `conformance`, whose calls the tables of cases make. It counts where its crate stands on the
+function's, straight or through others; so do the files of an example that the crate stands on,
+since its tests run them. A call counts by its name alone, whatever its type. Usage, at
 the top of the repository: python3 docs/list_calls.py [--all]
 With --all each function is listed, with the files that call it.
 """
@@ -72,7 +73,7 @@ def calls(path):
 def test_files(below, libraries):
     """Each file that tests run, with its calls and the crates that they stand on."""
     for tests in below:
-        if tests.startswith("test_"):
+        if tests.startswith(("test_", "conformance")):
             stands_on = all_below(below, tests)
             for crate in sorted(stands_on - set(libraries)):
                 for path in sorted(pathlib.Path("crates", crate, "src").glob("**/*.rt")):

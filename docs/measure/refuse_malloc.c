@@ -1,6 +1,6 @@
 /* A malloc that refuses each request in turn. At each request the process makes two copies of itself:
    one is refused this request alone, the other this one and every later one. Each copy goes on to its
-   end before the process does; it prints its answer, and one that is stopped is told.
+   end before the process does; it prints its answer, and one that is stopped is reported.
    cc -shared -fPIC -O2 -o refuse_malloc.so refuse_malloc.c; LD_PRELOAD=./refuse_malloc.so PROGRAM */
 #include <stdio.h>
 #include <stdlib.h>

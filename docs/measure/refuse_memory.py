@@ -8,7 +8,7 @@ import sys
 from collections import Counter
 from concurrent.futures import ThreadPoolExecutor
 
-# The calls of a state that take no memory.
+# Calls of a state that take no memory.
 WITHOUT_MEMORY = (".next", ".fail", ".is_null", ".is_none", ".is_block_close", ".is_curly_close",
                   ".is_paren_close", ".next_str", ".next_ident", ".err_memory")
 
@@ -22,13 +22,17 @@ def run(program, library, line):
 
 
 def judged(line, answer, ample):
-    """What an answer is beside the one with ample memory."""
+    """What an answer is beside the one with ample memory. Of calls one after another, one that runs
+    out of memory is the last, and those before it answer as with ample memory."""
     if answer == ample:
         return "ample"
-    if answer == "no memory":
+    if answer == "out of memory":
         return "memory"
-    call = line.split("\t")[1]
-    if answer.startswith("is no memory -> ") and call not in WITHOUT_MEMORY:
+    calls = line.split("\t")[1].split(" ")
+    *done, last = answer.removeprefix("is ").split(" | ")
+    is_same = done == ample.removeprefix("is ").split(" | ")[: len(done)]
+    takes_memory = len(done) < len(calls) and calls[len(done)] not in WITHOUT_MEMORY
+    if is_same and takes_memory and last.startswith("out of memory -> "):
         return "memory"
     return "other"
 
@@ -45,7 +49,7 @@ def main():
         for line, (answers, ample) in zip(lines, results):
             form = line.split("\t")[0]
             counts[form, "cases"] += 1
-            if ample in ("no memory", "stopped", "no case"):
+            if ample in ("out of memory", "stopped", "no case"):
                 answers = answers + [ample]
                 ample = "an answer"
             for answer in answers:

@@ -5,9 +5,9 @@
 #
 # TABLE is a table of crates/conformance_run/data, worked.tsv if none is named. A case is run once as
 # it is, and by refuse_malloc.c once for each request that it makes: with that one refused, and with
-# it and every later one. Each such run must answer as with ample memory, or want of memory, marked
+# it and every later one. Each such run must answer as with ample memory, or out of memory, marked
 # as such; a call of states.tsv that takes no memory must answer as with ample memory, once the case
-# has room. Anything else is printed as `other`, and the status is then 1. The last lines are counts
+# has its memory. Anything else is printed as `other`, and the status is then 1. The last lines are counts
 # by format. It wants rt, cc and Python; PROGRAM in the environment is a program that is built already.
 set -eu
 here=$(cd "$(dirname "$0")" && pwd)

@@ -1,11 +1,11 @@
 //! A case, and what differs where it is run.
 
+use crate::calls::came_of;
 use crate::came::Came;
 use crate::fields::unescape;
 use crate::format::Format;
 use crate::names::is_named;
 use crate::questions::ask_further;
-use crate::types::came_of;
 use std::alloc::{AllocError, Global};
 
 /// A line of a table.
@@ -17,7 +17,7 @@ pub struct Case<'a> {
     pub kind: &'a str,
     /// The input.
     pub input: Vec<u8>,
-    /// `is`, `error`, or `refused` for an error whose text is not known.
+    /// `is`, `error`, or `rejected` for an error whose text is not known.
     pub verdict: &'a str,
     /// The normal form, the bytes, or the text of the error.
     pub answer: &'a str,
@@ -106,7 +106,7 @@ impl<'a> Case<'a> {
 
     /// Whether this is the wanted answer.
     fn is_wanted(&self, alloc: Global, came: &Came) -> Result<bool, AllocError> {
-        if self.verdict == "refused" {
+        if self.verdict == "rejected" {
             return Ok(came.verdict() == "error");
         }
         let answer = came.answer(alloc)?;

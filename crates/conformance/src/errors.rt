@@ -1,4 +1,4 @@
-//! Errors as answers, and out of memory reported apart by its punctuation.
+//! Errors as answers, and and out of memory, which is none.
 
 use crate::came::Came;
 use nanoserde::{DeBinErr, DeBinKind, DeJsonErr, DeRonErr};
@@ -47,11 +47,8 @@ pub(crate) fn json_code(
 
 /// The text of the error.
 fn json_error(alloc: Global, error: &DeJsonErr) -> Result<Came, AllocError> {
-    match (error.memory, error.msg.is_empty()) {
-        (false, _) => text_of(format!(in alloc; "{error}")),
-        (true, true) => Err(AllocError),
-        (true, false) => text_of(format!(in alloc; "want of memory with a message: {error}")),
-    }
+    let shown = format!(in alloc; "{error}")?;
+    error_of(alloc, error.memory, error.msg.is_empty(), shown)
 }
 
 /// A text, or the text of the error.
@@ -72,10 +69,21 @@ pub(crate) fn ron_code(alloc: Global, read: Result<Vec<u8>, DeRonErr>) -> Result
 
 /// The text of the error.
 fn ron_error(alloc: Global, error: &DeRonErr) -> Result<Came, AllocError> {
-    match (error.memory, error.msg.is_empty()) {
-        (false, _) => text_of(format!(in alloc; "{error}")),
+    let shown = format!(in alloc; "{error}")?;
+    error_of(alloc, error.memory, error.msg.is_empty(), shown)
+}
+
+/// An error as it is shown. Out of memory is an `AllocError`, and has no message.
+fn error_of(
+    alloc: Global,
+    memory: bool,
+    is_silent: bool,
+    shown: String,
+) -> Result<Came, AllocError> {
+    match (memory, is_silent) {
         (true, true) => Err(AllocError),
-        (true, false) => text_of(format!(in alloc; "want of memory with a message: {error}")),
+        (true, false) => text_of(format!(in alloc; "out of memory with a message: {shown}")),
+        (false, _) => Ok(Came::Error(shown.into_bytes())),
     }
 }
 

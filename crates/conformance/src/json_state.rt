@@ -1,7 +1,7 @@
-//! Calls of a state of Json's reader: what is answered, and the state afterwards.
+//! Calls of a state of JSON's reader: what is answered, and the state afterwards.
 
 use crate::came::Came;
-use crate::start::{Start, append_place, character, no_memory, start_of};
+use crate::start::{Left, OUT_OF_MEMORY, Start, character, reported, start_of};
 use nanoserde::{BothJson, DeJsonErr, DeJsonState, DeJsonTok};
 use std::alloc::{AllocError, Global};
 use std::fmt::Display;
@@ -16,28 +16,50 @@ pub(crate) fn read_at<T: BothJson>(alloc: Global, text: &str) -> Result<Came, Al
     match set_up(alloc, &start, &mut input)? {
         None => Ok(Came::Unknown),
         Some(mut state) => {
-            let answer = match T::de_json(alloc, &mut state, &mut input) {
+            let mut answer = match T::de_json(alloc, &mut state, &mut input) {
                 Ok(value) => value.serialize_json(alloc)?,
-                Err(error) => reported(alloc, &error)?,
+                Err(error) => of_error(alloc, &error)?,
             };
-            with_state(answer, &state, &input)
+            append_state(&mut answer, &state, &input)?;
+            Ok(Came::Text(answer.into_bytes()))
         }
     }
 }
 
-/// What a call answers in a state, and the state afterwards.
-pub(crate) fn call_at(alloc: Global, call: &str, text: &str) -> Result<Came, AllocError> {
+/// What calls answer in a state, one after the other, and the state after each.
+pub(crate) fn call_at(alloc: Global, calls: &str, text: &str) -> Result<Came, AllocError> {
     let Some(start) = start_of(text) else {
         return Ok(Came::Unknown);
     };
     let mut input = start.text.chars();
     match set_up(alloc, &start, &mut input)? {
         None => Ok(Came::Unknown),
-        Some(mut state) => match taken(alloc, &mut state, &mut input, call)? {
-            Some(answer) => with_state(answer, &state, &input),
-            None => Ok(Came::Unknown),
-        },
+        Some(mut state) => answers_of(alloc, &mut state, &mut input, calls),
     }
+}
+
+/// What each call answers, and the state after it. A call that runs out of memory is the last.
+fn answers_of(
+    alloc: Global,
+    state: &mut DeJsonState,
+    input: &mut Chars<'_>,
+    calls: &str,
+) -> Result<Came, AllocError> {
+    let mut answers = String::new(alloc);
+    for call in calls.split(' ') {
+        let Some(answer) = taken(alloc, state, input, call)? else {
+            return Ok(Came::Unknown);
+        };
+        if !answers.is_empty() {
+            answers.push_str(" | ")?;
+        }
+        answers.push_str(answer.as_str())?;
+        append_state(&mut answers, state, input)?;
+        if answer.as_str() == OUT_OF_MEMORY {
+            break;
+        }
+    }
+    Ok(Came::Text(answers.into_bytes()))
 }
 
 /// The state that is described, whose first character is taken from the input.
@@ -93,36 +115,42 @@ fn punctuator(name: &str) -> Option<DeJsonTok> {
     }
 }
 
-/// The answer, and the state after it.
-fn with_state(
-    mut answer: String,
+/// Appends the state after an answer.
+fn append_state(
+    answer: &mut String,
     state: &DeJsonState,
     input: &Chars<'_>,
-) -> Result<Came, AllocError> {
+) -> Result<(), AllocError> {
     let tok = &state.tok;
     write!(answer, " -> {tok:?}")?;
-    match tok {
-        DeJsonTok::Str => write!(answer, "({})", state.strbuf)?,
-        DeJsonTok::F64 => write!(answer, "({})", state.numbuf)?,
-        _ => {}
-    }
-    append_place(
-        &mut answer,
-        state.line,
-        state.col,
-        state.cur,
-        input.as_str(),
-    )?;
-    Ok(Came::Text(answer.into_bytes()))
+    let carried = match tok {
+        DeJsonTok::Str => Some(state.strbuf.as_str()),
+        DeJsonTok::F64 => Some(state.numbuf.as_str()),
+        _ => None,
+    };
+    let left = Left {
+        carried,
+        place: (state.line, state.col),
+        cur: state.cur,
+        rest: input.as_str(),
+    };
+    left.append(answer)
 }
 
 /// An error as an answer.
-fn reported(alloc: Global, error: &DeJsonErr) -> Result<String, AllocError> {
-    let (msg, line, col) = (error.msg.as_str(), error.line, error.col);
-    match (error.memory, msg.is_empty()) {
-        (true, true) => no_memory(alloc),
-        (true, false) => format!(in alloc; "want of memory with a message: {msg}"),
-        (false, _) => format!(in alloc; "error {msg}, at {line}:{col}"),
+fn of_error(alloc: Global, error: &DeJsonErr) -> Result<String, AllocError> {
+    let msg = error.msg.as_str();
+    reported(alloc, error.memory, msg, (error.line, error.col))
+}
+
+/// A value, or the error.
+fn value<V: Display + Drop>(
+    alloc: Global,
+    read: Result<V, DeJsonErr>,
+) -> Result<Option<String>, AllocError> {
+    match read {
+        Ok(value) => Ok(Some(format!(in alloc; "{value}")?)),
+        Err(error) => Ok(Some(of_error(alloc, &error)?)),
     }
 }
 
@@ -149,7 +177,7 @@ fn taken(
     };
     match taken {
         Ok(()) => Ok(Some(String::from_str(alloc, "ok")?)),
-        Err(error) => Ok(Some(reported(alloc, &error)?)),
+        Err(error) => Ok(Some(of_error(alloc, &error)?)),
     }
 }
 
@@ -169,31 +197,18 @@ fn other(
             state.fail();
             Ok(Some(String::from_str(alloc, "ok")?))
         }
-        ".as_string" => match state.as_string(alloc) {
-            Ok(text) => Ok(Some(text)),
-            Err(error) => Ok(Some(reported(alloc, &error)?)),
-        },
+        ".as_string" => value(alloc, state.as_string(alloc)),
         ".as_bool" => value(alloc, state.as_bool(alloc)),
         ".u64_range_3" => value(alloc, state.u64_range(alloc, 3)),
         ".i64_range_-5_5" => value(alloc, state.i64_range(alloc, -5, 5)),
         ".i64_range_5_-5" => value(alloc, state.i64_range(alloc, 5, -5)),
-        _ => marked(alloc, state, call),
-    }
-}
-
-/// A value, or the error.
-fn value<V: Display + Drop>(
-    alloc: Global,
-    read: Result<V, DeJsonErr>,
-) -> Result<Option<String>, AllocError> {
-    match read {
-        Ok(value) => Ok(Some(format!(in alloc; "{value}")?)),
-        Err(error) => Ok(Some(reported(alloc, &error)?)),
+        ".i64_range" => value(alloc, state.i64_range(alloc, i64::MIN, i64::MAX)),
+        _ => seen(alloc, state, call),
     }
 }
 
 /// What a call answers that looks at the pending token, or one that makes an error.
-fn marked(alloc: Global, state: &DeJsonState, call: &str) -> Result<Option<String>, AllocError> {
+fn seen(alloc: Global, state: &DeJsonState, call: &str) -> Result<Option<String>, AllocError> {
     let is_so = match call {
         ".is_null" => state.is_null(),
         ".is_block_close" => state.is_block_close(),
@@ -218,5 +233,5 @@ fn made(alloc: Global, state: &DeJsonState, call: &str) -> Result<Option<String>
         _ => return Ok(None),
     };
     let again = error.clone(alloc)?;
-    Ok(Some(reported(alloc, &again)?))
+    Ok(Some(of_error(alloc, &again)?))
 }

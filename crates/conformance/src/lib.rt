@@ -2,6 +2,7 @@
 //! with what is wanted, and an accepted input is asked further: reading back, prefixes, twins.
 #![tactic(auto)]
 
+mod calls;
 mod came;
 mod case;
 mod dates;
@@ -15,13 +16,14 @@ mod reads;
 mod ron_state;
 mod start;
 mod table;
+mod twins;
 mod types;
 mod words;
 mod writer;
 
+pub use calls::came_of;
 pub use came::Came;
 pub use case::{Case, Difference};
 pub use fields::{escape, unescape};
 pub use format::Format;
 pub use table::differences_of;
-pub use types::came_of;

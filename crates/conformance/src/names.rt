@@ -26,7 +26,7 @@ pub(crate) fn is_named(rust_crate: &str, names: &str, came: &Came) -> bool {
     }
     match rust_crate {
         "answered" => came.verdict() == "is",
-        "refused" => came.verdict() == "error",
+        "rejected" => came.verdict() == "error",
         "stopped" => false,
         _ => true,
     }

@@ -1,9 +1,10 @@
 //! What is asked of an accepted input beside its answer, with no line of data.
 
+use crate::calls::came_of;
 use crate::came::Came;
 use crate::case::{Case, Difference};
 use crate::format::Format;
-use crate::types::{came_of, twin};
+use crate::twins::twin;
 use std::alloc::{AllocError, Global};
 
 /// Asks what each accepted input is to answer, and adds what differs.

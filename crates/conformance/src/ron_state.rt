@@ -1,7 +1,7 @@
-//! Calls of a state of Ron's reader: what is answered, and the state afterwards.
+//! Calls of a state of RON's reader: what is answered, and the state afterwards.
 
 use crate::came::Came;
-use crate::start::{Start, append_place, character, no_memory, start_of};
+use crate::start::{Left, OUT_OF_MEMORY, Start, character, reported, start_of};
 use nanoserde::{BothRon, DeRonErr, DeRonState, DeRonTok};
 use std::alloc::{AllocError, Global};
 use std::fmt::Display;
@@ -16,28 +16,50 @@ pub(crate) fn read_at<T: BothRon>(alloc: Global, text: &str) -> Result<Came, All
     match set_up(alloc, &start, &mut input)? {
         None => Ok(Came::Unknown),
         Some(mut state) => {
-            let answer = match T::de_ron(alloc, &mut state, &mut input) {
+            let mut answer = match T::de_ron(alloc, &mut state, &mut input) {
                 Ok(value) => value.serialize_ron(alloc)?,
-                Err(error) => reported(alloc, &error)?,
+                Err(error) => of_error(alloc, &error)?,
             };
-            with_state(answer, &state, &input)
+            append_state(&mut answer, &state, &input)?;
+            Ok(Came::Text(answer.into_bytes()))
         }
     }
 }
 
-/// What a call answers in a state, and the state afterwards.
-pub(crate) fn call_at(alloc: Global, call: &str, text: &str) -> Result<Came, AllocError> {
+/// What calls answer in a state, one after the other, and the state after each.
+pub(crate) fn call_at(alloc: Global, calls: &str, text: &str) -> Result<Came, AllocError> {
     let Some(start) = start_of(text) else {
         return Ok(Came::Unknown);
     };
     let mut input = start.text.chars();
     match set_up(alloc, &start, &mut input)? {
         None => Ok(Came::Unknown),
-        Some(mut state) => match taken(alloc, &mut state, &mut input, call)? {
-            Some(answer) => with_state(answer, &state, &input),
-            None => Ok(Came::Unknown),
-        },
+        Some(mut state) => answers_of(alloc, &mut state, &mut input, calls),
     }
+}
+
+/// What each call answers, and the state after it. A call that runs out of memory is the last.
+fn answers_of(
+    alloc: Global,
+    state: &mut DeRonState,
+    input: &mut Chars<'_>,
+    calls: &str,
+) -> Result<Came, AllocError> {
+    let mut answers = String::new(alloc);
+    for call in calls.split(' ') {
+        let Some(answer) = taken(alloc, state, input, call)? else {
+            return Ok(Came::Unknown);
+        };
+        if !answers.is_empty() {
+            answers.push_str(" | ")?;
+        }
+        answers.push_str(answer.as_str())?;
+        append_state(&mut answers, state, input)?;
+        if answer.as_str() == OUT_OF_MEMORY {
+            break;
+        }
+    }
+    Ok(Came::Text(answers.into_bytes()))
 }
 
 /// The state that is described, whose first character is taken from the input.
@@ -94,37 +116,43 @@ fn punctuator(name: &str) -> Option<DeRonTok> {
     }
 }
 
-/// The answer, and the state after it.
-fn with_state(
-    mut answer: String,
+/// Appends the state after an answer.
+fn append_state(
+    answer: &mut String,
     state: &DeRonState,
     input: &Chars<'_>,
-) -> Result<Came, AllocError> {
+) -> Result<(), AllocError> {
     let tok = &state.tok;
     write!(answer, " -> {tok:?}")?;
-    match tok {
-        DeRonTok::Str => write!(answer, "({})", state.strbuf)?,
-        DeRonTok::F64 => write!(answer, "({})", state.numbuf)?,
-        DeRonTok::Ident => write!(answer, "({})", state.identbuf)?,
-        _ => {}
-    }
-    append_place(
-        &mut answer,
-        state.line,
-        state.col,
-        state.cur,
-        input.as_str(),
-    )?;
-    Ok(Came::Text(answer.into_bytes()))
+    let carried = match tok {
+        DeRonTok::Str => Some(state.strbuf.as_str()),
+        DeRonTok::F64 => Some(state.numbuf.as_str()),
+        DeRonTok::Ident => Some(state.identbuf.as_str()),
+        _ => None,
+    };
+    let left = Left {
+        carried,
+        place: (state.line, state.col),
+        cur: state.cur,
+        rest: input.as_str(),
+    };
+    left.append(answer)
 }
 
 /// An error as an answer.
-fn reported(alloc: Global, error: &DeRonErr) -> Result<String, AllocError> {
-    let (msg, line, col) = (error.msg.as_str(), error.line, error.col);
-    match (error.memory, msg.is_empty()) {
-        (true, true) => no_memory(alloc),
-        (true, false) => format!(in alloc; "want of memory with a message: {msg}"),
-        (false, _) => format!(in alloc; "error {msg}, at {line}:{col}"),
+fn of_error(alloc: Global, error: &DeRonErr) -> Result<String, AllocError> {
+    let msg = error.msg.as_str();
+    reported(alloc, error.memory, msg, (error.line, error.col))
+}
+
+/// A value, or the error.
+fn value<V: Display + Drop>(
+    alloc: Global,
+    read: Result<V, DeRonErr>,
+) -> Result<Option<String>, AllocError> {
+    match read {
+        Ok(value) => Ok(Some(format!(in alloc; "{value}")?)),
+        Err(error) => Ok(Some(of_error(alloc, &error)?)),
     }
 }
 
@@ -153,7 +181,7 @@ fn taken(
     };
     match taken {
         Ok(()) => Ok(Some(String::from_str(alloc, "ok")?)),
-        Err(error) => Ok(Some(reported(alloc, &error)?)),
+        Err(error) => Ok(Some(of_error(alloc, &error)?)),
     }
 }
 
@@ -173,31 +201,18 @@ fn other(
             state.fail();
             Ok(Some(String::from_str(alloc, "ok")?))
         }
-        ".as_string" => match state.as_string(alloc) {
-            Ok(text) => Ok(Some(text)),
-            Err(error) => Ok(Some(reported(alloc, &error)?)),
-        },
+        ".as_string" => value(alloc, state.as_string(alloc)),
         ".as_bool" => value(alloc, state.as_bool(alloc)),
         ".u64_range_3" => value(alloc, state.u64_range(alloc, 3)),
         ".i64_range_-5_5" => value(alloc, state.i64_range(alloc, -5, 5)),
         ".i64_range_5_-5" => value(alloc, state.i64_range(alloc, 5, -5)),
-        _ => marked(alloc, state, call),
-    }
-}
-
-/// A value, or the error.
-fn value<V: Display + Drop>(
-    alloc: Global,
-    read: Result<V, DeRonErr>,
-) -> Result<Option<String>, AllocError> {
-    match read {
-        Ok(value) => Ok(Some(format!(in alloc; "{value}")?)),
-        Err(error) => Ok(Some(reported(alloc, &error)?)),
+        ".i64_range" => value(alloc, state.i64_range(alloc, i64::MIN, i64::MAX)),
+        _ => seen(alloc, state, call),
     }
 }
 
 /// What a call answers that looks at the pending token, or one that makes an error.
-fn marked(alloc: Global, state: &DeRonState, call: &str) -> Result<Option<String>, AllocError> {
+fn seen(alloc: Global, state: &DeRonState, call: &str) -> Result<Option<String>, AllocError> {
     let is_so = match call {
         ".is_none" => state.is_none(),
         ".is_block_close" => state.is_block_close(),
@@ -223,5 +238,5 @@ fn made(alloc: Global, state: &DeRonState, call: &str) -> Result<Option<String>,
         _ => return Ok(None),
     };
     let again = error.clone(alloc)?;
-    Ok(Some(reported(alloc, &again)?))
+    Ok(Some(of_error(alloc, &again)?))
 }

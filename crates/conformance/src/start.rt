@@ -50,18 +50,43 @@ pub(crate) fn character(content: &str) -> Option<char> {
     content.chars().nth(1)
 }
 
-/// What a call answers with out of memory.
-pub(crate) fn no_memory(alloc: Global) -> Result<String, AllocError> {
-    String::from_str(alloc, "no memory")
+/// What a call answers that ran out of memory.
+pub(crate) const OUT_OF_MEMORY: &str = "out of memory";
+
+/// An error as an answer. Out of memory has no message.
+pub(crate) fn reported(
+    alloc: Global,
+    memory: bool,
+    msg: &str,
+    (line, col): (usize, usize),
+) -> Result<String, AllocError> {
+    match (memory, msg.is_empty()) {
+        (true, true) => String::from_str(alloc, OUT_OF_MEMORY),
+        (true, false) => format!(in alloc; "out of memory with a message: {msg}"),
+        (false, _) => format!(in alloc; "error {msg}, at {line}:{col}"),
+    }
 }
 
-/// A place after a token, and the text that is left.
-pub(crate) fn append_place(
-    out: &mut String,
-    line: usize,
-    col: usize,
-    cur: char,
-    rest: &str,
-) -> Result<(), AllocError> {
-    write!(out, " {line}:{col} {cur}{rest}")
+/// A state after a call, without its token.
+#[derive(Drop)]
+pub(crate) struct Left<'a> {
+    /// The text that the token carries.
+    pub(crate) carried: Option<&'a str>,
+    /// The line and the column.
+    pub(crate) place: (usize, usize),
+    /// The current character.
+    pub(crate) cur: char,
+    /// The characters after it.
+    pub(crate) rest: &'a str,
+}
+
+impl Left<'_> {
+    /// Appends it as a case has it.
+    pub(crate) fn append(&self, out: &mut String) -> Result<(), AllocError> {
+        if let Some(text) = self.carried {
+            write!(out, "({text})")?;
+        }
+        let ((line, col), cur, rest) = (self.place, self.cur, self.rest);
+        write!(out, " {line}:{col} {cur}{rest}")
+    }
 }

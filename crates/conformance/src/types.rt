@@ -1,173 +1,243 @@
-//! The types that a case can name, each instantiated once.
+//! The types that a case can name. A type that contains others is instantiated over type
+//! parameters, so that a concrete type is named once: each call at a concrete type takes long to
+//! prove. Arrays are named whole, since an array of a type parameter has no known size.
 
 use crate::came::Came;
-use crate::dates::date_at;
 use crate::format::Format;
 use crate::reads::{of_bytes, of_type};
-use crate::words::run_words;
-use crate::writer::{json_call, ron_call};
-use crate::{json_state, ron_state};
 use nanoserde::records::{Choice, Holder, Item, Plain, Test};
+use nanoserde::{BothBin, BothJson, BothRon, OrderedKey};
 use std::alloc::{AllocError, Global};
 use std::collections::{BTreeMap, BTreeSet, HashMap, HashSet, LinkedList};
-use std::str;
+use std::hash::Hash;
 
 /// The four lists and sets, as a tuple.
-type Lists = (Vec<i32>, LinkedList<i32>, HashSet<i32>, BTreeSet<i32>);
+type Lists<T> = (Vec<T>, LinkedList<T>, HashSet<T>, BTreeSet<T>);
+
 /// An array and a text, where they are.
 type Pair = Option<([u32; 4], String)>;
 
-/// What comes of an input of this type in this format.
-pub fn came_of(
+/// What stands before and after the name of a type that has no parts.
+type Shape<'a> = (&'a str, &'a str);
+
+/// The shape of what a struct holds.
+const HELD: Shape<'static> = ("Holder<", ">");
+
+/// A type's shape, and the first name in its innermost bracket, or the whole where it has none. The
+/// name of the unit is empty.
+fn shape_and_name(kind: &str) -> Option<(Shape<'_>, &str)> {
+    if kind.is_empty() {
+        return None;
+    }
+    let start = match kind.rfind(['<', '[', '(']) {
+        Some(place) => place.saturating_add(1),
+        None => 0,
+    };
+    let (before, rest) = kind.split_at_checked(start)?;
+    let end = rest.find([',', ';', '>', ')']).unwrap_or(rest.len());
+    let (name, after) = rest.split_at_checked(end)?;
+    Some(((before, after), name))
+}
+
+/// What comes of an input of this type, in bytes or in a text.
+pub(crate) fn came_of_type(
     alloc: Global,
     format: Format,
     kind: &str,
     input: &[u8],
 ) -> Result<Came, AllocError> {
-    match format {
-        Format::Run => run_words(alloc, kind, input),
-        Format::Bin | Format::BinWhole | Format::BinAt => wide(alloc, format, kind, input),
-        Format::TomlDate => called(alloc, format, kind, input),
-        _ if kind.starts_with('.') => called(alloc, format, kind, input),
-        _ => numbers(alloc, format, kind, input),
-    }
-}
-
-/// What a call of this name answers.
-fn called(alloc: Global, format: Format, call: &str, input: &[u8]) -> Result<Came, AllocError> {
-    let Ok(text) = str::from_utf8(input) else {
-        return Ok(Came::Unknown);
-    };
-    match format {
-        Format::JsonState => json_state::call_at(alloc, call, text),
-        Format::RonState => ron_state::call_at(alloc, call, text),
-        Format::JsonWrite => json_call(alloc, call, text),
-        Format::RonWrite => ron_call(alloc, call, text),
-        Format::TomlDate => date_at(alloc, call, text),
-        _ => Ok(Came::Unknown),
-    }
-}
-
-/// A number of 128 bits, which stands in bytes alone.
-fn wide(alloc: Global, format: Format, kind: &str, input: &[u8]) -> Result<Came, AllocError> {
     match kind {
         "u128" => of_bytes::<u128>(alloc, format, input),
         "i128" => of_bytes::<i128>(alloc, format, input),
-        _ => numbers(alloc, format, kind, input),
-    }
-}
-
-/// A number of at most 64 bits, a truth, a text or the unit.
-fn numbers(alloc: Global, format: Format, kind: &str, input: &[u8]) -> Result<Came, AllocError> {
-    match kind {
-        "u8" => of_type::<u8>(alloc, format, input),
-        "u16" => of_type::<u16>(alloc, format, input),
-        "u32" => of_type::<u32>(alloc, format, input),
-        "u64" => of_type::<u64>(alloc, format, input),
-        "usize" => of_type::<usize>(alloc, format, input),
-        "i8" => of_type::<i8>(alloc, format, input),
-        "i16" => of_type::<i16>(alloc, format, input),
-        "i32" => of_type::<i32>(alloc, format, input),
-        "i64" => of_type::<i64>(alloc, format, input),
-        "bool" => of_type::<bool>(alloc, format, input),
-        "String" => of_type::<String>(alloc, format, input),
-        "()" => of_type::<()>(alloc, format, input),
-        _ => of_one(alloc, format, kind, input),
-    }
-}
-
-/// An option, a box, a list, an array or a set of single items.
-fn of_one(alloc: Global, format: Format, kind: &str, input: &[u8]) -> Result<Came, AllocError> {
-    match kind {
-        "Option<u8>" => of_type::<Option<u8>>(alloc, format, input),
-        "Option<bool>" => of_type::<Option<bool>>(alloc, format, input),
-        "Option<()>" => of_type::<Option<()>>(alloc, format, input),
-        "Option<String>" => of_type::<Option<String>>(alloc, format, input),
-        "Box<u8>" => of_type::<Box<u8>>(alloc, format, input),
-        "Vec<u8>" => of_type::<Vec<u8>>(alloc, format, input),
-        "Vec<u16>" => of_type::<Vec<u16>>(alloc, format, input),
-        "Vec<u64>" => of_type::<Vec<u64>>(alloc, format, input),
-        "Vec<()>" => of_type::<Vec<()>>(alloc, format, input),
-        "LinkedList<u8>" => of_type::<LinkedList<u8>>(alloc, format, input),
         "[u8; 0]" => of_type::<[u8; 0]>(alloc, format, input),
         "[u8; 2]" => of_type::<[u8; 2]>(alloc, format, input),
         "[u16; 2]" => of_type::<[u16; 2]>(alloc, format, input),
-        _ => of_keys(alloc, format, kind, input),
+        "Holder<[u64; 100]>" => of_held::<[u64; 100]>(alloc, format, HELD, input),
+        _ => match shape_and_name(kind) {
+            Some((shape, name)) => of_name(alloc, format, (shape, name), input),
+            None => Ok(Came::Unknown),
+        },
     }
 }
 
-/// A set or a map of single items.
-fn of_keys(alloc: Global, format: Format, kind: &str, input: &[u8]) -> Result<Came, AllocError> {
-    match kind {
-        "HashSet<u8>" => of_type::<HashSet<u8>>(alloc, format, input),
-        "BTreeSet<u8>" => of_type::<BTreeSet<u8>>(alloc, format, input),
-        "HashSet<i32>" => of_type::<HashSet<i32>>(alloc, format, input),
-        "BTreeSet<i32>" => of_type::<BTreeSet<i32>>(alloc, format, input),
-        "HashMap<u8, u8>" => of_type::<HashMap<u8, u8>>(alloc, format, input),
-        "BTreeMap<u8, u8>" => of_type::<BTreeMap<u8, u8>>(alloc, format, input),
-        "HashMap<u8, bool>" => of_type::<HashMap<u8, bool>>(alloc, format, input),
-        "BTreeMap<u8, bool>" => of_type::<BTreeMap<u8, bool>>(alloc, format, input),
-        "HashMap<String, i32>" => of_type::<HashMap<String, i32>>(alloc, format, input),
-        "BTreeMap<String, i32>" => of_type::<BTreeMap<String, i32>>(alloc, format, input),
-        _ => of_many(alloc, format, kind, input),
+/// A type of many shapes.
+fn of_name(
+    alloc: Global,
+    format: Format,
+    (shape, name): (Shape<'_>, &str),
+    input: &[u8],
+) -> Result<Came, AllocError> {
+    match name {
+        "u8" => of_byte::<u8>(alloc, format, shape, input),
+        "i32" => of_key::<i32>(alloc, format, shape, input),
+        "String" => of_names::<String>(alloc, format, shape, input),
+        "Pair" => of_held::<Pair>(alloc, format, shape, input),
+        "Lists" => of_lists::<i32>(alloc, format, shape, input),
+        "Test" => of_held::<Test>(alloc, format, shape, input),
+        "Plain" => of_held::<Plain>(alloc, format, shape, input),
+        "Item" => of_held::<Item>(alloc, format, shape, input),
+        "Choice" => of_held::<Choice>(alloc, format, shape, input),
+        _ => of_number(alloc, format, (shape, name), input),
     }
 }
 
-/// A tuple, or a container of what has parts.
-fn of_many(alloc: Global, format: Format, kind: &str, input: &[u8]) -> Result<Came, AllocError> {
-    match kind {
-        "(u8, u8)" => of_type::<(u8, u8)>(alloc, format, input),
-        "(u8, String)" => of_type::<(u8, String)>(alloc, format, input),
-        "(u8, bool, i16)" => of_type::<(u8, bool, i16)>(alloc, format, input),
-        "(u8, bool, i16, String)" => of_type::<(u8, bool, i16, String)>(alloc, format, input),
-        "Option<Option<u8>>" => of_type::<Option<Option<u8>>>(alloc, format, input),
-        "Vec<Option<u8>>" => of_type::<Vec<Option<u8>>>(alloc, format, input),
-        "Vec<String>" => of_type::<Vec<String>>(alloc, format, input),
-        "Vec<Vec<u8>>" => of_type::<Vec<Vec<u8>>>(alloc, format, input),
-        "Vec<LinkedList<u8>>" => of_type::<Vec<LinkedList<u8>>>(alloc, format, input),
-        "Vec<BTreeSet<u8>>" => of_type::<Vec<BTreeSet<u8>>>(alloc, format, input),
-        "Vec<HashMap<u8, u8>>" => of_type::<Vec<HashMap<u8, u8>>>(alloc, format, input),
-        "HashSet<Option<u8>>" => of_type::<HashSet<Option<u8>>>(alloc, format, input),
-        "BTreeSet<Option<u8>>" => of_type::<BTreeSet<Option<u8>>>(alloc, format, input),
-        "HashMap<String, Vec<u8>>" => of_type::<HashMap<String, Vec<u8>>>(alloc, format, input),
-        _ => of_own(alloc, format, kind, input),
-    }
-}
-
-/// A user-defined type.
-fn of_own(alloc: Global, format: Format, kind: &str, input: &[u8]) -> Result<Came, AllocError> {
-    match kind {
-        "Test" => of_type::<Test>(alloc, format, input),
-        "Plain" => of_type::<Plain>(alloc, format, input),
-        "Item" => of_type::<Item>(alloc, format, input),
-        "Choice" => of_type::<Choice>(alloc, format, input),
-        "Holder<Test>" => of_type::<Holder<Test>>(alloc, format, input),
-        "Holder<Plain>" => of_type::<Holder<Plain>>(alloc, format, input),
-        "Holder<Lists>" => of_type::<Holder<Lists>>(alloc, format, input),
-        "Holder<Pair>" => of_type::<Holder<Pair>>(alloc, format, input),
-        "Holder<HashMap<String, i32>>" => of_type::<Holder<HashMap<String, i32>>>(
-            alloc, format, input,
-        ),
-        "Holder<[u64; 100]>" => of_type::<Holder<[u64; 100]>>(alloc, format, input),
+/// A number, a truth or the unit.
+fn of_number(
+    alloc: Global,
+    format: Format,
+    (shape, name): (Shape<'_>, &str),
+    input: &[u8],
+) -> Result<Came, AllocError> {
+    match name {
+        "u16" => of_one::<u16>(alloc, format, shape, input),
+        "u32" => of_one::<u32>(alloc, format, shape, input),
+        "u64" => of_one::<u64>(alloc, format, shape, input),
+        "usize" => of_one::<usize>(alloc, format, shape, input),
+        "i8" => of_one::<i8>(alloc, format, shape, input),
+        "i16" => of_one::<i16>(alloc, format, shape, input),
+        "i64" => of_one::<i64>(alloc, format, shape, input),
+        "bool" => of_one::<bool>(alloc, format, shape, input),
+        "" => of_one::<()>(alloc, format, shape, input),
         _ => Ok(Came::Unknown),
     }
 }
 
-/// The type of the same entries in the other order: hashed for ordered, ordered for hashed.
-pub(crate) fn twin(kind: &str) -> Option<&'static str> {
-    match kind {
-        "HashSet<u8>" => Some("BTreeSet<u8>"),
-        "BTreeSet<u8>" => Some("HashSet<u8>"),
-        "HashSet<i32>" => Some("BTreeSet<i32>"),
-        "BTreeSet<i32>" => Some("HashSet<i32>"),
-        "HashMap<u8, u8>" => Some("BTreeMap<u8, u8>"),
-        "BTreeMap<u8, u8>" => Some("HashMap<u8, u8>"),
-        "HashMap<u8, bool>" => Some("BTreeMap<u8, bool>"),
-        "BTreeMap<u8, bool>" => Some("HashMap<u8, bool>"),
-        "HashMap<String, i32>" => Some("BTreeMap<String, i32>"),
-        "BTreeMap<String, i32>" => Some("HashMap<String, i32>"),
-        "HashSet<Option<u8>>" => Some("BTreeSet<Option<u8>>"),
-        "BTreeSet<Option<u8>>" => Some("HashSet<Option<u8>>"),
-        _ => None,
+/// A type alone, in an option or in a list.
+fn of_one<T: BothBin + BothJson + BothRon>(
+    alloc: Global,
+    format: Format,
+    shape: Shape<'_>,
+    input: &[u8],
+) -> Result<Came, AllocError> {
+    match shape {
+        ("", "") | ("(", ")") => of_type::<T>(alloc, format, input),
+        ("Option<", ">") | ("Option<(", ")>") => of_type::<Option<T>>(alloc, format, input),
+        ("Vec<", ">") | ("Vec<(", ")>") => of_type::<Vec<T>>(alloc, format, input),
+        _ => Ok(Came::Unknown),
+    }
+}
+
+/// A type alone, or held by a struct.
+fn of_held<T: BothBin + BothJson + BothRon>(
+    alloc: Global,
+    format: Format,
+    shape: Shape<'_>,
+    input: &[u8],
+) -> Result<Came, AllocError> {
+    match shape {
+        ("", "") => of_type::<T>(alloc, format, input),
+        ("Holder<", ">") => of_type::<Holder<T>>(alloc, format, input),
+        _ => Ok(Came::Unknown),
+    }
+}
+
+/// The four lists and sets that are held.
+fn of_lists<T: BothBin + BothJson + BothRon + OrderedKey + Hash>(
+    alloc: Global,
+    format: Format,
+    shape: Shape<'_>,
+    input: &[u8],
+) -> Result<Came, AllocError> {
+    of_held::<Lists<T>>(alloc, format, shape, input)
+}
+
+/// A set, or what has one item.
+fn of_key<T: BothBin + BothJson + BothRon + OrderedKey + Hash>(
+    alloc: Global,
+    format: Format,
+    shape: Shape<'_>,
+    input: &[u8],
+) -> Result<Came, AllocError> {
+    match shape {
+        ("HashSet<", ">") => of_type::<HashSet<T>>(alloc, format, input),
+        ("BTreeSet<", ">") => of_type::<BTreeSet<T>>(alloc, format, input),
+        _ => of_one::<T>(alloc, format, shape, input),
+    }
+}
+
+/// A map of such keys and values.
+fn of_map<K, V>(
+    alloc: Global,
+    format: Format,
+    before: &str,
+    input: &[u8],
+) -> Result<Came, AllocError>
+where
+    K: BothBin + BothJson + BothRon + OrderedKey + Hash,
+    V: BothBin + BothJson + BothRon,
+{
+    match before {
+        "HashMap<" => of_type::<HashMap<K, V>>(alloc, format, input),
+        "BTreeMap<" => of_type::<BTreeMap<K, V>>(alloc, format, input),
+        "Vec<HashMap<" => of_type::<Vec<HashMap<K, V>>>(alloc, format, input),
+        "Holder<HashMap<" => of_type::<Holder<HashMap<K, V>>>(alloc, format, input),
+        _ => Ok(Came::Unknown),
+    }
+}
+
+/// A map from names, or what has one item.
+fn of_names<T: BothBin + BothJson + BothRon + OrderedKey + Hash>(
+    alloc: Global,
+    format: Format,
+    shape: Shape<'_>,
+    input: &[u8],
+) -> Result<Came, AllocError> {
+    match shape {
+        (before, ", i32>" | ", i32>>") => of_map::<T, i32>(alloc, format, before, input),
+        _ => of_one::<T>(alloc, format, shape, input),
+    }
+}
+
+/// Bytes: every container.
+fn of_byte<T: BothBin + BothJson + BothRon + OrderedKey + Hash>(
+    alloc: Global,
+    format: Format,
+    shape: Shape<'_>,
+    input: &[u8],
+) -> Result<Came, AllocError> {
+    match shape {
+        ("Box<", ">") => of_type::<Box<T>>(alloc, format, input),
+        ("LinkedList<", ">") => of_type::<LinkedList<T>>(alloc, format, input),
+        (before, ", u8>" | ", u8>>") => of_map::<T, T>(alloc, format, before, input),
+        (before, ", bool>") => of_map::<T, bool>(alloc, format, before, input),
+        ("HashMap<String, Vec<", ">>") => of_type::<HashMap<String, Vec<T>>>(alloc, format, input),
+        ("(", _) => of_tuple::<T>(alloc, format, shape.1, input),
+        (_, ">>") => of_nested::<T>(alloc, format, shape.0, input),
+        _ => of_key::<T>(alloc, format, shape, input),
+    }
+}
+
+/// A tuple, by what stands after its first item.
+fn of_tuple<T: BothBin + BothJson + BothRon>(
+    alloc: Global,
+    format: Format,
+    after: &str,
+    input: &[u8],
+) -> Result<Came, AllocError> {
+    match after {
+        ", u8)" => of_type::<(T, T)>(alloc, format, input),
+        ", String)" => of_type::<(T, String)>(alloc, format, input),
+        ", bool, i16)" => of_type::<(T, bool, i16)>(alloc, format, input),
+        ", bool, i16, String)" => of_type::<(T, bool, i16, String)>(alloc, format, input),
+        _ => Ok(Came::Unknown),
+    }
+}
+
+/// A container of containers, by what stands before the innermost item.
+fn of_nested<T: BothBin + BothJson + BothRon + OrderedKey + Hash>(
+    alloc: Global,
+    format: Format,
+    before: &str,
+    input: &[u8],
+) -> Result<Came, AllocError> {
+    match before {
+        "Option<Option<" => of_type::<Option<Option<T>>>(alloc, format, input),
+        "Vec<Option<" => of_type::<Vec<Option<T>>>(alloc, format, input),
+        "Vec<Vec<" => of_type::<Vec<Vec<T>>>(alloc, format, input),
+        "Vec<LinkedList<" => of_type::<Vec<LinkedList<T>>>(alloc, format, input),
+        "Vec<BTreeSet<" => of_type::<Vec<BTreeSet<T>>>(alloc, format, input),
+        "HashSet<Option<" => of_type::<HashSet<Option<T>>>(alloc, format, input),
+        "BTreeSet<Option<" => of_type::<BTreeSet<Option<T>>>(alloc, format, input),
+        _ => Ok(Came::Unknown),
     }
 }

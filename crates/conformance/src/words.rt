@@ -5,7 +5,7 @@ use crate::fields::unescape;
 use nano_show_answers::{ShowFault, ending, run};
 use std::alloc::{AllocError, Global};
 
-/// The room of a writer, so that no write in a case asks for memory.
+/// The capacity of a writer, so that no write in a case asks for memory.
 const CAPACITY: usize = 65_536;
 
 /// What the words print for the input, or how they end. A space parts words, `%20` is one in a

@@ -1,6 +1,7 @@
 //! Calls of a writer's state, and the text afterwards.
 
 use crate::came::Came;
+use crate::start::OUT_OF_MEMORY;
 use nanoserde::{SerJsonState, SerRonState};
 use std::alloc::{AllocError, Global};
 
@@ -42,7 +43,7 @@ pub(crate) fn ron_call(alloc: Global, call: &str, text: &str) -> Result<Came, Al
 fn left(alloc: Global, written: Result<(), AllocError>, text: &str) -> Result<Came, AllocError> {
     let answer = match written {
         Ok(()) => "ok",
-        Err(_) => "no memory",
+        Err(_) => OUT_OF_MEMORY,
     };
     let reported = format!(in alloc; "{answer} -> {text}")?;
     Ok(Came::Text(reported.into_bytes()))

@@ -97,7 +97,7 @@ fn came_of_line(alloc: Global, line: &str) -> Result<String, AllocError> {
 fn run_one(rt: &HostRuntime, line: &str) -> io::Result<bool> {
     match came_of_line(rt.alloc(), line) {
         Ok(text) => rt.println(text)?,
-        Err(_) => rt.println("no memory")?,
+        Err(_) => rt.println("out of memory")?,
     }
     Ok(true)
 }
@@ -117,7 +117,7 @@ fn main(rt: HostRuntime) -> io::Result<ExitCode> {
         Ok(true) => Ok(ExitCode::SUCCESS),
         Ok(false) => Ok(ExitCode::FAILURE),
         Err(error) if error.kind() == ErrorKind::OutOfMemory => {
-            rt.println("no memory")?;
+            rt.println("out of memory")?;
             Ok(ExitCode::SUCCESS)
         }
         Err(error) => Err(error),

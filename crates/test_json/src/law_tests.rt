@@ -1,7 +1,6 @@
 //! Laws and small calls, each made once.
 
-use crate::checks::{holds, is_made};
-use crate::helper_tests::state_with;
+use crate::checks::{holds, is_made, state_with};
 use nano_json::{DeJsonErr, DeJsonTok, end_on_error, laws, rollback_on_error};
 use std::alloc::{AllocError, Global};
 use std::collections::{BTreeMap, BTreeSet, HashMap, HashSet};
@@ -72,6 +71,6 @@ fn states_and_texts_are_left(rt: HostRuntime) {
         &rt,
         following(alloc, Err(AllocError)),
         "a",
-        "a refused write",
+        "a rejected write",
     );
 }

@@ -1,51 +1,9 @@
-//! The small calls of tokens and of texts, each made once, with what it answers.
+//! The small calls of texts, each made once, with what it answers.
 
 use crate::checks::{holds, is_made};
-use crate::token_tests::{state_of, take};
 use nano_grammar::{holds_nul, strip_end_message};
-use nano_json::DeJsonTok;
 use nano_json_tokens::{append_string, bytes_left};
 use std::alloc::{AllocError, Global};
-
-/// A text, and whether its first token is a string, `null`, `]` and `}`.
-type PunctuatorRow<'a> = (&'a str, bool, bool, bool, bool);
-
-/// Tokens by their properties.
-const PUNCTUATION: &[PunctuatorRow<'static>] = &[
-    ("\"a\"", true, false, false, false),
-    ("null", false, true, false, false),
-    ("]", false, false, true, false),
-    ("}", false, false, false, true),
-    ("[", false, false, false, false),
-    ("", false, false, false, false),
-];
-
-/// Whether the first token of a text has the properties of its row.
-fn has_punctuation(alloc: Global, row: &PunctuatorRow<'_>) -> bool {
-    let mut input = row.0.chars();
-    let mut state = state_of(alloc, &mut input);
-    let _first = take(alloc, &mut state, &mut input, 1);
-    let is_word = state.next_str().is_some() == row.1 && state.is_null() == row.2;
-    is_word && state.is_block_close() == row.3 && state.is_curly_close() == row.4
-}
-
-/// Whether a state that is given up has no token, no character and its place.
-fn is_given_up(alloc: Global) -> bool {
-    let mut input = "\n\n7 8".chars();
-    let mut state = state_of(alloc, &mut input);
-    let _first = take(alloc, &mut state, &mut input, 1);
-    state.fail();
-    let is_there = state.line == 2 && state.col == 2;
-    state.tok == DeJsonTok::Eof && state.cur == '\0' && is_there
-}
-
-#[test]
-fn tokens_by_their_punctuation(rt: HostRuntime) {
-    for row in PUNCTUATION {
-        holds(&rt, has_punctuation(rt.alloc(), row), row.0);
-    }
-    holds(&rt, is_given_up(rt.alloc()), "fail");
-}
 
 /// A text after an open bracket, as it is written.
 fn appended(alloc: Global, text: &str) -> Result<String, AllocError> {

@@ -1,7 +1,6 @@
 //! Each law is called once, and so is what ends a reader's state.
 
-use crate::checks::holds;
-use crate::state_tests::state_with;
+use crate::checks::{holds, state_with};
 use nano_ron::{DeRonErr, DeRonState, DeRonTok, end_on_error, laws};
 use std::alloc::Global;
 use std::collections::{BTreeMap, BTreeSet, HashMap, HashSet};
@@ -55,7 +54,7 @@ fn ends_after_a_rejection(alloc: Global, state: &mut DeRonState) -> bool {
 #[test]
 fn a_rejected_read_ends_the_state(rt: HostRuntime) {
     let alloc = rt.alloc();
-    let mut state = state_with(alloc, DeRonTok::Comma, '\0', (0, 0));
+    let mut state = state_with(alloc, DeRonTok::Comma);
     let unchanged = unchanged_after_an_answer(&mut state);
     holds(
         &rt,

@@ -136,7 +136,7 @@ fn is_unknown<T: DeBin>(rt: &impl Abort, alloc: Global) {
             holds(
                 rt,
                 reported && error.kind == DeBinKind::Own,
-                "another refusal",
+                "another error",
             );
         }
     }

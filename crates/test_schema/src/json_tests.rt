@@ -7,79 +7,6 @@ use nano_json::{DeJson, SerJson, SerJsonState};
 use nanoserde::records::{Holder, Item};
 use std::test::Fail;
 
-const ITEMS: [(&str, &str); 25] = [
-    (
-        "{\"value\":1,\"note\":\"x\"}",
-        "{\"value\":1,\"note\":\"x\"}",
-    ),
-    (
-        "{\"note\":\"x\",\"value\":1}",
-        "{\"value\":1,\"note\":\"x\"}",
-    ),
-    ("{\"z\":[1,{\"a\":2}],\"value\":1}", "{\"value\":1}"),
-    (
-        "{\"note\":\"x\",\"z\":null,\"value\":1,\"z\":{}}",
-        "{\"value\":1,\"note\":\"x\"}",
-    ),
-    (
-        "{\"value\":2,\"note\":\"y\",\"value\":1,\"note\":\"x\"}",
-        "{\"value\":1,\"note\":\"x\"}",
-    ),
-    (
-        "{\"note\":\"x\",\"value\":1,\"note\":null}",
-        "{\"value\":1}",
-    ),
-    ("{\"value\":1,\"note\":null}", "{\"value\":1}"),
-    ("{\"value\":1,}", "{\"value\":1}"),
-    (" { \"v\\u0061lue\" : 1 , } }", "{\"value\":1}"),
-    (
-        "{\"note\":\"a\\\"b\",\"value\":1}",
-        "{\"value\":1,\"note\":\"a\\\"b\"}",
-    ),
-    ("{}", "Key not found value"),
-    ("{\"note\":null}", "Key not found value"),
-    (
-        "{\"note\":\"x\"} @",
-        "Unexpected token CurlyClose expected tokenizer ",
-    ),
-    (
-        "{\"value\":\"1\"}",
-        "Unexpected token Str expected signed integer ",
-    ),
-    (
-        "{\"value\":null}",
-        "Unexpected token Null expected signed integer ",
-    ),
-    (
-        "{\"value\":true,\"value\":1}",
-        "Unexpected token Bool(true) expected signed integer ",
-    ),
-    (
-        "{\"note\":2,\"note\":null,\"value\":1}",
-        "Unexpected token U64(2) expected string ",
-    ),
-    (
-        "{\"z\":,\"value\":1}",
-        "Unexpected token Comma expected field ",
-    ),
-    ("{,\"value\":1}", "Unexpected token Comma expected } "),
-    (
-        "{\"note\":\"a\",,\"value\":1}",
-        "Unexpected token Comma expected } ",
-    ),
-    (
-        "{\"note\":\"a\" \"value\":1}",
-        "Unexpected token Str expected , or } ",
-    ),
-    ("{\"note\" \"a\"}", "Unexpected token Str expected : "),
-    ("{\"z\" \"a\"}", "Unexpected token Str expected : "),
-    (
-        "{\"note\":\"a\",\"value\":1",
-        "Unexpected token Eof expected , or } ",
-    ),
-    ("[\"a\",1]", "Unexpected token BlockOpen expected { "),
-];
-
 const SERVERS: [(&str, &str); 4] = [
     (
         "{\"host\":\"a\",\"port\":80,\"tags\":{\"os\":[],\"in\":[\"x\"],\"os\":[\"b\"]},\
@@ -98,7 +25,6 @@ const SERVERS: [(&str, &str); 4] = [
 #[test]
 fn structs_by_name(rt: HostRuntime) -> Result<(), Fail> {
     let alloc = rt.alloc();
-    json_rows::<Item>(&rt, alloc, &ITEMS)?;
     json_rows::<Server>(&rt, alloc, &SERVERS)?;
     let held = [
         ("{\"y\":{},\"x\":{\"x\":null}}", "{\"x\":{\"x\":null}}"),

@@ -1,13 +1,12 @@
-//! Tests of user-defined types over the public surfaces of `nanoserde` and `example_types`. They are
-//! a crate of their own, so that they are proved beside them.
+//! Tests of user-defined types over the public surfaces of `nanoserde` and `example_types`: what the
+//! tables of `conformance_run` cannot say, and the types of `example_types`. They are a crate of their
+//! own, so that they are proved beside them.
 #![tactic(auto)]
 
 #[cfg(test)]
 mod bin_tests;
 #[cfg(test)]
 mod call_tests;
-#[cfg(test)]
-mod checks;
 #[cfg(test)]
 mod fault_tests;
 #[cfg(test)]
@@ -18,8 +17,6 @@ mod part_tests;
 mod record_tests;
 #[cfg(test)]
 mod ron_tests;
-#[cfg(test)]
-mod row_tests;
 #[cfg(test)]
 mod type_checks;
 #[cfg(test)]

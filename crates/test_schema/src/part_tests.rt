@@ -1,7 +1,7 @@
 //! The calls by which the formats split user-defined types, read their fields and make them.
 //! Each is made once, over a struct and an enum, with what it returns.
 
-use crate::checks::holds;
+use crate::type_checks::holds;
 use nano_schema::Label;
 use nano_schema_json::{
     ReadContent as JsonContent, WriteFields as WriteJson, read_fields as read_json,
@@ -350,7 +350,7 @@ fn fields_of_texts_are_read(rt: HostRuntime) {
 fn fields_of_bytes_are_read(rt: HostRuntime) {
     match bin_item(rt.alloc(), 0) {
         Ok((item, end)) => holds(&rt, is_item(&item) && end == 14, "bytes"),
-        Err(_error) => holds(&rt, false, "bytes that are refused"),
+        Err(_error) => holds(&rt, false, "bytes that are rejected"),
     }
     holds(&rt, bin_item(rt.alloc(), 1).is_err(), "bytes cut short");
 }

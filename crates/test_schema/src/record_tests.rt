@@ -1,32 +1,15 @@
-//! Rejections of bytes, and the laws.
+//! The calls that join the formats, and their laws, each made once.
 
-use crate::checks::holds;
+use crate::type_checks::holds;
 use nanoserde::records::{Choice, Holder, Item};
-use nanoserde::{DeBin, DeBinKind, laws, normal_bin};
-use std::alloc::Global;
-use std::process::Abort;
-
-/// The tag that no variant has is reported, and the offset is unchanged.
-fn is_unknown_tag(rt: &impl Abort, alloc: Global, bytes: &[u8]) {
-    match normal_bin::<Choice>(alloc, bytes) {
-        Ok(_form) => holds(rt, false, "a tag that no variant has is read"),
-        Err(error) => {
-            let reported = (error.o, error.l, error.s) == (0, 0, 2);
-            holds(
-                rt,
-                reported && error.kind == DeBinKind::Own,
-                "another refusal",
-            );
-        }
-    }
-    let mut offset = 0;
-    let read = Choice::de_bin(alloc, &mut offset, bytes);
-    holds(rt, read.is_err() && offset == 0, "the offset is moved");
-}
+use nanoserde::{laws, normal_bin};
+use std::test::Fail;
 
 #[test]
-fn unknown_tags(rt: HostRuntime) {
-    is_unknown_tag(&rt, rt.alloc(), &[3, 0]);
+fn bytes_are_their_own_normal_form(rt: HostRuntime) -> Result<(), Fail> {
+    let code = normal_bin::<Choice>(rt.alloc(), &[0, 0, 7])?;
+    holds(&rt, code.as_slice() == [0, 0].as_slice(), "a choice");
+    Ok(())
 }
 
 #[test]

@@ -6,49 +6,6 @@ use example_types::{Event, Server, Signal};
 use nanoserde::records::{Holder, Item};
 use std::test::Fail;
 
-const ITEMS: [(&str, &str); 16] = [
-    (
-        "(value:1,note:\"c\")",
-        "(\n    value:1,\n    note:\"c\",\n)",
-    ),
-    (
-        "(note: \"c\", value: 1,)",
-        "(\n    value:1,\n    note:\"c\",\n)",
-    ),
-    (
-        "(value:2,note:\"d\",value:1,note:\"c\")",
-        "(\n    value:1,\n    note:\"c\",\n)",
-    ),
-    (
-        "( /* ( */ note:\"c\" , // )\n value:1 )",
-        "(\n    value:1,\n    note:\"c\",\n)",
-    ),
-    ("(value:1)", "(\n    value:1,\n)"),
-    ("(note:None,value:1)", "(\n    value:1,\n)"),
-    ("(note:\"c\",value:1,note:None)", "(\n    value:1,\n)"),
-    ("(value:1, other:2, note:\"c\")", "Unexpected key other"),
-    ("(note:\"c\")", "Key not found value"),
-    ("()", "Key not found value"),
-    (
-        "(value:1,,note:\"c\")",
-        "Unexpected token Comma expected ) ",
-    ),
-    (
-        "(value:1 note:\"c\")",
-        "Unexpected token Ident expected , or ) ",
-    ),
-    (
-        "{value:1,note:\"c\"}",
-        "Unexpected token CurlyOpen expected ( ",
-    ),
-    (
-        "(\"value\":1,note:\"c\")",
-        "Unexpected token Str expected ) ",
-    ),
-    ("(true:1)", "Unexpected token Bool(true) expected ) "),
-    ("(value:1", "Unexpected token Eof expected , or ) "),
-];
-
 const SERVERS: [(&str, &str); 3] = [
     (
         "(host:\"a\",port:80,tags:{\"os\":[\"b\"],\"in\":[\"x\"],\"os\":[]},\
@@ -71,7 +28,6 @@ const HELD: &str = "[\n    (\n        x:(\n            value:1,\n            not
 #[test]
 fn structs_by_name(rt: HostRuntime) -> Result<(), Fail> {
     let alloc = rt.alloc();
-    ron_rows::<Item>(&rt, alloc, &ITEMS)?;
     ron_rows::<Server>(&rt, alloc, &SERVERS)?;
     ron_rows::<Vec<Option<Holder<Item>>>>(&rt, alloc, &[(HELD, HELD)])
 }
