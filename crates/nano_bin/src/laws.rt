@@ -133,15 +133,19 @@ pub fn same_entries_same_bytes<K: BinCodec + Key, V: BinCodec>()
         ≡ (map_codec K.order K.bin V.bin).canonical.written others }
 {}
 
-/// A hashed and an ordered set of the same items are written as the same bytes.
+/// A hashed and an ordered set of the same items are written as the same bytes. The same bytes
+/// encode both, so each reads what the other wrote.
 pub fn same_items_same_bytes<T: BinCodec + Key + Ord + Hash>(
     hashed: &HashSet<T>,
     ordered: &BTreeSet<T>,
 )
-    ensures { ⟦<HashSet<T> as Value>⟧.means hashed.now
+    ensures written { ⟦<HashSet<T> as Value>⟧.means hashed.now
         ≡ ⟦<BTreeSet<T> as Value>⟧.means ordered.now →
         ⟦<HashSet<T> as BinCodec>⟧.bin.canonical.written hashed.now
         ≡ ⟦<BTreeSet<T> as BinCodec>⟧.bin.canonical.written ordered.now }
+    ensures encodes { (bytes : List ℕ) (m : Meaning) →
+        ⟦<HashSet<T> as BinCodec>⟧.bin.encoding.encodes bytes m
+        ↔ ⟦<BTreeSet<T> as BinCodec>⟧.bin.encoding.encodes bytes m }
 {}
 
 /// A hash map and an ordered map of the same entries have the same canonical encoding. The same

@@ -124,14 +124,18 @@ pub fn read_back_whole<T: BothJson>(alloc: Global, written: &T) -> Result<T, DeJ
     }
 }
 
-/// A hashed and an ordered set of the same items are written as the same text at each level.
+/// A hashed and an ordered set of the same items are written as the same text at each level. The
+/// same tokens encode both, so each reads what the other wrote.
 pub fn sets_of_the_same_items_are_written_alike<T: JsonCodec + Key + Ord + Hash>(
     hashed: &HashSet<T>,
     ordered: &BTreeSet<T>,
 )
-    ensures { (d : ℕ) → item_set T.means hashed.now.keys ≡ item_set T.means ordered.now.keys
+    ensures written { (d : ℕ) → item_set T.means hashed.now.keys ≡ item_set T.means ordered.now.keys
         → ⟦<HashSet<T> as JsonCodec>⟧.json.canonical.text d hashed.now
         ≡ ⟦<BTreeSet<T> as JsonCodec>⟧.json.canonical.text d ordered.now }
+    ensures encodes { (ts : List Token) (m : Meaning) →
+        ⟦<HashSet<T> as JsonCodec>⟧.json.encoding.encodes ts m
+        ↔ ⟦<BTreeSet<T> as JsonCodec>⟧.json.encoding.encodes ts m }
 {}
 
 /// Items that make the same set, whatever holds them, are written as the same text as a set.
