@@ -3,7 +3,7 @@
 
 A name in backticks is looked for among the names of the sources, of the definitions, of the proofs
 and of the case tables; a path among the files. Words of Rust, of the toolchain, and of other
-libraries are listed below. Usage, at the top of the repository: python3 docs/check_claims.py
+libraries are listed below. Numbers of mutants and of cases in tables are counted. Usage, at the top of the repository: python3 docs/check_claims.py
 """
 import pathlib
 import re
@@ -20,7 +20,7 @@ KNOWN = set(
     "u8 u16 u32 u64 u128 usize i8 i16 i32 i64 i128 f32 f64 bool char str Drop Clone Debug Display PartialEq Eq Hash Ord "
     "serde serde_json bincode ron toml nanoserde std anyhow thiserror impl derive trait struct enum match ghost ensures "
     "requires unsafe where use mod pub fn let crate self mut ref dyn static const type as in for if else loop while "
-    "malloc Ann nanoserde-derive no_std alloc Send Sync Read Write Result Rc Arc RefCell Cell Cow Default From Into TryFrom Iterator main".split()
+    "missing-field non-exhaustive-match unsatisfied-bound malloc nanoserde-derive no_std alloc Send Sync Read Write Result Rc Arc RefCell Cell Cow Default From Into TryFrom Iterator main".split()
 )
 # Files of another place, and the two that stand for all of their kind.
 FILES = {"build.sh", "main.rs", "X.antt", "XLaws.antt", "specs/X.antt", "specs/XLaws.antt"}
@@ -58,8 +58,10 @@ def is_there(cited):
 
 
 def faults_of(path, names):
+    fenced = False
     for number, line in enumerate(path.read_text().splitlines(), 1):
-        if line.startswith("    "):
+        fenced = fenced != line.startswith("```")
+        if fenced or line.startswith("    "):
             continue
         for cited in TICKS.findall(line):
             if PATH.match(cited):
@@ -71,10 +73,27 @@ def faults_of(path, names):
                         yield number, f"no name {name} in `{cited}`"
 
 
+def counts_of(path):
+    """The rows of tables that give a number of mutants, or of cases, that is not there."""
+    for number, line in enumerate(path.read_text().splitlines(), 1):
+        mutants = re.match(r"\| `(\w+)` \| (\d+) \| .* \| ", line) if "GUARANTEES" in path.name else None
+        if mutants:
+            found = len(list(pathlib.Path("crates", mutants.group(1), "must-fail").glob("*.edit")))
+            if found != int(mutants.group(2)):
+                yield number, f"{found} mutants in must-fail of {mutants.group(1)}"
+        cases = re.match(r"\| `(\w+\.tsv)` \| ([\d,]+) \|", line)
+        if cases:
+            table = pathlib.Path("crates/conformance_run/data", cases.group(1)).read_text()
+            found = sum(1 for row in table.splitlines() if row and row[0] != "#")
+            if found != int(cases.group(2).replace(",", "")):
+                yield number, f"{found} cases in {cases.group(1)}"
+
+
 def main():
     names, faults = known_names(), 0
-    for path in [pathlib.Path("README.md"), *sorted(pathlib.Path("docs").glob("*.md"))]:
-        for number, fault in faults_of(path, names):
+    documents = [pathlib.Path("README.md"), pathlib.Path("CONTRIBUTING.md")]
+    for path in [*documents, *sorted(pathlib.Path("docs").glob("*.md"))]:
+        for number, fault in [*faults_of(path, names), *counts_of(path)]:
             print(f"{path}:{number}: {fault}")
             faults += 1
     print(f"{faults} claims that cite what is not there")
