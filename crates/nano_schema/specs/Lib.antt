@@ -1,3 +1,2 @@
-pub mod Names
+pub mod Rows
 pub mod Choices
-pub mod ChoicesLaws

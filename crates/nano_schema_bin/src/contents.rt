@@ -1,55 +1,122 @@
 //! What a variant holds, as bytes.
 
+ghost use Rattle.std.specs.Prelude.{[]};
 ghost use Rattle.nano_bin.specs.BoolsLaws.{unit_codec};
 
 use crate::fields::{BinFields, BinRefs, BinShape};
 use nano_bin::{BinCodec, DeBin, DeBinErr, SerBin, append_part};
-use nano_schema::{Alone, OnePart, Tupled};
+use nano_schema::{Alone, Named, OnePart, Tupled};
 use std::alloc::{AllocError, Global};
 
 impl BinShape for Alone {
+    type Values = ();
+
     ghost codec = { unit_codec };
 }
 
 impl BinFields for Alone {
+    type Values = ();
+
+    ghost codec = { unit_codec };
+
     fn read(alloc: Global, offset: &mut usize, bytes: &[u8]) -> Result<(), DeBinErr> {
         <()>::de_bin(alloc, offset, bytes)
     }
+
+    fn discard(_values: ()) {}
 }
 
 impl<'a> BinRefs<'a> for Alone {
+    type Refs = ();
+
+    ghost written = { λ r. [] };
+
     fn write(refs: &(), alloc: Global, output: &mut Vec<u8>) -> Result<(), AllocError> {
         refs.ser_bin(alloc, output)
     }
 }
 
 impl<T: BinCodec> BinShape for OnePart<T> {
+    type Values = T;
+
     ghost codec = { T.bin };
 }
 
 impl<T: DeBin> BinFields for OnePart<T> {
+    type Values = T;
+
+    ghost codec = { T.bin };
+
     fn read(alloc: Global, offset: &mut usize, bytes: &[u8]) -> Result<T, DeBinErr> {
         T::de_bin(alloc, offset, bytes)
     }
+
+    fn discard(_values: T) {}
 }
 
 impl<'a, T: SerBin + 'a> BinRefs<'a> for OnePart<T> {
+    type Refs = &'a T;
+
+    ghost written = { λ r. T.bin.canonical.written r.now };
+
     fn write(refs: &&'a T, alloc: Global, output: &mut Vec<u8>) -> Result<(), AllocError> {
         refs.ser_bin(alloc, output)
     }
 }
 
+impl<F: BinShape> BinShape for Named<F> {
+    type Values = F::Values;
+
+    ghost codec = { F.codec };
+}
+
+impl<F: BinFields> BinFields for Named<F> {
+    type Values = F::Values;
+
+    ghost codec = { F.codec };
+
+    fn read(alloc: Global, offset: &mut usize, bytes: &[u8]) -> Result<F::Values, DeBinErr> {
+        F::read(alloc, offset, bytes)
+    }
+
+    fn discard(values: F::Values) {
+        F::discard(values);
+    }
+}
+
+impl<'a, F: BinRefs<'a>> BinRefs<'a> for Named<F> {
+    type Refs = F::Refs;
+
+    ghost written = { F.written };
+
+    fn write(refs: &F::Refs, alloc: Global, output: &mut Vec<u8>) -> Result<(), AllocError> {
+        F::write(refs, alloc, output)
+    }
+}
+
 impl<P: BinCodec> BinShape for Tupled<P> {
+    type Values = P;
+
     ghost codec = { P.bin };
 }
 
 impl<P: DeBin> BinFields for Tupled<P> {
+    type Values = P;
+
+    ghost codec = { P.bin };
+
     fn read(alloc: Global, offset: &mut usize, bytes: &[u8]) -> Result<P, DeBinErr> {
         P::de_bin(alloc, offset, bytes)
     }
+
+    fn discard(_values: P) {}
 }
 
 impl<'a, A: SerBin + 'a, B: SerBin + 'a> BinRefs<'a> for Tupled<(A, B)> {
+    type Refs = (&'a A, &'a B);
+
+    ghost written = { λ r. ⟦<(A, B) as BinCodec>⟧.bin.canonical.written (r.0.now, r.1.now) };
+
     fn write(refs: &(&'a A, &'a B), alloc: Global, output: &mut Vec<u8>) -> Result<(), AllocError> {
         let start = output.len();
         refs.0.ser_bin(alloc, output)?;
@@ -58,6 +125,11 @@ impl<'a, A: SerBin + 'a, B: SerBin + 'a> BinRefs<'a> for Tupled<(A, B)> {
 }
 
 impl<'a, A: SerBin + 'a, B: SerBin + 'a, C: SerBin + 'a> BinRefs<'a> for Tupled<(A, B, C)> {
+    type Refs = (&'a A, &'a B, &'a C);
+
+    ghost written = { λ r. ⟦<(A, B, C) as BinCodec>⟧.bin.canonical.written
+        (r.0.now, r.1.now, r.2.now) };
+
     fn write(
         refs: &(&'a A, &'a B, &'a C),
         alloc: Global,
@@ -72,6 +144,11 @@ impl<'a, A: SerBin + 'a, B: SerBin + 'a, C: SerBin + 'a> BinRefs<'a> for Tupled<
 
 impl<'a, A: SerBin + 'a, B: SerBin + 'a, C: SerBin + 'a, D: SerBin + 'a> BinRefs<'a>
     for Tupled<(A, B, C, D)> {
+    type Refs = (&'a A, &'a B, &'a C, &'a D);
+
+    ghost written = { λ r. ⟦<(A, B, C, D) as BinCodec>⟧.bin.canonical.written
+        (r.0.now, r.1.now, r.2.now, r.3.now) };
+
     fn write(
         refs: &(&'a A, &'a B, &'a C, &'a D),
         alloc: Global,

@@ -7,10 +7,11 @@ ghost use Rattle.nano_json.specs.Readers.{Decodes, Rejects};
 ghost use Rattle.nano_json.specs.State.{at, ended};
 ghost use Rattle.nano_schema_json.specs.VariantsLaws.{json_variants};
 
-use crate::choices::{JsonChoiceRefs, JsonChoices};
-use crate::read_variant_name;
+use crate::choices::JsonChoices;
+use crate::contents::WriteContent;
+use crate::variants::read_variant_name;
 use nano_json::{DeJsonErr, DeJsonState, SerJsonState};
-use nano_schema::{Choice, ChoiceParts};
+use nano_schema::{Choice, Label};
 use std::alloc::{AllocError, Global};
 use std::str::Chars;
 
@@ -20,41 +21,35 @@ use std::str::Chars;
 ///
 /// An error other than out of memory says that no variant is encoded there, with one more token
 /// or the end after it. Every error leaves the state at the end of the text.
-pub fn read_choice_json<E: Choice>(
+pub fn read_choice_json<E: Choice, V: JsonChoices<Values = E::Values>>(
     alloc: Global,
     state: &mut DeJsonState,
     input: &mut Chars<'_>,
 ) -> Result<E, DeJsonErr>
-where
-    E::Variants: JsonChoices + Drop,
-    ensures decodes { Decodes (EncodesVariant json_variants (E.Variants.codec E.schema.the_names).encodes)
-        (λ value. E.Variants.Choices.means 0 (E.schema.view value))
+    ensures decodes { Decodes (EncodesVariant json_variants V.codec.encodes)
+        (λ value. V.means 0 (E.view value))
         (at state.old input.old) (at state.new input.new) result }
-    ensures rejected { Rejects (EncodesVariant json_variants (E.Variants.codec E.schema.the_names).encodes)
+    ensures rejected { Rejects (EncodesVariant json_variants V.codec.encodes)
         (at state.old input.old) result }
     ensures ended { OnErr result (at state.new input.new ≡ ended) }
 {
-    let variants = E::variants();
     let name = read_variant_name(alloc, state, input)?;
-    match variants.read(&name, alloc, state, input) {
+    match V::read(&name, alloc, state, input) {
         Ok(values) => Ok(E::make(values)),
         Err(error) => Err(error),
     }
 }
 
-/// Writes a user-defined enum at level `d`. If the write fails, `s.out` is unchanged.
-pub fn write_choice_json<'a, E: ChoiceParts<'a>>(
-    value: &'a E,
+/// Writes a variant, whose content is at hand by reference, at level `d`. If the write fails,
+/// `s.out` is unchanged.
+pub fn write_variant_json<'a, N: Label, S: WriteContent<'a>>(
+    refs: &S::Refs,
     alloc: Global,
     d: usize,
     s: &mut SerJsonState,
 ) -> Result<(), AllocError>
-where
-    E::Variants: JsonChoiceRefs<'a> + Drop,
-    ensures ok { OnOk result (Appends s.old.out s.new.out
-        ((E.Variants.codec E.schema.the_names).text d (E.schema.view value.now))) }
+    ensures ok { OnOk result (Appends s.old.out s.new.out (S.text N.label d refs.now)) }
     ensures err { OnErr result (Unchanged s.old.out s.new.out) }
 {
-    let variants = E::variants();
-    variants.write(value.as_refs(), alloc, d, s)
+    S::write(N::text(), refs, alloc, d, s)
 }

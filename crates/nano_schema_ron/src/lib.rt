@@ -9,7 +9,6 @@ mod contents;
 mod fields;
 pub mod laws;
 mod named;
-mod one_field;
 mod one_part;
 mod optional;
 mod pairs;
@@ -17,25 +16,22 @@ mod part;
 mod read;
 mod record;
 mod required;
-mod shapes;
 mod tuples;
 mod variant_writer;
 mod variants;
 mod writer;
 
-pub use choice::{read_choice_ron, write_choice_ron};
-pub use choices::{RonChoiceRefs, RonChoices, RonShapes};
+pub use choice::{read_choice_ron, write_variant_ron};
+pub use choices::{RonChoices, RonShapes};
 pub use contents::{ReadContent, RonContent, WriteContent};
-pub use fields::{Fields, Fields as RonFields, RonShape};
+pub use fields::{RonFields, RonRefs, RonShape};
 pub use nano_ron::{BothRon, DeRon, DeRonErr, DeRonState, RonCodec, SerRon, SerRonState};
-pub use nano_schema::{Optional, Required};
 pub use part::Part;
 pub use read::read_fields;
 pub use record::{read_record_ron, write_record_ron};
-pub use shapes::RonRefs;
 pub use variant_writer::{write_fields_variant, write_unit_variant, write_variant};
 pub use variants::{read_variant_name, unknown_variant};
-pub use writer::{OptionalPart, RequiredPart, WriteFields, write_fields};
+pub use writer::write_fields;
 
 /// What a reader of RON answers.
 pub type RonResult<T> = Result<T, DeRonErr>;

@@ -1,0 +1,7 @@
+//! A record.
+#![tactic(auto)]
+
+mod names;
+mod record;
+
+pub use record::Big;

@@ -1,0 +1,117 @@
+//! Fields by their names and types.
+
+ghost use Rattle.std.specs.Option.{option_map};
+ghost use Rattle.nano_value.specs.Meaning.{Meaning, optional, paired, pair_map};
+ghost use Rattle.nano_value.specs.Legal.{LegalOption, LegalPair};
+
+use nano_value::Value;
+use std::marker::PhantomData;
+
+/// A field that must be there, by its name and the type of its value.
+#[derive(Drop)]
+pub struct Required<N, T> {
+    /// Its name.
+    pub name: PhantomData<N>,
+    /// The type of its value.
+    pub of: PhantomData<T>,
+}
+
+/// A field that may be missing, and is `None` then, by its name and the type of its value
+/// without the `Option`.
+#[derive(Drop)]
+pub struct Optional<N, T> {
+    /// Its name.
+    pub name: PhantomData<N>,
+    /// The type of its value, without the `Option`.
+    pub of: PhantomData<T>,
+}
+
+/// One field, or fields and more fields: what their values mean.
+pub trait Shape {
+    /// The values of the fields.
+    type Values;
+
+    /// What the values mean.
+    ghost means: { Self.Values → Meaning };
+
+    /// Which meanings the values of a program have.
+    ghost legal: { Meaning → Type 0 };
+}
+
+/// Fields whose values are at hand by reference.
+pub trait Borrowed<'a> {
+    /// The references.
+    type Refs;
+
+    /// What the values that they refer to mean.
+    ghost means: { Self.Refs → Meaning };
+
+    /// Which meanings the values of a program have.
+    ghost legal: { Meaning → Type 0 };
+
+    /// Does nothing. Its contract says that what the values of a program mean is legal.
+    fn known(refs: &Self::Refs)
+        ensures { legal (means refs.now) };
+}
+
+impl<N, T: Value> Shape for Required<N, T> {
+    type Values = T;
+
+    ghost means = { T.means };
+
+    ghost legal = { T.legal };
+}
+
+impl<'a, N, T: Value + 'a> Borrowed<'a> for Required<N, T> {
+    type Refs = &'a T;
+
+    ghost means = { λ r. T.means r.now };
+
+    ghost legal = { T.legal };
+
+    fn known(refs: &&'a T) {
+        refs.known();
+    }
+}
+
+impl<N, T: Value> Shape for Optional<N, T> {
+    type Values = Option<T>;
+
+    ghost means = { λ x. optional (option_map T.means x) };
+
+    ghost legal = { LegalOption T.legal };
+}
+
+impl<'a, N, T: Value + 'a> Borrowed<'a> for Optional<N, T> {
+    type Refs = &'a Option<T>;
+
+    ghost means = { λ r. optional (option_map T.means r.now) };
+
+    ghost legal = { LegalOption T.legal };
+
+    fn known(refs: &&'a Option<T>) {
+        refs.known();
+    }
+}
+
+impl<A: Shape, B: Shape> Shape for (A, B) {
+    type Values = (A::Values, B::Values);
+
+    ghost means = { λ v. paired (pair_map A.means B.means v) };
+
+    ghost legal = { LegalPair A.legal B.legal };
+}
+
+impl<'a, A: Borrowed<'a>, B: Borrowed<'a>> Borrowed<'a> for (A, B) {
+    type Refs = (A::Refs, B::Refs);
+
+    ghost means = { λ r. paired (pair_map A.means B.means r) };
+
+    ghost legal = { LegalPair A.legal B.legal };
+
+    #[tactic(auto, using(nano_value::specs::LegalLaws::pair_is_legal))]
+    fn known(refs: &(A::Refs, B::Refs)) {
+        A::known(&refs.0);
+        B::known(&refs.1);
+    }
+}

@@ -1,0 +1,108 @@
+use Rattle.std.proofs.Common.{sym}
+use Rattle.std.proofs.lemmas.Result.{err_from_is_err_and, IfErr-weaker, IfOk-weaker}
+use Rattle.nano_schema_text.proofs.StructReading.{fields_start, field_shorter, fields_next}
+use Rattle.nano_schema_text.proofs.StructReading.{struct_open_rejected, struct_field_rejected}
+use Rattle.nano_schema_text.proofs.StructReading.{struct_comma_rejected, struct_close_rejected}
+use Rattle.nano_schema_text.proofs.StructReading.{struct_found, struct_missing}
+use Rattle.nano_json_tokens.specs.State.{at, pending}
+use Rattle.nano_json.proofs.Json.{json_laws}
+use Rattle.nano_schema_json.specs.FieldsLaws.{json_fields}
+use Rattle.nano_schema_json.proofs.Pending.{name_goes_on, no_name_pending, closes_or_not}
+use Rattle.rows_json.proofs.read.read_list.Goals as goal
+
+pub returns-in_err-curly_open-clause-rejected : goal.returns-in_err-curly_open-clause-rejected
+returns-in_err-curly_open-clause-rejected g c =
+    let p = err_from_is_err_and c.from_residual.result c.from_residual.ensures.1 in
+    let struct = g.F.ReadJson.codec.struct in
+    let start = at c.args.state.now c.args.input.now in
+    let none = struct_open_rejected json_fields json_laws struct start in
+    let error = c.in_err-curly_open.ensures.rejected in
+    rw (p.1, p.2) (λ known. none (error.0 known), error.1.0)
+
+pub fields-init : goal.fields-init
+fields-init g c =
+    let struct = g.F.ReadJson.codec.struct in
+    let holds = g.F.ReadJson.holds c.empty.result in
+    fields_start json_fields json_laws struct holds (at c.args.state.now c.args.input.now)
+    (at c.curly_open.new.self c.curly_open.new.i) c.in_ok-curly_open.ensures.taken
+    c.empty.ensures
+
+pub returns-in_err-read_any-clause-rejected : goal.returns-in_err-read_any-clause-rejected
+returns-in_err-read_any-clause-rejected g c =
+    let p = err_from_is_err_and c.from_residual-in_err-read_any.result c.from_residual-in_err-read_any.ensures.1 in
+    let struct = g.F.ReadJson.codec.struct in
+    let holds = g.F.ReadJson.holds c.fields.slots.of in
+    let goes_on = name_goes_on (pending c.fields.state) (sym c.fields-test.ensures) in
+    let none =
+    struct_field_rejected json_fields json_laws struct holds
+    (at c.args.state.now c.args.input.now) (at c.fields.state c.fields.input)
+    c.fields.invariant goes_on in
+    let error = c.in_err-read_any.ensures.rejected in
+    rw (p.1, p.2) (λ known. none (error.0 known), error.1)
+
+pub fields-smaller : goal.fields-smaller
+fields-smaller g c =
+    let read = c.in_ok-read_any.ensures.decodes in
+    field_shorter json_fields json_laws g.F.ReadJson.codec.struct
+    (at c.fields.state c.fields.input) (at c.read_any.new.state c.read_any.new.input)
+    (at c.eat_comma_curly.new.self c.eat_comma_curly.new.i) read.0 read.1
+    c.in_ok-eat_comma_curly.ensures.taken
+
+pub fields-preserved : goal.fields-preserved
+fields-preserved g c =
+    let goes_on = name_goes_on (pending c.fields.state) (sym c.fields-test.ensures) in
+    fields_next json_fields json_laws g.F.ReadJson.codec.struct
+    (g.F.ReadJson.holds c.fields.slots.of)
+    (g.F.ReadJson.holds c.read_any.new.slots)
+    (at c.args.state.now c.args.input.now) (at c.fields.state c.fields.input)
+    (at c.read_any.new.state c.read_any.new.input)
+    (at c.eat_comma_curly.new.self c.eat_comma_curly.new.i) c.fields.invariant goes_on
+    c.in_ok-read_any.ensures.decodes c.in_ok-eat_comma_curly.ensures.taken
+
+pub returns-in_err-eat_comma_curly-clause-rejected : goal.returns-in_err-eat_comma_curly-clause-rejected
+returns-in_err-eat_comma_curly-clause-rejected g c =
+    let p = err_from_is_err_and c.from_residual-in_err-eat_comma_curly.result c.from_residual-in_err-eat_comma_curly.ensures.1 in
+    let read = c.in_ok-read_any.ensures.decodes in
+    let struct = g.F.ReadJson.codec.struct in
+    let holds = g.F.ReadJson.holds c.fields.slots.of in
+    let goes_on = name_goes_on (pending c.fields.state) (sym c.fields-test.ensures) in
+    let none =
+    struct_comma_rejected json_fields json_laws struct holds
+    (at c.args.state.now c.args.input.now) (at c.fields.state c.fields.input)
+    c.fields.invariant (at c.read_any.new.state c.read_any.new.input) read.0 goes_on read.1 in
+    let error = c.in_err-eat_comma_curly.ensures.rejected in
+    rw (p.1, p.2) (λ known. none (error.0 known), error.1.0)
+
+pub returns-in_err-curly_close-clause-rejected : goal.returns-in_err-curly_close-clause-rejected
+returns-in_err-curly_close-clause-rejected g c =
+    let p = err_from_is_err_and c.from_residual-in_err-curly_close.result c.from_residual-in_err-curly_close.ensures.1 in
+    let struct = g.F.ReadJson.codec.struct in
+    let holds = g.F.ReadJson.holds c.fields.slots.of in
+    let no_name = no_name_pending (pending c.fields.state) (sym c.fields-test.ensures) in
+    let none =
+    struct_close_rejected json_fields json_laws struct holds
+    (at c.args.state.now c.args.input.now) (at c.fields.state c.fields.input)
+    c.fields.invariant no_name (closes_or_not (pending c.fields.state)) in
+    let error = c.in_err-curly_close.ensures.rejected in
+    rw (p.1, p.2) (λ known. none (error.0 known), error.1.0)
+
+pub returns-clause-decodes : goal.returns-clause-decodes
+returns-clause-decodes g c =
+    let struct = g.F.ReadJson.codec.struct in
+    let holds = g.F.ReadJson.holds c.fields.slots.of in
+    IfOk-weaker c.values.result _ _ (λ v h.
+    struct_found json_fields json_laws struct holds (at c.args.state.now c.args.input.now)
+    (at c.fields.state c.fields.input) c.fields.invariant
+    (at c.curly_close.new.self c.curly_close.new.i) c.in_ok-curly_close.ensures.taken
+    (g.F.ReadJson.codec.canonical.means v) h) c.values.ensures.all
+
+pub returns-clause-rejected : goal.returns-clause-rejected
+returns-clause-rejected g c =
+    let struct = g.F.ReadJson.codec.struct in
+    let holds = g.F.ReadJson.holds c.fields.slots.of in
+    let none =
+    struct_missing json_fields json_laws struct holds (at c.args.state.now c.args.input.now)
+    (at c.fields.state c.fields.input) c.fields.invariant
+    (at c.curly_close.new.self c.curly_close.new.i) c.in_ok-curly_close.ensures.taken in
+    IfErr-weaker c.values.result _ _ (λ e reported. (λ known. none (reported.0 known), reported.1))
+    c.values.ensures.missing

@@ -1,0 +1,15 @@
+use Rattle.nano_grammar.proofs.TokensLeft.{tokens_left}
+use Rattle.nano_schema_text.proofs.StructReading.{FieldsSoFar}
+use Rattle.nano_json_tokens.specs.State.{at}
+use Rattle.nano_json.proofs.Json.{json_laws}
+use Rattle.nano_schema_json.specs.FieldsLaws.{json_fields}
+use Rattle.rows_json.proofs.read.read_list.Given as goal
+
+-- the slots hold the fields so far
+abbrev pub invariant-fields : goal.invariant-fields
+invariant-fields g l =
+    FieldsSoFar json_fields json_laws g.F.ReadJson.codec.struct
+    (g.F.ReadJson.holds l.slots.of) (at l.fn.state l.fn.input) (at l.state l.input)
+
+abbrev pub decreases-fields : goal.decreases-fields
+decreases-fields g l = tokens_left json_laws.is_end (at l.state l.input)

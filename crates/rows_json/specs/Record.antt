@@ -1,0 +1,16 @@
+-- The format of an own struct in JSON.
+use Rattle.std.specs.Prelude.{◌≡◌, ◌&&◌, true}
+use Rattle.std.proofs.lemmas.Bool.{and_parts}
+use Rattle.nano_schema_text.specs.FieldCodec.{FieldsCodec}
+use Rattle.nano_schema_text.specs.Names.{are_distinct}
+use Rattle.nano_json.specs.Codec.{Codec, codec_as}
+use Rattle.nano_schema_json.specs.FieldsLaws.{json_fields, ascii_names, fields_codec}
+use Rattle.nano_schema_json.specs.Names.{are_ascii_names}
+
+abbrev pub json_of : {A B : Type 0} (view : A → B) (fields : FieldsCodec json_fields B)
+    → (are_ascii_names fields.canonical.names && are_distinct fields.canonical.names) ≡ true
+    → Codec A
+json_of view fields good =
+    let all = fields.canonical.names in
+    let parts = and_parts (are_ascii_names all) (are_distinct all) good in
+    codec_as view (fields_codec fields (ascii_names {names = all} parts.0) parts.1)

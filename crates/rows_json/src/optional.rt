@@ -1,0 +1,89 @@
+//! A field that may be missing.
+
+ghost use Rattle.std.specs.Option.{option_map};
+ghost use Rattle.nano_value.specs.Meaning.{optional};
+ghost use Rattle.nano_schema_text.specs.FieldCanonicalLaws.{written_if_some};
+ghost use Rattle.nano_schema_text.specs.StructLaws.{may_read};
+ghost use Rattle.nano_schema_json.specs.FieldsLaws.{may};
+ghost use Rattle.nano_schema_text.specs.SlotsLaws.{optional_skips};
+
+use crate::fields::{JsonRefs, JsonShape, ReadJson};
+use crate::named::read_named;
+use crate::writer::append_field;
+use nano_json::{DeJson, DeJsonErr, DeJsonState, JsonCodec, SerJson, SerJsonState};
+use rows::{Label, Optional};
+use std::alloc::{AllocError, Global};
+use std::str::Chars;
+
+impl<N: Label, T: JsonCodec> JsonShape for Optional<N, T> {
+    type Values = Option<T>;
+
+    ghost codec = { may N.label T.json };
+}
+
+impl<N: Label, T: DeJson> ReadJson for Optional<N, T> {
+    type Values = Option<T>;
+
+    type Slots = Option<T>;
+
+    ghost codec = { may N.label T.json };
+
+    ghost holds = { λ slot fs. (may_read N.label T.json.encoding).shape.means fs
+        (optional (option_map T.json.canonical.means slot)) };
+
+    ghost skips = { λ slot. optional_skips N.label T.json.encoding
+        (optional (option_map T.json.canonical.means slot)) };
+
+    fn empty() -> Option<T> {
+        None
+    }
+
+    fn knows(name: &str) -> bool {
+        name == N::text()
+    }
+
+    fn read_field(
+        slots: &mut Option<T>,
+        alloc: Global,
+        state: &mut DeJsonState,
+        input: &mut Chars<'_>,
+    ) -> Result<(), DeJsonErr> {
+        let value = read_named(alloc, state, input)?;
+        *slots = value;
+        Ok(())
+    }
+
+    fn values(
+        slots: Option<T>,
+        _alloc: Global,
+        _state: &DeJsonState,
+    ) -> Result<Option<T>, DeJsonErr> {
+        Ok(slots)
+    }
+
+    fn discard(_slots: Option<T>) {}
+
+    fn discard_values(_values: Option<T>) {}
+}
+
+impl<'a, N: Label, T: SerJson + 'a> JsonRefs<'a> for Optional<N, T> {
+    type Refs = &'a Option<T>;
+
+    ghost fields = { λ r. written_if_some N.label T.json.canonical r.now };
+
+    fn append_fields(
+        refs: &&'a Option<T>,
+        alloc: Global,
+        first: bool,
+        d: usize,
+        s: &mut SerJsonState,
+    ) -> Result<bool, AllocError> {
+        match *refs {
+            Some(value) => {
+                append_field(alloc, N::text(), value, first, d, s)?;
+                Ok(false)
+            }
+            None => Ok(first),
+        }
+    }
+}

@@ -1,0 +1,96 @@
+//! Named fields between curly brackets.
+
+ghost use Rattle.std.specs.Prelude.{◌≡◌, OnOk, OnErr};
+ghost use Rattle.nano_schema_json.specs.FieldReading.{Allowed, EncodedField, DecodesField};
+ghost use Rattle.nano_schema_json.specs.FieldReadingLaws.{fields_of};
+ghost use Rattle.nano_schema_json.specs.Punctuation.{is_str};
+ghost use Rattle.nano_json.specs.Readers.{Decodes, Rejects};
+ghost use Rattle.nano_json.specs.State.{at, ended, pending};
+ghost use Rattle.nano_json.specs.Token.{IsStr};
+
+use crate::fields::ReadJson;
+use nano_json::{DeJsonErr, DeJsonState, DeJsonTok, end_on_error};
+use std::alloc::Global;
+use std::str::Chars;
+
+/// What is read so far of some fields.
+struct Slots<F: ReadJson> {
+    of: F::Slots,
+}
+
+impl<F: ReadJson> Drop for Slots<F> {
+    fn drop(self) {
+        let Slots { of } = self;
+        F::discard(of);
+    }
+}
+
+/// Reads named fields between curly brackets.
+pub fn read_fields<F: ReadJson>(
+    alloc: Global,
+    state: &mut DeJsonState,
+    input: &mut Chars<'_>,
+) -> Result<F::Values, DeJsonErr>
+    ensures decodes { Decodes (fields_of F.codec.struct).encodes F.codec.canonical.means
+        (at state.old input.old) (at state.new input.new) result }
+    ensures rejected { Rejects (fields_of F.codec.struct).encodes (at state.old input.old) result }
+    ensures ended { OnErr result (at state.new input.new ≡ ended) }
+{
+    let read = read_list::<F>(alloc, state, input);
+    end_on_error(state, read)
+}
+
+/// Reads named fields between curly brackets. On an error, the state may be at any position.
+fn read_list<F: ReadJson>(
+    alloc: Global,
+    state: &mut DeJsonState,
+    input: &mut Chars<'_>,
+) -> Result<F::Values, DeJsonErr>
+    ensures decodes { Decodes (fields_of F.codec.struct).encodes F.codec.canonical.means
+        (at state.old input.old) (at state.new input.new) result }
+    ensures rejected { Rejects (fields_of F.codec.struct).encodes (at state.old input.old) result }
+{
+    let mut slots: Slots<F> = Slots { of: F::empty() };
+    state.curly_open(alloc, input)?;
+    'fields: while is_name(state) {
+        read_any::<F>(&mut slots.of, alloc, state, input)?;
+        state.eat_comma_curly(alloc, input)?;
+    }
+    state.curly_close(alloc, input)?;
+    let Slots { of } = slots;
+    F::values(of, alloc, state)
+}
+
+/// Reads the field whose name is pending, or skips it where the name is not known. The name is
+/// compared in place in the state, before the next token is taken. On an error, the state may
+/// be at any position.
+fn read_any<F: ReadJson>(
+    slots: &mut F::Slots,
+    alloc: Global,
+    state: &mut DeJsonState,
+    input: &mut Chars<'_>,
+) -> Result<(), DeJsonErr>
+    requires { IsStr (pending state.old) }
+    ensures decodes { OnOk result (DecodesField (Allowed F.codec.struct.shape)
+        (F.holds slots.old) (F.holds slots.new)
+        (at state.old input.old) (at state.new input.new)) }
+    ensures rejected { Rejects (EncodedField (Allowed F.codec.struct.shape))
+        (at state.old input.old) result }
+{
+    if F::knows(state.strbuf.as_str()) {
+        return F::read_field(slots, alloc, state, input);
+    }
+    state.next_colon(alloc, input)?;
+    state.whole_field(alloc, input)
+}
+
+/// Whether a string is pending.
+#[inline]
+fn is_name(state: &DeJsonState) -> bool
+    ensures { result ≡ is_str (pending state.now) }
+{
+    match state.tok {
+        DeJsonTok::Str => true,
+        _ => false,
+    }
+}

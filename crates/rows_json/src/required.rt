@@ -1,0 +1,82 @@
+//! A field that must be there.
+
+ghost use Rattle.std.specs.Prelude.{◌∷◌, []};
+ghost use Rattle.std.specs.Option.{option_map};
+ghost use Rattle.nano_schema_json.specs.FieldsLaws.{must};
+ghost use Rattle.nano_schema_text.specs.FieldCanonicalLaws.{written_field};
+ghost use Rattle.nano_schema_text.specs.Slots.{Holds};
+ghost use Rattle.nano_schema_text.specs.SlotsLaws.{holds_skips};
+
+use crate::fields::{JsonRefs, JsonShape, ReadJson};
+use crate::named::read_named;
+use crate::writer::append_field;
+use nano_json::{DeJson, DeJsonErr, DeJsonState, JsonCodec, SerJson, SerJsonState};
+use rows::{Label, Required};
+use std::alloc::{AllocError, Global};
+use std::str::Chars;
+
+impl<N: Label, T: JsonCodec> JsonShape for Required<N, T> {
+    type Values = T;
+
+    ghost codec = { must N.label T.json };
+}
+
+impl<N: Label, T: DeJson> ReadJson for Required<N, T> {
+    type Values = T;
+
+    type Slots = Option<T>;
+
+    ghost codec = { must N.label T.json };
+
+    ghost holds = { λ slot. Holds N.label T.json.encoding.encodes (option_map T.json.canonical.means slot) };
+
+    ghost skips = { λ slot. holds_skips N.label T.json.encoding.encodes
+        (option_map T.json.canonical.means slot) };
+
+    fn empty() -> Option<T> {
+        None
+    }
+
+    fn knows(name: &str) -> bool {
+        name == N::text()
+    }
+
+    fn read_field(
+        slots: &mut Option<T>,
+        alloc: Global,
+        state: &mut DeJsonState,
+        input: &mut Chars<'_>,
+    ) -> Result<(), DeJsonErr> {
+        let value = read_named(alloc, state, input)?;
+        *slots = Some(value);
+        Ok(())
+    }
+
+    fn values(slots: Option<T>, alloc: Global, state: &DeJsonState) -> Result<T, DeJsonErr> {
+        match slots {
+            Some(value) => Ok(value),
+            None => Err(state.err_nf(alloc, N::text())),
+        }
+    }
+
+    fn discard(_slots: Option<T>) {}
+
+    fn discard_values(_values: T) {}
+}
+
+impl<'a, N: Label, T: SerJson + 'a> JsonRefs<'a> for Required<N, T> {
+    type Refs = &'a T;
+
+    ghost fields = { λ r. written_field N.label T.json.canonical r.now ∷ [] };
+
+    fn append_fields(
+        refs: &&'a T,
+        alloc: Global,
+        first: bool,
+        d: usize,
+        s: &mut SerJsonState,
+    ) -> Result<bool, AllocError> {
+        append_field(alloc, N::text(), *refs, first, d, s)?;
+        Ok(false)
+    }
+}
