@@ -1,7 +1,0 @@
-//! A record.
-#![tactic(auto)]
-
-mod names;
-mod record;
-
-pub use record::Big;

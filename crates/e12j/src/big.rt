@@ -1,0 +1,417 @@
+//! A choice.
+
+ghost use Rattle.std.specs.Prelude.{codes, refl};
+ghost use Rattle.nano_schema.specs.Rows.{agreed, LegalVariant};
+ghost use Rattle.nano_schema.specs.declared.choices.Either.TheVariants.{First, Later};
+ghost use Rattle.nano_schema_json.specs.Choice.{json_choice};
+ghost use Rattle.e12j.specs.declared.big.Big.TheVariants.{Alpha, Bravo, Carol, Delta, Echo, Fox, Golf, Hotel, India, Juliet, Kilo, Lima};
+
+use nano_schema::{Alone, Borrowed, Choice, Choices, Either, Label, Named, Required, Tupled, Value, Variant};
+use nano_schema_json::{DeJson, DeJsonState, JsonCodec, JsonResult, JsonShapes, SerJson, SerJsonState, read_choice_json, write_variant_json};
+use std::alloc::{AllocError, Global};
+use std::str::Chars;
+
+/// A choice.
+#[derive(PartialEq, Debug, Drop)]
+pub enum Big {
+    /// A variant.
+    Alpha,
+    /// A variant.
+    Bravo(u32, String),
+    /// A variant.
+    Carol {
+        /// A field.
+        first: String,
+        /// A field.
+        second: u32,
+    },
+    /// A variant.
+    Delta,
+    /// A variant.
+    Echo(u32, String),
+    /// A variant.
+    Fox {
+        /// A field.
+        first: String,
+        /// A field.
+        second: u32,
+    },
+    /// A variant.
+    Golf,
+    /// A variant.
+    Hotel(u32, String),
+    /// A variant.
+    India {
+        /// A field.
+        first: String,
+        /// A field.
+        second: u32,
+    },
+    /// A variant.
+    Juliet,
+    /// A variant.
+    Kilo(u32, String),
+    /// A variant.
+    Lima {
+        /// A field.
+        first: String,
+        /// A field.
+        second: u32,
+    },
+}
+
+/// The name `Alpha`.
+#[derive(Drop)]
+struct BigAlpha {}
+
+impl Label for BigAlpha {
+    ghost label = { codes "Alpha" };
+
+    fn text() -> &'static str {
+        "Alpha"
+    }
+}
+
+/// The name `Bravo`.
+#[derive(Drop)]
+struct BigBravo {}
+
+impl Label for BigBravo {
+    ghost label = { codes "Bravo" };
+
+    fn text() -> &'static str {
+        "Bravo"
+    }
+}
+
+/// The name `Carol`.
+#[derive(Drop)]
+struct BigCarol {}
+
+impl Label for BigCarol {
+    ghost label = { codes "Carol" };
+
+    fn text() -> &'static str {
+        "Carol"
+    }
+}
+
+/// The name `first`.
+#[derive(Drop)]
+struct BigCarolFirst {}
+
+impl Label for BigCarolFirst {
+    ghost label = { codes "first" };
+
+    fn text() -> &'static str {
+        "first"
+    }
+}
+
+/// The name `second`.
+#[derive(Drop)]
+struct BigCarolSecond {}
+
+impl Label for BigCarolSecond {
+    ghost label = { codes "second" };
+
+    fn text() -> &'static str {
+        "second"
+    }
+}
+
+/// The name `Delta`.
+#[derive(Drop)]
+struct BigDelta {}
+
+impl Label for BigDelta {
+    ghost label = { codes "Delta" };
+
+    fn text() -> &'static str {
+        "Delta"
+    }
+}
+
+/// The name `Echo`.
+#[derive(Drop)]
+struct BigEcho {}
+
+impl Label for BigEcho {
+    ghost label = { codes "Echo" };
+
+    fn text() -> &'static str {
+        "Echo"
+    }
+}
+
+/// The name `Fox`.
+#[derive(Drop)]
+struct BigFox {}
+
+impl Label for BigFox {
+    ghost label = { codes "Fox" };
+
+    fn text() -> &'static str {
+        "Fox"
+    }
+}
+
+/// The name `first`.
+#[derive(Drop)]
+struct BigFoxFirst {}
+
+impl Label for BigFoxFirst {
+    ghost label = { codes "first" };
+
+    fn text() -> &'static str {
+        "first"
+    }
+}
+
+/// The name `second`.
+#[derive(Drop)]
+struct BigFoxSecond {}
+
+impl Label for BigFoxSecond {
+    ghost label = { codes "second" };
+
+    fn text() -> &'static str {
+        "second"
+    }
+}
+
+/// The name `Golf`.
+#[derive(Drop)]
+struct BigGolf {}
+
+impl Label for BigGolf {
+    ghost label = { codes "Golf" };
+
+    fn text() -> &'static str {
+        "Golf"
+    }
+}
+
+/// The name `Hotel`.
+#[derive(Drop)]
+struct BigHotel {}
+
+impl Label for BigHotel {
+    ghost label = { codes "Hotel" };
+
+    fn text() -> &'static str {
+        "Hotel"
+    }
+}
+
+/// The name `India`.
+#[derive(Drop)]
+struct BigIndia {}
+
+impl Label for BigIndia {
+    ghost label = { codes "India" };
+
+    fn text() -> &'static str {
+        "India"
+    }
+}
+
+/// The name `first`.
+#[derive(Drop)]
+struct BigIndiaFirst {}
+
+impl Label for BigIndiaFirst {
+    ghost label = { codes "first" };
+
+    fn text() -> &'static str {
+        "first"
+    }
+}
+
+/// The name `second`.
+#[derive(Drop)]
+struct BigIndiaSecond {}
+
+impl Label for BigIndiaSecond {
+    ghost label = { codes "second" };
+
+    fn text() -> &'static str {
+        "second"
+    }
+}
+
+/// The name `Juliet`.
+#[derive(Drop)]
+struct BigJuliet {}
+
+impl Label for BigJuliet {
+    ghost label = { codes "Juliet" };
+
+    fn text() -> &'static str {
+        "Juliet"
+    }
+}
+
+/// The name `Kilo`.
+#[derive(Drop)]
+struct BigKilo {}
+
+impl Label for BigKilo {
+    ghost label = { codes "Kilo" };
+
+    fn text() -> &'static str {
+        "Kilo"
+    }
+}
+
+/// The name `Lima`.
+#[derive(Drop)]
+struct BigLima {}
+
+impl Label for BigLima {
+    ghost label = { codes "Lima" };
+
+    fn text() -> &'static str {
+        "Lima"
+    }
+}
+
+/// The name `first`.
+#[derive(Drop)]
+struct BigLimaFirst {}
+
+impl Label for BigLimaFirst {
+    ghost label = { codes "first" };
+
+    fn text() -> &'static str {
+        "first"
+    }
+}
+
+/// The name `second`.
+#[derive(Drop)]
+struct BigLimaSecond {}
+
+impl Label for BigLimaSecond {
+    ghost label = { codes "second" };
+
+    fn text() -> &'static str {
+        "second"
+    }
+}
+
+type BigVariants = (Variant<BigAlpha, Alone>, (Variant<BigBravo, Tupled<(u32, String)>>, (Variant<BigCarol, Named<(Required<BigCarolFirst, String>, Required<BigCarolSecond, u32>)>>, (Variant<BigDelta, Alone>, (Variant<BigEcho, Tupled<(u32, String)>>, (Variant<BigFox, Named<(Required<BigFoxFirst, String>, Required<BigFoxSecond, u32>)>>, (Variant<BigGolf, Alone>, (Variant<BigHotel, Tupled<(u32, String)>>, (Variant<BigIndia, Named<(Required<BigIndiaFirst, String>, Required<BigIndiaSecond, u32>)>>, (Variant<BigJuliet, Alone>, (Variant<BigKilo, Tupled<(u32, String)>>, Variant<BigLima, Named<(Required<BigLimaFirst, String>, Required<BigLimaSecond, u32>)>>)))))))))));
+
+impl Choice for Big {
+    type Values = Either<(), Either<(u32, String), Either<(String, u32), Either<(), Either<(u32, String), Either<(String, u32), Either<(), Either<(u32, String), Either<(String, u32), Either<(), Either<(u32, String), (String, u32)>>>>>>>>>>>;
+
+    ghost view = { λ e. elim e [
+        | Alpha ↦ First tt
+        | Bravo number text ↦ Later (First (number, text))
+        | Carol first second ↦ Later (Later (First (first, second)))
+        | Delta ↦ Later (Later (Later (First tt)))
+        | Echo number text ↦ Later (Later (Later (Later (First (number, text)))))
+        | Fox first second ↦ Later (Later (Later (Later (Later (First (first, second))))))
+        | Golf ↦ Later (Later (Later (Later (Later (Later (First tt))))))
+        | Hotel number text ↦ Later (Later (Later (Later (Later (Later (Later (First (number, text))))))))
+        | India first second ↦ Later (Later (Later (Later (Later (Later (Later (Later (First (first, second)))))))))
+        | Juliet ↦ Later (Later (Later (Later (Later (Later (Later (Later (Later (First tt)))))))))
+        | Kilo number text ↦ Later (Later (Later (Later (Later (Later (Later (Later (Later (Later (First (number, text)))))))))))
+        | Lima first second ↦ Later (Later (Later (Later (Later (Later (Later (Later (Later (Later (Later ((first, second))))))))))))
+    ] };
+
+    fn make(values: Either<(), Either<(u32, String), Either<(String, u32), Either<(), Either<(u32, String), Either<(String, u32), Either<(), Either<(u32, String), Either<(String, u32), Either<(), Either<(u32, String), (String, u32)>>>>>>>>>>>) -> Big {
+        match values {
+            Either::First(()) => Big::Alpha,
+            Either::Later(later) => match later {
+                Either::First((number, text)) => Big::Bravo(number, text),
+                Either::Later(later) => match later {
+                    Either::First((first, second)) => Big::Carol { first, second },
+                    Either::Later(later) => match later {
+                        Either::First(()) => Big::Delta,
+                        Either::Later(later) => match later {
+                            Either::First((number, text)) => Big::Echo(number, text),
+                            Either::Later(later) => match later {
+                                Either::First((first, second)) => Big::Fox { first, second },
+                                Either::Later(later) => match later {
+                                    Either::First(()) => Big::Golf,
+                                    Either::Later(later) => match later {
+                                        Either::First((number, text)) => Big::Hotel(number, text),
+                                        Either::Later(later) => match later {
+                                            Either::First((first, second)) => Big::India { first, second },
+                                            Either::Later(later) => match later {
+                                                Either::First(()) => Big::Juliet,
+                                                Either::Later(later) => match later {
+                                                    Either::First((number, text)) => Big::Kilo(number, text),
+                                                    Either::Later(later) => {
+                                                        let (first, second) = later;
+                                                        Big::Lima { first, second }
+                                                    },
+                                                },
+                                            },
+                                        },
+                                    },
+                                },
+                            },
+                        },
+                    },
+                },
+            },
+        }
+    }
+}
+
+impl Value for Big {
+    ghost means = { λ e. ⟦<BigVariants as Choices>⟧.means 0 (⟦<Big as Choice>⟧.view e) };
+
+    ghost legal = { LegalVariant ⟦<BigVariants as Choices>⟧.legals };
+
+    #[tactic(auto, using(nano_value::specs::SumsLaws::variant_is_legal))]
+    fn known(&self) {
+        match self {
+            Big::Alpha => <Alone as Borrowed>::known(&()),
+            Big::Bravo(number, text) => <Tupled<(u32, String)> as Borrowed>::known(&(number, text)),
+            Big::Carol { first, second } => <Named<(Required<BigCarolFirst, String>, Required<BigCarolSecond, u32>)> as Borrowed>::known(&(first, second)),
+            Big::Delta => <Alone as Borrowed>::known(&()),
+            Big::Echo(number, text) => <Tupled<(u32, String)> as Borrowed>::known(&(number, text)),
+            Big::Fox { first, second } => <Named<(Required<BigFoxFirst, String>, Required<BigFoxSecond, u32>)> as Borrowed>::known(&(first, second)),
+            Big::Golf => <Alone as Borrowed>::known(&()),
+            Big::Hotel(number, text) => <Tupled<(u32, String)> as Borrowed>::known(&(number, text)),
+            Big::India { first, second } => <Named<(Required<BigIndiaFirst, String>, Required<BigIndiaSecond, u32>)> as Borrowed>::known(&(first, second)),
+            Big::Juliet => <Alone as Borrowed>::known(&()),
+            Big::Kilo(number, text) => <Tupled<(u32, String)> as Borrowed>::known(&(number, text)),
+            Big::Lima { first, second } => <Named<(Required<BigLimaFirst, String>, Required<BigLimaSecond, u32>)> as Borrowed>::known(&(first, second)),
+        }
+    }
+}
+
+impl JsonCodec for Big {
+    ghost json = { json_choice ⟦<Big as Choice>⟧.view ⟦<BigVariants as JsonShapes>⟧.codec refl refl refl };
+
+    ghost agrees = { agreed };
+}
+
+impl SerJson for Big {
+    fn ser_json(&self, alloc: Global, d: usize, s: &mut SerJsonState) -> Result<(), AllocError> {
+        match self {
+            Big::Alpha => write_variant_json::<BigAlpha, Alone>(&(), alloc, d, s),
+            Big::Bravo(number, text) => write_variant_json::<BigBravo, Tupled<(u32, String)>>(&(number, text), alloc, d, s),
+            Big::Carol { first, second } => write_variant_json::<BigCarol, Named<(Required<BigCarolFirst, String>, Required<BigCarolSecond, u32>)>>(&(first, second), alloc, d, s),
+            Big::Delta => write_variant_json::<BigDelta, Alone>(&(), alloc, d, s),
+            Big::Echo(number, text) => write_variant_json::<BigEcho, Tupled<(u32, String)>>(&(number, text), alloc, d, s),
+            Big::Fox { first, second } => write_variant_json::<BigFox, Named<(Required<BigFoxFirst, String>, Required<BigFoxSecond, u32>)>>(&(first, second), alloc, d, s),
+            Big::Golf => write_variant_json::<BigGolf, Alone>(&(), alloc, d, s),
+            Big::Hotel(number, text) => write_variant_json::<BigHotel, Tupled<(u32, String)>>(&(number, text), alloc, d, s),
+            Big::India { first, second } => write_variant_json::<BigIndia, Named<(Required<BigIndiaFirst, String>, Required<BigIndiaSecond, u32>)>>(&(first, second), alloc, d, s),
+            Big::Juliet => write_variant_json::<BigJuliet, Alone>(&(), alloc, d, s),
+            Big::Kilo(number, text) => write_variant_json::<BigKilo, Tupled<(u32, String)>>(&(number, text), alloc, d, s),
+            Big::Lima { first, second } => write_variant_json::<BigLima, Named<(Required<BigLimaFirst, String>, Required<BigLimaSecond, u32>)>>(&(first, second), alloc, d, s),
+        }
+    }
+}
+
+impl DeJson for Big {
+    fn de_json(alloc: Global, state: &mut DeJsonState, input: &mut Chars<'_>) -> JsonResult<Self> {
+        read_choice_json::<Big, BigVariants>(alloc, state, input)
+    }
+}

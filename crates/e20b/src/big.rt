@@ -1,0 +1,636 @@
+//! A choice.
+
+ghost use Rattle.std.specs.Prelude.{codes, refl};
+ghost use Rattle.nano_schema.specs.Rows.{agreed, LegalVariant};
+ghost use Rattle.nano_schema.specs.declared.choices.Either.TheVariants.{First, Later};
+ghost use Rattle.nano_schema_bin.specs.Choice.{bin_choice};
+ghost use Rattle.e20b.specs.declared.big.Big.TheVariants.{Alpha, Bravo, Carol, Delta, Echo, Fox, Golf, Hotel, India, Juliet, Kilo, Lima, Mike, November, Oscar, Papa, Quebec, Romeo, Sierra, Tango};
+
+use nano_schema::{Alone, Borrowed, Choice, Choices, Either, Label, Named, Required, Tupled, Value, Variant};
+use nano_schema_bin::{BinCodec, BinShapes, DeBin, DeBinErr, SerBin, read_choice_bin, write_variant_bin};
+use std::alloc::{AllocError, Global};
+
+/// A choice.
+#[derive(PartialEq, Debug, Drop)]
+pub enum Big {
+    /// A variant.
+    Alpha,
+    /// A variant.
+    Bravo(u32, String),
+    /// A variant.
+    Carol {
+        /// A field.
+        first: String,
+        /// A field.
+        second: u32,
+    },
+    /// A variant.
+    Delta,
+    /// A variant.
+    Echo(u32, String),
+    /// A variant.
+    Fox {
+        /// A field.
+        first: String,
+        /// A field.
+        second: u32,
+    },
+    /// A variant.
+    Golf,
+    /// A variant.
+    Hotel(u32, String),
+    /// A variant.
+    India {
+        /// A field.
+        first: String,
+        /// A field.
+        second: u32,
+    },
+    /// A variant.
+    Juliet,
+    /// A variant.
+    Kilo(u32, String),
+    /// A variant.
+    Lima {
+        /// A field.
+        first: String,
+        /// A field.
+        second: u32,
+    },
+    /// A variant.
+    Mike,
+    /// A variant.
+    November(u32, String),
+    /// A variant.
+    Oscar {
+        /// A field.
+        first: String,
+        /// A field.
+        second: u32,
+    },
+    /// A variant.
+    Papa,
+    /// A variant.
+    Quebec(u32, String),
+    /// A variant.
+    Romeo {
+        /// A field.
+        first: String,
+        /// A field.
+        second: u32,
+    },
+    /// A variant.
+    Sierra,
+    /// A variant.
+    Tango(u32, String),
+}
+
+/// The name `Alpha`.
+#[derive(Drop)]
+struct BigAlpha {}
+
+impl Label for BigAlpha {
+    ghost label = { codes "Alpha" };
+
+    fn text() -> &'static str {
+        "Alpha"
+    }
+}
+
+/// The name `Bravo`.
+#[derive(Drop)]
+struct BigBravo {}
+
+impl Label for BigBravo {
+    ghost label = { codes "Bravo" };
+
+    fn text() -> &'static str {
+        "Bravo"
+    }
+}
+
+/// The name `Carol`.
+#[derive(Drop)]
+struct BigCarol {}
+
+impl Label for BigCarol {
+    ghost label = { codes "Carol" };
+
+    fn text() -> &'static str {
+        "Carol"
+    }
+}
+
+/// The name `first`.
+#[derive(Drop)]
+struct BigCarolFirst {}
+
+impl Label for BigCarolFirst {
+    ghost label = { codes "first" };
+
+    fn text() -> &'static str {
+        "first"
+    }
+}
+
+/// The name `second`.
+#[derive(Drop)]
+struct BigCarolSecond {}
+
+impl Label for BigCarolSecond {
+    ghost label = { codes "second" };
+
+    fn text() -> &'static str {
+        "second"
+    }
+}
+
+/// The name `Delta`.
+#[derive(Drop)]
+struct BigDelta {}
+
+impl Label for BigDelta {
+    ghost label = { codes "Delta" };
+
+    fn text() -> &'static str {
+        "Delta"
+    }
+}
+
+/// The name `Echo`.
+#[derive(Drop)]
+struct BigEcho {}
+
+impl Label for BigEcho {
+    ghost label = { codes "Echo" };
+
+    fn text() -> &'static str {
+        "Echo"
+    }
+}
+
+/// The name `Fox`.
+#[derive(Drop)]
+struct BigFox {}
+
+impl Label for BigFox {
+    ghost label = { codes "Fox" };
+
+    fn text() -> &'static str {
+        "Fox"
+    }
+}
+
+/// The name `first`.
+#[derive(Drop)]
+struct BigFoxFirst {}
+
+impl Label for BigFoxFirst {
+    ghost label = { codes "first" };
+
+    fn text() -> &'static str {
+        "first"
+    }
+}
+
+/// The name `second`.
+#[derive(Drop)]
+struct BigFoxSecond {}
+
+impl Label for BigFoxSecond {
+    ghost label = { codes "second" };
+
+    fn text() -> &'static str {
+        "second"
+    }
+}
+
+/// The name `Golf`.
+#[derive(Drop)]
+struct BigGolf {}
+
+impl Label for BigGolf {
+    ghost label = { codes "Golf" };
+
+    fn text() -> &'static str {
+        "Golf"
+    }
+}
+
+/// The name `Hotel`.
+#[derive(Drop)]
+struct BigHotel {}
+
+impl Label for BigHotel {
+    ghost label = { codes "Hotel" };
+
+    fn text() -> &'static str {
+        "Hotel"
+    }
+}
+
+/// The name `India`.
+#[derive(Drop)]
+struct BigIndia {}
+
+impl Label for BigIndia {
+    ghost label = { codes "India" };
+
+    fn text() -> &'static str {
+        "India"
+    }
+}
+
+/// The name `first`.
+#[derive(Drop)]
+struct BigIndiaFirst {}
+
+impl Label for BigIndiaFirst {
+    ghost label = { codes "first" };
+
+    fn text() -> &'static str {
+        "first"
+    }
+}
+
+/// The name `second`.
+#[derive(Drop)]
+struct BigIndiaSecond {}
+
+impl Label for BigIndiaSecond {
+    ghost label = { codes "second" };
+
+    fn text() -> &'static str {
+        "second"
+    }
+}
+
+/// The name `Juliet`.
+#[derive(Drop)]
+struct BigJuliet {}
+
+impl Label for BigJuliet {
+    ghost label = { codes "Juliet" };
+
+    fn text() -> &'static str {
+        "Juliet"
+    }
+}
+
+/// The name `Kilo`.
+#[derive(Drop)]
+struct BigKilo {}
+
+impl Label for BigKilo {
+    ghost label = { codes "Kilo" };
+
+    fn text() -> &'static str {
+        "Kilo"
+    }
+}
+
+/// The name `Lima`.
+#[derive(Drop)]
+struct BigLima {}
+
+impl Label for BigLima {
+    ghost label = { codes "Lima" };
+
+    fn text() -> &'static str {
+        "Lima"
+    }
+}
+
+/// The name `first`.
+#[derive(Drop)]
+struct BigLimaFirst {}
+
+impl Label for BigLimaFirst {
+    ghost label = { codes "first" };
+
+    fn text() -> &'static str {
+        "first"
+    }
+}
+
+/// The name `second`.
+#[derive(Drop)]
+struct BigLimaSecond {}
+
+impl Label for BigLimaSecond {
+    ghost label = { codes "second" };
+
+    fn text() -> &'static str {
+        "second"
+    }
+}
+
+/// The name `Mike`.
+#[derive(Drop)]
+struct BigMike {}
+
+impl Label for BigMike {
+    ghost label = { codes "Mike" };
+
+    fn text() -> &'static str {
+        "Mike"
+    }
+}
+
+/// The name `November`.
+#[derive(Drop)]
+struct BigNovember {}
+
+impl Label for BigNovember {
+    ghost label = { codes "November" };
+
+    fn text() -> &'static str {
+        "November"
+    }
+}
+
+/// The name `Oscar`.
+#[derive(Drop)]
+struct BigOscar {}
+
+impl Label for BigOscar {
+    ghost label = { codes "Oscar" };
+
+    fn text() -> &'static str {
+        "Oscar"
+    }
+}
+
+/// The name `first`.
+#[derive(Drop)]
+struct BigOscarFirst {}
+
+impl Label for BigOscarFirst {
+    ghost label = { codes "first" };
+
+    fn text() -> &'static str {
+        "first"
+    }
+}
+
+/// The name `second`.
+#[derive(Drop)]
+struct BigOscarSecond {}
+
+impl Label for BigOscarSecond {
+    ghost label = { codes "second" };
+
+    fn text() -> &'static str {
+        "second"
+    }
+}
+
+/// The name `Papa`.
+#[derive(Drop)]
+struct BigPapa {}
+
+impl Label for BigPapa {
+    ghost label = { codes "Papa" };
+
+    fn text() -> &'static str {
+        "Papa"
+    }
+}
+
+/// The name `Quebec`.
+#[derive(Drop)]
+struct BigQuebec {}
+
+impl Label for BigQuebec {
+    ghost label = { codes "Quebec" };
+
+    fn text() -> &'static str {
+        "Quebec"
+    }
+}
+
+/// The name `Romeo`.
+#[derive(Drop)]
+struct BigRomeo {}
+
+impl Label for BigRomeo {
+    ghost label = { codes "Romeo" };
+
+    fn text() -> &'static str {
+        "Romeo"
+    }
+}
+
+/// The name `first`.
+#[derive(Drop)]
+struct BigRomeoFirst {}
+
+impl Label for BigRomeoFirst {
+    ghost label = { codes "first" };
+
+    fn text() -> &'static str {
+        "first"
+    }
+}
+
+/// The name `second`.
+#[derive(Drop)]
+struct BigRomeoSecond {}
+
+impl Label for BigRomeoSecond {
+    ghost label = { codes "second" };
+
+    fn text() -> &'static str {
+        "second"
+    }
+}
+
+/// The name `Sierra`.
+#[derive(Drop)]
+struct BigSierra {}
+
+impl Label for BigSierra {
+    ghost label = { codes "Sierra" };
+
+    fn text() -> &'static str {
+        "Sierra"
+    }
+}
+
+/// The name `Tango`.
+#[derive(Drop)]
+struct BigTango {}
+
+impl Label for BigTango {
+    ghost label = { codes "Tango" };
+
+    fn text() -> &'static str {
+        "Tango"
+    }
+}
+
+type BigVariants = (Variant<BigAlpha, Alone>, (Variant<BigBravo, Tupled<(u32, String)>>, (Variant<BigCarol, Named<(Required<BigCarolFirst, String>, Required<BigCarolSecond, u32>)>>, (Variant<BigDelta, Alone>, (Variant<BigEcho, Tupled<(u32, String)>>, (Variant<BigFox, Named<(Required<BigFoxFirst, String>, Required<BigFoxSecond, u32>)>>, (Variant<BigGolf, Alone>, (Variant<BigHotel, Tupled<(u32, String)>>, (Variant<BigIndia, Named<(Required<BigIndiaFirst, String>, Required<BigIndiaSecond, u32>)>>, (Variant<BigJuliet, Alone>, (Variant<BigKilo, Tupled<(u32, String)>>, (Variant<BigLima, Named<(Required<BigLimaFirst, String>, Required<BigLimaSecond, u32>)>>, (Variant<BigMike, Alone>, (Variant<BigNovember, Tupled<(u32, String)>>, (Variant<BigOscar, Named<(Required<BigOscarFirst, String>, Required<BigOscarSecond, u32>)>>, (Variant<BigPapa, Alone>, (Variant<BigQuebec, Tupled<(u32, String)>>, (Variant<BigRomeo, Named<(Required<BigRomeoFirst, String>, Required<BigRomeoSecond, u32>)>>, (Variant<BigSierra, Alone>, Variant<BigTango, Tupled<(u32, String)>>)))))))))))))))))));
+
+impl Choice for Big {
+    type Values = Either<(), Either<(u32, String), Either<(String, u32), Either<(), Either<(u32, String), Either<(String, u32), Either<(), Either<(u32, String), Either<(String, u32), Either<(), Either<(u32, String), Either<(String, u32), Either<(), Either<(u32, String), Either<(String, u32), Either<(), Either<(u32, String), Either<(String, u32), Either<(), (u32, String)>>>>>>>>>>>>>>>>>>>;
+
+    ghost view = { λ e. elim e [
+        | Alpha ↦ First tt
+        | Bravo number text ↦ Later (First (number, text))
+        | Carol first second ↦ Later (Later (First (first, second)))
+        | Delta ↦ Later (Later (Later (First tt)))
+        | Echo number text ↦ Later (Later (Later (Later (First (number, text)))))
+        | Fox first second ↦ Later (Later (Later (Later (Later (First (first, second))))))
+        | Golf ↦ Later (Later (Later (Later (Later (Later (First tt))))))
+        | Hotel number text ↦ Later (Later (Later (Later (Later (Later (Later (First (number, text))))))))
+        | India first second ↦ Later (Later (Later (Later (Later (Later (Later (Later (First (first, second)))))))))
+        | Juliet ↦ Later (Later (Later (Later (Later (Later (Later (Later (Later (First tt)))))))))
+        | Kilo number text ↦ Later (Later (Later (Later (Later (Later (Later (Later (Later (Later (First (number, text)))))))))))
+        | Lima first second ↦ Later (Later (Later (Later (Later (Later (Later (Later (Later (Later (Later (First (first, second))))))))))))
+        | Mike ↦ Later (Later (Later (Later (Later (Later (Later (Later (Later (Later (Later (Later (First tt))))))))))))
+        | November number text ↦ Later (Later (Later (Later (Later (Later (Later (Later (Later (Later (Later (Later (Later (First (number, text))))))))))))))
+        | Oscar first second ↦ Later (Later (Later (Later (Later (Later (Later (Later (Later (Later (Later (Later (Later (Later (First (first, second)))))))))))))))
+        | Papa ↦ Later (Later (Later (Later (Later (Later (Later (Later (Later (Later (Later (Later (Later (Later (Later (First tt)))))))))))))))
+        | Quebec number text ↦ Later (Later (Later (Later (Later (Later (Later (Later (Later (Later (Later (Later (Later (Later (Later (Later (First (number, text)))))))))))))))))
+        | Romeo first second ↦ Later (Later (Later (Later (Later (Later (Later (Later (Later (Later (Later (Later (Later (Later (Later (Later (Later (First (first, second))))))))))))))))))
+        | Sierra ↦ Later (Later (Later (Later (Later (Later (Later (Later (Later (Later (Later (Later (Later (Later (Later (Later (Later (Later (First tt))))))))))))))))))
+        | Tango number text ↦ Later (Later (Later (Later (Later (Later (Later (Later (Later (Later (Later (Later (Later (Later (Later (Later (Later (Later (Later ((number, text))))))))))))))))))))
+    ] };
+
+    fn make(values: Either<(), Either<(u32, String), Either<(String, u32), Either<(), Either<(u32, String), Either<(String, u32), Either<(), Either<(u32, String), Either<(String, u32), Either<(), Either<(u32, String), Either<(String, u32), Either<(), Either<(u32, String), Either<(String, u32), Either<(), Either<(u32, String), Either<(String, u32), Either<(), (u32, String)>>>>>>>>>>>>>>>>>>>) -> Big {
+        match values {
+            Either::First(()) => Big::Alpha,
+            Either::Later(later) => match later {
+                Either::First((number, text)) => Big::Bravo(number, text),
+                Either::Later(later) => match later {
+                    Either::First((first, second)) => Big::Carol { first, second },
+                    Either::Later(later) => match later {
+                        Either::First(()) => Big::Delta,
+                        Either::Later(later) => match later {
+                            Either::First((number, text)) => Big::Echo(number, text),
+                            Either::Later(later) => match later {
+                                Either::First((first, second)) => Big::Fox { first, second },
+                                Either::Later(later) => match later {
+                                    Either::First(()) => Big::Golf,
+                                    Either::Later(later) => match later {
+                                        Either::First((number, text)) => Big::Hotel(number, text),
+                                        Either::Later(later) => match later {
+                                            Either::First((first, second)) => Big::India { first, second },
+                                            Either::Later(later) => match later {
+                                                Either::First(()) => Big::Juliet,
+                                                Either::Later(later) => match later {
+                                                    Either::First((number, text)) => Big::Kilo(number, text),
+                                                    Either::Later(later) => match later {
+                                                        Either::First((first, second)) => Big::Lima { first, second },
+                                                        Either::Later(later) => match later {
+                                                            Either::First(()) => Big::Mike,
+                                                            Either::Later(later) => match later {
+                                                                Either::First((number, text)) => Big::November(number, text),
+                                                                Either::Later(later) => match later {
+                                                                    Either::First((first, second)) => Big::Oscar { first, second },
+                                                                    Either::Later(later) => match later {
+                                                                        Either::First(()) => Big::Papa,
+                                                                        Either::Later(later) => match later {
+                                                                            Either::First((number, text)) => Big::Quebec(number, text),
+                                                                            Either::Later(later) => match later {
+                                                                                Either::First((first, second)) => Big::Romeo { first, second },
+                                                                                Either::Later(later) => match later {
+                                                                                    Either::First(()) => Big::Sierra,
+                                                                                    Either::Later(later) => {
+                                                                                        let (number, text) = later;
+                                                                                        Big::Tango(number, text)
+                                                                                    },
+                                                                                },
+                                                                            },
+                                                                        },
+                                                                    },
+                                                                },
+                                                            },
+                                                        },
+                                                    },
+                                                },
+                                            },
+                                        },
+                                    },
+                                },
+                            },
+                        },
+                    },
+                },
+            },
+        }
+    }
+}
+
+impl Value for Big {
+    ghost means = { λ e. ⟦<BigVariants as Choices>⟧.means 0 (⟦<Big as Choice>⟧.view e) };
+
+    ghost legal = { LegalVariant ⟦<BigVariants as Choices>⟧.legals };
+
+    #[tactic(auto, using(nano_value::specs::SumsLaws::variant_is_legal))]
+    fn known(&self) {
+        match self {
+            Big::Alpha => <Alone as Borrowed>::known(&()),
+            Big::Bravo(number, text) => <Tupled<(u32, String)> as Borrowed>::known(&(number, text)),
+            Big::Carol { first, second } => <Named<(Required<BigCarolFirst, String>, Required<BigCarolSecond, u32>)> as Borrowed>::known(&(first, second)),
+            Big::Delta => <Alone as Borrowed>::known(&()),
+            Big::Echo(number, text) => <Tupled<(u32, String)> as Borrowed>::known(&(number, text)),
+            Big::Fox { first, second } => <Named<(Required<BigFoxFirst, String>, Required<BigFoxSecond, u32>)> as Borrowed>::known(&(first, second)),
+            Big::Golf => <Alone as Borrowed>::known(&()),
+            Big::Hotel(number, text) => <Tupled<(u32, String)> as Borrowed>::known(&(number, text)),
+            Big::India { first, second } => <Named<(Required<BigIndiaFirst, String>, Required<BigIndiaSecond, u32>)> as Borrowed>::known(&(first, second)),
+            Big::Juliet => <Alone as Borrowed>::known(&()),
+            Big::Kilo(number, text) => <Tupled<(u32, String)> as Borrowed>::known(&(number, text)),
+            Big::Lima { first, second } => <Named<(Required<BigLimaFirst, String>, Required<BigLimaSecond, u32>)> as Borrowed>::known(&(first, second)),
+            Big::Mike => <Alone as Borrowed>::known(&()),
+            Big::November(number, text) => <Tupled<(u32, String)> as Borrowed>::known(&(number, text)),
+            Big::Oscar { first, second } => <Named<(Required<BigOscarFirst, String>, Required<BigOscarSecond, u32>)> as Borrowed>::known(&(first, second)),
+            Big::Papa => <Alone as Borrowed>::known(&()),
+            Big::Quebec(number, text) => <Tupled<(u32, String)> as Borrowed>::known(&(number, text)),
+            Big::Romeo { first, second } => <Named<(Required<BigRomeoFirst, String>, Required<BigRomeoSecond, u32>)> as Borrowed>::known(&(first, second)),
+            Big::Sierra => <Alone as Borrowed>::known(&()),
+            Big::Tango(number, text) => <Tupled<(u32, String)> as Borrowed>::known(&(number, text)),
+        }
+    }
+}
+
+impl BinCodec for Big {
+    ghost bin = { bin_choice ⟦<Big as Choice>⟧.view ⟦<BigVariants as BinShapes>⟧.chosen refl };
+
+    ghost agrees = { agreed };
+}
+
+impl SerBin for Big {
+    fn ser_bin(&self, alloc: Global, output: &mut Vec<u8>) -> Result<(), AllocError> {
+        match self {
+            Big::Alpha => write_variant_bin::<Alone>(0, &(), alloc, output),
+            Big::Bravo(number, text) => write_variant_bin::<Tupled<(u32, String)>>(1, &(number, text), alloc, output),
+            Big::Carol { first, second } => write_variant_bin::<Named<(Required<BigCarolFirst, String>, Required<BigCarolSecond, u32>)>>(2, &(first, second), alloc, output),
+            Big::Delta => write_variant_bin::<Alone>(3, &(), alloc, output),
+            Big::Echo(number, text) => write_variant_bin::<Tupled<(u32, String)>>(4, &(number, text), alloc, output),
+            Big::Fox { first, second } => write_variant_bin::<Named<(Required<BigFoxFirst, String>, Required<BigFoxSecond, u32>)>>(5, &(first, second), alloc, output),
+            Big::Golf => write_variant_bin::<Alone>(6, &(), alloc, output),
+            Big::Hotel(number, text) => write_variant_bin::<Tupled<(u32, String)>>(7, &(number, text), alloc, output),
+            Big::India { first, second } => write_variant_bin::<Named<(Required<BigIndiaFirst, String>, Required<BigIndiaSecond, u32>)>>(8, &(first, second), alloc, output),
+            Big::Juliet => write_variant_bin::<Alone>(9, &(), alloc, output),
+            Big::Kilo(number, text) => write_variant_bin::<Tupled<(u32, String)>>(10, &(number, text), alloc, output),
+            Big::Lima { first, second } => write_variant_bin::<Named<(Required<BigLimaFirst, String>, Required<BigLimaSecond, u32>)>>(11, &(first, second), alloc, output),
+            Big::Mike => write_variant_bin::<Alone>(12, &(), alloc, output),
+            Big::November(number, text) => write_variant_bin::<Tupled<(u32, String)>>(13, &(number, text), alloc, output),
+            Big::Oscar { first, second } => write_variant_bin::<Named<(Required<BigOscarFirst, String>, Required<BigOscarSecond, u32>)>>(14, &(first, second), alloc, output),
+            Big::Papa => write_variant_bin::<Alone>(15, &(), alloc, output),
+            Big::Quebec(number, text) => write_variant_bin::<Tupled<(u32, String)>>(16, &(number, text), alloc, output),
+            Big::Romeo { first, second } => write_variant_bin::<Named<(Required<BigRomeoFirst, String>, Required<BigRomeoSecond, u32>)>>(17, &(first, second), alloc, output),
+            Big::Sierra => write_variant_bin::<Alone>(18, &(), alloc, output),
+            Big::Tango(number, text) => write_variant_bin::<Tupled<(u32, String)>>(19, &(number, text), alloc, output),
+        }
+    }
+}
+
+impl DeBin for Big {
+    ghost is_decodable = { refl };
+
+    fn de_bin(alloc: Global, offset: &mut usize, bytes: &[u8]) -> Result<Big, DeBinErr> {
+        read_choice_bin::<Big, BigVariants>(alloc, offset, bytes)
+    }
+}

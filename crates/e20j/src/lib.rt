@@ -1,0 +1,6 @@
+//! A choice.
+#![tactic(auto)]
+
+mod big;
+
+pub use big::Big;

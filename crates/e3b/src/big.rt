@@ -1,0 +1,152 @@
+//! A choice.
+
+ghost use Rattle.std.specs.Prelude.{codes, refl};
+ghost use Rattle.nano_schema.specs.Rows.{agreed, LegalVariant};
+ghost use Rattle.nano_schema.specs.declared.choices.Either.TheVariants.{First, Later};
+ghost use Rattle.nano_schema_bin.specs.Choice.{bin_choice};
+ghost use Rattle.e3b.specs.declared.big.Big.TheVariants.{Alpha, Bravo, Carol};
+
+use nano_schema::{Alone, Borrowed, Choice, Choices, Either, Label, Named, Required, Tupled, Value, Variant};
+use nano_schema_bin::{BinCodec, BinShapes, DeBin, DeBinErr, SerBin, read_choice_bin, write_variant_bin};
+use std::alloc::{AllocError, Global};
+
+/// A choice.
+#[derive(PartialEq, Debug, Drop)]
+pub enum Big {
+    /// A variant.
+    Alpha,
+    /// A variant.
+    Bravo(u32, String),
+    /// A variant.
+    Carol {
+        /// A field.
+        first: String,
+        /// A field.
+        second: u32,
+    },
+}
+
+/// The name `Alpha`.
+#[derive(Drop)]
+struct BigAlpha {}
+
+impl Label for BigAlpha {
+    ghost label = { codes "Alpha" };
+
+    fn text() -> &'static str {
+        "Alpha"
+    }
+}
+
+/// The name `Bravo`.
+#[derive(Drop)]
+struct BigBravo {}
+
+impl Label for BigBravo {
+    ghost label = { codes "Bravo" };
+
+    fn text() -> &'static str {
+        "Bravo"
+    }
+}
+
+/// The name `Carol`.
+#[derive(Drop)]
+struct BigCarol {}
+
+impl Label for BigCarol {
+    ghost label = { codes "Carol" };
+
+    fn text() -> &'static str {
+        "Carol"
+    }
+}
+
+/// The name `first`.
+#[derive(Drop)]
+struct BigCarolFirst {}
+
+impl Label for BigCarolFirst {
+    ghost label = { codes "first" };
+
+    fn text() -> &'static str {
+        "first"
+    }
+}
+
+/// The name `second`.
+#[derive(Drop)]
+struct BigCarolSecond {}
+
+impl Label for BigCarolSecond {
+    ghost label = { codes "second" };
+
+    fn text() -> &'static str {
+        "second"
+    }
+}
+
+type BigVariants = (Variant<BigAlpha, Alone>, (Variant<BigBravo, Tupled<(u32, String)>>, Variant<BigCarol, Named<(Required<BigCarolFirst, String>, Required<BigCarolSecond, u32>)>>));
+
+impl Choice for Big {
+    type Values = Either<(), Either<(u32, String), (String, u32)>>;
+
+    ghost view = { λ e. elim e [
+        | Alpha ↦ First tt
+        | Bravo number text ↦ Later (First (number, text))
+        | Carol first second ↦ Later (Later ((first, second)))
+    ] };
+
+    fn make(values: Either<(), Either<(u32, String), (String, u32)>>) -> Big {
+        match values {
+            Either::First(()) => Big::Alpha,
+            Either::Later(later) => match later {
+                Either::First((number, text)) => Big::Bravo(number, text),
+                Either::Later(later) => {
+                    let (first, second) = later;
+                    Big::Carol { first, second }
+                },
+            },
+        }
+    }
+}
+
+impl Value for Big {
+    ghost means = { λ e. ⟦<BigVariants as Choices>⟧.means 0 (⟦<Big as Choice>⟧.view e) };
+
+    ghost legal = { LegalVariant ⟦<BigVariants as Choices>⟧.legals };
+
+    #[tactic(auto, using(nano_value::specs::SumsLaws::variant_is_legal))]
+    fn known(&self) {
+        match self {
+            Big::Alpha => <Alone as Borrowed>::known(&()),
+            Big::Bravo(number, text) => <Tupled<(u32, String)> as Borrowed>::known(&(number, text)),
+            Big::Carol { first, second } => <Named<(Required<BigCarolFirst, String>, Required<BigCarolSecond, u32>)> as Borrowed>::known(&(first, second)),
+        }
+    }
+}
+
+impl BinCodec for Big {
+    ghost bin = { bin_choice ⟦<Big as Choice>⟧.view ⟦<BigVariants as BinShapes>⟧.chosen refl };
+
+    ghost agrees = { agreed };
+}
+
+impl SerBin for Big {
+    #[tactic(auto, using(crate::proofs::Arms::written_as))]
+    fn ser_bin(&self, alloc: Global, output: &mut Vec<u8>) -> Result<(), AllocError> {
+        match self {
+            Big::Alpha => write_variant_bin::<Alone>(0, &(), alloc, output),
+            Big::Bravo(number, text) => write_variant_bin::<Tupled<(u32, String)>>(1, &(number, text), alloc, output),
+            Big::Carol { first, second } => write_variant_bin::<Named<(Required<BigCarolFirst, String>, Required<BigCarolSecond, u32>)>>(2, &(first, second), alloc, output),
+        }
+    }
+}
+
+impl DeBin for Big {
+    ghost is_decodable = { refl };
+
+    fn de_bin(alloc: Global, offset: &mut usize, bytes: &[u8]) -> Result<Big, DeBinErr> {
+        read_choice_bin::<Big, BigVariants>(alloc, offset, bytes)
+    }
+}

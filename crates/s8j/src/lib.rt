@@ -1,0 +1,6 @@
+//! A record.
+#![tactic(auto)]
+
+mod big;
+
+pub use big::Big;
