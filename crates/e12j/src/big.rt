@@ -6,8 +6,8 @@ ghost use Rattle.nano_schema.specs.declared.choices.Either.TheVariants.{First, L
 ghost use Rattle.nano_schema_json.specs.Choice.{json_choice};
 ghost use Rattle.e12j.specs.declared.big.Big.TheVariants.{Alpha, Bravo, Carol, Delta, Echo, Fox, Golf, Hotel, India, Juliet, Kilo, Lima};
 
-use nano_schema::{Alone, Borrowed, Choice, Choices, Either, Label, Named, Required, Tupled, Value, Variant};
-use nano_schema_json::{DeJson, DeJsonState, JsonCodec, JsonResult, JsonShapes, SerJson, SerJsonState, read_choice_json, write_variant_json};
+use nano_schema::{Alone, BorrowedChoices, Choice, ChoiceParts, Choices, Either, Label, Named, Required, Tupled, Value, Variant, known_choice};
+use nano_schema_json::{DeJson, DeJsonState, JsonCodec, JsonResult, JsonShapes, SerJson, SerJsonState, read_choice_json, write_choice_json};
 use std::alloc::{AllocError, Global};
 use std::str::Chars;
 
@@ -361,27 +361,36 @@ impl Choice for Big {
     }
 }
 
+impl<'a> ChoiceParts<'a> for Big {
+    type Refs = Either<(), Either<(&'a u32, &'a String), Either<(&'a String, &'a u32), Either<(), Either<(&'a u32, &'a String), Either<(&'a String, &'a u32), Either<(), Either<(&'a u32, &'a String), Either<(&'a String, &'a u32), Either<(), Either<(&'a u32, &'a String), (&'a String, &'a u32)>>>>>>>>>>>;
+
+    ghost values = { ⟦<BigVariants as BorrowedChoices>⟧.values };
+
+    fn as_refs(&'a self) -> Either<(), Either<(&'a u32, &'a String), Either<(&'a String, &'a u32), Either<(), Either<(&'a u32, &'a String), Either<(&'a String, &'a u32), Either<(), Either<(&'a u32, &'a String), Either<(&'a String, &'a u32), Either<(), Either<(&'a u32, &'a String), (&'a String, &'a u32)>>>>>>>>>>> {
+        match self {
+            Big::Alpha => Either::First(()),
+            Big::Bravo(number, text) => Either::Later(Either::First((number, text))),
+            Big::Carol { first, second } => Either::Later(Either::Later(Either::First((first, second)))),
+            Big::Delta => Either::Later(Either::Later(Either::Later(Either::First(())))),
+            Big::Echo(number, text) => Either::Later(Either::Later(Either::Later(Either::Later(Either::First((number, text)))))),
+            Big::Fox { first, second } => Either::Later(Either::Later(Either::Later(Either::Later(Either::Later(Either::First((first, second))))))),
+            Big::Golf => Either::Later(Either::Later(Either::Later(Either::Later(Either::Later(Either::Later(Either::First(()))))))),
+            Big::Hotel(number, text) => Either::Later(Either::Later(Either::Later(Either::Later(Either::Later(Either::Later(Either::Later(Either::First((number, text))))))))),
+            Big::India { first, second } => Either::Later(Either::Later(Either::Later(Either::Later(Either::Later(Either::Later(Either::Later(Either::Later(Either::First((first, second)))))))))),
+            Big::Juliet => Either::Later(Either::Later(Either::Later(Either::Later(Either::Later(Either::Later(Either::Later(Either::Later(Either::Later(Either::First(())))))))))),
+            Big::Kilo(number, text) => Either::Later(Either::Later(Either::Later(Either::Later(Either::Later(Either::Later(Either::Later(Either::Later(Either::Later(Either::Later(Either::First((number, text)))))))))))),
+            Big::Lima { first, second } => Either::Later(Either::Later(Either::Later(Either::Later(Either::Later(Either::Later(Either::Later(Either::Later(Either::Later(Either::Later(Either::Later((first, second)))))))))))),
+        }
+    }
+}
+
 impl Value for Big {
     ghost means = { λ e. ⟦<BigVariants as Choices>⟧.means 0 (⟦<Big as Choice>⟧.view e) };
 
     ghost legal = { LegalVariant ⟦<BigVariants as Choices>⟧.legals };
 
-    #[tactic(auto, using(nano_value::specs::SumsLaws::variant_is_legal))]
     fn known(&self) {
-        match self {
-            Big::Alpha => <Alone as Borrowed>::known(&()),
-            Big::Bravo(number, text) => <Tupled<(u32, String)> as Borrowed>::known(&(number, text)),
-            Big::Carol { first, second } => <Named<(Required<BigCarolFirst, String>, Required<BigCarolSecond, u32>)> as Borrowed>::known(&(first, second)),
-            Big::Delta => <Alone as Borrowed>::known(&()),
-            Big::Echo(number, text) => <Tupled<(u32, String)> as Borrowed>::known(&(number, text)),
-            Big::Fox { first, second } => <Named<(Required<BigFoxFirst, String>, Required<BigFoxSecond, u32>)> as Borrowed>::known(&(first, second)),
-            Big::Golf => <Alone as Borrowed>::known(&()),
-            Big::Hotel(number, text) => <Tupled<(u32, String)> as Borrowed>::known(&(number, text)),
-            Big::India { first, second } => <Named<(Required<BigIndiaFirst, String>, Required<BigIndiaSecond, u32>)> as Borrowed>::known(&(first, second)),
-            Big::Juliet => <Alone as Borrowed>::known(&()),
-            Big::Kilo(number, text) => <Tupled<(u32, String)> as Borrowed>::known(&(number, text)),
-            Big::Lima { first, second } => <Named<(Required<BigLimaFirst, String>, Required<BigLimaSecond, u32>)> as Borrowed>::known(&(first, second)),
-        }
+        known_choice::<Big, BigVariants>(self);
     }
 }
 
@@ -393,20 +402,7 @@ impl JsonCodec for Big {
 
 impl SerJson for Big {
     fn ser_json(&self, alloc: Global, d: usize, s: &mut SerJsonState) -> Result<(), AllocError> {
-        match self {
-            Big::Alpha => write_variant_json::<BigAlpha, Alone>(&(), alloc, d, s),
-            Big::Bravo(number, text) => write_variant_json::<BigBravo, Tupled<(u32, String)>>(&(number, text), alloc, d, s),
-            Big::Carol { first, second } => write_variant_json::<BigCarol, Named<(Required<BigCarolFirst, String>, Required<BigCarolSecond, u32>)>>(&(first, second), alloc, d, s),
-            Big::Delta => write_variant_json::<BigDelta, Alone>(&(), alloc, d, s),
-            Big::Echo(number, text) => write_variant_json::<BigEcho, Tupled<(u32, String)>>(&(number, text), alloc, d, s),
-            Big::Fox { first, second } => write_variant_json::<BigFox, Named<(Required<BigFoxFirst, String>, Required<BigFoxSecond, u32>)>>(&(first, second), alloc, d, s),
-            Big::Golf => write_variant_json::<BigGolf, Alone>(&(), alloc, d, s),
-            Big::Hotel(number, text) => write_variant_json::<BigHotel, Tupled<(u32, String)>>(&(number, text), alloc, d, s),
-            Big::India { first, second } => write_variant_json::<BigIndia, Named<(Required<BigIndiaFirst, String>, Required<BigIndiaSecond, u32>)>>(&(first, second), alloc, d, s),
-            Big::Juliet => write_variant_json::<BigJuliet, Alone>(&(), alloc, d, s),
-            Big::Kilo(number, text) => write_variant_json::<BigKilo, Tupled<(u32, String)>>(&(number, text), alloc, d, s),
-            Big::Lima { first, second } => write_variant_json::<BigLima, Named<(Required<BigLimaFirst, String>, Required<BigLimaSecond, u32>)>>(&(first, second), alloc, d, s),
-        }
+        write_choice_json::<Big, BigVariants>(self, alloc, d, s)
     }
 }
 

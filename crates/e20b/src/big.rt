@@ -6,8 +6,8 @@ ghost use Rattle.nano_schema.specs.declared.choices.Either.TheVariants.{First, L
 ghost use Rattle.nano_schema_bin.specs.Choice.{bin_choice};
 ghost use Rattle.e20b.specs.declared.big.Big.TheVariants.{Alpha, Bravo, Carol, Delta, Echo, Fox, Golf, Hotel, India, Juliet, Kilo, Lima, Mike, November, Oscar, Papa, Quebec, Romeo, Sierra, Tango};
 
-use nano_schema::{Alone, Borrowed, Choice, Choices, Either, Label, Named, Required, Tupled, Value, Variant};
-use nano_schema_bin::{BinCodec, BinShapes, DeBin, DeBinErr, SerBin, read_choice_bin, write_variant_bin};
+use nano_schema::{Alone, BorrowedChoices, Choice, ChoiceParts, Choices, Either, Label, Named, Required, Tupled, Value, Variant, known_choice};
+use nano_schema_bin::{BinCodec, BinShapes, DeBin, DeBinErr, SerBin, read_choice_bin, write_choice_bin};
 use std::alloc::{AllocError, Global};
 
 /// A choice.
@@ -562,35 +562,44 @@ impl Choice for Big {
     }
 }
 
+impl<'a> ChoiceParts<'a> for Big {
+    type Refs = Either<(), Either<(&'a u32, &'a String), Either<(&'a String, &'a u32), Either<(), Either<(&'a u32, &'a String), Either<(&'a String, &'a u32), Either<(), Either<(&'a u32, &'a String), Either<(&'a String, &'a u32), Either<(), Either<(&'a u32, &'a String), Either<(&'a String, &'a u32), Either<(), Either<(&'a u32, &'a String), Either<(&'a String, &'a u32), Either<(), Either<(&'a u32, &'a String), Either<(&'a String, &'a u32), Either<(), (&'a u32, &'a String)>>>>>>>>>>>>>>>>>>>;
+
+    ghost values = { ⟦<BigVariants as BorrowedChoices>⟧.values };
+
+    fn as_refs(&'a self) -> Either<(), Either<(&'a u32, &'a String), Either<(&'a String, &'a u32), Either<(), Either<(&'a u32, &'a String), Either<(&'a String, &'a u32), Either<(), Either<(&'a u32, &'a String), Either<(&'a String, &'a u32), Either<(), Either<(&'a u32, &'a String), Either<(&'a String, &'a u32), Either<(), Either<(&'a u32, &'a String), Either<(&'a String, &'a u32), Either<(), Either<(&'a u32, &'a String), Either<(&'a String, &'a u32), Either<(), (&'a u32, &'a String)>>>>>>>>>>>>>>>>>>> {
+        match self {
+            Big::Alpha => Either::First(()),
+            Big::Bravo(number, text) => Either::Later(Either::First((number, text))),
+            Big::Carol { first, second } => Either::Later(Either::Later(Either::First((first, second)))),
+            Big::Delta => Either::Later(Either::Later(Either::Later(Either::First(())))),
+            Big::Echo(number, text) => Either::Later(Either::Later(Either::Later(Either::Later(Either::First((number, text)))))),
+            Big::Fox { first, second } => Either::Later(Either::Later(Either::Later(Either::Later(Either::Later(Either::First((first, second))))))),
+            Big::Golf => Either::Later(Either::Later(Either::Later(Either::Later(Either::Later(Either::Later(Either::First(()))))))),
+            Big::Hotel(number, text) => Either::Later(Either::Later(Either::Later(Either::Later(Either::Later(Either::Later(Either::Later(Either::First((number, text))))))))),
+            Big::India { first, second } => Either::Later(Either::Later(Either::Later(Either::Later(Either::Later(Either::Later(Either::Later(Either::Later(Either::First((first, second)))))))))),
+            Big::Juliet => Either::Later(Either::Later(Either::Later(Either::Later(Either::Later(Either::Later(Either::Later(Either::Later(Either::Later(Either::First(())))))))))),
+            Big::Kilo(number, text) => Either::Later(Either::Later(Either::Later(Either::Later(Either::Later(Either::Later(Either::Later(Either::Later(Either::Later(Either::Later(Either::First((number, text)))))))))))),
+            Big::Lima { first, second } => Either::Later(Either::Later(Either::Later(Either::Later(Either::Later(Either::Later(Either::Later(Either::Later(Either::Later(Either::Later(Either::Later(Either::First((first, second))))))))))))),
+            Big::Mike => Either::Later(Either::Later(Either::Later(Either::Later(Either::Later(Either::Later(Either::Later(Either::Later(Either::Later(Either::Later(Either::Later(Either::Later(Either::First(()))))))))))))),
+            Big::November(number, text) => Either::Later(Either::Later(Either::Later(Either::Later(Either::Later(Either::Later(Either::Later(Either::Later(Either::Later(Either::Later(Either::Later(Either::Later(Either::Later(Either::First((number, text))))))))))))))),
+            Big::Oscar { first, second } => Either::Later(Either::Later(Either::Later(Either::Later(Either::Later(Either::Later(Either::Later(Either::Later(Either::Later(Either::Later(Either::Later(Either::Later(Either::Later(Either::Later(Either::First((first, second)))))))))))))))),
+            Big::Papa => Either::Later(Either::Later(Either::Later(Either::Later(Either::Later(Either::Later(Either::Later(Either::Later(Either::Later(Either::Later(Either::Later(Either::Later(Either::Later(Either::Later(Either::Later(Either::First(())))))))))))))))),
+            Big::Quebec(number, text) => Either::Later(Either::Later(Either::Later(Either::Later(Either::Later(Either::Later(Either::Later(Either::Later(Either::Later(Either::Later(Either::Later(Either::Later(Either::Later(Either::Later(Either::Later(Either::Later(Either::First((number, text)))))))))))))))))),
+            Big::Romeo { first, second } => Either::Later(Either::Later(Either::Later(Either::Later(Either::Later(Either::Later(Either::Later(Either::Later(Either::Later(Either::Later(Either::Later(Either::Later(Either::Later(Either::Later(Either::Later(Either::Later(Either::Later(Either::First((first, second))))))))))))))))))),
+            Big::Sierra => Either::Later(Either::Later(Either::Later(Either::Later(Either::Later(Either::Later(Either::Later(Either::Later(Either::Later(Either::Later(Either::Later(Either::Later(Either::Later(Either::Later(Either::Later(Either::Later(Either::Later(Either::Later(Either::First(()))))))))))))))))))),
+            Big::Tango(number, text) => Either::Later(Either::Later(Either::Later(Either::Later(Either::Later(Either::Later(Either::Later(Either::Later(Either::Later(Either::Later(Either::Later(Either::Later(Either::Later(Either::Later(Either::Later(Either::Later(Either::Later(Either::Later(Either::Later((number, text)))))))))))))))))))),
+        }
+    }
+}
+
 impl Value for Big {
     ghost means = { λ e. ⟦<BigVariants as Choices>⟧.means 0 (⟦<Big as Choice>⟧.view e) };
 
     ghost legal = { LegalVariant ⟦<BigVariants as Choices>⟧.legals };
 
-    #[tactic(auto, using(nano_value::specs::SumsLaws::variant_is_legal))]
     fn known(&self) {
-        match self {
-            Big::Alpha => <Alone as Borrowed>::known(&()),
-            Big::Bravo(number, text) => <Tupled<(u32, String)> as Borrowed>::known(&(number, text)),
-            Big::Carol { first, second } => <Named<(Required<BigCarolFirst, String>, Required<BigCarolSecond, u32>)> as Borrowed>::known(&(first, second)),
-            Big::Delta => <Alone as Borrowed>::known(&()),
-            Big::Echo(number, text) => <Tupled<(u32, String)> as Borrowed>::known(&(number, text)),
-            Big::Fox { first, second } => <Named<(Required<BigFoxFirst, String>, Required<BigFoxSecond, u32>)> as Borrowed>::known(&(first, second)),
-            Big::Golf => <Alone as Borrowed>::known(&()),
-            Big::Hotel(number, text) => <Tupled<(u32, String)> as Borrowed>::known(&(number, text)),
-            Big::India { first, second } => <Named<(Required<BigIndiaFirst, String>, Required<BigIndiaSecond, u32>)> as Borrowed>::known(&(first, second)),
-            Big::Juliet => <Alone as Borrowed>::known(&()),
-            Big::Kilo(number, text) => <Tupled<(u32, String)> as Borrowed>::known(&(number, text)),
-            Big::Lima { first, second } => <Named<(Required<BigLimaFirst, String>, Required<BigLimaSecond, u32>)> as Borrowed>::known(&(first, second)),
-            Big::Mike => <Alone as Borrowed>::known(&()),
-            Big::November(number, text) => <Tupled<(u32, String)> as Borrowed>::known(&(number, text)),
-            Big::Oscar { first, second } => <Named<(Required<BigOscarFirst, String>, Required<BigOscarSecond, u32>)> as Borrowed>::known(&(first, second)),
-            Big::Papa => <Alone as Borrowed>::known(&()),
-            Big::Quebec(number, text) => <Tupled<(u32, String)> as Borrowed>::known(&(number, text)),
-            Big::Romeo { first, second } => <Named<(Required<BigRomeoFirst, String>, Required<BigRomeoSecond, u32>)> as Borrowed>::known(&(first, second)),
-            Big::Sierra => <Alone as Borrowed>::known(&()),
-            Big::Tango(number, text) => <Tupled<(u32, String)> as Borrowed>::known(&(number, text)),
-        }
+        known_choice::<Big, BigVariants>(self);
     }
 }
 
@@ -602,28 +611,7 @@ impl BinCodec for Big {
 
 impl SerBin for Big {
     fn ser_bin(&self, alloc: Global, output: &mut Vec<u8>) -> Result<(), AllocError> {
-        match self {
-            Big::Alpha => write_variant_bin::<Alone>(0, &(), alloc, output),
-            Big::Bravo(number, text) => write_variant_bin::<Tupled<(u32, String)>>(1, &(number, text), alloc, output),
-            Big::Carol { first, second } => write_variant_bin::<Named<(Required<BigCarolFirst, String>, Required<BigCarolSecond, u32>)>>(2, &(first, second), alloc, output),
-            Big::Delta => write_variant_bin::<Alone>(3, &(), alloc, output),
-            Big::Echo(number, text) => write_variant_bin::<Tupled<(u32, String)>>(4, &(number, text), alloc, output),
-            Big::Fox { first, second } => write_variant_bin::<Named<(Required<BigFoxFirst, String>, Required<BigFoxSecond, u32>)>>(5, &(first, second), alloc, output),
-            Big::Golf => write_variant_bin::<Alone>(6, &(), alloc, output),
-            Big::Hotel(number, text) => write_variant_bin::<Tupled<(u32, String)>>(7, &(number, text), alloc, output),
-            Big::India { first, second } => write_variant_bin::<Named<(Required<BigIndiaFirst, String>, Required<BigIndiaSecond, u32>)>>(8, &(first, second), alloc, output),
-            Big::Juliet => write_variant_bin::<Alone>(9, &(), alloc, output),
-            Big::Kilo(number, text) => write_variant_bin::<Tupled<(u32, String)>>(10, &(number, text), alloc, output),
-            Big::Lima { first, second } => write_variant_bin::<Named<(Required<BigLimaFirst, String>, Required<BigLimaSecond, u32>)>>(11, &(first, second), alloc, output),
-            Big::Mike => write_variant_bin::<Alone>(12, &(), alloc, output),
-            Big::November(number, text) => write_variant_bin::<Tupled<(u32, String)>>(13, &(number, text), alloc, output),
-            Big::Oscar { first, second } => write_variant_bin::<Named<(Required<BigOscarFirst, String>, Required<BigOscarSecond, u32>)>>(14, &(first, second), alloc, output),
-            Big::Papa => write_variant_bin::<Alone>(15, &(), alloc, output),
-            Big::Quebec(number, text) => write_variant_bin::<Tupled<(u32, String)>>(16, &(number, text), alloc, output),
-            Big::Romeo { first, second } => write_variant_bin::<Named<(Required<BigRomeoFirst, String>, Required<BigRomeoSecond, u32>)>>(17, &(first, second), alloc, output),
-            Big::Sierra => write_variant_bin::<Alone>(18, &(), alloc, output),
-            Big::Tango(number, text) => write_variant_bin::<Tupled<(u32, String)>>(19, &(number, text), alloc, output),
-        }
+        write_choice_bin::<Big, BigVariants>(self, alloc, output)
     }
 }
 

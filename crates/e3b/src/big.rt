@@ -6,8 +6,8 @@ ghost use Rattle.nano_schema.specs.declared.choices.Either.TheVariants.{First, L
 ghost use Rattle.nano_schema_bin.specs.Choice.{bin_choice};
 ghost use Rattle.e3b.specs.declared.big.Big.TheVariants.{Alpha, Bravo, Carol};
 
-use nano_schema::{Alone, Borrowed, Choice, Choices, Either, Label, Named, Required, Tupled, Value, Variant};
-use nano_schema_bin::{BinCodec, BinShapes, DeBin, DeBinErr, SerBin, read_choice_bin, write_variant_bin};
+use nano_schema::{Alone, BorrowedChoices, Choice, ChoiceParts, Choices, Either, Label, Named, Required, Tupled, Value, Variant, known_choice};
+use nano_schema_bin::{BinCodec, BinShapes, DeBin, DeBinErr, SerBin, read_choice_bin, write_choice_bin};
 use std::alloc::{AllocError, Global};
 
 /// A choice.
@@ -111,18 +111,27 @@ impl Choice for Big {
     }
 }
 
+impl<'a> ChoiceParts<'a> for Big {
+    type Refs = Either<(), Either<(&'a u32, &'a String), (&'a String, &'a u32)>>;
+
+    ghost values = { ⟦<BigVariants as BorrowedChoices>⟧.values };
+
+    fn as_refs(&'a self) -> Either<(), Either<(&'a u32, &'a String), (&'a String, &'a u32)>> {
+        match self {
+            Big::Alpha => Either::First(()),
+            Big::Bravo(number, text) => Either::Later(Either::First((number, text))),
+            Big::Carol { first, second } => Either::Later(Either::Later((first, second))),
+        }
+    }
+}
+
 impl Value for Big {
     ghost means = { λ e. ⟦<BigVariants as Choices>⟧.means 0 (⟦<Big as Choice>⟧.view e) };
 
     ghost legal = { LegalVariant ⟦<BigVariants as Choices>⟧.legals };
 
-    #[tactic(auto, using(nano_value::specs::SumsLaws::variant_is_legal))]
     fn known(&self) {
-        match self {
-            Big::Alpha => <Alone as Borrowed>::known(&()),
-            Big::Bravo(number, text) => <Tupled<(u32, String)> as Borrowed>::known(&(number, text)),
-            Big::Carol { first, second } => <Named<(Required<BigCarolFirst, String>, Required<BigCarolSecond, u32>)> as Borrowed>::known(&(first, second)),
-        }
+        known_choice::<Big, BigVariants>(self);
     }
 }
 
@@ -133,13 +142,8 @@ impl BinCodec for Big {
 }
 
 impl SerBin for Big {
-    #[tactic(auto, using(crate::proofs::Arms::written_as))]
     fn ser_bin(&self, alloc: Global, output: &mut Vec<u8>) -> Result<(), AllocError> {
-        match self {
-            Big::Alpha => write_variant_bin::<Alone>(0, &(), alloc, output),
-            Big::Bravo(number, text) => write_variant_bin::<Tupled<(u32, String)>>(1, &(number, text), alloc, output),
-            Big::Carol { first, second } => write_variant_bin::<Named<(Required<BigCarolFirst, String>, Required<BigCarolSecond, u32>)>>(2, &(first, second), alloc, output),
-        }
+        write_choice_bin::<Big, BigVariants>(self, alloc, output)
     }
 }
 

@@ -6,8 +6,8 @@ ghost use Rattle.nano_schema.specs.declared.choices.Either.TheVariants.{First, L
 ghost use Rattle.nano_schema_bin.specs.Choice.{bin_choice};
 ghost use Rattle.example_messages.specs.declared.message.Message.TheVariants.{Leave, Move, Say};
 
-use nano_schema::{Alone, Borrowed, Choice, Choices, Either, Label, Named, Required, Tupled, Value, Variant};
-use nano_schema_bin::{BinCodec, BinShapes, DeBin, DeBinErr, SerBin, read_choice_bin, write_variant_bin};
+use nano_schema::{Alone, BorrowedChoices, Choice, ChoiceParts, Choices, Either, Label, Named, Required, Tupled, Value, Variant, known_choice};
+use nano_schema_bin::{BinCodec, BinShapes, DeBin, DeBinErr, SerBin, read_choice_bin, write_choice_bin};
 use std::alloc::{AllocError, Global};
 use std::collections::HashMap;
 
@@ -112,18 +112,27 @@ impl Choice for Message {
     }
 }
 
+impl<'a> ChoiceParts<'a> for Message {
+    type Refs = Either<(), Either<(&'a u32, &'a Vec<i16>), (&'a String, &'a HashMap<String, u32>)>>;
+
+    ghost values = { ⟦<MessageVariants as BorrowedChoices>⟧.values };
+
+    fn as_refs(&'a self) -> Either<(), Either<(&'a u32, &'a Vec<i16>), (&'a String, &'a HashMap<String, u32>)>> {
+        match self {
+            Message::Leave => Either::First(()),
+            Message::Move(number, steps) => Either::Later(Either::First((number, steps))),
+            Message::Say { text, to } => Either::Later(Either::Later((text, to))),
+        }
+    }
+}
+
 impl Value for Message {
     ghost means = { λ e. ⟦<MessageVariants as Choices>⟧.means 0 (⟦<Message as Choice>⟧.view e) };
 
     ghost legal = { LegalVariant ⟦<MessageVariants as Choices>⟧.legals };
 
-    #[tactic(auto, using(nano_value::specs::SumsLaws::variant_is_legal))]
     fn known(&self) {
-        match self {
-            Message::Leave => <Alone as Borrowed>::known(&()),
-            Message::Move(number, steps) => <Tupled<(u32, Vec<i16>)> as Borrowed>::known(&(number, steps)),
-            Message::Say { text, to } => <Named<(Required<MessageSayText, String>, Required<MessageSayTo, HashMap<String, u32>>)> as Borrowed>::known(&(text, to)),
-        }
+        known_choice::<Message, MessageVariants>(self);
     }
 }
 
@@ -135,11 +144,7 @@ impl BinCodec for Message {
 
 impl SerBin for Message {
     fn ser_bin(&self, alloc: Global, output: &mut Vec<u8>) -> Result<(), AllocError> {
-        match self {
-            Message::Leave => write_variant_bin::<Alone>(0, &(), alloc, output),
-            Message::Move(number, steps) => write_variant_bin::<Tupled<(u32, Vec<i16>)>>(1, &(number, steps), alloc, output),
-            Message::Say { text, to } => write_variant_bin::<Named<(Required<MessageSayText, String>, Required<MessageSayTo, HashMap<String, u32>>)>>(2, &(text, to), alloc, output),
-        }
+        write_choice_bin::<Message, MessageVariants>(self, alloc, output)
     }
 }
 

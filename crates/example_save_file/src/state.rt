@@ -5,7 +5,7 @@ ghost use Rattle.nano_schema.specs.Rows.{agreed};
 ghost use Rattle.nano_schema_json.specs.Record.{json_of};
 ghost use Rattle.nano_schema_ron.specs.Record.{ron_of};
 
-use nano_schema::{Borrowed, Label, Optional, Record, Required, Shape, Value};
+use nano_schema::{Borrowed, Label, Optional, Parts, Record, Required, Shape, Value, known_record};
 use nano_schema_json::{DeJson, DeJsonState, JsonCodec, JsonResult, JsonShape, SerJson, SerJsonState, read_record_json, write_record_json};
 use nano_schema_ron::{DeRon, DeRonState, RonCodec, RonResult, RonShape, SerRon, SerRonState, read_record_ron, write_record_ron};
 use std::alloc::{AllocError, Global};
@@ -72,13 +72,23 @@ impl Record for State {
     }
 }
 
+impl<'a> Parts<'a> for State {
+    type Refs = (&'a u32, (&'a HashMap<String, u64>, &'a Option<String>));
+
+    ghost values = { ⟦<StateFields as Borrowed>⟧.values };
+
+    fn as_refs(&'a self) -> (&'a u32, (&'a HashMap<String, u64>, &'a Option<String>)) {
+        (&self.coins, (&self.times, &self.player))
+    }
+}
+
 impl Value for State {
     ghost means = { λ s. ⟦<StateFields as Shape>⟧.means (⟦<State as Record>⟧.view s) };
 
     ghost legal = { ⟦<StateFields as Shape>⟧.legal };
 
     fn known(&self) {
-        <StateFields as Borrowed>::known(&(&self.coins, (&self.times, &self.player)));
+        known_record::<State, StateFields>(self);
     }
 }
 
@@ -92,7 +102,7 @@ impl JsonCodec for State {
 
 impl SerJson for State {
     fn ser_json(&self, alloc: Global, d: usize, s: &mut SerJsonState) -> Result<(), AllocError> {
-        write_record_json::<StateFields>(&(&self.coins, (&self.times, &self.player)), alloc, d, s)
+        write_record_json::<State, StateFields>(self, alloc, d, s)
     }
 }
 
@@ -112,7 +122,7 @@ impl RonCodec for State {
 
 impl SerRon for State {
     fn ser_ron(&self, alloc: Global, d: usize, s: &mut SerRonState) -> Result<(), AllocError> {
-        write_record_ron::<StateFields>(&(&self.coins, (&self.times, &self.player)), alloc, d, s)
+        write_record_ron::<State, StateFields>(self, alloc, d, s)
     }
 }
 

@@ -8,10 +8,10 @@ ghost use Rattle.nano_schema_json.specs.Choice.{json_choice};
 ghost use Rattle.nano_schema_ron.specs.Choice.{ron_choice};
 ghost use Rattle.example_types.specs.declared.event.Event.TheVariants.{Stop, Move, Say};
 
-use nano_schema::{Alone, Borrowed, Choice, Choices, Either, Label, Named, Required, Tupled, Value, Variant};
-use nano_schema_bin::{BinCodec, BinShapes, DeBin, DeBinErr, SerBin, read_choice_bin, write_variant_bin};
-use nano_schema_json::{DeJson, DeJsonState, JsonCodec, JsonResult, JsonShapes, SerJson, SerJsonState, read_choice_json, write_variant_json};
-use nano_schema_ron::{DeRon, DeRonState, RonCodec, RonResult, RonShapes, SerRon, SerRonState, read_choice_ron, write_variant_ron};
+use nano_schema::{Alone, BorrowedChoices, Choice, ChoiceParts, Choices, Either, Label, Named, Required, Tupled, Value, Variant, known_choice};
+use nano_schema_bin::{BinCodec, BinShapes, DeBin, DeBinErr, SerBin, read_choice_bin, write_choice_bin};
+use nano_schema_json::{DeJson, DeJsonState, JsonCodec, JsonResult, JsonShapes, SerJson, SerJsonState, read_choice_json, write_choice_json};
+use nano_schema_ron::{DeRon, DeRonState, RonCodec, RonResult, RonShapes, SerRon, SerRonState, read_choice_ron, write_choice_ron};
 use std::alloc::{AllocError, Global};
 use std::str::Chars;
 
@@ -116,18 +116,27 @@ impl Choice for Event {
     }
 }
 
+impl<'a> ChoiceParts<'a> for Event {
+    type Refs = Either<(), Either<(&'a u32, &'a String), (&'a String, &'a u32)>>;
+
+    ghost values = { ⟦<EventVariants as BorrowedChoices>⟧.values };
+
+    fn as_refs(&'a self) -> Either<(), Either<(&'a u32, &'a String), (&'a String, &'a u32)>> {
+        match self {
+            Event::Stop => Either::First(()),
+            Event::Move(steps, name) => Either::Later(Either::First((steps, name))),
+            Event::Say { text, times } => Either::Later(Either::Later((text, times))),
+        }
+    }
+}
+
 impl Value for Event {
     ghost means = { λ e. ⟦<EventVariants as Choices>⟧.means 0 (⟦<Event as Choice>⟧.view e) };
 
     ghost legal = { LegalVariant ⟦<EventVariants as Choices>⟧.legals };
 
-    #[tactic(auto, using(nano_value::specs::SumsLaws::variant_is_legal))]
     fn known(&self) {
-        match self {
-            Event::Stop => <Alone as Borrowed>::known(&()),
-            Event::Move(steps, name) => <Tupled<(u32, String)> as Borrowed>::known(&(steps, name)),
-            Event::Say { text, times } => <Named<(Required<EventSayText, String>, Required<EventSayTimes, u32>)> as Borrowed>::known(&(text, times)),
-        }
+        known_choice::<Event, EventVariants>(self);
     }
 }
 
@@ -141,11 +150,7 @@ impl BinCodec for Event {
 
 impl SerBin for Event {
     fn ser_bin(&self, alloc: Global, output: &mut Vec<u8>) -> Result<(), AllocError> {
-        match self {
-            Event::Stop => write_variant_bin::<Alone>(0, &(), alloc, output),
-            Event::Move(steps, name) => write_variant_bin::<Tupled<(u32, String)>>(1, &(steps, name), alloc, output),
-            Event::Say { text, times } => write_variant_bin::<Named<(Required<EventSayText, String>, Required<EventSayTimes, u32>)>>(2, &(text, times), alloc, output),
-        }
+        write_choice_bin::<Event, EventVariants>(self, alloc, output)
     }
 }
 
@@ -167,11 +172,7 @@ impl JsonCodec for Event {
 
 impl SerJson for Event {
     fn ser_json(&self, alloc: Global, d: usize, s: &mut SerJsonState) -> Result<(), AllocError> {
-        match self {
-            Event::Stop => write_variant_json::<EventStop, Alone>(&(), alloc, d, s),
-            Event::Move(steps, name) => write_variant_json::<EventMove, Tupled<(u32, String)>>(&(steps, name), alloc, d, s),
-            Event::Say { text, times } => write_variant_json::<EventSay, Named<(Required<EventSayText, String>, Required<EventSayTimes, u32>)>>(&(text, times), alloc, d, s),
-        }
+        write_choice_json::<Event, EventVariants>(self, alloc, d, s)
     }
 }
 
@@ -191,11 +192,7 @@ impl RonCodec for Event {
 
 impl SerRon for Event {
     fn ser_ron(&self, alloc: Global, d: usize, s: &mut SerRonState) -> Result<(), AllocError> {
-        match self {
-            Event::Stop => write_variant_ron::<EventStop, Alone>(&(), alloc, d, s),
-            Event::Move(steps, name) => write_variant_ron::<EventMove, Tupled<(u32, String)>>(&(steps, name), alloc, d, s),
-            Event::Say { text, times } => write_variant_ron::<EventSay, Named<(Required<EventSayText, String>, Required<EventSayTimes, u32>)>>(&(text, times), alloc, d, s),
-        }
+        write_choice_ron::<Event, EventVariants>(self, alloc, d, s)
     }
 }
 

@@ -5,7 +5,7 @@ ghost use Rattle.nano_schema.specs.Rows.{agreed};
 ghost use Rattle.nano_schema_bin.specs.Record.{bin_of};
 ghost use Rattle.nano_schema_json.specs.Record.{json_of};
 
-use nano_schema::{Borrowed, Label, Optional, Record, Required, Shape, Value};
+use nano_schema::{Borrowed, Label, Optional, Parts, Record, Required, Shape, Value, known_record};
 use nano_schema_bin::{BinCodec, BinShape, DeBin, DeBinErr, read_record_bin};
 use nano_schema_json::{DeJson, DeJsonState, JsonCodec, JsonResult, JsonShape, read_record_json};
 use std::alloc::Global;
@@ -57,13 +57,23 @@ impl Record for Query {
     }
 }
 
+impl<'a> Parts<'a> for Query {
+    type Refs = (&'a String, &'a Option<u32>);
+
+    ghost values = { ⟦<QueryFields as Borrowed>⟧.values };
+
+    fn as_refs(&'a self) -> (&'a String, &'a Option<u32>) {
+        (&self.words, &self.limit)
+    }
+}
+
 impl Value for Query {
     ghost means = { λ q. ⟦<QueryFields as Shape>⟧.means (⟦<Query as Record>⟧.view q) };
 
     ghost legal = { ⟦<QueryFields as Shape>⟧.legal };
 
     fn known(&self) {
-        <QueryFields as Borrowed>::known(&(&self.words, &self.limit));
+        known_record::<Query, QueryFields>(self);
     }
 }
 

@@ -9,7 +9,7 @@ ghost use Rattle.nano_schema_ron.specs.Record.{ron_of};
 
 use crate::limits::Limits;
 use crate::tags::Tags;
-use nano_schema::{Borrowed, Label, Optional, Record, Required, Shape, Value};
+use nano_schema::{Borrowed, Label, Optional, Parts, Record, Required, Shape, Value, known_record};
 use nano_schema_bin::{BinCodec, BinShape, DeBin, DeBinErr, SerBin, read_record_bin, write_record_bin};
 use nano_schema_json::{DeJson, DeJsonState, JsonCodec, JsonResult, JsonShape, SerJson, SerJsonState, read_record_json, write_record_json};
 use nano_schema_ron::{DeRon, DeRonState, RonCodec, RonResult, RonShape, SerRon, SerRonState, read_record_ron, write_record_ron};
@@ -104,13 +104,23 @@ impl Record for Server {
     }
 }
 
+impl<'a> Parts<'a> for Server {
+    type Refs = ((&'a String, &'a u16), (&'a Tags, (&'a Limits, &'a Option<String>)));
+
+    ghost values = { ⟦<ServerFields as Borrowed>⟧.values };
+
+    fn as_refs(&'a self) -> ((&'a String, &'a u16), (&'a Tags, (&'a Limits, &'a Option<String>))) {
+        ((&self.host, &self.port), (&self.tags, (&self.limits, &self.note)))
+    }
+}
+
 impl Value for Server {
     ghost means = { λ s. ⟦<ServerFields as Shape>⟧.means (⟦<Server as Record>⟧.view s) };
 
     ghost legal = { ⟦<ServerFields as Shape>⟧.legal };
 
     fn known(&self) {
-        <ServerFields as Borrowed>::known(&((&self.host, &self.port), (&self.tags, (&self.limits, &self.note))));
+        known_record::<Server, ServerFields>(self);
     }
 }
 
@@ -124,7 +134,7 @@ impl BinCodec for Server {
 
 impl SerBin for Server {
     fn ser_bin(&self, alloc: Global, output: &mut Vec<u8>) -> Result<(), AllocError> {
-        write_record_bin::<ServerFields>(&((&self.host, &self.port), (&self.tags, (&self.limits, &self.note))), alloc, output)
+        write_record_bin::<Server, ServerFields>(self, alloc, output)
     }
 }
 
@@ -146,7 +156,7 @@ impl JsonCodec for Server {
 
 impl SerJson for Server {
     fn ser_json(&self, alloc: Global, d: usize, s: &mut SerJsonState) -> Result<(), AllocError> {
-        write_record_json::<ServerFields>(&((&self.host, &self.port), (&self.tags, (&self.limits, &self.note))), alloc, d, s)
+        write_record_json::<Server, ServerFields>(self, alloc, d, s)
     }
 }
 
@@ -166,7 +176,7 @@ impl RonCodec for Server {
 
 impl SerRon for Server {
     fn ser_ron(&self, alloc: Global, d: usize, s: &mut SerRonState) -> Result<(), AllocError> {
-        write_record_ron::<ServerFields>(&((&self.host, &self.port), (&self.tags, (&self.limits, &self.note))), alloc, d, s)
+        write_record_ron::<Server, ServerFields>(self, alloc, d, s)
     }
 }
 

@@ -8,10 +8,10 @@ ghost use Rattle.nano_schema_json.specs.Choice.{json_choice};
 ghost use Rattle.nano_schema_ron.specs.Choice.{ron_choice};
 ghost use Rattle.example_types.specs.declared.signal.Signal.TheVariants.{Wait, Move, Light};
 
-use nano_schema::{Borrowed, Choice, Choices, Either, Label, OnePart, Tupled, Value, Variant};
-use nano_schema_bin::{BinCodec, BinShapes, DeBin, DeBinErr, SerBin, read_choice_bin, write_variant_bin};
-use nano_schema_json::{DeJson, DeJsonState, JsonCodec, JsonResult, JsonShapes, SerJson, SerJsonState, read_choice_json, write_variant_json};
-use nano_schema_ron::{DeRon, DeRonState, RonCodec, RonResult, RonShapes, SerRon, SerRonState, read_choice_ron, write_variant_ron};
+use nano_schema::{BorrowedChoices, Choice, ChoiceParts, Choices, Either, Label, OnePart, Tupled, Value, Variant, known_choice};
+use nano_schema_bin::{BinCodec, BinShapes, DeBin, DeBinErr, SerBin, read_choice_bin, write_choice_bin};
+use nano_schema_json::{DeJson, DeJsonState, JsonCodec, JsonResult, JsonShapes, SerJson, SerJsonState, read_choice_json, write_choice_json};
+use nano_schema_ron::{DeRon, DeRonState, RonCodec, RonResult, RonShapes, SerRon, SerRonState, read_choice_ron, write_choice_ron};
 use std::alloc::{AllocError, Global};
 use std::str::Chars;
 
@@ -87,18 +87,27 @@ impl Choice for Signal {
     }
 }
 
+impl<'a> ChoiceParts<'a> for Signal {
+    type Refs = Either<&'a u64, Either<(&'a u16, &'a u16, &'a u16), (&'a u8, &'a u8, &'a u8, &'a bool)>>;
+
+    ghost values = { ⟦<SignalVariants as BorrowedChoices>⟧.values };
+
+    fn as_refs(&'a self) -> Either<&'a u64, Either<(&'a u16, &'a u16, &'a u16), (&'a u8, &'a u8, &'a u8, &'a bool)>> {
+        match self {
+            Signal::Wait(time) => Either::First(time),
+            Signal::Move(x, y, z) => Either::Later(Either::First((x, y, z))),
+            Signal::Light(red, green, blue, on) => Either::Later(Either::Later((red, green, blue, on))),
+        }
+    }
+}
+
 impl Value for Signal {
     ghost means = { λ e. ⟦<SignalVariants as Choices>⟧.means 0 (⟦<Signal as Choice>⟧.view e) };
 
     ghost legal = { LegalVariant ⟦<SignalVariants as Choices>⟧.legals };
 
-    #[tactic(auto, using(nano_value::specs::SumsLaws::variant_is_legal))]
     fn known(&self) {
-        match self {
-            Signal::Wait(time) => <OnePart<u64> as Borrowed>::known(&time),
-            Signal::Move(x, y, z) => <Tupled<(u16, u16, u16)> as Borrowed>::known(&(x, y, z)),
-            Signal::Light(red, green, blue, on) => <Tupled<(u8, u8, u8, bool)> as Borrowed>::known(&(red, green, blue, on)),
-        }
+        known_choice::<Signal, SignalVariants>(self);
     }
 }
 
@@ -112,11 +121,7 @@ impl BinCodec for Signal {
 
 impl SerBin for Signal {
     fn ser_bin(&self, alloc: Global, output: &mut Vec<u8>) -> Result<(), AllocError> {
-        match self {
-            Signal::Wait(time) => write_variant_bin::<OnePart<u64>>(0, &time, alloc, output),
-            Signal::Move(x, y, z) => write_variant_bin::<Tupled<(u16, u16, u16)>>(1, &(x, y, z), alloc, output),
-            Signal::Light(red, green, blue, on) => write_variant_bin::<Tupled<(u8, u8, u8, bool)>>(2, &(red, green, blue, on), alloc, output),
-        }
+        write_choice_bin::<Signal, SignalVariants>(self, alloc, output)
     }
 }
 
@@ -138,11 +143,7 @@ impl JsonCodec for Signal {
 
 impl SerJson for Signal {
     fn ser_json(&self, alloc: Global, d: usize, s: &mut SerJsonState) -> Result<(), AllocError> {
-        match self {
-            Signal::Wait(time) => write_variant_json::<SignalWait, OnePart<u64>>(&time, alloc, d, s),
-            Signal::Move(x, y, z) => write_variant_json::<SignalMove, Tupled<(u16, u16, u16)>>(&(x, y, z), alloc, d, s),
-            Signal::Light(red, green, blue, on) => write_variant_json::<SignalLight, Tupled<(u8, u8, u8, bool)>>(&(red, green, blue, on), alloc, d, s),
-        }
+        write_choice_json::<Signal, SignalVariants>(self, alloc, d, s)
     }
 }
 
@@ -162,11 +163,7 @@ impl RonCodec for Signal {
 
 impl SerRon for Signal {
     fn ser_ron(&self, alloc: Global, d: usize, s: &mut SerRonState) -> Result<(), AllocError> {
-        match self {
-            Signal::Wait(time) => write_variant_ron::<SignalWait, OnePart<u64>>(&time, alloc, d, s),
-            Signal::Move(x, y, z) => write_variant_ron::<SignalMove, Tupled<(u16, u16, u16)>>(&(x, y, z), alloc, d, s),
-            Signal::Light(red, green, blue, on) => write_variant_ron::<SignalLight, Tupled<(u8, u8, u8, bool)>>(&(red, green, blue, on), alloc, d, s),
-        }
+        write_choice_ron::<Signal, SignalVariants>(self, alloc, d, s)
     }
 }
 

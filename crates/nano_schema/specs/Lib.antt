@@ -1,2 +1,4 @@
 pub mod Rows
+pub mod Views
 pub mod Choices
+pub mod ChoicesLaws

@@ -1,6 +1,10 @@
 //! User-defined enums.
 
 ghost use Rattle.std.specs.Prelude.{◌≡◌};
+ghost use Rattle.nano_value.specs.Sums.{LegalVariant};
+ghost use Rattle.nano_schema.specs.Views.{SeesAs};
+
+use crate::choices::BorrowedChoices;
 
 /// A user-defined enum, as the content of the variant that it is.
 pub trait Choice {
@@ -13,4 +17,33 @@ pub trait Choice {
     /// The enum of this content.
     fn make(values: Self::Values) -> Self
         ensures { view result ≡ values };
+}
+
+/// A user-defined enum that is seen by references to the content of its variant.
+pub trait ChoiceParts<'a>: Choice {
+    /// The references, nested as the variants are.
+    type Refs: Drop;
+
+    /// What they refer to.
+    ghost values: { Self.Refs → Self.Values };
+
+    /// The content, by reference.
+    fn as_refs(&'a self) -> Self::Refs
+        ensures { values result ≡ Self.view self.now };
+}
+
+/// Does nothing. Its contract says that what the value means is legal, where the variants are
+/// those that the enum is seen by.
+pub fn known_choice<
+    'a,
+    E: ChoiceParts<'a>,
+    V: BorrowedChoices<'a, Refs = E::Refs, Values = E::Values>,
+>(
+    value: &'a E,
+)
+    ensures { SeesAs V.values E.ChoiceParts.values
+        → LegalVariant V.legals (V.means 0 (E.view value.now)) }
+{
+    let refs = value.as_refs();
+    V::known(&refs);
 }

@@ -41,9 +41,13 @@ impl Shape for Alone {
 }
 
 impl<'a> Borrowed<'a> for Alone {
+    type Values = ();
+
     type Refs = ();
 
-    ghost means = { λ r. nothing };
+    ghost values = { λ r. r };
+
+    ghost means = { λ v. nothing };
 
     ghost legal = { LegalUnit };
 
@@ -59,9 +63,13 @@ impl<T: Value> Shape for OnePart<T> {
 }
 
 impl<'a, T: Value + 'a> Borrowed<'a> for OnePart<T> {
+    type Values = T;
+
     type Refs = &'a T;
 
-    ghost means = { λ r. T.means r.now };
+    ghost values = { λ r. r.now };
+
+    ghost means = { T.means };
 
     ghost legal = { T.legal };
 
@@ -79,7 +87,11 @@ impl<F: Shape> Shape for Named<F> {
 }
 
 impl<'a, F: Borrowed<'a>> Borrowed<'a> for Named<F> {
+    type Values = F::Values;
+
     type Refs = F::Refs;
+
+    ghost values = { F.values };
 
     ghost means = { F.means };
 
@@ -99,9 +111,13 @@ impl<P: Value> Shape for Tupled<P> {
 }
 
 impl<'a, A: Value + 'a, B: Value + 'a> Borrowed<'a> for Tupled<(A, B)> {
+    type Values = (A, B);
+
     type Refs = (&'a A, &'a B);
 
-    ghost means = { λ r. ⟦<(A, B) as Value>⟧.means (r.0.now, r.1.now) };
+    ghost values = { λ r. (r.0.now, r.1.now) };
+
+    ghost means = { ⟦<(A, B) as Value>⟧.means };
 
     ghost legal = { ⟦<(A, B) as Value>⟧.legal };
 
@@ -113,9 +129,13 @@ impl<'a, A: Value + 'a, B: Value + 'a> Borrowed<'a> for Tupled<(A, B)> {
 }
 
 impl<'a, A: Value + 'a, B: Value + 'a, C: Value + 'a> Borrowed<'a> for Tupled<(A, B, C)> {
+    type Values = (A, B, C);
+
     type Refs = (&'a A, &'a B, &'a C);
 
-    ghost means = { λ r. ⟦<(A, B, C) as Value>⟧.means (r.0.now, r.1.now, r.2.now) };
+    ghost values = { λ r. (r.0.now, r.1.now, r.2.now) };
+
+    ghost means = { ⟦<(A, B, C) as Value>⟧.means };
 
     ghost legal = { ⟦<(A, B, C) as Value>⟧.legal };
 
@@ -129,9 +149,13 @@ impl<'a, A: Value + 'a, B: Value + 'a, C: Value + 'a> Borrowed<'a> for Tupled<(A
 
 impl<'a, A: Value + 'a, B: Value + 'a, C: Value + 'a, D: Value + 'a> Borrowed<'a>
     for Tupled<(A, B, C, D)> {
+    type Values = (A, B, C, D);
+
     type Refs = (&'a A, &'a B, &'a C, &'a D);
 
-    ghost means = { λ r. ⟦<(A, B, C, D) as Value>⟧.means (r.0.now, r.1.now, r.2.now, r.3.now) };
+    ghost values = { λ r. (r.0.now, r.1.now, r.2.now, r.3.now) };
+
+    ghost means = { ⟦<(A, B, C, D) as Value>⟧.means };
 
     ghost legal = { ⟦<(A, B, C, D) as Value>⟧.legal };
 

@@ -40,18 +40,24 @@ pub trait Shape {
 
 /// Fields whose values are at hand by reference.
 pub trait Borrowed<'a> {
+    /// The values of the fields.
+    type Values;
+
     /// The references.
     type Refs;
 
-    /// What the values that they refer to mean.
-    ghost means: { Self.Refs → Meaning };
+    /// What they refer to.
+    ghost values: { Self.Refs → Self.Values };
+
+    /// What the values mean.
+    ghost means: { Self.Values → Meaning };
 
     /// Which meanings the values of a program have.
     ghost legal: { Meaning → Type 0 };
 
     /// Does nothing. Its contract says that what the values of a program mean is legal.
     fn known(refs: &Self::Refs)
-        ensures { legal (means refs.now) };
+        ensures { legal (means (values refs.now)) };
 }
 
 impl<N, T: Value> Shape for Required<N, T> {
@@ -63,9 +69,13 @@ impl<N, T: Value> Shape for Required<N, T> {
 }
 
 impl<'a, N, T: Value + 'a> Borrowed<'a> for Required<N, T> {
+    type Values = T;
+
     type Refs = &'a T;
 
-    ghost means = { λ r. T.means r.now };
+    ghost values = { λ r. r.now };
+
+    ghost means = { T.means };
 
     ghost legal = { T.legal };
 
@@ -83,9 +93,13 @@ impl<N, T: Value> Shape for Optional<N, T> {
 }
 
 impl<'a, N, T: Value + 'a> Borrowed<'a> for Optional<N, T> {
+    type Values = Option<T>;
+
     type Refs = &'a Option<T>;
 
-    ghost means = { λ r. optional (option_map T.means r.now) };
+    ghost values = { λ r. r.now };
+
+    ghost means = { λ x. optional (option_map T.means x) };
 
     ghost legal = { LegalOption T.legal };
 
@@ -103,9 +117,13 @@ impl<A: Shape, B: Shape> Shape for (A, B) {
 }
 
 impl<'a, A: Borrowed<'a>, B: Borrowed<'a>> Borrowed<'a> for (A, B) {
+    type Values = (A::Values, B::Values);
+
     type Refs = (A::Refs, B::Refs);
 
-    ghost means = { λ r. paired (pair_map A.means B.means r) };
+    ghost values = { λ r. (A.values r.0, B.values r.1) };
+
+    ghost means = { λ v. paired (pair_map A.means B.means v) };
 
     ghost legal = { LegalPair A.legal B.legal };
 

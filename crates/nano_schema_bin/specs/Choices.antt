@@ -1,8 +1,9 @@
 -- Enums from their schema: a tag of two bytes, which is the place of the variant, and its
 -- content.
-use Rattle.std.specs.Prelude.{◌≡◌, ◌+◌, ℕ, suc, List}
+use Rattle.std.specs.Prelude.{◌≡◌, ◌+◌, ℕ, suc, List, ◌++◌}
 use Rattle.nano_value.specs.Meaning.{Meaning}
 use Rattle.nano_value.specs.Sums.{tagged}
+use Rattle.nano_bytes.specs.LittleEndian.{little_endian}
 use Rattle.nano_bytes.specs.declared.error.DeBinErr.{DeBinErr}
 use Rattle.nano_bytes.specs.declared.error.DeBinKind.TheVariants.{Own}
 use Rattle.nano_bytes.specs.Errors.{rejection}
@@ -24,6 +25,11 @@ pub record Chosen (A : Type 0) : Type 1 where
   pub by_tag : A → Tagged bodies
   pub meant : (from : ℕ) (x : A)
       → means from x ≡ tagged ((by_tag x).tag + from) (content_of bodies (by_tag x))
+
+-- the tag, counted from this one on, and the content
+abbrev pub written_from : ℕ → (vs : Variants) → Tagged vs → List ℕ
+written_from from vs v =
+    little_endian 2 (v.tag + from) ++ (body_at vs v.tag).codec.canonical.written v.fields
 
 module _ {A : Type 0} (f : Codec A) where
   module _ {B : Type 0} (others : Chosen B) where

@@ -1,14 +1,15 @@
 //! User-defined enums as bytes.
 
-ghost use Rattle.std.specs.Prelude.{◌≡◌, ◌++◌, drop, IfOk, IfErr, OnOk, OnErr};
-ghost use Rattle.nano_bytes.specs.LittleEndian.{little_endian};
+ghost use Rattle.std.specs.Prelude.{◌≡◌, ◌++◌, ◌≤◌, drop, IfOk, IfErr, OnOk, OnErr};
+ghost use Rattle.nano_value.specs.Sums.{count_variants};
 ghost use Rattle.nano_bytes.specs.Reading.{Decodes, Rejects};
+ghost use Rattle.nano_bin.specs.Variants.{written_tagged, legal_bodies};
 ghost use Rattle.nano_bin.specs.VariantsLaws.{variants_of};
+ghost use Rattle.nano_schema.specs.Views.{SeesAs};
 
-use crate::choices::BinChoices;
-use crate::fields::BinRefs;
-use nano_bin::{DeBin, DeBinErr, SerBin};
-use nano_schema::Choice;
+use crate::choices::{BinChoiceRefs, BinChoices};
+use nano_bin::{DeBin, DeBinErr};
+use nano_schema::{Choice, ChoiceParts};
 use std::alloc::{AllocError, Global};
 
 /// Reads a user-defined enum from `offset` on, and sets `offset` after it. A tag that no
@@ -33,23 +34,22 @@ pub fn read_choice_bin<E: Choice, V: BinChoices<Values = E::Values>>(
     Ok(E::make(values))
 }
 
-/// Appends the bytes of a variant: its tag, which is its place among the others, and its content.
-/// If the write fails, `output` is unchanged.
-pub fn write_variant_bin<'a, S: BinRefs<'a>>(
-    tag: u16,
-    refs: &S::Refs,
+/// Appends the bytes of a user-defined enum: the tag of its variant and the content, where the
+/// variants are those that the enum is seen by. If the write fails, `output` is unchanged.
+pub fn write_choice_bin<
+    'a,
+    E: ChoiceParts<'a>,
+    V: BinChoiceRefs<'a, Refs = E::Refs, Values = E::Values>,
+>(
+    value: &'a E,
     alloc: Global,
     output: &mut Vec<u8>,
 ) -> Result<(), AllocError>
-    ensures ok { OnOk result
-        (output.new.items ≡ output.old.items ++ (little_endian 2 tag ++ S.written refs.now)) }
+    requires { count_variants (legal_bodies V.chosen.bodies) ≤ 65536 }
+    ensures ok { SeesAs V.values E.ChoiceParts.values → OnOk result (output.new.items
+        ≡ output.old.items ++ written_tagged V.chosen.bodies (V.chosen.by_tag (E.view value.now))) }
     ensures err { OnErr result (output.new.items ≡ output.old.items) }
 {
-    let start = output.len();
-    tag.ser_bin(alloc, output)?;
-    let written = S::write(refs, alloc, output);
-    if written.is_err() {
-        output.truncate(start);
-    }
-    written
+    let refs = value.as_refs();
+    V::write(&refs, 0, alloc, output)
 }

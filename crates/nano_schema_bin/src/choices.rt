@@ -1,16 +1,18 @@
 //! The variants of an enum as bytes.
 
-ghost use Rattle.std.specs.Prelude.{◌≡◌, ◌≤◌, drop, IfOk, IfErr, OnErr};
+ghost use Rattle.std.specs.Prelude.{◌≡◌, ◌++◌, ◌+◌, ◌≤◌, ◌<◌, drop, IfOk, IfErr, OnOk, OnErr};
 ghost use Rattle.nano_value.specs.Sums.{count_variants};
+ghost use Rattle.nano_bytes.specs.LittleEndian.{little_endian};
 ghost use Rattle.nano_bytes.specs.Reading.{Rejects};
+ghost use Rattle.nano_schema.specs.Choices.{either_map};
 ghost use Rattle.nano_bin.specs.Variants.{encoding_at, legal_bodies};
-ghost use Rattle.nano_schema_bin.specs.Choices.{Chosen, DecodesChoice, IsUnknownTag};
+ghost use Rattle.nano_schema_bin.specs.Choices.{Chosen, DecodesChoice, written_from, IsUnknownTag};
 ghost use Rattle.nano_schema_bin.specs.ChoicesLaws.{last_choice, next_choice};
 
-use crate::fields::{BinFields, BinShape};
-use nano_bin::{DeBinErr, DeBinKind};
+use crate::fields::{BinFields, BinRefs, BinShape};
+use nano_bin::{DeBinErr, DeBinKind, SerBin};
 use nano_schema::{Either, Variant};
-use std::alloc::Global;
+use std::alloc::{AllocError, Global};
 
 /// Variants that stand as bytes.
 pub trait BinShapes {
@@ -47,6 +49,55 @@ pub trait BinChoices {
         ensures own { count_variants (legal_bodies chosen.bodies) ≤ tag
             → IfErr result (IsUnknownTag start bytes.now) }
         ensures unchanged { OnErr result (offset.new ≡ offset.old) };
+}
+
+/// Variants that are written as bytes.
+pub trait BinChoiceRefs<'a> {
+    /// The content of one of them.
+    type Values;
+
+    /// References to it.
+    type Refs;
+
+    /// What they refer to.
+    ghost values: { Self.Refs → Self.Values };
+
+    /// The variants in their order, with the format of the content of each.
+    ghost chosen: { Chosen Self.Values };
+
+    /// Appends the tag of the variant, where the first of them has the tag `from`, and the
+    /// bytes of its content. If the write fails, `output` is unchanged.
+    fn write(
+        refs: &Self::Refs,
+        from: u32,
+        alloc: Global,
+        output: &mut Vec<u8>,
+    ) -> Result<(), AllocError>
+        requires { from + count_variants (legal_bodies chosen.bodies) ≤ 65536 }
+        ensures ok { OnOk result (output.new.items ≡ output.old.items
+            ++ written_from from chosen.bodies (chosen.by_tag (values refs.now))) }
+        ensures err { OnErr result (output.new.items ≡ output.old.items) };
+}
+
+/// Appends a tag and content. If the write fails, `output` is unchanged.
+fn write_content<'a, S: BinRefs<'a>>(
+    tag: u32,
+    refs: &S::Refs,
+    alloc: Global,
+    output: &mut Vec<u8>,
+) -> Result<(), AllocError>
+    requires { tag < 65536 }
+    ensures ok { OnOk result (output.new.items ≡ output.old.items
+        ++ (little_endian 2 tag ++ S.codec.canonical.written (S.values refs.now))) }
+    ensures err { OnErr result (output.new.items ≡ output.old.items) }
+{
+    let start = output.len();
+    (tag as u16).ser_bin(alloc, output)?;
+    let written = S::write(refs, alloc, output);
+    if written.is_err() {
+        output.truncate(start);
+    }
+    written
 }
 
 impl<N, S: BinShape> BinShapes for Variant<N, S> {
@@ -109,6 +160,47 @@ impl<N, S: BinFields, C: BinChoices> BinChoices for (Variant<N, S>, C) {
         match C::read(tag - 1, start, alloc, offset, bytes) {
             Ok(later) => Ok(Either::Later(later)),
             Err(error) => Err(error),
+        }
+    }
+}
+
+impl<'a, N, S: BinRefs<'a>> BinChoiceRefs<'a> for Variant<N, S> {
+    type Values = S::Values;
+
+    type Refs = S::Refs;
+
+    ghost values = { S.values };
+
+    ghost chosen = { last_choice S.codec };
+
+    fn write(
+        refs: &S::Refs,
+        from: u32,
+        alloc: Global,
+        output: &mut Vec<u8>,
+    ) -> Result<(), AllocError> {
+        write_content::<S>(from, refs, alloc, output)
+    }
+}
+
+impl<'a, N, S: BinRefs<'a>, C: BinChoiceRefs<'a>> BinChoiceRefs<'a> for (Variant<N, S>, C) {
+    type Values = Either<S::Values, C::Values>;
+
+    type Refs = Either<S::Refs, C::Refs>;
+
+    ghost values = { either_map S.values C.values };
+
+    ghost chosen = { next_choice S.codec C.chosen };
+
+    fn write(
+        refs: &Either<S::Refs, C::Refs>,
+        from: u32,
+        alloc: Global,
+        output: &mut Vec<u8>,
+    ) -> Result<(), AllocError> {
+        match refs {
+            Either::First(first) => write_content::<S>(from, first, alloc, output),
+            Either::Later(later) => C::write(later, from + 1, alloc, output),
         }
     }
 }

@@ -1,6 +1,5 @@
 //! What a variant holds, as bytes.
 
-ghost use Rattle.std.specs.Prelude.{[]};
 ghost use Rattle.nano_bin.specs.BoolsLaws.{unit_codec};
 
 use crate::fields::{BinFields, BinRefs, BinShape};
@@ -27,9 +26,13 @@ impl BinFields for Alone {
 }
 
 impl<'a> BinRefs<'a> for Alone {
+    type Values = ();
+
     type Refs = ();
 
-    ghost written = { λ r. [] };
+    ghost values = { λ r. r };
+
+    ghost codec = { unit_codec };
 
     fn write(refs: &(), alloc: Global, output: &mut Vec<u8>) -> Result<(), AllocError> {
         refs.ser_bin(alloc, output)
@@ -55,9 +58,13 @@ impl<T: DeBin> BinFields for OnePart<T> {
 }
 
 impl<'a, T: SerBin + 'a> BinRefs<'a> for OnePart<T> {
+    type Values = T;
+
     type Refs = &'a T;
 
-    ghost written = { λ r. T.bin.canonical.written r.now };
+    ghost values = { λ r. r.now };
+
+    ghost codec = { T.bin };
 
     fn write(refs: &&'a T, alloc: Global, output: &mut Vec<u8>) -> Result<(), AllocError> {
         refs.ser_bin(alloc, output)
@@ -85,9 +92,13 @@ impl<F: BinFields> BinFields for Named<F> {
 }
 
 impl<'a, F: BinRefs<'a>> BinRefs<'a> for Named<F> {
+    type Values = F::Values;
+
     type Refs = F::Refs;
 
-    ghost written = { F.written };
+    ghost values = { F.values };
+
+    ghost codec = { F.codec };
 
     fn write(refs: &F::Refs, alloc: Global, output: &mut Vec<u8>) -> Result<(), AllocError> {
         F::write(refs, alloc, output)
@@ -113,9 +124,13 @@ impl<P: DeBin> BinFields for Tupled<P> {
 }
 
 impl<'a, A: SerBin + 'a, B: SerBin + 'a> BinRefs<'a> for Tupled<(A, B)> {
+    type Values = (A, B);
+
     type Refs = (&'a A, &'a B);
 
-    ghost written = { λ r. ⟦<(A, B) as BinCodec>⟧.bin.canonical.written (r.0.now, r.1.now) };
+    ghost values = { λ r. (r.0.now, r.1.now) };
+
+    ghost codec = { ⟦<(A, B) as BinCodec>⟧.bin };
 
     fn write(refs: &(&'a A, &'a B), alloc: Global, output: &mut Vec<u8>) -> Result<(), AllocError> {
         let start = output.len();
@@ -125,10 +140,13 @@ impl<'a, A: SerBin + 'a, B: SerBin + 'a> BinRefs<'a> for Tupled<(A, B)> {
 }
 
 impl<'a, A: SerBin + 'a, B: SerBin + 'a, C: SerBin + 'a> BinRefs<'a> for Tupled<(A, B, C)> {
+    type Values = (A, B, C);
+
     type Refs = (&'a A, &'a B, &'a C);
 
-    ghost written = { λ r. ⟦<(A, B, C) as BinCodec>⟧.bin.canonical.written
-        (r.0.now, r.1.now, r.2.now) };
+    ghost values = { λ r. (r.0.now, r.1.now, r.2.now) };
+
+    ghost codec = { ⟦<(A, B, C) as BinCodec>⟧.bin };
 
     fn write(
         refs: &(&'a A, &'a B, &'a C),
@@ -144,10 +162,13 @@ impl<'a, A: SerBin + 'a, B: SerBin + 'a, C: SerBin + 'a> BinRefs<'a> for Tupled<
 
 impl<'a, A: SerBin + 'a, B: SerBin + 'a, C: SerBin + 'a, D: SerBin + 'a> BinRefs<'a>
     for Tupled<(A, B, C, D)> {
+    type Values = (A, B, C, D);
+
     type Refs = (&'a A, &'a B, &'a C, &'a D);
 
-    ghost written = { λ r. ⟦<(A, B, C, D) as BinCodec>⟧.bin.canonical.written
-        (r.0.now, r.1.now, r.2.now, r.3.now) };
+    ghost values = { λ r. (r.0.now, r.1.now, r.2.now, r.3.now) };
+
+    ghost codec = { ⟦<(A, B, C, D) as BinCodec>⟧.bin };
 
     fn write(
         refs: &(&'a A, &'a B, &'a C, &'a D),

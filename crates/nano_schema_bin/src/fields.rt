@@ -1,6 +1,6 @@
 //! Fields as bytes.
 
-ghost use Rattle.std.specs.Prelude.{◌≡◌, ◌++◌, ℕ, List, drop, IfOk, IfErr, OnOk, OnErr};
+ghost use Rattle.std.specs.Prelude.{◌≡◌, ◌++◌, drop, IfOk, IfErr, OnOk, OnErr};
 ghost use Rattle.nano_bytes.specs.Reading.{Decodes, Rejects};
 ghost use Rattle.nano_bin.specs.Codec.{Codec};
 ghost use Rattle.nano_bin.specs.OptionsLaws.{option_codec};
@@ -41,15 +41,22 @@ pub trait BinFields {
 
 /// Fields that are written as bytes.
 pub trait BinRefs<'a> {
+    /// Their values.
+    type Values;
+
     /// References to their values.
     type Refs;
 
-    /// The bytes.
-    ghost written: { Self.Refs → List ℕ };
+    /// What they refer to.
+    ghost values: { Self.Refs → Self.Values };
+
+    /// The canonical encoding of their values, and which bytes encode which meaning.
+    ghost codec: { Codec Self.Values };
 
     /// Appends the bytes of the values. If the write fails, `output` is unchanged.
     fn write(refs: &Self::Refs, alloc: Global, output: &mut Vec<u8>) -> Result<(), AllocError>
-        ensures ok { OnOk result (output.new.items ≡ output.old.items ++ written refs.now) }
+        ensures ok { OnOk result (output.new.items
+            ≡ output.old.items ++ codec.canonical.written (values refs.now)) }
         ensures err { OnErr result (output.new.items ≡ output.old.items) };
 }
 
@@ -72,9 +79,13 @@ impl<N, T: DeBin> BinFields for Required<N, T> {
 }
 
 impl<'a, N, T: SerBin + 'a> BinRefs<'a> for Required<N, T> {
+    type Values = T;
+
     type Refs = &'a T;
 
-    ghost written = { λ r. T.bin.canonical.written r.now };
+    ghost values = { λ r. r.now };
+
+    ghost codec = { T.bin };
 
     fn write(refs: &&'a T, alloc: Global, output: &mut Vec<u8>) -> Result<(), AllocError> {
         refs.ser_bin(alloc, output)
@@ -100,9 +111,13 @@ impl<N, T: DeBin> BinFields for Optional<N, T> {
 }
 
 impl<'a, N, T: SerBin + 'a> BinRefs<'a> for Optional<N, T> {
+    type Values = Option<T>;
+
     type Refs = &'a Option<T>;
 
-    ghost written = { λ r. (option_codec T.bin).canonical.written r.now };
+    ghost values = { λ r. r.now };
+
+    ghost codec = { option_codec T.bin };
 
     fn write(refs: &&'a Option<T>, alloc: Global, output: &mut Vec<u8>) -> Result<(), AllocError> {
         refs.ser_bin(alloc, output)
@@ -147,9 +162,13 @@ impl<A: BinFields, B: BinFields> BinFields for (A, B) {
 }
 
 impl<'a, A: BinRefs<'a>, B: BinRefs<'a>> BinRefs<'a> for (A, B) {
+    type Values = (A::Values, B::Values);
+
     type Refs = (A::Refs, B::Refs);
 
-    ghost written = { λ r. A.written r.0 ++ B.written r.1 };
+    ghost values = { λ r. (A.values r.0, B.values r.1) };
+
+    ghost codec = { pair_codec A.codec B.codec };
 
     fn write(
         refs: &(A::Refs, B::Refs),

@@ -10,8 +10,8 @@ mod contents;
 mod fields;
 mod record;
 
-pub use choice::{read_choice_bin, write_variant_bin};
-pub use choices::{BinChoices, BinShapes};
+pub use choice::{read_choice_bin, write_choice_bin};
+pub use choices::{BinChoiceRefs, BinChoices, BinShapes};
 pub use fields::{BinFields, BinRefs, BinShape};
 pub use nano_bin::{BinCodec, BothBin, DeBin, DeBinErr, SerBin};
 pub use record::{read_record_bin, write_record_bin};

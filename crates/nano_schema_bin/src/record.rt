@@ -2,10 +2,11 @@
 
 ghost use Rattle.std.specs.Prelude.{◌≡◌, ◌++◌, drop, IfOk, IfErr, OnOk, OnErr};
 ghost use Rattle.nano_bytes.specs.Reading.{Decodes, Rejects};
+ghost use Rattle.nano_schema.specs.Views.{SeesAs};
 
 use crate::fields::{BinFields, BinRefs};
 use nano_bin::DeBinErr;
-use nano_schema::Record;
+use nano_schema::{Parts, Record};
 use std::alloc::{AllocError, Global};
 
 /// Reads a user-defined struct from `offset` on, and sets `offset` after it. Every error leaves
@@ -26,15 +27,17 @@ pub fn read_record_bin<R: Record, F: BinFields<Values = R::Values>>(
     }
 }
 
-/// Appends the bytes of a user-defined struct, whose fields are at hand by reference. If the
-/// write fails, `output` is unchanged.
-pub fn write_record_bin<'a, F: BinRefs<'a>>(
-    refs: &F::Refs,
+/// Appends the bytes of a user-defined struct, where the fields are those that it is seen by. If
+/// the write fails, `output` is unchanged.
+pub fn write_record_bin<'a, R: Parts<'a>, F: BinRefs<'a, Refs = R::Refs, Values = R::Values>>(
+    value: &'a R,
     alloc: Global,
     output: &mut Vec<u8>,
 ) -> Result<(), AllocError>
-    ensures ok { OnOk result (output.new.items ≡ output.old.items ++ F.written refs.now) }
+    ensures ok { SeesAs F.values R.Parts.values → OnOk result (output.new.items
+        ≡ output.old.items ++ F.codec.canonical.written (R.view value.now)) }
     ensures err { OnErr result (output.new.items ≡ output.old.items) }
 {
-    F::write(refs, alloc, output)
+    let refs = value.as_refs();
+    F::write(&refs, alloc, output)
 }

@@ -1,17 +1,17 @@
 //! User-defined enums in JSON.
 
 ghost use Rattle.std.specs.Prelude.{◌≡◌, OnOk, OnErr};
+ghost use Rattle.nano_schema.specs.Views.{SeesAs};
 ghost use Rattle.nano_schema_text.specs.Variants.{EncodesVariant};
 ghost use Rattle.nano_text.specs.Outcomes.{Appends, Unchanged};
 ghost use Rattle.nano_json.specs.Readers.{Decodes, Rejects};
 ghost use Rattle.nano_json.specs.State.{at, ended};
 ghost use Rattle.nano_schema_json.specs.VariantsLaws.{json_variants};
 
-use crate::choices::JsonChoices;
-use crate::contents::WriteContent;
+use crate::choices::{JsonChoiceRefs, JsonChoices};
 use crate::variants::read_variant_name;
 use nano_json::{DeJsonErr, DeJsonState, SerJsonState};
-use nano_schema::{Choice, Label};
+use nano_schema::{Choice, ChoiceParts};
 use std::alloc::{AllocError, Global};
 use std::str::Chars;
 
@@ -40,16 +40,22 @@ pub fn read_choice_json<E: Choice, V: JsonChoices<Values = E::Values>>(
     }
 }
 
-/// Writes a variant, whose content is at hand by reference, at level `d`. If the write fails,
-/// `s.out` is unchanged.
-pub fn write_variant_json<'a, N: Label, S: WriteContent<'a>>(
-    refs: &S::Refs,
+/// Writes a user-defined enum at level `d`, where the variants are those that it is seen by. If the
+/// write fails, `s.out` is unchanged.
+pub fn write_choice_json<
+    'a,
+    E: ChoiceParts<'a>,
+    V: JsonChoiceRefs<'a, Refs = E::Refs, Values = E::Values>,
+>(
+    value: &'a E,
     alloc: Global,
     d: usize,
     s: &mut SerJsonState,
 ) -> Result<(), AllocError>
-    ensures ok { OnOk result (Appends s.old.out s.new.out (S.text N.label d refs.now)) }
+    ensures ok { SeesAs V.values E.ChoiceParts.values → OnOk result
+        (Appends s.old.out s.new.out (V.codec.text d (E.view value.now))) }
     ensures err { OnErr result (Unchanged s.old.out s.new.out) }
 {
-    S::write(N::text(), refs, alloc, d, s)
+    let refs = value.as_refs();
+    V::write(&refs, alloc, d, s)
 }

@@ -1,22 +1,23 @@
 //! The variants of an enum in JSON.
 
-ghost use Rattle.std.specs.Prelude.{◌≡◌, ℕ, suc, [], true, string_bytes, OnErr};
+ghost use Rattle.std.specs.Prelude.{◌≡◌, ℕ, suc, [], true, string_bytes, OnOk, OnErr};
 ghost use Rattle.std.specs.declared.str.Chars.{Chars};
 ghost use Rattle.nano_value.specs.Meaning.{Meaning};
 ghost use Rattle.nano_value.specs.Sums.{tagged};
+ghost use Rattle.nano_text.specs.Outcomes.{Appends, Unchanged};
 ghost use Rattle.nano_json.specs.Readers.{Decodes, Rejects};
 ghost use Rattle.nano_json.specs.State.{at, ended};
-ghost use Rattle.nano_schema.specs.Choices.{either_is};
+ghost use Rattle.nano_schema.specs.Choices.{either_is, either_map};
 ghost use Rattle.nano_schema_text.specs.Choices.{ChoiceCodec, EncodesAfter, is_named, last_choice};
 ghost use Rattle.nano_schema_text.specs.ChoicesLaws.{next_choice};
 ghost use Rattle.nano_schema_json.specs.Contents.{is_alone, bytes_of};
 ghost use Rattle.nano_schema_json.specs.VariantsLaws.{json_variants};
 
-use crate::contents::{JsonContent, ReadContent};
+use crate::contents::{JsonContent, ReadContent, WriteContent};
 use crate::variants::{VariantName, unknown_variant};
-use nano_json::{DeJsonErr, DeJsonState};
+use nano_json::{DeJsonErr, DeJsonState, SerJsonState};
 use nano_schema::{Either, Label, Variant};
-use std::alloc::Global;
+use std::alloc::{AllocError, Global};
 use std::str::Chars;
 
 /// Variants with a place in JSON.
@@ -58,6 +59,33 @@ pub trait JsonChoices {
             codec.encodes (is_alone name.now) (bytes_of name.now))
             (at state.old input.old) result }
         ensures ended { OnErr result (at state.new input.new ≡ ended) };
+}
+
+/// Variants that are written as JSON.
+pub trait JsonChoiceRefs<'a> {
+    /// The content of one of them.
+    type Values;
+
+    /// References to it.
+    type Refs;
+
+    /// What they refer to.
+    ghost values: { Self.Refs → Self.Values };
+
+    /// How they are written and read.
+    ghost codec: { ChoiceCodec json_variants Self.Values };
+
+    /// Appends the variant with its content at level `d`. If the write fails, `s.out` is
+    /// unchanged.
+    fn write(
+        refs: &Self::Refs,
+        alloc: Global,
+        d: usize,
+        s: &mut SerJsonState,
+    ) -> Result<(), AllocError>
+        ensures ok { OnOk result
+            (Appends s.old.out s.new.out (codec.text d (values refs.now))) }
+        ensures err { OnErr result (Unchanged s.old.out s.new.out) };
 }
 
 /// Whether the name that was taken is this one, and stood as it says.
@@ -135,6 +163,48 @@ impl<N: Label, S: ReadContent, C: JsonChoices> JsonChoices for (Variant<N, S>, C
         match C::read(name, alloc, state, input) {
             Ok(later) => Ok(Either::Later(later)),
             Err(error) => Err(error),
+        }
+    }
+}
+
+impl<'a, N: Label, S: WriteContent<'a>> JsonChoiceRefs<'a> for Variant<N, S> {
+    type Values = S::Values;
+
+    type Refs = S::Refs;
+
+    ghost values = { S.values };
+
+    ghost codec = { last_choice N.label S.content };
+
+    fn write(
+        refs: &S::Refs,
+        alloc: Global,
+        d: usize,
+        s: &mut SerJsonState,
+    ) -> Result<(), AllocError> {
+        S::write(N::text(), refs, alloc, d, s)
+    }
+}
+
+impl<'a, N: Label, S: WriteContent<'a>, C: JsonChoiceRefs<'a>> JsonChoiceRefs<'a>
+    for (Variant<N, S>, C) {
+    type Values = Either<S::Values, C::Values>;
+
+    type Refs = Either<S::Refs, C::Refs>;
+
+    ghost values = { either_map S.values C.values };
+
+    ghost codec = { next_choice N.label S.content C.codec };
+
+    fn write(
+        refs: &Either<S::Refs, C::Refs>,
+        alloc: Global,
+        d: usize,
+        s: &mut SerJsonState,
+    ) -> Result<(), AllocError> {
+        match refs {
+            Either::First(refs) => S::write(N::text(), refs, alloc, d, s),
+            Either::Later(refs) => C::write(refs, alloc, d, s),
         }
     }
 }

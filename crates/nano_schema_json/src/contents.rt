@@ -1,18 +1,14 @@
 //! What a variant holds, in JSON: nothing, one part between square brackets, or named fields between
 //! curly ones.
 
-ghost use Rattle.std.specs.Prelude.{◌≡◌, ℕ, List, OnOk, OnErr};
+ghost use Rattle.std.specs.Prelude.{◌≡◌, OnOk, OnErr};
 ghost use Rattle.nano_value.specs.Meaning.{Meaning, nothing};
 ghost use Rattle.nano_text.specs.Outcomes.{Appends, Unchanged};
 ghost use Rattle.nano_json.specs.Readers.{Decodes, Rejects};
 ghost use Rattle.nano_json.specs.State.{at, ended};
-ghost use Rattle.nano_json.specs.Written.{written_text};
 ghost use Rattle.nano_schema_text.specs.Choices.{Content, EncodesRest, stands_alone};
-ghost use Rattle.nano_schema_text.specs.FieldCanonical.{fields_text};
 ghost use Rattle.nano_schema_json.specs.CodecsLaws.{single_codec};
 ghost use Rattle.nano_schema_json.specs.ContentsLaws.{no_content, content_as, fields_content};
-ghost use Rattle.nano_schema_json.specs.FieldsLaws.{json_fields};
-ghost use Rattle.nano_schema_json.specs.Variants.{content_text};
 ghost use Rattle.nano_schema_json.specs.VariantsLaws.{json_variants};
 
 use crate::brackets::InBrackets;
@@ -68,11 +64,17 @@ pub trait ReadContent {
 
 /// The content of a variant that is written as JSON.
 pub trait WriteContent<'a> {
-    /// References to it.
+    /// Its values.
+    type Values;
+
+    /// References to them.
     type Refs;
 
-    /// The text of a variant of this name with the content at this level.
-    ghost text: { List ℕ → ℕ → Self.Refs → List ℕ };
+    /// What they refer to.
+    ghost values: { Self.Refs → Self.Values };
+
+    /// How it is written and read.
+    ghost content: { Content json_variants Self.Values };
 
     /// Appends the variant of this name with the content at level `d`. If the write fails,
     /// `s.out` is unchanged.
@@ -83,7 +85,7 @@ pub trait WriteContent<'a> {
         d: usize,
         s: &mut SerJsonState,
     ) -> Result<(), AllocError>
-        ensures ok { OnOk result (Appends s.old.out s.new.out (text name.now d refs.now)) }
+        ensures ok { OnOk result (Appends s.old.out s.new.out (content.text name.now d (values refs.now))) }
         ensures err { OnErr result (Unchanged s.old.out s.new.out) };
 }
 
@@ -116,9 +118,13 @@ impl ReadContent for Alone {
 }
 
 impl<'a> WriteContent<'a> for Alone {
+    type Values = ();
+
     type Refs = ();
 
-    ghost text = { λ name d r. written_text name };
+    ghost values = { λ r. r };
+
+    ghost content = { no_content };
 
     fn write(
         name: &str,
@@ -163,9 +169,13 @@ impl<T: DeJson> ReadContent for OnePart<T> {
 }
 
 impl<'a, T: SerJson + 'a> WriteContent<'a> for OnePart<T> {
+    type Values = T;
+
     type Refs = &'a T;
 
-    ghost text = { λ name d r. content_text name ((single_codec T.json).canonical.text d r.now) };
+    ghost values = { λ r. r.now };
+
+    ghost content = { content_as (single_codec T.json) };
 
     fn write(
         name: &str,
@@ -210,9 +220,13 @@ impl<F: JsonFields> ReadContent for Named<F> {
 }
 
 impl<'a, F: JsonRefs<'a>> WriteContent<'a> for Named<F> {
+    type Values = F::Values;
+
     type Refs = F::Refs;
 
-    ghost text = { λ name d r. content_text name (fields_text json_fields d (F.fields r)) };
+    ghost values = { F.values };
+
+    ghost content = { fields_content F.codec };
 
     fn write(
         name: &str,

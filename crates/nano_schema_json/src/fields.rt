@@ -6,13 +6,13 @@ ghost use Rattle.std.specs.Prelude.{string_bytes};
 ghost use Rattle.nano_value.specs.Meaning.{Meaning};
 ghost use Rattle.nano_text.specs.Outcomes.{Appends, AppendsPart};
 ghost use Rattle.nano_schema_text.specs.FieldCodec.{FieldsCodec};
-ghost use Rattle.nano_schema_text.specs.FieldCanonical.{WrittenField, field_text};
+ghost use Rattle.nano_schema_text.specs.FieldCanonical.{field_text};
 ghost use Rattle.nano_schema_json.specs.FieldReading.{Field, EncodedField, DecodesField};
 ghost use Rattle.nano_schema_json.specs.FieldTexts.{in_a_row, none_yet};
 ghost use Rattle.nano_schema_json.specs.FieldsLaws.{json_fields};
 ghost use Rattle.nano_json.specs.Readers.{Rejects, Reports};
 ghost use Rattle.nano_json.specs.State.{at, pending};
-ghost use Rattle.nano_json.specs.Token.{Token, IsStr};
+ghost use Rattle.nano_json.specs.Token.{IsStr};
 
 use nano_json::{DeJsonErr, DeJsonState, SerJsonState};
 use std::alloc::{AllocError, Global};
@@ -97,11 +97,17 @@ pub trait JsonFields {
 /// Fields that are written one after the other: a `Required` one is one, an `Optional` one is one
 /// or none, and a pair is its first fields and then its second ones.
 pub trait JsonRefs<'a> {
+    /// Their values.
+    type Values;
+
     /// References to their values.
     type Refs;
 
-    /// The fields that are written, in this order.
-    ghost fields: { Self.Refs → List (WrittenField Token) };
+    /// What they refer to.
+    ghost values: { Self.Refs → Self.Values };
+
+    /// How they are written and read.
+    ghost codec: { FieldsCodec json_fields Self.Values };
 
     /// Appends the fields, with their values at level `d`. Each comes after a comma, but the
     /// first where `first` says that no field comes before it. Answers whether none comes
@@ -116,7 +122,8 @@ pub trait JsonRefs<'a> {
         s: &mut SerJsonState,
     ) -> Result<bool, AllocError>
         ensures ok { OnOk result (Appends s.old.out s.new.out
-            (in_a_row first (field_text json_fields d) (fields refs.now))) }
-        ensures next { IfOk result (λ still_first. still_first ≡ none_yet first (fields refs.now)) }
+            (in_a_row first (field_text json_fields d) (codec.canonical.fields (values refs.now)))) }
+        ensures next { IfOk result (λ still_first. still_first
+            ≡ none_yet first (codec.canonical.fields (values refs.now))) }
         ensures err { OnErr result (AppendsPart s.old.out s.new.out) };
 }

@@ -21,8 +21,8 @@ mod variant_writer;
 mod variants;
 mod writer;
 
-pub use choice::{read_choice_json, write_variant_json};
-pub use choices::{JsonChoices, JsonShapes};
+pub use choice::{read_choice_json, write_choice_json};
+pub use choices::{JsonChoiceRefs, JsonChoices, JsonShapes};
 pub use contents::{JsonContent, ReadContent, WriteContent};
 pub use fields::{JsonFields, JsonRefs, JsonShape};
 pub use nano_json::{BothJson, DeJson, DeJsonErr, DeJsonState, JsonCodec, SerJson, SerJsonState};

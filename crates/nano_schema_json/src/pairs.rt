@@ -1,6 +1,5 @@
 //! Fields and more fields.
 
-ghost use Rattle.std.specs.Prelude.{◌++◌};
 ghost use Rattle.nano_schema_text.specs.Fields.{others};
 ghost use Rattle.nano_schema_json.specs.FieldsLaws.{also};
 ghost use Rattle.nano_schema_text.specs.SlotsLaws.{both_skip};
@@ -86,9 +85,13 @@ impl<A: JsonFields, B: JsonFields> JsonFields for (A, B) {
 }
 
 impl<'a, A: JsonRefs<'a>, B: JsonRefs<'a>> JsonRefs<'a> for (A, B) {
+    type Values = (A::Values, B::Values);
+
     type Refs = (A::Refs, B::Refs);
 
-    ghost fields = { λ r. A.fields r.0 ++ B.fields r.1 };
+    ghost values = { λ r. (A.values r.0, B.values r.1) };
+
+    ghost codec = { also A.codec B.codec };
 
     fn append_fields(
         refs: &(A::Refs, B::Refs),

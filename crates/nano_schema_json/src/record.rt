@@ -4,6 +4,7 @@ ghost use Rattle.std.specs.Prelude.{◌≡◌, OnOk, OnErr};
 ghost use Rattle.nano_text.specs.Outcomes.{Appends, Unchanged};
 ghost use Rattle.nano_json.specs.Readers.{Decodes, Rejects};
 ghost use Rattle.nano_json.specs.State.{at, ended};
+ghost use Rattle.nano_schema.specs.Views.{SeesAs};
 ghost use Rattle.nano_schema_text.specs.FieldCanonical.{fields_text};
 ghost use Rattle.nano_schema_json.specs.FieldReadingLaws.{fields_of};
 ghost use Rattle.nano_schema_json.specs.FieldsLaws.{json_fields};
@@ -12,7 +13,7 @@ use crate::fields::{JsonFields, JsonRefs};
 use crate::read::read_fields;
 use crate::writer::write_fields;
 use nano_json::{DeJsonErr, DeJsonState, SerJsonState};
-use nano_schema::Record;
+use nano_schema::{Parts, Record};
 use std::alloc::{AllocError, Global};
 use std::str::Chars;
 
@@ -37,17 +38,18 @@ pub fn read_record_json<R: Record, F: JsonFields<Values = R::Values>>(
     }
 }
 
-/// Writes a user-defined struct, whose fields are at hand by reference, at level `d`. If the write
-/// fails, `s.out` is unchanged.
-pub fn write_record_json<'a, F: JsonRefs<'a>>(
-    refs: &F::Refs,
+/// Writes a user-defined struct at level `d`, where the fields are those that it is seen by. If the
+/// write fails, `s.out` is unchanged.
+pub fn write_record_json<'a, R: Parts<'a>, F: JsonRefs<'a, Refs = R::Refs, Values = R::Values>>(
+    value: &'a R,
     alloc: Global,
     d: usize,
     s: &mut SerJsonState,
 ) -> Result<(), AllocError>
-    ensures ok { OnOk result
-        (Appends s.old.out s.new.out (fields_text json_fields d (F.fields refs.now))) }
+    ensures ok { SeesAs F.values R.Parts.values → OnOk result (Appends s.old.out s.new.out
+        (fields_text json_fields d (F.codec.canonical.fields (R.view value.now)))) }
     ensures err { OnErr result (Unchanged s.old.out s.new.out) }
 {
-    write_fields::<F>(refs, alloc, d, s)
+    let refs = value.as_refs();
+    write_fields::<F>(&refs, alloc, d, s)
 }

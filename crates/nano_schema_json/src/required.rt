@@ -1,9 +1,7 @@
 //! A field that must be there.
 
-ghost use Rattle.std.specs.Prelude.{◌∷◌, []};
 ghost use Rattle.std.specs.Option.{option_map};
 ghost use Rattle.nano_schema_json.specs.FieldsLaws.{must};
-ghost use Rattle.nano_schema_text.specs.FieldCanonicalLaws.{written_field};
 ghost use Rattle.nano_schema_text.specs.Slots.{Holds};
 ghost use Rattle.nano_schema_text.specs.SlotsLaws.{holds_skips};
 
@@ -65,9 +63,13 @@ impl<N: Label, T: DeJson> JsonFields for Required<N, T> {
 }
 
 impl<'a, N: Label, T: SerJson + 'a> JsonRefs<'a> for Required<N, T> {
+    type Values = T;
+
     type Refs = &'a T;
 
-    ghost fields = { λ r. written_field N.label T.json.canonical r.now ∷ [] };
+    ghost values = { λ r. r.now };
+
+    ghost codec = { must N.label T.json };
 
     fn append_fields(
         refs: &&'a T,

@@ -1,7 +1,6 @@
 //! A variant with two, three or four parts, in JSON: a tuple between square brackets.
 
 ghost use Rattle.nano_schema_json.specs.ContentsLaws.{content_as};
-ghost use Rattle.nano_schema_json.specs.Variants.{content_text};
 
 use crate::contents::{JsonContent, ReadContent, WriteContent};
 use crate::part::Part;
@@ -39,10 +38,13 @@ impl<P: DeJson> ReadContent for Tupled<P> {
 }
 
 impl<'a, A: SerJson + 'a, B: SerJson + 'a> WriteContent<'a> for Tupled<(A, B)> {
+    type Values = (A, B);
+
     type Refs = (&'a A, &'a B);
 
-    ghost text = { λ name d r. content_text name (⟦<(A, B) as JsonCodec>⟧.json.canonical.text d
-        (r.0.now, r.1.now)) };
+    ghost values = { λ r. (r.0.now, r.1.now) };
+
+    ghost content = { content_as ⟦<(A, B) as JsonCodec>⟧.json };
 
     fn write(
         name: &str,
@@ -57,10 +59,13 @@ impl<'a, A: SerJson + 'a, B: SerJson + 'a> WriteContent<'a> for Tupled<(A, B)> {
 }
 
 impl<'a, A: SerJson + 'a, B: SerJson + 'a, C: SerJson + 'a> WriteContent<'a> for Tupled<(A, B, C)> {
+    type Values = (A, B, C);
+
     type Refs = (&'a A, &'a B, &'a C);
 
-    ghost text = { λ name d r. content_text name (⟦<(A, B, C) as JsonCodec>⟧.json.canonical.text d
-        (r.0.now, r.1.now, r.2.now)) };
+    ghost values = { λ r. (r.0.now, r.1.now, r.2.now) };
+
+    ghost content = { content_as ⟦<(A, B, C) as JsonCodec>⟧.json };
 
     fn write(
         name: &str,
@@ -80,10 +85,13 @@ impl<'a, A: SerJson + 'a, B: SerJson + 'a, C: SerJson + 'a> WriteContent<'a> for
 
 impl<'a, A: SerJson + 'a, B: SerJson + 'a, C: SerJson + 'a, D: SerJson + 'a> WriteContent<'a>
     for Tupled<(A, B, C, D)> {
+    type Values = (A, B, C, D);
+
     type Refs = (&'a A, &'a B, &'a C, &'a D);
 
-    ghost text = { λ name d r. content_text name (⟦<(A, B, C, D) as JsonCodec>⟧.json.canonical.text d
-        (r.0.now, r.1.now, r.2.now, r.3.now)) };
+    ghost values = { λ r. (r.0.now, r.1.now, r.2.now, r.3.now) };
+
+    ghost content = { content_as ⟦<(A, B, C, D) as JsonCodec>⟧.json };
 
     fn write(
         name: &str,

@@ -50,7 +50,8 @@ pub fn write_fields_variant<'a, F: JsonRefs<'a>>(
     s: &mut SerJsonState,
 ) -> Result<(), AllocError>
     ensures ok { OnOk result (Appends s.old.out s.new.out
-        (content_text name.now (fields_text json_fields d (F.fields refs.now)))) }
+        (content_text name.now (fields_text json_fields d
+        (F.codec.canonical.fields (F.values refs.now))))) }
     ensures err { OnErr result (Unchanged s.old.out s.new.out) }
 {
     let start = s.out.len();
@@ -85,7 +86,8 @@ fn append_fields_variant<'a, F: JsonRefs<'a>>(
     s: &mut SerJsonState,
 ) -> Result<(), AllocError>
     ensures ok { OnOk result (Appends s.old.out s.new.out
-        (content_text name.now (fields_text json_fields d (F.fields refs.now)))) }
+        (content_text name.now (fields_text json_fields d
+        (F.codec.canonical.fields (F.values refs.now))))) }
     ensures err { OnErr result (AppendsPart s.old.out s.new.out) }
 {
     append_opening(alloc, name, s)?;

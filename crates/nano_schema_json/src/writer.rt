@@ -40,7 +40,8 @@ fn append_struct<'a, F: JsonRefs<'a>>(
     s: &mut SerJsonState,
 ) -> Result<(), AllocError>
     ensures ok { OnOk result
-        (Appends s.old.out s.new.out (fields_text json_fields d (F.fields refs.now))) }
+        (Appends s.old.out s.new.out (fields_text json_fields d
+        (F.codec.canonical.fields (F.values refs.now)))) }
     ensures err { OnErr result (AppendsPart s.old.out s.new.out) }
 {
     s.st_pre()?;
@@ -59,7 +60,8 @@ pub fn write_fields<'a, F: JsonRefs<'a>>(
     s: &mut SerJsonState,
 ) -> Result<(), AllocError>
     ensures ok { OnOk result
-        (Appends s.old.out s.new.out (fields_text json_fields d (F.fields refs.now))) }
+        (Appends s.old.out s.new.out (fields_text json_fields d
+        (F.codec.canonical.fields (F.values refs.now)))) }
     ensures err { OnErr result (Unchanged s.old.out s.new.out) }
 {
     let start = s.out.len();

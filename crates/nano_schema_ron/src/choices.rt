@@ -1,21 +1,22 @@
 //! The variants of an enum in RON.
 
-ghost use Rattle.std.specs.Prelude.{◌≡◌, ℕ, suc, OnErr};
+ghost use Rattle.std.specs.Prelude.{◌≡◌, ℕ, suc, OnOk, OnErr};
 ghost use Rattle.nano_value.specs.Meaning.{Meaning};
 ghost use Rattle.nano_value.specs.Sums.{tagged};
+ghost use Rattle.nano_text.specs.Outcomes.{Appends, Unchanged};
 ghost use Rattle.nano_ron.specs.Readers.{Decodes, Rejects};
 ghost use Rattle.nano_ron.specs.State.{at, ended};
-ghost use Rattle.nano_schema.specs.Choices.{either_is};
+ghost use Rattle.nano_schema.specs.Choices.{either_is, either_map};
 ghost use Rattle.nano_schema_text.specs.Choices.{ChoiceCodec, EncodesAfter, has_alone, is_named};
 ghost use Rattle.nano_schema_text.specs.Choices.{last_choice};
 ghost use Rattle.nano_schema_text.specs.ChoicesLaws.{next_choice};
 ghost use Rattle.nano_schema_ron.specs.VariantsLaws.{ron_variants};
 
-use crate::contents::{ReadContent, RonContent};
+use crate::contents::{ReadContent, RonContent, WriteContent};
 use crate::variants::unknown_variant;
-use nano_ron::{DeRonErr, DeRonState};
+use nano_ron::{DeRonErr, DeRonState, SerRonState};
 use nano_schema::{Either, Label, Variant};
-use std::alloc::Global;
+use std::alloc::{AllocError, Global};
 use std::str::Chars;
 
 /// Variants with a place in RON.
@@ -62,6 +63,33 @@ pub trait RonChoices {
         ensures rejected { (from : ℕ) → Rejects (EncodesAfter ron_variants from
             codec.encodes alone name.now) (at state.old input.old) result }
         ensures ended { OnErr result (at state.new input.new ≡ ended) };
+}
+
+/// Variants that are written as RON.
+pub trait RonChoiceRefs<'a> {
+    /// The content of one of them.
+    type Values;
+
+    /// References to it.
+    type Refs;
+
+    /// What they refer to.
+    ghost values: { Self.Refs → Self.Values };
+
+    /// How they are written and read.
+    ghost codec: { ChoiceCodec ron_variants Self.Values };
+
+    /// Appends the variant with its content at level `d`. If the write fails, `s.out` is
+    /// unchanged.
+    fn write(
+        refs: &Self::Refs,
+        alloc: Global,
+        d: usize,
+        s: &mut SerRonState,
+    ) -> Result<(), AllocError>
+        ensures ok { OnOk result
+            (Appends s.old.out s.new.out (codec.text d (values refs.now))) }
+        ensures err { OnErr result (Unchanged s.old.out s.new.out) };
 }
 
 /// Whether this is the name, and both stand alone or neither does.
@@ -135,6 +163,48 @@ impl<N: Label, S: ReadContent, C: RonChoices> RonChoices for (Variant<N, S>, C) 
         match C::read(name, alone, alloc, state, input) {
             Ok(later) => Ok(Either::Later(later)),
             Err(error) => Err(error),
+        }
+    }
+}
+
+impl<'a, N: Label, S: WriteContent<'a>> RonChoiceRefs<'a> for Variant<N, S> {
+    type Values = S::Values;
+
+    type Refs = S::Refs;
+
+    ghost values = { S.values };
+
+    ghost codec = { last_choice N.label S.content };
+
+    fn write(
+        refs: &S::Refs,
+        alloc: Global,
+        d: usize,
+        s: &mut SerRonState,
+    ) -> Result<(), AllocError> {
+        S::write(N::text(), refs, alloc, d, s)
+    }
+}
+
+impl<'a, N: Label, S: WriteContent<'a>, C: RonChoiceRefs<'a>> RonChoiceRefs<'a>
+    for (Variant<N, S>, C) {
+    type Values = Either<S::Values, C::Values>;
+
+    type Refs = Either<S::Refs, C::Refs>;
+
+    ghost values = { either_map S.values C.values };
+
+    ghost codec = { next_choice N.label S.content C.codec };
+
+    fn write(
+        refs: &Either<S::Refs, C::Refs>,
+        alloc: Global,
+        d: usize,
+        s: &mut SerRonState,
+    ) -> Result<(), AllocError> {
+        match refs {
+            Either::First(refs) => S::write(N::text(), refs, alloc, d, s),
+            Either::Later(refs) => C::write(refs, alloc, d, s),
         }
     }
 }

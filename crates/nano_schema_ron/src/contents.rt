@@ -1,15 +1,12 @@
 //! What a variant holds, in RON: nothing, parts between parentheses, or named fields between them.
 
-ghost use Rattle.std.specs.Prelude.{◌≡◌, ℕ, List, OnOk, OnErr, chars};
+ghost use Rattle.std.specs.Prelude.{◌≡◌, OnOk, OnErr};
 ghost use Rattle.nano_value.specs.Meaning.{Meaning, nothing};
 ghost use Rattle.nano_text.specs.Outcomes.{Appends, Unchanged};
 ghost use Rattle.nano_ron.specs.Readers.{Decodes, Rejects};
 ghost use Rattle.nano_ron.specs.State.{at, ended};
 ghost use Rattle.nano_schema_text.specs.Choices.{Content, EncodesRest, stands_alone};
-ghost use Rattle.nano_schema_text.specs.FieldCanonical.{fields_text};
 ghost use Rattle.nano_schema_ron.specs.ContentsLaws.{no_content, fields_content};
-ghost use Rattle.nano_schema_ron.specs.FieldsLaws.{ron_fields};
-ghost use Rattle.nano_schema_ron.specs.Variants.{content_text};
 ghost use Rattle.nano_schema_ron.specs.VariantsLaws.{ron_variants};
 
 use crate::fields::{RonFields, RonRefs, RonShape};
@@ -63,11 +60,17 @@ pub trait ReadContent {
 
 /// The content of a variant that is written as RON.
 pub trait WriteContent<'a> {
-    /// References to it.
+    /// Its values.
+    type Values;
+
+    /// References to them.
     type Refs;
 
-    /// The text of a variant of this name with the content at this level.
-    ghost text: { List ℕ → ℕ → Self.Refs → List ℕ };
+    /// What they refer to.
+    ghost values: { Self.Refs → Self.Values };
+
+    /// How it is written and read.
+    ghost content: { Content ron_variants Self.Values };
 
     /// Appends the variant of this name with the content at level `d`. If the write fails,
     /// `s.out` is unchanged.
@@ -78,7 +81,7 @@ pub trait WriteContent<'a> {
         d: usize,
         s: &mut SerRonState,
     ) -> Result<(), AllocError>
-        ensures ok { OnOk result (Appends s.old.out s.new.out (text name.now d refs.now)) }
+        ensures ok { OnOk result (Appends s.old.out s.new.out (content.text name.now d (values refs.now))) }
         ensures err { OnErr result (Unchanged s.old.out s.new.out) };
 }
 
@@ -111,9 +114,13 @@ impl ReadContent for Alone {
 }
 
 impl<'a> WriteContent<'a> for Alone {
+    type Values = ();
+
     type Refs = ();
 
-    ghost text = { λ name d r. chars name };
+    ghost values = { λ r. r };
+
+    ghost content = { no_content };
 
     fn write(
         name: &str,
@@ -155,9 +162,13 @@ impl<F: RonFields> ReadContent for Named<F> {
 }
 
 impl<'a, F: RonRefs<'a>> WriteContent<'a> for Named<F> {
+    type Values = F::Values;
+
     type Refs = F::Refs;
 
-    ghost text = { λ name d r. content_text name (fields_text ron_fields d (F.fields r)) };
+    ghost values = { F.values };
+
+    ghost content = { fields_content F.codec };
 
     fn write(
         name: &str,

@@ -6,13 +6,13 @@ ghost use Rattle.std.specs.Prelude.{string_bytes};
 ghost use Rattle.nano_value.specs.Meaning.{Meaning};
 ghost use Rattle.nano_text.specs.Outcomes.{Appends, AppendsPart};
 ghost use Rattle.nano_schema_text.specs.FieldCodec.{FieldsCodec};
-ghost use Rattle.nano_schema_text.specs.FieldCanonical.{WrittenField, field_text};
+ghost use Rattle.nano_schema_text.specs.FieldCanonical.{field_text};
 ghost use Rattle.nano_schema_ron.specs.FieldReading.{Field, EncodedField, DecodesField};
 ghost use Rattle.nano_schema_ron.specs.FieldTexts.{on_lines};
 ghost use Rattle.nano_schema_ron.specs.FieldsLaws.{ron_fields};
 ghost use Rattle.nano_ron.specs.Readers.{Rejects, Reports};
 ghost use Rattle.nano_ron.specs.State.{at, pending};
-ghost use Rattle.nano_ron.specs.Token.{Token, IsIdent};
+ghost use Rattle.nano_ron.specs.Token.{IsIdent};
 
 use nano_ron::{DeRonErr, DeRonState, SerRonState};
 use std::alloc::{AllocError, Global};
@@ -97,11 +97,17 @@ pub trait RonFields {
 /// Fields that are written one below the other: a `Required` one is one, an `Optional` one is one
 /// or none, and a pair is its first fields and then its second ones.
 pub trait RonRefs<'a> {
+    /// Their values.
+    type Values;
+
     /// References to their values.
     type Refs;
 
-    /// The fields that are written, in this order.
-    ghost fields: { Self.Refs → List (WrittenField Token) };
+    /// What they refer to.
+    ghost values: { Self.Refs → Self.Values };
+
+    /// How they are written and read.
+    ghost codec: { FieldsCodec ron_fields Self.Values };
 
     /// Appends the fields at level `d`, each on a line of its own, with a comma after it.
     ///
@@ -113,6 +119,6 @@ pub trait RonRefs<'a> {
         s: &mut SerRonState,
     ) -> Result<(), AllocError>
         ensures ok { OnOk result (Appends s.old.out s.new.out
-            (on_lines d (field_text ron_fields d) (fields refs.now))) }
+            (on_lines d (field_text ron_fields d) (codec.canonical.fields (values refs.now)))) }
         ensures err { OnErr result (AppendsPart s.old.out s.new.out) };
 }

@@ -21,8 +21,8 @@ mod variant_writer;
 mod variants;
 mod writer;
 
-pub use choice::{read_choice_ron, write_variant_ron};
-pub use choices::{RonChoices, RonShapes};
+pub use choice::{read_choice_ron, write_choice_ron};
+pub use choices::{RonChoiceRefs, RonChoices, RonShapes};
 pub use contents::{ReadContent, RonContent, WriteContent};
 pub use fields::{RonFields, RonRefs, RonShape};
 pub use nano_ron::{BothRon, DeRon, DeRonErr, DeRonState, RonCodec, SerRon, SerRonState};

@@ -46,9 +46,13 @@ impl<T: DeRon> ReadContent for OnePart<T> {
 }
 
 impl<'a, T: SerRon + 'a> WriteContent<'a> for OnePart<T> {
+    type Values = T;
+
     type Refs = &'a T;
 
-    ghost text = { λ name d r. content_text name ((single_codec T.ron).canonical.text d r.now) };
+    ghost values = { λ r. r.now };
+
+    ghost content = { content_as (single_codec T.ron) (λ x d. refl) };
 
     fn write(
         name: &str,

@@ -2,7 +2,6 @@
 
 ghost use Rattle.std.specs.Option.{option_map};
 ghost use Rattle.nano_value.specs.Meaning.{optional};
-ghost use Rattle.nano_schema_text.specs.FieldCanonicalLaws.{written_if_some};
 ghost use Rattle.nano_schema_text.specs.StructLaws.{may_read};
 ghost use Rattle.nano_schema_ron.specs.FieldsLaws.{may};
 ghost use Rattle.nano_schema_text.specs.SlotsLaws.{optional_skips};
@@ -67,9 +66,13 @@ impl<N: Label, T: DeRon> RonFields for Optional<N, T> {
 }
 
 impl<'a, N: Label, T: SerRon + 'a> RonRefs<'a> for Optional<N, T> {
+    type Values = Option<T>;
+
     type Refs = &'a Option<T>;
 
-    ghost fields = { λ r. written_if_some N.label T.ron.canonical r.now };
+    ghost values = { λ r. r.now };
+
+    ghost codec = { may N.label T.ron };
 
     fn append_fields(
         refs: &&'a Option<T>,

@@ -8,7 +8,6 @@ ghost use Rattle.nano_ron.specs.State.{at, ended};
 ghost use Rattle.nano_ron.specs.TuplesLaws.{pair_codec, triple_codec, quadruple_codec};
 ghost use Rattle.nano_schema_ron.specs.VariantsLaws.{ron_variants};
 ghost use Rattle.nano_schema_ron.specs.ContentsLaws.{content_as};
-ghost use Rattle.nano_schema_ron.specs.Variants.{content_text};
 
 use crate::contents::{ReadContent, RonContent, WriteContent};
 use crate::part::Part;
@@ -63,10 +62,13 @@ impl<A: DeRon, B: DeRon> ReadContent for Tupled<(A, B)> {
 }
 
 impl<'a, A: SerRon + 'a, B: SerRon + 'a> WriteContent<'a> for Tupled<(A, B)> {
+    type Values = (A, B);
+
     type Refs = (&'a A, &'a B);
 
-    ghost text = { λ name d r. content_text name ((pair_codec A.ron B.ron).canonical.text d
-        (r.0.now, r.1.now)) };
+    ghost values = { λ r. (r.0.now, r.1.now) };
+
+    ghost content = { content_as (pair_codec A.ron B.ron) (λ x d. refl) };
 
     fn write(
         name: &str,
@@ -109,10 +111,13 @@ impl<A: DeRon, B: DeRon, C: DeRon> ReadContent for Tupled<(A, B, C)> {
 }
 
 impl<'a, A: SerRon + 'a, B: SerRon + 'a, C: SerRon + 'a> WriteContent<'a> for Tupled<(A, B, C)> {
+    type Values = (A, B, C);
+
     type Refs = (&'a A, &'a B, &'a C);
 
-    ghost text = { λ name d r. content_text name ((triple_codec A.ron B.ron C.ron).canonical.text d
-        (r.0.now, r.1.now, r.2.now)) };
+    ghost values = { λ r. (r.0.now, r.1.now, r.2.now) };
+
+    ghost content = { content_as (triple_codec A.ron B.ron C.ron) (λ x d. refl) };
 
     fn write(
         name: &str,
@@ -160,10 +165,13 @@ impl<A: DeRon, B: DeRon, C: DeRon, D: DeRon> ReadContent for Tupled<(A, B, C, D)
 
 impl<'a, A: SerRon + 'a, B: SerRon + 'a, C: SerRon + 'a, D: SerRon + 'a> WriteContent<'a>
     for Tupled<(A, B, C, D)> {
+    type Values = (A, B, C, D);
+
     type Refs = (&'a A, &'a B, &'a C, &'a D);
 
-    ghost text = { λ name d r. content_text name ((quadruple_codec A.ron B.ron C.ron D.ron).canonical.text d
-        (r.0.now, r.1.now, r.2.now, r.3.now)) };
+    ghost values = { λ r. (r.0.now, r.1.now, r.2.now, r.3.now) };
+
+    ghost content = { content_as (quadruple_codec A.ron B.ron C.ron D.ron) (λ x d. refl) };
 
     fn write(
         name: &str,

@@ -48,7 +48,8 @@ pub fn write_fields_variant<'a, F: RonRefs<'a>>(
     s: &mut SerRonState,
 ) -> Result<(), AllocError>
     ensures ok { OnOk result (Appends s.old.out s.new.out
-        (content_text name.now (fields_text ron_fields d (F.fields refs.now)))) }
+        (content_text name.now (fields_text ron_fields d
+        (F.codec.canonical.fields (F.values refs.now))))) }
     ensures err { OnErr result (Unchanged s.old.out s.new.out) }
 {
     let start = s.out.len();
@@ -82,7 +83,8 @@ fn append_fields_variant<'a, F: RonRefs<'a>>(
     s: &mut SerRonState,
 ) -> Result<(), AllocError>
     ensures ok { OnOk result (Appends s.old.out s.new.out
-        (content_text name.now (fields_text ron_fields d (F.fields refs.now)))) }
+        (content_text name.now (fields_text ron_fields d
+        (F.codec.canonical.fields (F.values refs.now))))) }
     ensures err { OnErr result (AppendsPart s.old.out s.new.out) }
 {
     write_unit_variant(name, s)?;

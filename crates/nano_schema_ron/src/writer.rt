@@ -37,7 +37,8 @@ fn append_struct<'a, F: RonRefs<'a>>(
     s: &mut SerRonState,
 ) -> Result<(), AllocError>
     ensures ok { OnOk result
-        (Appends s.old.out s.new.out (fields_text ron_fields d (F.fields refs.now))) }
+        (Appends s.old.out s.new.out (fields_text ron_fields d
+        (F.codec.canonical.fields (F.values refs.now)))) }
     ensures err { OnErr result (AppendsPart s.old.out s.new.out) }
 {
     s.st_pre()?;
@@ -56,7 +57,8 @@ pub fn write_fields<'a, F: RonRefs<'a>>(
     s: &mut SerRonState,
 ) -> Result<(), AllocError>
     ensures ok { OnOk result
-        (Appends s.old.out s.new.out (fields_text ron_fields d (F.fields refs.now))) }
+        (Appends s.old.out s.new.out (fields_text ron_fields d
+        (F.codec.canonical.fields (F.values refs.now)))) }
     ensures err { OnErr result (Unchanged s.old.out s.new.out) }
 {
     let start = s.out.len();

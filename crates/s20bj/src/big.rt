@@ -5,7 +5,7 @@ ghost use Rattle.nano_schema.specs.Rows.{agreed};
 ghost use Rattle.nano_schema_bin.specs.Record.{bin_of};
 ghost use Rattle.nano_schema_json.specs.Record.{json_of};
 
-use nano_schema::{Borrowed, Label, Optional, Record, Required, Shape, Value};
+use nano_schema::{Borrowed, Label, Optional, Parts, Record, Required, Shape, Value, known_record};
 use nano_schema_bin::{BinCodec, BinShape, DeBin, DeBinErr, SerBin, read_record_bin, write_record_bin};
 use nano_schema_json::{DeJson, DeJsonState, JsonCodec, JsonResult, JsonShape, SerJson, SerJsonState, read_record_json, write_record_json};
 use std::alloc::{AllocError, Global};
@@ -309,13 +309,23 @@ impl Record for Big {
     }
 }
 
+impl<'a> Parts<'a> for Big {
+    type Refs = ((((&'a u32, &'a String), (&'a bool, (&'a Option<String>, &'a i64))), ((&'a u32, &'a String), (&'a bool, (&'a u32, &'a String)))), (((&'a bool, &'a Option<String>), (&'a i64, (&'a u32, &'a String))), ((&'a bool, &'a u32), (&'a String, (&'a bool, &'a Option<String>)))));
+
+    ghost values = { ⟦<BigFields as Borrowed>⟧.values };
+
+    fn as_refs(&'a self) -> ((((&'a u32, &'a String), (&'a bool, (&'a Option<String>, &'a i64))), ((&'a u32, &'a String), (&'a bool, (&'a u32, &'a String)))), (((&'a bool, &'a Option<String>), (&'a i64, (&'a u32, &'a String))), ((&'a bool, &'a u32), (&'a String, (&'a bool, &'a Option<String>))))) {
+        ((((&self.alpha, &self.bravo), (&self.carol, (&self.delta, &self.echo))), ((&self.fox, &self.golf), (&self.hotel, (&self.india, &self.juliet)))), (((&self.kilo, &self.lima), (&self.mike, (&self.november, &self.oscar))), ((&self.papa, &self.quebec), (&self.romeo, (&self.sierra, &self.tango)))))
+    }
+}
+
 impl Value for Big {
     ghost means = { λ r. ⟦<BigFields as Shape>⟧.means (⟦<Big as Record>⟧.view r) };
 
     ghost legal = { ⟦<BigFields as Shape>⟧.legal };
 
     fn known(&self) {
-        <BigFields as Borrowed>::known(&((((&self.alpha, &self.bravo), (&self.carol, (&self.delta, &self.echo))), ((&self.fox, &self.golf), (&self.hotel, (&self.india, &self.juliet)))), (((&self.kilo, &self.lima), (&self.mike, (&self.november, &self.oscar))), ((&self.papa, &self.quebec), (&self.romeo, (&self.sierra, &self.tango))))));
+        known_record::<Big, BigFields>(self);
     }
 }
 
@@ -329,7 +339,7 @@ impl BinCodec for Big {
 
 impl SerBin for Big {
     fn ser_bin(&self, alloc: Global, output: &mut Vec<u8>) -> Result<(), AllocError> {
-        write_record_bin::<BigFields>(&((((&self.alpha, &self.bravo), (&self.carol, (&self.delta, &self.echo))), ((&self.fox, &self.golf), (&self.hotel, (&self.india, &self.juliet)))), (((&self.kilo, &self.lima), (&self.mike, (&self.november, &self.oscar))), ((&self.papa, &self.quebec), (&self.romeo, (&self.sierra, &self.tango))))), alloc, output)
+        write_record_bin::<Big, BigFields>(self, alloc, output)
     }
 }
 
@@ -351,7 +361,7 @@ impl JsonCodec for Big {
 
 impl SerJson for Big {
     fn ser_json(&self, alloc: Global, d: usize, s: &mut SerJsonState) -> Result<(), AllocError> {
-        write_record_json::<BigFields>(&((((&self.alpha, &self.bravo), (&self.carol, (&self.delta, &self.echo))), ((&self.fox, &self.golf), (&self.hotel, (&self.india, &self.juliet)))), (((&self.kilo, &self.lima), (&self.mike, (&self.november, &self.oscar))), ((&self.papa, &self.quebec), (&self.romeo, (&self.sierra, &self.tango))))), alloc, d, s)
+        write_record_json::<Big, BigFields>(self, alloc, d, s)
     }
 }
 

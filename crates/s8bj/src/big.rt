@@ -5,7 +5,7 @@ ghost use Rattle.nano_schema.specs.Rows.{agreed};
 ghost use Rattle.nano_schema_bin.specs.Record.{bin_of};
 ghost use Rattle.nano_schema_json.specs.Record.{json_of};
 
-use nano_schema::{Borrowed, Label, Optional, Record, Required, Shape, Value};
+use nano_schema::{Borrowed, Label, Optional, Parts, Record, Required, Shape, Value, known_record};
 use nano_schema_bin::{BinCodec, BinShape, DeBin, DeBinErr, SerBin, read_record_bin, write_record_bin};
 use nano_schema_json::{DeJson, DeJsonState, JsonCodec, JsonResult, JsonShape, SerJson, SerJsonState, read_record_json, write_record_json};
 use std::alloc::{AllocError, Global};
@@ -141,13 +141,23 @@ impl Record for Big {
     }
 }
 
+impl<'a> Parts<'a> for Big {
+    type Refs = (((&'a u32, &'a String), (&'a bool, &'a Option<String>)), ((&'a i64, &'a u32), (&'a String, &'a bool)));
+
+    ghost values = { ⟦<BigFields as Borrowed>⟧.values };
+
+    fn as_refs(&'a self) -> (((&'a u32, &'a String), (&'a bool, &'a Option<String>)), ((&'a i64, &'a u32), (&'a String, &'a bool))) {
+        (((&self.alpha, &self.bravo), (&self.carol, &self.delta)), ((&self.echo, &self.fox), (&self.golf, &self.hotel)))
+    }
+}
+
 impl Value for Big {
     ghost means = { λ r. ⟦<BigFields as Shape>⟧.means (⟦<Big as Record>⟧.view r) };
 
     ghost legal = { ⟦<BigFields as Shape>⟧.legal };
 
     fn known(&self) {
-        <BigFields as Borrowed>::known(&(((&self.alpha, &self.bravo), (&self.carol, &self.delta)), ((&self.echo, &self.fox), (&self.golf, &self.hotel))));
+        known_record::<Big, BigFields>(self);
     }
 }
 
@@ -161,7 +171,7 @@ impl BinCodec for Big {
 
 impl SerBin for Big {
     fn ser_bin(&self, alloc: Global, output: &mut Vec<u8>) -> Result<(), AllocError> {
-        write_record_bin::<BigFields>(&(((&self.alpha, &self.bravo), (&self.carol, &self.delta)), ((&self.echo, &self.fox), (&self.golf, &self.hotel))), alloc, output)
+        write_record_bin::<Big, BigFields>(self, alloc, output)
     }
 }
 
@@ -183,7 +193,7 @@ impl JsonCodec for Big {
 
 impl SerJson for Big {
     fn ser_json(&self, alloc: Global, d: usize, s: &mut SerJsonState) -> Result<(), AllocError> {
-        write_record_json::<BigFields>(&(((&self.alpha, &self.bravo), (&self.carol, &self.delta)), ((&self.echo, &self.fox), (&self.golf, &self.hotel))), alloc, d, s)
+        write_record_json::<Big, BigFields>(self, alloc, d, s)
     }
 }
 

@@ -8,10 +8,10 @@ ghost use Rattle.nano_schema_json.specs.Choice.{json_choice};
 ghost use Rattle.nano_schema_ron.specs.Choice.{ron_choice};
 ghost use Rattle.nanoserde.specs.declared.records.choice.Choice.TheVariants.{A, B, C};
 
-use nano_schema::{Alone, Borrowed, Choice, Choices, Either, Label, Named, Required, Tupled, Value, Variant};
-use nano_schema_bin::{BinCodec, BinShapes, DeBin, DeBinErr, SerBin, read_choice_bin, write_variant_bin};
-use nano_schema_json::{DeJson, DeJsonState, JsonCodec, JsonResult, JsonShapes, SerJson, SerJsonState, read_choice_json, write_variant_json};
-use nano_schema_ron::{DeRon, DeRonState, RonCodec, RonResult, RonShapes, SerRon, SerRonState, read_choice_ron, write_variant_ron};
+use nano_schema::{Alone, BorrowedChoices, Choice, ChoiceParts, Choices, Either, Label, Named, Required, Tupled, Value, Variant, known_choice};
+use nano_schema_bin::{BinCodec, BinShapes, DeBin, DeBinErr, SerBin, read_choice_bin, write_choice_bin};
+use nano_schema_json::{DeJson, DeJsonState, JsonCodec, JsonResult, JsonShapes, SerJson, SerJsonState, read_choice_json, write_choice_json};
+use nano_schema_ron::{DeRon, DeRonState, RonCodec, RonResult, RonShapes, SerRon, SerRonState, read_choice_ron, write_choice_ron};
 use std::alloc::{AllocError, Global};
 use std::str::Chars;
 
@@ -116,18 +116,27 @@ impl Choice for Choice {
     }
 }
 
+impl<'a> ChoiceParts<'a> for Choice {
+    type Refs = Either<(), Either<(&'a i32, &'a String), (&'a i32, &'a String)>>;
+
+    ghost values = { ⟦<ChoiceVariants as BorrowedChoices>⟧.values };
+
+    fn as_refs(&'a self) -> Either<(), Either<(&'a i32, &'a String), (&'a i32, &'a String)>> {
+        match self {
+            Choice::A => Either::First(()),
+            Choice::B(number, text) => Either::Later(Either::First((number, text))),
+            Choice::C { a, b } => Either::Later(Either::Later((a, b))),
+        }
+    }
+}
+
 impl Value for Choice {
     ghost means = { λ e. ⟦<ChoiceVariants as Choices>⟧.means 0 (⟦<Choice as Choice>⟧.view e) };
 
     ghost legal = { LegalVariant ⟦<ChoiceVariants as Choices>⟧.legals };
 
-    #[tactic(auto, using(nano_value::specs::SumsLaws::variant_is_legal))]
     fn known(&self) {
-        match self {
-            Choice::A => <Alone as Borrowed>::known(&()),
-            Choice::B(number, text) => <Tupled<(i32, String)> as Borrowed>::known(&(number, text)),
-            Choice::C { a, b } => <Named<(Required<ChoiceCA, i32>, Required<ChoiceCB, String>)> as Borrowed>::known(&(a, b)),
-        }
+        known_choice::<Choice, ChoiceVariants>(self);
     }
 }
 
@@ -141,11 +150,7 @@ impl BinCodec for Choice {
 
 impl SerBin for Choice {
     fn ser_bin(&self, alloc: Global, output: &mut Vec<u8>) -> Result<(), AllocError> {
-        match self {
-            Choice::A => write_variant_bin::<Alone>(0, &(), alloc, output),
-            Choice::B(number, text) => write_variant_bin::<Tupled<(i32, String)>>(1, &(number, text), alloc, output),
-            Choice::C { a, b } => write_variant_bin::<Named<(Required<ChoiceCA, i32>, Required<ChoiceCB, String>)>>(2, &(a, b), alloc, output),
-        }
+        write_choice_bin::<Choice, ChoiceVariants>(self, alloc, output)
     }
 }
 
@@ -167,11 +172,7 @@ impl JsonCodec for Choice {
 
 impl SerJson for Choice {
     fn ser_json(&self, alloc: Global, d: usize, s: &mut SerJsonState) -> Result<(), AllocError> {
-        match self {
-            Choice::A => write_variant_json::<ChoiceA, Alone>(&(), alloc, d, s),
-            Choice::B(number, text) => write_variant_json::<ChoiceB, Tupled<(i32, String)>>(&(number, text), alloc, d, s),
-            Choice::C { a, b } => write_variant_json::<ChoiceC, Named<(Required<ChoiceCA, i32>, Required<ChoiceCB, String>)>>(&(a, b), alloc, d, s),
-        }
+        write_choice_json::<Choice, ChoiceVariants>(self, alloc, d, s)
     }
 }
 
@@ -191,11 +192,7 @@ impl RonCodec for Choice {
 
 impl SerRon for Choice {
     fn ser_ron(&self, alloc: Global, d: usize, s: &mut SerRonState) -> Result<(), AllocError> {
-        match self {
-            Choice::A => write_variant_ron::<ChoiceA, Alone>(&(), alloc, d, s),
-            Choice::B(number, text) => write_variant_ron::<ChoiceB, Tupled<(i32, String)>>(&(number, text), alloc, d, s),
-            Choice::C { a, b } => write_variant_ron::<ChoiceC, Named<(Required<ChoiceCA, i32>, Required<ChoiceCB, String>)>>(&(a, b), alloc, d, s),
-        }
+        write_choice_ron::<Choice, ChoiceVariants>(self, alloc, d, s)
     }
 }
 

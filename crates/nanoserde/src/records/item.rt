@@ -6,7 +6,7 @@ ghost use Rattle.nano_schema_bin.specs.Record.{bin_of};
 ghost use Rattle.nano_schema_json.specs.Record.{json_of};
 ghost use Rattle.nano_schema_ron.specs.Record.{ron_of};
 
-use nano_schema::{Borrowed, Label, Optional, Record, Required, Shape, Value};
+use nano_schema::{Borrowed, Label, Optional, Parts, Record, Required, Shape, Value, known_record};
 use nano_schema_bin::{BinCodec, BinShape, DeBin, DeBinErr, SerBin, read_record_bin, write_record_bin};
 use nano_schema_json::{DeJson, DeJsonState, JsonCodec, JsonResult, JsonShape, SerJson, SerJsonState, read_record_json, write_record_json};
 use nano_schema_ron::{DeRon, DeRonState, RonCodec, RonResult, RonShape, SerRon, SerRonState, read_record_ron, write_record_ron};
@@ -59,13 +59,23 @@ impl Record for Item {
     }
 }
 
+impl<'a> Parts<'a> for Item {
+    type Refs = (&'a i32, &'a Option<String>);
+
+    ghost values = { ⟦<ItemFields as Borrowed>⟧.values };
+
+    fn as_refs(&'a self) -> (&'a i32, &'a Option<String>) {
+        (&self.value, &self.note)
+    }
+}
+
 impl Value for Item {
     ghost means = { λ x. ⟦<ItemFields as Shape>⟧.means (⟦<Item as Record>⟧.view x) };
 
     ghost legal = { ⟦<ItemFields as Shape>⟧.legal };
 
     fn known(&self) {
-        <ItemFields as Borrowed>::known(&(&self.value, &self.note));
+        known_record::<Item, ItemFields>(self);
     }
 }
 
@@ -79,7 +89,7 @@ impl BinCodec for Item {
 
 impl SerBin for Item {
     fn ser_bin(&self, alloc: Global, output: &mut Vec<u8>) -> Result<(), AllocError> {
-        write_record_bin::<ItemFields>(&(&self.value, &self.note), alloc, output)
+        write_record_bin::<Item, ItemFields>(self, alloc, output)
     }
 }
 
@@ -101,7 +111,7 @@ impl JsonCodec for Item {
 
 impl SerJson for Item {
     fn ser_json(&self, alloc: Global, d: usize, s: &mut SerJsonState) -> Result<(), AllocError> {
-        write_record_json::<ItemFields>(&(&self.value, &self.note), alloc, d, s)
+        write_record_json::<Item, ItemFields>(self, alloc, d, s)
     }
 }
 
@@ -121,7 +131,7 @@ impl RonCodec for Item {
 
 impl SerRon for Item {
     fn ser_ron(&self, alloc: Global, d: usize, s: &mut SerRonState) -> Result<(), AllocError> {
-        write_record_ron::<ItemFields>(&(&self.value, &self.note), alloc, d, s)
+        write_record_ron::<Item, ItemFields>(self, alloc, d, s)
     }
 }
 

@@ -7,8 +7,8 @@ use Rattle.nano_schema_json.proofs.pairs.Tuple2JsonRefs.append_fields.Goals as g
 
 pub returns-clause-ok : goal.returns-clause-ok
 returns-clause-ok g c =
-    let xs = g.A.JsonRefs.fields c.args.refs.now.0 in
-    let ys = g.B.JsonRefs.fields c.args.refs.now.1 in
+    let xs = g.A.JsonRefs.codec.canonical.fields (g.A.JsonRefs.values c.args.refs.now.0) in
+    let ys = g.B.JsonRefs.codec.canonical.fields (g.B.JsonRefs.values c.args.refs.now.1) in
     on_ok_weaker c.append_fields-2.result
     (more_fields (field_text json_fields c.args.d) c.args.first c.in_ok-still_first.still_first xs
     ys (string_bytes c.args.s.now.out) (string_bytes c.append_fields.new.s.out)
