@@ -115,7 +115,7 @@ impl Choice for Message {
 impl<'a> ChoiceParts<'a> for Message {
     type Refs = Either<(), Either<(&'a u32, &'a Vec<i16>), (&'a String, &'a HashMap<String, u32>)>>;
 
-    ghost values = { ⟦<MessageVariants as BorrowedChoices>⟧.values };
+    ghost values = { ⟦<MessageVariants as BorrowedChoices<'a>>⟧.values };
 
     fn as_refs(&'a self) -> Either<(), Either<(&'a u32, &'a Vec<i16>), (&'a String, &'a HashMap<String, u32>)>> {
         match self {

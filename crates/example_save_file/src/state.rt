@@ -75,7 +75,7 @@ impl Record for State {
 impl<'a> Parts<'a> for State {
     type Refs = (&'a u32, (&'a HashMap<String, u64>, &'a Option<String>));
 
-    ghost values = { ⟦<StateFields as Borrowed>⟧.values };
+    ghost values = { ⟦<StateFields as Borrowed<'a>>⟧.values };
 
     fn as_refs(&'a self) -> (&'a u32, (&'a HashMap<String, u64>, &'a Option<String>)) {
         (&self.coins, (&self.times, &self.player))

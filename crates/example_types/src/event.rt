@@ -119,7 +119,7 @@ impl Choice for Event {
 impl<'a> ChoiceParts<'a> for Event {
     type Refs = Either<(), Either<(&'a u32, &'a String), (&'a String, &'a u32)>>;
 
-    ghost values = { ⟦<EventVariants as BorrowedChoices>⟧.values };
+    ghost values = { ⟦<EventVariants as BorrowedChoices<'a>>⟧.values };
 
     fn as_refs(&'a self) -> Either<(), Either<(&'a u32, &'a String), (&'a String, &'a u32)>> {
         match self {

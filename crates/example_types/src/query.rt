@@ -60,7 +60,7 @@ impl Record for Query {
 impl<'a> Parts<'a> for Query {
     type Refs = (&'a String, &'a Option<u32>);
 
-    ghost values = { ⟦<QueryFields as Borrowed>⟧.values };
+    ghost values = { ⟦<QueryFields as Borrowed<'a>>⟧.values };
 
     fn as_refs(&'a self) -> (&'a String, &'a Option<u32>) {
         (&self.words, &self.limit)

@@ -107,7 +107,7 @@ impl Record for Server {
 impl<'a> Parts<'a> for Server {
     type Refs = ((&'a String, &'a u16), (&'a Tags, (&'a Limits, &'a Option<String>)));
 
-    ghost values = { ⟦<ServerFields as Borrowed>⟧.values };
+    ghost values = { ⟦<ServerFields as Borrowed<'a>>⟧.values };
 
     fn as_refs(&'a self) -> ((&'a String, &'a u16), (&'a Tags, (&'a Limits, &'a Option<String>))) {
         ((&self.host, &self.port), (&self.tags, (&self.limits, &self.note)))

@@ -90,7 +90,7 @@ impl Choice for Signal {
 impl<'a> ChoiceParts<'a> for Signal {
     type Refs = Either<&'a u64, Either<(&'a u16, &'a u16, &'a u16), (&'a u8, &'a u8, &'a u8, &'a bool)>>;
 
-    ghost values = { ⟦<SignalVariants as BorrowedChoices>⟧.values };
+    ghost values = { ⟦<SignalVariants as BorrowedChoices<'a>>⟧.values };
 
     fn as_refs(&'a self) -> Either<&'a u64, Either<(&'a u16, &'a u16, &'a u16), (&'a u8, &'a u8, &'a u8, &'a bool)>> {
         match self {

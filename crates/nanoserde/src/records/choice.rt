@@ -119,7 +119,7 @@ impl Choice for Choice {
 impl<'a> ChoiceParts<'a> for Choice {
     type Refs = Either<(), Either<(&'a i32, &'a String), (&'a i32, &'a String)>>;
 
-    ghost values = { ⟦<ChoiceVariants as BorrowedChoices>⟧.values };
+    ghost values = { ⟦<ChoiceVariants as BorrowedChoices<'a>>⟧.values };
 
     fn as_refs(&'a self) -> Either<(), Either<(&'a i32, &'a String), (&'a i32, &'a String)>> {
         match self {

@@ -62,7 +62,7 @@ impl Record for Item {
 impl<'a> Parts<'a> for Item {
     type Refs = (&'a i32, &'a Option<String>);
 
-    ghost values = { ⟦<ItemFields as Borrowed>⟧.values };
+    ghost values = { ⟦<ItemFields as Borrowed<'a>>⟧.values };
 
     fn as_refs(&'a self) -> (&'a i32, &'a Option<String>) {
         (&self.value, &self.note)

@@ -1,6 +1,0 @@
-//! A choice.
-#![tactic(auto)]
-
-mod big;
-
-pub use big::Big;

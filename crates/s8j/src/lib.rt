@@ -1,6 +1,0 @@
-//! A record.
-#![tactic(auto)]
-
-mod big;
-
-pub use big::Big;
