@@ -9,10 +9,10 @@ ghost use Rattle.nano_schema_json.specs.FieldsLaws.{must, may, also, ascii_names
 
 use nano_bin::{BinCodec, DeBin, DeBinErr, SerBin, append_part};
 use nano_json::{DeJson, DeJsonErr, DeJsonState, JsonCodec, SerJson, SerJsonState};
-use nano_schema_json::{Optional, OptionalPart, Required, RequiredPart, read_fields, write_fields};
+use nano_schema::{Label, Optional, Required};
+use nano_schema_json::{read_fields, write_fields};
 use nano_value::Value;
 use std::alloc::{AllocError, Global};
-use std::marker::PhantomData;
 use std::str::Chars;
 
 /// A record.
@@ -21,6 +21,33 @@ pub struct Item {
     pub value: i32,
     pub note: Option<String>,
 }
+
+/// The name `value`.
+#[derive(Drop)]
+pub struct ItemValue {}
+
+impl Label for ItemValue {
+    ghost label = { codes "value" };
+
+    fn text() -> &'static str {
+        "value"
+    }
+}
+
+/// The name `note`.
+#[derive(Drop)]
+pub struct ItemNote {}
+
+impl Label for ItemNote {
+    ghost label = { codes "note" };
+
+    fn text() -> &'static str {
+        "note"
+    }
+}
+
+/// Its fields.
+pub type ItemFields = (Required<ItemValue, i32>, Optional<ItemNote, String>);
 
 impl Value for Item {
     ghost means = { λ item. ⟦<(i32, Option<String>) as Value>⟧.means (item.value, item.note) };
@@ -69,15 +96,7 @@ impl JsonCodec for Item {
 
 impl SerJson for Item {
     fn ser_json(&self, alloc: Global, d: usize, s: &mut SerJsonState) -> Result<(), AllocError> {
-        let value = RequiredPart {
-            name: "value",
-            value: &self.value,
-        };
-        let note = OptionalPart {
-            name: "note",
-            value: &self.note,
-        };
-        write_fields(alloc, &(value, note), d, s)
+        write_fields::<ItemFields>(&(&self.value, &self.note), alloc, d, s)
     }
 }
 
@@ -87,15 +106,7 @@ impl DeJson for Item {
         state: &mut DeJsonState,
         input: &mut Chars<'_>,
     ) -> Result<Item, DeJsonErr> {
-        let value = Required {
-            name: "value",
-            of: PhantomData,
-        };
-        let note = Optional {
-            name: "note",
-            of: PhantomData,
-        };
-        let (value, note) = read_fields(&(value, note), alloc, state, input)?;
+        let (value, note) = read_fields::<ItemFields>(alloc, state, input)?;
         Ok(Item { value, note })
     }
 }

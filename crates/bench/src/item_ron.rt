@@ -6,11 +6,10 @@ ghost use Rattle.nano_ron.specs.Codec.{codec_as};
 ghost use Rattle.nano_schema_ron.specs.FieldsLaws.{must, may, also, word_names};
 ghost use Rattle.nano_schema_ron.specs.Fields.{fields_codec};
 
-use crate::item::Item;
+use crate::item::{Item, ItemFields};
 use nano_ron::{DeRon, DeRonErr, DeRonState, RonCodec, SerRon, SerRonState};
-use nano_schema_ron::{Optional, OptionalPart, Required, RequiredPart, read_fields, write_fields};
+use nano_schema_ron::{read_fields, write_fields};
 use std::alloc::{AllocError, Global};
-use std::marker::PhantomData;
 use std::str::Chars;
 
 impl RonCodec for Item {
@@ -24,15 +23,7 @@ impl RonCodec for Item {
 
 impl SerRon for Item {
     fn ser_ron(&self, alloc: Global, d: usize, s: &mut SerRonState) -> Result<(), AllocError> {
-        let value = RequiredPart {
-            name: "value",
-            value: &self.value,
-        };
-        let note = OptionalPart {
-            name: "note",
-            value: &self.note,
-        };
-        write_fields(alloc, &(value, note), d, s)
+        write_fields::<ItemFields>(&(&self.value, &self.note), alloc, d, s)
     }
 }
 
@@ -42,15 +33,7 @@ impl DeRon for Item {
         state: &mut DeRonState,
         input: &mut Chars<'_>,
     ) -> Result<Item, DeRonErr> {
-        let value = Required {
-            name: "value",
-            of: PhantomData,
-        };
-        let note = Optional {
-            name: "note",
-            of: PhantomData,
-        };
-        let (value, note) = read_fields(&(value, note), alloc, state, input)?;
+        let (value, note) = read_fields::<ItemFields>(alloc, state, input)?;
         Ok(Item { value, note })
     }
 }

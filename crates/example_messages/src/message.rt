@@ -1,18 +1,13 @@
 //! A message: its schema, and bytes.
 
-ghost use Rattle.std.specs.Prelude.{refl};
-ghost use Rattle.nano_schema.specs.Names.{LegalVariant, schema_of, names, agreed, names2};
-ghost use Rattle.nano_schema.specs.Names.{variant_name, variant_names};
+ghost use Rattle.std.specs.Prelude.{codes, refl};
+ghost use Rattle.nano_schema.specs.Rows.{agreed, LegalVariant};
+ghost use Rattle.nano_schema.specs.declared.choices.Either.TheVariants.{First, Later};
 ghost use Rattle.nano_schema_bin.specs.Choice.{bin_choice};
-ghost use Rattle.example_messages.specs.Message.{seen};
+ghost use Rattle.example_messages.specs.declared.message.Message.TheVariants.{Leave, Move, Say};
 
-use nano_schema::{
-    Alone, BorrowedChoices, Choice, ChoiceParts, Choices, Either, Fields2, Required, Tupled, Value,
-    Variant, called, fields2, known_choice, named, no_content, tuple, variant,
-};
-use nano_schema_bin::{
-    BinCodec, BinShapes, DeBin, DeBinErr, SerBin, read_choice_bin, write_choice_bin,
-};
+use nano_schema::{Alone, BorrowedChoices, Choice, ChoiceParts, Choices, Either, Label, Named, Required, Tupled, Value, Variant, known_choice};
+use nano_schema_bin::{BinCodec, BinShapes, DeBin, DeBinErr, SerBin, read_choice_bin, write_choice_bin};
 use std::alloc::{AllocError, Global};
 use std::collections::HashMap;
 
@@ -32,68 +27,124 @@ pub enum Message {
     },
 }
 
-type MessageVariants = (
-    Variant<Alone>,
-    (
-        Variant<Tupled<(u32, Vec<i16>)>>,
-        Variant<Fields2<Required<String>, Required<HashMap<String, u32>>>>,
-    ),
-);
+/// The name `Leave`.
+#[derive(Drop)]
+struct MessageLeave {}
+
+impl Label for MessageLeave {
+    ghost label = { codes "Leave" };
+
+    fn text() -> &'static str {
+        "Leave"
+    }
+}
+
+/// The name `Move`.
+#[derive(Drop)]
+struct MessageMove {}
+
+impl Label for MessageMove {
+    ghost label = { codes "Move" };
+
+    fn text() -> &'static str {
+        "Move"
+    }
+}
+
+/// The name `Say`.
+#[derive(Drop)]
+struct MessageSay {}
+
+impl Label for MessageSay {
+    ghost label = { codes "Say" };
+
+    fn text() -> &'static str {
+        "Say"
+    }
+}
+
+/// The name `text`.
+#[derive(Drop)]
+struct MessageSayText {}
+
+impl Label for MessageSayText {
+    ghost label = { codes "text" };
+
+    fn text() -> &'static str {
+        "text"
+    }
+}
+
+/// The name `to`.
+#[derive(Drop)]
+struct MessageSayTo {}
+
+impl Label for MessageSayTo {
+    ghost label = { codes "to" };
+
+    fn text() -> &'static str {
+        "to"
+    }
+}
+
+type MessageVariants = (Variant<MessageLeave, Alone>, (Variant<MessageMove, Tupled<(u32, Vec<i16>)>>, Variant<MessageSay, Named<(Required<MessageSayText, String>, Required<MessageSayTo, HashMap<String, u32>>)>>));
 
 impl Choice for Message {
-    type Variants = MessageVariants;
+    type Values = Either<(), Either<(u32, Vec<i16>), (String, HashMap<String, u32>)>>;
 
-    ghost schema = { schema_of (names (variant_name "Leave") (names (variant_name "Move")
-        (variant_names "Say" (names2 "text" "to")))) seen };
+    ghost view = { λ e. elim e [
+        | Leave ↦ First tt
+        | Move number steps ↦ Later (First (number, steps))
+        | Say text to ↦ Later (Later ((text, to)))
+    ] };
 
-    fn variants() -> MessageVariants {
-        (
-            variant(called("Leave"), no_content()),
-            (
-                variant(called("Move"), tuple()),
-                variant(called("Say"), named(fields2("text", "to"))),
-            ),
-        )
-    }
-
-    fn make(values: <MessageVariants as Choices>::Values) -> Message {
+    fn make(values: Either<(), Either<(u32, Vec<i16>), (String, HashMap<String, u32>)>>) -> Message {
         match values {
             Either::First(()) => Message::Leave,
-            Either::Later(Either::First((number, steps))) => Message::Move(number, steps),
-            Either::Later(Either::Later((text, to))) => Message::Say { text, to },
+            Either::Later(later) => match later {
+                Either::First((number, steps)) => Message::Move(number, steps),
+                Either::Later(later) => {
+                    let (text, to) = later;
+                    Message::Say { text, to }
+                },
+            },
         }
     }
 }
 
 impl<'a> ChoiceParts<'a> for Message {
-    fn as_refs(&'a self) -> <MessageVariants as BorrowedChoices<'a>>::Refs {
+    type Refs = Either<(), Either<(&'a u32, &'a Vec<i16>), (&'a String, &'a HashMap<String, u32>)>>;
+
+    ghost values = { ⟦<MessageVariants as BorrowedChoices<'a>>⟧.values };
+
+    fn as_refs(&'a self) -> Either<(), Either<(&'a u32, &'a Vec<i16>), (&'a String, &'a HashMap<String, u32>)>> {
         match self {
             Message::Leave => Either::First(()),
             Message::Move(number, steps) => Either::Later(Either::First((number, steps))),
-            Message::Say { text, to } => Either::Later(Either::Later(fields2(text, to))),
+            Message::Say { text, to } => Either::Later(Either::Later((text, to))),
         }
     }
 }
 
 impl Value for Message {
-    ghost means = { λ m. ⟦<MessageVariants as Choices>⟧.means 0 (seen m) };
+    ghost means = { λ e. ⟦<MessageVariants as Choices>⟧.means 0 (⟦<Message as Choice>⟧.view e) };
 
     ghost legal = { LegalVariant ⟦<MessageVariants as Choices>⟧.legals };
 
     fn known(&self) {
-        known_choice(self);
+        known_choice::<Message, MessageVariants>(self);
     }
 }
 
 impl BinCodec for Message {
-    ghost bin = { bin_choice ⟦<Message as Choice>⟧.schema ⟦<MessageVariants as BinShapes>⟧.chosen refl };
+    ghost bin = { bin_choice ⟦<Message as Choice>⟧.view ⟦<MessageVariants as BinShapes>⟧.chosen refl };
 
     ghost agrees = { agreed };
 }
 
 impl SerBin for Message {
     fn ser_bin(&self, alloc: Global, output: &mut Vec<u8>) -> Result<(), AllocError> {
-        write_choice_bin(self, alloc, output)
+        write_choice_bin::<Message, MessageVariants>(self, alloc, output)
     }
 }
 
@@ -101,6 +152,6 @@ impl DeBin for Message {
     ghost is_decodable = { refl };
 
     fn de_bin(alloc: Global, offset: &mut usize, bytes: &[u8]) -> Result<Message, DeBinErr> {
-        read_choice_bin(alloc, offset, bytes)
+        read_choice_bin::<Message, MessageVariants>(alloc, offset, bytes)
     }
 }

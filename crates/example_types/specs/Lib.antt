@@ -1,4 +1,2 @@
 pub mod CommandLaws
-pub mod Event
 pub mod MessageLaws
-pub mod Signal

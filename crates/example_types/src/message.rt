@@ -1,16 +1,17 @@
 //! An enum of each shape in JSON: a name, a name with a tuple, with one part, with named fields.
 
+ghost use Rattle.std.specs.Prelude.{codes};
 ghost use Rattle.nano_value.specs.AgreesLaws.{agreed};
 ghost use Rattle.example_types.specs.MessageLaws.{message_codec};
 
 use nano_json::{DeJson, DeJsonErr, DeJsonState, JsonCodec, SerJson, SerJsonState};
+use nano_schema::{Label, Required};
 use nano_schema_json::{
-    Part, Required, RequiredPart, VariantName, read_content, read_fields_content,
-    read_variant_name, unknown_variant, write_fields_variant, write_unit_variant, write_variant,
+    Part, VariantName, read_content, read_fields_content, read_variant_name, unknown_variant,
+    write_fields_variant, write_unit_variant, write_variant,
 };
 use nano_value::Value;
 use std::alloc::{AllocError, Global};
-use std::marker::PhantomData;
 use std::str::Chars;
 
 /// What one device tells another.
@@ -30,6 +31,32 @@ pub enum Message {
         times: u32,
     },
 }
+
+/// The name `text`.
+#[derive(Drop)]
+struct SayText {}
+
+impl Label for SayText {
+    ghost label = { codes "text" };
+
+    fn text() -> &'static str {
+        "text"
+    }
+}
+
+/// The name `times`.
+#[derive(Drop)]
+struct SayTimes {}
+
+impl Label for SayTimes {
+    ghost label = { codes "times" };
+
+    fn text() -> &'static str {
+        "times"
+    }
+}
+
+type SayFields = (Required<SayText, String>, Required<SayTimes, u32>);
 
 impl Value for Message {
     ghost means = { message_codec.canonical.means };
@@ -79,15 +106,7 @@ impl DeJson for Message {
                     Ok(Message::Wait(time))
                 }
                 "Say" => {
-                    let text = Required {
-                        name: "text",
-                        of: PhantomData,
-                    };
-                    let times = Required {
-                        name: "times",
-                        of: PhantomData,
-                    };
-                    let (text, times) = read_fields_content(&(text, times), alloc, state, input)?;
+                    let (text, times) = read_fields_content::<SayFields>(alloc, state, input)?;
                     Ok(Message::Say { text, times })
                 }
                 _ => Err(unknown_variant(alloc, state, name.as_str())),
@@ -105,15 +124,7 @@ impl SerJson for Message {
             }
             Message::Wait(time) => write_variant(alloc, "Wait", &[Part { of: time }], d, s),
             Message::Say { text, times } => {
-                let text = RequiredPart {
-                    name: "text",
-                    value: text,
-                };
-                let times = RequiredPart {
-                    name: "times",
-                    value: times,
-                };
-                write_fields_variant(alloc, "Say", &(text, times), d, s)
+                write_fields_variant::<SayFields>("Say", &(text, times), alloc, d, s)
             }
         }
     }

@@ -1,4 +1,4 @@
--- Values that are one of two kinds, and the legal content of a variant.
+-- Values that are one of two kinds.
 use Rattle.nano_schema.specs.declared.choices.Either.{Either}
 use Rattle.nano_schema.specs.declared.choices.Either.TheVariants.{First, Later}
 

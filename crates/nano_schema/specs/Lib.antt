@@ -1,3 +1,4 @@
-pub mod Names
+pub mod Rows
+pub mod Views
 pub mod Choices
 pub mod ChoicesLaws

@@ -2,45 +2,48 @@
 
 ghost use Rattle.std.specs.Prelude.{◌≡◌};
 ghost use Rattle.nano_value.specs.Sums.{LegalVariant};
-ghost use Rattle.nano_schema.specs.Names.{Schema};
+ghost use Rattle.nano_schema.specs.Views.{SeesAs};
 
-use crate::choices::{BorrowedChoices, Choices};
+use crate::choices::BorrowedChoices;
 
-/// A user-defined enum, by its variants.
+/// A user-defined enum, as the content of the variant that it is.
 pub trait Choice {
-    /// The variants.
-    type Variants: Choices;
+    /// The content of a variant, nested as the variants are.
+    type Values;
 
-    /// The variants' names, each with those of its content, and how an enum is seen as the content
-    /// of the variant that it is.
-    ghost schema: { Schema Self Self.Variants.Values };
-
-    /// The variants, with their names.
-    fn variants() -> Self::Variants
-        ensures { Self.Variants.names_of result ≡ schema.the_names };
+    /// An enum as the content of the variant that it is.
+    ghost view: { Self → Self.Values };
 
     /// The enum of this content.
-    fn make(values: <Self::Variants as Choices>::Values) -> Self
-        ensures { schema.view result ≡ values };
+    fn make(values: Self::Values) -> Self
+        ensures { view result ≡ values };
 }
 
 /// A user-defined enum that is seen by references to the content of its variant.
-pub trait ChoiceParts<'a>: Choice
-where
-    Self::Variants: BorrowedChoices<'a>,
-{
+pub trait ChoiceParts<'a>: Choice {
+    /// The references, nested as the variants are.
+    type Refs: Drop;
+
+    /// What they refer to.
+    ghost values: { Self.Refs → Self.Values };
+
     /// The content, by reference.
-    fn as_refs(&'a self) -> <Self::Variants as BorrowedChoices<'a>>::Refs
-        ensures { Self.Variants.BorrowedChoices.values result ≡ Self.schema.view self.now };
+    fn as_refs(&'a self) -> Self::Refs
+        ensures { values result ≡ Self.view self.now };
 }
 
-/// Does nothing. Its contract says that what the value means is legal.
-pub fn known_choice<'a, E: ChoiceParts<'a>>(value: &'a E)
-where
-    E::Variants: BorrowedChoices<'a>,
-    ensures { LegalVariant E.Variants.Choices.legals
-        (E.Variants.Choices.means 0 (E.schema.view value.now)) }
+/// Does nothing. Its contract says that what the value means is legal, where the variants are
+/// those that the enum is seen by.
+pub fn known_choice<
+    'a,
+    E: ChoiceParts<'a>,
+    V: BorrowedChoices<'a, Refs = E::Refs, Values = E::Values>,
+>(
+    value: &'a E,
+)
+    ensures { SeesAs V.values E.ChoiceParts.values
+        → LegalVariant V.legals (V.means 0 (E.view value.now)) }
 {
     let refs = value.as_refs();
-    <E::Variants as BorrowedChoices<'a>>::known(&refs);
+    V::known(&refs);
 }

@@ -1,64 +1,21 @@
 //! The variants of an enum, in their order.
 
-ghost use Rattle.std.specs.Prelude.{◌≡◌, ℕ, suc, List};
+ghost use Rattle.std.specs.Prelude.{ℕ, suc};
 ghost use Rattle.nano_value.specs.Meaning.{Meaning};
 ghost use Rattle.nano_value.specs.Sums.{Variants, no_variants, variant as sum};
 ghost use Rattle.nano_value.specs.Sums.{tagged, LegalFrom};
-ghost use Rattle.nano_schema.specs.Names.{Names, name, names};
 ghost use Rattle.nano_schema.specs.Choices.{either_is, either_map};
 
 use crate::fields::{Borrowed, Shape};
+use std::marker::PhantomData;
 
-/// The name of a variant, as a program holds it.
-pub trait Label {
-    /// The name.
-    ghost label: { Self → List ℕ };
-
-    /// The name.
-    fn text(&self) -> &str
-        ensures { result.now ≡ label self.now };
-}
-
-/// A name that stands in the program.
+/// A variant, by its name and its content: `Alone`, a `OnePart`, a `Tupled`, or `Named` fields.
 #[derive(Drop)]
-pub struct Name {
-    /// The name.
-    pub text: &'static str,
-}
-
-impl Label for Name {
-    ghost label = { λ n. n.text.now };
-
-    fn text(&self) -> &str {
-        self.text
-    }
-}
-
-/// A variant, by its name and its content: `Alone`, a `OnePart`, a `Tupled`, or named fields.
-#[derive(Drop)]
-pub struct NamedVariant<N, S> {
+pub struct Variant<N, S> {
     /// Its name.
-    pub name: N,
+    pub name: PhantomData<N>,
     /// What it holds.
-    pub content: S,
-}
-
-/// A variant whose name stands in the program.
-pub type Variant<S> = NamedVariant<Name, S>;
-
-/// A name that stands in the program.
-pub fn called(text: &'static str) -> Name
-    ensures { result.text.now ≡ text.now }
-{
-    Name { text }
-}
-
-/// A variant of this name and content.
-pub fn variant<N, S>(name: N, content: S) -> NamedVariant<N, S>
-    ensures name { result.name ≡ name }
-    ensures content { result.content ≡ content }
-{
-    NamedVariant { name, content }
+    pub content: PhantomData<S>,
 }
 
 /// The content of the first of some variants, or of one of the later ones.
@@ -70,13 +27,10 @@ pub enum Either<A, B> {
     Later(B),
 }
 
-/// One variant, or one and more.
+/// One variant, or one and more: what the content of one of them means.
 pub trait Choices {
     /// The content of one of them.
     type Values;
-
-    /// The names of the variants, each with those of its content.
-    ghost names_of: { Self → Names };
 
     /// What the content of one of them means, where the first of them has this place.
     ghost means: { ℕ → Self.Values → Meaning };
@@ -86,32 +40,45 @@ pub trait Choices {
 }
 
 /// Variants whose content is at hand by reference.
-pub trait BorrowedChoices<'a>: Choices {
+pub trait BorrowedChoices<'a> {
+    /// The content of one of them.
+    type Values;
+
     /// The references.
-    type Refs: Drop;
+    type Refs;
 
     /// What they refer to.
     ghost values: { Self.Refs → Self.Values };
 
+    /// What the content of one of them means, where the first of them has this place.
+    ghost means: { ℕ → Self.Values → Meaning };
+
+    /// What is legal for the content of each.
+    ghost legals: { Variants };
+
     /// Does nothing. Its contract says that what the content of a program means is legal.
     fn known(refs: &Self::Refs)
-        ensures { (from : ℕ) → LegalFrom from Self.legals (Self.means from (values refs.now)) };
+        ensures { (from : ℕ) → LegalFrom from legals (means from (values refs.now)) };
 }
 
-impl<N: Label, S: Shape> Choices for NamedVariant<N, S> {
+impl<N, S: Shape> Choices for Variant<N, S> {
     type Values = S::Values;
-
-    ghost names_of = { λ v. names (name (N.label v.name)) (S.names_of v.content) };
 
     ghost means = { λ from x. tagged from (S.means x) };
 
     ghost legals = { sum S.legal no_variants };
 }
 
-impl<'a, N: Label, S: Borrowed<'a>> BorrowedChoices<'a> for NamedVariant<N, S> {
+impl<'a, N, S: Borrowed<'a>> BorrowedChoices<'a> for Variant<N, S> {
+    type Values = S::Values;
+
     type Refs = S::Refs;
 
     ghost values = { S.values };
+
+    ghost means = { λ from x. tagged from (S.means x) };
+
+    ghost legals = { sum S.legal no_variants };
 
     #[tactic(auto, using(crate::specs::ChoicesLaws::last_is_legal))]
     fn known(refs: &S::Refs) {
@@ -119,21 +86,24 @@ impl<'a, N: Label, S: Borrowed<'a>> BorrowedChoices<'a> for NamedVariant<N, S> {
     }
 }
 
-impl<N: Label, S: Shape, C: Choices> Choices for (NamedVariant<N, S>, C) {
+impl<N, S: Shape, C: Choices> Choices for (Variant<N, S>, C) {
     type Values = Either<S::Values, C::Values>;
-
-    ghost names_of = { λ v. names (names (name (N.label v.0.name)) (S.names_of v.0.content)) (C.names_of v.1) };
 
     ghost means = { λ from. either_is (λ x. tagged from (S.means x)) (C.means (suc from)) };
 
     ghost legals = { sum S.legal C.legals };
 }
 
-impl<'a, N: Label, S: Borrowed<'a>, C: BorrowedChoices<'a>> BorrowedChoices<'a>
-    for (NamedVariant<N, S>, C) {
+impl<'a, N, S: Borrowed<'a>, C: BorrowedChoices<'a>> BorrowedChoices<'a> for (Variant<N, S>, C) {
+    type Values = Either<S::Values, C::Values>;
+
     type Refs = Either<S::Refs, C::Refs>;
 
     ghost values = { either_map S.values C.values };
+
+    ghost means = { λ from. either_is (λ x. tagged from (S.means x)) (C.means (suc from)) };
+
+    ghost legals = { sum S.legal C.legals };
 
     #[tactic(auto, using(crate::specs::ChoicesLaws::first_is_legal, crate::specs::ChoicesLaws::later_is_legal))]
     fn known(refs: &Either<S::Refs, C::Refs>) {

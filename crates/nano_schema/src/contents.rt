@@ -1,9 +1,7 @@
 //! What a variant holds: nothing, one part, a tuple of parts, or named fields.
 
-ghost use Rattle.std.specs.Prelude.{[]};
 ghost use Rattle.nano_value.specs.Meaning.{nothing};
 ghost use Rattle.nano_value.specs.Legal.{LegalUnit};
-ghost use Rattle.nano_schema.specs.Names.{name};
 
 use crate::fields::{Borrowed, Shape};
 use nano_value::Value;
@@ -27,25 +25,15 @@ pub struct Tupled<P> {
     pub of: PhantomData<P>,
 }
 
-/// No content.
-pub fn no_content() -> Alone {
-    Alone {}
-}
-
-/// One part without a name.
-pub fn one_part<T>() -> OnePart<T> {
-    OnePart { of: PhantomData }
-}
-
-/// Two, three or four parts without names, one after the other.
-pub fn tuple<P>() -> Tupled<P> {
-    Tupled { of: PhantomData }
+/// Named fields, as those of a struct.
+#[derive(Drop)]
+pub struct Named<F> {
+    /// The fields.
+    pub of: PhantomData<F>,
 }
 
 impl Shape for Alone {
     type Values = ();
-
-    ghost names_of = { λ f. name [] };
 
     ghost means = { λ v. nothing };
 
@@ -53,9 +41,15 @@ impl Shape for Alone {
 }
 
 impl<'a> Borrowed<'a> for Alone {
+    type Values = ();
+
     type Refs = ();
 
     ghost values = { λ r. r };
+
+    ghost means = { λ v. nothing };
+
+    ghost legal = { LegalUnit };
 
     fn known(_refs: &()) {}
 }
@@ -63,27 +57,53 @@ impl<'a> Borrowed<'a> for Alone {
 impl<T: Value> Shape for OnePart<T> {
     type Values = T;
 
-    ghost names_of = { λ f. name [] };
-
     ghost means = { T.means };
 
     ghost legal = { T.legal };
 }
 
 impl<'a, T: Value + 'a> Borrowed<'a> for OnePart<T> {
+    type Values = T;
+
     type Refs = &'a T;
 
     ghost values = { λ r. r.now };
+
+    ghost means = { T.means };
+
+    ghost legal = { T.legal };
 
     fn known(refs: &&'a T) {
         refs.known();
     }
 }
 
+impl<F: Shape> Shape for Named<F> {
+    type Values = F::Values;
+
+    ghost means = { F.means };
+
+    ghost legal = { F.legal };
+}
+
+impl<'a, F: Borrowed<'a>> Borrowed<'a> for Named<F> {
+    type Values = F::Values;
+
+    type Refs = F::Refs;
+
+    ghost values = { F.values };
+
+    ghost means = { F.means };
+
+    ghost legal = { F.legal };
+
+    fn known(refs: &F::Refs) {
+        F::known(refs);
+    }
+}
+
 impl<P: Value> Shape for Tupled<P> {
     type Values = P;
-
-    ghost names_of = { λ f. name [] };
 
     ghost means = { P.means };
 
@@ -91,9 +111,15 @@ impl<P: Value> Shape for Tupled<P> {
 }
 
 impl<'a, A: Value + 'a, B: Value + 'a> Borrowed<'a> for Tupled<(A, B)> {
+    type Values = (A, B);
+
     type Refs = (&'a A, &'a B);
 
     ghost values = { λ r. (r.0.now, r.1.now) };
+
+    ghost means = { ⟦<(A, B) as Value>⟧.means };
+
+    ghost legal = { ⟦<(A, B) as Value>⟧.legal };
 
     #[tactic(auto, using(nano_value::specs::LegalLaws::pair_is_legal))]
     fn known(refs: &(&'a A, &'a B)) {
@@ -103,9 +129,15 @@ impl<'a, A: Value + 'a, B: Value + 'a> Borrowed<'a> for Tupled<(A, B)> {
 }
 
 impl<'a, A: Value + 'a, B: Value + 'a, C: Value + 'a> Borrowed<'a> for Tupled<(A, B, C)> {
+    type Values = (A, B, C);
+
     type Refs = (&'a A, &'a B, &'a C);
 
     ghost values = { λ r. (r.0.now, r.1.now, r.2.now) };
+
+    ghost means = { ⟦<(A, B, C) as Value>⟧.means };
+
+    ghost legal = { ⟦<(A, B, C) as Value>⟧.legal };
 
     #[tactic(auto, using(nano_value::specs::LegalLaws::pair_is_legal))]
     fn known(refs: &(&'a A, &'a B, &'a C)) {
@@ -117,9 +149,15 @@ impl<'a, A: Value + 'a, B: Value + 'a, C: Value + 'a> Borrowed<'a> for Tupled<(A
 
 impl<'a, A: Value + 'a, B: Value + 'a, C: Value + 'a, D: Value + 'a> Borrowed<'a>
     for Tupled<(A, B, C, D)> {
+    type Values = (A, B, C, D);
+
     type Refs = (&'a A, &'a B, &'a C, &'a D);
 
     ghost values = { λ r. (r.0.now, r.1.now, r.2.now, r.3.now) };
+
+    ghost means = { ⟦<(A, B, C, D) as Value>⟧.means };
+
+    ghost legal = { ⟦<(A, B, C, D) as Value>⟧.legal };
 
     #[tactic(auto, using(nano_value::specs::LegalLaws::pair_is_legal))]
     fn known(refs: &(&'a A, &'a B, &'a C, &'a D)) {

@@ -10,15 +10,15 @@ mod choice;
 mod choices;
 mod contents;
 mod fields;
+mod labels;
 mod record;
 mod rows;
 
 pub use choice::{Choice, ChoiceParts, known_choice};
-pub use choices::{
-    BorrowedChoices, Choices, Either, Label, Name, NamedVariant, Variant, called, variant,
-};
-pub use contents::{Alone, OnePart, Tupled, no_content, one_part, tuple};
-pub use fields::{Borrowed, FromNames, Optional, Required, Shape, named};
+pub use choices::{BorrowedChoices, Choices, Either, Variant};
+pub use contents::{Alone, Named, OnePart, Tupled};
+pub use fields::{Borrowed, Optional, Required, Shape};
+pub use labels::Label;
 pub use nano_value::Value;
 pub use record::{Parts, Record, known_record};
 pub use rows::{

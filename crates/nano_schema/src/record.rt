@@ -1,43 +1,43 @@
 //! User-defined structs.
 
 ghost use Rattle.std.specs.Prelude.{◌≡◌};
-ghost use Rattle.nano_schema.specs.Names.{Schema};
+ghost use Rattle.nano_schema.specs.Views.{SeesAs};
 
-use crate::fields::{Borrowed, Shape};
+use crate::fields::Borrowed;
 
-/// A user-defined struct, by its fields.
+/// A user-defined struct, as the values of its fields.
 pub trait Record {
-    /// The fields.
-    type Fields: Shape;
+    /// The values, nested as the fields are.
+    type Values;
 
-    /// The fields' names, and how a struct is seen as their values.
-    ghost schema: { Schema Self Self.Fields.Values };
-
-    /// The fields, with their names.
-    fn fields() -> Self::Fields
-        ensures { Self.Fields.names_of result ≡ schema.the_names };
+    /// A struct as the values of its fields.
+    ghost view: { Self → Self.Values };
 
     /// The struct of these values.
-    fn make(values: <Self::Fields as Shape>::Values) -> Self
-        ensures { schema.view result ≡ values };
+    fn make(values: Self::Values) -> Self
+        ensures { view result ≡ values };
 }
 
 /// A user-defined struct that is seen by references to its fields.
-pub trait Parts<'a>: Record
-where
-    Self::Fields: Borrowed<'a>,
-{
+pub trait Parts<'a>: Record {
+    /// The references, nested as the fields are.
+    type Refs: Drop;
+
+    /// What they refer to.
+    ghost values: { Self.Refs → Self.Values };
+
     /// The values, by reference.
-    fn as_refs(&'a self) -> <Self::Fields as Borrowed<'a>>::Refs
-        ensures { Self.Fields.Borrowed.values result ≡ Self.schema.view self.now };
+    fn as_refs(&'a self) -> Self::Refs
+        ensures { values result ≡ Self.view self.now };
 }
 
-/// Does nothing. Its contract says that what the values of the fields mean is legal.
-pub fn known_record<'a, R: Parts<'a>>(value: &'a R)
-where
-    R::Fields: Borrowed<'a>,
-    ensures { R.Fields.Shape.legal (R.Fields.Shape.means (R.schema.view value.now)) }
+/// Does nothing. Its contract says that what the values of the fields mean is legal, where the
+/// fields are those that the struct is seen by.
+pub fn known_record<'a, R: Parts<'a>, F: Borrowed<'a, Refs = R::Refs, Values = R::Values>>(
+    value: &'a R,
+)
+    ensures { SeesAs F.values R.Parts.values → F.legal (F.means (R.view value.now)) }
 {
     let refs = value.as_refs();
-    <R::Fields as Borrowed<'a>>::known(&refs);
+    F::known(&refs);
 }

@@ -1,8 +1,8 @@
 //! Parts in a row, nested so that the way to none of them is long.
 
 ghost use Rattle.std.specs.Prelude.{◌≡◌};
-ghost use Rattle.nano_schema.specs.Names.{fields2_of, fields3_of, fields4_of, fields5_of, fields6_of, fields7_of};
-ghost use Rattle.nano_schema.specs.Names.{fields8_of};
+ghost use Rattle.nano_schema.specs.Rows.{fields2_of, fields3_of, fields4_of, fields5_of};
+ghost use Rattle.nano_schema.specs.Rows.{fields6_of, fields7_of, fields8_of};
 
 /// Two parts.
 pub type Fields2<A, B> = (A, B);

@@ -5,14 +5,13 @@ use Rattle.std.proofs.lemmas.Bool.{leb-true}
 use Rattle.nano_value.specs.Sums.{count_variants}
 use Rattle.nano_bin.specs.Codec.{Codec, codec_as}
 use Rattle.nano_bin.specs.Variants.{legal_bodies}
-use Rattle.nano_schema.specs.Names.{Schema}
 use Rattle.nano_schema_bin.specs.Choices.{Chosen}
 use Rattle.nano_schema_bin.specs.ChoicesLaws.{choice_codec}
 
--- an enum by its schema, and what its variants hold. The last is `refl`: it checks that two
--- bytes distinguish the variants
-abbrev pub bin_choice : {A B : Type 0} (schema : Schema A B) (variants : Chosen B)
+-- an enum as the content of the variant that it is, and what the variants hold. The last is
+-- `refl`: it checks that two bytes distinguish the variants
+abbrev pub bin_choice : {A B : Type 0} (view : A → B) (variants : Chosen B)
     → leb (count_variants (legal_bodies variants.bodies)) 65536 ≡ true → Codec A
-bin_choice schema variants few =
+bin_choice view variants few =
     let count = count_variants (legal_bodies variants.bodies) in
-    codec_as schema.view (choice_codec variants (leb-true count 65536 few))
+    codec_as view (choice_codec variants (leb-true count 65536 few))

@@ -4,24 +4,33 @@ ghost use Rattle.std.specs.Prelude.{◌≡◌, ◌++◌, ◌+◌, ◌≤◌, ◌
 ghost use Rattle.nano_value.specs.Sums.{count_variants};
 ghost use Rattle.nano_bytes.specs.LittleEndian.{little_endian};
 ghost use Rattle.nano_bytes.specs.Reading.{Rejects};
+ghost use Rattle.nano_schema.specs.Choices.{either_map};
 ghost use Rattle.nano_bin.specs.Variants.{encoding_at, legal_bodies};
-ghost use Rattle.nano_schema_bin.specs.Choices.{Chosen, DecodesChoice};
+ghost use Rattle.nano_schema_bin.specs.Choices.{Chosen, DecodesChoice, written_from, IsUnknownTag};
 ghost use Rattle.nano_schema_bin.specs.ChoicesLaws.{last_choice, next_choice};
-ghost use Rattle.nano_schema_bin.specs.Choices.{written_from, IsUnknownTag};
 
 use crate::fields::{BinFields, BinRefs, BinShape};
 use nano_bin::{DeBinErr, DeBinKind, SerBin};
-use nano_schema::{BorrowedChoices, Choices, Either, Label, NamedVariant, Shape};
+use nano_schema::{Either, Variant};
 use std::alloc::{AllocError, Global};
 
 /// Variants that stand as bytes.
-pub trait BinShapes: Choices {
+pub trait BinShapes {
+    /// The content of one of them.
+    type Values;
+
     /// The variants in their order, with the format of the content of each.
     ghost chosen: { Chosen Self.Values };
 }
 
 /// Variants that are read from bytes.
-pub trait BinChoices: BinShapes {
+pub trait BinChoices {
+    /// The content of one of them.
+    type Values;
+
+    /// The variants in their order, with the format of the content of each.
+    ghost chosen: { Chosen Self.Values };
+
     /// Reads the content of the variant with this tag, which stands at `start`, from `offset`
     /// on, and sets `offset` after it. A tag that no variant has is rejected with the kind
     /// `Own`, with the tag's place and length 0. Every error leaves `offset` unchanged; one
@@ -32,18 +41,30 @@ pub trait BinChoices: BinShapes {
         alloc: Global,
         offset: &mut usize,
         bytes: &[u8],
-    ) -> Result<<Self as Choices>::Values, DeBinErr>
-        ensures ok { IfOk result (λ x. DecodesChoice Self.means Self.chosen.bodies tag
+    ) -> Result<Self::Values, DeBinErr>
+        ensures ok { IfOk result (λ x. DecodesChoice chosen.means chosen.bodies tag
             bytes.now offset.old x offset.new) }
         ensures err { IfErr result
-            (Rejects (encoding_at Self.chosen.bodies tag).encodes (drop offset.old bytes.now)) }
-        ensures own { count_variants (legal_bodies Self.chosen.bodies) ≤ tag
+            (Rejects (encoding_at chosen.bodies tag).encodes (drop offset.old bytes.now)) }
+        ensures own { count_variants (legal_bodies chosen.bodies) ≤ tag
             → IfErr result (IsUnknownTag start bytes.now) }
         ensures unchanged { OnErr result (offset.new ≡ offset.old) };
 }
 
 /// Variants that are written as bytes.
-pub trait BinChoiceRefs<'a>: BinShapes + BorrowedChoices<'a> {
+pub trait BinChoiceRefs<'a> {
+    /// The content of one of them.
+    type Values;
+
+    /// References to it.
+    type Refs;
+
+    /// What they refer to.
+    ghost values: { Self.Refs → Self.Values };
+
+    /// The variants in their order, with the format of the content of each.
+    ghost chosen: { Chosen Self.Values };
+
     /// Appends the tag of the variant, where the first of them has the tag `from`, and the
     /// bytes of its content. If the write fails, `output` is unchanged.
     fn write(
@@ -52,9 +73,9 @@ pub trait BinChoiceRefs<'a>: BinShapes + BorrowedChoices<'a> {
         alloc: Global,
         output: &mut Vec<u8>,
     ) -> Result<(), AllocError>
-        requires { from + count_variants (legal_bodies Self.chosen.bodies) ≤ 65536 }
+        requires { from + count_variants (legal_bodies chosen.bodies) ≤ 65536 }
         ensures ok { OnOk result (output.new.items ≡ output.old.items
-            ++ written_from from Self.chosen.bodies (Self.chosen.by_tag (Self.values refs.now))) }
+            ++ written_from from chosen.bodies (chosen.by_tag (values refs.now))) }
         ensures err { OnErr result (output.new.items ≡ output.old.items) };
 }
 
@@ -79,11 +100,17 @@ fn write_content<'a, S: BinRefs<'a>>(
     written
 }
 
-impl<N: Label, S: BinShape> BinShapes for NamedVariant<N, S> {
+impl<N, S: BinShape> BinShapes for Variant<N, S> {
+    type Values = S::Values;
+
     ghost chosen = { last_choice S.codec };
 }
 
-impl<N: Label, S: BinFields> BinChoices for NamedVariant<N, S> {
+impl<N, S: BinFields> BinChoices for Variant<N, S> {
+    type Values = S::Values;
+
+    ghost chosen = { last_choice S.codec };
+
     fn read(
         tag: u16,
         start: usize,
@@ -106,22 +133,17 @@ impl<N: Label, S: BinFields> BinChoices for NamedVariant<N, S> {
     }
 }
 
-impl<'a, N: Label, S: BinRefs<'a>> BinChoiceRefs<'a> for NamedVariant<N, S> {
-    fn write(
-        refs: &S::Refs,
-        from: u32,
-        alloc: Global,
-        output: &mut Vec<u8>,
-    ) -> Result<(), AllocError> {
-        write_content::<S>(from, refs, alloc, output)
-    }
-}
+impl<N, S: BinShape, C: BinShapes> BinShapes for (Variant<N, S>, C) {
+    type Values = Either<S::Values, C::Values>;
 
-impl<N: Label, S: BinShape, C: BinShapes> BinShapes for (NamedVariant<N, S>, C) {
     ghost chosen = { next_choice S.codec C.chosen };
 }
 
-impl<N: Label, S: BinFields, C: BinChoices> BinChoices for (NamedVariant<N, S>, C) {
+impl<N, S: BinFields, C: BinChoices> BinChoices for (Variant<N, S>, C) {
+    type Values = Either<S::Values, C::Values>;
+
+    ghost chosen = { next_choice S.codec C.chosen };
+
     fn read(
         tag: u16,
         start: usize,
@@ -142,8 +164,34 @@ impl<N: Label, S: BinFields, C: BinChoices> BinChoices for (NamedVariant<N, S>, 
     }
 }
 
-impl<'a, N: Label, S: BinRefs<'a>, C: BinChoiceRefs<'a>> BinChoiceRefs<'a>
-    for (NamedVariant<N, S>, C) {
+impl<'a, N, S: BinRefs<'a>> BinChoiceRefs<'a> for Variant<N, S> {
+    type Values = S::Values;
+
+    type Refs = S::Refs;
+
+    ghost values = { S.values };
+
+    ghost chosen = { last_choice S.codec };
+
+    fn write(
+        refs: &S::Refs,
+        from: u32,
+        alloc: Global,
+        output: &mut Vec<u8>,
+    ) -> Result<(), AllocError> {
+        write_content::<S>(from, refs, alloc, output)
+    }
+}
+
+impl<'a, N, S: BinRefs<'a>, C: BinChoiceRefs<'a>> BinChoiceRefs<'a> for (Variant<N, S>, C) {
+    type Values = Either<S::Values, C::Values>;
+
+    type Refs = Either<S::Refs, C::Refs>;
+
+    ghost values = { either_map S.values C.values };
+
+    ghost chosen = { next_choice S.codec C.chosen };
+
     fn write(
         refs: &Either<S::Refs, C::Refs>,
         from: u32,

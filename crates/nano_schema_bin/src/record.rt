@@ -2,6 +2,7 @@
 
 ghost use Rattle.std.specs.Prelude.{◌≡◌, ◌++◌, drop, IfOk, IfErr, OnOk, OnErr};
 ghost use Rattle.nano_bytes.specs.Reading.{Decodes, Rejects};
+ghost use Rattle.nano_schema.specs.Views.{SeesAs};
 
 use crate::fields::{BinFields, BinRefs};
 use nano_bin::DeBinErr;
@@ -10,37 +11,33 @@ use std::alloc::{AllocError, Global};
 
 /// Reads a user-defined struct from `offset` on, and sets `offset` after it. Every error leaves
 /// `offset` unchanged; one other than out of memory says that no struct is encoded there.
-pub fn read_record_bin<R: Record>(
+pub fn read_record_bin<R: Record, F: BinFields<Values = R::Values>>(
     alloc: Global,
     offset: &mut usize,
     bytes: &[u8],
 ) -> Result<R, DeBinErr>
-where
-    R::Fields: BinFields,
-    ensures ok { IfOk result (λ value. Decodes R.Fields.codec.encoding.encodes
-        bytes.now offset.old (R.Fields.Shape.means (R.schema.view value)) offset.new) }
-    ensures err { IfErr result
-        (Rejects R.Fields.codec.encoding.encodes (drop offset.old bytes.now)) }
+    ensures ok { IfOk result (λ value. Decodes F.codec.encoding.encodes
+        bytes.now offset.old (F.codec.canonical.means (R.view value)) offset.new) }
+    ensures err { IfErr result (Rejects F.codec.encoding.encodes (drop offset.old bytes.now)) }
     ensures unchanged { OnErr result (offset.new ≡ offset.old) }
 {
-    match <R::Fields as BinFields>::read(alloc, offset, bytes) {
+    match F::read(alloc, offset, bytes) {
         Ok(values) => Ok(R::make(values)),
         Err(error) => Err(error),
     }
 }
 
-/// Appends the bytes of a user-defined struct. If the write fails, `output` is unchanged.
-pub fn write_record_bin<'a, R: Parts<'a>>(
+/// Appends the bytes of a user-defined struct, where the fields are those that it is seen by. If
+/// the write fails, `output` is unchanged.
+pub fn write_record_bin<'a, R: Parts<'a>, F: BinRefs<'a, Refs = R::Refs, Values = R::Values>>(
     value: &'a R,
     alloc: Global,
     output: &mut Vec<u8>,
 ) -> Result<(), AllocError>
-where
-    R::Fields: BinRefs<'a>,
-    ensures ok { OnOk result (output.new.items
-        ≡ output.old.items ++ R.Fields.codec.canonical.written (R.schema.view value.now)) }
+    ensures ok { SeesAs F.values R.Parts.values → OnOk result (output.new.items
+        ≡ output.old.items ++ F.codec.canonical.written (R.view value.now)) }
     ensures err { OnErr result (output.new.items ≡ output.old.items) }
 {
     let refs = value.as_refs();
-    <R::Fields as BinRefs<'a>>::write(&refs, alloc, output)
+    F::write(&refs, alloc, output)
 }

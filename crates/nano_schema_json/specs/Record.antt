@@ -4,20 +4,15 @@ use Rattle.std.proofs.lemmas.Bool.{and_parts}
 use Rattle.nano_schema_text.specs.FieldCodec.{FieldsCodec}
 use Rattle.nano_schema_text.specs.Names.{are_distinct}
 use Rattle.nano_json.specs.Codec.{Codec, codec_as}
-use Rattle.nano_schema.specs.Names.{Names, Schema}
 use Rattle.nano_schema_json.specs.FieldsLaws.{json_fields, ascii_names, fields_codec}
 use Rattle.nano_schema_json.specs.Names.{are_ascii_names}
 
--- a struct by its schema, and the format of its fields under given names. The last is `refl`:
--- for given names, it checks that they are ASCII of which no character needs an escape, and
--- that none occurs twice
-abbrev pub json_of : {A B : Type 0} (schema : Schema A B)
-    (fields : Names → FieldsCodec json_fields B)
-    → (are_ascii_names (fields schema.the_names).canonical.names
-    && are_distinct (fields schema.the_names).canonical.names) ≡ true
+-- a struct as the values of its fields, and their format. The last is `refl`: it checks that the
+-- names are ASCII of which no character needs an escape, and that none occurs twice
+abbrev pub json_of : {A B : Type 0} (view : A → B) (fields : FieldsCodec json_fields B)
+    → (are_ascii_names fields.canonical.names && are_distinct fields.canonical.names) ≡ true
     → Codec A
-json_of schema fields good =
-    let named = fields schema.the_names in
-    let all = named.canonical.names in
+json_of view fields good =
+    let all = fields.canonical.names in
     let parts = and_parts (are_ascii_names all) (are_distinct all) good in
-    codec_as schema.view (fields_codec named (ascii_names {names = all} parts.0) parts.1)
+    codec_as view (fields_codec fields (ascii_names {names = all} parts.0) parts.1)

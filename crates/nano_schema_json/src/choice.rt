@@ -1,6 +1,7 @@
 //! User-defined enums in JSON.
 
 ghost use Rattle.std.specs.Prelude.{◌≡◌, OnOk, OnErr};
+ghost use Rattle.nano_schema.specs.Views.{SeesAs};
 ghost use Rattle.nano_schema_text.specs.Variants.{EncodesVariant};
 ghost use Rattle.nano_text.specs.Outcomes.{Appends, Unchanged};
 ghost use Rattle.nano_json.specs.Readers.{Decodes, Rejects};
@@ -8,7 +9,7 @@ ghost use Rattle.nano_json.specs.State.{at, ended};
 ghost use Rattle.nano_schema_json.specs.VariantsLaws.{json_variants};
 
 use crate::choices::{JsonChoiceRefs, JsonChoices};
-use crate::read_variant_name;
+use crate::variants::read_variant_name;
 use nano_json::{DeJsonErr, DeJsonState, SerJsonState};
 use nano_schema::{Choice, ChoiceParts};
 use std::alloc::{AllocError, Global};
@@ -20,41 +21,41 @@ use std::str::Chars;
 ///
 /// An error other than out of memory says that no variant is encoded there, with one more token
 /// or the end after it. Every error leaves the state at the end of the text.
-pub fn read_choice_json<E: Choice>(
+pub fn read_choice_json<E: Choice, V: JsonChoices<Values = E::Values>>(
     alloc: Global,
     state: &mut DeJsonState,
     input: &mut Chars<'_>,
 ) -> Result<E, DeJsonErr>
-where
-    E::Variants: JsonChoices + Drop,
-    ensures decodes { Decodes (EncodesVariant json_variants (E.Variants.codec E.schema.the_names).encodes)
-        (λ value. E.Variants.Choices.means 0 (E.schema.view value))
+    ensures decodes { Decodes (EncodesVariant json_variants V.codec.encodes)
+        (λ value. V.means 0 (E.view value))
         (at state.old input.old) (at state.new input.new) result }
-    ensures rejected { Rejects (EncodesVariant json_variants (E.Variants.codec E.schema.the_names).encodes)
+    ensures rejected { Rejects (EncodesVariant json_variants V.codec.encodes)
         (at state.old input.old) result }
     ensures ended { OnErr result (at state.new input.new ≡ ended) }
 {
-    let variants = E::variants();
     let name = read_variant_name(alloc, state, input)?;
-    match variants.read(&name, alloc, state, input) {
+    match V::read(&name, alloc, state, input) {
         Ok(values) => Ok(E::make(values)),
         Err(error) => Err(error),
     }
 }
 
-/// Writes a user-defined enum at level `d`. If the write fails, `s.out` is unchanged.
-pub fn write_choice_json<'a, E: ChoiceParts<'a>>(
+/// Writes a user-defined enum at level `d`, where the variants are those that it is seen by. If the
+/// write fails, `s.out` is unchanged.
+pub fn write_choice_json<
+    'a,
+    E: ChoiceParts<'a>,
+    V: JsonChoiceRefs<'a, Refs = E::Refs, Values = E::Values>,
+>(
     value: &'a E,
     alloc: Global,
     d: usize,
     s: &mut SerJsonState,
 ) -> Result<(), AllocError>
-where
-    E::Variants: JsonChoiceRefs<'a> + Drop,
-    ensures ok { OnOk result (Appends s.old.out s.new.out
-        ((E.Variants.codec E.schema.the_names).text d (E.schema.view value.now))) }
+    ensures ok { SeesAs V.values E.ChoiceParts.values → OnOk result
+        (Appends s.old.out s.new.out (V.codec.text d (E.view value.now))) }
     ensures err { OnErr result (Unchanged s.old.out s.new.out) }
 {
-    let variants = E::variants();
-    variants.write(value.as_refs(), alloc, d, s)
+    let refs = value.as_refs();
+    V::write(&refs, alloc, d, s)
 }

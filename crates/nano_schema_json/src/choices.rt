@@ -1,32 +1,45 @@
 //! The variants of an enum in JSON.
 
-ghost use Rattle.std.specs.Prelude.{◌≡◌, ℕ, [], true, string_bytes, OnOk, OnErr};
+ghost use Rattle.std.specs.Prelude.{◌≡◌, ℕ, suc, [], true, string_bytes, OnOk, OnErr};
 ghost use Rattle.std.specs.declared.str.Chars.{Chars};
+ghost use Rattle.nano_value.specs.Meaning.{Meaning};
+ghost use Rattle.nano_value.specs.Sums.{tagged};
 ghost use Rattle.nano_text.specs.Outcomes.{Appends, Unchanged};
 ghost use Rattle.nano_json.specs.Readers.{Decodes, Rejects};
 ghost use Rattle.nano_json.specs.State.{at, ended};
-ghost use Rattle.nano_schema_json.specs.VariantsLaws.{json_variants};
-ghost use Rattle.nano_schema.specs.Names.{Names, the_name, first, second};
-ghost use Rattle.nano_schema_text.specs.Choices.{ChoiceCodec, EncodesAfter, is_named};
-ghost use Rattle.nano_schema_text.specs.Choices.{last_choice};
+ghost use Rattle.nano_schema.specs.Choices.{either_is, either_map};
+ghost use Rattle.nano_schema_text.specs.Choices.{ChoiceCodec, EncodesAfter, is_named, last_choice};
 ghost use Rattle.nano_schema_text.specs.ChoicesLaws.{next_choice};
 ghost use Rattle.nano_schema_json.specs.Contents.{is_alone, bytes_of};
+ghost use Rattle.nano_schema_json.specs.VariantsLaws.{json_variants};
 
 use crate::contents::{JsonContent, ReadContent, WriteContent};
-use crate::{VariantName, unknown_variant};
+use crate::variants::{VariantName, unknown_variant};
 use nano_json::{DeJsonErr, DeJsonState, SerJsonState};
-use nano_schema::{BorrowedChoices, Choices, Either, Label, NamedVariant, Shape};
+use nano_schema::{Either, Label, Variant};
 use std::alloc::{AllocError, Global};
 use std::str::Chars;
 
 /// Variants with a place in JSON.
-pub trait JsonShapes: Choices {
-    /// How they are written and read under these names.
-    ghost codec: { Names → ChoiceCodec json_variants Self.Values };
+pub trait JsonShapes {
+    /// The content of one of them.
+    type Values;
+
+    /// How they are written and read.
+    ghost codec: { ChoiceCodec json_variants Self.Values };
 }
 
 /// Variants that are read from JSON.
-pub trait JsonChoices: JsonShapes {
+pub trait JsonChoices {
+    /// The content of one of them.
+    type Values;
+
+    /// How they are written and read.
+    ghost codec: { ChoiceCodec json_variants Self.Values };
+
+    /// What the content of one of them means, where the first of them has this place.
+    ghost means: { ℕ → Self.Values → Meaning };
+
     /// Reads the content of the variant whose name was taken in this way, and the `}` after it.
     /// A name that no variant has is rejected with `Enum not defined {name}`.
     ///
@@ -34,37 +47,44 @@ pub trait JsonChoices: JsonShapes {
     /// encoded there, with one more token or the end after it. Every error leaves the state at
     /// the end of the text.
     fn read(
-        &self,
         name: &VariantName,
         alloc: Global,
         state: &mut DeJsonState,
         input: &mut Chars<'_>,
-    ) -> Result<<Self as Choices>::Values, DeJsonErr>
+    ) -> Result<Self::Values, DeJsonErr>
         ensures decodes { (from : ℕ) → Decodes (EncodesAfter json_variants from
-            (Self.codec (Self.names_of self.now)).encodes (is_alone name.now) (bytes_of name.now))
-            (Self.means from) (at state.old input.old) (at state.new input.new) result }
+            codec.encodes (is_alone name.now) (bytes_of name.now))
+            (means from) (at state.old input.old) (at state.new input.new) result }
         ensures rejected { (from : ℕ) → Rejects (EncodesAfter json_variants from
-            (Self.codec (Self.names_of self.now)).encodes (is_alone name.now) (bytes_of name.now))
+            codec.encodes (is_alone name.now) (bytes_of name.now))
             (at state.old input.old) result }
         ensures ended { OnErr result (at state.new input.new ≡ ended) };
 }
 
 /// Variants that are written as JSON.
-pub trait JsonChoiceRefs<'a>: JsonShapes + BorrowedChoices<'a> {
-    /// What is written of the content of one of them: its parts by reference.
-    type Parts;
+pub trait JsonChoiceRefs<'a> {
+    /// The content of one of them.
+    type Values;
+
+    /// References to it.
+    type Refs;
+
+    /// What they refer to.
+    ghost values: { Self.Refs → Self.Values };
+
+    /// How they are written and read.
+    ghost codec: { ChoiceCodec json_variants Self.Values };
 
     /// Appends the variant with its content at level `d`. If the write fails, `s.out` is
     /// unchanged.
     fn write(
-        &self,
-        refs: Self::Refs,
+        refs: &Self::Refs,
         alloc: Global,
         d: usize,
         s: &mut SerJsonState,
     ) -> Result<(), AllocError>
-        ensures ok { OnOk result (Appends s.old.out s.new.out
-            ((Self.codec (Self.names_of self.now)).text d (Self.values refs))) }
+        ensures ok { OnOk result
+            (Appends s.old.out s.new.out (codec.text d (values refs.now))) }
         ensures err { OnErr result (Unchanged s.old.out s.new.out) };
 }
 
@@ -89,80 +109,102 @@ fn unknown(alloc: Global, state: &mut DeJsonState, name: &VariantName) -> DeJson
     }
 }
 
-impl<N: Label, S: JsonContent> JsonShapes for NamedVariant<N, S> {
-    ghost codec = { λ n. last_choice (the_name (first n)) (S.content (second n)) };
+impl<N: Label, S: JsonContent> JsonShapes for Variant<N, S> {
+    type Values = S::Values;
+
+    ghost codec = { last_choice N.label S.content };
 }
 
-impl<N: Label, S: ReadContent> JsonChoices for NamedVariant<N, S> {
+impl<N: Label, S: ReadContent> JsonChoices for Variant<N, S> {
+    type Values = S::Values;
+
+    ghost codec = { last_choice N.label S.content };
+
+    ghost means = { λ from x. tagged from (S.means x) };
+
     fn read(
-        &self,
         name: &VariantName,
         alloc: Global,
         state: &mut DeJsonState,
         input: &mut Chars<'_>,
     ) -> Result<S::Values, DeJsonErr> {
-        if is_named(name, self.name.text(), self.content.stands_alone()) {
-            return self.content.read(alloc, state, input);
+        if is_named(name, N::text(), S::stands_alone()) {
+            return S::read(alloc, state, input);
         }
         Err(unknown(alloc, state, name))
     }
 }
 
-impl<'a, N: Label, S: WriteContent<'a>> JsonChoiceRefs<'a> for NamedVariant<N, S> {
-    type Parts = S::Parts;
+impl<N: Label, S: JsonContent, C: JsonShapes> JsonShapes for (Variant<N, S>, C) {
+    type Values = Either<S::Values, C::Values>;
 
-    fn write(
-        &self,
-        refs: S::Refs,
-        alloc: Global,
-        d: usize,
-        s: &mut SerJsonState,
-    ) -> Result<(), AllocError> {
-        self.content.write(self.name.text(), refs, alloc, d, s)
-    }
+    ghost codec = { next_choice N.label S.content C.codec };
 }
 
-impl<N: Label, S: JsonContent, C: JsonShapes> JsonShapes for (NamedVariant<N, S>, C) {
-    ghost codec = { λ n. next_choice (the_name (first (first n))) (S.content (second (first n)))
-        (C.codec (second n)) };
-}
+impl<N: Label, S: ReadContent, C: JsonChoices> JsonChoices for (Variant<N, S>, C) {
+    type Values = Either<S::Values, C::Values>;
 
-impl<N: Label, S: ReadContent, C: JsonChoices> JsonChoices for (NamedVariant<N, S>, C) {
+    ghost codec = { next_choice N.label S.content C.codec };
+
+    ghost means = { λ from. either_is (λ x. tagged from (S.means x)) (C.means (suc from)) };
+
     fn read(
-        &self,
         name: &VariantName,
         alloc: Global,
         state: &mut DeJsonState,
         input: &mut Chars<'_>,
     ) -> Result<Either<S::Values, C::Values>, DeJsonErr> {
-        let first = &self.0;
-        if is_named(name, first.name.text(), first.content.stands_alone()) {
-            return match first.content.read(alloc, state, input) {
+        if is_named(name, N::text(), S::stands_alone()) {
+            return match S::read(alloc, state, input) {
                 Ok(content) => Ok(Either::First(content)),
                 Err(error) => Err(error),
             };
         }
-        match self.1.read(name, alloc, state, input) {
+        match C::read(name, alloc, state, input) {
             Ok(later) => Ok(Either::Later(later)),
             Err(error) => Err(error),
         }
     }
 }
 
-impl<'a, N: Label, S: WriteContent<'a>, C: JsonChoiceRefs<'a>> JsonChoiceRefs<'a>
-    for (NamedVariant<N, S>, C) {
-    type Parts = Either<S::Parts, C::Parts>;
+impl<'a, N: Label, S: WriteContent<'a>> JsonChoiceRefs<'a> for Variant<N, S> {
+    type Values = S::Values;
+
+    type Refs = S::Refs;
+
+    ghost values = { S.values };
+
+    ghost codec = { last_choice N.label S.content };
 
     fn write(
-        &self,
-        refs: Either<S::Refs, C::Refs>,
+        refs: &S::Refs,
+        alloc: Global,
+        d: usize,
+        s: &mut SerJsonState,
+    ) -> Result<(), AllocError> {
+        S::write(N::text(), refs, alloc, d, s)
+    }
+}
+
+impl<'a, N: Label, S: WriteContent<'a>, C: JsonChoiceRefs<'a>> JsonChoiceRefs<'a>
+    for (Variant<N, S>, C) {
+    type Values = Either<S::Values, C::Values>;
+
+    type Refs = Either<S::Refs, C::Refs>;
+
+    ghost values = { either_map S.values C.values };
+
+    ghost codec = { next_choice N.label S.content C.codec };
+
+    fn write(
+        refs: &Either<S::Refs, C::Refs>,
         alloc: Global,
         d: usize,
         s: &mut SerJsonState,
     ) -> Result<(), AllocError> {
         match refs {
-            Either::First(refs) => self.0.content.write(self.0.name.text(), refs, alloc, d, s),
-            Either::Later(refs) => self.1.write(refs, alloc, d, s),
+            Either::First(refs) => S::write(N::text(), refs, alloc, d, s),
+            Either::Later(refs) => C::write(refs, alloc, d, s),
         }
     }
 }

@@ -2,37 +2,48 @@
 //! curly ones.
 
 ghost use Rattle.std.specs.Prelude.{◌≡◌, OnOk, OnErr};
+ghost use Rattle.nano_value.specs.Meaning.{Meaning, nothing};
 ghost use Rattle.nano_text.specs.Outcomes.{Appends, Unchanged};
 ghost use Rattle.nano_json.specs.Readers.{Decodes, Rejects};
 ghost use Rattle.nano_json.specs.State.{at, ended};
-ghost use Rattle.nano_schema_json.specs.CodecsLaws.{single_codec};
-ghost use Rattle.nano_schema_json.specs.VariantsLaws.{json_variants};
-ghost use Rattle.nano_schema.specs.Names.{Names};
 ghost use Rattle.nano_schema_text.specs.Choices.{Content, EncodesRest, stands_alone};
+ghost use Rattle.nano_schema_json.specs.CodecsLaws.{single_codec};
 ghost use Rattle.nano_schema_json.specs.ContentsLaws.{no_content, content_as, fields_content};
+ghost use Rattle.nano_schema_json.specs.VariantsLaws.{json_variants};
 
 use crate::brackets::InBrackets;
-use crate::shapes::JsonRefs;
-use crate::{
-    Fields, JsonShape, Part, read_content, read_fields_content, write_fields_variant,
-    write_unit_variant, write_variant,
-};
+use crate::fields::{JsonFields, JsonRefs, JsonShape};
+use crate::part::Part;
+use crate::variant_writer::{write_fields_variant, write_unit_variant, write_variant};
+use crate::variants::{read_content, read_fields_content};
 use nano_json::{DeJson, DeJsonErr, DeJsonState, JsonCodec, SerJson, SerJsonState};
-use nano_schema::{Alone, Borrowed, OnePart, Shape};
+use nano_schema::{Alone, Named, OnePart};
 use std::alloc::{AllocError, Global};
 use std::str::Chars;
 
 /// The content of a variant with a place in JSON.
-pub trait JsonContent: Shape {
-    /// How it is written and read under the names of its fields.
-    ghost content: { Names → Content json_variants Self.Values };
+pub trait JsonContent {
+    /// Its values.
+    type Values;
+
+    /// How it is written and read.
+    ghost content: { Content json_variants Self.Values };
 }
 
 /// The content of a variant that is read from JSON.
-pub trait ReadContent: JsonContent {
+pub trait ReadContent {
+    /// Its values.
+    type Values;
+
+    /// How it is written and read.
+    ghost content: { Content json_variants Self.Values };
+
+    /// What it means.
+    ghost means: { Self.Values → Meaning };
+
     /// Whether the name of the variant stands alone, with no content after it.
-    fn stands_alone(&self) -> bool
-        ensures { result ≡ stands_alone (Self.content (Self.names_of self.now)).rest };
+    fn stands_alone() -> bool
+        ensures { result ≡ stands_alone content.rest };
 
     /// Reads what comes after the name of the variant, with the `}` after it; for a variant
     /// without content that is nothing.
@@ -40,51 +51,64 @@ pub trait ReadContent: JsonContent {
     /// An error other than out of memory says that no such content is encoded there, with one
     /// more token or the end after it. Every error leaves the state at the end of the text.
     fn read(
-        &self,
         alloc: Global,
         state: &mut DeJsonState,
         input: &mut Chars<'_>,
-    ) -> Result<<Self as Shape>::Values, DeJsonErr>
-        ensures decodes { Decodes (EncodesRest json_variants (Self.content (Self.names_of self.now)).rest)
-            Self.means (at state.old input.old) (at state.new input.new) result }
-        ensures rejected { Rejects (EncodesRest json_variants (Self.content (Self.names_of self.now)).rest)
+    ) -> Result<Self::Values, DeJsonErr>
+        ensures decodes { Decodes (EncodesRest json_variants content.rest) means
+            (at state.old input.old) (at state.new input.new) result }
+        ensures rejected { Rejects (EncodesRest json_variants content.rest)
             (at state.old input.old) result }
         ensures ended { OnErr result (at state.new input.new ≡ ended) };
 }
 
 /// The content of a variant that is written as JSON.
-pub trait WriteContent<'a>: JsonContent + Borrowed<'a> {
-    /// What is written of it: its parts by reference, with their names where they have names.
-    type Parts;
+pub trait WriteContent<'a> {
+    /// Its values.
+    type Values;
+
+    /// References to them.
+    type Refs;
+
+    /// What they refer to.
+    ghost values: { Self.Refs → Self.Values };
+
+    /// How it is written and read.
+    ghost content: { Content json_variants Self.Values };
 
     /// Appends the variant of this name with the content at level `d`. If the write fails,
     /// `s.out` is unchanged.
     fn write(
-        &self,
         name: &str,
-        refs: Self::Refs,
+        refs: &Self::Refs,
         alloc: Global,
         d: usize,
         s: &mut SerJsonState,
     ) -> Result<(), AllocError>
-        ensures ok { OnOk result (Appends s.old.out s.new.out
-            ((Self.content (Self.names_of self.now)).text name.now d (Self.values refs))) }
+        ensures ok { OnOk result (Appends s.old.out s.new.out (content.text name.now d (values refs.now))) }
         ensures err { OnErr result (Unchanged s.old.out s.new.out) };
 }
 
 // ---- no content
 
 impl JsonContent for Alone {
-    ghost content = { λ n. no_content };
+    type Values = ();
+
+    ghost content = { no_content };
 }
 
 impl ReadContent for Alone {
-    fn stands_alone(&self) -> bool {
+    type Values = ();
+
+    ghost content = { no_content };
+
+    ghost means = { λ v. nothing };
+
+    fn stands_alone() -> bool {
         true
     }
 
     fn read(
-        &self,
         _alloc: Global,
         _state: &mut DeJsonState,
         _input: &mut Chars<'_>,
@@ -94,12 +118,17 @@ impl ReadContent for Alone {
 }
 
 impl<'a> WriteContent<'a> for Alone {
-    type Parts = ();
+    type Values = ();
+
+    type Refs = ();
+
+    ghost values = { λ r. r };
+
+    ghost content = { no_content };
 
     fn write(
-        &self,
         name: &str,
-        _refs: (),
+        _refs: &(),
         alloc: Global,
         _d: usize,
         s: &mut SerJsonState,
@@ -111,16 +140,23 @@ impl<'a> WriteContent<'a> for Alone {
 // ---- one part
 
 impl<T: JsonCodec> JsonContent for OnePart<T> {
-    ghost content = { λ n. content_as (single_codec T.json) };
+    type Values = T;
+
+    ghost content = { content_as (single_codec T.json) };
 }
 
 impl<T: DeJson> ReadContent for OnePart<T> {
-    fn stands_alone(&self) -> bool {
+    type Values = T;
+
+    ghost content = { content_as (single_codec T.json) };
+
+    ghost means = { T.means };
+
+    fn stands_alone() -> bool {
         false
     }
 
     fn read(
-        &self,
         alloc: Global,
         state: &mut DeJsonState,
         input: &mut Chars<'_>,
@@ -133,18 +169,23 @@ impl<T: DeJson> ReadContent for OnePart<T> {
 }
 
 impl<'a, T: SerJson + 'a> WriteContent<'a> for OnePart<T> {
-    type Parts = ();
+    type Values = T;
+
+    type Refs = &'a T;
+
+    ghost values = { λ r. r.now };
+
+    ghost content = { content_as (single_codec T.json) };
 
     fn write(
-        &self,
         name: &str,
-        refs: &'a T,
+        refs: &&'a T,
         alloc: Global,
         d: usize,
         s: &mut SerJsonState,
     ) -> Result<(), AllocError> {
         let content = InBrackets {
-            part: Part { of: refs },
+            part: Part { of: *refs },
         };
         write_variant(alloc, name, &content, d, s)
     }
@@ -152,58 +193,48 @@ impl<'a, T: SerJson + 'a> WriteContent<'a> for OnePart<T> {
 
 // ---- named fields
 
-impl<A: JsonShape, B: JsonShape> JsonContent for (A, B) {
-    ghost content = { λ n. fields_content (⟦<(A, B) as JsonShape>⟧.codec n) };
+impl<F: JsonShape> JsonContent for Named<F> {
+    type Values = F::Values;
+
+    ghost content = { fields_content F.codec };
 }
 
-impl<A: Fields, B: Fields> ReadContent for (A, B)
-where
-    A::Values: Drop,
-    B::Values: Drop,
-{
-    fn stands_alone(&self) -> bool {
+impl<F: JsonFields> ReadContent for Named<F> {
+    type Values = F::Values;
+
+    ghost content = { fields_content F.codec };
+
+    ghost means = { F.codec.canonical.means };
+
+    fn stands_alone() -> bool {
         false
     }
 
     fn read(
-        &self,
         alloc: Global,
         state: &mut DeJsonState,
         input: &mut Chars<'_>,
-    ) -> Result<(A::Values, B::Values), DeJsonErr> {
-        read_fields_content(self, alloc, state, input)
+    ) -> Result<F::Values, DeJsonErr> {
+        read_fields_content::<F>(alloc, state, input)
     }
 }
 
-impl<'a, A: JsonRefs<'a>, B: JsonRefs<'a>> WriteContent<'a> for (A, B) {
-    type Parts = (A::Parts, B::Parts);
+impl<'a, F: JsonRefs<'a>> WriteContent<'a> for Named<F> {
+    type Values = F::Values;
+
+    type Refs = F::Refs;
+
+    ghost values = { F.values };
+
+    ghost content = { fields_content F.codec };
 
     fn write(
-        &self,
         name: &str,
-        refs: (A::Refs, B::Refs),
+        refs: &F::Refs,
         alloc: Global,
         d: usize,
         s: &mut SerJsonState,
     ) -> Result<(), AllocError> {
-        write_named_fields(self, name, refs, alloc, d, s)
+        write_fields_variant::<F>(name, refs, alloc, d, s)
     }
-}
-
-/// Appends a variant of this name whose content is named fields at level `d`. If the write
-/// fails, `s.out` is unchanged.
-pub(crate) fn write_named_fields<'a, F: JsonRefs<'a>>(
-    fields: &F,
-    name: &str,
-    refs: F::Refs,
-    alloc: Global,
-    d: usize,
-    s: &mut SerJsonState,
-) -> Result<(), AllocError>
-    ensures ok { OnOk result (Appends s.old.out s.new.out
-        ((fields_content (F.codec (F.names_of fields.now))).text name.now d (F.values refs))) }
-    ensures err { OnErr result (Unchanged s.old.out s.new.out) }
-{
-    let parts = fields.parts(refs);
-    write_fields_variant(alloc, name, &parts, d, s)
 }

@@ -1,45 +1,55 @@
-//! The fields of a struct: what knows their names, reads the value after a name, and makes the
-//! values of all.
+//! The fields of a struct: what knows their names, reads the value after a name, makes the values
+//! of all, and writes them.
 
-ghost use Rattle.std.specs.Prelude.{◌≡◌, List, [], ◌∷◌, ◌++◌, true, false, IfOk, OnOk, IfErr};
+ghost use Rattle.std.specs.Prelude.{◌≡◌, List, [], ◌∷◌, ◌++◌, true, false, IfOk, OnOk, IfErr, OnErr};
 ghost use Rattle.std.specs.Prelude.{string_bytes};
 ghost use Rattle.nano_value.specs.Meaning.{Meaning};
+ghost use Rattle.nano_text.specs.Outcomes.{Appends, AppendsPart};
 ghost use Rattle.nano_schema_text.specs.FieldCodec.{FieldsCodec};
-ghost use Rattle.nano_schema.specs.Names.{Names};
+ghost use Rattle.nano_schema_text.specs.FieldCanonical.{field_text};
 ghost use Rattle.nano_schema_json.specs.FieldReading.{Field, EncodedField, DecodesField};
+ghost use Rattle.nano_schema_json.specs.FieldTexts.{in_a_row, none_yet};
 ghost use Rattle.nano_schema_json.specs.FieldsLaws.{json_fields};
 ghost use Rattle.nano_json.specs.Readers.{Rejects, Reports};
 ghost use Rattle.nano_json.specs.State.{at, pending};
 ghost use Rattle.nano_json.specs.Token.{IsStr};
 
-use nano_json::{DeJsonErr, DeJsonState};
-use nano_schema::Shape;
-use std::alloc::Global;
+use nano_json::{DeJsonErr, DeJsonState, SerJsonState};
+use std::alloc::{AllocError, Global};
 use std::str::Chars;
 
 /// Fields with a place in JSON.
-pub trait JsonShape: Shape {
-    /// How they are written and read under these names.
-    ghost codec: { Names → FieldsCodec json_fields Self.Values };
+pub trait JsonShape {
+    /// Their values.
+    type Values;
+
+    /// How they are written and read.
+    ghost codec: { FieldsCodec json_fields Self.Values };
 }
 
-/// Named fields: one that must be there (`Required`), one that may be missing (`Optional`), or
-/// fields and more fields (a pair). Of a name that both of a pair know, the first has the values.
-/// Where an optional field is there, `null` is `None` too.
-pub trait Fields: JsonShape {
+/// Named fields that are read: one that must be there (`Required`), one that may be missing
+/// (`Optional`), or fields and more fields (a pair). Of a name that both of a pair know, the first
+/// has the values. Where an optional field is there, `null` is `None` too.
+pub trait JsonFields {
+    /// Their values.
+    type Values;
+
     /// What is read so far.
-    type Slots: Drop;
+    type Slots;
+
+    /// How they are written and read.
+    ghost codec: { FieldsCodec json_fields Self.Values };
 
     /// The slots hold what is read of these fields of a text.
-    ghost holds: { Self → Self.Slots → List Field → Type 0 };
+    ghost holds: { Self.Slots → List Field → Type 0 };
 
     /// Slots before the first field. It takes no memory.
-    fn empty(&self) -> Self::Slots
-        ensures { holds self.now result [] };
+    fn empty() -> Self::Slots
+        ensures { holds result [] };
 
     /// Whether a field has this name. It takes no memory.
-    fn knows(&self, name: &str) -> bool
-        ensures { result ≡ (Self.codec (Self.names_of self.now)).struct.shape.knows name.now };
+    fn knows(name: &str) -> bool
+        ensures { result ≡ codec.struct.shape.knows name.now };
 
     /// Reads the field whose name is pending, and puts its value in place of an earlier one.
     ///
@@ -47,39 +57,73 @@ pub trait Fields: JsonShape {
     /// type stands there, with one more token or the end after it. The state may be at any
     /// position then.
     fn read_field(
-        &self,
         slots: &mut Self::Slots,
         alloc: Global,
         state: &mut DeJsonState,
         input: &mut Chars<'_>,
     ) -> Result<(), DeJsonErr>
         requires text { IsStr (pending state.old) }
-        requires known { (Self.codec (Self.names_of self.now)).struct.shape.knows
-            (string_bytes state.old.strbuf) ≡ true }
-        ensures decodes { OnOk result (DecodesField
-            (Self.codec (Self.names_of self.now)).struct.shape.takes
-            (holds self.now slots.old) (holds self.now slots.new)
+        requires known { codec.struct.shape.knows (string_bytes state.old.strbuf) ≡ true }
+        ensures decodes { OnOk result (DecodesField codec.struct.shape.takes
+            (holds slots.old) (holds slots.new)
             (at state.old input.old) (at state.new input.new)) }
-        ensures rejected { Rejects
-            (EncodedField (Self.codec (Self.names_of self.now)).struct.shape.takes)
+        ensures rejected { Rejects (EncodedField codec.struct.shape.takes)
             (at state.old input.old) result };
 
     /// The values that the slots hold. It fails with `Key not found {name}` for the first field
     /// that must be there and is missing.
     fn values(
-        &self,
         slots: Self::Slots,
         alloc: Global,
         state: &DeJsonState,
-    ) -> Result<<Self as Shape>::Values, DeJsonErr>
-        ensures all { IfOk result (λ values. (fs : List Field) → holds self.now slots fs
-            → (Self.codec (Self.names_of self.now)).struct.shape.means fs (Self.means values)) }
+    ) -> Result<Self::Values, DeJsonErr>
+        ensures all { IfOk result (λ values. (fs : List Field) → holds slots fs
+            → codec.struct.shape.means fs (codec.canonical.means values)) }
         ensures missing { IfErr result (Reports ((fs : List Field) (m : Meaning)
-            → holds self.now slots fs
-            → (Self.codec (Self.names_of self.now)).struct.shape.means fs m → ⊥)) };
+            → holds slots fs → codec.struct.shape.means fs m → ⊥)) };
+
+    /// Drops what was read.
+    fn discard(slots: Self::Slots);
+
+    /// Drops the values.
+    fn discard_values(values: Self::Values);
 
     /// A field whose name is not known changes nothing.
-    ghost skips: { (fields : Self) (slots : Self.Slots) (fs : List Field) (f : Field)
-        → (Self.codec (Self.names_of fields)).struct.shape.knows f.name ≡ false
-        → holds fields slots fs → holds fields slots (fs ++ f ∷ []) };
+    ghost skips: { (slots : Self.Slots) (fs : List Field) (f : Field)
+        → codec.struct.shape.knows f.name ≡ false
+        → holds slots fs → holds slots (fs ++ f ∷ []) };
+}
+
+/// Fields that are written one after the other: a `Required` one is one, an `Optional` one is one
+/// or none, and a pair is its first fields and then its second ones.
+pub trait JsonRefs<'a> {
+    /// Their values.
+    type Values;
+
+    /// References to their values.
+    type Refs;
+
+    /// What they refer to.
+    ghost values: { Self.Refs → Self.Values };
+
+    /// How they are written and read.
+    ghost codec: { FieldsCodec json_fields Self.Values };
+
+    /// Appends the fields, with their values at level `d`. Each comes after a comma, but the
+    /// first where `first` says that no field comes before it. Answers whether none comes
+    /// before the next.
+    ///
+    /// If the write fails, what was written so far is left.
+    fn append_fields(
+        refs: &Self::Refs,
+        alloc: Global,
+        first: bool,
+        d: usize,
+        s: &mut SerJsonState,
+    ) -> Result<bool, AllocError>
+        ensures ok { OnOk result (Appends s.old.out s.new.out
+            (in_a_row first (field_text json_fields d) (codec.canonical.fields (values refs.now)))) }
+        ensures next { IfOk result (λ still_first. still_first
+            ≡ none_yet first (codec.canonical.fields (values refs.now))) }
+        ensures err { OnErr result (AppendsPart s.old.out s.new.out) };
 }

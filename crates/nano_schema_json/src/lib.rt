@@ -10,14 +10,12 @@ mod contents;
 mod fields;
 pub mod laws;
 mod named;
-mod one_field;
 mod optional;
 mod pairs;
 mod part;
 mod read;
 mod record;
 mod required;
-mod shapes;
 mod tuples;
 mod variant_writer;
 mod variants;
@@ -26,18 +24,16 @@ mod writer;
 pub use choice::{read_choice_json, write_choice_json};
 pub use choices::{JsonChoiceRefs, JsonChoices, JsonShapes};
 pub use contents::{JsonContent, ReadContent, WriteContent};
-pub use fields::{Fields, Fields as JsonFields, JsonShape};
+pub use fields::{JsonFields, JsonRefs, JsonShape};
 pub use nano_json::{BothJson, DeJson, DeJsonErr, DeJsonState, JsonCodec, SerJson, SerJsonState};
-pub use nano_schema::{Optional, Required};
 pub use part::Part;
 pub use read::read_fields;
 pub use record::{read_record_json, write_record_json};
-pub use shapes::JsonRefs;
 pub use variant_writer::{write_fields_variant, write_unit_variant, write_variant};
 pub use variants::{
     VariantName, read_content, read_fields_content, read_variant_name, unknown_variant,
 };
-pub use writer::{OptionalPart, RequiredPart, WriteFields, write_fields};
+pub use writer::write_fields;
 
 /// What a reader of JSON answers.
 pub type JsonResult<T> = Result<T, DeJsonErr>;

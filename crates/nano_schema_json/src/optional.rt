@@ -3,40 +3,45 @@
 ghost use Rattle.std.specs.Option.{option_map};
 ghost use Rattle.nano_value.specs.Meaning.{optional};
 ghost use Rattle.nano_schema_text.specs.StructLaws.{may_read};
-ghost use Rattle.nano_schema.specs.Names.{the_name};
 ghost use Rattle.nano_schema_json.specs.FieldsLaws.{may};
 ghost use Rattle.nano_schema_text.specs.SlotsLaws.{optional_skips};
 
-use crate::fields::{Fields, JsonShape};
+use crate::fields::{JsonRefs, JsonShape, JsonFields};
 use crate::named::read_named;
-use nano_json::{DeJson, DeJsonErr, DeJsonState, JsonCodec};
-use nano_schema::Optional;
-use std::alloc::Global;
+use crate::writer::append_field;
+use nano_json::{DeJson, DeJsonErr, DeJsonState, JsonCodec, SerJson, SerJsonState};
+use nano_schema::{Label, Optional};
+use std::alloc::{AllocError, Global};
 use std::str::Chars;
 
-impl<T: JsonCodec> JsonShape for Optional<T> {
-    ghost codec = { λ n. may (the_name n) T.json };
+impl<N: Label, T: JsonCodec> JsonShape for Optional<N, T> {
+    type Values = Option<T>;
+
+    ghost codec = { may N.label T.json };
 }
 
-impl<T: DeJson> Fields for Optional<T> {
+impl<N: Label, T: DeJson> JsonFields for Optional<N, T> {
+    type Values = Option<T>;
+
     type Slots = Option<T>;
 
-    ghost holds = { λ f slot fs. (may_read f.name.now T.json.encoding).shape.means fs
-        (optional (option_map T.means slot)) };
+    ghost codec = { may N.label T.json };
 
-    ghost skips = { λ f slot. optional_skips f.name.now T.json.encoding
-        (optional (option_map T.means slot)) };
+    ghost holds = { λ slot fs. (may_read N.label T.json.encoding).shape.means fs
+        (optional (option_map T.json.canonical.means slot)) };
 
-    fn empty(&self) -> Option<T> {
+    ghost skips = { λ slot. optional_skips N.label T.json.encoding
+        (optional (option_map T.json.canonical.means slot)) };
+
+    fn empty() -> Option<T> {
         None
     }
 
-    fn knows(&self, name: &str) -> bool {
-        name == self.name
+    fn knows(name: &str) -> bool {
+        name == N::text()
     }
 
     fn read_field(
-        &self,
         slots: &mut Option<T>,
         alloc: Global,
         state: &mut DeJsonState,
@@ -48,11 +53,40 @@ impl<T: DeJson> Fields for Optional<T> {
     }
 
     fn values(
-        &self,
         slots: Option<T>,
         _alloc: Global,
         _state: &DeJsonState,
     ) -> Result<Option<T>, DeJsonErr> {
         Ok(slots)
+    }
+
+    fn discard(_slots: Option<T>) {}
+
+    fn discard_values(_values: Option<T>) {}
+}
+
+impl<'a, N: Label, T: SerJson + 'a> JsonRefs<'a> for Optional<N, T> {
+    type Values = Option<T>;
+
+    type Refs = &'a Option<T>;
+
+    ghost values = { λ r. r.now };
+
+    ghost codec = { may N.label T.json };
+
+    fn append_fields(
+        refs: &&'a Option<T>,
+        alloc: Global,
+        first: bool,
+        d: usize,
+        s: &mut SerJsonState,
+    ) -> Result<bool, AllocError> {
+        match *refs {
+            Some(value) => {
+                append_field(alloc, N::text(), value, first, d, s)?;
+                Ok(false)
+            }
+            None => Ok(first),
+        }
     }
 }

@@ -1,40 +1,45 @@
 //! A field that must be there.
 
 ghost use Rattle.std.specs.Option.{option_map};
-ghost use Rattle.nano_schema.specs.Names.{the_name};
 ghost use Rattle.nano_schema_json.specs.FieldsLaws.{must};
 ghost use Rattle.nano_schema_text.specs.Slots.{Holds};
 ghost use Rattle.nano_schema_text.specs.SlotsLaws.{holds_skips};
 
-use crate::fields::{Fields, JsonShape};
+use crate::fields::{JsonRefs, JsonShape, JsonFields};
 use crate::named::read_named;
-use nano_json::{DeJson, DeJsonErr, DeJsonState, JsonCodec};
-use nano_schema::Required;
-use std::alloc::Global;
+use crate::writer::append_field;
+use nano_json::{DeJson, DeJsonErr, DeJsonState, JsonCodec, SerJson, SerJsonState};
+use nano_schema::{Label, Required};
+use std::alloc::{AllocError, Global};
 use std::str::Chars;
 
-impl<T: JsonCodec> JsonShape for Required<T> {
-    ghost codec = { λ n. must (the_name n) T.json };
+impl<N: Label, T: JsonCodec> JsonShape for Required<N, T> {
+    type Values = T;
+
+    ghost codec = { must N.label T.json };
 }
 
-impl<T: DeJson> Fields for Required<T> {
+impl<N: Label, T: DeJson> JsonFields for Required<N, T> {
+    type Values = T;
+
     type Slots = Option<T>;
 
-    ghost holds = { λ f slot. Holds f.name.now T.json.encoding.encodes (option_map T.means slot) };
+    ghost codec = { must N.label T.json };
 
-    ghost skips = { λ f slot. holds_skips f.name.now T.json.encoding.encodes
-        (option_map T.means slot) };
+    ghost holds = { λ slot. Holds N.label T.json.encoding.encodes (option_map T.json.canonical.means slot) };
 
-    fn empty(&self) -> Option<T> {
+    ghost skips = { λ slot. holds_skips N.label T.json.encoding.encodes
+        (option_map T.json.canonical.means slot) };
+
+    fn empty() -> Option<T> {
         None
     }
 
-    fn knows(&self, name: &str) -> bool {
-        name == self.name
+    fn knows(name: &str) -> bool {
+        name == N::text()
     }
 
     fn read_field(
-        &self,
         slots: &mut Option<T>,
         alloc: Global,
         state: &mut DeJsonState,
@@ -45,10 +50,35 @@ impl<T: DeJson> Fields for Required<T> {
         Ok(())
     }
 
-    fn values(&self, slots: Option<T>, alloc: Global, state: &DeJsonState) -> Result<T, DeJsonErr> {
+    fn values(slots: Option<T>, alloc: Global, state: &DeJsonState) -> Result<T, DeJsonErr> {
         match slots {
             Some(value) => Ok(value),
-            None => Err(state.err_nf(alloc, self.name)),
+            None => Err(state.err_nf(alloc, N::text())),
         }
+    }
+
+    fn discard(_slots: Option<T>) {}
+
+    fn discard_values(_values: T) {}
+}
+
+impl<'a, N: Label, T: SerJson + 'a> JsonRefs<'a> for Required<N, T> {
+    type Values = T;
+
+    type Refs = &'a T;
+
+    ghost values = { λ r. r.now };
+
+    ghost codec = { must N.label T.json };
+
+    fn append_fields(
+        refs: &&'a T,
+        alloc: Global,
+        first: bool,
+        d: usize,
+        s: &mut SerJsonState,
+    ) -> Result<bool, AllocError> {
+        append_field(alloc, N::text(), *refs, first, d, s)?;
+        Ok(false)
     }
 }

@@ -3,23 +3,32 @@
 ghost use Rattle.nano_schema_json.specs.ContentsLaws.{content_as};
 
 use crate::contents::{JsonContent, ReadContent, WriteContent};
-use crate::{Part, read_content, write_variant};
+use crate::part::Part;
+use crate::variant_writer::write_variant;
+use crate::variants::read_content;
 use nano_json::{DeJson, DeJsonErr, DeJsonState, JsonCodec, SerJson, SerJsonState};
 use nano_schema::Tupled;
 use std::alloc::{AllocError, Global};
 use std::str::Chars;
 
 impl<P: JsonCodec> JsonContent for Tupled<P> {
-    ghost content = { λ n. content_as P.json };
+    type Values = P;
+
+    ghost content = { content_as P.json };
 }
 
 impl<P: DeJson> ReadContent for Tupled<P> {
-    fn stands_alone(&self) -> bool {
+    type Values = P;
+
+    ghost content = { content_as P.json };
+
+    ghost means = { P.means };
+
+    fn stands_alone() -> bool {
         false
     }
 
     fn read(
-        &self,
         alloc: Global,
         state: &mut DeJsonState,
         input: &mut Chars<'_>,
@@ -29,12 +38,17 @@ impl<P: DeJson> ReadContent for Tupled<P> {
 }
 
 impl<'a, A: SerJson + 'a, B: SerJson + 'a> WriteContent<'a> for Tupled<(A, B)> {
-    type Parts = ();
+    type Values = (A, B);
+
+    type Refs = (&'a A, &'a B);
+
+    ghost values = { λ r. (r.0.now, r.1.now) };
+
+    ghost content = { content_as ⟦<(A, B) as JsonCodec>⟧.json };
 
     fn write(
-        &self,
         name: &str,
-        refs: (&'a A, &'a B),
+        refs: &(&'a A, &'a B),
         alloc: Global,
         d: usize,
         s: &mut SerJsonState,
@@ -45,12 +59,17 @@ impl<'a, A: SerJson + 'a, B: SerJson + 'a> WriteContent<'a> for Tupled<(A, B)> {
 }
 
 impl<'a, A: SerJson + 'a, B: SerJson + 'a, C: SerJson + 'a> WriteContent<'a> for Tupled<(A, B, C)> {
-    type Parts = ();
+    type Values = (A, B, C);
+
+    type Refs = (&'a A, &'a B, &'a C);
+
+    ghost values = { λ r. (r.0.now, r.1.now, r.2.now) };
+
+    ghost content = { content_as ⟦<(A, B, C) as JsonCodec>⟧.json };
 
     fn write(
-        &self,
         name: &str,
-        refs: (&'a A, &'a B, &'a C),
+        refs: &(&'a A, &'a B, &'a C),
         alloc: Global,
         d: usize,
         s: &mut SerJsonState,
@@ -66,12 +85,17 @@ impl<'a, A: SerJson + 'a, B: SerJson + 'a, C: SerJson + 'a> WriteContent<'a> for
 
 impl<'a, A: SerJson + 'a, B: SerJson + 'a, C: SerJson + 'a, D: SerJson + 'a> WriteContent<'a>
     for Tupled<(A, B, C, D)> {
-    type Parts = ();
+    type Values = (A, B, C, D);
+
+    type Refs = (&'a A, &'a B, &'a C, &'a D);
+
+    ghost values = { λ r. (r.0.now, r.1.now, r.2.now, r.3.now) };
+
+    ghost content = { content_as ⟦<(A, B, C, D) as JsonCodec>⟧.json };
 
     fn write(
-        &self,
         name: &str,
-        refs: (&'a A, &'a B, &'a C, &'a D),
+        refs: &(&'a A, &'a B, &'a C, &'a D),
         alloc: Global,
         d: usize,
         s: &mut SerJsonState,

@@ -7,7 +7,8 @@ ghost use Rattle.nano_schema_json.specs.Variants.{content_text};
 ghost use Rattle.nano_text.specs.Outcomes.{Appends, AppendsPart, Unchanged};
 ghost use Rattle.nano_json.specs.Written.{written_text};
 
-use crate::writer::{WriteFields, write_fields};
+use crate::fields::JsonRefs;
+use crate::writer::write_fields;
 use nano_json::{SerJson, SerJsonState, rollback_on_error};
 use std::alloc::{AllocError, Global};
 
@@ -41,19 +42,20 @@ pub fn write_variant<T: SerJson>(
 /// Appends a variant whose content is named fields: `{`, its name, a colon, the fields between
 /// curly brackets with their values at the level after `d`, and `}`. If the write fails,
 /// `s.out` is unchanged.
-pub fn write_fields_variant<F: WriteFields>(
-    alloc: Global,
+pub fn write_fields_variant<'a, F: JsonRefs<'a>>(
     name: &str,
-    fields: &F,
+    refs: &F::Refs,
+    alloc: Global,
     d: usize,
     s: &mut SerJsonState,
 ) -> Result<(), AllocError>
     ensures ok { OnOk result (Appends s.old.out s.new.out
-        (content_text name.now (fields_text json_fields d (F.fields fields.now)))) }
+        (content_text name.now (fields_text json_fields d
+        (F.codec.canonical.fields (F.values refs.now))))) }
     ensures err { OnErr result (Unchanged s.old.out s.new.out) }
 {
     let start = s.out.len();
-    let written = append_fields_variant(alloc, name, fields, d, s);
+    let written = append_fields_variant::<F>(name, refs, alloc, d, s);
     rollback_on_error(&mut s.out, start, written)
 }
 
@@ -76,19 +78,20 @@ fn append_variant<T: SerJson>(
 
 /// Appends a variant whose content is named fields. If allocation fails, what was written so
 /// far is left.
-fn append_fields_variant<F: WriteFields>(
-    alloc: Global,
+fn append_fields_variant<'a, F: JsonRefs<'a>>(
     name: &str,
-    fields: &F,
+    refs: &F::Refs,
+    alloc: Global,
     d: usize,
     s: &mut SerJsonState,
 ) -> Result<(), AllocError>
     ensures ok { OnOk result (Appends s.old.out s.new.out
-        (content_text name.now (fields_text json_fields d (F.fields fields.now)))) }
+        (content_text name.now (fields_text json_fields d
+        (F.codec.canonical.fields (F.values refs.now))))) }
     ensures err { OnErr result (AppendsPart s.old.out s.new.out) }
 {
     append_opening(alloc, name, s)?;
-    write_fields(alloc, fields, d, s)?;
+    write_fields::<F>(refs, alloc, d, s)?;
     s.out.push('}')
 }
 

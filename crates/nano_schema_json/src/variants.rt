@@ -11,7 +11,7 @@ ghost use Rattle.nano_json.specs.Readers.{Decodes, Rejects, Reports};
 ghost use Rattle.nano_json.specs.State.{at, ended};
 ghost use Rattle.nano_json.specs.Token.{str, colon, curly_close};
 
-use crate::fields::Fields;
+use crate::fields::JsonFields;
 use crate::read::read_fields;
 use nano_json::{DeJson, DeJsonErr, DeJsonState, DeJsonTok, end_on_error};
 use std::alloc::Global;
@@ -140,24 +140,35 @@ pub fn read_content<T: DeJson>(
 /// An error other than out of memory says that no such fields with a `}` after them stand
 /// there, with one more token or the end after that. Every error leaves the state at the end of
 /// the text.
-pub fn read_fields_content<F: Fields>(
-    fields: &F,
+pub fn read_fields_content<F: JsonFields>(
     alloc: Global,
     state: &mut DeJsonState,
     input: &mut Chars<'_>,
 ) -> Result<F::Values, DeJsonErr>
-where
-    F::Values: Drop,
-    ensures decodes { Decodes
-        (Closed (fields_of (F.codec (F.names_of fields.now)).struct).encodes) F.means
+    ensures decodes { Decodes (Closed (fields_of F.codec.struct).encodes) F.codec.canonical.means
         (at state.old input.old) (at state.new input.new) result }
-    ensures rejected { Rejects (Closed (fields_of (F.codec (F.names_of fields.now)).struct).encodes)
+    ensures rejected { Rejects (Closed (fields_of F.codec.struct).encodes)
         (at state.old input.old) result }
     ensures ended { OnErr result (at state.new input.new ≡ ended) }
 {
-    let values = read_fields(fields, alloc, state, input)?;
+    let values: Values<F> = Values {
+        of: read_fields::<F>(alloc, state, input)?,
+    };
     close_content(alloc, state, input)?;
-    Ok(values)
+    let Values { of } = values;
+    Ok(of)
+}
+
+/// The values of some fields, dropped where what comes after them is rejected.
+struct Values<F: JsonFields> {
+    of: F::Values,
+}
+
+impl<F: JsonFields> Drop for Values<F> {
+    fn drop(self) {
+        let Values { of } = self;
+        F::discard_values(of);
+    }
 }
 
 /// Takes the `}` after the content of a variant. Every error leaves the state at the end of the

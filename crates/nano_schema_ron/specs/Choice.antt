@@ -3,20 +3,17 @@ use Rattle.std.specs.Prelude.{◌≡◌, true}
 use Rattle.nano_schema_text.specs.Variants.{names_differ}
 use Rattle.nano_schema_text.specs.VariantCanonical.{names_are_good}
 use Rattle.nano_ron.specs.Codec.{Codec, codec_as}
-use Rattle.nano_schema.specs.Names.{Names, Schema}
 use Rattle.nano_schema_ron.specs.VariantsLaws.{ron_variants}
 use Rattle.nano_schema_text.specs.Choices.{ChoiceCodec}
 use Rattle.nano_schema_text.specs.ChoicesLaws.{choice_codec}
 
--- an enum by its schema, and the format of its variants under given names. The last three are
--- `refl` each: for given names, they check that those of the fields are words but `true` and
--- `false`, and none occurs twice in a variant; that those of the variants are such words too;
--- and that no two variants have one name
-abbrev pub ron_choice : {A B : Type 0} (schema : Schema A B)
-    (variants : Names → ChoiceCodec ron_variants B)
-    → (ok : (variants schema.the_names).good ≡ true)
-    → names_are_good ((variants schema.the_names).chosen ok).variants ≡ true
-    → names_differ ((variants schema.the_names).chosen ok).variants ≡ true
+-- an enum as the content of the variant that it is, and the format of the variants. The last three
+-- are `refl` each: they check that the names of the fields are words but `true` and `false`, and
+-- none occurs twice in a variant; that those of the variants are such words too; and that no two
+-- variants have one name
+abbrev pub ron_choice : {A B : Type 0} (view : A → B) (variants : ChoiceCodec ron_variants B)
+    → (ok : variants.good ≡ true)
+    → names_are_good (variants.chosen ok).variants ≡ true
+    → names_differ (variants.chosen ok).variants ≡ true
     → Codec A
-ron_choice schema variants ok good differ =
-    codec_as schema.view (choice_codec (variants schema.the_names) ok good differ)
+ron_choice view variants ok good differ = codec_as view (choice_codec variants ok good differ)

@@ -1,6 +1,7 @@
 //! User-defined enums in RON.
 
 ghost use Rattle.std.specs.Prelude.{◌≡◌, OnOk, OnErr};
+ghost use Rattle.nano_schema.specs.Views.{SeesAs};
 ghost use Rattle.nano_schema_text.specs.Variants.{EncodesVariant};
 ghost use Rattle.nano_text.specs.Outcomes.{Appends, Unchanged};
 ghost use Rattle.nano_ron.specs.Readers.{Decodes, Rejects};
@@ -8,7 +9,7 @@ ghost use Rattle.nano_ron.specs.State.{at, ended};
 ghost use Rattle.nano_schema_ron.specs.VariantsLaws.{ron_variants};
 
 use crate::choices::{RonChoiceRefs, RonChoices};
-use crate::read_variant_name;
+use crate::variants::read_variant_name;
 use nano_ron::{DeRonErr, DeRonState, SerRonState};
 use nano_schema::{Choice, ChoiceParts};
 use std::alloc::{AllocError, Global};
@@ -20,42 +21,42 @@ use std::str::Chars;
 ///
 /// An error other than out of memory says that no variant is encoded there, with one more token
 /// or the end after it. Every error leaves the state at the end of the text.
-pub fn read_choice_ron<E: Choice>(
+pub fn read_choice_ron<E: Choice, V: RonChoices<Values = E::Values>>(
     alloc: Global,
     state: &mut DeRonState,
     input: &mut Chars<'_>,
 ) -> Result<E, DeRonErr>
-where
-    E::Variants: RonChoices + Drop,
-    ensures decodes { Decodes (EncodesVariant ron_variants (E.Variants.codec E.schema.the_names).encodes)
-        (λ value. E.Variants.Choices.means 0 (E.schema.view value))
+    ensures decodes { Decodes (EncodesVariant ron_variants V.codec.encodes)
+        (λ value. V.means 0 (E.view value))
         (at state.old input.old) (at state.new input.new) result }
-    ensures rejected { Rejects (EncodesVariant ron_variants (E.Variants.codec E.schema.the_names).encodes)
+    ensures rejected { Rejects (EncodesVariant ron_variants V.codec.encodes)
         (at state.old input.old) result }
     ensures ended { OnErr result (at state.new input.new ≡ ended) }
 {
-    let variants = E::variants();
     let name = read_variant_name(alloc, state, input)?;
-    let alone = variants.stands_alone(name.as_str());
-    match variants.read(name.as_str(), alone, alloc, state, input) {
+    let alone = V::stands_alone(name.as_str());
+    match V::read(name.as_str(), alone, alloc, state, input) {
         Ok(values) => Ok(E::make(values)),
         Err(error) => Err(error),
     }
 }
 
-/// Writes a user-defined enum at level `d`. If the write fails, `s.out` is unchanged.
-pub fn write_choice_ron<'a, E: ChoiceParts<'a>>(
+/// Writes a user-defined enum at level `d`, where the variants are those that it is seen by. If the
+/// write fails, `s.out` is unchanged.
+pub fn write_choice_ron<
+    'a,
+    E: ChoiceParts<'a>,
+    V: RonChoiceRefs<'a, Refs = E::Refs, Values = E::Values>,
+>(
     value: &'a E,
     alloc: Global,
     d: usize,
     s: &mut SerRonState,
 ) -> Result<(), AllocError>
-where
-    E::Variants: RonChoiceRefs<'a> + Drop,
-    ensures ok { OnOk result (Appends s.old.out s.new.out
-        ((E.Variants.codec E.schema.the_names).text d (E.schema.view value.now))) }
+    ensures ok { SeesAs V.values E.ChoiceParts.values → OnOk result
+        (Appends s.old.out s.new.out (V.codec.text d (E.view value.now))) }
     ensures err { OnErr result (Unchanged s.old.out s.new.out) }
 {
-    let variants = E::variants();
-    variants.write(value.as_refs(), alloc, d, s)
+    let refs = value.as_refs();
+    V::write(&refs, alloc, d, s)
 }

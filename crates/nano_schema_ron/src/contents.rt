@@ -1,32 +1,45 @@
 //! What a variant holds, in RON: nothing, parts between parentheses, or named fields between them.
 
 ghost use Rattle.std.specs.Prelude.{◌≡◌, OnOk, OnErr};
+ghost use Rattle.nano_value.specs.Meaning.{Meaning, nothing};
 ghost use Rattle.nano_text.specs.Outcomes.{Appends, Unchanged};
 ghost use Rattle.nano_ron.specs.Readers.{Decodes, Rejects};
 ghost use Rattle.nano_ron.specs.State.{at, ended};
-ghost use Rattle.nano_schema_ron.specs.VariantsLaws.{ron_variants};
-ghost use Rattle.nano_schema.specs.Names.{Names};
 ghost use Rattle.nano_schema_text.specs.Choices.{Content, EncodesRest, stands_alone};
 ghost use Rattle.nano_schema_ron.specs.ContentsLaws.{no_content, fields_content};
+ghost use Rattle.nano_schema_ron.specs.VariantsLaws.{ron_variants};
 
-use crate::shapes::RonRefs;
-use crate::{Fields, RonShape, read_fields, write_fields_variant, write_unit_variant};
+use crate::fields::{RonFields, RonRefs, RonShape};
+use crate::read::read_fields;
+use crate::variant_writer::{write_fields_variant, write_unit_variant};
 use nano_ron::{DeRonErr, DeRonState, SerRonState};
-use nano_schema::{Alone, Borrowed, Shape};
+use nano_schema::{Alone, Named};
 use std::alloc::{AllocError, Global};
 use std::str::Chars;
 
 /// The content of a variant with a place in RON.
-pub trait RonContent: Shape {
-    /// How it is written and read under the names of its fields.
-    ghost content: { Names → Content ron_variants Self.Values };
+pub trait RonContent {
+    /// Its values.
+    type Values;
+
+    /// How it is written and read.
+    ghost content: { Content ron_variants Self.Values };
 }
 
 /// The content of a variant that is read from RON.
-pub trait ReadContent: RonContent {
+pub trait ReadContent {
+    /// Its values.
+    type Values;
+
+    /// How it is written and read.
+    ghost content: { Content ron_variants Self.Values };
+
+    /// What it means.
+    ghost means: { Self.Values → Meaning };
+
     /// Whether the name of the variant stands alone, with no content after it.
-    fn stands_alone(&self) -> bool
-        ensures { result ≡ stands_alone (Self.content (Self.names_of self.now)).rest };
+    fn stands_alone() -> bool
+        ensures { result ≡ stands_alone content.rest };
 
     /// Reads what comes after the name of the variant; for a variant without content that is
     /// nothing.
@@ -34,52 +47,64 @@ pub trait ReadContent: RonContent {
     /// An error other than out of memory says that no such content is encoded there, with one
     /// more token or the end after it. Every error leaves the state at the end of the text.
     fn read(
-        &self,
         alloc: Global,
         state: &mut DeRonState,
         input: &mut Chars<'_>,
-    ) -> Result<<Self as Shape>::Values, DeRonErr>
-        ensures decodes { Decodes (EncodesRest ron_variants (Self.content (Self.names_of self.now)).rest)
-            Self.means (at state.old input.old) (at state.new input.new) result }
-        ensures rejected { Rejects
-            (EncodesRest ron_variants (Self.content (Self.names_of self.now)).rest)
+    ) -> Result<Self::Values, DeRonErr>
+        ensures decodes { Decodes (EncodesRest ron_variants content.rest) means
+            (at state.old input.old) (at state.new input.new) result }
+        ensures rejected { Rejects (EncodesRest ron_variants content.rest)
             (at state.old input.old) result }
         ensures ended { OnErr result (at state.new input.new ≡ ended) };
 }
 
 /// The content of a variant that is written as RON.
-pub trait WriteContent<'a>: RonContent + Borrowed<'a> {
-    /// What is written of it: its parts by reference, with their names where they have names.
-    type Parts;
+pub trait WriteContent<'a> {
+    /// Its values.
+    type Values;
+
+    /// References to them.
+    type Refs;
+
+    /// What they refer to.
+    ghost values: { Self.Refs → Self.Values };
+
+    /// How it is written and read.
+    ghost content: { Content ron_variants Self.Values };
 
     /// Appends the variant of this name with the content at level `d`. If the write fails,
     /// `s.out` is unchanged.
     fn write(
-        &self,
         name: &str,
-        refs: Self::Refs,
+        refs: &Self::Refs,
         alloc: Global,
         d: usize,
         s: &mut SerRonState,
     ) -> Result<(), AllocError>
-        ensures ok { OnOk result (Appends s.old.out s.new.out
-            ((Self.content (Self.names_of self.now)).text name.now d (Self.values refs))) }
+        ensures ok { OnOk result (Appends s.old.out s.new.out (content.text name.now d (values refs.now))) }
         ensures err { OnErr result (Unchanged s.old.out s.new.out) };
 }
 
 // ---- no content
 
 impl RonContent for Alone {
-    ghost content = { λ n. no_content };
+    type Values = ();
+
+    ghost content = { no_content };
 }
 
 impl ReadContent for Alone {
-    fn stands_alone(&self) -> bool {
+    type Values = ();
+
+    ghost content = { no_content };
+
+    ghost means = { λ v. nothing };
+
+    fn stands_alone() -> bool {
         true
     }
 
     fn read(
-        &self,
         _alloc: Global,
         _state: &mut DeRonState,
         _input: &mut Chars<'_>,
@@ -89,12 +114,17 @@ impl ReadContent for Alone {
 }
 
 impl<'a> WriteContent<'a> for Alone {
-    type Parts = ();
+    type Values = ();
+
+    type Refs = ();
+
+    ghost values = { λ r. r };
+
+    ghost content = { no_content };
 
     fn write(
-        &self,
         name: &str,
-        _refs: (),
+        _refs: &(),
         _alloc: Global,
         _d: usize,
         s: &mut SerRonState,
@@ -105,76 +135,64 @@ impl<'a> WriteContent<'a> for Alone {
 
 // ---- named fields
 
-impl<A: RonShape, B: RonShape> RonContent for (A, B) {
-    ghost content = { λ n. fields_content (⟦<(A, B) as RonShape>⟧.codec n) };
+impl<F: RonShape> RonContent for Named<F> {
+    type Values = F::Values;
+
+    ghost content = { fields_content F.codec };
 }
 
-impl<A: Fields, B: Fields> ReadContent for (A, B)
-where
-    A::Values: Drop,
-    B::Values: Drop,
-{
-    fn stands_alone(&self) -> bool {
+impl<F: RonFields> ReadContent for Named<F> {
+    type Values = F::Values;
+
+    ghost content = { fields_content F.codec };
+
+    ghost means = { F.codec.canonical.means };
+
+    fn stands_alone() -> bool {
         false
     }
 
     fn read(
-        &self,
         alloc: Global,
         state: &mut DeRonState,
         input: &mut Chars<'_>,
-    ) -> Result<(A::Values, B::Values), DeRonErr> {
-        read_named_fields(self, alloc, state, input)
+    ) -> Result<F::Values, DeRonErr> {
+        read_named_fields::<F>(alloc, state, input)
     }
 }
 
-impl<'a, A: RonRefs<'a>, B: RonRefs<'a>> WriteContent<'a> for (A, B) {
-    type Parts = (A::Parts, B::Parts);
+impl<'a, F: RonRefs<'a>> WriteContent<'a> for Named<F> {
+    type Values = F::Values;
+
+    type Refs = F::Refs;
+
+    ghost values = { F.values };
+
+    ghost content = { fields_content F.codec };
 
     fn write(
-        &self,
         name: &str,
-        refs: (A::Refs, B::Refs),
+        refs: &F::Refs,
         alloc: Global,
         d: usize,
         s: &mut SerRonState,
     ) -> Result<(), AllocError> {
-        write_named_fields(self, name, refs, alloc, d, s)
+        write_fields_variant::<F>(name, refs, alloc, d, s)
     }
 }
 
 /// Reads named fields as the content of a variant. Every error leaves the state at the end of
 /// the text.
-pub(crate) fn read_named_fields<F: Fields>(
-    fields: &F,
+fn read_named_fields<F: RonFields>(
     alloc: Global,
     state: &mut DeRonState,
     input: &mut Chars<'_>,
 ) -> Result<F::Values, DeRonErr>
-    ensures decodes { Decodes (EncodesRest ron_variants
-        (fields_content (F.codec (F.names_of fields.now))).rest)
-        F.means (at state.old input.old) (at state.new input.new) result }
-    ensures rejected { Rejects (EncodesRest ron_variants
-        (fields_content (F.codec (F.names_of fields.now))).rest) (at state.old input.old) result }
+    ensures decodes { Decodes (EncodesRest ron_variants (fields_content F.codec).rest)
+        F.codec.canonical.means (at state.old input.old) (at state.new input.new) result }
+    ensures rejected { Rejects (EncodesRest ron_variants (fields_content F.codec).rest)
+        (at state.old input.old) result }
     ensures ended { OnErr result (at state.new input.new ≡ ended) }
 {
-    read_fields(fields, alloc, state, input)
-}
-
-/// Appends a variant of this name whose content is named fields at level `d`. If the write
-/// fails, `s.out` is unchanged.
-pub(crate) fn write_named_fields<'a, F: RonRefs<'a>>(
-    fields: &F,
-    name: &str,
-    refs: F::Refs,
-    alloc: Global,
-    d: usize,
-    s: &mut SerRonState,
-) -> Result<(), AllocError>
-    ensures ok { OnOk result (Appends s.old.out s.new.out
-        ((fields_content (F.codec (F.names_of fields.now))).text name.now d (F.values refs))) }
-    ensures err { OnErr result (Unchanged s.old.out s.new.out) }
-{
-    let parts = fields.parts(refs);
-    write_fields_variant(alloc, name, &parts, d, s)
+    read_fields::<F>(alloc, state, input)
 }

@@ -1,95 +1,124 @@
-//! The fields of a struct: what reads the value after a name, and makes the values of all.
+//! The fields of a struct: what knows their names, reads the value after a name, makes the values
+//! of all, and writes them.
 
-ghost use Rattle.std.specs.Prelude.{◌≡◌, List, [], ◌∷◌, ◌++◌, true, false, IfOk, OnOk, IfErr};
+ghost use Rattle.std.specs.Prelude.{◌≡◌, List, [], ◌∷◌, ◌++◌, true, false, IfOk, OnOk, IfErr, OnErr};
 ghost use Rattle.std.specs.Prelude.{string_bytes};
 ghost use Rattle.nano_value.specs.Meaning.{Meaning};
-ghost use Rattle.nano_schema.specs.Names.{Names, the_name, first, second};
+ghost use Rattle.nano_text.specs.Outcomes.{Appends, AppendsPart};
 ghost use Rattle.nano_schema_text.specs.FieldCodec.{FieldsCodec};
-ghost use Rattle.nano_schema_ron.specs.FieldsLaws.{ron_fields, must, may, also};
+ghost use Rattle.nano_schema_text.specs.FieldCanonical.{field_text};
 ghost use Rattle.nano_schema_ron.specs.FieldReading.{Field, EncodedField, DecodesField};
+ghost use Rattle.nano_schema_ron.specs.FieldTexts.{on_lines};
+ghost use Rattle.nano_schema_ron.specs.FieldsLaws.{ron_fields};
 ghost use Rattle.nano_ron.specs.Readers.{Rejects, Reports};
 ghost use Rattle.nano_ron.specs.State.{at, pending};
 ghost use Rattle.nano_ron.specs.Token.{IsIdent};
 
-use nano_ron::{DeRonErr, DeRonState, RonCodec};
-use nano_schema::{Optional, Required, Shape};
-use std::alloc::Global;
+use nano_ron::{DeRonErr, DeRonState, SerRonState};
+use std::alloc::{AllocError, Global};
 use std::str::Chars;
 
-/// Fields with a place in RON: one that must be there (`Required`), one that may be missing
-/// (`Optional`), or fields and more fields (a pair).
-pub trait RonShape: Shape {
-    /// How they are written and read under these names.
-    ghost codec: { Names → FieldsCodec ron_fields Self.Values };
+/// Fields with a place in RON.
+pub trait RonShape {
+    /// Their values.
+    type Values;
+
+    /// How they are written and read.
+    ghost codec: { FieldsCodec ron_fields Self.Values };
 }
 
-/// Fields that are read from RON. Where an `Optional` one is there, the word `None` is `None` too.
-/// Of a name that both of a pair know, the first has the values.
-pub trait Fields: RonShape {
+/// Named fields that are read: one that must be there (`Required`), one that may be missing
+/// (`Optional`), or fields and more fields (a pair). Of a name that both of a pair know, the first
+/// has the values. Where an optional field is there, the word `None` is `None` too.
+pub trait RonFields {
+    /// Their values.
+    type Values;
+
     /// What is read so far.
-    type Slots: Drop;
+    type Slots;
+
+    /// How they are written and read.
+    ghost codec: { FieldsCodec ron_fields Self.Values };
 
     /// The slots hold what is read of these fields of a text.
-    ghost holds: { Self → Self.Slots → List Field → Type 0 };
+    ghost holds: { Self.Slots → List Field → Type 0 };
 
     /// Slots before the first field. It takes no memory.
-    fn empty(&self) -> Self::Slots
-        ensures { holds self.now result [] };
+    fn empty() -> Self::Slots
+        ensures { holds result [] };
 
     /// Whether a field has this name. It takes no memory.
-    fn knows(&self, name: &str) -> bool
-        ensures { result ≡ (Self.codec (Self.names_of self.now)).struct.shape.knows name.now };
+    fn knows(name: &str) -> bool
+        ensures { result ≡ codec.struct.shape.knows name.now };
 
     /// Reads the field whose name is pending, and puts its value in place of an earlier one.
     ///
     /// An error other than out of memory says that no field with this name and a value of its
-    /// type is there, with one more token or the end after it. The state may be anywhere then.
+    /// type stands there, with one more token or the end after it. The state may be at any
+    /// position then.
     fn read_field(
-        &self,
         slots: &mut Self::Slots,
         alloc: Global,
         state: &mut DeRonState,
         input: &mut Chars<'_>,
     ) -> Result<(), DeRonErr>
         requires text { IsIdent (pending state.old) }
-        requires known { (Self.codec (Self.names_of self.now)).struct.shape.knows
-            (string_bytes state.old.identbuf) ≡ true }
-        ensures decodes { OnOk result
-            (DecodesField (Self.codec (Self.names_of self.now)).struct.shape.takes
-            (holds self.now slots.old) (holds self.now slots.new)
+        requires known { codec.struct.shape.knows (string_bytes state.old.identbuf) ≡ true }
+        ensures decodes { OnOk result (DecodesField codec.struct.shape.takes
+            (holds slots.old) (holds slots.new)
             (at state.old input.old) (at state.new input.new)) }
-        ensures rejected { Rejects
-            (EncodedField (Self.codec (Self.names_of self.now)).struct.shape.takes)
+        ensures rejected { Rejects (EncodedField codec.struct.shape.takes)
             (at state.old input.old) result };
 
-    /// The values that the slots hold. The error is `Key not found {name}` for the first field
+    /// The values that the slots hold. It fails with `Key not found {name}` for the first field
     /// that must be there and is missing.
     fn values(
-        &self,
         slots: Self::Slots,
         alloc: Global,
         state: &DeRonState,
-    ) -> Result<<Self as Shape>::Values, DeRonErr>
-        ensures all { IfOk result (λ values. (fs : List Field) → holds self.now slots fs
-            → (Self.codec (Self.names_of self.now)).struct.shape.means fs (Self.means values)) }
+    ) -> Result<Self::Values, DeRonErr>
+        ensures all { IfOk result (λ values. (fs : List Field) → holds slots fs
+            → codec.struct.shape.means fs (codec.canonical.means values)) }
         ensures missing { IfErr result (Reports ((fs : List Field) (m : Meaning)
-            → holds self.now slots fs
-            → (Self.codec (Self.names_of self.now)).struct.shape.means fs m → ⊥)) };
+            → holds slots fs → codec.struct.shape.means fs m → ⊥)) };
 
-    /// A field of another name changes nothing.
-    ghost skips: { (fields : Self) (slots : Self.Slots) (fs : List Field) (f : Field)
-        → (Self.codec (Self.names_of fields)).struct.shape.knows f.name ≡ false
-        → holds fields slots fs → holds fields slots (fs ++ f ∷ []) };
+    /// Drops what was read.
+    fn discard(slots: Self::Slots);
+
+    /// Drops the values.
+    fn discard_values(values: Self::Values);
+
+    /// A field whose name is not known changes nothing.
+    ghost skips: { (slots : Self.Slots) (fs : List Field) (f : Field)
+        → codec.struct.shape.knows f.name ≡ false
+        → holds slots fs → holds slots (fs ++ f ∷ []) };
 }
 
-impl<T: RonCodec> RonShape for Required<T> {
-    ghost codec = { λ n. must (the_name n) T.ron };
-}
+/// Fields that are written one below the other: a `Required` one is one, an `Optional` one is one
+/// or none, and a pair is its first fields and then its second ones.
+pub trait RonRefs<'a> {
+    /// Their values.
+    type Values;
 
-impl<T: RonCodec> RonShape for Optional<T> {
-    ghost codec = { λ n. may (the_name n) T.ron };
-}
+    /// References to their values.
+    type Refs;
 
-impl<A: RonShape, B: RonShape> RonShape for (A, B) {
-    ghost codec = { λ n. also (A.codec (first n)) (B.codec (second n)) };
+    /// What they refer to.
+    ghost values: { Self.Refs → Self.Values };
+
+    /// How they are written and read.
+    ghost codec: { FieldsCodec ron_fields Self.Values };
+
+    /// Appends the fields at level `d`, each on a line of its own, with a comma after it.
+    ///
+    /// If the write fails, what was written so far is left.
+    fn append_fields(
+        refs: &Self::Refs,
+        alloc: Global,
+        d: usize,
+        s: &mut SerRonState,
+    ) -> Result<(), AllocError>
+        ensures ok { OnOk result (Appends s.old.out s.new.out
+            (on_lines d (field_text ron_fields d) (codec.canonical.fields (values refs.now)))) }
+        ensures err { OnErr result (AppendsPart s.old.out s.new.out) };
 }

@@ -11,7 +11,7 @@ ghost use Rattle.nano_schema_ron.specs.Variants.{content_text};
 ghost use Rattle.nano_schema_ron.specs.ContentsLaws.{content_as};
 
 use crate::contents::{ReadContent, RonContent, WriteContent};
-use crate::write_unit_variant;
+use crate::variant_writer::write_unit_variant;
 use nano_ron::{
     DeRon, DeRonErr, DeRonState, RonCodec, SerRon, SerRonState, end_on_error, rollback_on_error,
 };
@@ -20,16 +20,23 @@ use std::alloc::{AllocError, Global};
 use std::str::Chars;
 
 impl<T: RonCodec> RonContent for OnePart<T> {
-    ghost content = { λ n. content_as (single_codec T.ron) (λ x d. refl) };
+    type Values = T;
+
+    ghost content = { content_as (single_codec T.ron) (λ x d. refl) };
 }
 
 impl<T: DeRon> ReadContent for OnePart<T> {
-    fn stands_alone(&self) -> bool {
+    type Values = T;
+
+    ghost content = { content_as (single_codec T.ron) (λ x d. refl) };
+
+    ghost means = { T.means };
+
+    fn stands_alone() -> bool {
         false
     }
 
     fn read(
-        &self,
         alloc: Global,
         state: &mut DeRonState,
         input: &mut Chars<'_>,
@@ -39,18 +46,23 @@ impl<T: DeRon> ReadContent for OnePart<T> {
 }
 
 impl<'a, T: SerRon + 'a> WriteContent<'a> for OnePart<T> {
-    type Parts = ();
+    type Values = T;
+
+    type Refs = &'a T;
+
+    ghost values = { λ r. r.now };
+
+    ghost content = { content_as (single_codec T.ron) (λ x d. refl) };
 
     fn write(
-        &self,
         name: &str,
-        refs: &'a T,
+        refs: &&'a T,
         alloc: Global,
         d: usize,
         s: &mut SerRonState,
     ) -> Result<(), AllocError> {
         let start = s.out.len();
-        let written = append_one(name, refs, alloc, d, s);
+        let written = append_one(name, *refs, alloc, d, s);
         rollback_on_error(&mut s.out, start, written)
     }
 }

@@ -3,34 +3,45 @@
 ghost use Rattle.std.specs.Option.{option_map};
 ghost use Rattle.nano_value.specs.Meaning.{optional};
 ghost use Rattle.nano_schema_text.specs.StructLaws.{may_read};
+ghost use Rattle.nano_schema_ron.specs.FieldsLaws.{may};
 ghost use Rattle.nano_schema_text.specs.SlotsLaws.{optional_skips};
 
-use crate::fields::Fields;
+use crate::fields::{RonRefs, RonShape, RonFields};
 use crate::named::read_named;
-use nano_ron::{DeRon, DeRonErr, DeRonState};
-use nano_schema::Optional;
-use std::alloc::Global;
+use crate::writer::append_field;
+use nano_ron::{DeRon, DeRonErr, DeRonState, RonCodec, SerRon, SerRonState};
+use nano_schema::{Label, Optional};
+use std::alloc::{AllocError, Global};
 use std::str::Chars;
 
-impl<T: DeRon> Fields for Optional<T> {
+impl<N: Label, T: RonCodec> RonShape for Optional<N, T> {
+    type Values = Option<T>;
+
+    ghost codec = { may N.label T.ron };
+}
+
+impl<N: Label, T: DeRon> RonFields for Optional<N, T> {
+    type Values = Option<T>;
+
     type Slots = Option<T>;
 
-    ghost holds = { λ f slot fs. (may_read f.name.now T.ron.encoding).shape.means fs
-        (optional (option_map T.means slot)) };
+    ghost codec = { may N.label T.ron };
 
-    ghost skips = { λ f slot. optional_skips f.name.now T.ron.encoding
-        (optional (option_map T.means slot)) };
+    ghost holds = { λ slot fs. (may_read N.label T.ron.encoding).shape.means fs
+        (optional (option_map T.ron.canonical.means slot)) };
 
-    fn empty(&self) -> Option<T> {
+    ghost skips = { λ slot. optional_skips N.label T.ron.encoding
+        (optional (option_map T.ron.canonical.means slot)) };
+
+    fn empty() -> Option<T> {
         None
     }
 
-    fn knows(&self, name: &str) -> bool {
-        name == self.name
+    fn knows(name: &str) -> bool {
+        name == N::text()
     }
 
     fn read_field(
-        &self,
         slots: &mut Option<T>,
         alloc: Global,
         state: &mut DeRonState,
@@ -42,11 +53,36 @@ impl<T: DeRon> Fields for Optional<T> {
     }
 
     fn values(
-        &self,
         slots: Option<T>,
         _alloc: Global,
         _state: &DeRonState,
     ) -> Result<Option<T>, DeRonErr> {
         Ok(slots)
+    }
+
+    fn discard(_slots: Option<T>) {}
+
+    fn discard_values(_values: Option<T>) {}
+}
+
+impl<'a, N: Label, T: SerRon + 'a> RonRefs<'a> for Optional<N, T> {
+    type Values = Option<T>;
+
+    type Refs = &'a Option<T>;
+
+    ghost values = { λ r. r.now };
+
+    ghost codec = { may N.label T.ron };
+
+    fn append_fields(
+        refs: &&'a Option<T>,
+        alloc: Global,
+        d: usize,
+        s: &mut SerRonState,
+    ) -> Result<(), AllocError> {
+        match *refs {
+            Some(value) => append_field(alloc, N::text(), value, d, s),
+            None => Ok(()),
+        }
     }
 }

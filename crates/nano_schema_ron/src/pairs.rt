@@ -1,60 +1,105 @@
 //! Fields and more fields.
 
 ghost use Rattle.nano_schema_text.specs.Fields.{others};
+ghost use Rattle.nano_schema_ron.specs.FieldsLaws.{also};
 ghost use Rattle.nano_schema_text.specs.SlotsLaws.{both_skip};
 
-use crate::fields::Fields;
-use nano_ron::{DeRonErr, DeRonState};
-use nano_schema::Shape;
-use std::alloc::Global;
+use crate::fields::{RonRefs, RonShape, RonFields};
+use nano_ron::{DeRonErr, DeRonState, SerRonState};
+use std::alloc::{AllocError, Global};
 use std::str::Chars;
 
-impl<A: Fields, B: Fields> Fields for (A, B)
-where
-    A::Values: Drop,
-{
+impl<A: RonShape, B: RonShape> RonShape for (A, B) {
+    type Values = (A::Values, B::Values);
+
+    ghost codec = { also A.codec B.codec };
+}
+
+impl<A: RonFields, B: RonFields> RonFields for (A, B) {
+    type Values = (A::Values, B::Values);
+
     type Slots = (A::Slots, B::Slots);
 
-    ghost holds = { λ f slots fs. A.holds f.0 slots.0 fs
-        × B.holds f.1 slots.1 (others (A.codec (A.names_of f.0)).struct.shape.knows fs) };
+    ghost codec = { also A.codec B.codec };
 
-    ghost skips = { λ x slots fs f e h.
-        let knows = (A.codec (A.names_of x.0)).struct.shape.knows in
-        both_skip (A.holds x.0 slots.0) (B.holds x.1 slots.1)
-        knows (B.codec (B.names_of x.1)).struct.shape.knows fs f e
-        (λ p. A.skips x.0 slots.0 fs f p h.0)
-        (λ q. B.skips x.1 slots.1 (others knows fs) f q h.1) };
+    ghost holds = { λ slots fs. A.holds slots.0 fs
+        × B.holds slots.1 (others A.codec.struct.shape.knows fs) };
 
-    fn empty(&self) -> (A::Slots, B::Slots) {
-        (self.0.empty(), self.1.empty())
+    ghost skips = { λ slots fs f e h. both_skip (A.holds slots.0) (B.holds slots.1)
+        A.codec.struct.shape.knows B.codec.struct.shape.knows fs f e
+        (λ p. A.skips slots.0 fs f p h.0)
+        (λ q. B.skips slots.1 (others A.codec.struct.shape.knows fs) f q h.1) };
+
+    fn empty() -> (A::Slots, B::Slots) {
+        (A::empty(), B::empty())
     }
 
-    fn knows(&self, name: &str) -> bool {
-        self.0.knows(name) || self.1.knows(name)
+    fn knows(name: &str) -> bool {
+        A::knows(name) || B::knows(name)
     }
 
     fn read_field(
-        &self,
         slots: &mut (A::Slots, B::Slots),
         alloc: Global,
         state: &mut DeRonState,
         input: &mut Chars<'_>,
     ) -> Result<(), DeRonErr> {
-        if self.0.knows(state.identbuf.as_str()) {
-            return self.0.read_field(&mut slots.0, alloc, state, input);
+        if A::knows(state.identbuf.as_str()) {
+            return A::read_field(&mut slots.0, alloc, state, input);
         }
-        self.1.read_field(&mut slots.1, alloc, state, input)
+        B::read_field(&mut slots.1, alloc, state, input)
     }
 
     fn values(
-        &self,
         slots: (A::Slots, B::Slots),
         alloc: Global,
         state: &DeRonState,
     ) -> Result<(A::Values, B::Values), DeRonErr> {
         let (first, second) = slots;
-        let values = self.0.values(first, alloc, state)?;
-        let more = self.1.values(second, alloc, state)?;
-        Ok((values, more))
+        match A::values(first, alloc, state) {
+            Ok(values) => match B::values(second, alloc, state) {
+                Ok(more) => Ok((values, more)),
+                Err(error) => {
+                    A::discard_values(values);
+                    Err(error)
+                }
+            },
+            Err(error) => {
+                B::discard(second);
+                Err(error)
+            }
+        }
+    }
+
+    fn discard(slots: (A::Slots, B::Slots)) {
+        let (first, second) = slots;
+        A::discard(first);
+        B::discard(second);
+    }
+
+    fn discard_values(values: (A::Values, B::Values)) {
+        let (first, second) = values;
+        A::discard_values(first);
+        B::discard_values(second);
+    }
+}
+
+impl<'a, A: RonRefs<'a>, B: RonRefs<'a>> RonRefs<'a> for (A, B) {
+    type Values = (A::Values, B::Values);
+
+    type Refs = (A::Refs, B::Refs);
+
+    ghost values = { λ r. (A.values r.0, B.values r.1) };
+
+    ghost codec = { also A.codec B.codec };
+
+    fn append_fields(
+        refs: &(A::Refs, B::Refs),
+        alloc: Global,
+        d: usize,
+        s: &mut SerRonState,
+    ) -> Result<(), AllocError> {
+        A::append_fields(&refs.0, alloc, d, s)?;
+        B::append_fields(&refs.1, alloc, d, s)
     }
 }

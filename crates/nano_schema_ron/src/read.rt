@@ -8,10 +8,22 @@ ghost use Rattle.nano_ron.specs.Readers.{Decodes, Rejects};
 ghost use Rattle.nano_ron.specs.State.{at, ended, pending};
 ghost use Rattle.nano_ron.specs.Token.{IsIdent};
 
-use crate::fields::Fields;
+use crate::fields::RonFields;
 use nano_ron::{DeRonErr, DeRonState, DeRonTok, end_on_error};
 use std::alloc::Global;
 use std::str::Chars;
+
+/// What is read so far of some fields, dropped where a later part is rejected.
+struct Slots<F: RonFields> {
+    of: F::Slots,
+}
+
+impl<F: RonFields> Drop for Slots<F> {
+    fn drop(self) {
+        let Slots { of } = self;
+        F::discard(of);
+    }
+}
 
 /// Reads named fields between parentheses, in any order, with one comma between two and
 /// optionally one after the last. If a name comes again, the last value counts; each must be
@@ -22,64 +34,62 @@ use std::str::Chars;
 /// the end after them. A field whose name is not known is reported by `Unexpected key {name}`,
 /// and a missing one by `Key not found {name}`, once the closing parenthesis and the token
 /// after it are taken. Every error leaves the state at the end of the text.
-pub fn read_fields<F: Fields>(
-    fields: &F,
+pub fn read_fields<F: RonFields>(
     alloc: Global,
     state: &mut DeRonState,
     input: &mut Chars<'_>,
 ) -> Result<F::Values, DeRonErr>
-    ensures decodes { Decodes (fields_of (F.codec (F.names_of fields.now)).struct).encodes F.means
+    ensures decodes { Decodes (fields_of F.codec.struct).encodes F.codec.canonical.means
         (at state.old input.old) (at state.new input.new) result }
-    ensures rejected { Rejects (fields_of (F.codec (F.names_of fields.now)).struct).encodes
+    ensures rejected { Rejects (fields_of F.codec.struct).encodes
         (at state.old input.old) result }
     ensures ended { OnErr result (at state.new input.new ≡ ended) }
 {
-    let read = read_list(fields, alloc, state, input);
+    let read = read_list::<F>(alloc, state, input);
     end_on_error(state, read)
 }
 
 /// Reads named fields between parentheses. On an error, the state may be anywhere.
-fn read_list<F: Fields>(
-    fields: &F,
+fn read_list<F: RonFields>(
     alloc: Global,
     state: &mut DeRonState,
     input: &mut Chars<'_>,
 ) -> Result<F::Values, DeRonErr>
-    ensures decodes { Decodes (fields_of (F.codec (F.names_of fields.now)).struct).encodes F.means
+    ensures decodes { Decodes (fields_of F.codec.struct).encodes F.codec.canonical.means
         (at state.old input.old) (at state.new input.new) result }
-    ensures rejected { Rejects (fields_of (F.codec (F.names_of fields.now)).struct).encodes
+    ensures rejected { Rejects (fields_of F.codec.struct).encodes
         (at state.old input.old) result }
 {
-    let mut slots = fields.empty();
+    let mut slots: Slots<F> = Slots { of: F::empty() };
     state.paren_open(alloc, input)?;
     'fields: while is_name(state) {
-        read_any(fields, &mut slots, alloc, state, input)?;
+        read_any::<F>(&mut slots.of, alloc, state, input)?;
         state.eat_comma_paren(alloc, input)?;
     }
     state.paren_close(alloc, input)?;
-    fields.values(slots, alloc, state)
+    let Slots { of } = slots;
+    F::values(of, alloc, state)
 }
 
 /// Reads the field whose name is pending. It is rejected if the name is not known. The name is
 /// compared where it is in the state, before the next token is taken. On an error, the state
 /// may be anywhere.
-fn read_any<F: Fields>(
-    fields: &F,
+fn read_any<F: RonFields>(
     slots: &mut F::Slots,
     alloc: Global,
     state: &mut DeRonState,
     input: &mut Chars<'_>,
 ) -> Result<(), DeRonErr>
     requires { IsIdent (pending state.old) }
-    ensures decodes { OnOk result (DecodesField (Allowed (F.codec (F.names_of fields.now)).struct.shape)
-        (F.holds fields.now slots.old) (F.holds fields.now slots.new)
+    ensures decodes { OnOk result (DecodesField (Allowed F.codec.struct.shape)
+        (F.holds slots.old) (F.holds slots.new)
         (at state.old input.old) (at state.new input.new)) }
     ensures rejected { Rejects
-        (EncodedField (Allowed (F.codec (F.names_of fields.now)).struct.shape))
+        (EncodedField (Allowed F.codec.struct.shape))
         (at state.old input.old) result }
 {
-    if fields.knows(state.identbuf.as_str()) {
-        return fields.read_field(slots, alloc, state, input);
+    if F::knows(state.identbuf.as_str()) {
+        return F::read_field(slots, alloc, state, input);
     }
     Err(state.err_exp(alloc, state.identbuf.as_str()))
 }

@@ -1,34 +1,45 @@
 //! A field that must be there.
 
 ghost use Rattle.std.specs.Option.{option_map};
+ghost use Rattle.nano_schema_ron.specs.FieldsLaws.{must};
 ghost use Rattle.nano_schema_text.specs.Slots.{Holds};
 ghost use Rattle.nano_schema_text.specs.SlotsLaws.{holds_skips};
 
-use crate::fields::Fields;
+use crate::fields::{RonRefs, RonShape, RonFields};
 use crate::named::read_named;
-use nano_ron::{DeRon, DeRonErr, DeRonState};
-use nano_schema::Required;
-use std::alloc::Global;
+use crate::writer::append_field;
+use nano_ron::{DeRon, DeRonErr, DeRonState, RonCodec, SerRon, SerRonState};
+use nano_schema::{Label, Required};
+use std::alloc::{AllocError, Global};
 use std::str::Chars;
 
-impl<T: DeRon> Fields for Required<T> {
+impl<N: Label, T: RonCodec> RonShape for Required<N, T> {
+    type Values = T;
+
+    ghost codec = { must N.label T.ron };
+}
+
+impl<N: Label, T: DeRon> RonFields for Required<N, T> {
+    type Values = T;
+
     type Slots = Option<T>;
 
-    ghost holds = { λ f slot. Holds f.name.now T.ron.encoding.encodes (option_map T.means slot) };
+    ghost codec = { must N.label T.ron };
 
-    ghost skips = { λ f slot. holds_skips f.name.now T.ron.encoding.encodes
-        (option_map T.means slot) };
+    ghost holds = { λ slot. Holds N.label T.ron.encoding.encodes (option_map T.ron.canonical.means slot) };
 
-    fn empty(&self) -> Option<T> {
+    ghost skips = { λ slot. holds_skips N.label T.ron.encoding.encodes
+        (option_map T.ron.canonical.means slot) };
+
+    fn empty() -> Option<T> {
         None
     }
 
-    fn knows(&self, name: &str) -> bool {
-        name == self.name
+    fn knows(name: &str) -> bool {
+        name == N::text()
     }
 
     fn read_field(
-        &self,
         slots: &mut Option<T>,
         alloc: Global,
         state: &mut DeRonState,
@@ -39,10 +50,33 @@ impl<T: DeRon> Fields for Required<T> {
         Ok(())
     }
 
-    fn values(&self, slots: Option<T>, alloc: Global, state: &DeRonState) -> Result<T, DeRonErr> {
+    fn values(slots: Option<T>, alloc: Global, state: &DeRonState) -> Result<T, DeRonErr> {
         match slots {
             Some(value) => Ok(value),
-            None => Err(state.err_nf(alloc, self.name)),
+            None => Err(state.err_nf(alloc, N::text())),
         }
+    }
+
+    fn discard(_slots: Option<T>) {}
+
+    fn discard_values(_values: T) {}
+}
+
+impl<'a, N: Label, T: SerRon + 'a> RonRefs<'a> for Required<N, T> {
+    type Values = T;
+
+    type Refs = &'a T;
+
+    ghost values = { λ r. r.now };
+
+    ghost codec = { must N.label T.ron };
+
+    fn append_fields(
+        refs: &&'a T,
+        alloc: Global,
+        d: usize,
+        s: &mut SerRonState,
+    ) -> Result<(), AllocError> {
+        append_field(alloc, N::text(), *refs, d, s)
     }
 }

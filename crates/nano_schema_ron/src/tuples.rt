@@ -10,9 +10,10 @@ ghost use Rattle.nano_schema_ron.specs.VariantsLaws.{ron_variants};
 ghost use Rattle.nano_schema_ron.specs.ContentsLaws.{content_as};
 
 use crate::contents::{ReadContent, RonContent, WriteContent};
-use crate::{Part, write_variant};
+use crate::part::Part;
+use crate::variant_writer::write_variant;
 use nano_ron::{DeRon, DeRonErr, DeRonState, RonCodec, SerRon, SerRonState};
-use nano_schema::Tupled;
+use nano_schema::{Tupled, Value};
 use std::alloc::{AllocError, Global};
 use std::str::Chars;
 
@@ -35,16 +36,23 @@ fn read_content<T: DeRon>(
 // ---- two parts
 
 impl<A: RonCodec, B: RonCodec> RonContent for Tupled<(A, B)> {
-    ghost content = { λ n. content_as (pair_codec A.ron B.ron) (λ x d. refl) };
+    type Values = (A, B);
+
+    ghost content = { content_as (pair_codec A.ron B.ron) (λ x d. refl) };
 }
 
 impl<A: DeRon, B: DeRon> ReadContent for Tupled<(A, B)> {
-    fn stands_alone(&self) -> bool {
+    type Values = (A, B);
+
+    ghost content = { content_as (pair_codec A.ron B.ron) (λ x d. refl) };
+
+    ghost means = { ⟦<(A, B) as Value>⟧.means };
+
+    fn stands_alone() -> bool {
         false
     }
 
     fn read(
-        &self,
         alloc: Global,
         state: &mut DeRonState,
         input: &mut Chars<'_>,
@@ -54,12 +62,17 @@ impl<A: DeRon, B: DeRon> ReadContent for Tupled<(A, B)> {
 }
 
 impl<'a, A: SerRon + 'a, B: SerRon + 'a> WriteContent<'a> for Tupled<(A, B)> {
-    type Parts = ();
+    type Values = (A, B);
+
+    type Refs = (&'a A, &'a B);
+
+    ghost values = { λ r. (r.0.now, r.1.now) };
+
+    ghost content = { content_as (pair_codec A.ron B.ron) (λ x d. refl) };
 
     fn write(
-        &self,
         name: &str,
-        refs: (&'a A, &'a B),
+        refs: &(&'a A, &'a B),
         alloc: Global,
         d: usize,
         s: &mut SerRonState,
@@ -72,16 +85,23 @@ impl<'a, A: SerRon + 'a, B: SerRon + 'a> WriteContent<'a> for Tupled<(A, B)> {
 // ---- three parts
 
 impl<A: RonCodec, B: RonCodec, C: RonCodec> RonContent for Tupled<(A, B, C)> {
-    ghost content = { λ n. content_as (triple_codec A.ron B.ron C.ron) (λ x d. refl) };
+    type Values = (A, B, C);
+
+    ghost content = { content_as (triple_codec A.ron B.ron C.ron) (λ x d. refl) };
 }
 
 impl<A: DeRon, B: DeRon, C: DeRon> ReadContent for Tupled<(A, B, C)> {
-    fn stands_alone(&self) -> bool {
+    type Values = (A, B, C);
+
+    ghost content = { content_as (triple_codec A.ron B.ron C.ron) (λ x d. refl) };
+
+    ghost means = { ⟦<(A, B, C) as Value>⟧.means };
+
+    fn stands_alone() -> bool {
         false
     }
 
     fn read(
-        &self,
         alloc: Global,
         state: &mut DeRonState,
         input: &mut Chars<'_>,
@@ -91,12 +111,17 @@ impl<A: DeRon, B: DeRon, C: DeRon> ReadContent for Tupled<(A, B, C)> {
 }
 
 impl<'a, A: SerRon + 'a, B: SerRon + 'a, C: SerRon + 'a> WriteContent<'a> for Tupled<(A, B, C)> {
-    type Parts = ();
+    type Values = (A, B, C);
+
+    type Refs = (&'a A, &'a B, &'a C);
+
+    ghost values = { λ r. (r.0.now, r.1.now, r.2.now) };
+
+    ghost content = { content_as (triple_codec A.ron B.ron C.ron) (λ x d. refl) };
 
     fn write(
-        &self,
         name: &str,
-        refs: (&'a A, &'a B, &'a C),
+        refs: &(&'a A, &'a B, &'a C),
         alloc: Global,
         d: usize,
         s: &mut SerRonState,
@@ -113,16 +138,23 @@ impl<'a, A: SerRon + 'a, B: SerRon + 'a, C: SerRon + 'a> WriteContent<'a> for Tu
 // ---- four parts
 
 impl<A: RonCodec, B: RonCodec, C: RonCodec, D: RonCodec> RonContent for Tupled<(A, B, C, D)> {
-    ghost content = { λ n. content_as (quadruple_codec A.ron B.ron C.ron D.ron) (λ x d. refl) };
+    type Values = (A, B, C, D);
+
+    ghost content = { content_as (quadruple_codec A.ron B.ron C.ron D.ron) (λ x d. refl) };
 }
 
 impl<A: DeRon, B: DeRon, C: DeRon, D: DeRon> ReadContent for Tupled<(A, B, C, D)> {
-    fn stands_alone(&self) -> bool {
+    type Values = (A, B, C, D);
+
+    ghost content = { content_as (quadruple_codec A.ron B.ron C.ron D.ron) (λ x d. refl) };
+
+    ghost means = { ⟦<(A, B, C, D) as Value>⟧.means };
+
+    fn stands_alone() -> bool {
         false
     }
 
     fn read(
-        &self,
         alloc: Global,
         state: &mut DeRonState,
         input: &mut Chars<'_>,
@@ -133,12 +165,17 @@ impl<A: DeRon, B: DeRon, C: DeRon, D: DeRon> ReadContent for Tupled<(A, B, C, D)
 
 impl<'a, A: SerRon + 'a, B: SerRon + 'a, C: SerRon + 'a, D: SerRon + 'a> WriteContent<'a>
     for Tupled<(A, B, C, D)> {
-    type Parts = ();
+    type Values = (A, B, C, D);
+
+    type Refs = (&'a A, &'a B, &'a C, &'a D);
+
+    ghost values = { λ r. (r.0.now, r.1.now, r.2.now, r.3.now) };
+
+    ghost content = { content_as (quadruple_codec A.ron B.ron C.ron D.ron) (λ x d. refl) };
 
     fn write(
-        &self,
         name: &str,
-        refs: (&'a A, &'a B, &'a C, &'a D),
+        refs: &(&'a A, &'a B, &'a C, &'a D),
         alloc: Global,
         d: usize,
         s: &mut SerRonState,

@@ -6,7 +6,8 @@ ghost use Rattle.nano_schema_ron.specs.FieldsLaws.{ron_fields};
 ghost use Rattle.nano_schema_ron.specs.Variants.{content_text};
 ghost use Rattle.nano_text.specs.Outcomes.{Appends, AppendsPart, Unchanged};
 
-use crate::writer::{WriteFields, write_fields};
+use crate::fields::RonRefs;
+use crate::writer::write_fields;
 use nano_ron::{SerRon, SerRonState, rollback_on_error};
 use std::alloc::{AllocError, Global};
 
@@ -39,19 +40,20 @@ pub fn write_variant<T: SerRon>(
 
 /// Appends a variant whose content is named fields: its name, and the fields between
 /// parentheses at level `d`. A failed write leaves `s.out` as it was.
-pub fn write_fields_variant<F: WriteFields>(
-    alloc: Global,
+pub fn write_fields_variant<'a, F: RonRefs<'a>>(
     name: &str,
-    fields: &F,
+    refs: &F::Refs,
+    alloc: Global,
     d: usize,
     s: &mut SerRonState,
 ) -> Result<(), AllocError>
     ensures ok { OnOk result (Appends s.old.out s.new.out
-        (content_text name.now (fields_text ron_fields d (F.fields fields.now)))) }
+        (content_text name.now (fields_text ron_fields d
+        (F.codec.canonical.fields (F.values refs.now))))) }
     ensures err { OnErr result (Unchanged s.old.out s.new.out) }
 {
     let start = s.out.len();
-    let written = append_fields_variant(alloc, name, fields, d, s);
+    let written = append_fields_variant::<F>(name, refs, alloc, d, s);
     rollback_on_error(&mut s.out, start, written)
 }
 
@@ -73,17 +75,18 @@ fn append_variant<T: SerRon>(
 
 /// Appends a variant whose content is named fields. A failed allocation leaves what was written
 /// so far.
-fn append_fields_variant<F: WriteFields>(
-    alloc: Global,
+fn append_fields_variant<'a, F: RonRefs<'a>>(
     name: &str,
-    fields: &F,
+    refs: &F::Refs,
+    alloc: Global,
     d: usize,
     s: &mut SerRonState,
 ) -> Result<(), AllocError>
     ensures ok { OnOk result (Appends s.old.out s.new.out
-        (content_text name.now (fields_text ron_fields d (F.fields fields.now)))) }
+        (content_text name.now (fields_text ron_fields d
+        (F.codec.canonical.fields (F.values refs.now))))) }
     ensures err { OnErr result (AppendsPart s.old.out s.new.out) }
 {
     write_unit_variant(name, s)?;
-    write_fields(alloc, fields, d, s)
+    write_fields::<F>(refs, alloc, d, s)
 }

@@ -9,18 +9,18 @@ use Rattle.nano_schema_bin.proofs.choice.read_choice_bin.Goals as goal
 pub returns-in_err-tag-clause-err : goal.returns-in_err-tag-clause-err
 returns-in_err-tag-clause-err g c =
     let p = err_from_is_err_and c.from_residual.result c.from_residual.ensures.1 in
-    let vs = g.E.Variants.BinShapes.chosen.bodies in
+    let vs = g.V.BinChoices.chosen.bodies in
     rw (p.1, p.2) (λ h. tag_rejected vs c.args.bytes.now c.args.offset.now c.in_err-tag.ensures.err)
 
 pub returns-in_err-values-clause-err : goal.returns-in_err-values-clause-err
 returns-in_err-values-clause-err g c =
     let p = err_from_is_err_and c.from_residual-in_err-values.result c.from_residual-in_err-values.ensures.1 in
-    let vs = g.E.Variants.BinShapes.chosen.bodies in
+    let vs = g.V.BinChoices.chosen.bodies in
     rw (p.1, p.2) (λ h. content_rejected vs c.args.bytes.now c.args.offset.now _ c.in_ok-tag.tag c.in_ok-tag.ensures.ok (c.in_err-values.ensures.err h))
 
 pub returns-clause-ok : goal.returns-clause-ok
 returns-clause-ok g c =
-    let vs = g.E.Variants.BinShapes.chosen.bodies in
+    let vs = g.V.BinChoices.chosen.bodies in
     let r = c.in_ok-values.ensures.ok in
     let tag = c.in_ok-tag.tag in
     let e : tag + 0 ≡ tag = omega arith in

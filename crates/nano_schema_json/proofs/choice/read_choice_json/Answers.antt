@@ -8,24 +8,22 @@ pub returns-in_err-name-clause-rejected : goal.returns-in_err-name-clause-reject
 returns-in_err-name-clause-rejected g c =
     let p = err_from_is_err_and c.from_residual.result c.from_residual.ensures.1 in
     let error = c.in_err-name.ensures.rejected in
-    let none = name_rejected (at c.args.state.now c.args.input.now) (g.E.Variants.JsonShapes.codec g.E.Choice.schema.the_names).encodes in
+    let none = name_rejected (at c.args.state.now c.args.input.now) g.V.JsonChoices.codec.encodes in
     rw (p.1, p.2) (λ known. none (error.0 known), error.1)
 
 pub returns-in-Ok-clause-decodes : goal.returns-in-Ok-clause-decodes
 returns-in-Ok-clause-decodes g c =
-    let vs = (g.E.Variants.JsonShapes.codec g.E.Choice.schema.the_names).encodes in
+    let vs = g.V.JsonChoices.codec.encodes in
     let start = at c.args.state.now c.args.input.now in
     let mid = at c.read_variant_name.new.state c.read_variant_name.new.input in
     let end = at c.read.new.state c.read.new.input in
-    let fits = c.in-Ok.ensures.decodes 0 in
-    let read = rw c.variants-variants.ensures at fits in
+    let read = c.in-Ok.ensures.decodes 0 in
     rw c.make.ensures (choice_reads vs c.in_ok-name.name start mid end _ c.in_ok-name.ensures.taken read)
 
 pub returns-clause-rejected : goal.returns-clause-rejected
 returns-clause-rejected g c =
-    let vs = (g.E.Variants.JsonShapes.codec g.E.Choice.schema.the_names).encodes in
+    let vs = g.V.JsonChoices.codec.encodes in
     let start = at c.args.state.now c.args.input.now in
     let mid = at c.read_variant_name.new.state c.read_variant_name.new.input in
-    let rejected = c.in-Err.ensures.rejected 0 in
-    let error = rw c.variants-variants.ensures at rejected in
+    let error = c.in-Err.ensures.rejected 0 in
     (λ known. choice_rejected vs c.in_ok-name.name start mid c.in_ok-name.ensures.taken (error.0 known), error.1)

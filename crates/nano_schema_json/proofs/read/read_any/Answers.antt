@@ -14,7 +14,7 @@ use Rattle.nano_schema_json.proofs.read.read_any.Goals as goal
 
 pub returns-then-knows-clause-decodes : goal.returns-then-knows-clause-decodes
 returns-then-knows-clause-decodes g c =
-    let shape = (g.F.JsonShape.codec (g.F.Shape.names_of c.args.fields.now)).struct.shape in
+    let shape = g.F.JsonFields.codec.struct.shape in
     let name = pending_name c.args.state.now c.requires in
     let known = ap shape.knows (sym c.as_str.ensures.value) ∙ sym c.if-knows.ensures in
     let bytes = string_bytes c.args.state.now.strbuf in
@@ -25,7 +25,7 @@ returns-then-knows-clause-decodes g c =
 
 pub returns-then-knows-clause-rejected : goal.returns-then-knows-clause-rejected
 returns-then-knows-clause-rejected g c =
-    let shape = (g.F.JsonShape.codec (g.F.Shape.names_of c.args.fields.now)).struct.shape in
+    let shape = g.F.JsonFields.codec.struct.shape in
     let name = pending_name c.args.state.now c.requires in
     let known = ap shape.knows (sym c.as_str.ensures.value) ∙ sym c.if-knows.ensures in
     let bytes = string_bytes c.args.state.now.strbuf in
@@ -37,7 +37,7 @@ returns-then-knows-clause-rejected g c =
 pub returns-in_err-next_colon-clause-rejected : goal.returns-in_err-next_colon-clause-rejected
 returns-in_err-next_colon-clause-rejected g c =
     let p = err_from_is_err_and c.from_residual.result c.from_residual.ensures.1 in
-    let shape = (g.F.JsonShape.codec (g.F.Shape.names_of c.args.fields.now)).struct.shape in
+    let shape = g.F.JsonFields.codec.struct.shape in
     let n = string_bytes c.args.state.now.strbuf in
     let start = at c.args.state.now c.args.input.now in
     let name = pending_name c.args.state.now c.requires in
@@ -56,7 +56,7 @@ returns-in_err-next_colon-clause-rejected g c =
 
 pub returns-clause-decodes : goal.returns-clause-decodes
 returns-clause-decodes g c =
-    let shape = (g.F.JsonShape.codec (g.F.Shape.names_of c.args.fields.now)).struct.shape in
+    let shape = g.F.JsonFields.codec.struct.shape in
     let n = string_bytes c.args.state.now.strbuf in
     let name = pending_name c.args.state.now c.requires in
     let unknown = ap shape.knows (sym c.as_str.ensures.value) ∙ sym c.if-knows.ensures in
@@ -66,14 +66,14 @@ returns-clause-decodes g c =
     let field =
     skipped_found json_fields json_laws shape n start following end name unknown
     c.in_ok-next_colon.ensures.taken in
-    let skips = g.met.F.Fields.skips c.args.fields.now c.args.slots.now in
+    let skips = g.met.F.JsonFields.skips c.args.slots.now in
     on_ok_weaker c.whole_field.result (λ h.
     let f = field h in
     (f.0, f.1, λ fs x. skips fs f.0 f.2 x)) c.whole_field.ensures.taken
 
 pub returns-clause-rejected : goal.returns-clause-rejected
 returns-clause-rejected g c =
-    let shape = (g.F.JsonShape.codec (g.F.Shape.names_of c.args.fields.now)).struct.shape in
+    let shape = g.F.JsonFields.codec.struct.shape in
     let n = string_bytes c.args.state.now.strbuf in
     let start = at c.args.state.now c.args.input.now in
     let following = at c.next_colon.new.self c.next_colon.new.i in

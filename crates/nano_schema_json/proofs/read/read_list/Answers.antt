@@ -13,7 +13,7 @@ use Rattle.nano_schema_json.proofs.read.read_list.Goals as goal
 pub returns-in_err-curly_open-clause-rejected : goal.returns-in_err-curly_open-clause-rejected
 returns-in_err-curly_open-clause-rejected g c =
     let p = err_from_is_err_and c.from_residual.result c.from_residual.ensures.1 in
-    let struct = (g.F.JsonShape.codec (g.F.Shape.names_of c.args.fields.now)).struct in
+    let struct = g.F.JsonFields.codec.struct in
     let start = at c.args.state.now c.args.input.now in
     let none = struct_open_rejected json_fields json_laws struct start in
     let error = c.in_err-curly_open.ensures.rejected in
@@ -21,17 +21,17 @@ returns-in_err-curly_open-clause-rejected g c =
 
 pub fields-init : goal.fields-init
 fields-init g c =
-    let struct = (g.F.JsonShape.codec (g.F.Shape.names_of c.args.fields.now)).struct in
-    let holds = g.F.Fields.holds c.args.fields.now c.empty-slots.result in
+    let struct = g.F.JsonFields.codec.struct in
+    let holds = g.F.JsonFields.holds c.empty.result in
     fields_start json_fields json_laws struct holds (at c.args.state.now c.args.input.now)
     (at c.curly_open.new.self c.curly_open.new.i) c.in_ok-curly_open.ensures.taken
-    c.empty-slots.ensures
+    c.empty.ensures
 
 pub returns-in_err-read_any-clause-rejected : goal.returns-in_err-read_any-clause-rejected
 returns-in_err-read_any-clause-rejected g c =
     let p = err_from_is_err_and c.from_residual-in_err-read_any.result c.from_residual-in_err-read_any.ensures.1 in
-    let struct = (g.F.JsonShape.codec (g.F.Shape.names_of c.args.fields.now)).struct in
-    let holds = g.F.Fields.holds c.args.fields.now c.fields.slots in
+    let struct = g.F.JsonFields.codec.struct in
+    let holds = g.F.JsonFields.holds c.fields.slots.of in
     let goes_on = name_goes_on (pending c.fields.state) (sym c.fields-test.ensures) in
     let none =
     struct_field_rejected json_fields json_laws struct holds
@@ -43,7 +43,7 @@ returns-in_err-read_any-clause-rejected g c =
 pub fields-smaller : goal.fields-smaller
 fields-smaller g c =
     let read = c.in_ok-read_any.ensures.decodes in
-    field_shorter json_fields json_laws (g.F.JsonShape.codec (g.F.Shape.names_of c.args.fields.now)).struct
+    field_shorter json_fields json_laws g.F.JsonFields.codec.struct
     (at c.fields.state c.fields.input) (at c.read_any.new.state c.read_any.new.input)
     (at c.eat_comma_curly.new.self c.eat_comma_curly.new.i) read.0 read.1
     c.in_ok-eat_comma_curly.ensures.taken
@@ -51,9 +51,9 @@ fields-smaller g c =
 pub fields-preserved : goal.fields-preserved
 fields-preserved g c =
     let goes_on = name_goes_on (pending c.fields.state) (sym c.fields-test.ensures) in
-    fields_next json_fields json_laws (g.F.JsonShape.codec (g.F.Shape.names_of c.args.fields.now)).struct
-    (g.F.Fields.holds c.args.fields.now c.fields.slots)
-    (g.F.Fields.holds c.args.fields.now c.read_any.new.slots)
+    fields_next json_fields json_laws g.F.JsonFields.codec.struct
+    (g.F.JsonFields.holds c.fields.slots.of)
+    (g.F.JsonFields.holds c.read_any.new.slots)
     (at c.args.state.now c.args.input.now) (at c.fields.state c.fields.input)
     (at c.read_any.new.state c.read_any.new.input)
     (at c.eat_comma_curly.new.self c.eat_comma_curly.new.i) c.fields.invariant goes_on
@@ -63,8 +63,8 @@ pub returns-in_err-eat_comma_curly-clause-rejected : goal.returns-in_err-eat_com
 returns-in_err-eat_comma_curly-clause-rejected g c =
     let p = err_from_is_err_and c.from_residual-in_err-eat_comma_curly.result c.from_residual-in_err-eat_comma_curly.ensures.1 in
     let read = c.in_ok-read_any.ensures.decodes in
-    let struct = (g.F.JsonShape.codec (g.F.Shape.names_of c.args.fields.now)).struct in
-    let holds = g.F.Fields.holds c.args.fields.now c.fields.slots in
+    let struct = g.F.JsonFields.codec.struct in
+    let holds = g.F.JsonFields.holds c.fields.slots.of in
     let goes_on = name_goes_on (pending c.fields.state) (sym c.fields-test.ensures) in
     let none =
     struct_comma_rejected json_fields json_laws struct holds
@@ -76,8 +76,8 @@ returns-in_err-eat_comma_curly-clause-rejected g c =
 pub returns-in_err-curly_close-clause-rejected : goal.returns-in_err-curly_close-clause-rejected
 returns-in_err-curly_close-clause-rejected g c =
     let p = err_from_is_err_and c.from_residual-in_err-curly_close.result c.from_residual-in_err-curly_close.ensures.1 in
-    let struct = (g.F.JsonShape.codec (g.F.Shape.names_of c.args.fields.now)).struct in
-    let holds = g.F.Fields.holds c.args.fields.now c.fields.slots in
+    let struct = g.F.JsonFields.codec.struct in
+    let holds = g.F.JsonFields.holds c.fields.slots.of in
     let no_name = no_name_pending (pending c.fields.state) (sym c.fields-test.ensures) in
     let none =
     struct_close_rejected json_fields json_laws struct holds
@@ -88,18 +88,18 @@ returns-in_err-curly_close-clause-rejected g c =
 
 pub returns-clause-decodes : goal.returns-clause-decodes
 returns-clause-decodes g c =
-    let struct = (g.F.JsonShape.codec (g.F.Shape.names_of c.args.fields.now)).struct in
-    let holds = g.F.Fields.holds c.args.fields.now c.fields.slots in
+    let struct = g.F.JsonFields.codec.struct in
+    let holds = g.F.JsonFields.holds c.fields.slots.of in
     IfOk-weaker c.values.result _ _ (λ v h.
     struct_found json_fields json_laws struct holds (at c.args.state.now c.args.input.now)
     (at c.fields.state c.fields.input) c.fields.invariant
     (at c.curly_close.new.self c.curly_close.new.i) c.in_ok-curly_close.ensures.taken
-    (g.F.Shape.means v) h) c.values.ensures.all
+    (g.F.JsonFields.codec.canonical.means v) h) c.values.ensures.all
 
 pub returns-clause-rejected : goal.returns-clause-rejected
 returns-clause-rejected g c =
-    let struct = (g.F.JsonShape.codec (g.F.Shape.names_of c.args.fields.now)).struct in
-    let holds = g.F.Fields.holds c.args.fields.now c.fields.slots in
+    let struct = g.F.JsonFields.codec.struct in
+    let holds = g.F.JsonFields.holds c.fields.slots.of in
     let none =
     struct_missing json_fields json_laws struct holds (at c.args.state.now c.args.input.now)
     (at c.fields.state c.fields.input) c.fields.invariant

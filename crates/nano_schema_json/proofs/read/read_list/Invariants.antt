@@ -8,8 +8,8 @@ use Rattle.nano_schema_json.proofs.read.read_list.Given as goal
 -- the slots hold the fields so far
 abbrev pub invariant-fields : goal.invariant-fields
 invariant-fields g l =
-    FieldsSoFar json_fields json_laws (g.F.JsonShape.codec (g.F.Shape.names_of l.fn.fields)).struct
-    (g.F.Fields.holds l.fn.fields l.slots) (at l.fn.state l.fn.input) (at l.state l.input)
+    FieldsSoFar json_fields json_laws g.F.JsonFields.codec.struct
+    (g.F.JsonFields.holds l.slots.of) (at l.fn.state l.fn.input) (at l.state l.input)
 
 abbrev pub decreases-fields : goal.decreases-fields
 decreases-fields g l = tokens_left json_laws.is_end (at l.state l.input)

@@ -6,28 +6,28 @@ use Rattle.nano_schema_json.proofs.variants.read_fields_content.Goals as goal
 
 pub returns-clause-decodes : goal.returns-clause-decodes
 returns-clause-decodes g c =
-    let encoding = fields_of (g.F.JsonShape.codec (g.F.Shape.names_of c.args.fields.now)).struct in
+    let encoding = fields_of g.F.JsonFields.codec.struct in
     closed_found (at c.args.state.now c.args.input.now) encoding.encodes
     (at c.read_fields.new.state c.read_fields.new.input)
     (at c.close_content.new.state c.close_content.new.input)
-    (g.F.Shape.means c.in_ok-values.values) c.in_ok-values.ensures.decodes
+    (g.F.JsonFields.codec.canonical.means c.in_ok-values.values) c.in_ok-values.ensures.decodes
     c.in_ok-close_content.ensures.taken
 
 pub returns-in_err-close_content-clause-rejected : goal.returns-in_err-close_content-clause-rejected
 returns-in_err-close_content-clause-rejected g c =
     let p = err_from_is_err_and c.from_residual-in_err-close_content.result c.from_residual-in_err-close_content.ensures.1 in
-    let encoding = fields_of (g.F.JsonShape.codec (g.F.Shape.names_of c.args.fields.now)).struct in
+    let encoding = fields_of g.F.JsonFields.codec.struct in
     let none =
     closing_rejected (at c.args.state.now c.args.input.now) encoding
     (at c.read_fields.new.state c.read_fields.new.input)
-    (g.F.Shape.means c.in_ok-values.values) c.in_ok-values.ensures.decodes in
+    (g.F.JsonFields.codec.canonical.means c.in_ok-values.values) c.in_ok-values.ensures.decodes in
     let error = c.in_err-close_content.ensures.rejected in
     rw (p.1, p.2) (λ known. none (error.0 known), error.1)
 
 pub returns-in_err-values-clause-rejected : goal.returns-in_err-values-clause-rejected
 returns-in_err-values-clause-rejected g c =
     let p = err_from_is_err_and c.from_residual.result c.from_residual.ensures.1 in
-    let encoding = fields_of (g.F.JsonShape.codec (g.F.Shape.names_of c.args.fields.now)).struct in
+    let encoding = fields_of g.F.JsonFields.codec.struct in
     let none = content_rejected (at c.args.state.now c.args.input.now) encoding.encodes in
     let error = c.in_err-values.ensures.rejected in
     rw (p.1, p.2) (λ known. none (error.0 known), error.1)

@@ -9,28 +9,28 @@ pub returns-in_err-name-clause-rejected : goal.returns-in_err-name-clause-reject
 returns-in_err-name-clause-rejected g c =
     let p = err_from_is_err_and c.from_residual.result c.from_residual.ensures.1 in
     let error = c.in_err-name.ensures.rejected in
-    let vs = (g.E.Variants.RonShapes.codec g.E.Choice.schema.the_names).encodes in
+    let vs = g.V.RonChoices.codec.encodes in
     let none = name_rejected vs (at c.args.state.now c.args.input.now) in
     rw (p.1, p.2) (λ known. none (error.0 known), error.1)
 
 pub returns-in-Ok-clause-decodes : goal.returns-in-Ok-clause-decodes
 returns-in-Ok-clause-decodes g c =
-    let vs = (g.E.Variants.RonShapes.codec g.E.Choice.schema.the_names).encodes in
+    let vs = g.V.RonChoices.codec.encodes in
     let start = at c.args.state.now c.args.input.now in
     let mid = at c.read_variant_name.new.state c.read_variant_name.new.input in
     let end = at c.read.new.state c.read.new.input in
     let name = string_bytes c.in_ok-name.name in
     let fits = c.in-Ok.ensures.decodes 0 in
-    let read = rw (c.variants-variants.ensures, c.as_str-2.ensures.value) at fits in
+    let read = rw c.as_str-2.ensures.value at fits in
     rw c.make.ensures (choice_reads vs name start mid c.in_ok-name.ensures.taken c.stands_alone-alone.result end _ read)
 
 pub returns-clause-rejected : goal.returns-clause-rejected
 returns-clause-rejected g c =
-    let vs = (g.E.Variants.RonShapes.codec g.E.Choice.schema.the_names).encodes in
+    let vs = g.V.RonChoices.codec.encodes in
     let start = at c.args.state.now c.args.input.now in
     let mid = at c.read_variant_name.new.state c.read_variant_name.new.input in
     let name = string_bytes c.in_ok-name.name in
     let rejected = c.in-Err.ensures.rejected 0 in
-    let error = rw (c.variants-variants.ensures, c.as_str-2.ensures.value) at rejected in
-    let alone = rw (c.variants-variants.ensures, c.as_str.ensures.value) at c.stands_alone-alone.ensures in
+    let error = rw c.as_str-2.ensures.value at rejected in
+    let alone = rw c.as_str.ensures.value at c.stands_alone-alone.ensures in
     (λ known. choice_rejected vs name start mid c.in_ok-name.ensures.taken c.stands_alone-alone.result alone (error.0 known), error.1)

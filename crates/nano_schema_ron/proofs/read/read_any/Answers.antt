@@ -9,7 +9,7 @@ use Rattle.nano_schema_ron.proofs.read.read_any.Goals as goal
 
 pub returns-then-knows-clause-decodes : goal.returns-then-knows-clause-decodes
 returns-then-knows-clause-decodes g c =
-    let shape = ((g.F.RonShape.codec (g.F.Shape.names_of c.args.fields.now)).struct).shape in
+    let shape = (g.F.RonFields.codec.struct).shape in
     let name = pending_name c.args.state.now c.requires in
     let known = ap shape.knows (sym c.as_str.ensures.value) ∙ sym c.if-knows.ensures in
     let bytes = string_bytes c.args.state.now.identbuf in
@@ -20,7 +20,7 @@ returns-then-knows-clause-decodes g c =
 
 pub returns-then-knows-clause-rejected : goal.returns-then-knows-clause-rejected
 returns-then-knows-clause-rejected g c =
-    let shape = ((g.F.RonShape.codec (g.F.Shape.names_of c.args.fields.now)).struct).shape in
+    let shape = (g.F.RonFields.codec.struct).shape in
     let name = pending_name c.args.state.now c.requires in
     let known = ap shape.knows (sym c.as_str.ensures.value) ∙ sym c.if-knows.ensures in
     let bytes = string_bytes c.args.state.now.identbuf in
@@ -31,7 +31,7 @@ returns-then-knows-clause-rejected g c =
 
 pub returns-clause-rejected : goal.returns-clause-rejected
 returns-clause-rejected g c =
-    let shape = ((g.F.RonShape.codec (g.F.Shape.names_of c.args.fields.now)).struct).shape in
+    let shape = (g.F.RonFields.codec.struct).shape in
     let name = pending_name c.args.state.now c.requires in
     let unknown = ap shape.knows (sym c.as_str.ensures.value) ∙ sym c.if-knows.ensures in
     let bytes = string_bytes c.args.state.now.identbuf in

@@ -13,7 +13,7 @@ use Rattle.nano_schema_ron.proofs.read.read_list.Goals as goal
 pub returns-in_err-paren_open-clause-rejected : goal.returns-in_err-paren_open-clause-rejected
 returns-in_err-paren_open-clause-rejected g c =
     let p = err_from_is_err_and c.from_residual.result c.from_residual.ensures.1 in
-    let struct = (g.F.RonShape.codec (g.F.Shape.names_of c.args.fields.now)).struct in
+    let struct = g.F.RonFields.codec.struct in
     let start = at c.args.state.now c.args.input.now in
     let none = struct_open_rejected ron_fields ron_laws struct start in
     let error = c.in_err-paren_open.ensures.rejected in
@@ -21,17 +21,17 @@ returns-in_err-paren_open-clause-rejected g c =
 
 pub fields-init : goal.fields-init
 fields-init g c =
-    let struct = (g.F.RonShape.codec (g.F.Shape.names_of c.args.fields.now)).struct in
-    let holds = g.F.Fields.holds c.args.fields.now c.empty-slots.result in
+    let struct = g.F.RonFields.codec.struct in
+    let holds = g.F.RonFields.holds c.empty.result in
     fields_start ron_fields ron_laws struct holds (at c.args.state.now c.args.input.now)
     (at c.paren_open.new.self c.paren_open.new.i) c.in_ok-paren_open.ensures.taken
-    c.empty-slots.ensures
+    c.empty.ensures
 
 pub returns-in_err-read_any-clause-rejected : goal.returns-in_err-read_any-clause-rejected
 returns-in_err-read_any-clause-rejected g c =
     let p = err_from_is_err_and c.from_residual-in_err-read_any.result c.from_residual-in_err-read_any.ensures.1 in
-    let struct = (g.F.RonShape.codec (g.F.Shape.names_of c.args.fields.now)).struct in
-    let holds = g.F.Fields.holds c.args.fields.now c.fields.slots in
+    let struct = g.F.RonFields.codec.struct in
+    let holds = g.F.RonFields.holds c.fields.slots.of in
     let goes_on = name_goes_on (pending c.fields.state) (sym c.fields-test.ensures) in
     let none =
     struct_field_rejected ron_fields ron_laws struct holds
@@ -43,7 +43,7 @@ returns-in_err-read_any-clause-rejected g c =
 pub fields-smaller : goal.fields-smaller
 fields-smaller g c =
     let read = c.in_ok-read_any.ensures.decodes in
-    field_shorter ron_fields ron_laws ((g.F.RonShape.codec (g.F.Shape.names_of c.args.fields.now)).struct)
+    field_shorter ron_fields ron_laws (g.F.RonFields.codec.struct)
     (at c.fields.state c.fields.input) (at c.read_any.new.state c.read_any.new.input)
     (at c.eat_comma_paren.new.self c.eat_comma_paren.new.i) read.0 read.1
     c.in_ok-eat_comma_paren.ensures.taken
@@ -51,9 +51,9 @@ fields-smaller g c =
 pub fields-preserved : goal.fields-preserved
 fields-preserved g c =
     let goes_on = name_goes_on (pending c.fields.state) (sym c.fields-test.ensures) in
-    fields_next ron_fields ron_laws ((g.F.RonShape.codec (g.F.Shape.names_of c.args.fields.now)).struct)
-    (g.F.Fields.holds c.args.fields.now c.fields.slots)
-    (g.F.Fields.holds c.args.fields.now c.read_any.new.slots)
+    fields_next ron_fields ron_laws (g.F.RonFields.codec.struct)
+    (g.F.RonFields.holds c.fields.slots.of)
+    (g.F.RonFields.holds c.read_any.new.slots)
     (at c.args.state.now c.args.input.now) (at c.fields.state c.fields.input)
     (at c.read_any.new.state c.read_any.new.input)
     (at c.eat_comma_paren.new.self c.eat_comma_paren.new.i) c.fields.invariant goes_on
@@ -63,8 +63,8 @@ pub returns-in_err-eat_comma_paren-clause-rejected : goal.returns-in_err-eat_com
 returns-in_err-eat_comma_paren-clause-rejected g c =
     let p = err_from_is_err_and c.from_residual-in_err-eat_comma_paren.result c.from_residual-in_err-eat_comma_paren.ensures.1 in
     let read = c.in_ok-read_any.ensures.decodes in
-    let struct = (g.F.RonShape.codec (g.F.Shape.names_of c.args.fields.now)).struct in
-    let holds = g.F.Fields.holds c.args.fields.now c.fields.slots in
+    let struct = g.F.RonFields.codec.struct in
+    let holds = g.F.RonFields.holds c.fields.slots.of in
     let goes_on = name_goes_on (pending c.fields.state) (sym c.fields-test.ensures) in
     let none =
     struct_comma_rejected ron_fields ron_laws struct holds
@@ -76,8 +76,8 @@ returns-in_err-eat_comma_paren-clause-rejected g c =
 pub returns-in_err-paren_close-clause-rejected : goal.returns-in_err-paren_close-clause-rejected
 returns-in_err-paren_close-clause-rejected g c =
     let p = err_from_is_err_and c.from_residual-in_err-paren_close.result c.from_residual-in_err-paren_close.ensures.1 in
-    let struct = (g.F.RonShape.codec (g.F.Shape.names_of c.args.fields.now)).struct in
-    let holds = g.F.Fields.holds c.args.fields.now c.fields.slots in
+    let struct = g.F.RonFields.codec.struct in
+    let holds = g.F.RonFields.holds c.fields.slots.of in
     let no_name = no_name_pending (pending c.fields.state) (sym c.fields-test.ensures) in
     let none =
     struct_close_rejected ron_fields ron_laws struct holds
@@ -88,18 +88,18 @@ returns-in_err-paren_close-clause-rejected g c =
 
 pub returns-clause-decodes : goal.returns-clause-decodes
 returns-clause-decodes g c =
-    let struct = (g.F.RonShape.codec (g.F.Shape.names_of c.args.fields.now)).struct in
-    let holds = g.F.Fields.holds c.args.fields.now c.fields.slots in
+    let struct = g.F.RonFields.codec.struct in
+    let holds = g.F.RonFields.holds c.fields.slots.of in
     IfOk-weaker c.values.result _ _ (λ v h.
     struct_found ron_fields ron_laws struct holds (at c.args.state.now c.args.input.now)
     (at c.fields.state c.fields.input) c.fields.invariant
     (at c.paren_close.new.self c.paren_close.new.i) c.in_ok-paren_close.ensures.taken
-    (g.F.Shape.means v) h) c.values.ensures.all
+    (g.F.RonFields.codec.canonical.means v) h) c.values.ensures.all
 
 pub returns-clause-rejected : goal.returns-clause-rejected
 returns-clause-rejected g c =
-    let struct = (g.F.RonShape.codec (g.F.Shape.names_of c.args.fields.now)).struct in
-    let holds = g.F.Fields.holds c.args.fields.now c.fields.slots in
+    let struct = g.F.RonFields.codec.struct in
+    let holds = g.F.RonFields.holds c.fields.slots.of in
     let none =
     struct_missing ron_fields ron_laws struct holds (at c.args.state.now c.args.input.now)
     (at c.fields.state c.fields.input) c.fields.invariant

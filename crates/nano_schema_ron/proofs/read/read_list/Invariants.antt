@@ -8,8 +8,8 @@ use Rattle.nano_schema_ron.proofs.read.read_list.Given as goal
 -- the slots hold the fields so far
 abbrev pub invariant-fields : goal.invariant-fields
 invariant-fields g l =
-    FieldsSoFar ron_fields ron_laws ((g.F.RonShape.codec (g.F.Shape.names_of l.fn.fields)).struct)
-    (g.F.Fields.holds l.fn.fields l.slots) (at l.fn.state l.fn.input) (at l.state l.input)
+    FieldsSoFar ron_fields ron_laws (g.F.RonFields.codec.struct)
+    (g.F.RonFields.holds l.slots.of) (at l.fn.state l.fn.input) (at l.state l.input)
 
 abbrev pub decreases-fields : goal.decreases-fields
 decreases-fields g l = tokens_left ron_laws.is_end (at l.state l.input)

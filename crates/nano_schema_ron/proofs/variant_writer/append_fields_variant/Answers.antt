@@ -10,5 +10,5 @@ returns-clause-ok g c =
     on_ok_weaker c.write_fields.result
     (both_written (string_bytes c.args.s.now.out) (string_bytes c.write_unit_variant.new.s.out)
     (string_bytes c.write_fields.new.s.out) (chars c.args.name.now)
-    (fields_text ron_fields c.args.d (g.F.WriteFields.fields c.args.fields.now))
+    (fields_text ron_fields c.args.d (g.F.RonRefs.codec.canonical.fields (g.F.RonRefs.values c.args.refs.now)))
     c.in_ok-write_unit_variant.ensures.ok) c.write_fields.ensures.ok

@@ -4,22 +4,21 @@ use Rattle.nano_bin.specs.Tuples.{EncodesPair}
 use Rattle.nano_bin.proofs.Readers.{pair_reads, pair_rejected, second_rejected, image_reads, image_rejected}
 use Rattle.nano_schema_bin.proofs.fields.Tuple2BinFields.read.Goals as goal
 
-pub returns-clause-ok : goal.returns-clause-ok
-returns-clause-ok g c =
-    let S = g.A.BinShape.codec.encoding in
-    let R = g.B.BinShape.codec.encoding in
-    image_reads paired _ _ _ _ (pair_reads S.encodes R.encodes _ _ _ _ _ _ c.in_ok-first.ensures.ok c.in_ok-second.ensures.ok)
+pub returns-in-Ok-clause-ok : goal.returns-in-Ok-clause-ok
+returns-in-Ok-clause-ok g c =
+    let S = g.A.BinFields.codec.encoding in
+    let R = g.B.BinFields.codec.encoding in
+    image_reads paired _ _ _ _ (pair_reads S.encodes R.encodes _ _ _ _ _ _ c.in_ok-first.ensures.ok c.in-Ok.ensures.ok)
 
 pub returns-in_err-first-clause-err : goal.returns-in_err-first-clause-err
 returns-in_err-first-clause-err g c =
-    let S = g.A.BinShape.codec.encoding in
-    let R = g.B.BinShape.codec.encoding in
+    let S = g.A.BinFields.codec.encoding in
+    let R = g.B.BinFields.codec.encoding in
     let p = err_from_is_err_and c.from_residual.result c.from_residual.ensures.1 in
     rw (p.1, p.2) (λ h. image_rejected (EncodesPair S.encodes R.encodes) paired _ (pair_rejected S.encodes R.encodes _ (c.in_err-first.ensures.err h)))
 
-pub returns-in_err-second-clause-err : goal.returns-in_err-second-clause-err
-returns-in_err-second-clause-err g c =
-    let S = g.A.BinShape.codec.encoding in
-    let R = g.B.BinShape.codec.encoding in
-    let p = err_from_is_err_and c.from_residual-in_err-second.result c.from_residual-in_err-second.ensures.1 in
-    rw (p.1, p.2) (λ h. image_rejected (EncodesPair S.encodes R.encodes) paired _ (second_rejected S.encodes R.encodes S.laws _ _ _ _ c.in_ok-first.ensures.ok (c.in_err-second.ensures.err h)))
+pub returns-in-Err-clause-err : goal.returns-in-Err-clause-err
+returns-in-Err-clause-err g c =
+    let S = g.A.BinFields.codec.encoding in
+    let R = g.B.BinFields.codec.encoding in
+    λ h. image_rejected (EncodesPair S.encodes R.encodes) paired _ (second_rejected S.encodes R.encodes S.laws _ _ _ _ c.in_ok-first.ensures.ok (c.in-Err.ensures.err h))

@@ -1,0 +1,45 @@
+use Rattle.std.proofs.Common.{suc, sym, ◌∙◌}
+use Rattle.nano_ron_tokens.specs.Cut.{Cut}
+use Rattle.nano_ron.specs.State.{at}
+use Rattle.nano_schema_ron.specs.VariantsLaws.{ron_variants}
+use Rattle.nano_schema_text.proofs.ChoiceReaders.{first_reads, first_rejected, later_reads, later_rejected}
+use Rattle.nano_schema_ron.proofs.choices.Tuple2VariantRonChoices.read.Goals as goal
+
+pub returns-in-Ok-clause-decodes : goal.returns-in-Ok-clause-decodes
+returns-in-Ok-clause-decodes g c = λ from.
+    let it = sym c.is_named.ensures ∙ c.if-is_named.true in
+    let named = rw (c.stands_alone.ensures, c.text.ensures) at it in
+    let rest = g.S.ReadContent.content.rest in
+    let others = g.C.RonChoices.codec.encodes in
+    let start = at c.args.state.now c.args.input.now in
+    let end = at c.read.new.state c.read.new.input in
+    first_reads ron_variants Cut rest g.N.Label.label others c.args.alone c.args.name.now named from start end _ c.in-Ok.ensures.decodes
+
+pub returns-in-Err-clause-rejected : goal.returns-in-Err-clause-rejected
+returns-in-Err-clause-rejected g c = λ from.
+    let it = sym c.is_named.ensures ∙ c.if-is_named.true in
+    let named = rw (c.stands_alone.ensures, c.text.ensures) at it in
+    let rest = g.S.ReadContent.content.rest in
+    let others = g.C.RonChoices.codec.encodes in
+    let start = at c.args.state.now c.args.input.now in
+    (λ known. first_rejected ron_variants Cut rest g.N.Label.label others c.args.alone c.args.name.now named from start (c.in-Err.ensures.rejected.0 known), c.in-Err.ensures.rejected.1)
+
+pub returns-in-Ok-read-clause-decodes : goal.returns-in-Ok-read-clause-decodes
+returns-in-Ok-read-clause-decodes g c = λ from.
+    let it = sym c.is_named.ensures ∙ c.if-is_named.false in
+    let other = rw (c.stands_alone.ensures, c.text.ensures) at it in
+    let rest = g.S.ReadContent.content.rest in
+    let others = g.C.RonChoices.codec.encodes in
+    let start = at c.args.state.now c.args.input.now in
+    let end = at c.read-2.new.state c.read-2.new.input in
+    later_reads ron_variants Cut rest g.N.Label.label others c.args.alone c.args.name.now other from start end _ (c.in-Ok-read.ensures.decodes (suc from))
+
+pub returns-in-Err-read-clause-rejected : goal.returns-in-Err-read-clause-rejected
+returns-in-Err-read-clause-rejected g c = λ from.
+    let it = sym c.is_named.ensures ∙ c.if-is_named.false in
+    let other = rw (c.stands_alone.ensures, c.text.ensures) at it in
+    let rest = g.S.ReadContent.content.rest in
+    let others = g.C.RonChoices.codec.encodes in
+    let start = at c.args.state.now c.args.input.now in
+    let error = c.in-Err-read.ensures.rejected (suc from) in
+    (λ known. later_rejected ron_variants Cut rest g.N.Label.label others c.args.alone c.args.name.now other from start (error.0 known), error.1)
