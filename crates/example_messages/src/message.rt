@@ -6,8 +6,13 @@ ghost use Rattle.nano_schema.specs.declared.choices.Either.TheVariants.{First, L
 ghost use Rattle.nano_schema_bin.specs.Choice.{bin_choice};
 ghost use Rattle.example_messages.specs.declared.message.Message.TheVariants.{Leave, Move, Say};
 
-use nano_schema::{Alone, BorrowedChoices, Choice, ChoiceParts, Choices, Either, Label, Named, Required, Tupled, Value, Variant, known_choice};
-use nano_schema_bin::{BinCodec, BinShapes, DeBin, DeBinErr, SerBin, read_choice_bin, write_choice_bin};
+use nano_schema::{
+    Alone, BorrowedChoices, Choice, ChoiceParts, Choices, Either, Label, Named, Required, Tupled,
+    Value, Variant, known_choice,
+};
+use nano_schema_bin::{
+    BinCodec, BinShapes, DeBin, DeBinErr, SerBin, read_choice_bin, write_choice_bin,
+};
 use std::alloc::{AllocError, Global};
 use std::collections::HashMap;
 
@@ -87,18 +92,34 @@ impl Label for MessageSayTo {
     }
 }
 
-type MessageVariants = (Variant<MessageLeave, Alone>, (Variant<MessageMove, Tupled<(u32, Vec<i16>)>>, Variant<MessageSay, Named<(Required<MessageSayText, String>, Required<MessageSayTo, HashMap<String, u32>>)>>));
+type MessageVariants = (
+    Variant<MessageLeave, Alone>,
+    (
+        Variant<MessageMove, Tupled<(u32, Vec<i16>)>>,
+        Variant<
+            MessageSay,
+            Named<
+                (
+                    Required<MessageSayText, String>,
+                    Required<MessageSayTo, HashMap<String, u32>>,
+                ),
+            >,
+        >,
+    ),
+);
 
 impl Choice for Message {
     type Values = Either<(), Either<(u32, Vec<i16>), (String, HashMap<String, u32>)>>;
 
     ghost view = { λ e. elim e [
-        | Leave ↦ First tt
-        | Move number steps ↦ Later (First (number, steps))
-        | Say text to ↦ Later (Later ((text, to)))
+      | Leave ↦ First tt
+      | Move number steps ↦ Later (First (number, steps))
+      | Say text to ↦ Later (Later ((text, to)))
     ] };
 
-    fn make(values: Either<(), Either<(u32, Vec<i16>), (String, HashMap<String, u32>)>>) -> Message {
+    fn make(
+        values: Either<(), Either<(u32, Vec<i16>), (String, HashMap<String, u32>)>>,
+    ) -> Message {
         match values {
             Either::First(()) => Message::Leave,
             Either::Later(later) => match later {
@@ -117,7 +138,9 @@ impl<'a> ChoiceParts<'a> for Message {
 
     ghost values = { ⟦<MessageVariants as BorrowedChoices<'a>>⟧.values };
 
-    fn as_refs(&'a self) -> Either<(), Either<(&'a u32, &'a Vec<i16>), (&'a String, &'a HashMap<String, u32>)>> {
+    fn as_refs(
+        &'a self,
+    ) -> Either<(), Either<(&'a u32, &'a Vec<i16>), (&'a String, &'a HashMap<String, u32>)>> {
         match self {
             Message::Leave => Either::First(()),
             Message::Move(number, steps) => Either::Later(Either::First((number, steps))),

@@ -6,8 +6,14 @@ ghost use Rattle.nano_schema_json.specs.Record.{json_of};
 ghost use Rattle.nano_schema_ron.specs.Record.{ron_of};
 
 use nano_schema::{Borrowed, Label, Optional, Parts, Record, Required, Shape, Value, known_record};
-use nano_schema_json::{DeJson, DeJsonState, JsonCodec, JsonResult, JsonShape, SerJson, SerJsonState, read_record_json, write_record_json};
-use nano_schema_ron::{DeRon, DeRonState, RonCodec, RonResult, RonShape, SerRon, SerRonState, read_record_ron, write_record_ron};
+use nano_schema_json::{
+    DeJson, DeJsonState, JsonCodec, JsonResult, JsonShape, SerJson, SerJsonState, read_record_json,
+    write_record_json,
+};
+use nano_schema_ron::{
+    DeRon, DeRonState, RonCodec, RonResult, RonShape, SerRon, SerRonState, read_record_ron,
+    write_record_ron,
+};
 use std::alloc::{AllocError, Global};
 use std::collections::HashMap;
 use std::str::Chars;
@@ -59,7 +65,13 @@ impl Label for StatePlayer {
     }
 }
 
-type StateFields = (Required<StateCoins, u32>, (Required<StateTimes, HashMap<String, u64>>, Optional<StatePlayer, String>));
+type StateFields = (
+    Required<StateCoins, u32>,
+    (
+        Required<StateTimes, HashMap<String, u64>>,
+        Optional<StatePlayer, String>,
+    ),
+);
 
 impl Record for State {
     type Values = (u32, (HashMap<String, u64>, Option<String>));
@@ -68,7 +80,11 @@ impl Record for State {
 
     fn make(values: (u32, (HashMap<String, u64>, Option<String>))) -> State {
         let (coins, (times, player)) = values;
-        State { coins, times, player }
+        State {
+            coins,
+            times,
+            player,
+        }
     }
 }
 

@@ -8,10 +8,21 @@ ghost use Rattle.nano_schema_json.specs.Choice.{json_choice};
 ghost use Rattle.nano_schema_ron.specs.Choice.{ron_choice};
 ghost use Rattle.example_types.specs.declared.event.Event.TheVariants.{Stop, Move, Say};
 
-use nano_schema::{Alone, BorrowedChoices, Choice, ChoiceParts, Choices, Either, Label, Named, Required, Tupled, Value, Variant, known_choice};
-use nano_schema_bin::{BinCodec, BinShapes, DeBin, DeBinErr, SerBin, read_choice_bin, write_choice_bin};
-use nano_schema_json::{DeJson, DeJsonState, JsonCodec, JsonResult, JsonShapes, SerJson, SerJsonState, read_choice_json, write_choice_json};
-use nano_schema_ron::{DeRon, DeRonState, RonCodec, RonResult, RonShapes, SerRon, SerRonState, read_choice_ron, write_choice_ron};
+use nano_schema::{
+    Alone, BorrowedChoices, Choice, ChoiceParts, Choices, Either, Label, Named, Required, Tupled,
+    Value, Variant, known_choice,
+};
+use nano_schema_bin::{
+    BinCodec, BinShapes, DeBin, DeBinErr, SerBin, read_choice_bin, write_choice_bin,
+};
+use nano_schema_json::{
+    DeJson, DeJsonState, JsonCodec, JsonResult, JsonShapes, SerJson, SerJsonState,
+    read_choice_json, write_choice_json,
+};
+use nano_schema_ron::{
+    DeRon, DeRonState, RonCodec, RonResult, RonShapes, SerRon, SerRonState, read_choice_ron,
+    write_choice_ron,
+};
 use std::alloc::{AllocError, Global};
 use std::str::Chars;
 
@@ -91,15 +102,21 @@ impl Label for EventSayTimes {
     }
 }
 
-type EventVariants = (Variant<EventStop, Alone>, (Variant<EventMove, Tupled<(u32, String)>>, Variant<EventSay, Named<(Required<EventSayText, String>, Required<EventSayTimes, u32>)>>));
+type EventVariants = (
+    Variant<EventStop, Alone>,
+    (
+        Variant<EventMove, Tupled<(u32, String)>>,
+        Variant<EventSay, Named<(Required<EventSayText, String>, Required<EventSayTimes, u32>)>>,
+    ),
+);
 
 impl Choice for Event {
     type Values = Either<(), Either<(u32, String), (String, u32)>>;
 
     ghost view = { λ e. elim e [
-        | Stop ↦ First tt
-        | Move steps name ↦ Later (First (steps, name))
-        | Say text times ↦ Later (Later ((text, times)))
+      | Stop ↦ First tt
+      | Move steps name ↦ Later (First (steps, name))
+      | Say text times ↦ Later (Later ((text, times)))
     ] };
 
     fn make(values: Either<(), Either<(u32, String), (String, u32)>>) -> Event {

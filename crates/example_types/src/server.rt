@@ -10,9 +10,17 @@ ghost use Rattle.nano_schema_ron.specs.Record.{ron_of};
 use crate::limits::Limits;
 use crate::tags::Tags;
 use nano_schema::{Borrowed, Label, Optional, Parts, Record, Required, Shape, Value, known_record};
-use nano_schema_bin::{BinCodec, BinShape, DeBin, DeBinErr, SerBin, read_record_bin, write_record_bin};
-use nano_schema_json::{DeJson, DeJsonState, JsonCodec, JsonResult, JsonShape, SerJson, SerJsonState, read_record_json, write_record_json};
-use nano_schema_ron::{DeRon, DeRonState, RonCodec, RonResult, RonShape, SerRon, SerRonState, read_record_ron, write_record_ron};
+use nano_schema_bin::{
+    BinCodec, BinShape, DeBin, DeBinErr, SerBin, read_record_bin, write_record_bin,
+};
+use nano_schema_json::{
+    DeJson, DeJsonState, JsonCodec, JsonResult, JsonShape, SerJson, SerJsonState, read_record_json,
+    write_record_json,
+};
+use nano_schema_ron::{
+    DeRon, DeRonState, RonCodec, RonResult, RonShape, SerRon, SerRonState, read_record_ron,
+    write_record_ron,
+};
 use std::alloc::{AllocError, Global};
 use std::str::Chars;
 
@@ -91,7 +99,13 @@ impl Label for ServerNote {
     }
 }
 
-type ServerFields = ((Required<ServerHost, String>, Required<ServerPort, u16>), (Required<ServerTags, Tags>, (Required<ServerLimits, Limits>, Optional<ServerNote, String>)));
+type ServerFields = (
+    (Required<ServerHost, String>, Required<ServerPort, u16>),
+    (
+        Required<ServerTags, Tags>,
+        (Required<ServerLimits, Limits>, Optional<ServerNote, String>),
+    ),
+);
 
 impl Record for Server {
     type Values = ((String, u16), (Tags, (Limits, Option<String>)));
@@ -100,17 +114,34 @@ impl Record for Server {
 
     fn make(values: ((String, u16), (Tags, (Limits, Option<String>)))) -> Server {
         let ((host, port), (tags, (limits, note))) = values;
-        Server { host, port, tags, limits, note }
+        Server {
+            host,
+            port,
+            tags,
+            limits,
+            note,
+        }
     }
 }
 
 impl<'a> Parts<'a> for Server {
-    type Refs = ((&'a String, &'a u16), (&'a Tags, (&'a Limits, &'a Option<String>)));
+    type Refs = (
+        (&'a String, &'a u16),
+        (&'a Tags, (&'a Limits, &'a Option<String>)),
+    );
 
     ghost values = { ⟦<ServerFields as Borrowed<'a>>⟧.values };
 
-    fn as_refs(&'a self) -> ((&'a String, &'a u16), (&'a Tags, (&'a Limits, &'a Option<String>))) {
-        ((&self.host, &self.port), (&self.tags, (&self.limits, &self.note)))
+    fn as_refs(
+        &'a self,
+    ) -> (
+        (&'a String, &'a u16),
+        (&'a Tags, (&'a Limits, &'a Option<String>)),
+    ) {
+        (
+            (&self.host, &self.port),
+            (&self.tags, (&self.limits, &self.note)),
+        )
     }
 }
 

@@ -8,10 +8,21 @@ ghost use Rattle.nano_schema_json.specs.Choice.{json_choice};
 ghost use Rattle.nano_schema_ron.specs.Choice.{ron_choice};
 ghost use Rattle.example_types.specs.declared.signal.Signal.TheVariants.{Wait, Move, Light};
 
-use nano_schema::{BorrowedChoices, Choice, ChoiceParts, Choices, Either, Label, OnePart, Tupled, Value, Variant, known_choice};
-use nano_schema_bin::{BinCodec, BinShapes, DeBin, DeBinErr, SerBin, read_choice_bin, write_choice_bin};
-use nano_schema_json::{DeJson, DeJsonState, JsonCodec, JsonResult, JsonShapes, SerJson, SerJsonState, read_choice_json, write_choice_json};
-use nano_schema_ron::{DeRon, DeRonState, RonCodec, RonResult, RonShapes, SerRon, SerRonState, read_choice_ron, write_choice_ron};
+use nano_schema::{
+    BorrowedChoices, Choice, ChoiceParts, Choices, Either, Label, OnePart, Tupled, Value, Variant,
+    known_choice,
+};
+use nano_schema_bin::{
+    BinCodec, BinShapes, DeBin, DeBinErr, SerBin, read_choice_bin, write_choice_bin,
+};
+use nano_schema_json::{
+    DeJson, DeJsonState, JsonCodec, JsonResult, JsonShapes, SerJson, SerJsonState,
+    read_choice_json, write_choice_json,
+};
+use nano_schema_ron::{
+    DeRon, DeRonState, RonCodec, RonResult, RonShapes, SerRon, SerRonState, read_choice_ron,
+    write_choice_ron,
+};
 use std::alloc::{AllocError, Global};
 use std::str::Chars;
 
@@ -62,15 +73,21 @@ impl Label for SignalLight {
     }
 }
 
-type SignalVariants = (Variant<SignalWait, OnePart<u64>>, (Variant<SignalMove, Tupled<(u16, u16, u16)>>, Variant<SignalLight, Tupled<(u8, u8, u8, bool)>>));
+type SignalVariants = (
+    Variant<SignalWait, OnePart<u64>>,
+    (
+        Variant<SignalMove, Tupled<(u16, u16, u16)>>,
+        Variant<SignalLight, Tupled<(u8, u8, u8, bool)>>,
+    ),
+);
 
 impl Choice for Signal {
     type Values = Either<u64, Either<(u16, u16, u16), (u8, u8, u8, bool)>>;
 
     ghost view = { λ e. elim e [
-        | Wait time ↦ First time
-        | Move x y z ↦ Later (First (x, y, z))
-        | Light red green blue on ↦ Later (Later ((red, green, blue, on)))
+      | Wait time ↦ First time
+      | Move x y z ↦ Later (First (x, y, z))
+      | Light red green blue on ↦ Later (Later ((red, green, blue, on)))
     ] };
 
     fn make(values: Either<u64, Either<(u16, u16, u16), (u8, u8, u8, bool)>>) -> Signal {
@@ -88,15 +105,22 @@ impl Choice for Signal {
 }
 
 impl<'a> ChoiceParts<'a> for Signal {
-    type Refs = Either<&'a u64, Either<(&'a u16, &'a u16, &'a u16), (&'a u8, &'a u8, &'a u8, &'a bool)>>;
+    type Refs = Either<
+        &'a u64,
+        Either<(&'a u16, &'a u16, &'a u16), (&'a u8, &'a u8, &'a u8, &'a bool)>,
+    >;
 
     ghost values = { ⟦<SignalVariants as BorrowedChoices<'a>>⟧.values };
 
-    fn as_refs(&'a self) -> Either<&'a u64, Either<(&'a u16, &'a u16, &'a u16), (&'a u8, &'a u8, &'a u8, &'a bool)>> {
+    fn as_refs(
+        &'a self,
+    ) -> Either<&'a u64, Either<(&'a u16, &'a u16, &'a u16), (&'a u8, &'a u8, &'a u8, &'a bool)>> {
         match self {
             Signal::Wait(time) => Either::First(time),
             Signal::Move(x, y, z) => Either::Later(Either::First((x, y, z))),
-            Signal::Light(red, green, blue, on) => Either::Later(Either::Later((red, green, blue, on))),
+            Signal::Light(red, green, blue, on) => Either::Later(Either::Later((
+                red, green, blue, on,
+            ))),
         }
     }
 }

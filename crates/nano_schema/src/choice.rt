@@ -38,9 +38,7 @@ pub fn known_choice<
     'a,
     E: ChoiceParts<'a>,
     V: BorrowedChoices<'a, Refs = E::Refs, Values = E::Values>,
->(
-    value: &'a E,
-)
+>(value: &'a E)
     ensures { SeesAs V.values E.ChoiceParts.values
         → LegalVariant V.legals (V.means 0 (E.view value.now)) }
 {

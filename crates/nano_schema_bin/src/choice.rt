@@ -40,11 +40,7 @@ pub fn write_choice_bin<
     'a,
     E: ChoiceParts<'a>,
     V: BinChoiceRefs<'a, Refs = E::Refs, Values = E::Values>,
->(
-    value: &'a E,
-    alloc: Global,
-    output: &mut Vec<u8>,
-) -> Result<(), AllocError>
+>(value: &'a E, alloc: Global, output: &mut Vec<u8>) -> Result<(), AllocError>
     requires { count_variants (legal_bodies V.chosen.bodies) ≤ 65536 }
     ensures ok { SeesAs V.values E.ChoiceParts.values → OnOk result (output.new.items
         ≡ output.old.items ++ written_tagged V.chosen.bodies (V.chosen.by_tag (E.view value.now))) }

@@ -6,6 +6,7 @@ pub mod VariantsLaws
 pub mod Punctuation
 pub mod FieldReading
 pub mod FieldReadingLaws
+pub mod ListReading
 pub mod FieldTexts
 pub mod VariantReading
 pub mod Promises

@@ -46,12 +46,7 @@ pub fn write_choice_json<
     'a,
     E: ChoiceParts<'a>,
     V: JsonChoiceRefs<'a, Refs = E::Refs, Values = E::Values>,
->(
-    value: &'a E,
-    alloc: Global,
-    d: usize,
-    s: &mut SerJsonState,
-) -> Result<(), AllocError>
+>(value: &'a E, alloc: Global, d: usize, s: &mut SerJsonState) -> Result<(), AllocError>
     ensures ok { SeesAs V.values E.ChoiceParts.values → OnOk result
         (Appends s.old.out s.new.out (V.codec.text d (E.view value.now))) }
     ensures err { OnErr result (Unchanged s.old.out s.new.out) }

@@ -156,11 +156,7 @@ impl<T: DeJson> ReadContent for OnePart<T> {
         false
     }
 
-    fn read(
-        alloc: Global,
-        state: &mut DeJsonState,
-        input: &mut Chars<'_>,
-    ) -> Result<T, DeJsonErr> {
+    fn read(alloc: Global, state: &mut DeJsonState, input: &mut Chars<'_>) -> Result<T, DeJsonErr> {
         match read_content::<InBrackets<T>>(alloc, state, input) {
             Ok(content) => Ok(content.part),
             Err(error) => Err(error),

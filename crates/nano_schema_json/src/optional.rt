@@ -6,7 +6,7 @@ ghost use Rattle.nano_schema_text.specs.StructLaws.{may_read};
 ghost use Rattle.nano_schema_json.specs.FieldsLaws.{may};
 ghost use Rattle.nano_schema_text.specs.SlotsLaws.{optional_skips};
 
-use crate::fields::{JsonRefs, JsonShape, JsonFields};
+use crate::fields::{JsonFields, JsonRefs, JsonShape};
 use crate::named::read_named;
 use crate::writer::append_field;
 use nano_json::{DeJson, DeJsonErr, DeJsonState, JsonCodec, SerJson, SerJsonState};

@@ -4,7 +4,7 @@ ghost use Rattle.nano_schema_text.specs.Fields.{others};
 ghost use Rattle.nano_schema_json.specs.FieldsLaws.{also};
 ghost use Rattle.nano_schema_text.specs.SlotsLaws.{both_skip};
 
-use crate::fields::{JsonRefs, JsonShape, JsonFields};
+use crate::fields::{JsonFields, JsonRefs, JsonShape};
 use nano_json::{DeJsonErr, DeJsonState, SerJsonState};
 use std::alloc::{AllocError, Global};
 use std::str::Chars;

@@ -1,8 +1,9 @@
 //! Named fields between curly brackets.
 
-ghost use Rattle.std.specs.Prelude.{◌≡◌, OnOk, OnErr};
+ghost use Rattle.std.specs.Prelude.{◌≡◌, [], OnOk, OnErr};
 ghost use Rattle.nano_schema_json.specs.FieldReading.{Allowed, EncodedField, DecodesField};
 ghost use Rattle.nano_schema_json.specs.FieldReadingLaws.{fields_of};
+ghost use Rattle.nano_schema_json.specs.ListReading.{HeldIsRead, NothingHeldIsRead};
 ghost use Rattle.nano_schema_json.specs.Punctuation.{is_str};
 ghost use Rattle.nano_json.specs.Readers.{Decodes, Rejects};
 ghost use Rattle.nano_json.specs.State.{at, ended, pending};
@@ -12,18 +13,6 @@ use crate::fields::JsonFields;
 use nano_json::{DeJsonErr, DeJsonState, DeJsonTok, end_on_error};
 use std::alloc::Global;
 use std::str::Chars;
-
-/// What is read so far of some fields, dropped where a later part is rejected.
-struct Slots<F: JsonFields> {
-    of: F::Slots,
-}
-
-impl<F: JsonFields> Drop for Slots<F> {
-    fn drop(self) {
-        let Slots { of } = self;
-        F::discard(of);
-    }
-}
 
 /// Reads named fields between curly brackets, in any order, with one comma between two and
 /// optionally one after the last. A field whose name is not known is skipped. If a name is
@@ -44,12 +33,12 @@ pub fn read_fields<F: JsonFields>(
     ensures rejected { Rejects (fields_of F.codec.struct).encodes (at state.old input.old) result }
     ensures ended { OnErr result (at state.new input.new ≡ ended) }
 {
-    let read = read_list::<F>(alloc, state, input);
+    let read = read_values::<F>(alloc, state, input);
     end_on_error(state, read)
 }
 
 /// Reads named fields between curly brackets. On an error, the state may be at any position.
-fn read_list<F: JsonFields>(
+fn read_values<F: JsonFields>(
     alloc: Global,
     state: &mut DeJsonState,
     input: &mut Chars<'_>,
@@ -58,15 +47,37 @@ fn read_list<F: JsonFields>(
         (at state.old input.old) (at state.new input.new) result }
     ensures rejected { Rejects (fields_of F.codec.struct).encodes (at state.old input.old) result }
 {
-    let mut slots: Slots<F> = Slots { of: F::empty() };
+    let mut slots = F::empty();
+    match read_list::<F>(&mut slots, alloc, state, input) {
+        Ok(()) => F::values(slots, alloc, state),
+        Err(error) => {
+            F::discard(slots);
+            Err(error)
+        }
+    }
+}
+
+/// Reads the fields between curly brackets into the slots, in place of earlier ones of their names.
+/// On an error, the state may be at any position.
+fn read_list<F: JsonFields>(
+    slots: &mut F::Slots,
+    alloc: Global,
+    state: &mut DeJsonState,
+    input: &mut Chars<'_>,
+) -> Result<(), DeJsonErr>
+    requires { F.holds slots.old [] }
+    ensures held { OnOk result (HeldIsRead F.codec.struct (F.holds slots.new)
+        (at state.old input.old) (at state.new input.new)) }
+    ensures nothing { OnOk result
+        (NothingHeldIsRead F.codec.struct (F.holds slots.new) (at state.old input.old)) }
+    ensures rejected { Rejects (fields_of F.codec.struct).encodes (at state.old input.old) result }
+{
     state.curly_open(alloc, input)?;
     'fields: while is_name(state) {
-        read_any::<F>(&mut slots.of, alloc, state, input)?;
+        read_any::<F>(slots, alloc, state, input)?;
         state.eat_comma_curly(alloc, input)?;
     }
-    state.curly_close(alloc, input)?;
-    let Slots { of } = slots;
-    F::values(of, alloc, state)
+    state.curly_close(alloc, input)
 }
 
 /// Reads the field whose name is pending, or skips it where the name is not known. The name is

@@ -5,7 +5,7 @@ ghost use Rattle.nano_schema_json.specs.FieldsLaws.{must};
 ghost use Rattle.nano_schema_text.specs.Slots.{Holds};
 ghost use Rattle.nano_schema_text.specs.SlotsLaws.{holds_skips};
 
-use crate::fields::{JsonRefs, JsonShape, JsonFields};
+use crate::fields::{JsonFields, JsonRefs, JsonShape};
 use crate::named::read_named;
 use crate::writer::append_field;
 use nano_json::{DeJson, DeJsonErr, DeJsonState, JsonCodec, SerJson, SerJsonState};

@@ -28,11 +28,7 @@ impl<P: DeJson> ReadContent for Tupled<P> {
         false
     }
 
-    fn read(
-        alloc: Global,
-        state: &mut DeJsonState,
-        input: &mut Chars<'_>,
-    ) -> Result<P, DeJsonErr> {
+    fn read(alloc: Global, state: &mut DeJsonState, input: &mut Chars<'_>) -> Result<P, DeJsonErr> {
         read_content(alloc, state, input)
     }
 }

@@ -151,23 +151,13 @@ pub fn read_fields_content<F: JsonFields>(
         (at state.old input.old) result }
     ensures ended { OnErr result (at state.new input.new ≡ ended) }
 {
-    let values: Values<F> = Values {
-        of: read_fields::<F>(alloc, state, input)?,
-    };
-    close_content(alloc, state, input)?;
-    let Values { of } = values;
-    Ok(of)
-}
-
-/// The values of some fields, dropped where what comes after them is rejected.
-struct Values<F: JsonFields> {
-    of: F::Values,
-}
-
-impl<F: JsonFields> Drop for Values<F> {
-    fn drop(self) {
-        let Values { of } = self;
-        F::discard_values(of);
+    let values = read_fields::<F>(alloc, state, input)?;
+    match close_content(alloc, state, input) {
+        Ok(()) => Ok(values),
+        Err(error) => {
+            F::discard_values(values);
+            Err(error)
+        }
     }
 }
 

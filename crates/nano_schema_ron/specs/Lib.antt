@@ -5,6 +5,7 @@ pub mod FieldsLaws
 pub mod Punctuation
 pub mod FieldReading
 pub mod FieldReadingLaws
+pub mod ListReading
 pub mod FieldTexts
 pub mod Variants
 pub mod VariantsLaws

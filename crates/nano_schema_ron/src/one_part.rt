@@ -36,11 +36,7 @@ impl<T: DeRon> ReadContent for OnePart<T> {
         false
     }
 
-    fn read(
-        alloc: Global,
-        state: &mut DeRonState,
-        input: &mut Chars<'_>,
-    ) -> Result<T, DeRonErr> {
+    fn read(alloc: Global, state: &mut DeRonState, input: &mut Chars<'_>) -> Result<T, DeRonErr> {
         read_one(alloc, state, input)
     }
 }

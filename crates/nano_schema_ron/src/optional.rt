@@ -6,7 +6,7 @@ ghost use Rattle.nano_schema_text.specs.StructLaws.{may_read};
 ghost use Rattle.nano_schema_ron.specs.FieldsLaws.{may};
 ghost use Rattle.nano_schema_text.specs.SlotsLaws.{optional_skips};
 
-use crate::fields::{RonRefs, RonShape, RonFields};
+use crate::fields::{RonFields, RonRefs, RonShape};
 use crate::named::read_named;
 use crate::writer::append_field;
 use nano_ron::{DeRon, DeRonErr, DeRonState, RonCodec, SerRon, SerRonState};

@@ -4,7 +4,7 @@ ghost use Rattle.nano_schema_text.specs.Fields.{others};
 ghost use Rattle.nano_schema_ron.specs.FieldsLaws.{also};
 ghost use Rattle.nano_schema_text.specs.SlotsLaws.{both_skip};
 
-use crate::fields::{RonRefs, RonShape, RonFields};
+use crate::fields::{RonFields, RonRefs, RonShape};
 use nano_ron::{DeRonErr, DeRonState, SerRonState};
 use std::alloc::{AllocError, Global};
 use std::str::Chars;

@@ -1,8 +1,9 @@
 //! Named fields between parentheses.
 
-ghost use Rattle.std.specs.Prelude.{◌≡◌, OnOk, OnErr};
+ghost use Rattle.std.specs.Prelude.{◌≡◌, [], OnOk, OnErr};
 ghost use Rattle.nano_schema_ron.specs.FieldReading.{Allowed, EncodedField, DecodesField};
 ghost use Rattle.nano_schema_ron.specs.FieldReadingLaws.{fields_of};
+ghost use Rattle.nano_schema_ron.specs.ListReading.{HeldIsRead, NothingHeldIsRead};
 ghost use Rattle.nano_schema_ron.specs.Punctuation.{is_ident};
 ghost use Rattle.nano_ron.specs.Readers.{Decodes, Rejects};
 ghost use Rattle.nano_ron.specs.State.{at, ended, pending};
@@ -12,18 +13,6 @@ use crate::fields::RonFields;
 use nano_ron::{DeRonErr, DeRonState, DeRonTok, end_on_error};
 use std::alloc::Global;
 use std::str::Chars;
-
-/// What is read so far of some fields, dropped where a later part is rejected.
-struct Slots<F: RonFields> {
-    of: F::Slots,
-}
-
-impl<F: RonFields> Drop for Slots<F> {
-    fn drop(self) {
-        let Slots { of } = self;
-        F::discard(of);
-    }
-}
 
 /// Reads named fields between parentheses, in any order, with one comma between two and
 /// optionally one after the last. If a name comes again, the last value counts; each must be
@@ -45,30 +34,51 @@ pub fn read_fields<F: RonFields>(
         (at state.old input.old) result }
     ensures ended { OnErr result (at state.new input.new ≡ ended) }
 {
-    let read = read_list::<F>(alloc, state, input);
+    let read = read_values::<F>(alloc, state, input);
     end_on_error(state, read)
 }
 
 /// Reads named fields between parentheses. On an error, the state may be anywhere.
-fn read_list<F: RonFields>(
+fn read_values<F: RonFields>(
     alloc: Global,
     state: &mut DeRonState,
     input: &mut Chars<'_>,
 ) -> Result<F::Values, DeRonErr>
     ensures decodes { Decodes (fields_of F.codec.struct).encodes F.codec.canonical.means
         (at state.old input.old) (at state.new input.new) result }
-    ensures rejected { Rejects (fields_of F.codec.struct).encodes
-        (at state.old input.old) result }
+    ensures rejected { Rejects (fields_of F.codec.struct).encodes (at state.old input.old) result }
 {
-    let mut slots: Slots<F> = Slots { of: F::empty() };
+    let mut slots = F::empty();
+    match read_list::<F>(&mut slots, alloc, state, input) {
+        Ok(()) => F::values(slots, alloc, state),
+        Err(error) => {
+            F::discard(slots);
+            Err(error)
+        }
+    }
+}
+
+/// Reads the fields between parentheses into the slots, in place of earlier ones of their names.
+/// On an error, the state may be anywhere.
+fn read_list<F: RonFields>(
+    slots: &mut F::Slots,
+    alloc: Global,
+    state: &mut DeRonState,
+    input: &mut Chars<'_>,
+) -> Result<(), DeRonErr>
+    requires { F.holds slots.old [] }
+    ensures held { OnOk result (HeldIsRead F.codec.struct (F.holds slots.new)
+        (at state.old input.old) (at state.new input.new)) }
+    ensures nothing { OnOk result
+        (NothingHeldIsRead F.codec.struct (F.holds slots.new) (at state.old input.old)) }
+    ensures rejected { Rejects (fields_of F.codec.struct).encodes (at state.old input.old) result }
+{
     state.paren_open(alloc, input)?;
     'fields: while is_name(state) {
-        read_any::<F>(&mut slots.of, alloc, state, input)?;
+        read_any::<F>(slots, alloc, state, input)?;
         state.eat_comma_paren(alloc, input)?;
     }
-    state.paren_close(alloc, input)?;
-    let Slots { of } = slots;
-    F::values(of, alloc, state)
+    state.paren_close(alloc, input)
 }
 
 /// Reads the field whose name is pending. It is rejected if the name is not known. The name is

@@ -5,7 +5,7 @@ ghost use Rattle.nano_schema_ron.specs.FieldsLaws.{must};
 ghost use Rattle.nano_schema_text.specs.Slots.{Holds};
 ghost use Rattle.nano_schema_text.specs.SlotsLaws.{holds_skips};
 
-use crate::fields::{RonRefs, RonShape, RonFields};
+use crate::fields::{RonFields, RonRefs, RonShape};
 use crate::named::read_named;
 use crate::writer::append_field;
 use nano_ron::{DeRon, DeRonErr, DeRonState, RonCodec, SerRon, SerRonState};

@@ -1,27 +1,48 @@
 //! The calls of `nano_schema_ron` that read and write a name, and content directly after it, on
 //! their own. `Message` makes such calls of `nano_schema_json`. Also the laws of fields.
 
+ghost use Rattle.std.specs.Prelude.{codes};
+
 use crate::type_checks::is_reported;
 use nano_ron::{DeRon, DeRonErr, DeRonState, SerRonState};
+use nano_schema::{Label, Required};
 use nano_schema_ron::{
-    Part, RequiredPart, read_variant_name, unknown_variant, write_fields_variant,
-    write_unit_variant, write_variant,
+    Part, read_variant_name, unknown_variant, write_fields_variant, write_unit_variant,
+    write_variant,
 };
 use std::alloc::{AllocError, Global};
 use std::test::Fail;
 
+/// The name `a`.
+#[derive(Drop)]
+struct A {}
+
+impl Label for A {
+    ghost label = { codes "a" };
+
+    fn text() -> &'static str {
+        "a"
+    }
+}
+
+/// The name `b`.
+#[derive(Drop)]
+struct B {}
+
+impl Label for B {
+    ghost label = { codes "b" };
+
+    fn text() -> &'static str {
+        "b"
+    }
+}
+
+type Fields = (Required<A, i32>, Required<B, String>);
+
 /// A variant with fields at a level.
 fn fields_at(alloc: Global, d: usize, s: &mut SerRonState) -> Result<(), AllocError> {
     let text = String::from_str(alloc, "qwe")?;
-    let a = RequiredPart {
-        name: "a",
-        value: &2i32,
-    };
-    let b = RequiredPart {
-        name: "b",
-        value: &text,
-    };
-    write_fields_variant(alloc, "C", &(a, b), d, s)
+    write_fields_variant::<Fields>("C", &(&2i32, &text), alloc, d, s)
 }
 
 #[test]

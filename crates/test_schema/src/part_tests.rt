@@ -1,31 +1,61 @@
-//! The calls by which the formats split user-defined types, read their fields and make them.
-//! Each is made once, over a struct and an enum, with what it returns.
+//! The calls by which the formats read and write the fields and the variants of a schema. Each is
+//! made once, over a struct and an enum, with what it returns.
+
+ghost use Rattle.std.specs.Prelude.{codes};
 
 use crate::type_checks::holds;
 use nano_schema::Label;
 use nano_schema_json::{
-    ReadContent as JsonContent, WriteFields as WriteJson, read_fields as read_json,
-    write_fields as write_json,
+    ReadContent as JsonContent, read_fields as read_json, write_fields as write_json,
 };
 use nano_schema_ron::{
-    ReadContent as RonContent, RonChoices, WriteFields as WriteRon, read_fields as read_ron,
-    write_fields as write_ron,
+    ReadContent as RonContent, RonChoices, read_fields as read_ron, write_fields as write_ron,
 };
 use nanoserde::records::{Choice, Item};
 use nanoserde::{
-    BinFields, BinRefs, ChoiceParts, DeBinErr, DeJsonState, DeJsonTok, DeRonState, DeRonTok,
-    Either, Fields2, FromNames, JsonFields, JsonRefs, JsonResult, Optional, Parts, Record,
-    Required, RonFields, RonRefs, RonResult, SerJsonState, SerRonState, fields2,
+    Alone, BinFields, BinRefs, ChoiceParts, DeBinErr, DeJsonState, DeJsonTok, DeRonState, DeRonTok,
+    Either, JsonFields, JsonRefs, JsonResult, Named, Optional, Parts, Record, Required, RonFields,
+    RonRefs, RonResult, SerJsonState, SerRonState, Variant,
 };
 use std::alloc::{AllocError, Global};
 use std::process::Abort;
 use std::str::Chars;
 
-type ItemFields = Fields2<Required<i32>, Optional<String>>;
+/// The name `value`.
+#[derive(Drop)]
+struct ValueName {}
+
+impl Label for ValueName {
+    ghost label = { codes "value" };
+
+    fn text() -> &'static str {
+        "value"
+    }
+}
+
+/// The name `note`.
+#[derive(Drop)]
+struct NoteName {}
+
+impl Label for NoteName {
+    ghost label = { codes "note" };
+
+    fn text() -> &'static str {
+        "note"
+    }
+}
+
+type ItemFields = (Required<ValueName, i32>, Optional<NoteName, String>);
+
+/// Variants under the same names.
+type Variants = (
+    Variant<ValueName, Alone>,
+    Variant<NoteName, Named<ItemFields>>,
+);
 
 /// An item, made of its values.
 fn item(alloc: Global) -> Result<Item, AllocError> {
-    Ok(Item::make(fields2(7, Some(String::from_str(alloc, "x")?))))
+    Ok(Item::make((7, Some(String::from_str(alloc, "x")?))))
 }
 
 /// Whether it is that item.
@@ -35,13 +65,6 @@ fn is_item(found: &Item) -> bool {
         Some(note) => *value == 7 && note.as_str() == "x",
         None => false,
     }
-}
-
-/// Whether the fields have their names.
-fn are_named() -> bool {
-    let fields = <Item as Record>::fields();
-    let others = ItemFields::of_names(fields2("a", "b"));
-    fields.0.name == "value" && fields.1.name == "note" && others.1.name == "b"
 }
 
 /// Whether the variant without content is made and seen as itself.
@@ -55,13 +78,12 @@ fn is_alone() -> bool {
 
 /// Whether exactly the variant without content stands alone, in both texts.
 fn stand_alone() -> bool {
-    let variants = <Choice as nanoserde::Choice>::variants();
-    let first = &variants.0.content;
-    let second = &variants.1.0.content;
-    let alone = JsonContent::stands_alone(first) && RonContent::stands_alone(first);
-    let other = JsonContent::stands_alone(second) || RonContent::stands_alone(second);
-    let named = variants.0.name.text() == "A" && variants.1.0.name.text() == "B";
-    alone && !other && named && RonChoices::stands_alone(&variants, "A")
+    let alone = <Alone as JsonContent>::stands_alone() && <Alone as RonContent>::stands_alone();
+    let json = <Named<ItemFields> as JsonContent>::stands_alone();
+    let ron = <Named<ItemFields> as RonContent>::stands_alone();
+    let other = <Variants as RonChoices>::stands_alone(NoteName::text());
+    let named = <Variants as RonChoices>::stands_alone(ValueName::text());
+    alone && named && !json && !ron && !other
 }
 
 #[test]
@@ -71,7 +93,6 @@ fn own_types_are_taken_apart(rt: HostRuntime) {
         item(rt.alloc()).is_ok_and(|made| is_item(&made)),
         "an item",
     );
-    holds(&rt, are_named(), "names");
     holds(&rt, is_alone(), "a variant");
     holds(&rt, stand_alone(), "variants");
 }
@@ -79,44 +100,41 @@ fn own_types_are_taken_apart(rt: HostRuntime) {
 /// The fields of the item as JSON, and whether none stands before the next.
 fn json_fields(alloc: Global) -> Result<(String, bool), AllocError> {
     let item = item(alloc)?;
-    let parts = JsonRefs::parts(&Item::fields(), item.as_refs());
     let mut state = SerJsonState {
         out: String::new(alloc),
     };
-    let first = WriteJson::append_fields(&parts, alloc, true, 1, &mut state)?;
+    let refs = item.as_refs();
+    let first = <ItemFields as JsonRefs>::append_fields(&refs, alloc, true, 1, &mut state)?;
     Ok((state.out, first))
 }
 
 /// The fields of the item as RON.
 fn ron_fields(alloc: Global) -> Result<String, AllocError> {
     let item = item(alloc)?;
-    let parts = RonRefs::parts(&Item::fields(), item.as_refs());
     let mut state = SerRonState {
         out: String::new(alloc),
     };
-    WriteRon::append_fields(&parts, alloc, 1, &mut state)?;
+    <ItemFields as RonRefs>::append_fields(&item.as_refs(), alloc, 1, &mut state)?;
     Ok(state.out)
 }
 
 /// The item between its brackets as JSON.
 fn json_struct(alloc: Global) -> Result<String, AllocError> {
     let item = item(alloc)?;
-    let parts = JsonRefs::parts(&Item::fields(), item.as_refs());
     let mut state = SerJsonState {
         out: String::new(alloc),
     };
-    write_json(alloc, &parts, 0, &mut state)?;
+    write_json::<ItemFields>(&item.as_refs(), alloc, 0, &mut state)?;
     Ok(state.out)
 }
 
 /// The item between its brackets as RON.
 fn ron_struct(alloc: Global) -> Result<String, AllocError> {
     let item = item(alloc)?;
-    let parts = RonRefs::parts(&Item::fields(), item.as_refs());
     let mut state = SerRonState {
         out: String::new(alloc),
     };
-    write_ron(alloc, &parts, 0, &mut state)?;
+    write_ron::<ItemFields>(&item.as_refs(), alloc, 0, &mut state)?;
     Ok(state.out)
 }
 
@@ -135,7 +153,7 @@ fn structs_are_appended(rt: HostRuntime) {
 fn bin_fields(alloc: Global) -> Result<Vec<u8>, AllocError> {
     let item = item(alloc)?;
     let mut output = Vec::new(alloc);
-    <ItemFields as BinRefs<'_>>::write(&item.as_refs(), alloc, &mut output)?;
+    <ItemFields as BinRefs>::write(&item.as_refs(), alloc, &mut output)?;
     Ok(output)
 }
 
@@ -177,7 +195,6 @@ fn fields_are_appended(rt: HostRuntime) {
 
 /// Reads the field whose name is pending.
 fn json_field<F: JsonFields>(
-    fields: &F,
     slots: &mut F::Slots,
     alloc: Global,
     state: &mut DeJsonState,
@@ -185,8 +202,8 @@ fn json_field<F: JsonFields>(
 ) -> JsonResult<()> {
     match state.tok {
         DeJsonTok::Str => {
-            if fields.knows(state.strbuf.as_str()) {
-                return fields.read_field(slots, alloc, state, input);
+            if F::knows(state.strbuf.as_str()) {
+                return F::read_field(slots, alloc, state, input);
             }
             Err(state.err_exp(alloc, state.strbuf.as_str()))
         }
@@ -200,18 +217,16 @@ fn json_item(alloc: Global, text: &str, count: usize) -> JsonResult<Item> {
     let mut state = DeJsonState::new(alloc);
     state.next(&mut input);
     state.next_tok(alloc, &mut input)?;
-    let fields = <Item as Record>::fields();
-    let mut slots = JsonFields::empty(&fields);
+    let mut slots = <ItemFields as JsonFields>::empty();
     for _ in 0..count {
-        json_field(&fields, &mut slots, alloc, &mut state, &mut input)?;
+        json_field::<ItemFields>(&mut slots, alloc, &mut state, &mut input)?;
         state.eat_comma_curly(alloc, &mut input)?;
     }
-    Ok(Item::make(JsonFields::values(&fields, slots, alloc, &state)?))
+    Ok(Item::make(<ItemFields as JsonFields>::values(slots, alloc, &state)?))
 }
 
 /// Reads the field whose name is pending.
 fn ron_field<F: RonFields>(
-    fields: &F,
     slots: &mut F::Slots,
     alloc: Global,
     state: &mut DeRonState,
@@ -219,8 +234,8 @@ fn ron_field<F: RonFields>(
 ) -> RonResult<()> {
     match state.tok {
         DeRonTok::Ident => {
-            if fields.knows(state.identbuf.as_str()) {
-                return fields.read_field(slots, alloc, state, input);
+            if F::knows(state.identbuf.as_str()) {
+                return F::read_field(slots, alloc, state, input);
             }
             Err(state.err_exp(alloc, state.identbuf.as_str()))
         }
@@ -234,13 +249,12 @@ fn ron_item(alloc: Global, text: &str, count: usize) -> RonResult<Item> {
     let mut state = DeRonState::new(alloc);
     state.next(&mut input);
     state.next_tok(alloc, &mut input)?;
-    let fields = <Item as Record>::fields();
-    let mut slots = RonFields::empty(&fields);
+    let mut slots = <ItemFields as RonFields>::empty();
     for _ in 0..count {
-        ron_field(&fields, &mut slots, alloc, &mut state, &mut input)?;
+        ron_field::<ItemFields>(&mut slots, alloc, &mut state, &mut input)?;
         state.eat_comma_paren(alloc, &mut input)?;
     }
-    Ok(Item::make(RonFields::values(&fields, slots, alloc, &state)?))
+    Ok(Item::make(<ItemFields as RonFields>::values(slots, alloc, &state)?))
 }
 
 /// The item of a text between its brackets.
@@ -249,7 +263,7 @@ fn json_item_of(alloc: Global, text: &str) -> JsonResult<Item> {
     let mut state = DeJsonState::new(alloc);
     state.next(&mut input);
     state.next_tok(alloc, &mut input)?;
-    let values = read_json(&<Item as Record>::fields(), alloc, &mut state, &mut input)?;
+    let values = read_json::<ItemFields>(alloc, &mut state, &mut input)?;
     Ok(Item::make(values))
 }
 
@@ -259,7 +273,7 @@ fn ron_item_of(alloc: Global, text: &str) -> RonResult<Item> {
     let mut state = DeRonState::new(alloc);
     state.next(&mut input);
     state.next_tok(alloc, &mut input)?;
-    let values = read_ron(&<Item as Record>::fields(), alloc, &mut state, &mut input)?;
+    let values = read_ron::<ItemFields>(alloc, &mut state, &mut input)?;
     Ok(Item::make(values))
 }
 

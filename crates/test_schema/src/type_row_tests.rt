@@ -1,8 +1,7 @@
-//! Fields are split into the parts that they were made of, and variants have their names.
+//! Rows of fields are split into the parts that they were made of.
 
-use example_types::Event;
 use nano_schema::{
-    Choice, fields3, fields4, fields6, fields7, fields8, into_fields3, into_fields4, into_fields6,
+    fields3, fields4, fields6, fields7, fields8, into_fields3, into_fields4, into_fields6,
     into_fields7, into_fields8,
 };
 
@@ -16,14 +15,4 @@ fn rows_are_taken_apart(rt: HostRuntime) {
     assert_eq!(rt; [a, b, c, d, e, f, g], [1, 2, 3, 4, 5, 6, 7]);
     let (a, b, c, d, e, f, g, h) = into_fields8(fields8(1u8, 2u8, 3u8, 4u8, 5u8, 6u8, 7u8, 8u8));
     assert_eq!(rt; [a, b, c, d, e, f, g, h], [1, 2, 3, 4, 5, 6, 7, 8]);
-}
-
-#[test]
-fn variants_have_their_names(rt: HostRuntime) {
-    let (stop, (step, say)) = Event::variants();
-    assert_eq!(rt;
-        [stop.name.text, step.name.text, say.name.text],
-        ["Stop", "Move", "Say"]
-    );
-    assert_eq!(rt; say.content.0.name, "text");
 }

@@ -8,10 +8,21 @@ ghost use Rattle.nano_schema_json.specs.Choice.{json_choice};
 ghost use Rattle.nano_schema_ron.specs.Choice.{ron_choice};
 ghost use Rattle.nanoserde.specs.declared.records.choice.Choice.TheVariants.{A, B, C};
 
-use nano_schema::{Alone, BorrowedChoices, Choice, ChoiceParts, Choices, Either, Label, Named, Required, Tupled, Value, Variant, known_choice};
-use nano_schema_bin::{BinCodec, BinShapes, DeBin, DeBinErr, SerBin, read_choice_bin, write_choice_bin};
-use nano_schema_json::{DeJson, DeJsonState, JsonCodec, JsonResult, JsonShapes, SerJson, SerJsonState, read_choice_json, write_choice_json};
-use nano_schema_ron::{DeRon, DeRonState, RonCodec, RonResult, RonShapes, SerRon, SerRonState, read_choice_ron, write_choice_ron};
+use nano_schema::{
+    Alone, BorrowedChoices, ChoiceParts, Choices, Either, Label, Named, Required, Tupled, Value,
+    Variant, known_choice,
+};
+use nano_schema_bin::{
+    BinCodec, BinShapes, DeBin, DeBinErr, SerBin, read_choice_bin, write_choice_bin,
+};
+use nano_schema_json::{
+    DeJson, DeJsonState, JsonCodec, JsonResult, JsonShapes, SerJson, SerJsonState,
+    read_choice_json, write_choice_json,
+};
+use nano_schema_ron::{
+    DeRon, DeRonState, RonCodec, RonResult, RonShapes, SerRon, SerRonState, read_choice_ron,
+    write_choice_ron,
+};
 use std::alloc::{AllocError, Global};
 use std::str::Chars;
 
@@ -91,15 +102,21 @@ impl Label for ChoiceCB {
     }
 }
 
-type ChoiceVariants = (Variant<ChoiceA, Alone>, (Variant<ChoiceB, Tupled<(i32, String)>>, Variant<ChoiceC, Named<(Required<ChoiceCA, i32>, Required<ChoiceCB, String>)>>));
+type ChoiceVariants = (
+    Variant<ChoiceA, Alone>,
+    (
+        Variant<ChoiceB, Tupled<(i32, String)>>,
+        Variant<ChoiceC, Named<(Required<ChoiceCA, i32>, Required<ChoiceCB, String>)>>,
+    ),
+);
 
-impl Choice for Choice {
+impl nano_schema::Choice for Choice {
     type Values = Either<(), Either<(i32, String), (i32, String)>>;
 
     ghost view = { λ e. elim e [
-        | A ↦ First tt
-        | B number text ↦ Later (First (number, text))
-        | C a b ↦ Later (Later ((a, b)))
+      | A ↦ First tt
+      | B number text ↦ Later (First (number, text))
+      | C a b ↦ Later (Later ((a, b)))
     ] };
 
     fn make(values: Either<(), Either<(i32, String), (i32, String)>>) -> Choice {
@@ -131,7 +148,7 @@ impl<'a> ChoiceParts<'a> for Choice {
 }
 
 impl Value for Choice {
-    ghost means = { λ e. ⟦<ChoiceVariants as Choices>⟧.means 0 (⟦<Choice as Choice>⟧.view e) };
+    ghost means = { λ e. ⟦<ChoiceVariants as Choices>⟧.means 0 (⟦<Choice as nano_schema::Choice>⟧.view e) };
 
     ghost legal = { LegalVariant ⟦<ChoiceVariants as Choices>⟧.legals };
 
@@ -143,7 +160,7 @@ impl Value for Choice {
 // ---- bytes
 
 impl BinCodec for Choice {
-    ghost bin = { bin_choice ⟦<Choice as Choice>⟧.view ⟦<ChoiceVariants as BinShapes>⟧.chosen refl };
+    ghost bin = { bin_choice ⟦<Choice as nano_schema::Choice>⟧.view ⟦<ChoiceVariants as BinShapes>⟧.chosen refl };
 
     ghost agrees = { agreed };
 }
@@ -165,7 +182,7 @@ impl DeBin for Choice {
 // ---- JSON
 
 impl JsonCodec for Choice {
-    ghost json = { json_choice ⟦<Choice as Choice>⟧.view ⟦<ChoiceVariants as JsonShapes>⟧.codec refl refl refl };
+    ghost json = { json_choice ⟦<Choice as nano_schema::Choice>⟧.view ⟦<ChoiceVariants as JsonShapes>⟧.codec refl refl refl };
 
     ghost agrees = { agreed };
 }
@@ -185,7 +202,7 @@ impl DeJson for Choice {
 // ---- RON
 
 impl RonCodec for Choice {
-    ghost ron = { ron_choice ⟦<Choice as Choice>⟧.view ⟦<ChoiceVariants as RonShapes>⟧.codec refl refl refl };
+    ghost ron = { ron_choice ⟦<Choice as nano_schema::Choice>⟧.view ⟦<ChoiceVariants as RonShapes>⟧.codec refl refl refl };
 
     ghost agrees = { agreed };
 }

@@ -6,7 +6,7 @@ ghost use Rattle.nano_schema_bin.specs.Record.{bin_of};
 ghost use Rattle.nano_schema_json.specs.Record.{json_of};
 ghost use Rattle.nano_schema_ron.specs.Record.{ron_of};
 
-use nano_schema::{Label, Record, Required, Value};
+use nano_schema::{Label, Parts, Record, Required, Value};
 use nano_schema_bin::{BinCodec, DeBin, DeBinErr, SerBin, read_record_bin};
 use nano_schema_json::{
     DeJson, DeJsonState, JsonCodec, JsonResult, JsonShape, SerJson, SerJsonState, read_record_json,
@@ -45,6 +45,16 @@ impl<T> Record for Holder<T> {
 
     fn make(values: T) -> Holder<T> {
         Holder { x: values }
+    }
+}
+
+impl<'a, T: 'a> Parts<'a> for Holder<T> {
+    type Refs = &'a T;
+
+    ghost values = { λ r. r.now };
+
+    fn as_refs(&'a self) -> &'a T {
+        &self.x
     }
 }
 
@@ -91,7 +101,7 @@ impl<T: JsonCodec> JsonCodec for Holder<T> {
 
 impl<T: SerJson> SerJson for Holder<T> {
     fn ser_json(&self, alloc: Global, d: usize, s: &mut SerJsonState) -> Result<(), AllocError> {
-        write_record_json::<Required<HolderX, T>>(&&self.x, alloc, d, s)
+        write_record_json::<Holder<T>, Required<HolderX, T>>(self, alloc, d, s)
     }
 }
 
@@ -112,7 +122,7 @@ impl<T: RonCodec> RonCodec for Holder<T> {
 
 impl<T: SerRon> SerRon for Holder<T> {
     fn ser_ron(&self, alloc: Global, d: usize, s: &mut SerRonState) -> Result<(), AllocError> {
-        write_record_ron::<Required<HolderX, T>>(&&self.x, alloc, d, s)
+        write_record_ron::<Holder<T>, Required<HolderX, T>>(self, alloc, d, s)
     }
 }
 

@@ -7,9 +7,17 @@ ghost use Rattle.nano_schema_json.specs.Record.{json_of};
 ghost use Rattle.nano_schema_ron.specs.Record.{ron_of};
 
 use nano_schema::{Borrowed, Label, Optional, Parts, Record, Required, Shape, Value, known_record};
-use nano_schema_bin::{BinCodec, BinShape, DeBin, DeBinErr, SerBin, read_record_bin, write_record_bin};
-use nano_schema_json::{DeJson, DeJsonState, JsonCodec, JsonResult, JsonShape, SerJson, SerJsonState, read_record_json, write_record_json};
-use nano_schema_ron::{DeRon, DeRonState, RonCodec, RonResult, RonShape, SerRon, SerRonState, read_record_ron, write_record_ron};
+use nano_schema_bin::{
+    BinCodec, BinShape, DeBin, DeBinErr, SerBin, read_record_bin, write_record_bin,
+};
+use nano_schema_json::{
+    DeJson, DeJsonState, JsonCodec, JsonResult, JsonShape, SerJson, SerJsonState, read_record_json,
+    write_record_json,
+};
+use nano_schema_ron::{
+    DeRon, DeRonState, RonCodec, RonResult, RonShape, SerRon, SerRonState, read_record_ron,
+    write_record_ron,
+};
 use std::alloc::{AllocError, Global};
 use std::str::Chars;
 

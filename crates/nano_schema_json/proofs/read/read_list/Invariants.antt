@@ -9,7 +9,7 @@ use Rattle.nano_schema_json.proofs.read.read_list.Given as goal
 abbrev pub invariant-fields : goal.invariant-fields
 invariant-fields g l =
     FieldsSoFar json_fields json_laws g.F.JsonFields.codec.struct
-    (g.F.JsonFields.holds l.slots.of) (at l.fn.state l.fn.input) (at l.state l.input)
+    (g.F.JsonFields.holds l.slots) (at l.fn.state l.fn.input) (at l.state l.input)
 
 abbrev pub decreases-fields : goal.decreases-fields
 decreases-fields g l = tokens_left json_laws.is_end (at l.state l.input)

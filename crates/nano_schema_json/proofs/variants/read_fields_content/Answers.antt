@@ -4,25 +4,24 @@ use Rattle.nano_schema_json.specs.FieldReadingLaws.{fields_of}
 use Rattle.nano_schema_json.proofs.VariantReaders.{closed_found, content_rejected, closing_rejected}
 use Rattle.nano_schema_json.proofs.variants.read_fields_content.Goals as goal
 
-pub returns-clause-decodes : goal.returns-clause-decodes
-returns-clause-decodes g c =
+pub returns-in-Ok-clause-decodes : goal.returns-in-Ok-clause-decodes
+returns-in-Ok-clause-decodes g c =
     let encoding = fields_of g.F.JsonFields.codec.struct in
     closed_found (at c.args.state.now c.args.input.now) encoding.encodes
     (at c.read_fields.new.state c.read_fields.new.input)
     (at c.close_content.new.state c.close_content.new.input)
     (g.F.JsonFields.codec.canonical.means c.in_ok-values.values) c.in_ok-values.ensures.decodes
-    c.in_ok-close_content.ensures.taken
+    c.in-Ok.ensures.taken
 
-pub returns-in_err-close_content-clause-rejected : goal.returns-in_err-close_content-clause-rejected
-returns-in_err-close_content-clause-rejected g c =
-    let p = err_from_is_err_and c.from_residual-in_err-close_content.result c.from_residual-in_err-close_content.ensures.1 in
+pub returns-in-Err-clause-rejected : goal.returns-in-Err-clause-rejected
+returns-in-Err-clause-rejected g c =
     let encoding = fields_of g.F.JsonFields.codec.struct in
     let none =
     closing_rejected (at c.args.state.now c.args.input.now) encoding
     (at c.read_fields.new.state c.read_fields.new.input)
     (g.F.JsonFields.codec.canonical.means c.in_ok-values.values) c.in_ok-values.ensures.decodes in
-    let error = c.in_err-close_content.ensures.rejected in
-    rw (p.1, p.2) (λ known. none (error.0 known), error.1)
+    let error = c.in-Err.ensures.rejected in
+    (λ known. none (error.0 known), error.1)
 
 pub returns-in_err-values-clause-rejected : goal.returns-in_err-values-clause-rejected
 returns-in_err-values-clause-rejected g c =

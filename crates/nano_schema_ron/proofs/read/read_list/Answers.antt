@@ -1,5 +1,5 @@
 use Rattle.std.proofs.Common.{sym}
-use Rattle.std.proofs.lemmas.Result.{err_from_is_err_and, IfErr-weaker, IfOk-weaker}
+use Rattle.std.proofs.lemmas.Result.{err_from_is_err_and, IfErr-weaker, on_ok_weaker}
 use Rattle.nano_schema_text.proofs.StructReading.{fields_start, field_shorter, fields_next}
 use Rattle.nano_schema_text.proofs.StructReading.{struct_open_rejected, struct_field_rejected}
 use Rattle.nano_schema_text.proofs.StructReading.{struct_comma_rejected, struct_close_rejected}
@@ -22,16 +22,16 @@ returns-in_err-paren_open-clause-rejected g c =
 pub fields-init : goal.fields-init
 fields-init g c =
     let struct = g.F.RonFields.codec.struct in
-    let holds = g.F.RonFields.holds c.empty.result in
+    let holds = g.F.RonFields.holds c.args.slots.now in
     fields_start ron_fields ron_laws struct holds (at c.args.state.now c.args.input.now)
     (at c.paren_open.new.self c.paren_open.new.i) c.in_ok-paren_open.ensures.taken
-    c.empty.ensures
+    c.requires
 
 pub returns-in_err-read_any-clause-rejected : goal.returns-in_err-read_any-clause-rejected
 returns-in_err-read_any-clause-rejected g c =
     let p = err_from_is_err_and c.from_residual-in_err-read_any.result c.from_residual-in_err-read_any.ensures.1 in
     let struct = g.F.RonFields.codec.struct in
-    let holds = g.F.RonFields.holds c.fields.slots.of in
+    let holds = g.F.RonFields.holds c.fields.slots in
     let goes_on = name_goes_on (pending c.fields.state) (sym c.fields-test.ensures) in
     let none =
     struct_field_rejected ron_fields ron_laws struct holds
@@ -52,7 +52,7 @@ pub fields-preserved : goal.fields-preserved
 fields-preserved g c =
     let goes_on = name_goes_on (pending c.fields.state) (sym c.fields-test.ensures) in
     fields_next ron_fields ron_laws (g.F.RonFields.codec.struct)
-    (g.F.RonFields.holds c.fields.slots.of)
+    (g.F.RonFields.holds c.fields.slots)
     (g.F.RonFields.holds c.read_any.new.slots)
     (at c.args.state.now c.args.input.now) (at c.fields.state c.fields.input)
     (at c.read_any.new.state c.read_any.new.input)
@@ -64,7 +64,7 @@ returns-in_err-eat_comma_paren-clause-rejected g c =
     let p = err_from_is_err_and c.from_residual-in_err-eat_comma_paren.result c.from_residual-in_err-eat_comma_paren.ensures.1 in
     let read = c.in_ok-read_any.ensures.decodes in
     let struct = g.F.RonFields.codec.struct in
-    let holds = g.F.RonFields.holds c.fields.slots.of in
+    let holds = g.F.RonFields.holds c.fields.slots in
     let goes_on = name_goes_on (pending c.fields.state) (sym c.fields-test.ensures) in
     let none =
     struct_comma_rejected ron_fields ron_laws struct holds
@@ -73,36 +73,32 @@ returns-in_err-eat_comma_paren-clause-rejected g c =
     let error = c.in_err-eat_comma_paren.ensures.rejected in
     rw (p.1, p.2) (λ known. none (error.0 known), error.1.0)
 
-pub returns-in_err-paren_close-clause-rejected : goal.returns-in_err-paren_close-clause-rejected
-returns-in_err-paren_close-clause-rejected g c =
-    let p = err_from_is_err_and c.from_residual-in_err-paren_close.result c.from_residual-in_err-paren_close.ensures.1 in
+pub returns-clause-rejected : goal.returns-clause-rejected
+returns-clause-rejected g c =
     let struct = g.F.RonFields.codec.struct in
-    let holds = g.F.RonFields.holds c.fields.slots.of in
+    let holds = g.F.RonFields.holds c.fields.slots in
     let no_name = no_name_pending (pending c.fields.state) (sym c.fields-test.ensures) in
     let none =
     struct_close_rejected ron_fields ron_laws struct holds
     (at c.args.state.now c.args.input.now) (at c.fields.state c.fields.input)
     c.fields.invariant no_name (closes_or_not (pending c.fields.state)) in
-    let error = c.in_err-paren_close.ensures.rejected in
-    rw (p.1, p.2) (λ known. none (error.0 known), error.1.0)
+    IfErr-weaker c.paren_close.result _ _ (λ e reported. (λ known. none (reported.0 known), reported.1.0))
+    c.paren_close.ensures.rejected
 
-pub returns-clause-decodes : goal.returns-clause-decodes
-returns-clause-decodes g c =
+pub returns-clause-held : goal.returns-clause-held
+returns-clause-held g c =
     let struct = g.F.RonFields.codec.struct in
-    let holds = g.F.RonFields.holds c.fields.slots.of in
-    IfOk-weaker c.values.result _ _ (λ v h.
+    let holds = g.F.RonFields.holds c.fields.slots in
+    on_ok_weaker c.paren_close.result (λ taken m means.
     struct_found ron_fields ron_laws struct holds (at c.args.state.now c.args.input.now)
     (at c.fields.state c.fields.input) c.fields.invariant
-    (at c.paren_close.new.self c.paren_close.new.i) c.in_ok-paren_close.ensures.taken
-    (g.F.RonFields.codec.canonical.means v) h) c.values.ensures.all
+    (at c.paren_close.new.self c.paren_close.new.i) taken m means) c.paren_close.ensures.taken
 
-pub returns-clause-rejected : goal.returns-clause-rejected
-returns-clause-rejected g c =
+pub returns-clause-nothing : goal.returns-clause-nothing
+returns-clause-nothing g c =
     let struct = g.F.RonFields.codec.struct in
-    let holds = g.F.RonFields.holds c.fields.slots.of in
-    let none =
+    let holds = g.F.RonFields.holds c.fields.slots in
+    on_ok_weaker c.paren_close.result (λ taken.
     struct_missing ron_fields ron_laws struct holds (at c.args.state.now c.args.input.now)
     (at c.fields.state c.fields.input) c.fields.invariant
-    (at c.paren_close.new.self c.paren_close.new.i) c.in_ok-paren_close.ensures.taken in
-    IfErr-weaker c.values.result _ _ (λ e reported. (λ known. none (reported.0 known), reported.1))
-    c.values.ensures.missing
+    (at c.paren_close.new.self c.paren_close.new.i) taken) c.paren_close.ensures.taken

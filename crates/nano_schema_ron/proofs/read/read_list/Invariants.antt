@@ -9,7 +9,7 @@ use Rattle.nano_schema_ron.proofs.read.read_list.Given as goal
 abbrev pub invariant-fields : goal.invariant-fields
 invariant-fields g l =
     FieldsSoFar ron_fields ron_laws (g.F.RonFields.codec.struct)
-    (g.F.RonFields.holds l.slots.of) (at l.fn.state l.fn.input) (at l.state l.input)
+    (g.F.RonFields.holds l.slots) (at l.fn.state l.fn.input) (at l.state l.input)
 
 abbrev pub decreases-fields : goal.decreases-fields
 decreases-fields g l = tokens_left ron_laws.is_end (at l.state l.input)
