@@ -1,7 +1,7 @@
 //! A message: its schema, and bytes.
 
 ghost use Rattle.std.specs.Prelude.{codes, refl};
-ghost use Rattle.nano_schema.specs.Rows.{agreed, LegalVariant};
+ghost use Rattle.nano_schema.specs.UserTypes.{agreed, LegalVariant};
 ghost use Rattle.nano_schema.specs.declared.choices.Either.TheVariants.{First, Later};
 ghost use Rattle.nano_schema_bin.specs.Choice.{bin_choice};
 ghost use Rattle.example_messages.specs.declared.message.Message.TheVariants.{Leave, Move, Say};

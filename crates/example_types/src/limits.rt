@@ -2,7 +2,7 @@
 //! carries none of what a map asks of its keys and values, so its check is short.
 
 ghost use Rattle.std.specs.Prelude.{refl};
-ghost use Rattle.nano_schema.specs.Rows.{agreed};
+ghost use Rattle.nano_schema.specs.UserTypes.{agreed};
 ghost use Rattle.nano_bin.specs.Codec.{codec_as};
 ghost use Rattle.nano_json.specs.Codec.{codec_as as json_as};
 ghost use Rattle.nano_ron.specs.Codec.{codec_as as ron_as};

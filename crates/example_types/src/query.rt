@@ -1,7 +1,7 @@
 //! A struct that is only read: it has its formats, and no writer.
 
 ghost use Rattle.std.specs.Prelude.{codes, refl};
-ghost use Rattle.nano_schema.specs.Rows.{agreed};
+ghost use Rattle.nano_schema.specs.UserTypes.{agreed};
 ghost use Rattle.nano_schema_bin.specs.Record.{bin_of};
 ghost use Rattle.nano_schema_json.specs.Record.{json_of};
 

@@ -1,7 +1,7 @@
 //! An enum with one part, three and four: its schema, and then bytes, JSON and RON.
 
 ghost use Rattle.std.specs.Prelude.{codes, refl};
-ghost use Rattle.nano_schema.specs.Rows.{agreed, LegalVariant};
+ghost use Rattle.nano_schema.specs.UserTypes.{agreed, LegalVariant};
 ghost use Rattle.nano_schema.specs.declared.choices.Either.TheVariants.{First, Later};
 ghost use Rattle.nano_schema_bin.specs.Choice.{bin_choice};
 ghost use Rattle.nano_schema_json.specs.Choice.{json_choice};

@@ -2,7 +2,7 @@
 //! names it carries none of what a map and a list ask of their parts, so its check is short.
 
 ghost use Rattle.std.specs.Prelude.{refl};
-ghost use Rattle.nano_schema.specs.Rows.{agreed};
+ghost use Rattle.nano_schema.specs.UserTypes.{agreed};
 ghost use Rattle.nano_bin.specs.Codec.{codec_as};
 ghost use Rattle.nano_json.specs.Codec.{codec_as as json_as};
 ghost use Rattle.nano_ron.specs.Codec.{codec_as as ron_as};

@@ -12,7 +12,8 @@ pub use Rattle.nano_ron.specs.Codec as RonCodec
 pub use Rattle.nano_ron.specs.Readers as RonReaders
 pub use Rattle.nano_grammar.specs.Whole as TextWhole
 -- user-defined types
-pub use Rattle.nano_schema.specs.Rows
+pub use Rattle.nano_schema.specs.UserTypes
+pub use Rattle.nano_schema.specs.Views
 pub use Rattle.nano_schema.specs.Choices
 pub use Rattle.nano_schema_bin.specs.Record as BinRecord
 pub use Rattle.nano_schema_bin.specs.Choice as BinChoice

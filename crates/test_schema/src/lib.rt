@@ -19,5 +19,3 @@ mod record_tests;
 mod ron_tests;
 #[cfg(test)]
 mod type_checks;
-#[cfg(test)]
-mod type_row_tests;

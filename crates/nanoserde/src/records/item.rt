@@ -1,7 +1,7 @@
 //! A struct with a field that may be missing, in bytes, in JSON and in RON.
 
 ghost use Rattle.std.specs.Prelude.{codes, refl};
-ghost use Rattle.nano_schema.specs.Rows.{agreed};
+ghost use Rattle.nano_schema.specs.UserTypes.{agreed};
 ghost use Rattle.nano_schema_bin.specs.Record.{bin_of};
 ghost use Rattle.nano_schema_json.specs.Record.{json_of};
 ghost use Rattle.nano_schema_ron.specs.Record.{ron_of};
