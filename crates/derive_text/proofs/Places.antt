@@ -3,7 +3,7 @@ use Rattle.std.proofs.Common.{subst, chars, ◌≡◌, ◌≢◌, ℕ, ◌+◌, 
 use Rattle.std.proofs.lemmas.List.{reverse-append, length-append, length-reverse, length-take}
 use Rattle.std.proofs.lemmas.Str.{length-le-encodes, chars-encodes}
 use Rattle.std.specs.Str.{IsUtf8}
-use Rattle.std.proofs.Common.{encodes}
+use Rattle.std.specs.Prelude.{encode_utf8_all}
 use Rattle.std.proofs.lemmas.List.Elements.{filter-append}
 use Rattle.derive_text.specs.Place.{is_line_feed}
 use Rattle.derive_text.specs.Place.{line_of, column_of}
@@ -45,5 +45,5 @@ column_fits seen all column more e fits =
 pub length_chars : (bs : List ℕ) → IsUtf8 bs → length (chars bs) ≤ length bs
 length_chars bs (cs, (ok, e)) =
     let P : List ℕ → Type 0 = λ b. length (chars b) ≤ length b in
-    let one : length (chars (encodes cs)) ≤ length (encodes cs) = rw (chars-encodes cs ok) (length-le-encodes cs) in
+    let one : length (chars (encode_utf8_all cs)) ≤ length (encode_utf8_all cs) = rw (chars-encodes cs ok) (length-le-encodes cs) in
     subst P e one

@@ -77,10 +77,10 @@ fn append_definition<'a>(
     let heading = codec.heading;
     sheet.line(format!(in alloc; "\n// ---- {heading}\n")?.as_str())?;
     sheet.line(target.head(alloc, trait_name, trait_name)?.as_str())?;
-    sheet.member(codec.member, term.as_str())?;
+    sheet.member(alloc, codec.member, term.as_str())?;
     sheet.line("")?;
     sheet.import("ghost use Rattle.nano_schema.specs.Names.{agreed};")?;
-    sheet.member("agrees", "agreed")?;
+    sheet.member(alloc, "agrees", "agreed")?;
     Ok(sheet.line("}")?)
 }
 
@@ -118,7 +118,7 @@ fn append_reader<'a>(
     sheet.line(target.head(alloc, codec.de, codec.de)?.as_str())?;
     if codec.says_decodable {
         sheet.import("ghost use Rattle.std.specs.Prelude.{refl};")?;
-        sheet.member("is_decodable", "refl")?;
+        sheet.member(alloc, "is_decodable", "refl")?;
         sheet.line("")?;
     }
     sheet.line(codec.reader)?;

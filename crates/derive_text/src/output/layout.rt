@@ -5,10 +5,6 @@ use std::alloc::{AllocError, Global};
 
 /// How many columns a line has.
 pub(crate) const COLUMNS: usize = 100;
-/// How many columns the arguments of a call have on one line.
-pub(crate) const CALL: usize = 60;
-/// How many columns the fields of a struct have on one line.
-pub(crate) const STRUCT: usize = 18;
 /// How many columns an argument has that need not stand on a line of its own.
 const SHORT: usize = 10;
 /// How far a line is indented within another.
@@ -23,6 +19,30 @@ pub(crate) struct Piece {
     pub(crate) laid: String,
 }
 
+/// What the items of a list are.
+#[derive(Clone, Copy, PartialEq)]
+pub(crate) enum Items {
+    /// Values of a tuple, or arguments of a call.
+    Values,
+    /// Types of a tuple.
+    Types,
+    /// Patterns, or arguments of a type.
+    Patterns,
+    /// Fields of a struct.
+    Fields,
+}
+
+impl Items {
+    /// How many columns they have on one line.
+    fn most(self) -> usize {
+        match self {
+            Items::Values | Items::Types => 60,
+            Items::Patterns => COLUMNS,
+            Items::Fields => 18,
+        }
+    }
+}
+
 /// What stands around a list, and where.
 #[derive(Clone, Copy)]
 pub(crate) struct Brackets<'a> {
@@ -30,8 +50,8 @@ pub(crate) struct Brackets<'a> {
     pub(crate) open: &'a str,
     /// What closes it.
     pub(crate) close: &'a str,
-    /// How many columns its items have on one line.
-    pub(crate) most: usize,
+    /// What its items are.
+    pub(crate) items: Items,
     /// How far the line is indented on which it begins.
     pub(crate) indent: usize,
     /// How many columns of that line come before it.
@@ -48,14 +68,6 @@ impl Piece {
             laid: String::from_str(alloc, text)?,
         })
     }
-
-    /// The same part once more.
-    pub(crate) fn copy(alloc: Global, piece: &Piece) -> Result<Piece, AllocError> {
-        Ok(Piece {
-            flat: String::from_str(alloc, piece.flat.as_str())?,
-            laid: String::from_str(alloc, piece.laid.as_str())?,
-        })
-    }
 }
 
 /// A list: each item was laid for a line that is indented by one step more.
@@ -70,9 +82,9 @@ pub(crate) fn list(
     let whole = width
         .saturating_add(brackets.before)
         .saturating_add(brackets.after);
-    let laid = if width.saturating_sub(around) <= brackets.most && whole <= COLUMNS {
+    let laid = if width.saturating_sub(around) <= brackets.items.most() && whole <= COLUMNS {
         flat.clone()?
-    } else if brackets.most == CALL && are_short(items) {
+    } else if brackets.items == Items::Values && are_short(items) {
         filled(alloc, brackets, items)?
     } else {
         in_lines(alloc, brackets, items)?
@@ -86,7 +98,11 @@ pub(crate) fn width(text: &str) -> usize {
 }
 
 fn width_of_brackets(brackets: Brackets<'_>) -> usize {
-    let spaces = if brackets.most == STRUCT { 2 } else { 0 };
+    let spaces = if brackets.items == Items::Fields {
+        2
+    } else {
+        0
+    };
     width(brackets.open)
         .saturating_add(width(brackets.close))
         .saturating_add(spaces)
@@ -94,7 +110,11 @@ fn width_of_brackets(brackets: Brackets<'_>) -> usize {
 
 /// The list on one line.
 fn in_line(alloc: Global, brackets: Brackets<'_>, items: &[Piece]) -> Result<String, AllocError> {
-    let space = if brackets.most == STRUCT { " " } else { "" };
+    let space = if brackets.items == Items::Fields {
+        " "
+    } else {
+        ""
+    };
     let mut output = String::from_str(alloc, brackets.open)?;
     output.push_str(space)?;
     let mut comma = "";

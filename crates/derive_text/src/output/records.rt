@@ -3,8 +3,8 @@
 use crate::check::encoded_name;
 use crate::fault::Fault;
 use crate::output::codecs::{Kind, append_codecs};
-use crate::output::layout::{Brackets, CALL, COLUMNS, Piece, STRUCT, list};
-use crate::output::rows::{ghost_pairs, pairs};
+use crate::output::layout::{Brackets, Items, Piece, list};
+use crate::output::rows::{Leaf, ghost_pairs, pairs};
 use crate::output::sheet::Sheet;
 use crate::output::target::Target;
 use crate::output::types::field_type;
@@ -18,7 +18,9 @@ pub(crate) fn append_record<'a>(
     target: &Target<'a>,
     fields: &[Field<'a>],
 ) -> Result<(), Fault> {
-    sheet.import("ghost use Rattle.nano_schema.specs.Names.{schema_of, names, one_name};")?;
+    sheet.import(
+        "ghost use Rattle.nano_schema.specs.Names.{schema_of, names, one_name, fields2_of};",
+    )?;
     append_row(alloc, sheet, target, fields)?;
     append_schema(alloc, sheet, target, fields)?;
     append_references(alloc, sheet, target, fields)?;
@@ -39,7 +41,7 @@ fn append_row<'a>(
     }
     let name = target.row.as_str();
     let start = format!(in alloc; "type {name} = ")?;
-    let row = pairs(alloc, &types, COLUMNS, 0, start.len())?;
+    let row = pairs(alloc, &types, Items::Types, 0, start.len())?;
     sheet.line("")?;
     sheet.line(format!(in alloc; "{start}{};", row.laid.as_str())?.as_str())?;
     Ok(())
@@ -62,7 +64,7 @@ fn append_schema<'a>(
     sheet.line(format!(in alloc; "    type Fields = {row};\n")?.as_str())?;
     append_view(alloc, sheet, fields)?;
     let texts = quoted_names(alloc, fields)?;
-    let names = pairs(alloc, &texts, CALL, 8, 27)?;
+    let names = pairs(alloc, &texts, Items::Values, 8, 27)?;
     sheet.line(format!(in alloc; "\n    fn fields() -> {row} {{")?.as_str())?;
     sheet.line(format!(in alloc; "        nano_schema::named({})", names.laid.as_str())?.as_str())?;
     sheet.line("    }\n")?;
@@ -80,30 +82,37 @@ fn append_view<'a>(alloc: Global, sheet: &mut Sheet, fields: &[Field<'a>]) -> Re
         values.push(format!(in alloc; "x.{}", field.name.text)?)?;
     }
     let names = ghost_pairs(alloc, &names, "names")?;
-    let values = ghost_pairs(alloc, &values, "")?;
+    let values = ghost_pairs(alloc, &values, "fields2_of")?;
     let term = format!(in alloc; "schema_of {names} (λ x. {values})")?;
-    Ok(sheet.member("schema", term.as_str())?)
+    Ok(sheet.member(alloc, "schema", term.as_str())?)
 }
 
 /// The names under which the fields are encoded, in quotes.
-fn quoted_names<'a>(alloc: Global, fields: &[Field<'a>]) -> Result<Vec<Piece>, Fault> {
+fn quoted_names<'a>(alloc: Global, fields: &[Field<'a>]) -> Result<Vec<Leaf>, Fault> {
     let mut names = Vec::new(alloc);
     for field in fields {
         let name = encoded_name(field.name, field.attributes).quoted();
-        let text = format!(in alloc; "\"{name}\"")?;
-        names.push(Piece::of(alloc, text.as_str())?)?;
+        names.push(leaf(format!(in alloc; "\"{name}\"")?))?;
     }
     Ok(names)
 }
 
-/// The names of the fields.
-fn field_names<'a>(alloc: Global, fields: &[Field<'a>], before: &str) -> Result<Vec<Piece>, Fault> {
+/// The names of the fields, each after some text.
+fn field_names<'a>(alloc: Global, fields: &[Field<'a>], before: &str) -> Result<Vec<Leaf>, Fault> {
     let mut names = Vec::new(alloc);
     for field in fields {
-        let text = format!(in alloc; "{before}{}", field.name.text)?;
-        names.push(Piece::of(alloc, text.as_str())?)?;
+        names.push(leaf(format!(in alloc; "{before}{}", field.name.text)?))?;
     }
     Ok(names)
+}
+
+/// A text without brackets.
+fn leaf(text: String) -> Leaf {
+    Leaf {
+        open: "",
+        text,
+        close: "",
+    }
 }
 
 /// Appends the function that makes a struct of the values of its fields.
@@ -113,13 +122,17 @@ fn append_make<'a>(
     target: &Target<'a>,
     fields: &[Field<'a>],
 ) -> Result<(), Fault> {
-    let names = field_names(alloc, fields, "")?;
-    let pattern = pairs(alloc, &names, COLUMNS, 8, 12)?;
+    let leaves = field_names(alloc, fields, "")?;
+    let mut names = Vec::new(alloc);
+    for field in fields {
+        names.push(Piece::of(alloc, field.name.text)?)?;
+    }
+    let pattern = pairs(alloc, &leaves, Items::Patterns, 8, 12)?;
     let open = format!(in alloc; "{} {{", target.name.text)?;
     let brackets = Brackets {
         open: open.as_str(),
         close: "}",
-        most: STRUCT,
+        items: Items::Fields,
         indent: 8,
         before: 8,
         after: 0,
@@ -144,7 +157,7 @@ fn append_references<'a>(
     let row = target.row.as_str();
     let head = target.head_of_borrow(alloc, "nano_schema::Parts", "nano_schema::Value")?;
     let names = field_names(alloc, fields, "&self.")?;
-    let references = pairs(alloc, &names, CALL, 8, 8)?;
+    let references = pairs(alloc, &names, Items::Values, 8, 8)?;
     sheet.line("")?;
     sheet.line(head.as_str())?;
     sheet.line(format!(in alloc;
@@ -166,9 +179,9 @@ fn append_value<'a>(alloc: Global, sheet: &mut Sheet, target: &Target<'a>) -> Re
             .head(alloc, "nano_schema::Value", "nano_schema::Value")?
             .as_str(),
     )?;
-    sheet.member("means", means.as_str())?;
+    sheet.member(alloc, "means", means.as_str())?;
     sheet.line("")?;
-    sheet.member("legal", legal.as_str())?;
+    sheet.member(alloc, "legal", legal.as_str())?;
     sheet.line("\n    fn known(&self) {\n        nano_schema::known_record(self);\n    }\n}")?;
     Ok(())
 }

@@ -47,25 +47,40 @@ impl Sheet {
         self.line(after)
     }
 
-    /// Appends a ghost member, in lines of as many columns as there are.
-    pub(crate) fn member(&mut self, name: &str, term: &str) -> Result<(), AllocError> {
-        self.indent(4)?;
-        self.text.push_str("ghost ")?;
-        self.text.push_str(name)?;
-        self.text.push_str(" = {")?;
-        let mut used = width(name).saturating_add(14);
+    /// Appends a ghost member, in lines of as many columns as there are. A line ends at a space, but
+    /// at none between `⟦` and `⟧`.
+    pub(crate) fn member(
+        &mut self,
+        alloc: Global,
+        name: &str,
+        term: &str,
+    ) -> Result<(), AllocError> {
+        let start = format!(in alloc; "    ghost {name} = {{")?;
+        self.text.push_str(start.as_str())?;
+        let mut used = width(start.as_str());
+        let mut part = String::new(alloc);
         for word in term.split(' ') {
-            let needed = width(word).saturating_add(1);
-            if used.saturating_add(needed).saturating_add(3) > COLUMNS {
-                start_line(&mut self.text, 8)?;
-                used = needed.saturating_add(7);
-            } else {
-                self.text.push(' ')?;
-                used = used.saturating_add(needed);
+            part.push(' ')?;
+            part.push_str(word)?;
+            if is_closed(part.as_str()) {
+                used = self.word(part.as_str(), used)?;
+                part.clear();
             }
-            self.text.push_str(word)?;
         }
         self.line(" };")
+    }
+
+    /// Appends a part of a ghost term, after a space or on a new line, to a line of so many columns.
+    /// Answers how many it has then.
+    fn word(&mut self, part: &str, used: usize) -> Result<usize, AllocError> {
+        let whole = used.saturating_add(width(part));
+        if whole.saturating_add(3) <= COLUMNS {
+            self.text.push_str(part)?;
+            return Ok(whole);
+        }
+        start_line(&mut self.text, 7)?;
+        self.text.push_str(part)?;
+        Ok(width(part).saturating_add(7))
     }
 
     fn indent(&mut self, indent: usize) -> Result<(), AllocError> {
@@ -85,4 +100,9 @@ impl Sheet {
         output.push_str(self.text.as_str())?;
         Ok(output)
     }
+}
+
+/// Whether no `⟦` is open in a part of a term.
+fn is_closed(part: &str) -> bool {
+    part.matches('⟦').count() == part.matches('⟧').count()
 }

@@ -26,9 +26,9 @@ pub(crate) fn append_transparent<'a>(
     )?;
     let means = format!(in alloc; "λ x. ⟦<{row} as nano_schema::Value>⟧.means x.0")?;
     let legal = format!(in alloc; "⟦<{row} as nano_schema::Value>⟧.legal")?;
-    sheet.member("means", means.as_str())?;
+    sheet.member(alloc, "means", means.as_str())?;
     sheet.line("")?;
-    sheet.member("legal", legal.as_str())?;
+    sheet.member(alloc, "legal", legal.as_str())?;
     sheet.line("\n    fn known(&self) {\n        nano_schema::Value::known(&self.0);\n    }\n}")?;
     append_codecs(alloc, sheet, target, Kind::Transparent)
 }

@@ -1,6 +1,6 @@
 //! Types as they are written.
 
-use crate::output::layout::{Brackets, COLUMNS, Piece, list};
+use crate::output::rows::Leaf;
 use crate::syntax::Type;
 use crate::token::Token;
 use std::alloc::{AllocError, Global};
@@ -46,19 +46,14 @@ pub(crate) fn optional_part<'a>(of: Type<'a>) -> Option<Type<'a>> {
 }
 
 /// The type of a field in a schema.
-pub(crate) fn field_type<'a>(alloc: Global, of: Type<'a>) -> Result<Piece, AllocError> {
-    let (open, inner) = match optional_part(of) {
+pub(crate) fn field_type<'a>(alloc: Global, of: Type<'a>) -> Result<Leaf, AllocError> {
+    let (open, part) = match optional_part(of) {
         Some(part) => ("nano_schema::Optional<", part),
         None => ("nano_schema::Required<", of),
     };
-    let brackets = Brackets {
+    Ok(Leaf {
         open,
+        text: type_text(alloc, part)?,
         close: ">",
-        most: COLUMNS,
-        indent: 4,
-        before: 4,
-        after: 1,
-    };
-    let text = type_text(alloc, inner)?;
-    list(alloc, brackets, &[Piece::of(alloc, text.as_str())?])
+    })
 }
