@@ -5,7 +5,11 @@
 
 mod codec;
 mod codecs;
+mod fields;
+mod kind;
+mod labels;
 mod layout;
+mod names;
 mod records;
 mod rows;
 mod sheet;
@@ -15,6 +19,7 @@ mod types;
 
 use crate::fault::Fault;
 use crate::syntax::{Definition, Shape, Source};
+use names::Names;
 use records::append_record;
 use sheet::Sheet;
 use std::alloc::Global;
@@ -27,10 +32,11 @@ const NO_TYPE: &str = "no struct or enum above the marker has a line `// nanoser
 /// The impls of each struct and enum for which a format is named.
 pub(crate) fn impls<'a>(alloc: Global, source: &Source<'a>, end: usize) -> Result<String, Fault> {
     let mut sheet = Sheet::new(alloc);
+    let mut names = Names::new(alloc, source)?;
     let mut is_empty = true;
     for definition in &source.definitions {
         if definition.attributes.codec.is_some() {
-            append_impls(alloc, &mut sheet, definition)?;
+            append_impls(alloc, &mut sheet, &mut names, definition)?;
             is_empty = false;
         }
     }
@@ -44,11 +50,12 @@ pub(crate) fn impls<'a>(alloc: Global, source: &Source<'a>, end: usize) -> Resul
 fn append_impls<'a>(
     alloc: Global,
     sheet: &mut Sheet,
+    names: &mut Names,
     definition: &Definition<'a>,
 ) -> Result<(), Fault> {
-    let target = Target::new(alloc, definition)?;
+    let target = Target::new(alloc, names, definition)?;
     match &definition.shape {
-        Shape::Fields(fields) => append_record(alloc, sheet, &target, fields),
+        Shape::Fields(fields) => append_record(alloc, sheet, names, &target, fields),
         Shape::Parts(parts) => match parts.as_slice() {
             [part] => append_transparent(alloc, sheet, &target, *part),
             _ => Err(Fault::token(

@@ -4,4 +4,6 @@
 #[cfg(test)]
 mod error_tests;
 #[cfg(test)]
+mod mutation_tests;
+#[cfg(test)]
 mod testing;

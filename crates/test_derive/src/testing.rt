@@ -10,7 +10,12 @@ fn outcome(alloc: Global, source: &str) -> Result<String, AllocError> {
         Ok(text) => Ok(text),
         Err(DeriveError::Memory) => Err(AllocError),
         Err(DeriveError::Source(fault)) => {
-            format!(in alloc; "{}:{}: {}", fault.line.saturating_add(1), fault.column.saturating_add(1), fault.message)
+            format!(in alloc;
+                "{}:{}: {}",
+                fault.line.saturating_add(1),
+                fault.column.saturating_add(1),
+                fault.message
+            )
         }
     }
 }
@@ -18,7 +23,9 @@ fn outcome(alloc: Global, source: &str) -> Result<String, AllocError> {
 /// What becomes of a source is what was expected.
 pub(crate) fn gives(rt: &impl Abort, alloc: Global, source: &str, expected: &str) {
     match outcome(alloc, source) {
-        Ok(found) => if !found.as_str().starts_with(expected) { assert_eq!(rt; found.as_str(), expected) },
+        Ok(found) => if !found.as_str().starts_with(expected) {
+            assert_eq!(rt; found.as_str(), expected)
+        },
         Err(_failed) => assert_eq!(rt; "no memory", expected),
     }
 }

@@ -2,26 +2,19 @@
 
 use crate::fault::Fault;
 use crate::output::codec::{BIN, Codec, JSON, RON};
+use crate::output::fields::references;
+use crate::output::kind::Kind;
 use crate::output::sheet::Sheet;
 use crate::output::target::Target;
 use crate::syntax::Directions;
 use std::alloc::Global;
-
-/// What a type is in its formats.
-#[derive(Clone, Copy, PartialEq)]
-pub(crate) enum Kind {
-    /// A struct by its schema.
-    Record,
-    /// What its one field is.
-    Transparent,
-}
 
 /// Appends the impls of each format that is named above the type.
 pub(crate) fn append_codecs<'a>(
     alloc: Global,
     sheet: &mut Sheet,
     target: &Target<'a>,
-    kind: Kind,
+    kind: Kind<'a>,
 ) -> Result<(), Fault> {
     append_codec(alloc, sheet, target, kind, &BIN, target.attributes.bin)?;
     append_codec(alloc, sheet, target, kind, &JSON, target.attributes.json)?;
@@ -33,7 +26,7 @@ fn append_codec<'a>(
     alloc: Global,
     sheet: &mut Sheet,
     target: &Target<'a>,
-    kind: Kind,
+    kind: Kind<'a>,
     codec: &Codec,
     directions: Directions,
 ) -> Result<(), Fault> {
@@ -55,16 +48,16 @@ fn append_definition<'a>(
     alloc: Global,
     sheet: &mut Sheet,
     target: &Target<'a>,
-    kind: Kind,
+    kind: Kind<'a>,
     codec: &Codec,
 ) -> Result<(), Fault> {
     let (row, full) = (target.row.as_str(), target.full.as_str());
     let trait_name = codec.codec;
     let term = match kind {
-        Kind::Record => {
+        Kind::Record(_) => {
             sheet.import(codec.import)?;
             format!(in alloc;
-                "{} ⟦<{full} as nano_schema::Record>⟧.schema ⟦<{row} as {}>⟧.codec{}",
+                "{} ⟦<{full} as nano_schema::Record>⟧.view ⟦<{row} as {}>⟧.codec{}",
                 codec.of, codec.shape, codec.proof
             )?
         }
@@ -79,7 +72,7 @@ fn append_definition<'a>(
     sheet.line(target.head(alloc, trait_name, trait_name)?.as_str())?;
     sheet.member(alloc, codec.member, term.as_str())?;
     sheet.line("")?;
-    sheet.import("ghost use Rattle.nano_schema.specs.Names.{agreed};")?;
+    sheet.import("ghost use Rattle.nano_schema.specs.Rows.{agreed};")?;
     sheet.member(alloc, "agrees", "agreed")?;
     Ok(sheet.line("}")?)
 }
@@ -89,15 +82,18 @@ fn append_writer<'a>(
     alloc: Global,
     sheet: &mut Sheet,
     target: &Target<'a>,
-    kind: Kind,
+    kind: Kind<'a>,
     codec: &Codec,
 ) -> Result<(), Fault> {
     sheet.line("")?;
     sheet.line(target.head(alloc, codec.ser, codec.ser)?.as_str())?;
     sheet.line(codec.writer)?;
-    let arguments = codec.ser_arguments;
+    let (row, arguments) = (target.row.as_str(), codec.ser_arguments);
     let body = match kind {
-        Kind::Record => format!(in alloc; "{}(self, {arguments})", codec.write_record)?,
+        Kind::Record(fields) => {
+            sheet.line(references(alloc, fields)?.as_str())?;
+            format!(in alloc; "{}::<{row}>(&refs, {arguments})", codec.write_record)?
+        }
         Kind::Transparent => {
             format!(in alloc; "{}::{}(&self.0, {arguments})", codec.ser, codec.ser_method)?
         }
@@ -111,7 +107,7 @@ fn append_reader<'a>(
     alloc: Global,
     sheet: &mut Sheet,
     target: &Target<'a>,
-    kind: Kind,
+    kind: Kind<'a>,
     codec: &Codec,
 ) -> Result<(), Fault> {
     sheet.line("")?;
@@ -124,7 +120,10 @@ fn append_reader<'a>(
     sheet.line(codec.reader)?;
     let arguments = codec.de_arguments;
     let body = match kind {
-        Kind::Record => format!(in alloc; "        {}({arguments})\n", codec.read_record)?,
+        Kind::Record(_) => {
+            let (row, read) = (target.row.as_str(), codec.read_record);
+            format!(in alloc; "        {read}::<Self, {row}>({arguments})\n")?
+        }
         Kind::Transparent => {
             let (row, name) = (target.row.as_str(), target.name.text);
             format!(in alloc;

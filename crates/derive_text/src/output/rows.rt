@@ -3,15 +3,50 @@
 use crate::output::layout::{Brackets, Items, Piece, list};
 use std::alloc::{AllocError, Global};
 
-/// One item of a row: text, perhaps between brackets.
+/// One item of a row: a text, or a list between brackets.
 #[derive(Drop)]
 pub(crate) struct Leaf {
-    /// What opens it, or nothing.
+    /// What opens the list, or nothing.
     pub(crate) open: &'static str,
-    /// The text.
-    pub(crate) text: String,
-    /// What closes it, or nothing.
+    /// The text, or the items of the list.
+    pub(crate) texts: Vec<String>,
+    /// What closes the list, or nothing.
     pub(crate) close: &'static str,
+}
+
+impl Leaf {
+    /// A text.
+    pub(crate) fn of(alloc: Global, text: String) -> Result<Leaf, AllocError> {
+        let mut texts = Vec::new(alloc);
+        texts.push(text)?;
+        Ok(Leaf {
+            open: "",
+            texts,
+            close: "",
+        })
+    }
+
+    /// It as it stands on a line that is indented so far, after so many columns of it.
+    fn piece(&self, alloc: Global, indent: usize, before: usize) -> Result<Piece, AllocError> {
+        let mut pieces = Vec::new(alloc);
+        for text in &self.texts {
+            pieces.push(Piece::of(alloc, text.as_str())?)?;
+        }
+        if self.open.is_empty() {
+            if let Some(piece) = pieces.pop() {
+                return Ok(piece);
+            }
+        }
+        let brackets = Brackets {
+            open: self.open,
+            close: self.close,
+            items: Items::Patterns,
+            indent,
+            before,
+            after: 1,
+        };
+        list(alloc, brackets, &pieces)
+    }
 }
 
 /// The leaves as nested pairs: half of them, and the other half. They begin a line that is indented
@@ -24,7 +59,7 @@ pub(crate) fn pairs(
     before: usize,
 ) -> Result<Piece, AllocError> {
     if let [leaf] = leaves {
-        return one(alloc, leaf, indent, before);
+        return leaf.piece(alloc, indent, before);
     }
     let (first, second) = leaves.split_at(leaves.len() / 2);
     if leaves.is_empty() {
@@ -46,30 +81,8 @@ pub(crate) fn pairs(
     list(alloc, brackets, &halves)
 }
 
-/// One leaf.
-fn one(alloc: Global, leaf: &Leaf, indent: usize, before: usize) -> Result<Piece, AllocError> {
-    let brackets = Brackets {
-        open: leaf.open,
-        close: leaf.close,
-        items: Items::Patterns,
-        indent,
-        before,
-        after: 1,
-    };
-    let text = [Piece::of(alloc, leaf.text.as_str())?];
-    if leaf.open.is_empty() {
-        let [text] = text;
-        return Ok(text);
-    }
-    list(alloc, brackets, &text)
-}
-
-/// The texts as nested pairs of a ghost term, by a function that pairs them.
-pub(crate) fn ghost_pairs(
-    alloc: Global,
-    texts: &[String],
-    function: &str,
-) -> Result<String, AllocError> {
+/// The texts as nested pairs of a ghost term.
+pub(crate) fn ghost_pairs(alloc: Global, texts: &[String]) -> Result<String, AllocError> {
     if let [text] = texts {
         return text.clone();
     }
@@ -77,7 +90,7 @@ pub(crate) fn ghost_pairs(
     if texts.is_empty() {
         return String::from_str(alloc, "tt");
     }
-    let first = ghost_pairs(alloc, first, function)?;
-    let second = ghost_pairs(alloc, second, function)?;
-    format!(in alloc; "({function} {first} {second})")
+    let first = ghost_pairs(alloc, first)?;
+    let second = ghost_pairs(alloc, second)?;
+    format!(in alloc; "(fields2_of {first} {second})")
 }

@@ -1,5 +1,6 @@
 //! The type whose impls are written.
 
+use crate::output::names::Names;
 use crate::syntax::{Attributes, Definition};
 use crate::token::Token;
 use std::alloc::{AllocError, Global};
@@ -23,6 +24,7 @@ impl<'a> Target<'a> {
     /// The type of a definition.
     pub(crate) fn new(
         alloc: Global,
+        names: &mut Names,
         definition: &Definition<'a>,
     ) -> Result<Target<'a>, AllocError> {
         let mut parameters = Vec::new(alloc);
@@ -31,9 +33,10 @@ impl<'a> Target<'a> {
         }
         let arguments = arguments(alloc, &parameters)?;
         let name = definition.name.text;
+        let row = names.take(alloc, format!(in alloc; "{name}Fields")?.as_str())?;
         Ok(Target {
             full: format!(in alloc; "{name}{arguments}")?,
-            row: format!(in alloc; "{name}Fields{arguments}")?,
+            row: format!(in alloc; "{row}{arguments}")?,
             name: definition.name,
             parameters,
             attributes: definition.attributes,
@@ -47,35 +50,19 @@ impl<'a> Target<'a> {
         name: &str,
         bound: &str,
     ) -> Result<String, AllocError> {
-        let bounds = bounds(alloc, &self.parameters, "", bound)?;
+        let bounds = bounds(alloc, &self.parameters, bound)?;
         format!(in alloc; "impl{bounds} {name} for {} {{", self.full.as_str())
-    }
-
-    /// The same with a lifetime `'a`.
-    pub(crate) fn head_of_borrow(
-        &self,
-        alloc: Global,
-        name: &str,
-        bound: &str,
-    ) -> Result<String, AllocError> {
-        let bounds = bounds(alloc, &self.parameters, "'a", bound)?;
-        format!(in alloc; "impl{bounds} {name}<'a> for {} {{", self.full.as_str())
     }
 }
 
 /// Parameters in angle brackets, if there are any.
 fn arguments<'a>(alloc: Global, parameters: &[Token<'a>]) -> Result<String, AllocError> {
-    bounds(alloc, parameters, "", "")
+    bounds(alloc, parameters, "")
 }
 
-/// A lifetime and parameters with a bound each in angle brackets, if there are any.
-fn bounds<'a>(
-    alloc: Global,
-    parameters: &[Token<'a>],
-    lifetime: &str,
-    bound: &str,
-) -> Result<String, AllocError> {
-    let mut text = String::from_str(alloc, lifetime)?;
+/// Parameters with a bound each, if it is not empty, in angle brackets, if there are any.
+fn bounds<'a>(alloc: Global, parameters: &[Token<'a>], bound: &str) -> Result<String, AllocError> {
+    let mut text = String::new(alloc);
     for parameter in parameters {
         if !text.is_empty() {
             text.push_str(", ")?;
@@ -84,10 +71,6 @@ fn bounds<'a>(
         if !bound.is_empty() {
             text.push_str(": ")?;
             text.push_str(bound)?;
-        }
-        if !lifetime.is_empty() {
-            text.push_str(" + ")?;
-            text.push_str(lifetime)?;
         }
     }
     if text.is_empty() {

@@ -1,7 +1,8 @@
 //! Structs that are what their one field is.
 
 use crate::fault::Fault;
-use crate::output::codecs::{Kind, append_codecs};
+use crate::output::codecs::append_codecs;
+use crate::output::kind::Kind;
 use crate::output::sheet::Sheet;
 use crate::output::target::Target;
 use crate::output::types::type_text;

@@ -1,6 +1,5 @@
 //! Types as they are written.
 
-use crate::output::rows::Leaf;
 use crate::syntax::Type;
 use crate::token::Token;
 use std::alloc::{AllocError, Global};
@@ -43,17 +42,4 @@ pub(crate) fn optional_part<'a>(of: Type<'a>) -> Option<Type<'a>> {
         }
         _ => None,
     }
-}
-
-/// The type of a field in a schema.
-pub(crate) fn field_type<'a>(alloc: Global, of: Type<'a>) -> Result<Leaf, AllocError> {
-    let (open, part) = match optional_part(of) {
-        Some(part) => ("nano_schema::Optional<", part),
-        None => ("nano_schema::Required<", of),
-    };
-    Ok(Leaf {
-        open,
-        text: type_text(alloc, part)?,
-        close: ">",
-    })
 }
