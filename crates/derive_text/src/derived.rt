@@ -12,15 +12,18 @@ use std::alloc::{AllocError, Global};
 
 /// What writes impls for a text above a marker, from that text alone.
 pub(crate) trait Writer {
-    /// What it may write for a text.
-    ghost writes: { List ℕ → List ℕ → Type 0 };
+    /// What it may write for a module's name and a text.
+    ghost writes: { List ℕ → List ℕ → List ℕ → Type 0 };
 
-    /// What is written for a text.
-    fn write(alloc: Global, above: &str) -> Result<String, Fault>
-        ensures { IfOk result (λ below. writes above.now (string_bytes below)) };
+    /// What is written for a text in a module.
+    fn write(alloc: Global, module: &str, above: &str) -> Result<String, Fault>
+        ensures { IfOk result (λ below. writes module.now above.now (string_bytes below)) };
 }
 
 /// The source with the impls of its structs and enums below the marker.
+///
+/// `module` is the module that the source is, as ghost names say it: `app.specs.declared.shapes` is
+/// `src/shapes.rt` of the crate `app`.
 ///
 /// What stands above the marker is unchanged. What stood below it is left out and is not read, so
 /// that the answer is its own.
@@ -29,23 +32,23 @@ pub(crate) trait Writer {
 ///
 /// The source is at fault: it has no marker or two, what stands above it is no Rust that the
 /// generator reads, or an attribute or a type is none that it knows. Or an allocation fails.
-pub fn derive(alloc: Global, source: &str) -> Result<String, DeriveError>
+pub fn derive(alloc: Global, module: &str, source: &str) -> Result<String, DeriveError>
     ensures derived { IfOk result (λ text.
-        IsDerived ⟦<Impls as Writer>⟧.writes source.now (string_bytes text)) }
+        IsDerived (⟦<Impls as Writer>⟧.writes module.now) source.now (string_bytes text)) }
     ensures error { IfErr result (IsErrorIn source.now) }
 {
-    match derive_by::<Impls>(alloc, source) {
+    match derive_by::<Impls>(alloc, module, source) {
         Ok(text) => Ok(text),
         Err(fault) => Err(error_of(alloc, source, fault)),
     }
 }
 
 /// The source with what a writer writes below the marker.
-fn derive_by<W: Writer>(alloc: Global, source: &str) -> Result<String, Fault>
-    ensures { IfOk result (λ text. IsDerived W.writes source.now (string_bytes text)) }
+fn derive_by<W: Writer>(alloc: Global, module: &str, source: &str) -> Result<String, Fault>
+    ensures { IfOk result (λ text. IsDerived (W.writes module.now) source.now (string_bytes text)) }
 {
     let above = above_marker(source)?;
-    let below = W::write(alloc, above)?;
+    let below = W::write(alloc, module, above)?;
     Ok(joined(alloc, above, below.as_str())?)
 }
 

@@ -3,12 +3,15 @@
 //! Everything that is said by name is said by its path, so that nothing which the file declares
 //! or brings in stands in for it.
 
+mod chains;
+mod choices;
 mod codec;
 mod codecs;
 mod fields;
 mod kind;
 mod labels;
 mod layout;
+mod making;
 mod names;
 mod records;
 mod rows;
@@ -16,9 +19,12 @@ mod sheet;
 mod target;
 mod transparent;
 mod types;
+mod variants;
+mod views;
 
 use crate::fault::Fault;
 use crate::syntax::{Definition, Shape, Source};
+use choices::append_choice;
 use names::Names;
 use records::append_record;
 use sheet::Sheet;
@@ -30,13 +36,18 @@ const NO_TYPE: &str = "no struct or enum above the marker has a line `// nanoser
     which says in which formats it is read and written";
 
 /// The impls of each struct and enum for which a format is named.
-pub(crate) fn impls<'a>(alloc: Global, source: &Source<'a>, end: usize) -> Result<String, Fault> {
+pub(crate) fn impls<'a>(
+    alloc: Global,
+    module: &'a str,
+    source: &Source<'a>,
+    end: usize,
+) -> Result<String, Fault> {
     let mut sheet = Sheet::new(alloc);
     let mut names = Names::new(alloc, source)?;
     let mut is_empty = true;
     for definition in &source.definitions {
         if definition.attributes.codec.is_some() {
-            append_impls(alloc, &mut sheet, &mut names, definition)?;
+            append_impls(alloc, &mut sheet, &mut names, module, definition)?;
             is_empty = false;
         }
     }
@@ -51,9 +62,10 @@ fn append_impls<'a>(
     alloc: Global,
     sheet: &mut Sheet,
     names: &mut Names,
+    module: &'a str,
     definition: &Definition<'a>,
 ) -> Result<(), Fault> {
-    let target = Target::new(alloc, names, definition)?;
+    let target = Target::new(alloc, names, module, definition)?;
     match &definition.shape {
         Shape::Fields(fields) => append_record(alloc, sheet, names, &target, fields),
         Shape::Parts(parts) => match parts.as_slice() {
@@ -63,6 +75,6 @@ fn append_impls<'a>(
                 "is a struct of several parts without names",
             )),
         },
-        Shape::Variants(_) => Err(Fault::token(definition.name, "is an enum")),
+        Shape::Variants(variants) => append_choice(alloc, sheet, names, &target, variants),
     }
 }

@@ -7,7 +7,7 @@
 #![tactic(auto)]
 
 use anyhow::{Context, Result, bail};
-use derive_text::{DeriveError, derive};
+use derive_text::{DeriveError, derive, module_of};
 use std::alloc::AllocError;
 use std::env;
 use std::fs::{self, File};
@@ -38,7 +38,12 @@ fn replace(rt: &HostRuntime, name: &str, text: &str) -> Result<()> {
 /// Compares a file with what is written for it, and writes that unless it is only checked.
 fn derive_file(rt: &HostRuntime, name: &str, is_check: bool) -> Result<Outcome> {
     let source = fs::read_to_string(rt, name).context(format_args!("reading {name}"))?;
-    match derive(rt.alloc(), source.as_str()) {
+    let folder = env::current_dir(rt)?;
+    let path = format!(in rt.alloc(); "{}/{name}", folder.as_str())?;
+    let Some(module) = module_of(rt.alloc(), path.as_str())? else {
+        bail!("{name} is in no src folder of a crate");
+    };
+    match derive(rt.alloc(), module.as_str(), source.as_str()) {
         Ok(text) if text.as_str() == source.as_str() => Ok(Outcome::Fresh),
         Ok(_text) if is_check => Ok(Outcome::Stale),
         Ok(text) => {

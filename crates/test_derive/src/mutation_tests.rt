@@ -63,8 +63,8 @@ fn mutated(alloc: Global, at: usize, further: usize, put: &str) -> Result<String
 
 /// Whether a source has an answer: what is written is its own answer, and an error stands in it.
 fn has_answer(alloc: Global, source: &str) -> Result<bool, AllocError> {
-    match derive(alloc, source) {
-        Ok(text) => match derive(alloc, text.as_str()) {
+    match derive(alloc, "app.specs.declared.shapes", source) {
+        Ok(text) => match derive(alloc, "app.specs.declared.shapes", text.as_str()) {
             Ok(again) => Ok(again.as_str() == text.as_str()),
             Err(_error) => Ok(false),
         },

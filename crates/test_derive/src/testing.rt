@@ -6,7 +6,7 @@ use std::process::Abort;
 
 /// What becomes of a source: the text that is written, or `LINE:COLUMN: MESSAGE`.
 fn outcome(alloc: Global, source: &str) -> Result<String, AllocError> {
-    match derive(alloc, source) {
+    match derive(alloc, "app.specs.declared.shapes", source) {
         Ok(text) => Ok(text),
         Err(DeriveError::Memory) => Err(AllocError),
         Err(DeriveError::Source(fault)) => {

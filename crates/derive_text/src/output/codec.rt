@@ -8,6 +8,20 @@ pub(crate) struct Codec {
     pub(crate) import: &'static str,
     /// The line for the ghost names of a transparent struct.
     pub(crate) import_as: &'static str,
+    /// The line for the ghost names of an enum.
+    pub(crate) import_choice: &'static str,
+    /// How an enum is encoded, by its schema.
+    pub(crate) of_choice: &'static str,
+    /// The trait of a row of variants.
+    pub(crate) shapes: &'static str,
+    /// The member of that trait, and the proofs about the variants' names that `of_choice` takes.
+    pub(crate) choice_proof: &'static str,
+    /// What writes a variant.
+    pub(crate) write_variant: &'static str,
+    /// Whether a variant is written with its place among the others, and not with its name.
+    pub(crate) has_tags: bool,
+    /// What reads an enum.
+    pub(crate) read_choice: &'static str,
     /// How a struct is encoded, by its schema.
     pub(crate) of: &'static str,
     /// How a transparent struct is encoded, by its field.
@@ -49,6 +63,13 @@ pub(crate) const BIN: Codec = Codec {
     heading: "bytes",
     import: "ghost use Rattle.nano_schema_bin.specs.Record.{bin_of};",
     import_as: "ghost use Rattle.nano_bin.specs.Codec.{codec_as as bin_as};",
+    import_choice: "ghost use Rattle.nano_schema_bin.specs.Choice.{bin_choice};",
+    of_choice: "bin_choice",
+    shapes: "nano_schema_bin::BinShapes",
+    choice_proof: "chosen refl",
+    write_variant: "nano_schema_bin::write_variant_bin",
+    has_tags: true,
+    read_choice: "nano_schema_bin::read_choice_bin",
     of: "bin_of",
     of_as: "bin_as",
     proof: "",
@@ -75,6 +96,13 @@ pub(crate) const JSON: Codec = Codec {
     heading: "JSON",
     import: "ghost use Rattle.nano_schema_json.specs.Record.{json_of};",
     import_as: "ghost use Rattle.nano_json.specs.Codec.{codec_as as json_as};",
+    import_choice: "ghost use Rattle.nano_schema_json.specs.Choice.{json_choice};",
+    of_choice: "json_choice",
+    shapes: "nano_schema_json::JsonShapes",
+    choice_proof: "codec refl refl refl",
+    write_variant: "nano_schema_json::write_variant_json",
+    has_tags: false,
+    read_choice: "nano_schema_json::read_choice_json",
     of: "json_of",
     of_as: "json_as",
     proof: " refl",
@@ -103,6 +131,13 @@ pub(crate) const RON: Codec = Codec {
     heading: "RON",
     import: "ghost use Rattle.nano_schema_ron.specs.Record.{ron_of};",
     import_as: "ghost use Rattle.nano_ron.specs.Codec.{codec_as as ron_as};",
+    import_choice: "ghost use Rattle.nano_schema_ron.specs.Choice.{ron_choice};",
+    of_choice: "ron_choice",
+    shapes: "nano_schema_ron::RonShapes",
+    choice_proof: "codec refl refl refl",
+    write_variant: "nano_schema_ron::write_variant_ron",
+    has_tags: false,
+    read_choice: "nano_schema_ron::read_choice_ron",
     of: "ron_of",
     of_as: "ron_as",
     proof: " refl",

@@ -3,11 +3,12 @@
 use crate::fault::Fault;
 use crate::output::codec::{BIN, Codec, JSON, RON};
 use crate::output::fields::references;
-use crate::output::kind::Kind;
+use crate::output::kind::{Arm, Call, Kind};
 use crate::output::sheet::Sheet;
 use crate::output::target::Target;
+use crate::output::variants::append_arms;
 use crate::syntax::Directions;
-use std::alloc::Global;
+use std::alloc::{AllocError, Global};
 
 /// Appends the impls of each format that is named above the type.
 pub(crate) fn append_codecs<'a>(
@@ -61,6 +62,13 @@ fn append_definition<'a>(
                 codec.of, codec.shape, codec.proof
             )?
         }
+        Kind::Choice(..) => {
+            sheet.import(codec.import_choice)?;
+            sheet.import("ghost use Rattle.std.specs.Prelude.{refl};")?;
+            let (of, shapes) = (codec.of_choice, codec.shapes);
+            let view = format!(in alloc; "⟦<{full} as nano_schema::Choice>⟧.view")?;
+            format!(in alloc; "{of} {view} ⟦<{row} as {shapes}>⟧.{}", codec.choice_proof)?
+        }
         Kind::Transparent => {
             sheet.import(codec.import_as)?;
             let (of, member) = (codec.of_as, codec.member);
@@ -89,17 +97,49 @@ fn append_writer<'a>(
     sheet.line(target.head(alloc, codec.ser, codec.ser)?.as_str())?;
     sheet.line(codec.writer)?;
     let (row, arguments) = (target.row.as_str(), codec.ser_arguments);
-    let body = match kind {
+    match kind {
         Kind::Record(fields) => {
+            let write = codec.write_record;
             sheet.line(references(alloc, fields)?.as_str())?;
-            format!(in alloc; "{}::<{row}>(&refs, {arguments})", codec.write_record)?
+            sheet.line(format!(in alloc;
+                "        {write}::<{row}>(&refs, {arguments})"
+            )?.as_str())?;
+        }
+        Kind::Choice(variants, arms) => {
+            let calls = variant_calls(alloc, codec, arms)?;
+            append_arms(alloc, sheet, target, variants, &calls, arguments)?;
         }
         Kind::Transparent => {
-            format!(in alloc; "{}::{}(&self.0, {arguments})", codec.ser, codec.ser_method)?
+            let (ser, method) = (codec.ser, codec.ser_method);
+            sheet.line(format!(in alloc;
+                "        {ser}::{method}(&self.0, {arguments})"
+            )?.as_str())?;
         }
-    };
-    sheet.line(format!(in alloc; "        {body}\n    }}\n}}")?.as_str())?;
+    }
+    sheet.line("    }\n}")?;
     Ok(())
+}
+
+/// What writes each variant.
+fn variant_calls(alloc: Global, codec: &Codec, arms: &[Arm]) -> Result<Vec<Call>, AllocError> {
+    let mut calls = Vec::new(alloc);
+    for (i, arm) in arms.iter().enumerate() {
+        let mut types = Vec::new(alloc);
+        let mut first = Vec::new(alloc);
+        if codec.has_tags {
+            first.push(format!(in alloc; "{i}")?)?;
+        } else {
+            types.push(arm.label.clone()?)?;
+        }
+        types.push(arm.content.clone()?)?;
+        calls.push(Call {
+            path: format!(in alloc; "{}::<", codec.write_variant)?,
+            types,
+            end: ">",
+            first,
+        })?;
+    }
+    Ok(calls)
 }
 
 /// Appends the impl that reads.
@@ -122,6 +162,10 @@ fn append_reader<'a>(
     let body = match kind {
         Kind::Record(_) => {
             let (row, read) = (target.row.as_str(), codec.read_record);
+            format!(in alloc; "        {read}::<Self, {row}>({arguments})\n")?
+        }
+        Kind::Choice(..) => {
+            let (row, read) = (target.row.as_str(), codec.read_choice);
             format!(in alloc; "        {read}::<Self, {row}>({arguments})\n")?
         }
         Kind::Transparent => {

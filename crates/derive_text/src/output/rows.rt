@@ -40,7 +40,11 @@ impl Leaf {
         let brackets = Brackets {
             open: self.open,
             close: self.close,
-            items: Items::Patterns,
+            items: if self.open == "(" {
+                Items::Types
+            } else {
+                Items::Patterns
+            },
             indent,
             before,
             after: 1,

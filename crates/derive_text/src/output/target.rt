@@ -1,7 +1,7 @@
 //! The type whose impls are written.
 
 use crate::output::names::Names;
-use crate::syntax::{Attributes, Definition};
+use crate::syntax::{Attributes, Definition, Shape};
 use crate::token::Token;
 use std::alloc::{AllocError, Global};
 
@@ -10,8 +10,12 @@ use std::alloc::{AllocError, Global};
 pub(crate) struct Target<'a> {
     /// Its name, with its parameters.
     pub(crate) full: String,
-    /// The name of its row of fields, with its parameters.
+    /// The name of its row of fields or variants, with its parameters.
     pub(crate) row: String,
+    /// The name of the type of the content of its variants.
+    pub(crate) values: String,
+    /// The module that declares it, as ghost names say it.
+    pub(crate) module: &'a str,
     /// Its name.
     pub(crate) name: Token<'a>,
     /// Its parameters, each alone.
@@ -25,6 +29,7 @@ impl<'a> Target<'a> {
     pub(crate) fn new(
         alloc: Global,
         names: &mut Names,
+        module: &'a str,
         definition: &Definition<'a>,
     ) -> Result<Target<'a>, AllocError> {
         let mut parameters = Vec::new(alloc);
@@ -33,10 +38,17 @@ impl<'a> Target<'a> {
         }
         let arguments = arguments(alloc, &parameters)?;
         let name = definition.name.text;
-        let row = names.take(alloc, format!(in alloc; "{name}Fields")?.as_str())?;
+        let end = match definition.shape {
+            Shape::Variants(_) => "Variants",
+            _ => "Fields",
+        };
+        let row = names.take(alloc, format!(in alloc; "{name}{end}")?.as_str())?;
+        let values = names.take(alloc, format!(in alloc; "{name}Values")?.as_str())?;
         Ok(Target {
             full: format!(in alloc; "{name}{arguments}")?,
             row: format!(in alloc; "{row}{arguments}")?,
+            values,
+            module,
             name: definition.name,
             parameters,
             attributes: definition.attributes,
