@@ -16,13 +16,13 @@ pub(crate) trait Writer {
     ghost writes: { List ℕ → List ℕ → List ℕ → Type 0 };
 
     /// What is written for a text in a module.
-    fn write(alloc: Global, module: &str, above: &str) -> Result<String, Fault>
-        ensures { IfOk result (λ below. writes module.now above.now (string_bytes below)) };
+    fn write(alloc: Global, module_name: &str, above: &str) -> Result<String, Fault>
+        ensures { IfOk result (λ below. writes module_name.now above.now (string_bytes below)) };
 }
 
 /// The source with the impls of its structs and enums below the marker.
 ///
-/// `module` is the module that the source is, as ghost names say it: `app.specs.declared.shapes` is
+/// `module_name` is the module that the source is, as ghost names say it: `app.specs.declared.shapes` is
 /// `src/shapes.rt` of the crate `app`.
 ///
 /// What stands above the marker is unchanged. What stood below it is left out and is not read, so
@@ -32,23 +32,23 @@ pub(crate) trait Writer {
 ///
 /// The source is at fault: it has no marker or two, what stands above it is no Rust that the
 /// generator reads, or an attribute or a type is none that it knows. Or an allocation fails.
-pub fn derive(alloc: Global, module: &str, source: &str) -> Result<String, DeriveError>
+pub fn derive(alloc: Global, module_name: &str, source: &str) -> Result<String, DeriveError>
     ensures derived { IfOk result (λ text.
-        IsDerived (⟦<Impls as Writer>⟧.writes module.now) source.now (string_bytes text)) }
+        IsDerived (⟦<Impls as Writer>⟧.writes module_name.now) source.now (string_bytes text)) }
     ensures error { IfErr result (IsErrorIn source.now) }
 {
-    match derive_by::<Impls>(alloc, module, source) {
+    match derive_by::<Impls>(alloc, module_name, source) {
         Ok(text) => Ok(text),
         Err(fault) => Err(error_of(alloc, source, fault)),
     }
 }
 
 /// The source with what a writer writes below the marker.
-fn derive_by<W: Writer>(alloc: Global, module: &str, source: &str) -> Result<String, Fault>
-    ensures { IfOk result (λ text. IsDerived (W.writes module.now) source.now (string_bytes text)) }
+fn derive_by<W: Writer>(alloc: Global, module_name: &str, source: &str) -> Result<String, Fault>
+    ensures { IfOk result (λ text. IsDerived (W.writes module_name.now) source.now (string_bytes text)) }
 {
     let above = above_marker(source)?;
-    let below = W::write(alloc, module, above)?;
+    let below = W::write(alloc, module_name, above)?;
     Ok(joined(alloc, above, below.as_str())?)
 }
 

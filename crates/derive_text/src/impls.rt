@@ -16,10 +16,10 @@ pub struct Impls;
 impl Writer for Impls {
     ghost writes = { λ _ _. Unit {0} };
 
-    fn write(alloc: Global, module: &str, above: &str) -> Result<String, Fault> {
+    fn write(alloc: Global, module_name: &str, above: &str) -> Result<String, Fault> {
         let tokens = scan(alloc, above)?;
         let source = parse(alloc, &tokens, above.len())?;
         check(alloc, &source)?;
-        impls(alloc, module, &source, above.len())
+        impls(alloc, module_name, &source, above.len())
     }
 }

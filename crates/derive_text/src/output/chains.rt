@@ -1,7 +1,6 @@
 //! The types of an enum's variants, and of their content: each of the first variant and the rest.
 
 use crate::output::fields::field_types;
-use crate::output::kind::Arm;
 use crate::output::layout::Items;
 use crate::output::names::Names;
 use crate::output::rows::{Leaf, pairs};
@@ -12,6 +11,28 @@ use crate::output::variants::tuple_of;
 use crate::syntax::{Content, Variant};
 use std::alloc::{AllocError, Global};
 
+/// What is written of a variant.
+#[derive(Drop)]
+pub(crate) struct Arm {
+    /// The type that stands for its name.
+    pub(crate) label: String,
+    /// The type that says what it holds.
+    pub(crate) content: String,
+}
+
+/// A chain of types: of the first variant and the rest.
+#[derive(Clone, Copy)]
+struct Chain<'a> {
+    /// The name of the type of all variants.
+    name: &'a str,
+    /// The parameter of each of these types, or nothing.
+    parameter: &'a str,
+    /// What opens the list of a first and a rest.
+    open: &'static str,
+    /// What closes it.
+    close: &'static str,
+}
+
 /// Appends the types, the last variant's first.
 pub(crate) fn append_chains<'a>(
     alloc: Global,
@@ -21,96 +42,128 @@ pub(crate) fn append_chains<'a>(
     variants: &[Variant<'a>],
     arms: &[Arm],
 ) -> Result<(), AllocError> {
-    let mut later: Option<(String, String)> = None;
-    for (i, (variant, arm)) in variants.iter().zip(arms).enumerate().rev() {
-        let (row, values) = chain_names(alloc, names, target, i)?;
-        let schema = format!(in alloc;
-            "nano_schema::Variant<{}, {}>",
-            arm.label.as_str(),
-            arm.content.as_str()
-        )?;
-        let held = held_type(alloc, variant)?;
-        append_alias(
-            alloc,
-            sheet,
-            row.as_str(),
-            "(",
-            schema,
-            later.as_ref().map(|l| l.0.as_str()),
-        )?;
-        append_alias(
-            alloc,
-            sheet,
-            values.as_str(),
-            "nano_schema::Either<",
-            held,
-            later.as_ref().map(|l| l.1.as_str()),
-        )?;
-        later = Some((row, values));
+    let mut schemas = Vec::new(alloc);
+    for arm in arms {
+        let (label, content) = (arm.label.as_str(), arm.content.as_str());
+        schemas.push(format!(in alloc; "nano_schema::Variant<{label}, {content}>")?)?;
     }
+    let row = Chain {
+        name: target.row.as_str(),
+        parameter: "",
+        open: "(",
+        close: ")",
+    };
+    append_chain(alloc, sheet, names, row, &schemas)?;
+    let values = Chain {
+        name: target.values.as_str(),
+        open: "nano_schema::Either<",
+        close: ">",
+        parameter: "",
+    };
+    append_chain(
+        alloc,
+        sheet,
+        names,
+        values,
+        &held_types(alloc, variants, "")?,
+    )?;
+    let refs = Chain {
+        name: target.refs.as_str(),
+        parameter: "<'a>",
+        open: "nano_schema::Either<",
+        close: ">",
+    };
+    append_chain(
+        alloc,
+        sheet,
+        names,
+        refs,
+        &held_types(alloc, variants, "&'a ")?,
+    )?;
     sheet.line("")
 }
 
-/// The names of the types from a variant on.
-fn chain_names<'a>(
-    alloc: Global,
-    names: &mut Names,
-    target: &Target<'a>,
-    i: usize,
-) -> Result<(String, String), AllocError> {
-    if i == 0 {
-        return Ok((target.row.clone()?, target.values.clone()?));
-    }
-    let number = i.saturating_add(1);
-    let row = format!(in alloc; "{}{number}", target.row.as_str())?;
-    let values = format!(in alloc; "{}{number}", target.values.as_str())?;
-    Ok((
-        names.take(alloc, row.as_str())?,
-        names.take(alloc, values.as_str())?,
-    ))
-}
-
-/// Appends a type of a first and a rest, or of the last alone.
-fn append_alias(
+/// Appends a chain of types.
+fn append_chain(
     alloc: Global,
     sheet: &mut Sheet,
-    name: &str,
-    open: &'static str,
-    first: String,
-    later: Option<&str>,
+    names: &mut Names,
+    chain: Chain<'_>,
+    firsts: &[String],
 ) -> Result<(), AllocError> {
+    let mut later: Option<String> = None;
+    for (i, first) in firsts.iter().enumerate().rev() {
+        let name = if i == 0 {
+            String::from_str(alloc, chain.name)?
+        } else {
+            let wanted = format!(in alloc; "{}{}", chain.name, i.saturating_add(1))?;
+            names.take(alloc, wanted.as_str())?
+        };
+        let parameter = chain.parameter;
+        let full = format!(in alloc; "{name}{parameter}")?;
+        let mut texts = Vec::new(alloc);
+        texts.push(first.clone()?)?;
+        let leaf = match later {
+            Some(rest) => {
+                texts.push(rest)?;
+                Leaf {
+                    open: chain.open,
+                    texts,
+                    close: chain.close,
+                }
+            }
+            None => Leaf {
+                open: "",
+                texts,
+                close: "",
+            },
+        };
+        append_type(alloc, sheet, full.as_str(), leaf)?;
+        later = Some(full);
+    }
+    Ok(())
+}
+
+/// Appends the name of a type.
+fn append_type(alloc: Global, sheet: &mut Sheet, name: &str, leaf: Leaf) -> Result<(), AllocError> {
     let start = format!(in alloc; "type {name} = ")?;
-    let mut texts = Vec::new(alloc);
-    texts.push(first)?;
-    let Some(later) = later else {
-        let leaf = [Leaf {
-            open: "",
-            texts,
-            close: "",
-        }];
-        let row = pairs(alloc, &leaf, Items::Types, 0, start.len())?;
-        return sheet.line(format!(in alloc; "\n{start}{};", row.laid.as_str())?.as_str());
-    };
-    texts.push(String::from_str(alloc, later)?)?;
-    let close = if open == "(" { ")" } else { ">" };
-    let leaf = [Leaf { open, texts, close }];
-    let row = pairs(alloc, &leaf, Items::Types, 0, start.len())?;
+    let row = pairs(alloc, &[leaf], Items::Types, 0, start.len())?;
     sheet.line(format!(in alloc; "\n{start}{};", row.laid.as_str())?.as_str())
 }
 
+/// The types of what the variants hold, each part after some text.
+fn held_types<'a>(
+    alloc: Global,
+    variants: &[Variant<'a>],
+    before: &str,
+) -> Result<Vec<String>, AllocError> {
+    let mut types = Vec::new(alloc);
+    for variant in variants {
+        types.push(held_type(alloc, variant, before)?)?;
+    }
+    Ok(types)
+}
+
 /// The type of what a variant holds.
-fn held_type<'a>(alloc: Global, variant: &Variant<'a>) -> Result<String, AllocError> {
+fn held_type<'a>(alloc: Global, variant: &Variant<'a>, before: &str) -> Result<String, AllocError> {
     match &variant.content {
         Content::Nothing => String::from_str(alloc, "()"),
         Content::Parts(parts) => {
             let mut texts = Vec::new(alloc);
             for part in parts {
-                texts.push(type_text(alloc, *part)?)?;
+                let text = type_text(alloc, *part)?;
+                texts.push(format!(in alloc; "{before}{text}")?)?;
             }
             tuple_of(alloc, &texts, Items::Patterns, 4, 4)
         }
         Content::Fields(fields) => {
-            let row = pairs(alloc, &field_types(alloc, fields)?, Items::Patterns, 4, 4)?;
+            let row = pairs(
+                alloc,
+                &field_types(alloc, fields, before)?,
+                Items::Patterns,
+                4,
+                4,
+            )?;
             Ok(row.flat)
         }
     }

@@ -2,10 +2,10 @@
 
 use crate::check::encoded_name;
 use crate::fault::Fault;
-use crate::output::chains::append_chains;
+use crate::output::chains::{Arm, append_chains};
 use crate::output::codecs::append_codecs;
 use crate::output::fields::append_labels;
-use crate::output::kind::{Arm, Call, Kind};
+use crate::output::kind::Kind;
 use crate::output::labels::append_label;
 use crate::output::layout::Items;
 use crate::output::making::append_make;
@@ -39,8 +39,9 @@ pub(crate) fn append_choice<'a>(
     }
     append_chains(alloc, sheet, names, target, variants, &arms)?;
     append_schema(alloc, sheet, target, variants)?;
-    append_value(alloc, sheet, target, variants, &arms)?;
-    append_codecs(alloc, sheet, target, Kind::Choice(variants, &arms))
+    append_references(alloc, sheet, target, variants)?;
+    append_value(alloc, sheet, target)?;
+    append_codecs(alloc, sheet, target, Kind::Choice)
 }
 
 /// Appends the labels of a variant, and the type of what it holds.
@@ -109,13 +110,32 @@ fn append_schema<'a>(
     append_make(alloc, sheet, target, variants)
 }
 
+/// Appends the impl that has references to the content of the variant.
+fn append_references<'a>(
+    alloc: Global,
+    sheet: &mut Sheet,
+    target: &Target<'a>,
+    variants: &[Variant<'a>],
+) -> Result<(), AllocError> {
+    let row = target.row.as_str();
+    sheet.line(
+        target
+            .borrowed_head(alloc, "nano_schema::ChoiceParts", "")?
+            .as_str(),
+    )?;
+    sheet.line(format!(in alloc; "    type Refs = {}<'a>;\n", target.refs.as_str())?.as_str())?;
+    let term = format!(in alloc; "⟦<{row} as nano_schema::BorrowedChoices<'a>>⟧.values")?;
+    sheet.member(alloc, "values", term.as_str())?;
+    sheet.line("\n    fn as_refs(&'a self) -> Self::Refs {")?;
+    append_arms(alloc, sheet, target, variants)?;
+    sheet.line("    }\n}\n")
+}
+
 /// Appends the impl that says what an enum means.
 fn append_value<'a>(
     alloc: Global,
     sheet: &mut Sheet,
     target: &Target<'a>,
-    variants: &[Variant<'a>],
-    arms: &[Arm],
 ) -> Result<(), AllocError> {
     let (row, full) = (target.row.as_str(), target.full.as_str());
     let view = format!(in alloc; "⟦<{full} as nano_schema::Choice>⟧.view")?;
@@ -126,19 +146,6 @@ fn append_value<'a>(
     sheet.member(alloc, "means", means.as_str())?;
     sheet.line("")?;
     sheet.member(alloc, "legal", legal.as_str())?;
-    sheet.line("\n    #[tactic(auto, using(nano_value::specs::SumsLaws::variant_is_legal))]")?;
-    sheet.line("    fn known(&self) {")?;
-    let mut calls = Vec::new(alloc);
-    for arm in arms {
-        let content = arm.content.as_str();
-        let path = format!(in alloc; "<{content} as nano_schema::Borrowed>::known")?;
-        calls.push(Call {
-            path,
-            types: Vec::new(alloc),
-            end: "",
-            first: Vec::new(alloc),
-        })?;
-    }
-    append_arms(alloc, sheet, target, variants, &calls, "")?;
-    sheet.line("    }\n}")
+    let call = format!(in alloc; "nano_schema::known_choice::<Self, {row}>(self);")?;
+    sheet.line(format!(in alloc; "\n    fn known(&self) {{\n        {call}\n    }}\n}}")?.as_str())
 }

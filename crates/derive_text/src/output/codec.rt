@@ -16,10 +16,8 @@ pub(crate) struct Codec {
     pub(crate) shapes: &'static str,
     /// The member of that trait, and the proofs about the variants' names that `of_choice` takes.
     pub(crate) choice_proof: &'static str,
-    /// What writes a variant.
-    pub(crate) write_variant: &'static str,
-    /// Whether a variant is written with its place among the others, and not with its name.
-    pub(crate) has_tags: bool,
+    /// What writes an enum.
+    pub(crate) write_choice: &'static str,
     /// What reads an enum.
     pub(crate) read_choice: &'static str,
     /// How a struct is encoded, by its schema.
@@ -67,8 +65,7 @@ pub(crate) const BIN: Codec = Codec {
     of_choice: "bin_choice",
     shapes: "nano_schema_bin::BinShapes",
     choice_proof: "chosen refl",
-    write_variant: "nano_schema_bin::write_variant_bin",
-    has_tags: true,
+    write_choice: "nano_schema_bin::write_choice_bin",
     read_choice: "nano_schema_bin::read_choice_bin",
     of: "bin_of",
     of_as: "bin_as",
@@ -100,8 +97,7 @@ pub(crate) const JSON: Codec = Codec {
     of_choice: "json_choice",
     shapes: "nano_schema_json::JsonShapes",
     choice_proof: "codec refl refl refl",
-    write_variant: "nano_schema_json::write_variant_json",
-    has_tags: false,
+    write_choice: "nano_schema_json::write_choice_json",
     read_choice: "nano_schema_json::read_choice_json",
     of: "json_of",
     of_as: "json_as",
@@ -135,8 +131,7 @@ pub(crate) const RON: Codec = Codec {
     of_choice: "ron_choice",
     shapes: "nano_schema_ron::RonShapes",
     choice_proof: "codec refl refl refl",
-    write_variant: "nano_schema_ron::write_variant_ron",
-    has_tags: false,
+    write_choice: "nano_schema_ron::write_choice_ron",
     read_choice: "nano_schema_ron::read_choice_ron",
     of: "ron_of",
     of_as: "ron_as",

@@ -2,20 +2,18 @@
 
 use crate::fault::Fault;
 use crate::output::codec::{BIN, Codec, JSON, RON};
-use crate::output::fields::references;
-use crate::output::kind::{Arm, Call, Kind};
+use crate::output::kind::Kind;
 use crate::output::sheet::Sheet;
 use crate::output::target::Target;
-use crate::output::variants::append_arms;
 use crate::syntax::Directions;
-use std::alloc::{AllocError, Global};
+use std::alloc::Global;
 
 /// Appends the impls of each format that is named above the type.
 pub(crate) fn append_codecs<'a>(
     alloc: Global,
     sheet: &mut Sheet,
     target: &Target<'a>,
-    kind: Kind<'a>,
+    kind: Kind,
 ) -> Result<(), Fault> {
     append_codec(alloc, sheet, target, kind, &BIN, target.attributes.bin)?;
     append_codec(alloc, sheet, target, kind, &JSON, target.attributes.json)?;
@@ -27,7 +25,7 @@ fn append_codec<'a>(
     alloc: Global,
     sheet: &mut Sheet,
     target: &Target<'a>,
-    kind: Kind<'a>,
+    kind: Kind,
     codec: &Codec,
     directions: Directions,
 ) -> Result<(), Fault> {
@@ -49,20 +47,20 @@ fn append_definition<'a>(
     alloc: Global,
     sheet: &mut Sheet,
     target: &Target<'a>,
-    kind: Kind<'a>,
+    kind: Kind,
     codec: &Codec,
 ) -> Result<(), Fault> {
     let (row, full) = (target.row.as_str(), target.full.as_str());
     let trait_name = codec.codec;
     let term = match kind {
-        Kind::Record(_) => {
+        Kind::Record => {
             sheet.import(codec.import)?;
             format!(in alloc;
                 "{} ⟦<{full} as nano_schema::Record>⟧.view ⟦<{row} as {}>⟧.codec{}",
                 codec.of, codec.shape, codec.proof
             )?
         }
-        Kind::Choice(..) => {
+        Kind::Choice => {
             sheet.import(codec.import_choice)?;
             sheet.import("ghost use Rattle.std.specs.Prelude.{refl};")?;
             let (of, shapes) = (codec.of_choice, codec.shapes);
@@ -90,56 +88,31 @@ fn append_writer<'a>(
     alloc: Global,
     sheet: &mut Sheet,
     target: &Target<'a>,
-    kind: Kind<'a>,
+    kind: Kind,
     codec: &Codec,
 ) -> Result<(), Fault> {
     sheet.line("")?;
     sheet.line(target.head(alloc, codec.ser, codec.ser)?.as_str())?;
     sheet.line(codec.writer)?;
     let (row, arguments) = (target.row.as_str(), codec.ser_arguments);
-    match kind {
-        Kind::Record(fields) => {
-            let write = codec.write_record;
-            sheet.line(references(alloc, fields)?.as_str())?;
-            sheet.line(format!(in alloc;
-                "        {write}::<{row}>(&refs, {arguments})"
-            )?.as_str())?;
-        }
-        Kind::Choice(variants, arms) => {
-            let calls = variant_calls(alloc, codec, arms)?;
-            append_arms(alloc, sheet, target, variants, &calls, arguments)?;
-        }
+    let (call, value) = match kind {
+        Kind::Record => (
+            format!(in alloc; "{}::<Self, {row}>", codec.write_record)?,
+            "self",
+        ),
+        Kind::Choice => (
+            format!(in alloc; "{}::<Self, {row}>", codec.write_choice)?,
+            "self",
+        ),
         Kind::Transparent => {
-            let (ser, method) = (codec.ser, codec.ser_method);
-            sheet.line(format!(in alloc;
-                "        {ser}::{method}(&self.0, {arguments})"
-            )?.as_str())?;
+            (
+                format!(in alloc; "{}::{}", codec.ser, codec.ser_method)?,
+                "&self.0",
+            )
         }
-    }
-    sheet.line("    }\n}")?;
+    };
+    sheet.line(format!(in alloc; "        {call}({value}, {arguments})\n    }}\n}}")?.as_str())?;
     Ok(())
-}
-
-/// What writes each variant.
-fn variant_calls(alloc: Global, codec: &Codec, arms: &[Arm]) -> Result<Vec<Call>, AllocError> {
-    let mut calls = Vec::new(alloc);
-    for (i, arm) in arms.iter().enumerate() {
-        let mut types = Vec::new(alloc);
-        let mut first = Vec::new(alloc);
-        if codec.has_tags {
-            first.push(format!(in alloc; "{i}")?)?;
-        } else {
-            types.push(arm.label.clone()?)?;
-        }
-        types.push(arm.content.clone()?)?;
-        calls.push(Call {
-            path: format!(in alloc; "{}::<", codec.write_variant)?,
-            types,
-            end: ">",
-            first,
-        })?;
-    }
-    Ok(calls)
 }
 
 /// Appends the impl that reads.
@@ -147,7 +120,7 @@ fn append_reader<'a>(
     alloc: Global,
     sheet: &mut Sheet,
     target: &Target<'a>,
-    kind: Kind<'a>,
+    kind: Kind,
     codec: &Codec,
 ) -> Result<(), Fault> {
     sheet.line("")?;
@@ -160,11 +133,11 @@ fn append_reader<'a>(
     sheet.line(codec.reader)?;
     let arguments = codec.de_arguments;
     let body = match kind {
-        Kind::Record(_) => {
+        Kind::Record => {
             let (row, read) = (target.row.as_str(), codec.read_record);
             format!(in alloc; "        {read}::<Self, {row}>({arguments})\n")?
         }
-        Kind::Choice(..) => {
+        Kind::Choice => {
             let (row, read) = (target.row.as_str(), codec.read_choice);
             format!(in alloc; "        {read}::<Self, {row}>({arguments})\n")?
         }

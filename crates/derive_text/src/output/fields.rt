@@ -2,9 +2,8 @@
 
 use crate::check::encoded_name;
 use crate::output::labels::append_label;
-use crate::output::layout::Items;
 use crate::output::names::{Names, in_type_name};
-use crate::output::rows::{Leaf, ghost_pairs, pairs};
+use crate::output::rows::{Leaf, ghost_pairs};
 use crate::output::sheet::Sheet;
 use crate::output::types::{optional_part, type_text};
 use crate::syntax::Field;
@@ -48,14 +47,16 @@ fn schema_field<'a>(alloc: Global, field: Field<'a>, label: String) -> Result<Le
     })
 }
 
-/// The types of the fields.
+/// The types of the fields, each after some text.
 pub(crate) fn field_types<'a>(
     alloc: Global,
     fields: &[Field<'a>],
+    before: &str,
 ) -> Result<Vec<Leaf>, AllocError> {
     let mut leaves = Vec::new(alloc);
     for field in fields {
-        leaves.push(Leaf::of(alloc, type_text(alloc, field.of)?)?)?;
+        let text = format!(in alloc; "{before}{}", type_text(alloc, field.of)?.as_str())?;
+        leaves.push(Leaf::of(alloc, text)?)?;
     }
     Ok(leaves)
 }
@@ -88,11 +89,4 @@ pub(crate) fn ghost_view<'a>(
         sheet.import("ghost use Rattle.nano_schema.specs.Rows.{fields2_of};")?;
     }
     ghost_pairs(alloc, &texts)
-}
-
-/// A line that binds references to the fields of `self`.
-pub(crate) fn references<'a>(alloc: Global, fields: &[Field<'a>]) -> Result<String, AllocError> {
-    let leaves = field_names(alloc, fields, "&self.")?;
-    let row = pairs(alloc, &leaves, Items::Values, 8, 19)?;
-    format!(in alloc; "        let refs = {};", row.laid.as_str())
 }

@@ -2,7 +2,7 @@
 
 use crate::fault::Fault;
 use crate::output::codecs::append_codecs;
-use crate::output::fields::{append_labels, field_names, field_types, ghost_view, references};
+use crate::output::fields::{append_labels, field_names, field_types, ghost_view};
 use crate::output::kind::Kind;
 use crate::output::layout::{Brackets, Items, Piece, list};
 use crate::output::names::Names;
@@ -23,8 +23,9 @@ pub(crate) fn append_record<'a>(
     let leaves = append_labels(alloc, sheet, names, target.name.text, fields)?;
     append_row(alloc, sheet, target, &leaves)?;
     append_schema(alloc, sheet, target, fields)?;
-    append_value(alloc, sheet, target, fields)?;
-    append_codecs(alloc, sheet, target, Kind::Record(fields))
+    append_references(alloc, sheet, target, fields)?;
+    append_value(alloc, sheet, target)?;
+    append_codecs(alloc, sheet, target, Kind::Record)
 }
 
 /// Appends the type of the row of fields.
@@ -57,7 +58,7 @@ fn append_schema<'a>(
             .head(alloc, "nano_schema::Record", "nano_schema::Value")?
             .as_str(),
     )?;
-    let types = pairs(alloc, &field_types(alloc, fields)?, Items::Types, 4, 18)?;
+    let types = pairs(alloc, &field_types(alloc, fields, "")?, Items::Types, 4, 18)?;
     sheet.line(format!(in alloc; "    type Values = {};\n", types.laid.as_str())?.as_str())?;
     let view = ghost_view(alloc, sheet, fields)?;
     sheet.member(alloc, "view", format!(in alloc; "λ x. {view}")?.as_str())?;
@@ -92,12 +93,42 @@ fn made<'a>(alloc: Global, target: &Target<'a>, fields: &[Field<'a>]) -> Result<
     list(alloc, brackets, &names)
 }
 
+/// Appends the impl that has references to the fields.
+fn append_references<'a>(
+    alloc: Global,
+    sheet: &mut Sheet,
+    target: &Target<'a>,
+    fields: &[Field<'a>],
+) -> Result<(), AllocError> {
+    let head = target.borrowed_head(alloc, "nano_schema::Parts", "nano_schema::Value")?;
+    let types = pairs(
+        alloc,
+        &field_types(alloc, fields, "&'a ")?,
+        Items::Types,
+        4,
+        16,
+    )?;
+    let values = pairs(
+        alloc,
+        &field_names(alloc, fields, "&self.")?,
+        Items::Values,
+        8,
+        7,
+    )?;
+    let row = target.row.as_str();
+    sheet.line(head.as_str())?;
+    sheet.line(format!(in alloc; "    type Refs = {};\n", types.laid.as_str())?.as_str())?;
+    let term = format!(in alloc; "⟦<{row} as nano_schema::Borrowed<'a>>⟧.values")?;
+    sheet.member(alloc, "values", term.as_str())?;
+    sheet.line("\n    fn as_refs(&'a self) -> Self::Refs {")?;
+    sheet.line(format!(in alloc; "        {}\n    }}\n}}\n", values.laid.as_str())?.as_str())
+}
+
 /// Appends the impl that says what a struct means.
 fn append_value<'a>(
     alloc: Global,
     sheet: &mut Sheet,
     target: &Target<'a>,
-    fields: &[Field<'a>],
 ) -> Result<(), AllocError> {
     let (row, full) = (target.row.as_str(), target.full.as_str());
     let view = format!(in alloc; "⟦<{full} as nano_schema::Record>⟧.view")?;
@@ -111,9 +142,6 @@ fn append_value<'a>(
     sheet.member(alloc, "means", means.as_str())?;
     sheet.line("")?;
     sheet.member(alloc, "legal", legal.as_str())?;
-    sheet.line("\n    fn known(&self) {")?;
-    sheet.line(references(alloc, fields)?.as_str())?;
-    sheet.line(format!(in alloc;
-        "        <{row} as nano_schema::Borrowed>::known(&refs);\n    }}\n}}"
-    )?.as_str())
+    let call = format!(in alloc; "nano_schema::known_record::<Self, {row}>(self);")?;
+    sheet.line(format!(in alloc; "\n    fn known(&self) {{\n        {call}\n    }}\n}}")?.as_str())
 }

@@ -1,5 +1,6 @@
 //! The type whose impls are written.
 
+use crate::output::layout::{COLUMNS, width};
 use crate::output::names::Names;
 use crate::syntax::{Attributes, Definition, Shape};
 use crate::token::Token;
@@ -14,6 +15,8 @@ pub(crate) struct Target<'a> {
     pub(crate) row: String,
     /// The name of the type of the content of its variants.
     pub(crate) values: String,
+    /// The name of the type of references to that content.
+    pub(crate) refs: String,
     /// The module that declares it, as ghost names say it.
     pub(crate) module: &'a str,
     /// Its name.
@@ -44,15 +47,34 @@ impl<'a> Target<'a> {
         };
         let row = names.take(alloc, format!(in alloc; "{name}{end}")?.as_str())?;
         let values = names.take(alloc, format!(in alloc; "{name}Values")?.as_str())?;
+        let refs = names.take(alloc, format!(in alloc; "{name}Refs")?.as_str())?;
         Ok(Target {
             full: format!(in alloc; "{name}{arguments}")?,
             row: format!(in alloc; "{row}{arguments}")?,
             values,
+            refs,
             module,
             name: definition.name,
             parameters,
             attributes: definition.attributes,
         })
+    }
+
+    /// The head of an impl of a trait with a lifetime `'a`, for which each parameter has a bound.
+    pub(crate) fn borrowed_head(
+        &self,
+        alloc: Global,
+        name: &str,
+        bound: &str,
+    ) -> Result<String, AllocError> {
+        let mut bounds = String::from_str(alloc, "'a")?;
+        for parameter in &self.parameters {
+            bounds.push_str(", ")?;
+            bounds.push_str(parameter.text)?;
+            bounds.push_str(format!(in alloc; ": {bound} + 'a")?.as_str())?;
+        }
+        let start = format!(in alloc; "impl<{bounds}> {name}<'a>")?;
+        self.for_target(alloc, start.as_str())
     }
 
     /// The head of an impl of a trait, for which each parameter has a bound.
@@ -63,7 +85,18 @@ impl<'a> Target<'a> {
         bound: &str,
     ) -> Result<String, AllocError> {
         let bounds = bounds(alloc, &self.parameters, bound)?;
-        format!(in alloc; "impl{bounds} {name} for {} {{", self.full.as_str())
+        let start = format!(in alloc; "impl{bounds} {name}")?;
+        self.for_target(alloc, start.as_str())
+    }
+
+    /// The head of an impl from `for` on, on a line of its own if the first has no columns for it.
+    fn for_target(&self, alloc: Global, start: &str) -> Result<String, AllocError> {
+        let full = self.full.as_str();
+        let line = format!(in alloc; "{start} for {full} {{")?;
+        if width(line.as_str()) <= COLUMNS {
+            return Ok(line);
+        }
+        format!(in alloc; "{start}\n    for {full} {{")
     }
 }
 

@@ -1,7 +1,6 @@
 //! Variants in code: what is matched, and what is done in each case.
 
 use crate::output::fields::field_names;
-use crate::output::kind::Call;
 use crate::output::layout::{Brackets, Items, Piece, list};
 use crate::output::rows::pairs;
 use crate::output::sheet::Sheet;
@@ -125,67 +124,32 @@ pub(crate) fn content_of<'a>(
     }
 }
 
-/// Appends a `match` on `self`, which for each variant calls something with references to what it
-/// holds, and with the arguments after them.
+/// Appends a `match` on `self`, which gives references to the content of the variant.
 pub(crate) fn append_arms<'a>(
     alloc: Global,
     sheet: &mut Sheet,
     target: &Target<'a>,
     variants: &[Variant<'a>],
-    calls: &[Call],
-    arguments: &str,
 ) -> Result<(), AllocError> {
     sheet.line("        match self {")?;
-    for (variant, call) in variants.iter().zip(calls) {
+    for (i, variant) in variants.iter().enumerate() {
         let pattern = named_variant(alloc, target, variant, Items::Patterns, 12, 12)?;
         let refs = content_of(alloc, variant, Items::Values, 16, 27)?;
         sheet.line(format!(in alloc; "            {pattern} => {{")?.as_str())?;
         sheet.line(format!(in alloc; "                let refs = {refs};")?.as_str())?;
-        let called = called(alloc, call, arguments)?;
-        sheet.line(format!(in alloc; "                {called}\n            }}")?.as_str())?;
+        append_place(sheet, i, variants.len())?;
+        sheet.line("                refs\n            }")?;
     }
     sheet.line("        }")
 }
 
-/// A call with references and with arguments after them.
-fn called(alloc: Global, call: &Call, arguments: &str) -> Result<String, AllocError> {
-    let mut texts = Vec::new(alloc);
-    for text in &call.first {
-        texts.push(text.clone()?)?;
+/// Appends what puts references at the place of their variant among so many.
+fn append_place(sheet: &mut Sheet, i: usize, count: usize) -> Result<(), AllocError> {
+    if i.saturating_add(1) < count {
+        sheet.line("                let refs = nano_schema::Either::First(refs);")?;
     }
-    texts.push(String::from_str(alloc, "&refs")?)?;
-    for argument in arguments.split_terminator(", ") {
-        texts.push(String::from_str(alloc, argument)?)?;
+    for _later in 0..i {
+        sheet.line("                let refs = nano_schema::Either::Later(refs);")?;
     }
-    let callee = callee(alloc, call)?;
-    // Where the type arguments have lines of their own, the last of these begins the call.
-    let (start, open) = match callee.as_str().rsplit_once('\n') {
-        Some((lines, last)) => (format!(in alloc; "{lines}\n")?, last.trim_start()),
-        None => (String::new(alloc), callee.as_str()),
-    };
-    let indent = if start.is_empty() {
-        ""
-    } else {
-        "                "
-    };
-    let open = format!(in alloc; "{open}(")?;
-    let called = bracketed(alloc, open.as_str(), ")", &texts, Items::Values, 16, 11)?;
-    format!(in alloc; "{start}{indent}{}", called.laid.as_str())
-}
-
-/// What is called, with its type arguments.
-fn callee(alloc: Global, call: &Call) -> Result<String, AllocError> {
-    let mut pieces = Vec::new(alloc);
-    for text in &call.types {
-        pieces.push(Piece::of(alloc, text.as_str())?)?;
-    }
-    let brackets = Brackets {
-        open: call.path.as_str(),
-        close: call.end,
-        items: Items::Patterns,
-        indent: 16,
-        before: 16,
-        after: 1,
-    };
-    Ok(list(alloc, brackets, &pieces)?.laid)
+    Ok(())
 }
