@@ -14,4 +14,4 @@ StandsAbove source above = (rest : List ℕ) × (source ≡ above ++ (marker ++ 
 abbrev pub IsDerived : (List ℕ → List ℕ → Type 0) → List ℕ → List ℕ → Type 0
 IsDerived writes source derived =
     (above below : List ℕ) × StandsAbove source above × writes above below
-    × (derived ≡ above ++ (marker ++ (10 ∷ below)))
+    × (derived ≡ above ++ marker ++ (10 ∷ []) ++ below)

@@ -1,6 +1,6 @@
 //! From a source to the source with its impls.
 
-ghost use Rattle.std.specs.Prelude.{◌≡◌, ◌∷◌, ◌++◌, ℕ, List, IfOk, IfErr, string_bytes};
+ghost use Rattle.std.specs.Prelude.{◌≡◌, ◌∷◌, [], ◌++◌, ℕ, List, IfOk, IfErr, string_bytes};
 ghost use Rattle.derive_text.specs.Below.{marker, IsDerived};
 ghost use Rattle.derive_text.specs.Errors.{IsErrorIn};
 
@@ -55,7 +55,7 @@ fn derive_by<W: Writer>(alloc: Global, module_name: &str, source: &str) -> Resul
 /// A text, the marker on a line, and another text.
 fn joined(alloc: Global, above: &str, below: &str) -> Result<String, AllocError>
     ensures { IfOk result (λ text.
-        string_bytes text ≡ above.now ++ (marker ++ (10 ∷ below.now))) }
+        string_bytes text ≡ above.now ++ marker ++ (10 ∷ []) ++ below.now) }
 {
     let mut text = String::from_str(alloc, above)?;
     text.push_str(MARKER)?;

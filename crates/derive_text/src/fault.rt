@@ -4,7 +4,7 @@ use crate::token::Token;
 use std::alloc::{AllocError, AllocFailed};
 
 /// What stands where something is at fault.
-#[derive(Clone, Copy, Debug)]
+#[derive(Clone, Copy)]
 pub(crate) enum Subject {
     /// A token of so many bytes.
     Token(usize),
@@ -17,7 +17,7 @@ pub(crate) enum Subject {
 }
 
 /// Why nothing was written.
-#[derive(Debug, Drop)]
+#[derive(Drop)]
 pub(crate) enum Fault {
     /// The source is at fault at this byte.
     At {

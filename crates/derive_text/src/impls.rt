@@ -14,7 +14,7 @@ use std::alloc::Global;
 pub struct Impls;
 
 impl Writer for Impls {
-    ghost writes = { λ _ _. Unit {0} };
+    ghost writes = { λ _ _ _. Unit {0} };
 
     fn write(alloc: Global, module_name: &str, above: &str) -> Result<String, Fault> {
         let tokens = scan(alloc, above)?;

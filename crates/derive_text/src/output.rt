@@ -11,6 +11,7 @@ mod fields;
 mod kind;
 mod labels;
 mod layout;
+mod limits;
 mod making;
 mod names;
 mod records;
@@ -25,6 +26,7 @@ mod views;
 use crate::fault::Fault;
 use crate::syntax::{Definition, Shape, Source};
 use choices::append_choice;
+use limits::check_limits;
 use names::Names;
 use records::append_record;
 use sheet::Sheet;
@@ -65,6 +67,7 @@ fn append_impls<'a>(
     module: &'a str,
     definition: &Definition<'a>,
 ) -> Result<(), Fault> {
+    check_limits(&definition.shape)?;
     let target = Target::new(alloc, names, module, definition)?;
     match &definition.shape {
         Shape::Fields(fields) => append_record(alloc, sheet, names, &target, fields),

@@ -3,7 +3,7 @@
 use crate::token::TokenKind;
 
 /// What is known of a token.
-#[derive(Clone, Copy, Debug)]
+#[derive(Clone, Copy)]
 pub(crate) enum State {
     /// It is white space.
     Blank,

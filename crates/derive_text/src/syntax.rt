@@ -3,11 +3,11 @@
 use crate::token::Token;
 
 /// A type: its tokens.
-#[derive(Clone, Copy, Debug)]
+#[derive(Clone, Copy)]
 pub(crate) struct Type<'a>(pub(crate) &'a [Token<'a>]);
 
 /// Whether a format is read, and whether it is written.
-#[derive(Clone, Copy, Debug, PartialEq)]
+#[derive(Clone, Copy, PartialEq)]
 pub(crate) struct Directions {
     /// Whether it is read.
     pub(crate) reads: bool,
@@ -23,7 +23,7 @@ impl Directions {
 }
 
 /// The words of the comments `// nanoserde: ..` above something.
-#[derive(Clone, Copy, Debug)]
+#[derive(Clone, Copy)]
 pub(crate) struct Attributes<'a> {
     /// The first of these words, if there is one.
     pub(crate) first: Option<Token<'a>>,
@@ -48,7 +48,7 @@ pub(crate) struct Attributes<'a> {
 }
 
 /// A field with a name.
-#[derive(Clone, Copy, Debug)]
+#[derive(Clone, Copy)]
 pub(crate) struct Field<'a> {
     /// Its name in the program.
     pub(crate) name: Token<'a>,
@@ -59,7 +59,7 @@ pub(crate) struct Field<'a> {
 }
 
 /// What a variant holds.
-#[derive(Debug, Drop)]
+#[derive(Drop)]
 pub(crate) enum Content<'a> {
     /// Nothing.
     Nothing,
@@ -70,7 +70,7 @@ pub(crate) enum Content<'a> {
 }
 
 /// A variant of an enum.
-#[derive(Debug, Drop)]
+#[derive(Drop)]
 pub(crate) struct Variant<'a> {
     /// Its name in the program.
     pub(crate) name: Token<'a>,
@@ -81,7 +81,7 @@ pub(crate) struct Variant<'a> {
 }
 
 /// What a user-defined type is made of.
-#[derive(Debug, Drop)]
+#[derive(Drop)]
 pub(crate) enum Shape<'a> {
     /// A struct with named fields.
     Fields(Vec<Field<'a>>),
@@ -92,7 +92,7 @@ pub(crate) enum Shape<'a> {
 }
 
 /// A user-defined type.
-#[derive(Debug, Drop)]
+#[derive(Drop)]
 pub(crate) struct Definition<'a> {
     /// Its name.
     pub(crate) name: Token<'a>,
@@ -105,7 +105,7 @@ pub(crate) struct Definition<'a> {
 }
 
 /// What stands above the marker.
-#[derive(Debug, Drop)]
+#[derive(Drop)]
 pub(crate) struct Source<'a> {
     /// The structs and enums, in their order.
     pub(crate) definitions: Vec<Definition<'a>>,

@@ -1,7 +1,7 @@
 //! Tokens of the part of Rust that the generator reads.
 
 /// What a token is.
-#[derive(Clone, Copy, PartialEq, Debug)]
+#[derive(Clone, Copy, PartialEq)]
 pub(crate) enum TokenKind {
     /// A name or a keyword.
     Word,
@@ -20,7 +20,7 @@ pub(crate) enum TokenKind {
 }
 
 /// A token, and at which byte of the source it begins.
-#[derive(Clone, Copy, Debug)]
+#[derive(Clone, Copy)]
 pub(crate) struct Token<'a> {
     /// What it is.
     pub(crate) kind: TokenKind,

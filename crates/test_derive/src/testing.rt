@@ -20,17 +20,15 @@ fn outcome(alloc: Global, source: &str) -> Result<String, AllocError> {
     }
 }
 
-/// What becomes of a source is what was expected.
+/// What becomes of a source begins with what was expected.
 pub(crate) fn gives(rt: &impl Abort, alloc: Global, source: &str, expected: &str) {
     match outcome(alloc, source) {
-        Ok(found) => if !found.as_str().starts_with(expected) {
-            assert_eq!(rt; found.as_str(), expected)
-        },
+        Ok(found) => assert!(rt; found.as_str().starts_with(expected), "{found}"),
         Err(_failed) => assert_eq!(rt; "no memory", expected),
     }
 }
 
-/// What becomes of a source with the marker below it is what was expected.
+/// What becomes of a source with the marker below it begins with what was expected.
 pub(crate) fn fails(rt: &impl Abort, alloc: Global, above: &str, expected: &str) {
     match format!(in alloc; "{above}\n// ---- written by nano_derive\n") {
         Ok(source) => gives(rt, alloc, source.as_str(), expected),

@@ -24,20 +24,14 @@ pub(crate) fn check_definition<'a>(
     }
 }
 
-/// An error where a type is called transparent that has not one field.
+/// An error where a type is called transparent that has not one part without a name.
 fn check_transparent<'a>(definition: &Definition<'a>) -> Result<(), Fault> {
     let Some(word) = definition.attributes.transparent else {
         return Ok(());
     };
-    let has_one = match &definition.shape {
-        Shape::Fields(fields) => fields.len() == 1,
-        Shape::Parts(parts) => parts.len() == 1,
-        Shape::Variants(_) => false,
-    };
-    if has_one {
-        Ok(())
-    } else {
-        Err(Fault::token(word, "is for a struct of one field"))
+    match &definition.shape {
+        Shape::Parts(parts) if parts.len() == 1 => Ok(()),
+        _ => Err(Fault::token(word, "is for a struct of one part without a name")),
     }
 }
 

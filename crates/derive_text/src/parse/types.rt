@@ -7,7 +7,7 @@ use crate::token::{Token, TokenKind};
 use std::alloc::Global;
 
 /// A bracket that has been opened.
-#[derive(Clone, Copy, PartialEq, Debug)]
+#[derive(Clone, Copy, PartialEq)]
 enum Bracket {
     /// `<`.
     Angle,
