@@ -1,0 +1,100 @@
+//! Rows of fields, nested in pairs so that the way to none of them is long.
+
+use crate::output::layout::{Brackets, Items, Piece, list};
+use std::alloc::{AllocError, Global};
+
+/// One item of a row: a text, or a list between brackets.
+#[derive(Drop)]
+pub(crate) struct Leaf {
+    /// What opens the list, or nothing.
+    pub(crate) open: &'static str,
+    /// The text, or the items of the list.
+    pub(crate) texts: Vec<String>,
+    /// What closes the list, or nothing.
+    pub(crate) close: &'static str,
+}
+
+impl Leaf {
+    /// A text.
+    pub(crate) fn of(alloc: Global, text: String) -> Result<Leaf, AllocError> {
+        let mut texts = Vec::new(alloc);
+        texts.push(text)?;
+        Ok(Leaf {
+            open: "",
+            texts,
+            close: "",
+        })
+    }
+
+    /// It as it stands on a line that is indented so far, after so many columns of it.
+    fn piece(&self, alloc: Global, indent: usize, before: usize) -> Result<Piece, AllocError> {
+        let mut pieces = Vec::new(alloc);
+        for text in &self.texts {
+            pieces.push(Piece::of(alloc, text.as_str())?)?;
+        }
+        if self.open.is_empty() {
+            if let Some(piece) = pieces.pop() {
+                return Ok(piece);
+            }
+        }
+        let brackets = Brackets {
+            open: self.open,
+            close: self.close,
+            items: if self.open == "(" {
+                Items::Types
+            } else {
+                Items::Patterns
+            },
+            indent,
+            before,
+            after: 1,
+        };
+        list(alloc, brackets, &pieces)
+    }
+}
+
+/// The leaves as nested pairs: half of them, and the other half. They begin a line that is indented
+/// so far, after so many columns of it.
+pub(crate) fn pairs(
+    alloc: Global,
+    leaves: &[Leaf],
+    items: Items,
+    indent: usize,
+    before: usize,
+) -> Result<Piece, AllocError> {
+    if let [leaf] = leaves {
+        return leaf.piece(alloc, indent, before);
+    }
+    let (first, second) = leaves.split_at(leaves.len() / 2);
+    if leaves.is_empty() {
+        return Piece::of(alloc, "()");
+    }
+    let inner = indent.saturating_add(4);
+    let halves = [
+        pairs(alloc, first, items, inner, inner)?,
+        pairs(alloc, second, items, inner, inner)?,
+    ];
+    let brackets = Brackets {
+        open: "(",
+        close: ")",
+        items,
+        indent,
+        before,
+        after: 1,
+    };
+    list(alloc, brackets, &halves)
+}
+
+/// The texts as nested pairs of a ghost term.
+pub(crate) fn ghost_pairs(alloc: Global, texts: &[String]) -> Result<String, AllocError> {
+    if let [text] = texts {
+        return text.clone();
+    }
+    let (first, second) = texts.split_at(texts.len() / 2);
+    if texts.is_empty() {
+        return String::from_str(alloc, "tt");
+    }
+    let first = ghost_pairs(alloc, first)?;
+    let second = ghost_pairs(alloc, second)?;
+    format!(in alloc; "({first}, {second})")
+}

@@ -1,0 +1,90 @@
+//! Writes the impls of user-defined types into the files that declare them.
+//!
+//! `nano_derive FILE..` writes them below the marker of each file. `nano_derive --check FILE..`
+//! writes nothing, and prints the name of each file in which they are not what would be written:
+//! its status is then 1. A file at fault is unchanged; what is wrong is printed with its line and
+//! column, that line, and a caret under the character.
+#![tactic(auto)]
+
+use anyhow::{Context, Result, bail};
+use derive_text::{DeriveError, derive, module_of};
+use std::alloc::AllocError;
+use std::env;
+use std::fs::{self, File};
+use std::io::Write;
+use std::process::ExitCode;
+
+/// What became of a file.
+#[derive(Clone, Copy, PartialEq)]
+enum Outcome {
+    /// Its impls are what is written for it.
+    Fresh,
+    /// They are not, and were not written.
+    Stale,
+    /// What stands above its marker is at fault.
+    Faulty,
+}
+
+/// Writes a text beside a file, and then moves it to the file's place: where a step fails, the
+/// file is still what it was.
+fn replace(rt: &HostRuntime, name: &str, text: &str) -> Result<()> {
+    let beside = format!(in rt.alloc(); "{name}.new")?;
+    let mut file = File::create(rt, beside.as_str())?;
+    file.write_all(text.as_bytes())?;
+    file.sync_all()?;
+    Ok(fs::rename(rt, beside.as_str(), name)?)
+}
+
+/// Compares a file with what is written for it, and writes that unless it is only checked.
+fn derive_file(rt: &HostRuntime, name: &str, is_check: bool) -> Result<Outcome> {
+    let source = fs::read_to_string(rt, name).context(format_args!("reading {name}"))?;
+    let folder = env::current_dir(rt)?;
+    let path = format!(in rt.alloc(); "{}/{name}", folder.as_str())?;
+    let Some(module) = module_of(rt.alloc(), path.as_str())? else {
+        bail!("{name} is in no src folder of a crate");
+    };
+    match derive(rt.alloc(), module.as_str(), source.as_str()) {
+        Ok(text) if text.as_str() == source.as_str() => Ok(Outcome::Fresh),
+        Ok(_text) if is_check => Ok(Outcome::Stale),
+        Ok(text) => {
+            replace(rt, name, text.as_str()).context(format_args!("writing {name}"))?;
+            Ok(Outcome::Fresh)
+        }
+        Err(DeriveError::Source(fault)) => {
+            fault.show(&mut rt.stderr(), name, source.as_str())?;
+            Ok(Outcome::Faulty)
+        }
+        Err(DeriveError::Memory) => Err(AllocError.into()),
+    }
+}
+
+/// Derives each file, and says whether each is what it is to be.
+fn derive_files(rt: &HostRuntime, names: &[String], is_check: bool) -> Result<bool> {
+    let mut are_fresh = true;
+    for name in names {
+        let outcome = derive_file(rt, name.as_str(), is_check)?;
+        if outcome == Outcome::Stale {
+            println!(rt; "{name}")?;
+        }
+        if outcome != Outcome::Fresh {
+            are_fresh = false;
+        }
+    }
+    Ok(are_fresh)
+}
+
+fn main(rt: HostRuntime) -> Result<ExitCode> {
+    let words: Vec<String> = env::args(&rt)?.skip(1).collect(rt.alloc())?;
+    let (is_check, names) = match words.split_first() {
+        Some((first, rest)) if first.as_str() == "--check" => (true, rest),
+        _ => (false, words.as_slice()),
+    };
+    if names.is_empty() {
+        bail!("usage: nano_derive [--check] FILE..");
+    }
+    if derive_files(&rt, names, is_check)? {
+        Ok(ExitCode::SUCCESS)
+    } else {
+        Ok(ExitCode::FAILURE)
+    }
+}

@@ -1,0 +1,114 @@
+//! Mutated copies of sources: for each there is an answer, and what is written is its own answer.
+
+use derive_text::{DeriveError, derive};
+use std::alloc::{AllocError, Global};
+
+/// A source with each form that the generator reads.
+const SOURCE: &str = "//! Shapes.
+
+use std::collections::{BTreeMap, HashMap};
+ghost use Rattle.std.specs.Prelude.{◌≡◌};
+
+/* A /* nested */ comment. */
+/// A server.
+// nanoserde: bin json, ron
+#[derive(PartialEq, Debug, Drop)]
+pub struct Server {
+    /// Where it is.
+    // nanoserde: rename = \"type\"
+    pub host: String,
+    pub(crate) port: Option<u16>,
+    pub words: HashMap<String, Vec<(u8, [u32; 4])>>,
+}
+
+// nanoserde: de_json
+// nanoserde: ser_json
+struct Pair<A, B> {
+    a: A,
+    b: std::option::Option<B>,
+}
+
+// nanoserde: bin json ron transparent
+pub struct Plain(pub i32);
+
+// nanoserde: bin
+struct Triple(u8, u16, BTreeMap<String, u64>);
+
+// nanoserde: json
+enum Event {
+    Stop,
+    // nanoserde: rename = \"go on\"
+    Move(u32, String),
+    Say {
+        text: String,
+        times: u32,
+    },
+}
+
+// ---- written by nano_derive
+";
+
+/// The source with one character replaced, and another at a place that many characters further on.
+fn mutated(alloc: Global, at: usize, further: usize, put: &str) -> Result<String, AllocError> {
+    let mut text = String::new(alloc);
+    for (i, c) in SOURCE.chars().enumerate() {
+        if i == at || i == at.saturating_add(further) {
+            text.push_str(put)?;
+        } else {
+            text.push(c)?;
+        }
+    }
+    Ok(text)
+}
+
+/// Whether a source has an answer: what is written is its own answer, and an error stands in it.
+fn has_answer(alloc: Global, source: &str) -> Result<bool, AllocError> {
+    match derive(alloc, "app.specs.declared.shapes", source) {
+        Ok(text) => match derive(alloc, "app.specs.declared.shapes", text.as_str()) {
+            Ok(again) => Ok(again.as_str() == text.as_str()),
+            Err(_error) => Ok(false),
+        },
+        Err(DeriveError::Source(fault)) => Ok(fault.offset <= source.len()),
+        Err(DeriveError::Memory) => Err(AllocError),
+    }
+}
+
+/// Whether each mutated copy with this in place of a character has an answer.
+fn have_answers(alloc: Global, put: &str) -> Result<bool, AllocError> {
+    let count = SOURCE.chars().count();
+    for at in 0..count {
+        let text = mutated(alloc, at, at / 3 + 1, put)?;
+        if !has_answer(alloc, text.as_str())? {
+            return Ok(false);
+        }
+    }
+    Ok(count > 500)
+}
+
+#[test]
+fn copies_without_a_character_have_answers(rt: HostRuntime) {
+    for put in ["", "\n"] {
+        assert!(&rt; have_answers(rt.alloc(), put) == Ok(true), "{put}");
+    }
+}
+
+#[test]
+fn copies_with_a_quote_have_answers(rt: HostRuntime) {
+    for put in ["\"", "'", "\\"] {
+        assert!(&rt; have_answers(rt.alloc(), put) == Ok(true), "{put}");
+    }
+}
+
+#[test]
+fn copies_with_a_bracket_have_answers(rt: HostRuntime) {
+    for put in ["<", "}", "("] {
+        assert!(&rt; have_answers(rt.alloc(), put) == Ok(true), "{put}");
+    }
+}
+
+#[test]
+fn copies_with_a_comment_have_answers(rt: HostRuntime) {
+    for put in ["/", "*", "// nanoserde: "] {
+        assert!(&rt; have_answers(rt.alloc(), put) == Ok(true), "{put}");
+    }
+}
