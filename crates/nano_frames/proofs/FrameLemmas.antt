@@ -119,7 +119,7 @@ rejects_frame encodes old known error bytes code start end k r rejects =
     unchanged_then old (prepend_known (drop start bytes) known) (RejectsFrame encodes error) k
     (rejects_at encodes known error (drop start bytes) code r.prefix (drop end bytes) r.whole r.is_encoded rejects)
 
--- with the code's size it stays the error of reading the code
+-- the error, with the size of the code, is one of reading the code
 pub rejects_code : (encodes : List ℕ → Meaning → Type 0) (code : List ℕ) (error : DeBinErr) → error.kind ≢ Memory
     → RejectsWhole encodes code error → IsOfTrailing encodes code error → NamesTrailing encodes code error
     → RejectsCode encodes code (of_code code error)

@@ -15,8 +15,8 @@
 mod error;
 mod frames;
 pub mod laws;
-mod writing;
+mod writer;
 
 pub use error::Fault;
 pub use frames::Messages;
-pub use writing::put;
+pub use writer::put;

@@ -1,6 +1,6 @@
 -- the bytes are those that were written, and the rest
 use Rattle.nano_frames.specs.Frames.{WritesUpTo}
-use Rattle.nano_frames.proofs.writing.write_whole.Given as goal
+use Rattle.nano_frames.proofs.writer.write_whole.Given as goal
 
 abbrev pub invariant-writes : goal.invariant-writes
 invariant-writes g l =

@@ -2,8 +2,8 @@ use Rattle.std.proofs.Common.{◌≡◌, drop, ap, sym, subst, ◌∙◌}
 use Rattle.std.proofs.lemmas.List.{take_rest}
 use Rattle.nano_frames.specs.Frames.{WritesUpTo}
 use Rattle.nano_frames.proofs.FrameLemmas.{WritesUpTo-more, WritesUpTo-unchanged}
-use Rattle.nano_frames.proofs.writing.write_whole.Goals as goal
-use Rattle.nano_frames.proofs.writing.write_whole.Goals.{in-Ok, in-Err+else-ne}
+use Rattle.nano_frames.proofs.writer.write_whole.Goals as goal
+use Rattle.nano_frames.proofs.writer.write_whole.Goals.{in-Ok, in-Err+else-ne}
 
 pub writes-preserved : goal.writes-preserved
 writes-preserved g c =

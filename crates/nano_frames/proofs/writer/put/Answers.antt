@@ -1,7 +1,7 @@
 use Rattle.std.proofs.Common.{◌∙◌, Result, Ok, Err, OnErr}
 use Rattle.nano_frames.specs.Frames.{frame_of}
 use Rattle.nano_frames.proofs.FrameLemmas.{writes_frame, WritesUpTo-nothing}
-use Rattle.nano_frames.proofs.writing.put.Goals as goal
+use Rattle.nano_frames.proofs.writer.put.Goals as goal
 
 on_err : {T E P : Type 0} (r : Result T E) → P → OnErr r P
 on_err (Ok x) p = tt
