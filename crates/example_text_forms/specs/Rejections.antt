@@ -1,19 +1,13 @@
--- What becomes of the errors of the readers: out of memory is unchanged, and any other has the
--- same words and the same place.
-use Rattle.std.specs.Prelude.{◌≡◌, true, false}
-use Rattle.nano_json_tokens.specs.declared.error.DeJsonErr.{DeJsonErr}
-use Rattle.nano_ron_tokens.specs.declared.error.DeRonErr.{DeRonErr}
+-- What becomes of the error of a reader: out of memory is unchanged, and any other has the same
+-- words and the same place.
+use Rattle.std.specs.Prelude.{◌≡◌, ℕ, Bool, true, false, String}
+use Rattle.std.specs.Global.{Global}
 use Rattle.example_text_forms.specs.declared.rejection.Rejection.{Rejection}
 use Rattle.example_text_forms.specs.declared.rejection.Rejection.TheVariants.{Text, Memory}
 
--- the rejection for a JSON reader's error
-pub record IsOfJson (error : DeJsonErr) (rejection : Rejection) : Type 0 where
-  pub memory : error.memory ≡ true → rejection ≡ Memory
-  pub text : error.memory ≡ false
-      → rejection ≡ Text (record { words = error.msg; line = error.line; column = error.col })
-
--- the rejection for a RON reader's error
-pub record IsOfRon (error : DeRonErr) (rejection : Rejection) : Type 0 where
-  pub memory : error.memory ≡ true → rejection ≡ Memory
-  pub text : error.memory ≡ false
-      → rejection ≡ Text (record { words = error.msg; line = error.line; column = error.col })
+-- the rejection for an error with these parts
+pub record IsOf (failed : Bool) (words : String Global) (line column : ℕ) (rejection : Rejection)
+    : Type 0 where
+  pub memory : failed ≡ true → rejection ≡ Memory
+  pub text : failed ≡ false
+      → rejection ≡ Text (record { words = words; line = line; column = column })

@@ -1,7 +1,10 @@
 //! Why a text is rejected.
 
-ghost use Rattle.std.specs.Prelude.{◌≡◌};
-ghost use Rattle.example_text_forms.specs.Rejections.{IsOfJson, IsOfRon};
+ghost use Rattle.std.specs.Prelude.{◌≡◌, OnOk, take};
+ghost use Rattle.std.specs.Str.{chars};
+ghost use Rattle.std.specs.Io.KnownBytes.{Appends};
+ghost use Rattle.example_text_forms.specs.Rejections.{IsOf};
+ghost use Rattle.example_text_forms.specs.Shown.{row_of, before_of, line_of, pointer, shown};
 
 use nano_json::DeJsonErr;
 use nano_ron::DeRonErr;
@@ -33,23 +36,60 @@ pub enum Rejection {
 impl TextFault {
     /// Prints what is wrong after the name, line and column, both counted from 1, then the line
     /// itself, and a caret under the character where reading stopped; at the end of the text
-    /// that is its last character. `text` is the text that was read. The output's errors are
-    /// passed on, with what was written before.
-    pub fn show<W: Write>(&self, output: &mut W, name: &str, text: &str) -> io::Result<()> {
-        let (line, most) = match self.column {
-            0 => (self.line.saturating_sub(1), usize::MAX),
-            column => (self.line, column - 1),
-        };
-        let shown = text.lines().nth(line).unwrap_or("");
-        let before = shown.chars().count().min(most);
-        let (row, column) = (line.saturating_add(1), before.saturating_add(1));
+    /// that is its last character, and where no character was taken the first. `text` is the
+    /// text that was read. The output's errors are passed on, with what was written before.
+    pub fn show<W: Write>(&self, output: &mut W, name: &str, text: &str) -> io::Result<()>
+        ensures { OnOk result (Appends (W.contents output.old) (W.contents output.new)
+            (shown self.now name.now text.now)) }
+    {
+        let row = self.row();
+        let line = line_at(text, row);
+        let before = self.before(line.chars().count());
+        let (row, column) = (row.saturating_add(1), before.saturating_add(1));
         writeln!(output, "{name}:{row}:{column}: {}", self.words)?;
-        writeln!(output, "{shown}")?;
-        for c in shown.chars().take(before) {
-            write!(output, "{}", if c == '\t' { c } else { ' ' })?;
-        }
-        writeln!(output, "^")
+        writeln!(output, "{line}")?;
+        point(output, line, before)
     }
+
+    /// The line that is shown, counted from 0.
+    fn row(&self) -> usize
+        ensures { result ≡ row_of self.now.line self.now.column }
+    {
+        if self.column == 0 {
+            self.line.saturating_sub(1)
+        } else {
+            self.line
+        }
+    }
+
+    /// How many of this many characters of the line come before the caret.
+    fn before(&self, count: usize) -> usize
+        ensures { result ≡ before_of self.now.line self.now.column count }
+    {
+        match (self.line, self.column) {
+            (0, 0) => 0,
+            (_, 0) => count,
+            (_, column) => count.min(column - 1),
+        }
+    }
+}
+
+/// A line of a text, counted from 0, or the empty one where the text has no such line.
+fn line_at(text: &str, row: usize) -> &str
+    ensures { result.now ≡ line_of text.now row }
+{
+    text.lines().nth(row).unwrap_or("")
+}
+
+/// Writes a caret under the character after the first `before` ones of the line.
+fn point<W: Write>(output: &mut W, line: &str, before: usize) -> io::Result<()>
+    ensures { OnOk result (Appends (W.contents output.old) (W.contents output.new)
+        (pointer (take before (chars line.now)))) }
+{
+    for c in line.chars().take(before) {
+        write!(output, "{}", if c == '\t' { c } else { ' ' })?;
+    }
+    writeln!(output, "^")
 }
 
 impl From<AllocError> for Rejection {
@@ -63,31 +103,31 @@ impl From<AllocError> for Rejection {
 }
 
 impl From<DeJsonErr> for Rejection {
-    ghost from_gives = { IsOfJson };
+    ghost from_gives = { λ error. IsOf error.memory error.msg error.line error.col };
 
     fn from(error: DeJsonErr) -> Self {
-        if error.memory {
-            return Rejection::Memory;
-        }
-        Rejection::Text(TextFault {
-            words: error.msg,
-            line: error.line,
-            column: error.col,
-        })
+        reported(error.memory, error.msg, error.line, error.col)
     }
 }
 
 impl From<DeRonErr> for Rejection {
-    ghost from_gives = { IsOfRon };
+    ghost from_gives = { λ error. IsOf error.memory error.msg error.line error.col };
 
     fn from(error: DeRonErr) -> Self {
-        if error.memory {
-            return Rejection::Memory;
-        }
-        Rejection::Text(TextFault {
-            words: error.msg,
-            line: error.line,
-            column: error.col,
-        })
+        reported(error.memory, error.msg, error.line, error.col)
     }
+}
+
+/// The rejection for a reader's error, with its words and its place.
+fn reported(memory: bool, words: String, line: usize, column: usize) -> Rejection
+    ensures { IsOf memory words line column result }
+{
+    if memory {
+        return Rejection::Memory;
+    }
+    Rejection::Text(TextFault {
+        words,
+        line,
+        column,
+    })
 }

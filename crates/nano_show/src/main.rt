@@ -8,17 +8,32 @@
 //! nothing else. See `run` for the types. `nano_show toml` prints the listing of a TOML text.
 #![tactic(auto)]
 
+ghost use Rattle.std.specs.Prelude.{◌≡◌, ◌≢◌};
+ghost use Rattle.std.specs.IoError.{error_kind};
+
 pub use nano_show_answers::{ShowFault, ending, run};
 use std::env;
-use std::io::ErrorKind;
+use std::io::{self, ErrorKind};
 use std::process::ExitCode;
+
+/// The fault where the arguments could not be copied: wrong words for some that are not UTF-8,
+/// out of memory for anything else.
+fn fault_of(error: &io::Error) -> ShowFault
+    ensures words { error_kind error.now ≡ ErrorKind.InvalidData → result ≡ ShowFault.Usage }
+    ensures memory { error_kind error.now ≢ ErrorKind.InvalidData → result ≡ ShowFault.Memory }
+{
+    if error.kind() == ErrorKind::InvalidData {
+        ShowFault::Usage
+    } else {
+        ShowFault::Memory
+    }
+}
 
 /// The arguments after the program's name. The program knows no arguments that are not UTF-8.
 fn arguments(rt: &HostRuntime) -> Result<Vec<String>, ShowFault> {
     match env::args(rt) {
         Ok(words) => Ok(words.skip(1).collect(rt.alloc())?),
-        Err(error) if error.kind() == ErrorKind::InvalidData => Err(ShowFault::Usage),
-        Err(_) => Err(ShowFault::Memory),
+        Err(error) => Err(fault_of(&error)),
     }
 }
 

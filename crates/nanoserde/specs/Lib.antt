@@ -25,3 +25,4 @@ pub use Rattle.nano_schema_ron.specs.Choice as RonChoice
 -- what joins the formats
 pub mod Normal
 pub mod Promises
+pub mod Written

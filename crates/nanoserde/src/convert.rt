@@ -6,7 +6,8 @@ ghost use Rattle.nano_json.specs.Readers.{RejectsText as RejectsJson};
 ghost use Rattle.nano_ron.specs.Readers.{RejectsText as RejectsRon};
 ghost use Rattle.nanoserde.specs.Normal.{JsonAsBytes, RonAsBytes};
 
-use crate::{BothBin, DeJson, DeJsonErr, DeJsonState, DeRon, DeRonErr, DeRonState};
+use crate::written::{json_written, ron_written};
+use crate::{BothBin, DeJson, DeJsonErr, DeRon, DeRonErr};
 use std::alloc::Global;
 
 /// The canonical encoding, as bytes, of the value that a JSON text begins with.
@@ -20,10 +21,7 @@ pub fn json_to_bin<T: DeJson + BothBin>(alloc: Global, input: &str) -> Result<Ve
     ensures rejected { RejectsJson T.json.encoding.encodes (remaining_text input.now) result }
 {
     let value = T::deserialize_json(alloc, input)?;
-    match value.serialize_bin(alloc) {
-        Ok(bytes) => Ok(bytes),
-        Err(_rejected) => Err(DeJsonState::new(alloc).err_memory(alloc)),
-    }
+    json_written(alloc, value.serialize_bin(alloc))
 }
 
 /// The canonical encoding, as bytes, of the value that a RON text begins with.
@@ -37,8 +35,5 @@ pub fn ron_to_bin<T: DeRon + BothBin>(alloc: Global, input: &str) -> Result<Vec<
     ensures rejected { RejectsRon T.ron.encoding.encodes (remaining_text input.now) result }
 {
     let value = T::deserialize_ron(alloc, input)?;
-    match value.serialize_bin(alloc) {
-        Ok(bytes) => Ok(bytes),
-        Err(_rejected) => Err(DeRonState::new(alloc).err_memory(alloc)),
-    }
+    ron_written(alloc, value.serialize_bin(alloc))
 }

@@ -11,6 +11,7 @@ mod convert;
 pub mod laws;
 mod normal;
 pub mod records;
+mod written;
 
 pub use convert::json_to_bin;
 pub use convert::ron_to_bin;

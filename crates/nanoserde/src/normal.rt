@@ -7,8 +7,8 @@ ghost use Rattle.nano_json.specs.Readers.{RejectsText as RejectsJson};
 ghost use Rattle.nano_ron.specs.Readers.{RejectsText as RejectsRon};
 ghost use Rattle.nanoserde.specs.Normal.{NormalBytes, NormalJson, NormalRon};
 
-use crate::{BothBin, BothJson, BothRon, DeBinErr, DeJsonErr, DeJsonState, DeRonErr, DeRonState};
-use nano_bytes::no_memory;
+use crate::written::{bin_written, json_written, ron_written};
+use crate::{BothBin, BothJson, BothRon, DeBinErr, DeJsonErr, DeRonErr};
 use std::alloc::Global;
 
 /// The normal form of bytes: the canonical encoding of the value that they begin with. Bytes
@@ -21,10 +21,7 @@ pub fn normal_bin<T: BothBin>(alloc: Global, d: &[u8]) -> Result<Vec<u8>, DeBinE
     ensures rejected { IfErr result (Rejects T.bin.encoding.encodes d.now) }
 {
     let value = T::deserialize_bin(alloc, d)?;
-    match value.serialize_bin(alloc) {
-        Ok(bytes) => Ok(bytes),
-        Err(_rejected) => Err(no_memory(0, d)),
-    }
+    bin_written(value.serialize_bin(alloc), d)
 }
 
 /// The normal form of a JSON text: the canonical text, at level 0, of the value that it begins
@@ -38,10 +35,7 @@ pub fn normal_json<T: BothJson>(alloc: Global, input: &str) -> Result<String, De
     ensures rejected { RejectsJson T.json.encoding.encodes (remaining_text input.now) result }
 {
     let value = T::deserialize_json(alloc, input)?;
-    match value.serialize_json(alloc) {
-        Ok(text) => Ok(text),
-        Err(_rejected) => Err(DeJsonState::new(alloc).err_memory(alloc)),
-    }
+    json_written(alloc, value.serialize_json(alloc))
 }
 
 /// The normal form of a RON text: the canonical text, at level 0, of the value that it begins
@@ -55,8 +49,5 @@ pub fn normal_ron<T: BothRon>(alloc: Global, input: &str) -> Result<String, DeRo
     ensures rejected { RejectsRon T.ron.encoding.encodes (remaining_text input.now) result }
 {
     let value = T::deserialize_ron(alloc, input)?;
-    match value.serialize_ron(alloc) {
-        Ok(text) => Ok(text),
-        Err(_rejected) => Err(DeRonState::new(alloc).err_memory(alloc)),
-    }
+    ron_written(alloc, value.serialize_ron(alloc))
 }

@@ -166,6 +166,38 @@ fn writers_that_take_nothing(rt: HostRuntime) -> Result<(), Fail> {
     Ok(())
 }
 
+/// The words of a row over a writer that takes a byte a call, and none at one of its calls: that
+/// call is the last, and what was taken before it is the answer's beginning.
+fn is_written_until_none_is_taken(
+    rt: &impl Abort,
+    alloc: Global,
+    row: Row,
+    stops_at: usize,
+) -> Result<(), AllocError> {
+    let words = words(alloc, row.0)?;
+    let mut input = row.1;
+    let mut output = Pipe::stopping(alloc, stops_at)?;
+    match run(alloc, &words, &mut input, &mut output) {
+        Ok(()) => holds(rt, false, row.0),
+        Err(fault) => is_ending(rt, &fault, (3, "stream fault")),
+    }
+    is_count(rt, output.calls, stops_at);
+    is_count(rt, output.taken.len().saturating_add(1), stops_at);
+    let begins = row.3.as_bytes().starts_with(output.taken.as_slice());
+    holds(rt, begins, row.0);
+    Ok(())
+}
+
+#[test]
+fn writers_that_take_some_and_then_nothing(rt: HostRuntime) -> Result<(), Fail> {
+    for row in ROWS {
+        for stops_at in 1..=row.3.len() {
+            is_written_until_none_is_taken(&rt, rt.alloc(), *row, stops_at)?;
+        }
+    }
+    Ok(())
+}
+
 #[test]
 fn a_reader_without_memory(rt: HostRuntime) -> Result<(), Fail> {
     for row in &ROWS[2..] {

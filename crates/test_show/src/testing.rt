@@ -45,7 +45,7 @@ impl Read for Source<'_> {
 }
 
 /// A writer that takes a few bytes a call, and fails at one of its calls with an error of this
-/// kind.
+/// kind or takes nothing at one of them.
 #[derive(Drop)]
 pub(crate) struct Pipe {
     pub(crate) taken: Vec<u8>,
@@ -53,6 +53,7 @@ pub(crate) struct Pipe {
     pub(crate) calls: usize,
     fails_at: usize,
     kind: ErrorKind,
+    stops_at: usize,
 }
 
 impl Write for Pipe {
@@ -60,6 +61,9 @@ impl Write for Pipe {
         self.calls = self.calls.saturating_add(1);
         if self.calls == self.fails_at {
             return Err(self.kind.into());
+        }
+        if self.calls == self.stops_at {
+            return Ok(0);
         }
         let count = buf.len().min(self.most);
         self.taken.extend_from_slice(&buf[..count])?;
@@ -87,6 +91,20 @@ impl Pipe {
             calls: 0,
             fails_at,
             kind,
+            stops_at: 0,
+        })
+    }
+
+    /// It takes nothing at one of its calls, and fails at none.
+    pub(crate) fn stopping(alloc: Global, stops_at: usize) -> Result<Pipe, AllocError> {
+        let taken = Vec::with_capacity(alloc, 64)?;
+        Ok(Pipe {
+            taken,
+            most: 1,
+            calls: 0,
+            fails_at: 0,
+            kind: ErrorKind::Other,
+            stops_at,
         })
     }
 }
