@@ -1,21 +1,8 @@
 //! A message: its schema, and bytes.
 
-ghost use Rattle.std.specs.Prelude.{codes, refl};
-ghost use Rattle.nano_schema.specs.UserTypes.{agreed, LegalVariant};
-ghost use Rattle.nano_schema.specs.declared.choices.Either.TheVariants.{First, Later};
-ghost use Rattle.nano_schema_bin.specs.Choice.{bin_choice};
-ghost use Rattle.example_messages.specs.declared.message.Message.TheVariants.{Leave, Move, Say};
-
-use nano_schema::{
-    Alone, BorrowedChoices, Choice, ChoiceParts, Choices, Either, Label, Named, Required, Tupled,
-    Value, Variant, known_choice,
-};
-use nano_schema_bin::{
-    BinCodec, BinShapes, DeBin, DeBinErr, SerBin, read_choice_bin, write_choice_bin,
-};
-use std::alloc::{AllocError, Global};
 use std::collections::HashMap;
 
+// nanoserde: bin
 /// What one device tells another.
 #[derive(Debug, Drop)]
 pub enum Message {
@@ -32,11 +19,20 @@ pub enum Message {
     },
 }
 
+// ---- written by nano_derive
+
+ghost use Rattle.std.specs.Prelude.{codes};
+ghost use Rattle.nano_schema.specs.declared.choices.Either.TheVariants.{First, Later};
+ghost use Rattle.nano_schema.specs.UserTypes.{LegalVariant};
+ghost use Rattle.nano_schema_bin.specs.Choice.{bin_choice};
+ghost use Rattle.std.specs.Prelude.{refl};
+ghost use Rattle.nano_schema.specs.UserTypes.{agreed};
+
 /// The name `Leave`.
 #[derive(Drop)]
 struct MessageLeave {}
 
-impl Label for MessageLeave {
+impl nano_schema::Label for MessageLeave {
     ghost label = { codes "Leave" };
 
     fn text() -> &'static str {
@@ -48,7 +44,7 @@ impl Label for MessageLeave {
 #[derive(Drop)]
 struct MessageMove {}
 
-impl Label for MessageMove {
+impl nano_schema::Label for MessageMove {
     ghost label = { codes "Move" };
 
     fn text() -> &'static str {
@@ -56,11 +52,13 @@ impl Label for MessageMove {
     }
 }
 
+type MessageMoveParts = (u32, Vec<i16>);
+
 /// The name `Say`.
 #[derive(Drop)]
 struct MessageSay {}
 
-impl Label for MessageSay {
+impl nano_schema::Label for MessageSay {
     ghost label = { codes "Say" };
 
     fn text() -> &'static str {
@@ -72,7 +70,7 @@ impl Label for MessageSay {
 #[derive(Drop)]
 struct MessageSayText {}
 
-impl Label for MessageSayText {
+impl nano_schema::Label for MessageSayText {
     ghost label = { codes "text" };
 
     fn text() -> &'static str {
@@ -84,7 +82,7 @@ impl Label for MessageSayText {
 #[derive(Drop)]
 struct MessageSayTo {}
 
-impl Label for MessageSayTo {
+impl nano_schema::Label for MessageSayTo {
     ghost label = { codes "to" };
 
     fn text() -> &'static str {
@@ -92,89 +90,134 @@ impl Label for MessageSayTo {
     }
 }
 
-type MessageVariants = (
-    Variant<MessageLeave, Alone>,
-    (
-        Variant<MessageMove, Tupled<(u32, Vec<i16>)>>,
-        Variant<
-            MessageSay,
-            Named<
-                (
-                    Required<MessageSayText, String>,
-                    Required<MessageSayTo, HashMap<String, u32>>,
-                ),
-            >,
-        >,
-    ),
+type MessageSayParts = (
+    nano_schema::Required<MessageSayText, String>,
+    nano_schema::Required<MessageSayTo, HashMap<String, u32>>,
 );
 
-impl Choice for Message {
-    type Values = Either<(), Either<(u32, Vec<i16>), (String, HashMap<String, u32>)>>;
+type MessageVariants3 = nano_schema::Variant<MessageSay, nano_schema::Named<MessageSayParts>>;
 
-    ghost view = { λ e. elim e [
+type MessageVariants2 = (
+    nano_schema::Variant<MessageMove, nano_schema::Tupled<MessageMoveParts>>,
+    MessageVariants3,
+);
+
+type MessageVariants = (
+    nano_schema::Variant<MessageLeave, nano_schema::Alone>,
+    MessageVariants2,
+);
+
+type MessageValues3 = (String, HashMap<String, u32>);
+
+type MessageValues2 = nano_schema::Either<(u32, Vec<i16>), MessageValues3>;
+
+type MessageValues = nano_schema::Either<(), MessageValues2>;
+
+type MessageRefs3<'a> = (&'a String, &'a HashMap<String, u32>);
+
+type MessageRefs2<'a> = nano_schema::Either<(&'a u32, &'a Vec<i16>), MessageRefs3<'a>>;
+
+type MessageRefs<'a> = nano_schema::Either<(), MessageRefs2<'a>>;
+
+impl nano_schema::Choice for Message {
+    ghost use Rattle.example_messages.specs.declared.message.Message.TheVariants.{Leave};
+    ghost use Rattle.example_messages.specs.declared.message.Message.TheVariants.{Move};
+    ghost use Rattle.example_messages.specs.declared.message.Message.TheVariants.{Say};
+
+    type Values = MessageValues;
+
+    ghost view = { λ x. elim x [
       | Leave ↦ First tt
-      | Move number steps ↦ Later (First (number, steps))
-      | Say text to ↦ Later (Later ((text, to)))
+      | Move v0 v1 ↦ Later (First (v0, v1))
+      | Say v0 v1 ↦ Later (Later (v0, v1))
     ] };
 
-    fn make(
-        values: Either<(), Either<(u32, Vec<i16>), (String, HashMap<String, u32>)>>,
-    ) -> Message {
-        match values {
-            Either::First(()) => Message::Leave,
-            Either::Later(later) => match later {
-                Either::First((number, steps)) => Message::Move(number, steps),
-                Either::Later(later) => {
-                    let (text, to) = later;
-                    Message::Say { text, to }
-                },
-            },
-        }
+    fn make(values: Self::Values) -> Self {
+        let later = match values {
+            nano_schema::Either::First(values) => {
+                let () = values;
+                return Message::Leave;
+            }
+            nano_schema::Either::Later(later) => later,
+        };
+        let later = match later {
+            nano_schema::Either::First(values) => {
+                let (first, second) = values;
+                return Message::Move(first, second);
+            }
+            nano_schema::Either::Later(later) => later,
+        };
+        let (text, to) = later;
+        Message::Say { text, to }
     }
 }
 
-impl<'a> ChoiceParts<'a> for Message {
-    type Refs = Either<(), Either<(&'a u32, &'a Vec<i16>), (&'a String, &'a HashMap<String, u32>)>>;
+impl<'a> nano_schema::ChoiceParts<'a> for Message {
+    type Refs = MessageRefs<'a>;
 
-    ghost values = { ⟦<MessageVariants as BorrowedChoices<'a>>⟧.values };
+    ghost values = { ⟦<MessageVariants as nano_schema::BorrowedChoices<'a>>⟧.values };
 
-    fn as_refs(
-        &'a self,
-    ) -> Either<(), Either<(&'a u32, &'a Vec<i16>), (&'a String, &'a HashMap<String, u32>)>> {
+    fn as_refs(&'a self) -> Self::Refs {
         match self {
-            Message::Leave => Either::First(()),
-            Message::Move(number, steps) => Either::Later(Either::First((number, steps))),
-            Message::Say { text, to } => Either::Later(Either::Later((text, to))),
+            Message::Leave => {
+                let refs = ();
+                let refs = nano_schema::Either::First(refs);
+                refs
+            }
+            Message::Move(first, second) => {
+                let refs = (first, second);
+                let refs = nano_schema::Either::First(refs);
+                let refs = nano_schema::Either::Later(refs);
+                refs
+            }
+            Message::Say { text, to } => {
+                let refs = (text, to);
+                let refs = nano_schema::Either::Later(refs);
+                let refs = nano_schema::Either::Later(refs);
+                refs
+            }
         }
     }
 }
 
-impl Value for Message {
-    ghost means = { λ e. ⟦<MessageVariants as Choices>⟧.means 0 (⟦<Message as Choice>⟧.view e) };
+impl nano_schema::Value for Message {
+    ghost means = { λ x. ⟦<MessageVariants as nano_schema::Choices>⟧.means 0
+        (⟦<Message as nano_schema::Choice>⟧.view x) };
 
-    ghost legal = { LegalVariant ⟦<MessageVariants as Choices>⟧.legals };
+    ghost legal = { LegalVariant ⟦<MessageVariants as nano_schema::Choices>⟧.legals };
 
     fn known(&self) {
-        known_choice::<Message, MessageVariants>(self);
+        nano_schema::known_choice::<Self, MessageVariants>(self);
     }
 }
 
-impl BinCodec for Message {
-    ghost bin = { bin_choice ⟦<Message as Choice>⟧.view ⟦<MessageVariants as BinShapes>⟧.chosen refl };
+// ---- bytes
+
+impl nano_schema_bin::BinCodec for Message {
+    ghost bin = { bin_choice ⟦<Message as nano_schema::Choice>⟧.view
+        ⟦<MessageVariants as nano_schema_bin::BinShapes>⟧.chosen refl };
 
     ghost agrees = { agreed };
 }
 
-impl SerBin for Message {
-    fn ser_bin(&self, alloc: Global, output: &mut Vec<u8>) -> Result<(), AllocError> {
-        write_choice_bin::<Message, MessageVariants>(self, alloc, output)
+impl nano_schema_bin::SerBin for Message {
+    fn ser_bin(
+        &self,
+        alloc: std::alloc::Global,
+        output: &mut Vec<u8>,
+    ) -> Result<(), std::alloc::AllocError> {
+        nano_schema_bin::write_choice_bin::<Self, MessageVariants>(self, alloc, output)
     }
 }
 
-impl DeBin for Message {
+impl nano_schema_bin::DeBin for Message {
     ghost is_decodable = { refl };
 
-    fn de_bin(alloc: Global, offset: &mut usize, bytes: &[u8]) -> Result<Message, DeBinErr> {
-        read_choice_bin::<Message, MessageVariants>(alloc, offset, bytes)
+    fn de_bin(
+        alloc: std::alloc::Global,
+        offset: &mut usize,
+        bytes: &[u8],
+    ) -> Result<Self, nano_schema_bin::DeBinErr> {
+        nano_schema_bin::read_choice_bin::<Self, MessageVariants>(alloc, offset, bytes)
     }
 }

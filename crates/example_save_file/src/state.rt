@@ -1,23 +1,8 @@
 //! What a game remembers: its schema, JSON and RON.
 
-ghost use Rattle.std.specs.Prelude.{codes, refl};
-ghost use Rattle.nano_schema.specs.UserTypes.{agreed};
-ghost use Rattle.nano_schema_json.specs.Record.{json_of};
-ghost use Rattle.nano_schema_ron.specs.Record.{ron_of};
-
-use nano_schema::{Borrowed, Label, Optional, Parts, Record, Required, Shape, Value, known_record};
-use nano_schema_json::{
-    DeJson, DeJsonState, JsonCodec, JsonResult, JsonShape, SerJson, SerJsonState, read_record_json,
-    write_record_json,
-};
-use nano_schema_ron::{
-    DeRon, DeRonState, RonCodec, RonResult, RonShape, SerRon, SerRonState, read_record_ron,
-    write_record_ron,
-};
-use std::alloc::{AllocError, Global};
 use std::collections::HashMap;
-use std::str::Chars;
 
+// nanoserde: json ron
 /// What a game remembers.
 #[derive(Debug, Drop)]
 pub struct State {
@@ -29,11 +14,18 @@ pub struct State {
     pub player: Option<String>,
 }
 
+// ---- written by nano_derive
+
+ghost use Rattle.std.specs.Prelude.{codes};
+ghost use Rattle.nano_schema_json.specs.Record.{json_of};
+ghost use Rattle.nano_schema.specs.UserTypes.{agreed};
+ghost use Rattle.nano_schema_ron.specs.Record.{ron_of};
+
 /// The name `coins`.
 #[derive(Drop)]
 struct StateCoins {}
 
-impl Label for StateCoins {
+impl nano_schema::Label for StateCoins {
     ghost label = { codes "coins" };
 
     fn text() -> &'static str {
@@ -45,7 +37,7 @@ impl Label for StateCoins {
 #[derive(Drop)]
 struct StateTimes {}
 
-impl Label for StateTimes {
+impl nano_schema::Label for StateTimes {
     ghost label = { codes "times" };
 
     fn text() -> &'static str {
@@ -57,7 +49,7 @@ impl Label for StateTimes {
 #[derive(Drop)]
 struct StatePlayer {}
 
-impl Label for StatePlayer {
+impl nano_schema::Label for StatePlayer {
     ghost label = { codes "player" };
 
     fn text() -> &'static str {
@@ -66,19 +58,19 @@ impl Label for StatePlayer {
 }
 
 type StateFields = (
-    Required<StateCoins, u32>,
+    nano_schema::Required<StateCoins, u32>,
     (
-        Required<StateTimes, HashMap<String, u64>>,
-        Optional<StatePlayer, String>,
+        nano_schema::Required<StateTimes, HashMap<String, u64>>,
+        nano_schema::Optional<StatePlayer, String>,
     ),
 );
 
-impl Record for State {
+impl nano_schema::Record for State {
     type Values = (u32, (HashMap<String, u64>, Option<String>));
 
-    ghost view = { λ s. (s.coins, (s.times, s.player)) };
+    ghost view = { λ x. (x.coins, (x.times, x.player)) };
 
-    fn make(values: (u32, (HashMap<String, u64>, Option<String>))) -> State {
+    fn make(values: Self::Values) -> Self {
         let (coins, (times, player)) = values;
         State {
             coins,
@@ -88,62 +80,83 @@ impl Record for State {
     }
 }
 
-impl<'a> Parts<'a> for State {
+impl<'a> nano_schema::Parts<'a> for State {
     type Refs = (&'a u32, (&'a HashMap<String, u64>, &'a Option<String>));
 
-    ghost values = { ⟦<StateFields as Borrowed<'a>>⟧.values };
+    ghost values = { ⟦<StateFields as nano_schema::Borrowed<'a>>⟧.values };
 
-    fn as_refs(&'a self) -> (&'a u32, (&'a HashMap<String, u64>, &'a Option<String>)) {
+    fn as_refs(&'a self) -> Self::Refs {
         (&self.coins, (&self.times, &self.player))
     }
 }
 
-impl Value for State {
-    ghost means = { λ s. ⟦<StateFields as Shape>⟧.means (⟦<State as Record>⟧.view s) };
+impl nano_schema::Value for State {
+    ghost means = { λ x. ⟦<StateFields as nano_schema::Shape>⟧.means
+        (⟦<State as nano_schema::Record>⟧.view x) };
 
-    ghost legal = { ⟦<StateFields as Shape>⟧.legal };
+    ghost legal = { ⟦<StateFields as nano_schema::Shape>⟧.legal };
 
     fn known(&self) {
-        known_record::<State, StateFields>(self);
+        nano_schema::known_record::<Self, StateFields>(self);
     }
 }
 
 // ---- JSON
 
-impl JsonCodec for State {
-    ghost json = { json_of ⟦<State as Record>⟧.view ⟦<StateFields as JsonShape>⟧.codec refl };
+impl nano_schema_json::JsonCodec for State {
+    ghost json = { json_of ⟦<State as nano_schema::Record>⟧.view
+        ⟦<StateFields as nano_schema_json::JsonShape>⟧.codec refl };
 
     ghost agrees = { agreed };
 }
 
-impl SerJson for State {
-    fn ser_json(&self, alloc: Global, d: usize, s: &mut SerJsonState) -> Result<(), AllocError> {
-        write_record_json::<State, StateFields>(self, alloc, d, s)
+impl nano_schema_json::SerJson for State {
+    fn ser_json(
+        &self,
+        alloc: std::alloc::Global,
+        d: usize,
+        s: &mut nano_schema_json::SerJsonState,
+    ) -> Result<(), std::alloc::AllocError> {
+        nano_schema_json::write_record_json::<Self, StateFields>(self, alloc, d, s)
     }
 }
 
-impl DeJson for State {
-    fn de_json(alloc: Global, state: &mut DeJsonState, input: &mut Chars<'_>) -> JsonResult<Self> {
-        read_record_json::<State, StateFields>(alloc, state, input)
+impl nano_schema_json::DeJson for State {
+    fn de_json(
+        alloc: std::alloc::Global,
+        state: &mut nano_schema_json::DeJsonState,
+        input: &mut std::str::Chars<'_>,
+    ) -> nano_schema_json::JsonResult<Self> {
+        nano_schema_json::read_record_json::<Self, StateFields>(alloc, state, input)
     }
 }
 
 // ---- RON
 
-impl RonCodec for State {
-    ghost ron = { ron_of ⟦<State as Record>⟧.view ⟦<StateFields as RonShape>⟧.codec refl };
+impl nano_schema_ron::RonCodec for State {
+    ghost ron = { ron_of ⟦<State as nano_schema::Record>⟧.view
+        ⟦<StateFields as nano_schema_ron::RonShape>⟧.codec refl };
 
     ghost agrees = { agreed };
 }
 
-impl SerRon for State {
-    fn ser_ron(&self, alloc: Global, d: usize, s: &mut SerRonState) -> Result<(), AllocError> {
-        write_record_ron::<State, StateFields>(self, alloc, d, s)
+impl nano_schema_ron::SerRon for State {
+    fn ser_ron(
+        &self,
+        alloc: std::alloc::Global,
+        d: usize,
+        s: &mut nano_schema_ron::SerRonState,
+    ) -> Result<(), std::alloc::AllocError> {
+        nano_schema_ron::write_record_ron::<Self, StateFields>(self, alloc, d, s)
     }
 }
 
-impl DeRon for State {
-    fn de_ron(alloc: Global, state: &mut DeRonState, input: &mut Chars<'_>) -> RonResult<Self> {
-        read_record_ron::<State, StateFields>(alloc, state, input)
+impl nano_schema_ron::DeRon for State {
+    fn de_ron(
+        alloc: std::alloc::Global,
+        state: &mut nano_schema_ron::DeRonState,
+        input: &mut std::str::Chars<'_>,
+    ) -> nano_schema_ron::RonResult<Self> {
+        nano_schema_ron::read_record_ron::<Self, StateFields>(alloc, state, input)
     }
 }

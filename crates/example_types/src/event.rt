@@ -1,31 +1,6 @@
 //! An enum with a variant of each shape: its schema, and then bytes, JSON and RON.
 
-ghost use Rattle.std.specs.Prelude.{codes, refl};
-ghost use Rattle.nano_schema.specs.UserTypes.{agreed, LegalVariant};
-ghost use Rattle.nano_schema.specs.declared.choices.Either.TheVariants.{First, Later};
-ghost use Rattle.nano_schema_bin.specs.Choice.{bin_choice};
-ghost use Rattle.nano_schema_json.specs.Choice.{json_choice};
-ghost use Rattle.nano_schema_ron.specs.Choice.{ron_choice};
-ghost use Rattle.example_types.specs.declared.event.Event.TheVariants.{Stop, Move, Say};
-
-use nano_schema::{
-    Alone, BorrowedChoices, Choice, ChoiceParts, Choices, Either, Label, Named, Required, Tupled,
-    Value, Variant, known_choice,
-};
-use nano_schema_bin::{
-    BinCodec, BinShapes, DeBin, DeBinErr, SerBin, read_choice_bin, write_choice_bin,
-};
-use nano_schema_json::{
-    DeJson, DeJsonState, JsonCodec, JsonResult, JsonShapes, SerJson, SerJsonState,
-    read_choice_json, write_choice_json,
-};
-use nano_schema_ron::{
-    DeRon, DeRonState, RonCodec, RonResult, RonShapes, SerRon, SerRonState, read_choice_ron,
-    write_choice_ron,
-};
-use std::alloc::{AllocError, Global};
-use std::str::Chars;
-
+// nanoserde: bin json ron
 /// What a device does.
 #[derive(PartialEq, Debug, Drop)]
 pub enum Event {
@@ -42,11 +17,22 @@ pub enum Event {
     },
 }
 
+// ---- written by nano_derive
+
+ghost use Rattle.std.specs.Prelude.{codes};
+ghost use Rattle.nano_schema.specs.declared.choices.Either.TheVariants.{First, Later};
+ghost use Rattle.nano_schema.specs.UserTypes.{LegalVariant};
+ghost use Rattle.nano_schema_bin.specs.Choice.{bin_choice};
+ghost use Rattle.std.specs.Prelude.{refl};
+ghost use Rattle.nano_schema.specs.UserTypes.{agreed};
+ghost use Rattle.nano_schema_json.specs.Choice.{json_choice};
+ghost use Rattle.nano_schema_ron.specs.Choice.{ron_choice};
+
 /// The name `Stop`.
 #[derive(Drop)]
 struct EventStop {}
 
-impl Label for EventStop {
+impl nano_schema::Label for EventStop {
     ghost label = { codes "Stop" };
 
     fn text() -> &'static str {
@@ -58,7 +44,7 @@ impl Label for EventStop {
 #[derive(Drop)]
 struct EventMove {}
 
-impl Label for EventMove {
+impl nano_schema::Label for EventMove {
     ghost label = { codes "Move" };
 
     fn text() -> &'static str {
@@ -66,11 +52,13 @@ impl Label for EventMove {
     }
 }
 
+type EventMoveParts = (u32, String);
+
 /// The name `Say`.
 #[derive(Drop)]
 struct EventSay {}
 
-impl Label for EventSay {
+impl nano_schema::Label for EventSay {
     ghost label = { codes "Say" };
 
     fn text() -> &'static str {
@@ -82,7 +70,7 @@ impl Label for EventSay {
 #[derive(Drop)]
 struct EventSayText {}
 
-impl Label for EventSayText {
+impl nano_schema::Label for EventSayText {
     ghost label = { codes "text" };
 
     fn text() -> &'static str {
@@ -94,7 +82,7 @@ impl Label for EventSayText {
 #[derive(Drop)]
 struct EventSayTimes {}
 
-impl Label for EventSayTimes {
+impl nano_schema::Label for EventSayTimes {
     ghost label = { codes "times" };
 
     fn text() -> &'static str {
@@ -102,119 +90,194 @@ impl Label for EventSayTimes {
     }
 }
 
-type EventVariants = (
-    Variant<EventStop, Alone>,
-    (
-        Variant<EventMove, Tupled<(u32, String)>>,
-        Variant<EventSay, Named<(Required<EventSayText, String>, Required<EventSayTimes, u32>)>>,
-    ),
+type EventSayParts = (
+    nano_schema::Required<EventSayText, String>,
+    nano_schema::Required<EventSayTimes, u32>,
 );
 
-impl Choice for Event {
-    type Values = Either<(), Either<(u32, String), (String, u32)>>;
+type EventVariants3 = nano_schema::Variant<EventSay, nano_schema::Named<EventSayParts>>;
 
-    ghost view = { λ e. elim e [
+type EventVariants2 = (
+    nano_schema::Variant<EventMove, nano_schema::Tupled<EventMoveParts>>,
+    EventVariants3,
+);
+
+type EventVariants = (
+    nano_schema::Variant<EventStop, nano_schema::Alone>,
+    EventVariants2,
+);
+
+type EventValues3 = (String, u32);
+
+type EventValues2 = nano_schema::Either<(u32, String), EventValues3>;
+
+type EventValues = nano_schema::Either<(), EventValues2>;
+
+type EventRefs3<'a> = (&'a String, &'a u32);
+
+type EventRefs2<'a> = nano_schema::Either<(&'a u32, &'a String), EventRefs3<'a>>;
+
+type EventRefs<'a> = nano_schema::Either<(), EventRefs2<'a>>;
+
+impl nano_schema::Choice for Event {
+    ghost use Rattle.example_types.specs.declared.event.Event.TheVariants.{Stop};
+    ghost use Rattle.example_types.specs.declared.event.Event.TheVariants.{Move};
+    ghost use Rattle.example_types.specs.declared.event.Event.TheVariants.{Say};
+
+    type Values = EventValues;
+
+    ghost view = { λ x. elim x [
       | Stop ↦ First tt
-      | Move steps name ↦ Later (First (steps, name))
-      | Say text times ↦ Later (Later ((text, times)))
+      | Move v0 v1 ↦ Later (First (v0, v1))
+      | Say v0 v1 ↦ Later (Later (v0, v1))
     ] };
 
-    fn make(values: Either<(), Either<(u32, String), (String, u32)>>) -> Event {
-        match values {
-            Either::First(()) => Event::Stop,
-            Either::Later(later) => match later {
-                Either::First((steps, name)) => Event::Move(steps, name),
-                Either::Later(later) => {
-                    let (text, times) = later;
-                    Event::Say { text, times }
-                },
-            },
-        }
+    fn make(values: Self::Values) -> Self {
+        let later = match values {
+            nano_schema::Either::First(values) => {
+                let () = values;
+                return Event::Stop;
+            }
+            nano_schema::Either::Later(later) => later,
+        };
+        let later = match later {
+            nano_schema::Either::First(values) => {
+                let (first, second) = values;
+                return Event::Move(first, second);
+            }
+            nano_schema::Either::Later(later) => later,
+        };
+        let (text, times) = later;
+        Event::Say { text, times }
     }
 }
 
-impl<'a> ChoiceParts<'a> for Event {
-    type Refs = Either<(), Either<(&'a u32, &'a String), (&'a String, &'a u32)>>;
+impl<'a> nano_schema::ChoiceParts<'a> for Event {
+    type Refs = EventRefs<'a>;
 
-    ghost values = { ⟦<EventVariants as BorrowedChoices<'a>>⟧.values };
+    ghost values = { ⟦<EventVariants as nano_schema::BorrowedChoices<'a>>⟧.values };
 
-    fn as_refs(&'a self) -> Either<(), Either<(&'a u32, &'a String), (&'a String, &'a u32)>> {
+    fn as_refs(&'a self) -> Self::Refs {
         match self {
-            Event::Stop => Either::First(()),
-            Event::Move(steps, name) => Either::Later(Either::First((steps, name))),
-            Event::Say { text, times } => Either::Later(Either::Later((text, times))),
+            Event::Stop => {
+                let refs = ();
+                let refs = nano_schema::Either::First(refs);
+                refs
+            }
+            Event::Move(first, second) => {
+                let refs = (first, second);
+                let refs = nano_schema::Either::First(refs);
+                let refs = nano_schema::Either::Later(refs);
+                refs
+            }
+            Event::Say { text, times } => {
+                let refs = (text, times);
+                let refs = nano_schema::Either::Later(refs);
+                let refs = nano_schema::Either::Later(refs);
+                refs
+            }
         }
     }
 }
 
-impl Value for Event {
-    ghost means = { λ e. ⟦<EventVariants as Choices>⟧.means 0 (⟦<Event as Choice>⟧.view e) };
+impl nano_schema::Value for Event {
+    ghost means = { λ x. ⟦<EventVariants as nano_schema::Choices>⟧.means 0
+        (⟦<Event as nano_schema::Choice>⟧.view x) };
 
-    ghost legal = { LegalVariant ⟦<EventVariants as Choices>⟧.legals };
+    ghost legal = { LegalVariant ⟦<EventVariants as nano_schema::Choices>⟧.legals };
 
     fn known(&self) {
-        known_choice::<Event, EventVariants>(self);
+        nano_schema::known_choice::<Self, EventVariants>(self);
     }
 }
 
 // ---- bytes
 
-impl BinCodec for Event {
-    ghost bin = { bin_choice ⟦<Event as Choice>⟧.view ⟦<EventVariants as BinShapes>⟧.chosen refl };
+impl nano_schema_bin::BinCodec for Event {
+    ghost bin = { bin_choice ⟦<Event as nano_schema::Choice>⟧.view
+        ⟦<EventVariants as nano_schema_bin::BinShapes>⟧.chosen refl };
 
     ghost agrees = { agreed };
 }
 
-impl SerBin for Event {
-    fn ser_bin(&self, alloc: Global, output: &mut Vec<u8>) -> Result<(), AllocError> {
-        write_choice_bin::<Event, EventVariants>(self, alloc, output)
+impl nano_schema_bin::SerBin for Event {
+    fn ser_bin(
+        &self,
+        alloc: std::alloc::Global,
+        output: &mut Vec<u8>,
+    ) -> Result<(), std::alloc::AllocError> {
+        nano_schema_bin::write_choice_bin::<Self, EventVariants>(self, alloc, output)
     }
 }
 
-impl DeBin for Event {
+impl nano_schema_bin::DeBin for Event {
     ghost is_decodable = { refl };
 
-    fn de_bin(alloc: Global, offset: &mut usize, bytes: &[u8]) -> Result<Event, DeBinErr> {
-        read_choice_bin::<Event, EventVariants>(alloc, offset, bytes)
+    fn de_bin(
+        alloc: std::alloc::Global,
+        offset: &mut usize,
+        bytes: &[u8],
+    ) -> Result<Self, nano_schema_bin::DeBinErr> {
+        nano_schema_bin::read_choice_bin::<Self, EventVariants>(alloc, offset, bytes)
     }
 }
 
 // ---- JSON
 
-impl JsonCodec for Event {
-    ghost json = { json_choice ⟦<Event as Choice>⟧.view ⟦<EventVariants as JsonShapes>⟧.codec refl refl refl };
+impl nano_schema_json::JsonCodec for Event {
+    ghost json = { json_choice ⟦<Event as nano_schema::Choice>⟧.view
+        ⟦<EventVariants as nano_schema_json::JsonShapes>⟧.codec refl refl refl };
 
     ghost agrees = { agreed };
 }
 
-impl SerJson for Event {
-    fn ser_json(&self, alloc: Global, d: usize, s: &mut SerJsonState) -> Result<(), AllocError> {
-        write_choice_json::<Event, EventVariants>(self, alloc, d, s)
+impl nano_schema_json::SerJson for Event {
+    fn ser_json(
+        &self,
+        alloc: std::alloc::Global,
+        d: usize,
+        s: &mut nano_schema_json::SerJsonState,
+    ) -> Result<(), std::alloc::AllocError> {
+        nano_schema_json::write_choice_json::<Self, EventVariants>(self, alloc, d, s)
     }
 }
 
-impl DeJson for Event {
-    fn de_json(alloc: Global, state: &mut DeJsonState, input: &mut Chars<'_>) -> JsonResult<Self> {
-        read_choice_json::<Event, EventVariants>(alloc, state, input)
+impl nano_schema_json::DeJson for Event {
+    fn de_json(
+        alloc: std::alloc::Global,
+        state: &mut nano_schema_json::DeJsonState,
+        input: &mut std::str::Chars<'_>,
+    ) -> nano_schema_json::JsonResult<Self> {
+        nano_schema_json::read_choice_json::<Self, EventVariants>(alloc, state, input)
     }
 }
 
 // ---- RON
 
-impl RonCodec for Event {
-    ghost ron = { ron_choice ⟦<Event as Choice>⟧.view ⟦<EventVariants as RonShapes>⟧.codec refl refl refl };
+impl nano_schema_ron::RonCodec for Event {
+    ghost ron = { ron_choice ⟦<Event as nano_schema::Choice>⟧.view
+        ⟦<EventVariants as nano_schema_ron::RonShapes>⟧.codec refl refl refl };
 
     ghost agrees = { agreed };
 }
 
-impl SerRon for Event {
-    fn ser_ron(&self, alloc: Global, d: usize, s: &mut SerRonState) -> Result<(), AllocError> {
-        write_choice_ron::<Event, EventVariants>(self, alloc, d, s)
+impl nano_schema_ron::SerRon for Event {
+    fn ser_ron(
+        &self,
+        alloc: std::alloc::Global,
+        d: usize,
+        s: &mut nano_schema_ron::SerRonState,
+    ) -> Result<(), std::alloc::AllocError> {
+        nano_schema_ron::write_choice_ron::<Self, EventVariants>(self, alloc, d, s)
     }
 }
 
-impl DeRon for Event {
-    fn de_ron(alloc: Global, state: &mut DeRonState, input: &mut Chars<'_>) -> RonResult<Self> {
-        read_choice_ron::<Event, EventVariants>(alloc, state, input)
+impl nano_schema_ron::DeRon for Event {
+    fn de_ron(
+        alloc: std::alloc::Global,
+        state: &mut nano_schema_ron::DeRonState,
+        input: &mut std::str::Chars<'_>,
+    ) -> nano_schema_ron::RonResult<Self> {
+        nano_schema_ron::read_choice_ron::<Self, EventVariants>(alloc, state, input)
     }
 }

@@ -1,16 +1,6 @@
 //! A struct that is only read: it has its formats, and no writer.
 
-ghost use Rattle.std.specs.Prelude.{codes, refl};
-ghost use Rattle.nano_schema.specs.UserTypes.{agreed};
-ghost use Rattle.nano_schema_bin.specs.Record.{bin_of};
-ghost use Rattle.nano_schema_json.specs.Record.{json_of};
-
-use nano_schema::{Borrowed, Label, Optional, Parts, Record, Required, Shape, Value, known_record};
-use nano_schema_bin::{BinCodec, BinShape, DeBin, DeBinErr, read_record_bin};
-use nano_schema_json::{DeJson, DeJsonState, JsonCodec, JsonResult, JsonShape, read_record_json};
-use std::alloc::Global;
-use std::str::Chars;
-
+// nanoserde: de_bin de_json
 /// What somebody asks for.
 #[derive(PartialEq, Debug, Drop)]
 pub struct Query {
@@ -20,11 +10,19 @@ pub struct Query {
     pub limit: Option<u32>,
 }
 
+// ---- written by nano_derive
+
+ghost use Rattle.std.specs.Prelude.{codes};
+ghost use Rattle.nano_schema_bin.specs.Record.{bin_of};
+ghost use Rattle.nano_schema.specs.UserTypes.{agreed};
+ghost use Rattle.std.specs.Prelude.{refl};
+ghost use Rattle.nano_schema_json.specs.Record.{json_of};
+
 /// The name `words`.
 #[derive(Drop)]
 struct QueryWords {}
 
-impl Label for QueryWords {
+impl nano_schema::Label for QueryWords {
     ghost label = { codes "words" };
 
     fn text() -> &'static str {
@@ -36,7 +34,7 @@ impl Label for QueryWords {
 #[derive(Drop)]
 struct QueryLimit {}
 
-impl Label for QueryLimit {
+impl nano_schema::Label for QueryLimit {
     ghost label = { codes "limit" };
 
     fn text() -> &'static str {
@@ -44,65 +42,79 @@ impl Label for QueryLimit {
     }
 }
 
-type QueryFields = (Required<QueryWords, String>, Optional<QueryLimit, u32>);
+type QueryFields = (
+    nano_schema::Required<QueryWords, String>,
+    nano_schema::Optional<QueryLimit, u32>,
+);
 
-impl Record for Query {
+impl nano_schema::Record for Query {
     type Values = (String, Option<u32>);
 
-    ghost view = { λ q. (q.words, q.limit) };
+    ghost view = { λ x. (x.words, x.limit) };
 
-    fn make(values: (String, Option<u32>)) -> Query {
+    fn make(values: Self::Values) -> Self {
         let (words, limit) = values;
         Query { words, limit }
     }
 }
 
-impl<'a> Parts<'a> for Query {
+impl<'a> nano_schema::Parts<'a> for Query {
     type Refs = (&'a String, &'a Option<u32>);
 
-    ghost values = { ⟦<QueryFields as Borrowed<'a>>⟧.values };
+    ghost values = { ⟦<QueryFields as nano_schema::Borrowed<'a>>⟧.values };
 
-    fn as_refs(&'a self) -> (&'a String, &'a Option<u32>) {
+    fn as_refs(&'a self) -> Self::Refs {
         (&self.words, &self.limit)
     }
 }
 
-impl Value for Query {
-    ghost means = { λ q. ⟦<QueryFields as Shape>⟧.means (⟦<Query as Record>⟧.view q) };
+impl nano_schema::Value for Query {
+    ghost means = { λ x. ⟦<QueryFields as nano_schema::Shape>⟧.means
+        (⟦<Query as nano_schema::Record>⟧.view x) };
 
-    ghost legal = { ⟦<QueryFields as Shape>⟧.legal };
+    ghost legal = { ⟦<QueryFields as nano_schema::Shape>⟧.legal };
 
     fn known(&self) {
-        known_record::<Query, QueryFields>(self);
+        nano_schema::known_record::<Self, QueryFields>(self);
     }
 }
 
 // ---- bytes
 
-impl BinCodec for Query {
-    ghost bin = { bin_of ⟦<Query as Record>⟧.view ⟦<QueryFields as BinShape>⟧.codec };
+impl nano_schema_bin::BinCodec for Query {
+    ghost bin = { bin_of ⟦<Query as nano_schema::Record>⟧.view
+        ⟦<QueryFields as nano_schema_bin::BinShape>⟧.codec };
 
     ghost agrees = { agreed };
 }
 
-impl DeBin for Query {
+impl nano_schema_bin::DeBin for Query {
     ghost is_decodable = { refl };
 
-    fn de_bin(alloc: Global, offset: &mut usize, bytes: &[u8]) -> Result<Query, DeBinErr> {
-        read_record_bin::<Query, QueryFields>(alloc, offset, bytes)
+    fn de_bin(
+        alloc: std::alloc::Global,
+        offset: &mut usize,
+        bytes: &[u8],
+    ) -> Result<Self, nano_schema_bin::DeBinErr> {
+        nano_schema_bin::read_record_bin::<Self, QueryFields>(alloc, offset, bytes)
     }
 }
 
 // ---- JSON
 
-impl JsonCodec for Query {
-    ghost json = { json_of ⟦<Query as Record>⟧.view ⟦<QueryFields as JsonShape>⟧.codec refl };
+impl nano_schema_json::JsonCodec for Query {
+    ghost json = { json_of ⟦<Query as nano_schema::Record>⟧.view
+        ⟦<QueryFields as nano_schema_json::JsonShape>⟧.codec refl };
 
     ghost agrees = { agreed };
 }
 
-impl DeJson for Query {
-    fn de_json(alloc: Global, state: &mut DeJsonState, input: &mut Chars<'_>) -> JsonResult<Self> {
-        read_record_json::<Query, QueryFields>(alloc, state, input)
+impl nano_schema_json::DeJson for Query {
+    fn de_json(
+        alloc: std::alloc::Global,
+        state: &mut nano_schema_json::DeJsonState,
+        input: &mut std::str::Chars<'_>,
+    ) -> nano_schema_json::JsonResult<Self> {
+        nano_schema_json::read_record_json::<Self, QueryFields>(alloc, state, input)
     }
 }

@@ -1,29 +1,10 @@
 //! A struct of five fields, with maps that have types of their own and a field that may be
 //! missing: its schema, and then bytes, JSON and RON.
 
-ghost use Rattle.std.specs.Prelude.{codes, refl};
-ghost use Rattle.nano_schema.specs.UserTypes.{agreed};
-ghost use Rattle.nano_schema_bin.specs.Record.{bin_of};
-ghost use Rattle.nano_schema_json.specs.Record.{json_of};
-ghost use Rattle.nano_schema_ron.specs.Record.{ron_of};
-
 use crate::limits::Limits;
 use crate::tags::Tags;
-use nano_schema::{Borrowed, Label, Optional, Parts, Record, Required, Shape, Value, known_record};
-use nano_schema_bin::{
-    BinCodec, BinShape, DeBin, DeBinErr, SerBin, read_record_bin, write_record_bin,
-};
-use nano_schema_json::{
-    DeJson, DeJsonState, JsonCodec, JsonResult, JsonShape, SerJson, SerJsonState, read_record_json,
-    write_record_json,
-};
-use nano_schema_ron::{
-    DeRon, DeRonState, RonCodec, RonResult, RonShape, SerRon, SerRonState, read_record_ron,
-    write_record_ron,
-};
-use std::alloc::{AllocError, Global};
-use std::str::Chars;
 
+// nanoserde: bin json ron
 /// A server.
 #[derive(PartialEq, Debug, Drop)]
 pub struct Server {
@@ -39,11 +20,20 @@ pub struct Server {
     pub note: Option<String>,
 }
 
+// ---- written by nano_derive
+
+ghost use Rattle.std.specs.Prelude.{codes};
+ghost use Rattle.nano_schema_bin.specs.Record.{bin_of};
+ghost use Rattle.nano_schema.specs.UserTypes.{agreed};
+ghost use Rattle.std.specs.Prelude.{refl};
+ghost use Rattle.nano_schema_json.specs.Record.{json_of};
+ghost use Rattle.nano_schema_ron.specs.Record.{ron_of};
+
 /// The name `host`.
 #[derive(Drop)]
 struct ServerHost {}
 
-impl Label for ServerHost {
+impl nano_schema::Label for ServerHost {
     ghost label = { codes "host" };
 
     fn text() -> &'static str {
@@ -55,7 +45,7 @@ impl Label for ServerHost {
 #[derive(Drop)]
 struct ServerPort {}
 
-impl Label for ServerPort {
+impl nano_schema::Label for ServerPort {
     ghost label = { codes "port" };
 
     fn text() -> &'static str {
@@ -67,7 +57,7 @@ impl Label for ServerPort {
 #[derive(Drop)]
 struct ServerTags {}
 
-impl Label for ServerTags {
+impl nano_schema::Label for ServerTags {
     ghost label = { codes "tags" };
 
     fn text() -> &'static str {
@@ -79,7 +69,7 @@ impl Label for ServerTags {
 #[derive(Drop)]
 struct ServerLimits {}
 
-impl Label for ServerLimits {
+impl nano_schema::Label for ServerLimits {
     ghost label = { codes "limits" };
 
     fn text() -> &'static str {
@@ -91,7 +81,7 @@ impl Label for ServerLimits {
 #[derive(Drop)]
 struct ServerNote {}
 
-impl Label for ServerNote {
+impl nano_schema::Label for ServerNote {
     ghost label = { codes "note" };
 
     fn text() -> &'static str {
@@ -100,19 +90,25 @@ impl Label for ServerNote {
 }
 
 type ServerFields = (
-    (Required<ServerHost, String>, Required<ServerPort, u16>),
     (
-        Required<ServerTags, Tags>,
-        (Required<ServerLimits, Limits>, Optional<ServerNote, String>),
+        nano_schema::Required<ServerHost, String>,
+        nano_schema::Required<ServerPort, u16>,
+    ),
+    (
+        nano_schema::Required<ServerTags, Tags>,
+        (
+            nano_schema::Required<ServerLimits, Limits>,
+            nano_schema::Optional<ServerNote, String>,
+        ),
     ),
 );
 
-impl Record for Server {
+impl nano_schema::Record for Server {
     type Values = ((String, u16), (Tags, (Limits, Option<String>)));
 
-    ghost view = { λ s. ((s.host, s.port), (s.tags, (s.limits, s.note))) };
+    ghost view = { λ x. ((x.host, x.port), (x.tags, (x.limits, x.note))) };
 
-    fn make(values: ((String, u16), (Tags, (Limits, Option<String>)))) -> Server {
+    fn make(values: Self::Values) -> Self {
         let ((host, port), (tags, (limits, note))) = values;
         Server {
             host,
@@ -124,20 +120,15 @@ impl Record for Server {
     }
 }
 
-impl<'a> Parts<'a> for Server {
+impl<'a> nano_schema::Parts<'a> for Server {
     type Refs = (
         (&'a String, &'a u16),
         (&'a Tags, (&'a Limits, &'a Option<String>)),
     );
 
-    ghost values = { ⟦<ServerFields as Borrowed<'a>>⟧.values };
+    ghost values = { ⟦<ServerFields as nano_schema::Borrowed<'a>>⟧.values };
 
-    fn as_refs(
-        &'a self,
-    ) -> (
-        (&'a String, &'a u16),
-        (&'a Tags, (&'a Limits, &'a Option<String>)),
-    ) {
+    fn as_refs(&'a self) -> Self::Refs {
         (
             (&self.host, &self.port),
             (&self.tags, (&self.limits, &self.note)),
@@ -145,74 +136,104 @@ impl<'a> Parts<'a> for Server {
     }
 }
 
-impl Value for Server {
-    ghost means = { λ s. ⟦<ServerFields as Shape>⟧.means (⟦<Server as Record>⟧.view s) };
+impl nano_schema::Value for Server {
+    ghost means = { λ x. ⟦<ServerFields as nano_schema::Shape>⟧.means
+        (⟦<Server as nano_schema::Record>⟧.view x) };
 
-    ghost legal = { ⟦<ServerFields as Shape>⟧.legal };
+    ghost legal = { ⟦<ServerFields as nano_schema::Shape>⟧.legal };
 
     fn known(&self) {
-        known_record::<Server, ServerFields>(self);
+        nano_schema::known_record::<Self, ServerFields>(self);
     }
 }
 
 // ---- bytes
 
-impl BinCodec for Server {
-    ghost bin = { bin_of ⟦<Server as Record>⟧.view ⟦<ServerFields as BinShape>⟧.codec };
+impl nano_schema_bin::BinCodec for Server {
+    ghost bin = { bin_of ⟦<Server as nano_schema::Record>⟧.view
+        ⟦<ServerFields as nano_schema_bin::BinShape>⟧.codec };
 
     ghost agrees = { agreed };
 }
 
-impl SerBin for Server {
-    fn ser_bin(&self, alloc: Global, output: &mut Vec<u8>) -> Result<(), AllocError> {
-        write_record_bin::<Server, ServerFields>(self, alloc, output)
+impl nano_schema_bin::SerBin for Server {
+    fn ser_bin(
+        &self,
+        alloc: std::alloc::Global,
+        output: &mut Vec<u8>,
+    ) -> Result<(), std::alloc::AllocError> {
+        nano_schema_bin::write_record_bin::<Self, ServerFields>(self, alloc, output)
     }
 }
 
-impl DeBin for Server {
+impl nano_schema_bin::DeBin for Server {
     ghost is_decodable = { refl };
 
-    fn de_bin(alloc: Global, offset: &mut usize, bytes: &[u8]) -> Result<Server, DeBinErr> {
-        read_record_bin::<Server, ServerFields>(alloc, offset, bytes)
+    fn de_bin(
+        alloc: std::alloc::Global,
+        offset: &mut usize,
+        bytes: &[u8],
+    ) -> Result<Self, nano_schema_bin::DeBinErr> {
+        nano_schema_bin::read_record_bin::<Self, ServerFields>(alloc, offset, bytes)
     }
 }
 
 // ---- JSON
 
-impl JsonCodec for Server {
-    ghost json = { json_of ⟦<Server as Record>⟧.view ⟦<ServerFields as JsonShape>⟧.codec refl };
+impl nano_schema_json::JsonCodec for Server {
+    ghost json = { json_of ⟦<Server as nano_schema::Record>⟧.view
+        ⟦<ServerFields as nano_schema_json::JsonShape>⟧.codec refl };
 
     ghost agrees = { agreed };
 }
 
-impl SerJson for Server {
-    fn ser_json(&self, alloc: Global, d: usize, s: &mut SerJsonState) -> Result<(), AllocError> {
-        write_record_json::<Server, ServerFields>(self, alloc, d, s)
+impl nano_schema_json::SerJson for Server {
+    fn ser_json(
+        &self,
+        alloc: std::alloc::Global,
+        d: usize,
+        s: &mut nano_schema_json::SerJsonState,
+    ) -> Result<(), std::alloc::AllocError> {
+        nano_schema_json::write_record_json::<Self, ServerFields>(self, alloc, d, s)
     }
 }
 
-impl DeJson for Server {
-    fn de_json(alloc: Global, state: &mut DeJsonState, input: &mut Chars<'_>) -> JsonResult<Self> {
-        read_record_json::<Server, ServerFields>(alloc, state, input)
+impl nano_schema_json::DeJson for Server {
+    fn de_json(
+        alloc: std::alloc::Global,
+        state: &mut nano_schema_json::DeJsonState,
+        input: &mut std::str::Chars<'_>,
+    ) -> nano_schema_json::JsonResult<Self> {
+        nano_schema_json::read_record_json::<Self, ServerFields>(alloc, state, input)
     }
 }
 
 // ---- RON
 
-impl RonCodec for Server {
-    ghost ron = { ron_of ⟦<Server as Record>⟧.view ⟦<ServerFields as RonShape>⟧.codec refl };
+impl nano_schema_ron::RonCodec for Server {
+    ghost ron = { ron_of ⟦<Server as nano_schema::Record>⟧.view
+        ⟦<ServerFields as nano_schema_ron::RonShape>⟧.codec refl };
 
     ghost agrees = { agreed };
 }
 
-impl SerRon for Server {
-    fn ser_ron(&self, alloc: Global, d: usize, s: &mut SerRonState) -> Result<(), AllocError> {
-        write_record_ron::<Server, ServerFields>(self, alloc, d, s)
+impl nano_schema_ron::SerRon for Server {
+    fn ser_ron(
+        &self,
+        alloc: std::alloc::Global,
+        d: usize,
+        s: &mut nano_schema_ron::SerRonState,
+    ) -> Result<(), std::alloc::AllocError> {
+        nano_schema_ron::write_record_ron::<Self, ServerFields>(self, alloc, d, s)
     }
 }
 
-impl DeRon for Server {
-    fn de_ron(alloc: Global, state: &mut DeRonState, input: &mut Chars<'_>) -> RonResult<Self> {
-        read_record_ron::<Server, ServerFields>(alloc, state, input)
+impl nano_schema_ron::DeRon for Server {
+    fn de_ron(
+        alloc: std::alloc::Global,
+        state: &mut nano_schema_ron::DeRonState,
+        input: &mut std::str::Chars<'_>,
+    ) -> nano_schema_ron::RonResult<Self> {
+        nano_schema_ron::read_record_ron::<Self, ServerFields>(alloc, state, input)
     }
 }

@@ -1,31 +1,6 @@
 //! An enum with one part, three and four: its schema, and then bytes, JSON and RON.
 
-ghost use Rattle.std.specs.Prelude.{codes, refl};
-ghost use Rattle.nano_schema.specs.UserTypes.{agreed, LegalVariant};
-ghost use Rattle.nano_schema.specs.declared.choices.Either.TheVariants.{First, Later};
-ghost use Rattle.nano_schema_bin.specs.Choice.{bin_choice};
-ghost use Rattle.nano_schema_json.specs.Choice.{json_choice};
-ghost use Rattle.nano_schema_ron.specs.Choice.{ron_choice};
-ghost use Rattle.example_types.specs.declared.signal.Signal.TheVariants.{Wait, Move, Light};
-
-use nano_schema::{
-    BorrowedChoices, Choice, ChoiceParts, Choices, Either, Label, OnePart, Tupled, Value, Variant,
-    known_choice,
-};
-use nano_schema_bin::{
-    BinCodec, BinShapes, DeBin, DeBinErr, SerBin, read_choice_bin, write_choice_bin,
-};
-use nano_schema_json::{
-    DeJson, DeJsonState, JsonCodec, JsonResult, JsonShapes, SerJson, SerJsonState,
-    read_choice_json, write_choice_json,
-};
-use nano_schema_ron::{
-    DeRon, DeRonState, RonCodec, RonResult, RonShapes, SerRon, SerRonState, read_choice_ron,
-    write_choice_ron,
-};
-use std::alloc::{AllocError, Global};
-use std::str::Chars;
-
+// nanoserde: bin json ron
 /// A signal to a crane.
 #[derive(PartialEq, Debug, Drop)]
 pub enum Signal {
@@ -37,11 +12,22 @@ pub enum Signal {
     Light(u8, u8, u8, bool),
 }
 
+// ---- written by nano_derive
+
+ghost use Rattle.std.specs.Prelude.{codes};
+ghost use Rattle.nano_schema.specs.declared.choices.Either.TheVariants.{First, Later};
+ghost use Rattle.nano_schema.specs.UserTypes.{LegalVariant};
+ghost use Rattle.nano_schema_bin.specs.Choice.{bin_choice};
+ghost use Rattle.std.specs.Prelude.{refl};
+ghost use Rattle.nano_schema.specs.UserTypes.{agreed};
+ghost use Rattle.nano_schema_json.specs.Choice.{json_choice};
+ghost use Rattle.nano_schema_ron.specs.Choice.{ron_choice};
+
 /// The name `Wait`.
 #[derive(Drop)]
 struct SignalWait {}
 
-impl Label for SignalWait {
+impl nano_schema::Label for SignalWait {
     ghost label = { codes "Wait" };
 
     fn text() -> &'static str {
@@ -49,11 +35,13 @@ impl Label for SignalWait {
     }
 }
 
+type SignalWaitParts = u64;
+
 /// The name `Move`.
 #[derive(Drop)]
 struct SignalMove {}
 
-impl Label for SignalMove {
+impl nano_schema::Label for SignalMove {
     ghost label = { codes "Move" };
 
     fn text() -> &'static str {
@@ -61,11 +49,13 @@ impl Label for SignalMove {
     }
 }
 
+type SignalMoveParts = (u16, u16, u16);
+
 /// The name `Light`.
 #[derive(Drop)]
 struct SignalLight {}
 
-impl Label for SignalLight {
+impl nano_schema::Label for SignalLight {
     ghost label = { codes "Light" };
 
     fn text() -> &'static str {
@@ -73,126 +63,191 @@ impl Label for SignalLight {
     }
 }
 
-type SignalVariants = (
-    Variant<SignalWait, OnePart<u64>>,
-    (
-        Variant<SignalMove, Tupled<(u16, u16, u16)>>,
-        Variant<SignalLight, Tupled<(u8, u8, u8, bool)>>,
-    ),
+type SignalLightParts = (u8, u8, u8, bool);
+
+type SignalVariants3 = nano_schema::Variant<SignalLight, nano_schema::Tupled<SignalLightParts>>;
+
+type SignalVariants2 = (
+    nano_schema::Variant<SignalMove, nano_schema::Tupled<SignalMoveParts>>,
+    SignalVariants3,
 );
 
-impl Choice for Signal {
-    type Values = Either<u64, Either<(u16, u16, u16), (u8, u8, u8, bool)>>;
+type SignalVariants = (
+    nano_schema::Variant<SignalWait, nano_schema::OnePart<SignalWaitParts>>,
+    SignalVariants2,
+);
 
-    ghost view = { λ e. elim e [
-      | Wait time ↦ First time
-      | Move x y z ↦ Later (First (x, y, z))
-      | Light red green blue on ↦ Later (Later ((red, green, blue, on)))
+type SignalValues3 = (u8, u8, u8, bool);
+
+type SignalValues2 = nano_schema::Either<(u16, u16, u16), SignalValues3>;
+
+type SignalValues = nano_schema::Either<u64, SignalValues2>;
+
+type SignalRefs3<'a> = (&'a u8, &'a u8, &'a u8, &'a bool);
+
+type SignalRefs2<'a> = nano_schema::Either<(&'a u16, &'a u16, &'a u16), SignalRefs3<'a>>;
+
+type SignalRefs<'a> = nano_schema::Either<&'a u64, SignalRefs2<'a>>;
+
+impl nano_schema::Choice for Signal {
+    ghost use Rattle.example_types.specs.declared.signal.Signal.TheVariants.{Wait};
+    ghost use Rattle.example_types.specs.declared.signal.Signal.TheVariants.{Move};
+    ghost use Rattle.example_types.specs.declared.signal.Signal.TheVariants.{Light};
+
+    type Values = SignalValues;
+
+    ghost view = { λ x. elim x [
+      | Wait v0 ↦ First v0
+      | Move v0 v1 v2 ↦ Later (First (v0, v1, v2))
+      | Light v0 v1 v2 v3 ↦ Later (Later (v0, v1, v2, v3))
     ] };
 
-    fn make(values: Either<u64, Either<(u16, u16, u16), (u8, u8, u8, bool)>>) -> Signal {
-        match values {
-            Either::First(time) => Signal::Wait(time),
-            Either::Later(later) => match later {
-                Either::First((x, y, z)) => Signal::Move(x, y, z),
-                Either::Later(later) => {
-                    let (red, green, blue, on) = later;
-                    Signal::Light(red, green, blue, on)
-                },
-            },
-        }
+    fn make(values: Self::Values) -> Self {
+        let later = match values {
+            nano_schema::Either::First(values) => {
+                let first = values;
+                return Signal::Wait(first);
+            }
+            nano_schema::Either::Later(later) => later,
+        };
+        let later = match later {
+            nano_schema::Either::First(values) => {
+                let (first, second, third) = values;
+                return Signal::Move(first, second, third);
+            }
+            nano_schema::Either::Later(later) => later,
+        };
+        let (first, second, third, fourth) = later;
+        Signal::Light(first, second, third, fourth)
     }
 }
 
-impl<'a> ChoiceParts<'a> for Signal {
-    type Refs = Either<
-        &'a u64,
-        Either<(&'a u16, &'a u16, &'a u16), (&'a u8, &'a u8, &'a u8, &'a bool)>,
-    >;
+impl<'a> nano_schema::ChoiceParts<'a> for Signal {
+    type Refs = SignalRefs<'a>;
 
-    ghost values = { ⟦<SignalVariants as BorrowedChoices<'a>>⟧.values };
+    ghost values = { ⟦<SignalVariants as nano_schema::BorrowedChoices<'a>>⟧.values };
 
-    fn as_refs(
-        &'a self,
-    ) -> Either<&'a u64, Either<(&'a u16, &'a u16, &'a u16), (&'a u8, &'a u8, &'a u8, &'a bool)>> {
+    fn as_refs(&'a self) -> Self::Refs {
         match self {
-            Signal::Wait(time) => Either::First(time),
-            Signal::Move(x, y, z) => Either::Later(Either::First((x, y, z))),
-            Signal::Light(red, green, blue, on) => Either::Later(Either::Later((
-                red, green, blue, on,
-            ))),
+            Signal::Wait(first) => {
+                let refs = first;
+                let refs = nano_schema::Either::First(refs);
+                refs
+            }
+            Signal::Move(first, second, third) => {
+                let refs = (first, second, third);
+                let refs = nano_schema::Either::First(refs);
+                let refs = nano_schema::Either::Later(refs);
+                refs
+            }
+            Signal::Light(first, second, third, fourth) => {
+                let refs = (first, second, third, fourth);
+                let refs = nano_schema::Either::Later(refs);
+                let refs = nano_schema::Either::Later(refs);
+                refs
+            }
         }
     }
 }
 
-impl Value for Signal {
-    ghost means = { λ e. ⟦<SignalVariants as Choices>⟧.means 0 (⟦<Signal as Choice>⟧.view e) };
+impl nano_schema::Value for Signal {
+    ghost means = { λ x. ⟦<SignalVariants as nano_schema::Choices>⟧.means 0
+        (⟦<Signal as nano_schema::Choice>⟧.view x) };
 
-    ghost legal = { LegalVariant ⟦<SignalVariants as Choices>⟧.legals };
+    ghost legal = { LegalVariant ⟦<SignalVariants as nano_schema::Choices>⟧.legals };
 
     fn known(&self) {
-        known_choice::<Signal, SignalVariants>(self);
+        nano_schema::known_choice::<Self, SignalVariants>(self);
     }
 }
 
 // ---- bytes
 
-impl BinCodec for Signal {
-    ghost bin = { bin_choice ⟦<Signal as Choice>⟧.view ⟦<SignalVariants as BinShapes>⟧.chosen refl };
+impl nano_schema_bin::BinCodec for Signal {
+    ghost bin = { bin_choice ⟦<Signal as nano_schema::Choice>⟧.view
+        ⟦<SignalVariants as nano_schema_bin::BinShapes>⟧.chosen refl };
 
     ghost agrees = { agreed };
 }
 
-impl SerBin for Signal {
-    fn ser_bin(&self, alloc: Global, output: &mut Vec<u8>) -> Result<(), AllocError> {
-        write_choice_bin::<Signal, SignalVariants>(self, alloc, output)
+impl nano_schema_bin::SerBin for Signal {
+    fn ser_bin(
+        &self,
+        alloc: std::alloc::Global,
+        output: &mut Vec<u8>,
+    ) -> Result<(), std::alloc::AllocError> {
+        nano_schema_bin::write_choice_bin::<Self, SignalVariants>(self, alloc, output)
     }
 }
 
-impl DeBin for Signal {
+impl nano_schema_bin::DeBin for Signal {
     ghost is_decodable = { refl };
 
-    fn de_bin(alloc: Global, offset: &mut usize, bytes: &[u8]) -> Result<Signal, DeBinErr> {
-        read_choice_bin::<Signal, SignalVariants>(alloc, offset, bytes)
+    fn de_bin(
+        alloc: std::alloc::Global,
+        offset: &mut usize,
+        bytes: &[u8],
+    ) -> Result<Self, nano_schema_bin::DeBinErr> {
+        nano_schema_bin::read_choice_bin::<Self, SignalVariants>(alloc, offset, bytes)
     }
 }
 
 // ---- JSON
 
-impl JsonCodec for Signal {
-    ghost json = { json_choice ⟦<Signal as Choice>⟧.view ⟦<SignalVariants as JsonShapes>⟧.codec refl refl refl };
+impl nano_schema_json::JsonCodec for Signal {
+    ghost json = { json_choice ⟦<Signal as nano_schema::Choice>⟧.view
+        ⟦<SignalVariants as nano_schema_json::JsonShapes>⟧.codec refl refl refl };
 
     ghost agrees = { agreed };
 }
 
-impl SerJson for Signal {
-    fn ser_json(&self, alloc: Global, d: usize, s: &mut SerJsonState) -> Result<(), AllocError> {
-        write_choice_json::<Signal, SignalVariants>(self, alloc, d, s)
+impl nano_schema_json::SerJson for Signal {
+    fn ser_json(
+        &self,
+        alloc: std::alloc::Global,
+        d: usize,
+        s: &mut nano_schema_json::SerJsonState,
+    ) -> Result<(), std::alloc::AllocError> {
+        nano_schema_json::write_choice_json::<Self, SignalVariants>(self, alloc, d, s)
     }
 }
 
-impl DeJson for Signal {
-    fn de_json(alloc: Global, state: &mut DeJsonState, input: &mut Chars<'_>) -> JsonResult<Self> {
-        read_choice_json::<Signal, SignalVariants>(alloc, state, input)
+impl nano_schema_json::DeJson for Signal {
+    fn de_json(
+        alloc: std::alloc::Global,
+        state: &mut nano_schema_json::DeJsonState,
+        input: &mut std::str::Chars<'_>,
+    ) -> nano_schema_json::JsonResult<Self> {
+        nano_schema_json::read_choice_json::<Self, SignalVariants>(alloc, state, input)
     }
 }
 
 // ---- RON
 
-impl RonCodec for Signal {
-    ghost ron = { ron_choice ⟦<Signal as Choice>⟧.view ⟦<SignalVariants as RonShapes>⟧.codec refl refl refl };
+impl nano_schema_ron::RonCodec for Signal {
+    ghost ron = { ron_choice ⟦<Signal as nano_schema::Choice>⟧.view
+        ⟦<SignalVariants as nano_schema_ron::RonShapes>⟧.codec refl refl refl };
 
     ghost agrees = { agreed };
 }
 
-impl SerRon for Signal {
-    fn ser_ron(&self, alloc: Global, d: usize, s: &mut SerRonState) -> Result<(), AllocError> {
-        write_choice_ron::<Signal, SignalVariants>(self, alloc, d, s)
+impl nano_schema_ron::SerRon for Signal {
+    fn ser_ron(
+        &self,
+        alloc: std::alloc::Global,
+        d: usize,
+        s: &mut nano_schema_ron::SerRonState,
+    ) -> Result<(), std::alloc::AllocError> {
+        nano_schema_ron::write_choice_ron::<Self, SignalVariants>(self, alloc, d, s)
     }
 }
 
-impl DeRon for Signal {
-    fn de_ron(alloc: Global, state: &mut DeRonState, input: &mut Chars<'_>) -> RonResult<Self> {
-        read_choice_ron::<Signal, SignalVariants>(alloc, state, input)
+impl nano_schema_ron::DeRon for Signal {
+    fn de_ron(
+        alloc: std::alloc::Global,
+        state: &mut nano_schema_ron::DeRonState,
+        input: &mut std::str::Chars<'_>,
+    ) -> nano_schema_ron::RonResult<Self> {
+        nano_schema_ron::read_choice_ron::<Self, SignalVariants>(alloc, state, input)
     }
 }

@@ -76,17 +76,10 @@ pub(crate) fn field_names<'a>(
 }
 
 /// The fields of a struct in a ghost term, as nested pairs.
-pub(crate) fn ghost_view<'a>(
-    alloc: Global,
-    sheet: &mut Sheet,
-    fields: &[Field<'a>],
-) -> Result<String, AllocError> {
+pub(crate) fn ghost_view<'a>(alloc: Global, fields: &[Field<'a>]) -> Result<String, AllocError> {
     let mut texts = Vec::new(alloc);
     for field in fields {
         texts.push(format!(in alloc; "x.{}", field.name.text)?)?;
-    }
-    if fields.len() > 1 {
-        sheet.import("ghost use Rattle.nano_schema.specs.UserTypes.{fields2_of};")?;
     }
     ghost_pairs(alloc, &texts)
 }

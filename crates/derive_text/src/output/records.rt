@@ -60,7 +60,7 @@ fn append_schema<'a>(
     )?;
     let types = pairs(alloc, &field_types(alloc, fields, "")?, Items::Types, 4, 18)?;
     sheet.line(format!(in alloc; "    type Values = {};\n", types.laid.as_str())?.as_str())?;
-    let view = ghost_view(alloc, sheet, fields)?;
+    let view = ghost_view(alloc, fields)?;
     sheet.member(alloc, "view", format!(in alloc; "λ x. {view}")?.as_str())?;
     let pattern = pairs(
         alloc,

@@ -59,7 +59,7 @@ fn append_case<'a>(
         pattern.push_str(binder.as_str())?;
         binders.push(binder)?;
     }
-    let content = ghost_content(alloc, sheet, variant, &binders)?;
+    let content = ghost_content(alloc, variant, &binders)?;
     let path = ghost_path(alloc, content.as_str(), i, count)?;
     sheet.line(format!(in alloc; "      | {pattern} ↦ {path}")?.as_str())
 }
@@ -76,7 +76,6 @@ fn held<'a>(variant: &Variant<'a>) -> usize {
 /// What a variant holds, in a ghost term.
 fn ghost_content<'a>(
     alloc: Global,
-    sheet: &mut Sheet,
     variant: &Variant<'a>,
     binders: &[String],
 ) -> Result<String, AllocError> {
@@ -95,10 +94,7 @@ fn ghost_content<'a>(
             text.push(')')?;
             Ok(text)
         }
-        Content::Fields(_) => {
-            sheet.import("ghost use Rattle.nano_schema.specs.UserTypes.{fields2_of};")?;
-            ghost_pairs(alloc, binders)
-        }
+        Content::Fields(_) => ghost_pairs(alloc, binders),
     }
 }
 

@@ -1,31 +1,6 @@
 //! An enum with a variant of each shape: its schema, and then bytes, JSON and RON.
 
-ghost use Rattle.std.specs.Prelude.{codes, refl};
-ghost use Rattle.nano_schema.specs.UserTypes.{agreed, LegalVariant};
-ghost use Rattle.nano_schema.specs.declared.choices.Either.TheVariants.{First, Later};
-ghost use Rattle.nano_schema_bin.specs.Choice.{bin_choice};
-ghost use Rattle.nano_schema_json.specs.Choice.{json_choice};
-ghost use Rattle.nano_schema_ron.specs.Choice.{ron_choice};
-ghost use Rattle.nanoserde.specs.declared.records.choice.Choice.TheVariants.{A, B, C};
-
-use nano_schema::{
-    Alone, BorrowedChoices, ChoiceParts, Choices, Either, Label, Named, Required, Tupled, Value,
-    Variant, known_choice,
-};
-use nano_schema_bin::{
-    BinCodec, BinShapes, DeBin, DeBinErr, SerBin, read_choice_bin, write_choice_bin,
-};
-use nano_schema_json::{
-    DeJson, DeJsonState, JsonCodec, JsonResult, JsonShapes, SerJson, SerJsonState,
-    read_choice_json, write_choice_json,
-};
-use nano_schema_ron::{
-    DeRon, DeRonState, RonCodec, RonResult, RonShapes, SerRon, SerRonState, read_choice_ron,
-    write_choice_ron,
-};
-use std::alloc::{AllocError, Global};
-use std::str::Chars;
-
+// nanoserde: bin json ron
 /// One of three shapes.
 #[derive(PartialEq, Debug, Drop)]
 pub enum Choice {
@@ -42,11 +17,22 @@ pub enum Choice {
     },
 }
 
+// ---- written by nano_derive
+
+ghost use Rattle.std.specs.Prelude.{codes};
+ghost use Rattle.nano_schema.specs.declared.choices.Either.TheVariants.{First, Later};
+ghost use Rattle.nano_schema.specs.UserTypes.{LegalVariant};
+ghost use Rattle.nano_schema_bin.specs.Choice.{bin_choice};
+ghost use Rattle.std.specs.Prelude.{refl};
+ghost use Rattle.nano_schema.specs.UserTypes.{agreed};
+ghost use Rattle.nano_schema_json.specs.Choice.{json_choice};
+ghost use Rattle.nano_schema_ron.specs.Choice.{ron_choice};
+
 /// The name `A`.
 #[derive(Drop)]
 struct ChoiceA {}
 
-impl Label for ChoiceA {
+impl nano_schema::Label for ChoiceA {
     ghost label = { codes "A" };
 
     fn text() -> &'static str {
@@ -58,7 +44,7 @@ impl Label for ChoiceA {
 #[derive(Drop)]
 struct ChoiceB {}
 
-impl Label for ChoiceB {
+impl nano_schema::Label for ChoiceB {
     ghost label = { codes "B" };
 
     fn text() -> &'static str {
@@ -66,11 +52,13 @@ impl Label for ChoiceB {
     }
 }
 
+type ChoiceBParts = (i32, String);
+
 /// The name `C`.
 #[derive(Drop)]
 struct ChoiceC {}
 
-impl Label for ChoiceC {
+impl nano_schema::Label for ChoiceC {
     ghost label = { codes "C" };
 
     fn text() -> &'static str {
@@ -82,7 +70,7 @@ impl Label for ChoiceC {
 #[derive(Drop)]
 struct ChoiceCA {}
 
-impl Label for ChoiceCA {
+impl nano_schema::Label for ChoiceCA {
     ghost label = { codes "a" };
 
     fn text() -> &'static str {
@@ -94,7 +82,7 @@ impl Label for ChoiceCA {
 #[derive(Drop)]
 struct ChoiceCB {}
 
-impl Label for ChoiceCB {
+impl nano_schema::Label for ChoiceCB {
     ghost label = { codes "b" };
 
     fn text() -> &'static str {
@@ -102,119 +90,194 @@ impl Label for ChoiceCB {
     }
 }
 
-type ChoiceVariants = (
-    Variant<ChoiceA, Alone>,
-    (
-        Variant<ChoiceB, Tupled<(i32, String)>>,
-        Variant<ChoiceC, Named<(Required<ChoiceCA, i32>, Required<ChoiceCB, String>)>>,
-    ),
+type ChoiceCParts = (
+    nano_schema::Required<ChoiceCA, i32>,
+    nano_schema::Required<ChoiceCB, String>,
 );
 
-impl nano_schema::Choice for Choice {
-    type Values = Either<(), Either<(i32, String), (i32, String)>>;
+type ChoiceVariants3 = nano_schema::Variant<ChoiceC, nano_schema::Named<ChoiceCParts>>;
 
-    ghost view = { λ e. elim e [
+type ChoiceVariants2 = (
+    nano_schema::Variant<ChoiceB, nano_schema::Tupled<ChoiceBParts>>,
+    ChoiceVariants3,
+);
+
+type ChoiceVariants = (
+    nano_schema::Variant<ChoiceA, nano_schema::Alone>,
+    ChoiceVariants2,
+);
+
+type ChoiceValues3 = (i32, String);
+
+type ChoiceValues2 = nano_schema::Either<(i32, String), ChoiceValues3>;
+
+type ChoiceValues = nano_schema::Either<(), ChoiceValues2>;
+
+type ChoiceRefs3<'a> = (&'a i32, &'a String);
+
+type ChoiceRefs2<'a> = nano_schema::Either<(&'a i32, &'a String), ChoiceRefs3<'a>>;
+
+type ChoiceRefs<'a> = nano_schema::Either<(), ChoiceRefs2<'a>>;
+
+impl nano_schema::Choice for Choice {
+    ghost use Rattle.nanoserde.specs.declared.records.choice.Choice.TheVariants.{A};
+    ghost use Rattle.nanoserde.specs.declared.records.choice.Choice.TheVariants.{B};
+    ghost use Rattle.nanoserde.specs.declared.records.choice.Choice.TheVariants.{C};
+
+    type Values = ChoiceValues;
+
+    ghost view = { λ x. elim x [
       | A ↦ First tt
-      | B number text ↦ Later (First (number, text))
-      | C a b ↦ Later (Later ((a, b)))
+      | B v0 v1 ↦ Later (First (v0, v1))
+      | C v0 v1 ↦ Later (Later (v0, v1))
     ] };
 
-    fn make(values: Either<(), Either<(i32, String), (i32, String)>>) -> Choice {
-        match values {
-            Either::First(()) => Choice::A,
-            Either::Later(later) => match later {
-                Either::First((number, text)) => Choice::B(number, text),
-                Either::Later(later) => {
-                    let (a, b) = later;
-                    Choice::C { a, b }
-                },
-            },
-        }
+    fn make(values: Self::Values) -> Self {
+        let later = match values {
+            nano_schema::Either::First(values) => {
+                let () = values;
+                return Choice::A;
+            }
+            nano_schema::Either::Later(later) => later,
+        };
+        let later = match later {
+            nano_schema::Either::First(values) => {
+                let (first, second) = values;
+                return Choice::B(first, second);
+            }
+            nano_schema::Either::Later(later) => later,
+        };
+        let (a, b) = later;
+        Choice::C { a, b }
     }
 }
 
-impl<'a> ChoiceParts<'a> for Choice {
-    type Refs = Either<(), Either<(&'a i32, &'a String), (&'a i32, &'a String)>>;
+impl<'a> nano_schema::ChoiceParts<'a> for Choice {
+    type Refs = ChoiceRefs<'a>;
 
-    ghost values = { ⟦<ChoiceVariants as BorrowedChoices<'a>>⟧.values };
+    ghost values = { ⟦<ChoiceVariants as nano_schema::BorrowedChoices<'a>>⟧.values };
 
-    fn as_refs(&'a self) -> Either<(), Either<(&'a i32, &'a String), (&'a i32, &'a String)>> {
+    fn as_refs(&'a self) -> Self::Refs {
         match self {
-            Choice::A => Either::First(()),
-            Choice::B(number, text) => Either::Later(Either::First((number, text))),
-            Choice::C { a, b } => Either::Later(Either::Later((a, b))),
+            Choice::A => {
+                let refs = ();
+                let refs = nano_schema::Either::First(refs);
+                refs
+            }
+            Choice::B(first, second) => {
+                let refs = (first, second);
+                let refs = nano_schema::Either::First(refs);
+                let refs = nano_schema::Either::Later(refs);
+                refs
+            }
+            Choice::C { a, b } => {
+                let refs = (a, b);
+                let refs = nano_schema::Either::Later(refs);
+                let refs = nano_schema::Either::Later(refs);
+                refs
+            }
         }
     }
 }
 
-impl Value for Choice {
-    ghost means = { λ e. ⟦<ChoiceVariants as Choices>⟧.means 0 (⟦<Choice as nano_schema::Choice>⟧.view e) };
+impl nano_schema::Value for Choice {
+    ghost means = { λ x. ⟦<ChoiceVariants as nano_schema::Choices>⟧.means 0
+        (⟦<Choice as nano_schema::Choice>⟧.view x) };
 
-    ghost legal = { LegalVariant ⟦<ChoiceVariants as Choices>⟧.legals };
+    ghost legal = { LegalVariant ⟦<ChoiceVariants as nano_schema::Choices>⟧.legals };
 
     fn known(&self) {
-        known_choice::<Choice, ChoiceVariants>(self);
+        nano_schema::known_choice::<Self, ChoiceVariants>(self);
     }
 }
 
 // ---- bytes
 
-impl BinCodec for Choice {
-    ghost bin = { bin_choice ⟦<Choice as nano_schema::Choice>⟧.view ⟦<ChoiceVariants as BinShapes>⟧.chosen refl };
+impl nano_schema_bin::BinCodec for Choice {
+    ghost bin = { bin_choice ⟦<Choice as nano_schema::Choice>⟧.view
+        ⟦<ChoiceVariants as nano_schema_bin::BinShapes>⟧.chosen refl };
 
     ghost agrees = { agreed };
 }
 
-impl SerBin for Choice {
-    fn ser_bin(&self, alloc: Global, output: &mut Vec<u8>) -> Result<(), AllocError> {
-        write_choice_bin::<Choice, ChoiceVariants>(self, alloc, output)
+impl nano_schema_bin::SerBin for Choice {
+    fn ser_bin(
+        &self,
+        alloc: std::alloc::Global,
+        output: &mut Vec<u8>,
+    ) -> Result<(), std::alloc::AllocError> {
+        nano_schema_bin::write_choice_bin::<Self, ChoiceVariants>(self, alloc, output)
     }
 }
 
-impl DeBin for Choice {
+impl nano_schema_bin::DeBin for Choice {
     ghost is_decodable = { refl };
 
-    fn de_bin(alloc: Global, offset: &mut usize, bytes: &[u8]) -> Result<Choice, DeBinErr> {
-        read_choice_bin::<Choice, ChoiceVariants>(alloc, offset, bytes)
+    fn de_bin(
+        alloc: std::alloc::Global,
+        offset: &mut usize,
+        bytes: &[u8],
+    ) -> Result<Self, nano_schema_bin::DeBinErr> {
+        nano_schema_bin::read_choice_bin::<Self, ChoiceVariants>(alloc, offset, bytes)
     }
 }
 
 // ---- JSON
 
-impl JsonCodec for Choice {
-    ghost json = { json_choice ⟦<Choice as nano_schema::Choice>⟧.view ⟦<ChoiceVariants as JsonShapes>⟧.codec refl refl refl };
+impl nano_schema_json::JsonCodec for Choice {
+    ghost json = { json_choice ⟦<Choice as nano_schema::Choice>⟧.view
+        ⟦<ChoiceVariants as nano_schema_json::JsonShapes>⟧.codec refl refl refl };
 
     ghost agrees = { agreed };
 }
 
-impl SerJson for Choice {
-    fn ser_json(&self, alloc: Global, d: usize, s: &mut SerJsonState) -> Result<(), AllocError> {
-        write_choice_json::<Choice, ChoiceVariants>(self, alloc, d, s)
+impl nano_schema_json::SerJson for Choice {
+    fn ser_json(
+        &self,
+        alloc: std::alloc::Global,
+        d: usize,
+        s: &mut nano_schema_json::SerJsonState,
+    ) -> Result<(), std::alloc::AllocError> {
+        nano_schema_json::write_choice_json::<Self, ChoiceVariants>(self, alloc, d, s)
     }
 }
 
-impl DeJson for Choice {
-    fn de_json(alloc: Global, state: &mut DeJsonState, input: &mut Chars<'_>) -> JsonResult<Self> {
-        read_choice_json::<Choice, ChoiceVariants>(alloc, state, input)
+impl nano_schema_json::DeJson for Choice {
+    fn de_json(
+        alloc: std::alloc::Global,
+        state: &mut nano_schema_json::DeJsonState,
+        input: &mut std::str::Chars<'_>,
+    ) -> nano_schema_json::JsonResult<Self> {
+        nano_schema_json::read_choice_json::<Self, ChoiceVariants>(alloc, state, input)
     }
 }
 
 // ---- RON
 
-impl RonCodec for Choice {
-    ghost ron = { ron_choice ⟦<Choice as nano_schema::Choice>⟧.view ⟦<ChoiceVariants as RonShapes>⟧.codec refl refl refl };
+impl nano_schema_ron::RonCodec for Choice {
+    ghost ron = { ron_choice ⟦<Choice as nano_schema::Choice>⟧.view
+        ⟦<ChoiceVariants as nano_schema_ron::RonShapes>⟧.codec refl refl refl };
 
     ghost agrees = { agreed };
 }
 
-impl SerRon for Choice {
-    fn ser_ron(&self, alloc: Global, d: usize, s: &mut SerRonState) -> Result<(), AllocError> {
-        write_choice_ron::<Choice, ChoiceVariants>(self, alloc, d, s)
+impl nano_schema_ron::SerRon for Choice {
+    fn ser_ron(
+        &self,
+        alloc: std::alloc::Global,
+        d: usize,
+        s: &mut nano_schema_ron::SerRonState,
+    ) -> Result<(), std::alloc::AllocError> {
+        nano_schema_ron::write_choice_ron::<Self, ChoiceVariants>(self, alloc, d, s)
     }
 }
 
-impl DeRon for Choice {
-    fn de_ron(alloc: Global, state: &mut DeRonState, input: &mut Chars<'_>) -> RonResult<Self> {
-        read_choice_ron::<Choice, ChoiceVariants>(alloc, state, input)
+impl nano_schema_ron::DeRon for Choice {
+    fn de_ron(
+        alloc: std::alloc::Global,
+        state: &mut nano_schema_ron::DeRonState,
+        input: &mut std::str::Chars<'_>,
+    ) -> nano_schema_ron::RonResult<Self> {
+        nano_schema_ron::read_choice_ron::<Self, ChoiceVariants>(alloc, state, input)
     }
 }

@@ -1,26 +1,6 @@
 //! A struct with a field that may be missing, in bytes, in JSON and in RON.
 
-ghost use Rattle.std.specs.Prelude.{codes, refl};
-ghost use Rattle.nano_schema.specs.UserTypes.{agreed};
-ghost use Rattle.nano_schema_bin.specs.Record.{bin_of};
-ghost use Rattle.nano_schema_json.specs.Record.{json_of};
-ghost use Rattle.nano_schema_ron.specs.Record.{ron_of};
-
-use nano_schema::{Borrowed, Label, Optional, Parts, Record, Required, Shape, Value, known_record};
-use nano_schema_bin::{
-    BinCodec, BinShape, DeBin, DeBinErr, SerBin, read_record_bin, write_record_bin,
-};
-use nano_schema_json::{
-    DeJson, DeJsonState, JsonCodec, JsonResult, JsonShape, SerJson, SerJsonState, read_record_json,
-    write_record_json,
-};
-use nano_schema_ron::{
-    DeRon, DeRonState, RonCodec, RonResult, RonShape, SerRon, SerRonState, read_record_ron,
-    write_record_ron,
-};
-use std::alloc::{AllocError, Global};
-use std::str::Chars;
-
+// nanoserde: bin json ron
 /// A number with a note.
 #[derive(PartialEq, Debug, Drop)]
 pub struct Item {
@@ -30,11 +10,20 @@ pub struct Item {
     pub note: Option<String>,
 }
 
+// ---- written by nano_derive
+
+ghost use Rattle.std.specs.Prelude.{codes};
+ghost use Rattle.nano_schema_bin.specs.Record.{bin_of};
+ghost use Rattle.nano_schema.specs.UserTypes.{agreed};
+ghost use Rattle.std.specs.Prelude.{refl};
+ghost use Rattle.nano_schema_json.specs.Record.{json_of};
+ghost use Rattle.nano_schema_ron.specs.Record.{ron_of};
+
 /// The name `value`.
 #[derive(Drop)]
 struct ItemValue {}
 
-impl Label for ItemValue {
+impl nano_schema::Label for ItemValue {
     ghost label = { codes "value" };
 
     fn text() -> &'static str {
@@ -46,7 +35,7 @@ impl Label for ItemValue {
 #[derive(Drop)]
 struct ItemNote {}
 
-impl Label for ItemNote {
+impl nano_schema::Label for ItemNote {
     ghost label = { codes "note" };
 
     fn text() -> &'static str {
@@ -54,97 +43,130 @@ impl Label for ItemNote {
     }
 }
 
-type ItemFields = (Required<ItemValue, i32>, Optional<ItemNote, String>);
+type ItemFields = (
+    nano_schema::Required<ItemValue, i32>,
+    nano_schema::Optional<ItemNote, String>,
+);
 
-impl Record for Item {
+impl nano_schema::Record for Item {
     type Values = (i32, Option<String>);
 
     ghost view = { λ x. (x.value, x.note) };
 
-    fn make(values: (i32, Option<String>)) -> Item {
+    fn make(values: Self::Values) -> Self {
         let (value, note) = values;
         Item { value, note }
     }
 }
 
-impl<'a> Parts<'a> for Item {
+impl<'a> nano_schema::Parts<'a> for Item {
     type Refs = (&'a i32, &'a Option<String>);
 
-    ghost values = { ⟦<ItemFields as Borrowed<'a>>⟧.values };
+    ghost values = { ⟦<ItemFields as nano_schema::Borrowed<'a>>⟧.values };
 
-    fn as_refs(&'a self) -> (&'a i32, &'a Option<String>) {
+    fn as_refs(&'a self) -> Self::Refs {
         (&self.value, &self.note)
     }
 }
 
-impl Value for Item {
-    ghost means = { λ x. ⟦<ItemFields as Shape>⟧.means (⟦<Item as Record>⟧.view x) };
+impl nano_schema::Value for Item {
+    ghost means = { λ x. ⟦<ItemFields as nano_schema::Shape>⟧.means
+        (⟦<Item as nano_schema::Record>⟧.view x) };
 
-    ghost legal = { ⟦<ItemFields as Shape>⟧.legal };
+    ghost legal = { ⟦<ItemFields as nano_schema::Shape>⟧.legal };
 
     fn known(&self) {
-        known_record::<Item, ItemFields>(self);
+        nano_schema::known_record::<Self, ItemFields>(self);
     }
 }
 
 // ---- bytes
 
-impl BinCodec for Item {
-    ghost bin = { bin_of ⟦<Item as Record>⟧.view ⟦<ItemFields as BinShape>⟧.codec };
+impl nano_schema_bin::BinCodec for Item {
+    ghost bin = { bin_of ⟦<Item as nano_schema::Record>⟧.view
+        ⟦<ItemFields as nano_schema_bin::BinShape>⟧.codec };
 
     ghost agrees = { agreed };
 }
 
-impl SerBin for Item {
-    fn ser_bin(&self, alloc: Global, output: &mut Vec<u8>) -> Result<(), AllocError> {
-        write_record_bin::<Item, ItemFields>(self, alloc, output)
+impl nano_schema_bin::SerBin for Item {
+    fn ser_bin(
+        &self,
+        alloc: std::alloc::Global,
+        output: &mut Vec<u8>,
+    ) -> Result<(), std::alloc::AllocError> {
+        nano_schema_bin::write_record_bin::<Self, ItemFields>(self, alloc, output)
     }
 }
 
-impl DeBin for Item {
+impl nano_schema_bin::DeBin for Item {
     ghost is_decodable = { refl };
 
-    fn de_bin(alloc: Global, offset: &mut usize, bytes: &[u8]) -> Result<Item, DeBinErr> {
-        read_record_bin::<Item, ItemFields>(alloc, offset, bytes)
+    fn de_bin(
+        alloc: std::alloc::Global,
+        offset: &mut usize,
+        bytes: &[u8],
+    ) -> Result<Self, nano_schema_bin::DeBinErr> {
+        nano_schema_bin::read_record_bin::<Self, ItemFields>(alloc, offset, bytes)
     }
 }
 
 // ---- JSON
 
-impl JsonCodec for Item {
-    ghost json = { json_of ⟦<Item as Record>⟧.view ⟦<ItemFields as JsonShape>⟧.codec refl };
+impl nano_schema_json::JsonCodec for Item {
+    ghost json = { json_of ⟦<Item as nano_schema::Record>⟧.view
+        ⟦<ItemFields as nano_schema_json::JsonShape>⟧.codec refl };
 
     ghost agrees = { agreed };
 }
 
-impl SerJson for Item {
-    fn ser_json(&self, alloc: Global, d: usize, s: &mut SerJsonState) -> Result<(), AllocError> {
-        write_record_json::<Item, ItemFields>(self, alloc, d, s)
+impl nano_schema_json::SerJson for Item {
+    fn ser_json(
+        &self,
+        alloc: std::alloc::Global,
+        d: usize,
+        s: &mut nano_schema_json::SerJsonState,
+    ) -> Result<(), std::alloc::AllocError> {
+        nano_schema_json::write_record_json::<Self, ItemFields>(self, alloc, d, s)
     }
 }
 
-impl DeJson for Item {
-    fn de_json(alloc: Global, state: &mut DeJsonState, input: &mut Chars<'_>) -> JsonResult<Self> {
-        read_record_json::<Item, ItemFields>(alloc, state, input)
+impl nano_schema_json::DeJson for Item {
+    fn de_json(
+        alloc: std::alloc::Global,
+        state: &mut nano_schema_json::DeJsonState,
+        input: &mut std::str::Chars<'_>,
+    ) -> nano_schema_json::JsonResult<Self> {
+        nano_schema_json::read_record_json::<Self, ItemFields>(alloc, state, input)
     }
 }
 
 // ---- RON
 
-impl RonCodec for Item {
-    ghost ron = { ron_of ⟦<Item as Record>⟧.view ⟦<ItemFields as RonShape>⟧.codec refl };
+impl nano_schema_ron::RonCodec for Item {
+    ghost ron = { ron_of ⟦<Item as nano_schema::Record>⟧.view
+        ⟦<ItemFields as nano_schema_ron::RonShape>⟧.codec refl };
 
     ghost agrees = { agreed };
 }
 
-impl SerRon for Item {
-    fn ser_ron(&self, alloc: Global, d: usize, s: &mut SerRonState) -> Result<(), AllocError> {
-        write_record_ron::<Item, ItemFields>(self, alloc, d, s)
+impl nano_schema_ron::SerRon for Item {
+    fn ser_ron(
+        &self,
+        alloc: std::alloc::Global,
+        d: usize,
+        s: &mut nano_schema_ron::SerRonState,
+    ) -> Result<(), std::alloc::AllocError> {
+        nano_schema_ron::write_record_ron::<Self, ItemFields>(self, alloc, d, s)
     }
 }
 
-impl DeRon for Item {
-    fn de_ron(alloc: Global, state: &mut DeRonState, input: &mut Chars<'_>) -> RonResult<Self> {
-        read_record_ron::<Item, ItemFields>(alloc, state, input)
+impl nano_schema_ron::DeRon for Item {
+    fn de_ron(
+        alloc: std::alloc::Global,
+        state: &mut nano_schema_ron::DeRonState,
+        input: &mut std::str::Chars<'_>,
+    ) -> nano_schema_ron::RonResult<Self> {
+        nano_schema_ron::read_record_ron::<Self, ItemFields>(alloc, state, input)
     }
 }
