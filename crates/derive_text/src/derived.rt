@@ -22,8 +22,8 @@ pub(crate) trait Writer {
 
 /// The source with the impls of its structs and enums below the marker.
 ///
-/// `module_name` is the module that the source is, as ghost names say it: `app.specs.declared.shapes` is
-/// `src/shapes.rt` of the crate `app`.
+/// `module_name` is the module that the source is, as ghost names say it:
+/// `app.specs.declared.shapes` is `src/shapes.rt` of the crate `app`.
 ///
 /// What stands above the marker is unchanged. What stood below it is left out and is not read, so
 /// that the answer is its own.
@@ -45,7 +45,8 @@ pub fn derive(alloc: Global, module_name: &str, source: &str) -> Result<String, 
 
 /// The source with what a writer writes below the marker.
 fn derive_by<W: Writer>(alloc: Global, module_name: &str, source: &str) -> Result<String, Fault>
-    ensures { IfOk result (λ text. IsDerived (W.writes module_name.now) source.now (string_bytes text)) }
+    ensures { IfOk result (λ text.
+        IsDerived (W.writes module_name.now) source.now (string_bytes text)) }
 {
     let above = above_marker(source)?;
     let below = W::write(alloc, module_name, above)?;

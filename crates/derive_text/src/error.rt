@@ -32,8 +32,8 @@ pub enum DeriveError {
 }
 
 impl SourceFault {
-    /// Prints `name:line:column: message`, with line and column counted from 1, then the line, and a
-    /// caret under the character. `source` is the text that was given. The output's errors are
+    /// Prints `name:line:column: message`, with line and column counted from 1, then the line, and
+    /// a caret under the character. `source` is the text that was given. The output's errors are
     /// passed on, with what was written before.
     pub fn show<W: Write>(&self, output: &mut W, name: &str, source: &str) -> io::Result<()> {
         let shown = source.lines().nth(self.line).unwrap_or("");

@@ -144,7 +144,9 @@ fn append_reader<'a>(
         Kind::Transparent => {
             let (row, name) = (target.row.as_str(), target.name.text);
             format!(in alloc;
-                "        match <{row} as {}>::{}({arguments}) {{\n            Ok(value) => Ok({name}(value)),\n            Err(error) => Err(error),\n        }}\n",
+                "        match <{row} as {}>::{}({arguments}) {{\n            \
+                Ok(value) => Ok({name}(value)),\n            \
+                Err(error) => Err(error),\n        }}\n",
                 codec.de, codec.de_method
             )?
         }

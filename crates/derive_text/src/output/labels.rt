@@ -13,7 +13,8 @@ pub(crate) fn append_label(
     sheet.import("ghost use Rattle.std.specs.Prelude.{codes};")?;
     sheet.line(format!(in alloc;
         "\n/// The name `{name}`.\n#[derive(Drop)]\nstruct {label} {{}}\n\n\
-            impl nano_schema::Label for {label} {{\n    ghost label = {{ codes \"{name}\" }};\n\n    \
+            impl nano_schema::Label for {label} {{\n    \
+            ghost label = {{ codes \"{name}\" }};\n\n    \
             fn text() -> &'static str {{\n        \"{name}\"\n    }}\n}}"
     )?
     .as_str())

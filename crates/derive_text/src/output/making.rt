@@ -38,7 +38,8 @@ fn append_test<'a>(
     let made = named_variant(alloc, target, variant, Items::Values, 16, 19)?;
     let pattern = content_of(alloc, variant, Items::Patterns, 16, 20)?;
     sheet.line(format!(in alloc;
-        "        let later = match {name} {{\n            nano_schema::Either::First(values) => {{\n                \
+        "        let later = match {name} {{\n            \
+            nano_schema::Either::First(values) => {{\n                \
             let {pattern} = values;\n                return {made};\n            }}\n            \
             nano_schema::Either::Later(later) => later,\n        }};"
     )?

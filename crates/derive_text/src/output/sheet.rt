@@ -47,8 +47,8 @@ impl Sheet {
         self.line(after)
     }
 
-    /// Appends a ghost member, in lines of as many columns as there are. A line ends at a space, but
-    /// at none between `⟦` and `⟧`.
+    /// Appends a ghost member, in lines of as many columns as there are. A line ends at a space,
+    /// but at none between `⟦` and `⟧`.
     pub(crate) fn member(
         &mut self,
         alloc: Global,
@@ -70,8 +70,8 @@ impl Sheet {
         self.line(" };")
     }
 
-    /// Appends a part of a ghost term, after a space or on a new line, to a line of so many columns.
-    /// Answers how many it has then.
+    /// Appends a part of a ghost term, after a space or on a new line, to a line of so many
+    /// columns. Answers how many it has then.
     fn word(&mut self, part: &str, used: usize) -> Result<usize, AllocError> {
         let whole = used.saturating_add(width(part));
         if whole.saturating_add(3) <= COLUMNS {

@@ -68,8 +68,8 @@ fn bound_names<'a>(alloc: Global, variant: &Variant<'a>) -> Result<Vec<String>, 
     Ok(names)
 }
 
-/// A variant with its content by the names of a pattern, on a line that is indented so far, after so
-/// many columns of it: a pattern, or a value.
+/// A variant with its content by the names of a pattern, on a line that is indented so far, after
+/// so many columns of it: a pattern, or a value.
 pub(crate) fn named_variant<'a>(
     alloc: Global,
     target: &Target<'a>,

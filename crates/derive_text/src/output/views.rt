@@ -6,6 +6,9 @@ use crate::output::target::Target;
 use crate::syntax::{Content, Variant};
 use std::alloc::{AllocError, Global};
 
+const EITHER: &str =
+    "ghost use Rattle.nano_schema.specs.declared.choices.Either.TheVariants.{First, Later};";
+
 /// Appends the types of the content, and the term that splits an enum into it.
 pub(crate) fn append_view<'a>(
     alloc: Global,
@@ -14,9 +17,7 @@ pub(crate) fn append_view<'a>(
     variants: &[Variant<'a>],
 ) -> Result<(), AllocError> {
     if variants.len() > 1 {
-        sheet.import(
-            "ghost use Rattle.nano_schema.specs.declared.choices.Either.TheVariants.{First, Later};",
-        )?;
+        sheet.import(EITHER)?;
     }
     append_imports(alloc, sheet, target, variants)?;
     sheet.line(format!(in alloc; "\n    type Values = {};\n", target.values.as_str())?.as_str())?;
