@@ -2,8 +2,9 @@
 //!
 //! `nano_derive FILE..` writes them below the marker of each file. `nano_derive --check FILE..`
 //! writes nothing, and prints the name of each file in which they are not what would be written:
-//! its status is then 1. A file at fault is unchanged; what is wrong is printed with its line and
-//! column, that line, and a caret under the character.
+//! its status is then 1. `nano_derive --print FILE..` prints each file with its impls. A file at
+//! fault is unchanged; what is wrong is printed with its line and column, that line, and a caret
+//! under the character.
 #![tactic(auto)]
 
 use anyhow::{Context, Result, bail};
@@ -13,6 +14,17 @@ use std::env;
 use std::fs::{self, File};
 use std::io::Write;
 use std::process::ExitCode;
+
+/// What is done with the text that is written for a file.
+#[derive(Clone, Copy)]
+enum Mode {
+    /// It takes the file's place.
+    Write,
+    /// It is compared with the file.
+    Check,
+    /// It is printed.
+    Print,
+}
 
 /// What became of a file.
 #[derive(Clone, Copy, PartialEq)]
@@ -35,8 +47,8 @@ fn replace(rt: &HostRuntime, name: &str, text: &str) -> Result<()> {
     Ok(fs::rename(rt, beside.as_str(), name)?)
 }
 
-/// Compares a file with what is written for it, and writes that unless it is only checked.
-fn derive_file(rt: &HostRuntime, name: &str, is_check: bool) -> Result<Outcome> {
+/// Writes, compares or prints what is written for a file.
+fn derive_file(rt: &HostRuntime, name: &str, mode: Mode) -> Result<Outcome> {
     let source = fs::read_to_string(rt, name).context(format_args!("reading {name}"))?;
     let folder = env::current_dir(rt)?;
     let path = format!(in rt.alloc(); "{}/{name}", folder.as_str())?;
@@ -44,12 +56,7 @@ fn derive_file(rt: &HostRuntime, name: &str, is_check: bool) -> Result<Outcome> 
         bail!("{name} is in no src folder of a crate");
     };
     match derive(rt.alloc(), module.as_str(), source.as_str()) {
-        Ok(text) if text.as_str() == source.as_str() => Ok(Outcome::Fresh),
-        Ok(_text) if is_check => Ok(Outcome::Stale),
-        Ok(text) => {
-            replace(rt, name, text.as_str()).context(format_args!("writing {name}"))?;
-            Ok(Outcome::Fresh)
-        }
+        Ok(text) => finish(rt, name, mode, source.as_str(), text.as_str()),
         Err(DeriveError::Source(fault)) => {
             fault.show(&mut rt.stderr(), name, source.as_str())?;
             Ok(Outcome::Faulty)
@@ -58,11 +65,24 @@ fn derive_file(rt: &HostRuntime, name: &str, is_check: bool) -> Result<Outcome> 
     }
 }
 
+/// Does with the text of a file what is asked.
+fn finish(rt: &HostRuntime, name: &str, mode: Mode, source: &str, text: &str) -> Result<Outcome> {
+    match mode {
+        Mode::Print => print!(rt; "{text}")?,
+        Mode::Write if text != source => {
+            replace(rt, name, text).context(format_args!("writing {name}"))?;
+        }
+        Mode::Check if text != source => return Ok(Outcome::Stale),
+        _ => {}
+    }
+    Ok(Outcome::Fresh)
+}
+
 /// Derives each file, and says whether each is what it is to be.
-fn derive_files(rt: &HostRuntime, names: &[String], is_check: bool) -> Result<bool> {
+fn derive_files(rt: &HostRuntime, names: &[String], mode: Mode) -> Result<bool> {
     let mut are_fresh = true;
     for name in names {
-        let outcome = derive_file(rt, name.as_str(), is_check)?;
+        let outcome = derive_file(rt, name.as_str(), mode)?;
         if outcome == Outcome::Stale {
             println!(rt; "{name}")?;
         }
@@ -75,14 +95,15 @@ fn derive_files(rt: &HostRuntime, names: &[String], is_check: bool) -> Result<bo
 
 fn main(rt: HostRuntime) -> Result<ExitCode> {
     let words: Vec<String> = env::args(&rt)?.skip(1).collect(rt.alloc())?;
-    let (is_check, names) = match words.split_first() {
-        Some((first, rest)) if first.as_str() == "--check" => (true, rest),
-        _ => (false, words.as_slice()),
+    let (mode, names) = match words.split_first() {
+        Some((first, rest)) if first.as_str() == "--check" => (Mode::Check, rest),
+        Some((first, rest)) if first.as_str() == "--print" => (Mode::Print, rest),
+        _ => (Mode::Write, words.as_slice()),
     };
     if names.is_empty() {
-        bail!("usage: nano_derive [--check] FILE..");
+        bail!("usage: nano_derive [--check | --print] FILE..");
     }
-    if derive_files(&rt, names, is_check)? {
+    if derive_files(&rt, names, mode)? {
         Ok(ExitCode::SUCCESS)
     } else {
         Ok(ExitCode::FAILURE)
