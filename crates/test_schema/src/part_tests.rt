@@ -368,3 +368,12 @@ fn fields_of_bytes_are_read(rt: HostRuntime) {
     }
     holds(&rt, bin_item(rt.alloc(), 1).is_err(), "bytes cut short");
 }
+
+#[test]
+fn what_was_read_is_dropped(_rt: HostRuntime) {
+    <ItemFields as BinFields>::discard((7, None));
+    <ItemFields as JsonFields>::discard((Some(7), None));
+    <ItemFields as JsonFields>::discard_values((7, None));
+    <ItemFields as RonFields>::discard((Some(7), None));
+    <ItemFields as RonFields>::discard_values((7, None));
+}
