@@ -1,5 +1,5 @@
 //! An example: the calls that a user makes first, a function for each format. What it prints stands
-//! in `stdout`; docs/CALLS.md quotes both.
+//! in `stdout`; docs/GUIDE.md quotes both.
 #![tactic(auto)]
 
 use anyhow::Result;

@@ -55,7 +55,7 @@ fn main(rt: HostRuntime) -> Result<()> {
     let alloc = rt.alloc();
     let words: Vec<String> = env::args(&rt)?.collect(alloc)?;
     let [_, kind, from, to] = words.as_slice() else {
-        bail!("usage: convert TYPE FROM TO");
+        bail!("usage: example_convert TYPE FROM TO");
     };
     let (from, to) = (from.as_str(), to.as_str());
     let mut input = Vec::new(alloc);

@@ -59,7 +59,7 @@ fn read(rt: &HostRuntime, chunk: usize) -> Result<()> {
 fn main(rt: HostRuntime) -> Result<()> {
     let words: Vec<String> = env::args(&rt)?.collect(rt.alloc())?;
     let [_, word, number] = words.as_slice() else {
-        bail!("usage: message_codec write COUNT | read CHUNK");
+        bail!("usage: example_messages write COUNT | read CHUNK");
     };
     match word.as_str() {
         "write" => write(&rt, number.parse().context("COUNT")?),

@@ -75,7 +75,7 @@ fn save(rt: &HostRuntime, name: &str, coins: u32) -> Result<ExitCode> {
 fn main(rt: HostRuntime) -> Result<ExitCode> {
     let words: Vec<String> = env::args(&rt)?.collect(rt.alloc())?;
     let [_, name, coins] = words.as_slice() else {
-        bail!("usage: save_file FILE COINS");
+        bail!("usage: example_save_file FILE COINS");
     };
     save(&rt, name.as_str(), coins.parse().context("COINS")?)
 }

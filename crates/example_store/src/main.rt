@@ -17,7 +17,7 @@ use std::fs::{self, File};
 /// A record: a value, and a note where there is one.
 type Item = (i32, Option<String>);
 
-const USAGE: &str = "usage: record_store FILE new | put KEY VALUE [NOTE] | get KEY | list | check";
+const USAGE: &str = "usage: example_store FILE new | put KEY VALUE [NOTE] | get KEY | list | check";
 
 /// Makes an empty store.
 fn make(rt: &HostRuntime, file: &str) -> Result<()> {

@@ -1,8 +1,8 @@
 //! Examples: user-defined types in bytes, in JSON and in RON. Each file is one that a user
 //! copies.
 //!
-//! `Server`, `Event`, `Signal` and `Query` are described once by a schema, and get each format
-//! from it. `Limits` and `Tags` are encoded as their one field. `Command` implements bytes and
+//! `Server`, `Event`, `Signal` and `Query` are described once by a schema, and `nano_derive` wrote each
+//! format from it. `Limits` and `Tags` are encoded as their one field. `Command` implements bytes and
 //! `Message` implements JSON by hand, without a schema.
 #![tactic(auto)]
 
