@@ -93,17 +93,23 @@ fn derive_files(rt: &HostRuntime, names: &[String], mode: Mode) -> Result<bool> 
     Ok(are_fresh)
 }
 
+/// What a first word asks for, if it is no file's name.
+fn mode_of(word: &str) -> Option<Mode> {
+    match word {
+        "--check" => Some(Mode::Check),
+        "--print" => Some(Mode::Print),
+        _ => None,
+    }
+}
+
 fn main(rt: HostRuntime) -> Result<ExitCode> {
     let words: Vec<String> = env::args(&rt)?.skip(1).collect(rt.alloc())?;
-    let (mode, names) = match words.split_first() {
-        Some((first, rest)) if first.as_str() == "--check" => (Mode::Check, rest),
-        Some((first, rest)) if first.as_str() == "--print" => (Mode::Print, rest),
-        _ => (Mode::Write, words.as_slice()),
-    };
+    let mode = words.first().and_then(|word| mode_of(word.as_str()));
+    let names = words.get(usize::from(mode.is_some())..).unwrap_or(&[]);
     if names.is_empty() {
         bail!("usage: nano_derive [--check | --print] FILE..");
     }
-    if derive_files(&rt, names, mode)? {
+    if derive_files(&rt, names, mode.unwrap_or(Mode::Write))? {
         Ok(ExitCode::SUCCESS)
     } else {
         Ok(ExitCode::FAILURE)
