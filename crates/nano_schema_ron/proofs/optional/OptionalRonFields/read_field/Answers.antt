@@ -1,4 +1,4 @@
-use Rattle.std.proofs.Common.{string_bytes, inr}
+use Rattle.std.proofs.Common.{string_bytes, sym, inr}
 use Rattle.std.proofs.lemmas.Result.{err_from_is_err_and}
 use Rattle.std.specs.Option.{option_map}
 use Rattle.nano_value.specs.Meaning.{optional}
@@ -28,9 +28,10 @@ pub returns-clause-decodes : goal.returns-clause-decodes
 returns-clause-decodes g c =
     let start = at c.args.state.now c.args.input.now in
     let end = at c.read_named.new.state c.read_named.new.input in
+    let decodes = rw (sym g.met.T.RonCodec.agrees.means_is) at c.in_ok-value.ensures.decodes in
     let read =
     named_field ron_fields ron_laws (string_bytes c.args.state.now.identbuf)
     g.N.Label.label (option_of g.T.RonCodec.ron.encoding).encodes start end
-    (optional (option_map g.T.Value.means c.in_ok-value.value)) c.requires.known
-    c.in_ok-value.ensures.decodes in
+    (optional (option_map g.T.RonCodec.ron.canonical.means c.in_ok-value.value)) c.requires.known
+    decodes in
     (read.0, read.1, λ fs h. inr (read.2 fs))

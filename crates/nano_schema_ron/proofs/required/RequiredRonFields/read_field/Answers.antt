@@ -1,4 +1,4 @@
-use Rattle.std.proofs.Common.{string_bytes}
+use Rattle.std.proofs.Common.{string_bytes, sym}
 use Rattle.std.proofs.lemmas.Result.{err_from_is_err_and}
 use Rattle.nano_schema_text.specs.StructLaws.{must_read}
 use Rattle.nano_schema_text.proofs.FieldReading.{named_field, field_rejected}
@@ -25,8 +25,9 @@ pub returns-clause-decodes : goal.returns-clause-decodes
 returns-clause-decodes g c =
     let start = at c.args.state.now c.args.input.now in
     let end = at c.read_named.new.state c.read_named.new.input in
+    let decodes = rw (sym g.met.T.RonCodec.agrees.means_is) at c.in_ok-value.ensures.decodes in
     let read =
     named_field ron_fields ron_laws (string_bytes c.args.state.now.identbuf)
     g.N.Label.label g.T.RonCodec.ron.encoding.encodes start end
-    (g.T.Value.means c.in_ok-value.value) c.requires.known c.in_ok-value.ensures.decodes in
+    (g.T.RonCodec.ron.canonical.means c.in_ok-value.value) c.requires.known decodes in
     (read.0, read.1, λ fs h. read.2 fs)
