@@ -1,5 +1,7 @@
 //! What a game remembers: its schema, JSON and RON.
 
+ghost use Rattle.std.specs.Prelude.{refl};
+
 use std::collections::HashMap;
 
 // nanoserde: json ron
