@@ -2,10 +2,12 @@
 //! The readers are inlined, so a value that is read passes through no result with space for an
 //! error.
 
+ghost use Rattle.std.specs.Prelude.{IfErr};
 ghost use Rattle.nano_value.specs.Meaning.{truth, nothing};
 ghost use Rattle.nano_value.specs.AgreesLaws.{agreed};
 ghost use Rattle.nano_json.specs.BoolsLaws.{truths, units, truth_codec, unit_codec};
 ghost use Rattle.nano_json.specs.Readers.{Decodes, Rejects};
+ghost use Rattle.nano_json.specs.Outcomes.{Counts, IsPlacedAt};
 ghost use Rattle.nano_json.specs.State.{at};
 
 use crate::traits::{DeJson, JsonCodec, SerJson};
@@ -38,6 +40,8 @@ fn read_bool(
     ensures decodes { Decodes truths.encodes truth
         (at state.old input.old) (at state.new input.new) result }
     ensures rejected { Rejects truths.encodes (at state.old input.old) result }
+    ensures place { Counts state.old input.old state.new input.new }
+    ensures made { IfErr result (IsPlacedAt state.new) }
 {
     let value = state.as_bool(alloc)?;
     state.next_tok(alloc, input)?;
@@ -74,6 +78,8 @@ fn read_unit(alloc: Global, state: &mut DeJsonState, input: &mut Chars<'_>) -> R
     ensures decodes { Decodes units.encodes (λ _. nothing)
         (at state.old input.old) (at state.new input.new) result }
     ensures rejected { Rejects units.encodes (at state.old input.old) result }
+    ensures place { Counts state.old input.old state.new input.new }
+    ensures made { IfErr result (IsPlacedAt state.new) }
 {
     if state.is_null() {
         return state.next_tok(alloc, input);

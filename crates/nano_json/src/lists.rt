@@ -1,6 +1,6 @@
 //! Lists: items between square brackets. Vectors, linked lists, slices and arrays.
 
-ghost use Rattle.std.specs.Prelude.{◌≡◌, IfOk, OnOk, OnErr, map, length};
+ghost use Rattle.std.specs.Prelude.{◌≡◌, IfOk, OnOk, OnErr, map, length, IfErr};
 ghost use Rattle.nano_value.specs.Meaning.{listed};
 ghost use Rattle.nano_value.specs.AgreesLaws.{seen_agrees, list_agrees, array_agrees};
 ghost use Rattle.nano_json.specs.Codec.{codec_as};
@@ -9,6 +9,7 @@ ghost use Rattle.nano_json.specs.Readers.{Decodes, Rejects};
 ghost use Rattle.nano_json.specs.ListsLaws.{list_of, array_of, list_codec};
 ghost use Rattle.nano_json.specs.Lists.{in_list, written_list};
 ghost use Rattle.nano_json.specs.ListsLaws.{array_codec};
+ghost use Rattle.nano_json.specs.Outcomes.{Counts, IsPlacedAt};
 ghost use Rattle.nano_json.specs.State.{at};
 
 use crate::traits::{DeJson, JsonCodec, SerJson};
@@ -34,6 +35,8 @@ fn read_vec<T: DeJson>(
         (λ items. listed (map T.means items.items))
         (at state.old input.old) (at state.new input.new) result }
     ensures rejected { Rejects (list_of T.json.encoding).encodes (at state.old input.old) result }
+    ensures place { Counts state.old input.old state.new input.new }
+    ensures made { IfErr result (IsPlacedAt state.new) }
 {
     let mut items = Vec::new(alloc);
     state.block_open(alloc, input)?;
@@ -122,6 +125,8 @@ fn read_linked_list<T: DeJson>(
     ensures decodes { Decodes (list_of T.json.encoding).encodes (λ items. listed (map T.means items))
         (at state.old input.old) (at state.new input.new) result }
     ensures rejected { Rejects (list_of T.json.encoding).encodes (at state.old input.old) result }
+    ensures place { Counts state.old input.old state.new input.new }
+    ensures made { IfErr result (IsPlacedAt state.new) }
 {
     let mut items = LinkedList::new(alloc);
     state.block_open(alloc, input)?;
@@ -210,6 +215,8 @@ fn read_items<T: DeJson>(
     ensures count { IfOk result (λ items. length items.items ≡ count) }
     ensures rejected { Rejects (array_of count T.json.encoding).encodes
         (at state.old input.old) result }
+    ensures place { Counts state.old input.old state.new input.new }
+    ensures made { IfErr result (IsPlacedAt state.new) }
 {
     let mut items = Vec::new(alloc);
     state.block_open(alloc, input)?;
@@ -233,6 +240,8 @@ fn read_array<T: DeJson, const N: usize>(
     ensures decodes { Decodes (array_of N T.json.encoding).encodes (λ items. listed (map T.means items))
         (at state.old input.old) (at state.new input.new) result }
     ensures rejected { Rejects (array_of N T.json.encoding).encodes (at state.old input.old) result }
+    ensures place { Counts state.old input.old state.new input.new }
+    ensures made { IfErr result (IsPlacedAt state.new) }
 {
     let items = read_items(alloc, state, input, N)?;
     match <[T; N]>::try_from(items) {

@@ -1,7 +1,7 @@
 //! Maps: keys with their values between curly brackets. They are written in the order of the keys.
 
 ghost use Rattle.std.specs.Map.Iter.{deref_pair};
-ghost use Rattle.std.specs.Prelude.{OnOk, OnErr, map};
+ghost use Rattle.std.specs.Prelude.{OnOk, OnErr, map, IfErr};
 ghost use Rattle.nano_value.specs.Meaning.{pair_map};
 ghost use Rattle.nano_value.specs.Tables.{table_of, table_means};
 ghost use Rattle.nano_value.specs.AgreesLaws.{seen_agrees, map_agrees};
@@ -11,6 +11,7 @@ ghost use Rattle.nano_json.specs.Maps.{EncodesEntry, EncodesMap, written_entry, 
 ghost use Rattle.nano_json.specs.MapsLaws.{map_codec};
 ghost use Rattle.nano_text.specs.Outcomes.{Appends, AppendsPart};
 ghost use Rattle.nano_json.specs.Readers.{Decodes, Rejects};
+ghost use Rattle.nano_json.specs.Outcomes.{Counts, IsPlacedAt};
 ghost use Rattle.nano_json.specs.State.{at};
 
 use crate::lists::append_item;
@@ -41,6 +42,8 @@ fn read_hash_map<K: DeJson + Key + Hash, V: DeJson>(
         (at state.old input.old) (at state.new input.new) result }
     ensures rejected { Rejects (EncodesMap K.json.encoding.encodes V.json.encoding.encodes)
         (at state.old input.old) result }
+    ensures place { Counts state.old input.old state.new input.new }
+    ensures made { IfErr result (IsPlacedAt state.new) }
 {
     // A text has fewer than 2^63 bytes, so a `usize` counts its entries.
     let _capacity = bytes_left(input);
@@ -67,6 +70,8 @@ pub(crate) fn read_entry<K: DeJson, V: DeJson>(
         (pair_map K.means V.means) (at state.old input.old) (at state.new input.new) result }
     ensures rejected { Rejects (EncodesEntry K.json.encoding.encodes V.json.encoding.encodes)
         (at state.old input.old) result }
+    ensures place { Counts state.old input.old state.new input.new }
+    ensures made { IfErr result (IsPlacedAt state.new) }
 {
     let key = K::de_json(alloc, state, input)?;
     state.colon(alloc, input)?;

@@ -1,7 +1,7 @@
 //! Ordered maps: keys with their values between curly brackets. A hashed map of the same entries is
 //! written alike.
 
-ghost use Rattle.std.specs.Prelude.{OnOk, OnErr};
+ghost use Rattle.std.specs.Prelude.{OnOk, OnErr, IfErr};
 ghost use Rattle.nano_value.specs.OrderedMaps.{ordered_map_means};
 ghost use Rattle.nano_value.specs.AgreesLaws.{seen_agrees, ordered_map_agrees};
 ghost use Rattle.nano_json.specs.Codec.{codec_as};
@@ -9,6 +9,7 @@ ghost use Rattle.nano_json.specs.Maps.{EncodesMap, written_entries};
 ghost use Rattle.nano_json.specs.MapsLaws.{ordered_map_codec};
 ghost use Rattle.nano_text.specs.Outcomes.{Appends, AppendsPart};
 ghost use Rattle.nano_json.specs.Readers.{Decodes, Rejects};
+ghost use Rattle.nano_json.specs.Outcomes.{Counts, IsPlacedAt};
 ghost use Rattle.nano_json.specs.State.{at};
 
 use crate::maps::{append_entry, read_entry};
@@ -38,6 +39,8 @@ fn read_btree_map<K: DeJson + Key + Ord, V: DeJson>(
         (at state.old input.old) (at state.new input.new) result }
     ensures rejected { Rejects (EncodesMap K.json.encoding.encodes V.json.encoding.encodes)
         (at state.old input.old) result }
+    ensures place { Counts state.old input.old state.new input.new }
+    ensures made { IfErr result (IsPlacedAt state.new) }
 {
     // A text has fewer than 2^63 bytes, so a `usize` counts its entries.
     let _capacity = bytes_left(input);

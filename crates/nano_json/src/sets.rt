@@ -1,7 +1,7 @@
 //! Sets: items between square brackets, read in any order. They are written in order.
 
 ghost use Rattle.std.specs.Map.Iter.{deref};
-ghost use Rattle.std.specs.Prelude.{OnOk, OnErr, map};
+ghost use Rattle.std.specs.Prelude.{OnOk, OnErr, map, IfErr};
 ghost use Rattle.nano_value.specs.OrderedSets.{ordered_means};
 ghost use Rattle.nano_value.specs.Sets.{item_set, set_means};
 ghost use Rattle.nano_value.specs.AgreesLaws.{seen_agrees, set_agrees, ordered_agrees};
@@ -11,6 +11,7 @@ ghost use Rattle.nano_text.specs.Outcomes.{Appends, AppendsPart};
 ghost use Rattle.nano_json.specs.Readers.{Decodes, Rejects};
 ghost use Rattle.nano_json.specs.Sets.{EncodesSet};
 ghost use Rattle.nano_json.specs.SetsLaws.{set_codec, ordered_codec};
+ghost use Rattle.nano_json.specs.Outcomes.{Counts, IsPlacedAt};
 ghost use Rattle.nano_json.specs.State.{at};
 
 use crate::lists::append_item;
@@ -39,6 +40,8 @@ fn read_hash_set<T: DeJson + Key + Hash>(
         (λ items. set_means (item_set T.means items.keys))
         (at state.old input.old) (at state.new input.new) result }
     ensures rejected { Rejects (EncodesSet T.json.encoding.encodes) (at state.old input.old) result }
+    ensures place { Counts state.old input.old state.new input.new }
+    ensures made { IfErr result (IsPlacedAt state.new) }
 {
     // A text has fewer than 2^63 bytes, so a `usize` counts its items.
     let _capacity = bytes_left(input);
@@ -111,6 +114,8 @@ fn read_btree_set<T: DeJson + Key + Ord>(
         (λ items. ordered_means T.cmp T.means items.keys)
         (at state.old input.old) (at state.new input.new) result }
     ensures rejected { Rejects (EncodesSet T.json.encoding.encodes) (at state.old input.old) result }
+    ensures place { Counts state.old input.old state.new input.new }
+    ensures made { IfErr result (IsPlacedAt state.new) }
 {
     // A text has fewer than 2^63 bytes, so a `usize` counts its items.
     let _capacity = bytes_left(input);

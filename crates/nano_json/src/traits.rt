@@ -43,10 +43,11 @@ pub trait SerJson: JsonCodec {
 
 /// A value that can be read from JSON.
 pub trait DeJson: JsonCodec + Drop {
-    ghost use Rattle.std.specs.Prelude.{◌≡◌, OnErr};
+    ghost use Rattle.std.specs.Prelude.{◌≡◌, OnErr, IfErr};
     ghost use Rattle.nano_text.specs.Place.{remaining_text};
+    ghost use Rattle.nano_json.specs.Outcomes.{Counts, IsPlacedAt};
     ghost use Rattle.nano_json.specs.Readers.{Decodes, Rejects, DecodesText, RejectsText};
-    ghost use Rattle.nano_json.specs.Readers.{DecodesWhole, RejectsWhole, NamesTheEnd};
+    ghost use Rattle.nano_json.specs.Readers.{DecodesWhole, RejectsWhole, NamesTheEnd, PointsInto};
     ghost use Rattle.nano_json.specs.State.{at, ended};
 
     /// Reads the value that the tokens from the pending one on encode. The token after the
@@ -62,7 +63,9 @@ pub trait DeJson: JsonCodec + Drop {
         ensures decodes { Decodes Self.json.encoding.encodes Self.means
             (at state.old input.old) (at state.new input.new) result }
         ensures rejected { Rejects Self.json.encoding.encodes (at state.old input.old) result }
-        ensures ended { OnErr result (at state.new input.new ≡ ended) };
+        ensures ended { OnErr result (at state.new input.new ≡ ended) }
+        ensures place { Counts state.old input.old state.new input.new }
+        ensures made { IfErr result (IsPlacedAt state.new) };
 
     /// Reads the value that begins the text, which ends before its first NUL. More may follow:
     /// of that, one token is cut.
@@ -72,6 +75,7 @@ pub trait DeJson: JsonCodec + Drop {
     fn deserialize_json(alloc: Global, input: &str) -> Result<Self, DeJsonErr>
         ensures decodes { DecodesText Self.json.encoding.encodes Self.means (remaining_text input.now) result }
         ensures rejected { RejectsText Self.json.encoding.encodes (remaining_text input.now) result }
+        ensures place { PointsInto input.now result }
     {
         let mut state = DeJsonState::new(alloc);
         let mut chars = input.chars();
@@ -92,6 +96,7 @@ pub trait DeJson: JsonCodec + Drop {
         ensures decodes { DecodesWhole Self.json.encoding.encodes Self.means input.now result }
         ensures rejected { RejectsWhole Self.json.encoding.encodes input.now result }
         ensures trailing { NamesTheEnd Self.json.encoding.encodes input.now result }
+        ensures place { PointsInto input.now result }
     {
         let mut state = DeJsonState::new(alloc);
         let mut characters = input.chars();

@@ -1,10 +1,11 @@
 //! Tuples: two, three or four parts between square brackets.
 
-ghost use Rattle.std.specs.Prelude.{◌++◌, ◌∷◌, [], OnOk, OnErr};
+ghost use Rattle.std.specs.Prelude.{◌++◌, ◌∷◌, [], OnOk, OnErr, IfErr};
 ghost use Rattle.nano_value.specs.Meaning.{paired};
 ghost use Rattle.nano_value.specs.AgreesLaws.{seen_agrees, pair_agrees};
 ghost use Rattle.nano_text.specs.Outcomes.{Appends, AppendsPart};
 ghost use Rattle.nano_json.specs.Readers.{Decodes, Rejects};
+ghost use Rattle.nano_json.specs.Outcomes.{Counts, IsPlacedAt};
 ghost use Rattle.nano_json.specs.State.{at};
 ghost use Rattle.nano_json.specs.TuplesLaws.{last_codec, two_parts, three_parts, four_parts};
 ghost use Rattle.nano_json.specs.TuplesLaws.{pair_codec, triple_codec, quadruple_codec};
@@ -26,6 +27,8 @@ fn read_last<T: DeJson>(
         (at state.old input.old) (at state.new input.new) result }
     ensures rejected { Rejects (last_codec T.json).encoding.encodes
         (at state.old input.old) result }
+    ensures place { Counts state.old input.old state.new input.new }
+    ensures made { IfErr result (IsPlacedAt state.new) }
 {
     let last = T::de_json(alloc, state, input)?;
     state.eat_comma_block(alloc, input)?;
@@ -45,6 +48,8 @@ fn read_two<A: DeJson, B: DeJson>(
         (at state.old input.old) (at state.new input.new) result }
     ensures rejected { Rejects (two_parts A.json B.json).encoding.encodes
         (at state.old input.old) result }
+    ensures place { Counts state.old input.old state.new input.new }
+    ensures made { IfErr result (IsPlacedAt state.new) }
 {
     let first = A::de_json(alloc, state, input)?;
     state.eat_comma_block(alloc, input)?;
@@ -64,6 +69,8 @@ fn read_three<A: DeJson, B: DeJson, C: DeJson>(
         (at state.old input.old) (at state.new input.new) result }
     ensures rejected { Rejects (three_parts A.json B.json C.json).encoding.encodes
         (at state.old input.old) result }
+    ensures place { Counts state.old input.old state.new input.new }
+    ensures made { IfErr result (IsPlacedAt state.new) }
 {
     let first = A::de_json(alloc, state, input)?;
     state.eat_comma_block(alloc, input)?;
@@ -83,6 +90,8 @@ fn read_four<A: DeJson, B: DeJson, C: DeJson, D: DeJson>(
         (at state.old input.old) (at state.new input.new) result }
     ensures rejected { Rejects (four_parts A.json B.json C.json D.json).encoding.encodes
         (at state.old input.old) result }
+    ensures place { Counts state.old input.old state.new input.new }
+    ensures made { IfErr result (IsPlacedAt state.new) }
 {
     let first = A::de_json(alloc, state, input)?;
     state.eat_comma_block(alloc, input)?;
@@ -150,6 +159,8 @@ fn read_pair<A: DeJson, B: DeJson>(
         (at state.old input.old) (at state.new input.new) result }
     ensures rejected { Rejects (pair_codec A.json B.json).encoding.encodes
         (at state.old input.old) result }
+    ensures place { Counts state.old input.old state.new input.new }
+    ensures made { IfErr result (IsPlacedAt state.new) }
 {
     state.block_open(alloc, input)?;
     read_two(alloc, state, input)
@@ -211,6 +222,8 @@ fn read_triple<A: DeJson, B: DeJson, C: DeJson>(
         (at state.old input.old) (at state.new input.new) result }
     ensures rejected { Rejects (triple_codec A.json B.json C.json).encoding.encodes
         (at state.old input.old) result }
+    ensures place { Counts state.old input.old state.new input.new }
+    ensures made { IfErr result (IsPlacedAt state.new) }
 {
     state.block_open(alloc, input)?;
     read_three(alloc, state, input)
@@ -273,6 +286,8 @@ fn read_quadruple<A: DeJson, B: DeJson, C: DeJson, D: DeJson>(
         (at state.old input.old) (at state.new input.new) result }
     ensures rejected { Rejects (quadruple_codec A.json B.json C.json D.json).encoding.encodes
         (at state.old input.old) result }
+    ensures place { Counts state.old input.old state.new input.new }
+    ensures made { IfErr result (IsPlacedAt state.new) }
 {
     state.block_open(alloc, input)?;
     read_four(alloc, state, input)

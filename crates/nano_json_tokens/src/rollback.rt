@@ -1,8 +1,11 @@
 //! How readers leave the state on error.
 
-ghost use Rattle.std.specs.Prelude.{◌≡◌, OnOk, OnErr};
+ghost use Rattle.std.specs.Prelude.{◌≡◌, OnOk, OnErr, IfErr};
 ghost use Rattle.std.specs.declared.str.Chars.{Chars};
-ghost use Rattle.nano_json_tokens.specs.State.{at, ended};
+ghost use Rattle.nano_text.specs.Place.{Advances};
+ghost use Rattle.nano_text.specs.declared.place.Place.{Place};
+ghost use Rattle.nano_json_tokens.specs.Outcomes.{IsPlacedAt};
+ghost use Rattle.nano_json_tokens.specs.State.{at, ended, place_of};
 
 use crate::error::DeJsonErr;
 use crate::state::DeJsonState;
@@ -14,6 +17,10 @@ pub fn end_on_error<T>(state: &mut DeJsonState, read: Result<T, DeJsonErr>) -> R
     ensures same { result ≡ read }
     ensures unchanged { OnOk read (state.new ≡ state.old) }
     ensures ended { OnErr read ((i : Chars) → at state.new i ≡ ended) }
+    ensures place { (start : Place) (before after : Chars)
+        → Advances start before (place_of state.old) after
+        → Advances start before (place_of state.new) after }
+    ensures made { IfErr read (IsPlacedAt state.old) → IfErr result (IsPlacedAt state.new) }
 {
     if read.is_err() {
         state.fail();

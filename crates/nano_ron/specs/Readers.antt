@@ -1,5 +1,7 @@
 -- What the readers of values answer.
 use Rattle.std.specs.Prelude.{◌≡◌, ◌↔◌, ℕ, List, [], true, false, Result, IfOk, IfErr, string_bytes}
+use Rattle.std.specs.Prelude.{chars}
+use Rattle.nano_text.specs.PlaceInText.{StandsIn}
 use Rattle.nano_grammar.specs.Tokens.{At, Spans, TextDecodesTo}
 use Rattle.nano_grammar.specs.Whole.{WholeDecodesTo, GoesOn, WholeDecodesToNothing, end_message}
 use Rattle.nano_ron_tokens.specs.Cut.{Cut}
@@ -43,3 +45,7 @@ module _ {V A : Type 0} (encodes : List Token → V → Type 0) where
   abbrev pub NamesTheEnd : List ℕ → Result A DeRonErr → Type 0
   NamesTheEnd bytes result = IfErr result (λ e. e.memory ≡ false
       → (string_bytes e.msg ≡ end_message) ↔ GoesOn Cut encodes end_token bytes)
+
+-- an error's line and column are a place in the text
+abbrev pub PointsInto : {A : Type 0} → List ℕ → Result A DeRonErr → Type 0
+PointsInto bytes result = IfErr result (λ e. StandsIn (chars bytes) e.line e.col)

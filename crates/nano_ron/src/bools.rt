@@ -2,10 +2,12 @@
 //! Their readers are inlined: a value read then passes through no result with space for an
 //! error.
 
+ghost use Rattle.std.specs.Prelude.{IfErr};
 ghost use Rattle.nano_value.specs.Meaning.{truth, nothing};
 ghost use Rattle.nano_value.specs.AgreesLaws.{agreed};
 ghost use Rattle.nano_ron.specs.BoolsLaws.{truths, units, truth_codec, unit_codec};
 ghost use Rattle.nano_ron.specs.Readers.{Decodes, Rejects};
+ghost use Rattle.nano_ron.specs.Outcomes.{Counts, IsPlacedAt};
 ghost use Rattle.nano_ron.specs.State.{at};
 
 use crate::traits::{DeRon, RonCodec, SerRon};
@@ -35,6 +37,8 @@ fn read_bool(alloc: Global, state: &mut DeRonState, input: &mut Chars<'_>) -> Re
     ensures decodes { Decodes truths.encodes truth
         (at state.old input.old) (at state.new input.new) result }
     ensures rejected { Rejects truths.encodes (at state.old input.old) result }
+    ensures place { Counts state.old input.old state.new input.new }
+    ensures made { IfErr result (IsPlacedAt state.new) }
 {
     let value = state.as_bool(alloc)?;
     state.next_tok(alloc, input)?;
@@ -71,6 +75,8 @@ fn read_unit(alloc: Global, state: &mut DeRonState, input: &mut Chars<'_>) -> Re
     ensures decodes { Decodes units.encodes (λ _. nothing)
         (at state.old input.old) (at state.new input.new) result }
     ensures rejected { Rejects units.encodes (at state.old input.old) result }
+    ensures place { Counts state.old input.old state.new input.new }
+    ensures made { IfErr result (IsPlacedAt state.new) }
 {
     state.paren_open(alloc, input)?;
     state.paren_close(alloc, input)

@@ -1,8 +1,10 @@
 //! Boxes: each is encoded as its content.
 
+ghost use Rattle.std.specs.Prelude.{IfErr};
 ghost use Rattle.nano_value.specs.AgreesLaws.{seen_agrees};
 ghost use Rattle.nano_ron.specs.Codec.{codec_as};
 ghost use Rattle.nano_ron.specs.Readers.{Decodes, Rejects};
+ghost use Rattle.nano_ron.specs.Outcomes.{Counts, IsPlacedAt};
 ghost use Rattle.nano_ron.specs.State.{at};
 
 use crate::traits::{DeRon, RonCodec, SerRon};
@@ -31,6 +33,8 @@ fn read_box<T: DeRon>(
     ensures decodes { Decodes T.ron.encoding.encodes (λ x. T.means x.value)
         (at state.old input.old) (at state.new input.new) result }
     ensures rejected { Rejects T.ron.encoding.encodes (at state.old input.old) result }
+    ensures place { Counts state.old input.old state.new input.new }
+    ensures made { IfErr result (IsPlacedAt state.new) }
 {
     let value = T::de_ron(alloc, state, input)?;
     match Box::new(alloc, value) {

@@ -1,6 +1,6 @@
 //! Lists between square brackets: vectors and linked lists.
 
-ghost use Rattle.std.specs.Prelude.{OnOk, OnErr, map};
+ghost use Rattle.std.specs.Prelude.{OnOk, OnErr, map, IfErr};
 ghost use Rattle.nano_text.specs.Place.{saturating_next};
 ghost use Rattle.nano_value.specs.Meaning.{listed};
 ghost use Rattle.nano_value.specs.AgreesLaws.{seen_agrees, list_agrees};
@@ -11,6 +11,7 @@ ghost use Rattle.nano_ron.specs.ListsLaws.{list_of};
 ghost use Rattle.nano_ron.specs.Lists.{on_a_line, after_indent, written_in};
 ghost use Rattle.nano_ron.specs.ListsLaws.{vector_codec, linked_codec};
 ghost use Rattle.nano_ron.specs.StylesLaws.{line_style, indent_style};
+ghost use Rattle.nano_ron.specs.Outcomes.{Counts, IsPlacedAt};
 ghost use Rattle.nano_ron.specs.State.{at};
 
 use crate::traits::{DeRon, RonCodec, SerRon};
@@ -36,6 +37,8 @@ fn read_vec<T: DeRon>(
         (λ items. listed (map T.means items.items))
         (at state.old input.old) (at state.new input.new) result }
     ensures rejected { Rejects (list_of T.ron.encoding).encodes (at state.old input.old) result }
+    ensures place { Counts state.old input.old state.new input.new }
+    ensures made { IfErr result (IsPlacedAt state.new) }
 {
     let mut items = Vec::new(alloc);
     state.block_open(alloc, input)?;
@@ -123,6 +126,8 @@ fn read_linked_list<T: DeRon>(
     ensures decodes { Decodes (list_of T.ron.encoding).encodes (λ items. listed (map T.means items))
         (at state.old input.old) (at state.new input.new) result }
     ensures rejected { Rejects (list_of T.ron.encoding).encodes (at state.old input.old) result }
+    ensures place { Counts state.old input.old state.new input.new }
+    ensures made { IfErr result (IsPlacedAt state.new) }
 {
     let mut items = LinkedList::new(alloc);
     state.block_open(alloc, input)?;

@@ -2,7 +2,7 @@
 //! each entry on a line of its own.
 
 ghost use Rattle.std.specs.Map.Iter.{deref_pair};
-ghost use Rattle.std.specs.Prelude.{OnOk, OnErr, map};
+ghost use Rattle.std.specs.Prelude.{OnOk, OnErr, map, IfErr};
 ghost use Rattle.nano_value.specs.Meaning.{pair_map};
 ghost use Rattle.nano_value.specs.Tables.{table_of, table_means};
 ghost use Rattle.nano_value.specs.AgreesLaws.{seen_agrees, map_agrees};
@@ -13,6 +13,7 @@ ghost use Rattle.nano_ron.specs.MapsLaws.{map_codec};
 ghost use Rattle.nano_text.specs.Place.{saturating_next};
 ghost use Rattle.nano_text.specs.Outcomes.{Appends, AppendsPart};
 ghost use Rattle.nano_ron.specs.Readers.{Decodes, Rejects};
+ghost use Rattle.nano_ron.specs.Outcomes.{Counts, IsPlacedAt};
 ghost use Rattle.nano_ron.specs.State.{at};
 
 use crate::traits::{DeRon, RonCodec, SerRon};
@@ -42,6 +43,8 @@ fn read_hash_map<K: DeRon + Key + Hash, V: DeRon>(
         (at state.old input.old) (at state.new input.new) result }
     ensures rejected { Rejects (EncodesMap K.ron.encoding.encodes V.ron.encoding.encodes)
         (at state.old input.old) result }
+    ensures place { Counts state.old input.old state.new input.new }
+    ensures made { IfErr result (IsPlacedAt state.new) }
 {
     // A text has fewer than 2^63 bytes, so a `usize` counts its entries.
     let _capacity = bytes_left(input);
@@ -68,6 +71,8 @@ pub(crate) fn read_entry<K: DeRon, V: DeRon>(
         (pair_map K.means V.means) (at state.old input.old) (at state.new input.new) result }
     ensures rejected { Rejects (EncodesEntry K.ron.encoding.encodes V.ron.encoding.encodes)
         (at state.old input.old) result }
+    ensures place { Counts state.old input.old state.new input.new }
+    ensures made { IfErr result (IsPlacedAt state.new) }
 {
     let key = K::de_ron(alloc, state, input)?;
     state.colon(alloc, input)?;

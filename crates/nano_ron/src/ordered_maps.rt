@@ -1,7 +1,7 @@
 //! Ordered maps: keys with their values between curly brackets, each entry on a line of its own. A
 //! hashed map of the same entries is written alike.
 
-ghost use Rattle.std.specs.Prelude.{OnOk, OnErr};
+ghost use Rattle.std.specs.Prelude.{OnOk, OnErr, IfErr};
 ghost use Rattle.nano_value.specs.OrderedMaps.{ordered_map_means};
 ghost use Rattle.nano_value.specs.AgreesLaws.{seen_agrees, ordered_map_agrees};
 ghost use Rattle.nano_ron.specs.Codec.{codec_as};
@@ -10,6 +10,7 @@ ghost use Rattle.nano_ron.specs.MapsLaws.{ordered_map_codec};
 ghost use Rattle.nano_text.specs.Place.{saturating_next};
 ghost use Rattle.nano_text.specs.Outcomes.{Appends, AppendsPart};
 ghost use Rattle.nano_ron.specs.Readers.{Decodes, Rejects};
+ghost use Rattle.nano_ron.specs.Outcomes.{Counts, IsPlacedAt};
 ghost use Rattle.nano_ron.specs.State.{at};
 
 use crate::maps::{append_entry, read_entry};
@@ -39,6 +40,8 @@ fn read_btree_map<K: DeRon + Key + Ord, V: DeRon>(
         (at state.old input.old) (at state.new input.new) result }
     ensures rejected { Rejects (EncodesMap K.ron.encoding.encodes V.ron.encoding.encodes)
         (at state.old input.old) result }
+    ensures place { Counts state.old input.old state.new input.new }
+    ensures made { IfErr result (IsPlacedAt state.new) }
 {
     // A text has fewer than 2^63 bytes, so a `usize` counts its entries.
     let _capacity = bytes_left(input);

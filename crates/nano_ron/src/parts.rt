@@ -1,9 +1,10 @@
 //! The parts of a tuple: the last one with the closing bracket, and each other with the comma
 //! after it.
 
-ghost use Rattle.std.specs.Prelude.{◌++◌, ◌∷◌, [], OnOk, OnErr};
+ghost use Rattle.std.specs.Prelude.{◌++◌, ◌∷◌, [], OnOk, OnErr, IfErr};
 ghost use Rattle.nano_text.specs.Outcomes.{Appends, AppendsPart};
 ghost use Rattle.nano_ron.specs.Readers.{Decodes, Rejects};
+ghost use Rattle.nano_ron.specs.Outcomes.{Counts, IsPlacedAt};
 ghost use Rattle.nano_ron.specs.State.{at};
 ghost use Rattle.nano_ron.specs.TuplesLaws.{last_codec};
 
@@ -23,6 +24,8 @@ pub(crate) fn read_last<T: DeRon>(
         (at state.old input.old) (at state.new input.new) result }
     ensures rejected { Rejects (last_codec T.ron).encoding.encodes
         (at state.old input.old) result }
+    ensures place { Counts state.old input.old state.new input.new }
+    ensures made { IfErr result (IsPlacedAt state.new) }
 {
     let last = T::de_ron(alloc, state, input)?;
     state.eat_comma_paren(alloc, input)?;

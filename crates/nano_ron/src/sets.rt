@@ -2,7 +2,7 @@
 //! after an indent.
 
 ghost use Rattle.std.specs.Map.Iter.{deref};
-ghost use Rattle.std.specs.Prelude.{OnOk, OnErr, map};
+ghost use Rattle.std.specs.Prelude.{OnOk, OnErr, map, IfErr};
 ghost use Rattle.nano_value.specs.OrderedSets.{ordered_means};
 ghost use Rattle.nano_value.specs.Sets.{item_set, set_means};
 ghost use Rattle.nano_value.specs.AgreesLaws.{seen_agrees, set_agrees, ordered_agrees};
@@ -14,6 +14,7 @@ ghost use Rattle.nano_text.specs.Outcomes.{Appends, AppendsPart};
 ghost use Rattle.nano_ron.specs.Readers.{Decodes, Rejects};
 ghost use Rattle.nano_ron.specs.Sets.{EncodesSet};
 ghost use Rattle.nano_ron.specs.SetsLaws.{set_codec, ordered_codec};
+ghost use Rattle.nano_ron.specs.Outcomes.{Counts, IsPlacedAt};
 ghost use Rattle.nano_ron.specs.State.{at};
 
 use crate::lists::append_indented;
@@ -43,6 +44,8 @@ fn read_hash_set<T: DeRon + Key + Hash>(
         (λ items. set_means (item_set T.means items.keys))
         (at state.old input.old) (at state.new input.new) result }
     ensures rejected { Rejects (EncodesSet T.ron.encoding.encodes) (at state.old input.old) result }
+    ensures place { Counts state.old input.old state.new input.new }
+    ensures made { IfErr result (IsPlacedAt state.new) }
 {
     // A text has fewer than 2^63 bytes, so a `usize` counts its items.
     let _capacity = bytes_left(input);
@@ -117,6 +120,8 @@ fn read_btree_set<T: DeRon + Key + Ord>(
         (λ items. ordered_means T.cmp T.means items.keys)
         (at state.old input.old) (at state.new input.new) result }
     ensures rejected { Rejects (EncodesSet T.ron.encoding.encodes) (at state.old input.old) result }
+    ensures place { Counts state.old input.old state.new input.new }
+    ensures made { IfErr result (IsPlacedAt state.new) }
 {
     // A text has fewer than 2^63 bytes, so a `usize` counts its items.
     let _capacity = bytes_left(input);

@@ -2,12 +2,14 @@
 //! Their readers are inlined: a value read then passes through no result with space for an
 //! error.
 
+ghost use Rattle.std.specs.Prelude.{IfErr};
 ghost use Rattle.std.specs.Int.{w8, w16, w32, w64};
 ghost use Rattle.nano_value.specs.Meaning.{number};
 ghost use Rattle.nano_value.specs.AgreesLaws.{agreed};
 ghost use Rattle.nano_ron.specs.NumbersLaws.{IsRangeOf, signed, signed_codec, within_8, within_16};
 ghost use Rattle.nano_ron.specs.NumbersLaws.{within_32, within_64};
 ghost use Rattle.nano_ron.specs.Readers.{Decodes, Rejects};
+ghost use Rattle.nano_ron.specs.Outcomes.{Counts, IsPlacedAt};
 ghost use Rattle.nano_ron.specs.State.{at};
 
 use crate::traits::{DeRon, RonCodec, SerRon};
@@ -46,6 +48,8 @@ fn read_signed<T: Signed>(
     ensures decodes { Decodes (signed T.width).encodes (λ x. number (T.value x))
         (at state.old input.old) (at state.new input.new) result }
     ensures rejected { Rejects (signed T.width).encodes (at state.old input.old) result }
+    ensures place { Counts state.old input.old state.new input.new }
+    ensures made { IfErr result (IsPlacedAt state.new) }
 {
     let number = state.i64_range(alloc, min, max)?;
     state.next_tok(alloc, input)?;

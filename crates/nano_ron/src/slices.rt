@@ -1,6 +1,6 @@
 //! Lists between parentheses: slices and arrays.
 
-ghost use Rattle.std.specs.Prelude.{◌≡◌, IfOk, OnOk, OnErr, map, length};
+ghost use Rattle.std.specs.Prelude.{◌≡◌, IfOk, OnOk, OnErr, map, length, IfErr};
 ghost use Rattle.nano_text.specs.Place.{saturating_next};
 ghost use Rattle.nano_value.specs.Meaning.{listed};
 ghost use Rattle.nano_value.specs.AgreesLaws.{seen_agrees, list_agrees, array_agrees};
@@ -11,6 +11,7 @@ ghost use Rattle.nano_ron.specs.ListsLaws.{array_of, slice_codec};
 ghost use Rattle.nano_ron.specs.Lists.{after_space, written_in};
 ghost use Rattle.nano_ron.specs.ListsLaws.{array_codec};
 ghost use Rattle.nano_ron.specs.StylesLaws.{paren_style};
+ghost use Rattle.nano_ron.specs.Outcomes.{Counts, IsPlacedAt};
 ghost use Rattle.nano_ron.specs.State.{at};
 
 use crate::traits::{DeRon, RonCodec, SerRon};
@@ -93,6 +94,8 @@ fn read_items<T: DeRon>(
     ensures count { IfOk result (λ items. length items.items ≡ count) }
     ensures rejected { Rejects (array_of count T.ron.encoding).encodes
         (at state.old input.old) result }
+    ensures place { Counts state.old input.old state.new input.new }
+    ensures made { IfErr result (IsPlacedAt state.new) }
 {
     let mut items = Vec::new(alloc);
     state.paren_open(alloc, input)?;
@@ -116,6 +119,8 @@ fn read_array<T: DeRon, const N: usize>(
     ensures decodes { Decodes (array_of N T.ron.encoding).encodes (λ items. listed (map T.means items))
         (at state.old input.old) (at state.new input.new) result }
     ensures rejected { Rejects (array_of N T.ron.encoding).encodes (at state.old input.old) result }
+    ensures place { Counts state.old input.old state.new input.new }
+    ensures made { IfErr result (IsPlacedAt state.new) }
 {
     let items = read_items(alloc, state, input, N)?;
     match <[T; N]>::try_from(items) {

@@ -43,10 +43,11 @@ pub trait SerRon: RonCodec {
 
 /// A value that can be read from RON.
 pub trait DeRon: RonCodec + Drop {
-    ghost use Rattle.std.specs.Prelude.{◌≡◌, OnErr};
+    ghost use Rattle.std.specs.Prelude.{◌≡◌, OnErr, IfErr};
     ghost use Rattle.nano_text.specs.Place.{remaining_text};
+    ghost use Rattle.nano_ron.specs.Outcomes.{Counts, IsPlacedAt};
     ghost use Rattle.nano_ron.specs.Readers.{Decodes, Rejects, DecodesText, RejectsText};
-    ghost use Rattle.nano_ron.specs.Readers.{DecodesWhole, RejectsWhole, NamesTheEnd};
+    ghost use Rattle.nano_ron.specs.Readers.{DecodesWhole, RejectsWhole, NamesTheEnd, PointsInto};
     ghost use Rattle.nano_ron.specs.State.{at, ended};
 
     /// Reads the value that is encoded by the tokens from the pending one on. The token after
@@ -62,7 +63,9 @@ pub trait DeRon: RonCodec + Drop {
         ensures decodes { Decodes Self.ron.encoding.encodes Self.means
             (at state.old input.old) (at state.new input.new) result }
         ensures rejected { Rejects Self.ron.encoding.encodes (at state.old input.old) result }
-        ensures ended { OnErr result (at state.new input.new ≡ ended) };
+        ensures ended { OnErr result (at state.new input.new ≡ ended) }
+        ensures place { Counts state.old input.old state.new input.new }
+        ensures made { IfErr result (IsPlacedAt state.new) };
 
     /// Reads the value that begins the text, which ends before its first NUL. More may follow:
     /// of that, one token is read.
@@ -72,6 +75,7 @@ pub trait DeRon: RonCodec + Drop {
     fn deserialize_ron(alloc: Global, input: &str) -> Result<Self, DeRonErr>
         ensures decodes { DecodesText Self.ron.encoding.encodes Self.means (remaining_text input.now) result }
         ensures rejected { RejectsText Self.ron.encoding.encodes (remaining_text input.now) result }
+        ensures place { PointsInto input.now result }
     {
         let mut state = DeRonState::new(alloc);
         let mut chars = input.chars();
@@ -93,6 +97,7 @@ pub trait DeRon: RonCodec + Drop {
         ensures decodes { DecodesWhole Self.ron.encoding.encodes Self.means input.now result }
         ensures rejected { RejectsWhole Self.ron.encoding.encodes input.now result }
         ensures trailing { NamesTheEnd Self.ron.encoding.encodes input.now result }
+        ensures place { PointsInto input.now result }
     {
         let mut state = DeRonState::new(alloc);
         let mut characters = input.chars();

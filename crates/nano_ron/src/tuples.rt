@@ -1,10 +1,11 @@
 //! Tuples: two, three or four parts between parentheses.
 
-ghost use Rattle.std.specs.Prelude.{OnOk, OnErr};
+ghost use Rattle.std.specs.Prelude.{OnOk, OnErr, IfErr};
 ghost use Rattle.nano_value.specs.Meaning.{paired};
 ghost use Rattle.nano_value.specs.AgreesLaws.{seen_agrees, pair_agrees};
 ghost use Rattle.nano_text.specs.Outcomes.{Appends, AppendsPart};
 ghost use Rattle.nano_ron.specs.Readers.{Decodes, Rejects};
+ghost use Rattle.nano_ron.specs.Outcomes.{Counts, IsPlacedAt};
 ghost use Rattle.nano_ron.specs.State.{at};
 ghost use Rattle.nano_ron.specs.TuplesLaws.{two_parts, three_parts, four_parts};
 ghost use Rattle.nano_ron.specs.TuplesLaws.{pair_codec, triple_codec, quadruple_codec};
@@ -28,6 +29,8 @@ fn read_two<A: DeRon, B: DeRon>(
         (at state.old input.old) (at state.new input.new) result }
     ensures rejected { Rejects (two_parts A.ron B.ron).encoding.encodes
         (at state.old input.old) result }
+    ensures place { Counts state.old input.old state.new input.new }
+    ensures made { IfErr result (IsPlacedAt state.new) }
 {
     let first = A::de_ron(alloc, state, input)?;
     state.eat_comma_paren(alloc, input)?;
@@ -47,6 +50,8 @@ fn read_three<A: DeRon, B: DeRon, C: DeRon>(
         (at state.old input.old) (at state.new input.new) result }
     ensures rejected { Rejects (three_parts A.ron B.ron C.ron).encoding.encodes
         (at state.old input.old) result }
+    ensures place { Counts state.old input.old state.new input.new }
+    ensures made { IfErr result (IsPlacedAt state.new) }
 {
     let first = A::de_ron(alloc, state, input)?;
     state.eat_comma_paren(alloc, input)?;
@@ -66,6 +71,8 @@ fn read_four<A: DeRon, B: DeRon, C: DeRon, D: DeRon>(
         (at state.old input.old) (at state.new input.new) result }
     ensures rejected { Rejects (four_parts A.ron B.ron C.ron D.ron).encoding.encodes
         (at state.old input.old) result }
+    ensures place { Counts state.old input.old state.new input.new }
+    ensures made { IfErr result (IsPlacedAt state.new) }
 {
     let first = A::de_ron(alloc, state, input)?;
     state.eat_comma_paren(alloc, input)?;
@@ -116,6 +123,8 @@ fn read_pair<A: DeRon, B: DeRon>(
         (at state.old input.old) (at state.new input.new) result }
     ensures rejected { Rejects (pair_codec A.ron B.ron).encoding.encodes
         (at state.old input.old) result }
+    ensures place { Counts state.old input.old state.new input.new }
+    ensures made { IfErr result (IsPlacedAt state.new) }
 {
     state.paren_open(alloc, input)?;
     read_two(alloc, state, input)
@@ -177,6 +186,8 @@ fn read_triple<A: DeRon, B: DeRon, C: DeRon>(
         (at state.old input.old) (at state.new input.new) result }
     ensures rejected { Rejects (triple_codec A.ron B.ron C.ron).encoding.encodes
         (at state.old input.old) result }
+    ensures place { Counts state.old input.old state.new input.new }
+    ensures made { IfErr result (IsPlacedAt state.new) }
 {
     state.paren_open(alloc, input)?;
     read_three(alloc, state, input)
@@ -239,6 +250,8 @@ fn read_quadruple<A: DeRon, B: DeRon, C: DeRon, D: DeRon>(
         (at state.old input.old) (at state.new input.new) result }
     ensures rejected { Rejects (quadruple_codec A.ron B.ron C.ron D.ron).encoding.encodes
         (at state.old input.old) result }
+    ensures place { Counts state.old input.old state.new input.new }
+    ensures made { IfErr result (IsPlacedAt state.new) }
 {
     state.paren_open(alloc, input)?;
     read_four(alloc, state, input)

@@ -15,6 +15,10 @@ use Rattle.nano_ron_tokens.specs.State.{at, pending, place_of, KeepsOtherBuffers
 abbrev pub IsMadeAt : DeRonState → DeRonErr → Type 0
 IsMadeAt s e = (e.memory ≡ true → string_bytes e.msg ≡ []) × (e.line ≡ s.line) × (e.col ≡ s.col)
 
+-- the error has the line and the column of the state
+abbrev pub IsPlacedAt : DeRonState → DeRonErr → Type 0
+IsPlacedAt s e = (e.line ≡ s.line) × (e.col ≡ s.col)
+
 -- unless it is out of memory, the error reports the fact
 abbrev pub Reports : DeRonState → Type 0 → DeRonErr → Type 0
 Reports s fact e = (e.memory ≡ false → fact) × IsMadeAt s e

@@ -8,6 +8,8 @@ pub mod Number
 pub mod Outcomes
 pub mod Place
 pub mod PlaceLaws
+pub mod PlaceInText
+pub mod PlaceInTextLaws
 pub mod Scan
 pub mod ScanLaws
 pub mod String

@@ -11,7 +11,7 @@ passed_append place [] ys = refl
 passed_append place (x ∷ xs) ys = passed_append (place_after place (x ∷ [])) xs ys
 
 -- the current character does not matter
-passed_same : (p q : Place) (cs : List ℕ) → p.line ≡ q.line → p.col ≡ q.col
+pub passed_same : (p q : Place) (cs : List ℕ) → p.line ≡ q.line → p.col ≡ q.col
     → ((passed p cs).line ≡ (passed q cs).line) × ((passed p cs).col ≡ (passed q cs).col)
 passed_same p q [] line col = (line, col)
 passed_same p q (c ∷ cs) line col =

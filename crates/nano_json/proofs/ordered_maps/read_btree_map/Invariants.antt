@@ -5,6 +5,7 @@ use Rattle.nano_grammar.proofs.TokensLeft.{tokens_left}
 use Rattle.nano_json_tokens.specs.Brackets.{curlies}
 use Rattle.nano_json_tokens.specs.JsonLaws.{curly_brackets}
 use Rattle.nano_json_tokens.specs.Scan.{is_end}
+use Rattle.nano_json_tokens.specs.Outcomes.{Counts}
 use Rattle.nano_json_tokens.specs.State.{at}
 use Rattle.nano_json_tokens.specs.Token.{colon}
 use Rattle.nano_json.proofs.Json.{json_laws}
@@ -17,6 +18,7 @@ invariant-entries g l = record {
       g.V.JsonCodec.json.encoding.encodes (at l.fn.state l.fn.input) (at l.state l.input)
       (table_of g.K.Value.means g.V.Value.means l.entries.entries);
   ordered : IsOrdered g.K.Ord.cmp l.entries;
+  place : Counts l.fn.state l.fn.input l.state l.input;
 }
 
 abbrev pub decreases-entries : goal.decreases-entries

@@ -25,7 +25,7 @@ items-preserved g c =
     let start = at c.args.state.now c.args.input.now in
     let next = at c.eat_comma_block.new.self c.eat_comma_block.new.i in
     let other = not_close (pending c.items.state) (sym c.items-test.ensures) in
-    let more = read_next ron_laws s.laws blocks block_brackets start (at c.items.state c.items.input) (at c.de_ron.new.state c.de_ron.new.input) next (map means c.items.items) (means c.in_ok-item.item) c.items.invariant other c.in_ok-item.ensures.decodes c.in_ok-eat_comma_block.ensures.taken in
+    let more = read_next ron_laws s.laws blocks block_brackets start (at c.items.state c.items.input) (at c.de_ron.new.state c.de_ron.new.input) next (map means c.items.items) (means c.in_ok-item.item) c.items.invariant.read other c.in_ok-item.ensures.decodes c.in_ok-eat_comma_block.ensures.taken in
     let grown : c.push_back.new.self ≡ c.items.items ++ c.in_ok-item.item ∷ [] = grind (arith, common_steps) in
     let same = sym (map-append means c.items.items (c.in_ok-item.item ∷ [])) in
     rw grown (subst (λ (ms : List Meaning). ReadSoFar ron_laws blocks s.encodes start next ms) same more)
@@ -38,7 +38,7 @@ returns-clause-decodes g c =
     let taken = map g.T.Value.means c.items.items in
     let small : length c.items.items < usize_bound = search rules in
     let count = subst (λ (n : ℕ). n < usize_bound) (sym (length-map c.items.items g.T.Value.means)) small in
-    let found = read_found ron_laws s.laws blocks block_brackets start (at c.items.state c.items.input) end taken c.items.invariant c.in_ok-block_close.ensures.taken in
+    let found = read_found ron_laws s.laws blocks block_brackets start (at c.items.state c.items.input) end taken c.items.invariant.read c.in_ok-block_close.ensures.taken in
     image_spans ron listed start end taken (list_spans ron_laws blocks s.encodes start end taken count found)
 
 pub returns-in_err-block_open-clause-rejected : goal.returns-in_err-block_open-clause-rejected
@@ -56,7 +56,7 @@ returns-in_err-item-clause-rejected g c =
     let start = at c.args.state.now c.args.input.now in
     let other = not_close (pending c.items.state) (sym c.items-test.ensures) in
     let r = c.in_err-item.ensures.rejected in
-    rw (p.1, p.2) (λ known. image_rejected ron listed start (list_rejected ron_laws blocks s.encodes start (read_item_rejected ron_laws s.laws blocks block_brackets start (at c.items.state c.items.input) (map g.T.Value.means c.items.items) c.items.invariant other (r.0 known))), r.1)
+    rw (p.1, p.2) (λ known. image_rejected ron listed start (list_rejected ron_laws blocks s.encodes start (read_item_rejected ron_laws s.laws blocks block_brackets start (at c.items.state c.items.input) (map g.T.Value.means c.items.items) c.items.invariant.read other (r.0 known))), r.1)
 
 pub returns-in_err-eat_comma_block-clause-rejected : goal.returns-in_err-eat_comma_block-clause-rejected
 returns-in_err-eat_comma_block-clause-rejected g c =
@@ -66,7 +66,7 @@ returns-in_err-eat_comma_block-clause-rejected g c =
     let start = at c.args.state.now c.args.input.now in
     let other = not_close (pending c.items.state) (sym c.items-test.ensures) in
     let r = c.in_err-eat_comma_block.ensures.rejected in
-    rw (p.1, p.2) (λ known. image_rejected ron listed start (list_rejected ron_laws blocks s.encodes start (read_comma_rejected ron_laws s.laws blocks block_brackets start (at c.items.state c.items.input) (at c.de_ron.new.state c.de_ron.new.input) (map means c.items.items) (means c.in_ok-item.item) c.items.invariant other c.in_ok-item.ensures.decodes (r.0 known))), r.1.0)
+    rw (p.1, p.2) (λ known. image_rejected ron listed start (list_rejected ron_laws blocks s.encodes start (read_comma_rejected ron_laws s.laws blocks block_brackets start (at c.items.state c.items.input) (at c.de_ron.new.state c.de_ron.new.input) (map means c.items.items) (means c.in_ok-item.item) c.items.invariant.read other c.in_ok-item.ensures.decodes (r.0 known))), r.1.0)
 
 pub returns-in_err-block_close-clause-rejected : goal.returns-in_err-block_close-clause-rejected
 returns-in_err-block_close-clause-rejected g c =
@@ -75,4 +75,4 @@ returns-in_err-block_close-clause-rejected g c =
     let start = at c.args.state.now c.args.input.now in
     let closing = close_is (pending c.items.state) (sym c.items-test.ensures) in
     let r = c.in_err-block_close.ensures.rejected in
-    rw (p.1, p.2) (λ known. image_rejected ron listed start (list_rejected ron_laws blocks s.encodes start (read_close_rejected ron_laws s.laws blocks block_brackets start (at c.items.state c.items.input) (map g.T.Value.means c.items.items) c.items.invariant closing (r.0 known))), r.1.0)
+    rw (p.1, p.2) (λ known. image_rejected ron listed start (list_rejected ron_laws blocks s.encodes start (read_close_rejected ron_laws s.laws blocks block_brackets start (at c.items.state c.items.input) (map g.T.Value.means c.items.items) c.items.invariant.read closing (r.0 known))), r.1.0)

@@ -6,6 +6,7 @@ use Rattle.nano_grammar.proofs.TokensLeft.{tokens_left}
 use Rattle.nano_ron_tokens.specs.Brackets.{curlies}
 use Rattle.nano_ron_tokens.specs.RonLaws.{curly_brackets}
 use Rattle.nano_ron_tokens.specs.PunctuationLaws.{is_end}
+use Rattle.nano_ron_tokens.specs.Outcomes.{Counts}
 use Rattle.nano_ron_tokens.specs.State.{at}
 use Rattle.nano_ron_tokens.specs.Token.{colon}
 use Rattle.nano_ron.proofs.Ron.{ron_laws}
@@ -18,6 +19,7 @@ invariant-entries g l = record {
       g.V.RonCodec.ron.encoding.encodes (at l.fn.state l.fn.input) (at l.state l.input)
       (table_of g.K.Value.means g.V.Value.means l.entries.entries);
   distinct : IsDistinct g.K.PartialEq.eq (keys_of l.entries.entries);
+  place : Counts l.fn.state l.fn.input l.state l.input;
 }
 
 abbrev pub decreases-entries : goal.decreases-entries

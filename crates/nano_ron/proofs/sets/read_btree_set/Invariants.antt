@@ -5,6 +5,7 @@ use Rattle.nano_grammar.proofs.TokensLeft.{tokens_left}
 use Rattle.nano_ron_tokens.specs.Brackets.{blocks}
 use Rattle.nano_ron_tokens.specs.RonLaws.{block_brackets}
 use Rattle.nano_ron_tokens.specs.PunctuationLaws.{is_end}
+use Rattle.nano_ron_tokens.specs.Outcomes.{Counts}
 use Rattle.nano_ron_tokens.specs.State.{at}
 use Rattle.nano_ron.proofs.Ron.{ron_laws}
 use Rattle.nano_ron.proofs.sets.read_btree_set.Given as goal
@@ -15,6 +16,7 @@ invariant-items g l = record {
   read : SetSoFar ron_laws blocks block_brackets g.T.RonCodec.ron.encoding.encodes
       (at l.fn.state l.fn.input) (at l.state l.input) (item_set g.T.Value.means l.items.keys);
   ordered : IsOrdered g.T.Ord.cmp l.items;
+  place : Counts l.fn.state l.fn.input l.state l.input;
 }
 
 abbrev pub decreases-items : goal.decreases-items

@@ -1,0 +1,34 @@
+-- The law of an error's place: what a reader takes from the first character on stands in the text.
+use Rattle.std.specs.Prelude.{◌≡◌, ℕ, List, length}
+use Rattle.std.proofs.Common.{sym, ◌∙◌, ap, arith, length-append}
+use Rattle.std.specs.declared.str.Chars.{Chars}
+use Rattle.nano_text.specs.declared.place.Place.{Place}
+use Rattle.nano_text.specs.Place.{held, tail, before_nul, text_at, Passes, Advances}
+use Rattle.nano_text.specs.PlaceLaws.{passed_same, passes_append, tail_shorter}
+use Rattle.nano_text.specs.PlaceInText.{beginning, StandsIn}
+
+-- a first step from before the first character, and then as far as a reader went
+pub stands_in : (text : List ℕ) (start p q : Place) (i j : Chars)
+    → start.line ≡ 0 → start.col ≡ 0
+    → Passes start text p (held i) → held i ≡ tail text → text_at p i ≡ before_nul text
+    → Advances p i q j → StandsIn text q.line q.col
+stands_in text start p q i j line column first left rest h =
+    let whole = passes_append first h.passes in
+    let same = passed_same beginning start whole.taken (sym line) (sym column) in
+    record {
+      taken = whole.taken;
+      after = held j;
+      split = whole.split;
+      lines = whole.line ∙ sym same.0;
+      columns = whole.col ∙ sym same.1;
+      within = omega (
+        arith,
+        length-append first.taken h.passes.taken,
+        length-append first.taken (held i),
+        ap length first.split,
+        tail_shorter text,
+        ap length left,
+        ap length rest,
+        h.within,
+      );
+    }
