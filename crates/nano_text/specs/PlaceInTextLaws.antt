@@ -1,6 +1,6 @@
 -- The law of an error's place: what a reader takes from the first character on stands in the text.
 use Rattle.std.specs.Prelude.{◌≡◌, ℕ, List, length}
-use Rattle.std.proofs.Common.{sym, ◌∙◌, ap, arith, length-append}
+use Rattle.std.proofs.Common.{sym, ◌∙◌, ap, subst, arith, length-append}
 use Rattle.std.specs.declared.str.Chars.{Chars}
 use Rattle.nano_text.specs.declared.place.Place.{Place}
 use Rattle.nano_text.specs.Place.{held, tail, before_nul, text_at, Passes, Advances}
@@ -8,19 +8,19 @@ use Rattle.nano_text.specs.PlaceLaws.{passed_same, passes_append, tail_shorter}
 use Rattle.nano_text.specs.PlaceInText.{beginning, StandsIn}
 
 -- a first step from before the first character, and then as far as a reader went
-pub stands_in : (text : List ℕ) (start p q : Place) (i j : Chars)
-    → start.line ≡ 0 → start.col ≡ 0
+pub stands_in : {whole text : List ℕ} {start p q : Place} {i j : Chars} {line column : ℕ}
+    → text ≡ whole → start.line ≡ 0 → start.col ≡ 0
     → Passes start text p (held i) → held i ≡ tail text → text_at p i ≡ before_nul text
-    → Advances p i q j → StandsIn text q.line q.col
-stands_in text start p q i j line column first left rest h =
-    let whole = passes_append first h.passes in
-    let same = passed_same beginning start whole.taken (sym line) (sym column) in
-    record {
-      taken = whole.taken;
+    → Advances p i q j → line ≡ q.line → column ≡ q.col → StandsIn whole line column
+stands_in {whole} {text} {start} {p} {q} {i} {j} {line} {column} same no_line no_column first left rest h lines columns =
+    let all = passes_append first h.passes in
+    let moved = passed_same beginning start all.taken (sym no_line) (sym no_column) in
+    subst (λ (t : List ℕ). StandsIn t line column) same (record {
+      taken = all.taken;
       after = held j;
-      split = whole.split;
-      lines = whole.line ∙ sym same.0;
-      columns = whole.col ∙ sym same.1;
+      split = all.split;
+      lines = lines ∙ (all.line ∙ sym moved.0);
+      columns = columns ∙ (all.col ∙ sym moved.1);
       within = omega (
         arith,
         length-append first.taken h.passes.taken,
@@ -31,4 +31,4 @@ stands_in text start p q i j line column first left rest h =
         ap length rest,
         h.within,
       );
-    }
+    })

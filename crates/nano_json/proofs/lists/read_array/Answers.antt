@@ -5,3 +5,8 @@ pub returns-in_err-items-clause-rejected : goal.returns-in_err-items-clause-reje
 returns-in_err-items-clause-rejected g c =
     let p = err_from_is_err_and c.from_residual.result c.from_residual.ensures.1 in
     rw (p.1, p.2) c.in_err-items.ensures.rejected
+
+pub returns-in_err-items-clause-made : goal.returns-in_err-items-clause-made
+returns-in_err-items-clause-made g c =
+    let p = err_from_is_err_and c.from_residual.result c.from_residual.ensures.1 in
+    rw (p.1, p.2) c.in_err-items.ensures.made

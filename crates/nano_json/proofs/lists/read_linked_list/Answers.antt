@@ -9,11 +9,14 @@ use Rattle.nano_json_tokens.specs.Brackets.{blocks}
 use Rattle.nano_json_tokens.specs.JsonLaws.{json, block_brackets}
 use Rattle.nano_json_tokens.specs.State.{at, pending}
 use Rattle.nano_json.proofs.Json.{json_laws, close_is, not_close}
+use Rattle.nano_text.specs.PlaceLaws.{advances_append}
 use Rattle.nano_json.proofs.lists.read_linked_list.Goals as goal
 
 pub items-init : goal.items-init
-items-init g c =
-    rw c.new-items.ensures (read_start json_laws g.T.JsonCodec.json.encoding.laws blocks block_brackets (at c.args.state.now c.args.input.now) (at c.block_open.new.self c.block_open.new.i) c.in_ok-block_open.ensures.taken)
+items-init g c = record {
+  read = rw c.new-items.ensures (read_start json_laws g.T.JsonCodec.json.encoding.laws blocks block_brackets (at c.args.state.now c.args.input.now) (at c.block_open.new.self c.block_open.new.i) c.in_ok-block_open.ensures.taken);
+  place = c.in_ok-block_open.ensures.place;
+}
 
 pub items-smaller : goal.items-smaller
 items-smaller g c = item_shorter json_laws g.T.JsonCodec.json.encoding.laws blocks block_brackets (at c.items.state c.items.input) (at c.de_json.new.state c.de_json.new.input) (at c.eat_comma_block.new.self c.eat_comma_block.new.i) (g.T.Value.means c.in_ok-item.item) c.in_ok-item.ensures.decodes c.in_ok-eat_comma_block.ensures.taken
@@ -28,7 +31,10 @@ items-preserved g c =
     let more = read_next json_laws s.laws blocks block_brackets start (at c.items.state c.items.input) (at c.de_json.new.state c.de_json.new.input) next (map means c.items.items) (means c.in_ok-item.item) c.items.invariant.read other c.in_ok-item.ensures.decodes c.in_ok-eat_comma_block.ensures.taken in
     let grown : c.push_back.new.self ≡ c.items.items ++ c.in_ok-item.item ∷ [] = grind (arith, common_steps) in
     let same = sym (map-append means c.items.items (c.in_ok-item.item ∷ [])) in
-    rw grown (subst (λ (ms : List Meaning). ReadSoFar json_laws blocks s.encodes start next ms) same more)
+    rw grown (record {
+      read = subst (λ (ms : List Meaning). ReadSoFar json_laws blocks s.encodes start next ms) same more;
+      place = advances_append c.items.invariant.place (advances_append c.in_ok-item.ensures.place c.in_ok-eat_comma_block.ensures.place);
+    })
 
 pub returns-clause-decodes : goal.returns-clause-decodes
 returns-clause-decodes g c =
@@ -76,3 +82,38 @@ returns-in_err-block_close-clause-rejected g c =
     let closing = close_is (pending c.items.state) (sym c.items-test.ensures) in
     let r = c.in_err-block_close.ensures.rejected in
     rw (p.1, p.2) (λ known. image_rejected json listed start (list_rejected json_laws blocks s.encodes start (read_close_rejected json_laws s.laws blocks block_brackets start (at c.items.state c.items.input) (map g.T.Value.means c.items.items) c.items.invariant.read closing (r.0 known))), r.1.0)
+
+pub returns-in_err-block_open-clause-made : goal.returns-in_err-block_open-clause-made
+returns-in_err-block_open-clause-made g c =
+    let p = err_from_is_err_and c.from_residual.result c.from_residual.ensures.1 in
+    rw (p.1, p.2) c.in_err-block_open.ensures.rejected.1.1
+
+pub returns-in_err-item-clause-place : goal.returns-in_err-item-clause-place
+returns-in_err-item-clause-place g c = advances_append c.items.invariant.place c.in_err-item.ensures.place
+
+pub returns-in_err-item-clause-made : goal.returns-in_err-item-clause-made
+returns-in_err-item-clause-made g c =
+    let p = err_from_is_err_and c.from_residual-in_err-item.result c.from_residual-in_err-item.ensures.1 in
+    rw (p.1, p.2) c.in_err-item.ensures.made
+
+pub returns-in_err-eat_comma_block-clause-place : goal.returns-in_err-eat_comma_block-clause-place
+returns-in_err-eat_comma_block-clause-place g c =
+    advances_append c.items.invariant.place (advances_append c.in_ok-item.ensures.place c.in_err-eat_comma_block.ensures.place)
+
+pub returns-in_err-eat_comma_block-clause-made : goal.returns-in_err-eat_comma_block-clause-made
+returns-in_err-eat_comma_block-clause-made g c =
+    let p = err_from_is_err_and c.from_residual-in_err-eat_comma_block.result c.from_residual-in_err-eat_comma_block.ensures.1 in
+    rw (p.1, p.2) c.in_err-eat_comma_block.ensures.rejected.1.1
+
+pub returns-in_err-block_close-clause-place : goal.returns-in_err-block_close-clause-place
+returns-in_err-block_close-clause-place g c =
+    advances_append c.items.invariant.place c.in_err-block_close.ensures.place
+
+pub returns-in_err-block_close-clause-made : goal.returns-in_err-block_close-clause-made
+returns-in_err-block_close-clause-made g c =
+    let p = err_from_is_err_and c.from_residual-in_err-block_close.result c.from_residual-in_err-block_close.ensures.1 in
+    rw (p.1, p.2) c.in_err-block_close.ensures.rejected.1.1
+
+pub returns-clause-place : goal.returns-clause-place
+returns-clause-place g c =
+    advances_append c.items.invariant.place c.in_ok-block_close.ensures.place

@@ -9,6 +9,7 @@ use Rattle.nano_json_tokens.specs.State.{at, pending}
 use Rattle.nano_json_tokens.specs.Token.{colon}
 use Rattle.nano_json.proofs.Json.{json_laws, few_left, curly_is, not_curly}
 use Rattle.nano_grammar.proofs.MapReading.{entry_shorter, table_start, table_next, table_found, table_open_rejected, table_entry_rejected, table_comma_rejected, table_close_rejected}
+use Rattle.nano_text.specs.PlaceLaws.{advances_append}
 use Rattle.nano_json.proofs.maps.read_hash_map.Goals as goal
 
 pub returns-in_err-curly_open-clause-rejected : goal.returns-in_err-curly_open-clause-rejected
@@ -20,6 +21,7 @@ pub entries-init : goal.entries-init
 entries-init g c = record {
   read = table_start json_laws curlies curly_brackets colon g.K.JsonCodec.json.encoding.laws g.V.JsonCodec.json.encoding.laws (at c.args.state.now c.args.input.now) (at c.curly_open.new.self c.curly_open.new.i) (table_of g.K.Value.means g.V.Value.means c.new-entries.result.entries) (ap (table_of g.K.Value.means g.V.Value.means) c.new-entries.ensures.empty) c.in_ok-curly_open.ensures.taken;
   distinct = c.new-entries.ensures.unique;
+  place = c.in_ok-curly_open.ensures.place;
 }
 
 pub returns-in_err-key-clause-rejected : goal.returns-in_err-key-clause-rejected
@@ -41,6 +43,7 @@ entries-preserved g c =
     record {
       read = table_next json_laws curlies curly_brackets colon g.K.JsonCodec.json.encoding.laws g.V.JsonCodec.json.encoding.laws (at c.args.state.now c.args.input.now) (at c.entries.state c.entries.input) (at c.read_entry.new.state c.read_entry.new.input) (at c.eat_comma_curly.new.self c.eat_comma_curly.new.i) (table_of K V c.entries.entries.entries) (table_of K V c.insert.new.self.entries) (g.K.Value.means c.in_ok-key.key) (g.V.Value.means c.in_ok-key.value) c.entries.invariant.read other c.in_ok-key.ensures.decodes c.in_ok-eat_comma_curly.ensures.taken put;
       distinct = c.insert.ensures.unique;
+      place = advances_append c.entries.invariant.place (advances_append c.in_ok-key.ensures.place c.in_ok-eat_comma_curly.ensures.place);
     }
 
 pub returns-in_err-eat_comma_curly-clause-rejected : goal.returns-in_err-eat_comma_curly-clause-rejected
@@ -59,3 +62,38 @@ pub returns-clause-decodes : goal.returns-clause-decodes
 returns-clause-decodes g c =
     let few = few_left c.args.state.now c.args.input.now (search (rules, c.bytes_left-capacity.ensures.value, c.bytes_left-capacity.ensures.small)) in
     table_found json_laws curlies curly_brackets colon g.K.JsonCodec.json.encoding.laws g.V.JsonCodec.json.encoding.laws (at c.args.state.now c.args.input.now) (at c.entries.state c.entries.input) (at c.curly_close.new.self c.curly_close.new.i) (table_of g.K.Value.means g.V.Value.means c.entries.entries.entries) c.entries.invariant.read few c.in_ok-curly_close.ensures.taken
+
+pub returns-in_err-curly_open-clause-made : goal.returns-in_err-curly_open-clause-made
+returns-in_err-curly_open-clause-made g c =
+    let p = err_from_is_err_and c.from_residual.result c.from_residual.ensures.1 in
+    rw (p.1, p.2) c.in_err-curly_open.ensures.rejected.1.1
+
+pub returns-in_err-key-clause-place : goal.returns-in_err-key-clause-place
+returns-in_err-key-clause-place g c = advances_append c.entries.invariant.place c.in_err-key.ensures.place
+
+pub returns-in_err-key-clause-made : goal.returns-in_err-key-clause-made
+returns-in_err-key-clause-made g c =
+    let p = err_from_is_err_and c.from_residual-in_err-key.result c.from_residual-in_err-key.ensures.1 in
+    rw (p.1, p.2) c.in_err-key.ensures.made
+
+pub returns-in_err-eat_comma_curly-clause-place : goal.returns-in_err-eat_comma_curly-clause-place
+returns-in_err-eat_comma_curly-clause-place g c =
+    advances_append c.entries.invariant.place (advances_append c.in_ok-key.ensures.place c.in_err-eat_comma_curly.ensures.place)
+
+pub returns-in_err-eat_comma_curly-clause-made : goal.returns-in_err-eat_comma_curly-clause-made
+returns-in_err-eat_comma_curly-clause-made g c =
+    let p = err_from_is_err_and c.from_residual-in_err-eat_comma_curly.result c.from_residual-in_err-eat_comma_curly.ensures.1 in
+    rw (p.1, p.2) c.in_err-eat_comma_curly.ensures.rejected.1.1
+
+pub returns-in_err-curly_close-clause-place : goal.returns-in_err-curly_close-clause-place
+returns-in_err-curly_close-clause-place g c =
+    advances_append c.entries.invariant.place c.in_err-curly_close.ensures.place
+
+pub returns-in_err-curly_close-clause-made : goal.returns-in_err-curly_close-clause-made
+returns-in_err-curly_close-clause-made g c =
+    let p = err_from_is_err_and c.from_residual-in_err-curly_close.result c.from_residual-in_err-curly_close.ensures.1 in
+    rw (p.1, p.2) c.in_err-curly_close.ensures.rejected.1.1
+
+pub returns-clause-place : goal.returns-clause-place
+returns-clause-place g c =
+    advances_append c.entries.invariant.place c.in_ok-curly_close.ensures.place

@@ -7,12 +7,14 @@ use Rattle.nano_json_tokens.specs.Brackets.{blocks}
 use Rattle.nano_json_tokens.specs.JsonLaws.{block_brackets}
 use Rattle.nano_json_tokens.specs.State.{at, pending}
 use Rattle.nano_json.proofs.Json.{json_laws, few_left, close_is, not_close}
+use Rattle.nano_text.specs.PlaceLaws.{advances_append}
 use Rattle.nano_json.proofs.sets.read_hash_set.Goals as goal
 
 pub items-init : goal.items-init
 items-init g c = record {
   read = set_start json_laws blocks block_brackets g.T.JsonCodec.json.encoding.laws (at c.args.state.now c.args.input.now) (at c.block_open.new.self c.block_open.new.i) (item_set g.T.Value.means c.new-items.result.keys) (ap (item_set g.T.Value.means) c.new-items.ensures.empty) c.in_ok-block_open.ensures.taken;
   distinct = c.new-items.ensures.unique;
+  place = c.in_ok-block_open.ensures.place;
 }
 
 pub items-smaller : goal.items-smaller
@@ -30,6 +32,7 @@ items-preserved g c =
     record {
       read = set_next json_laws blocks block_brackets s.laws start (at c.items.state c.items.input) (at c.de_json.new.state c.de_json.new.input) next (item_set f c.items.items.keys) (item_set f c.insert.new.self.keys) (f c.in_ok-item.item) c.items.invariant.read other c.in_ok-item.ensures.decodes c.in_ok-eat_comma_block.ensures.taken insert;
       distinct = c.insert.ensures.unique;
+      place = advances_append c.items.invariant.place (advances_append c.in_ok-item.ensures.place c.in_ok-eat_comma_block.ensures.place);
     }
 
 pub returns-clause-decodes : goal.returns-clause-decodes
@@ -67,3 +70,38 @@ returns-in_err-block_close-clause-rejected g c =
     let closing = close_is (pending c.items.state) (sym c.items-test.ensures) in
     let r = c.in_err-block_close.ensures.rejected in
     rw (p.1, p.2) (λ known. set_close_rejected json_laws blocks block_brackets g.T.JsonCodec.json.encoding.laws (at c.args.state.now c.args.input.now) (at c.items.state c.items.input) (item_set g.T.Value.means c.items.items.keys) c.items.invariant.read closing (r.0 known), r.1.0)
+
+pub returns-in_err-block_open-clause-made : goal.returns-in_err-block_open-clause-made
+returns-in_err-block_open-clause-made g c =
+    let p = err_from_is_err_and c.from_residual.result c.from_residual.ensures.1 in
+    rw (p.1, p.2) c.in_err-block_open.ensures.rejected.1.1
+
+pub returns-in_err-item-clause-place : goal.returns-in_err-item-clause-place
+returns-in_err-item-clause-place g c = advances_append c.items.invariant.place c.in_err-item.ensures.place
+
+pub returns-in_err-item-clause-made : goal.returns-in_err-item-clause-made
+returns-in_err-item-clause-made g c =
+    let p = err_from_is_err_and c.from_residual-in_err-item.result c.from_residual-in_err-item.ensures.1 in
+    rw (p.1, p.2) c.in_err-item.ensures.made
+
+pub returns-in_err-eat_comma_block-clause-place : goal.returns-in_err-eat_comma_block-clause-place
+returns-in_err-eat_comma_block-clause-place g c =
+    advances_append c.items.invariant.place (advances_append c.in_ok-item.ensures.place c.in_err-eat_comma_block.ensures.place)
+
+pub returns-in_err-eat_comma_block-clause-made : goal.returns-in_err-eat_comma_block-clause-made
+returns-in_err-eat_comma_block-clause-made g c =
+    let p = err_from_is_err_and c.from_residual-in_err-eat_comma_block.result c.from_residual-in_err-eat_comma_block.ensures.1 in
+    rw (p.1, p.2) c.in_err-eat_comma_block.ensures.rejected.1.1
+
+pub returns-in_err-block_close-clause-place : goal.returns-in_err-block_close-clause-place
+returns-in_err-block_close-clause-place g c =
+    advances_append c.items.invariant.place c.in_err-block_close.ensures.place
+
+pub returns-in_err-block_close-clause-made : goal.returns-in_err-block_close-clause-made
+returns-in_err-block_close-clause-made g c =
+    let p = err_from_is_err_and c.from_residual-in_err-block_close.result c.from_residual-in_err-block_close.ensures.1 in
+    rw (p.1, p.2) c.in_err-block_close.ensures.rejected.1.1
+
+pub returns-clause-place : goal.returns-clause-place
+returns-clause-place g c =
+    advances_append c.items.invariant.place c.in_ok-block_close.ensures.place

@@ -9,6 +9,7 @@ use Rattle.nano_json_tokens.specs.JsonLaws.{json}
 use Rattle.nano_json_tokens.specs.ScalarsLaws.{unsigned_tokens}
 use Rattle.nano_json_tokens.specs.State.{at}
 use Rattle.nano_json.specs.NumbersLaws.{unsigned}
+use Rattle.nano_text.specs.PlaceLaws.{advances_none}
 use Rattle.nano_json.proofs.unsigned.read_unsigned.Goals as goal
 
 pub narrow-requires : goal.narrow-requires
@@ -38,3 +39,16 @@ returns-in_err-next_tok-clause-rejected g c =
     let start = at c.args.state.now c.args.input.now in
     let r = c.in_err-next_tok.ensures.rejected in
     rw (p.1, p.2) (λ known. image_rejected json whole start (one_uncut json unsigned_tokens.carries (λ m. m < 2 ^ g.T.Unsigned.bits) start (λ next. r.0 known next.token next.text)), r.1.0)
+
+pub returns-in_err-number-clause-place : goal.returns-in_err-number-clause-place
+returns-in_err-number-clause-place g c = advances_none _ _
+
+pub returns-in_err-number-clause-made : goal.returns-in_err-number-clause-made
+returns-in_err-number-clause-made g c =
+    let p = err_from_is_err_and c.from_residual.result c.from_residual.ensures.1 in
+    rw (p.1, p.2) c.in_err-number.ensures.made.1
+
+pub returns-in_err-next_tok-clause-made : goal.returns-in_err-next_tok-clause-made
+returns-in_err-next_tok-clause-made g c =
+    let p = err_from_is_err_and c.from_residual-in_err-next_tok.result c.from_residual-in_err-next_tok.ensures.1 in
+    rw (p.1, p.2) c.in_err-next_tok.ensures.rejected.1.1

@@ -5,6 +5,7 @@ use Rattle.nano_grammar.proofs.Reading.{image_spans, image_rejected, one_spans, 
 use Rattle.nano_ron_tokens.specs.RonLaws.{ron}
 use Rattle.nano_ron_tokens.specs.ScalarsLaws.{truth_tokens}
 use Rattle.nano_ron_tokens.specs.State.{at}
+use Rattle.nano_text.specs.PlaceLaws.{advances_none}
 use Rattle.nano_ron.proofs.bools.read_bool.Goals as goal
 
 pub returns-clause-decodes : goal.returns-clause-decodes
@@ -27,3 +28,16 @@ returns-in_err-next_tok-clause-rejected c =
     let start = at c.args.state.now c.args.input.now in
     let r = c.in_err-next_tok.ensures.rejected in
     rw (p.1, p.2) (λ known. image_rejected ron truth start (one_uncut ron truth_tokens.carries (λ _. Unit {0}) start (λ next. r.0 known next.token next.text)), r.1.0)
+
+pub returns-in_err-value-clause-place : goal.returns-in_err-value-clause-place
+returns-in_err-value-clause-place c = advances_none _ _
+
+pub returns-in_err-value-clause-made : goal.returns-in_err-value-clause-made
+returns-in_err-value-clause-made c =
+    let p = err_from_is_err_and c.from_residual.result c.from_residual.ensures.1 in
+    rw (p.1, p.2) c.in_err-value.ensures.made.1
+
+pub returns-in_err-next_tok-clause-made : goal.returns-in_err-next_tok-clause-made
+returns-in_err-next_tok-clause-made c =
+    let p = err_from_is_err_and c.from_residual-in_err-next_tok.result c.from_residual-in_err-next_tok.ensures.1 in
+    rw (p.1, p.2) c.in_err-next_tok.ensures.rejected.1.1

@@ -7,6 +7,7 @@ use Rattle.nano_ron_tokens.specs.State.{at}
 use Rattle.nano_ron_tokens.specs.Token.{Token}
 use Rattle.nano_ron_tokens.proofs.Cuts.{cut_one_way}
 use Rattle.nano_grammar.proofs.Tokens.{same_at}
+use Rattle.nano_text.specs.PlaceLaws.{advances_append}
 use Rattle.nano_ron.proofs.bools.read_unit.Goals as goal
 
 -- where `()` stands
@@ -38,3 +39,12 @@ returns-clause-rejected c =
           r.0 known h.1 (subst (λ (z : At Token). Leaves Cut (parens.closing ∷ []) z h.1) same l.1.2),
       r.1.0,
     )) c.paren_close.ensures.rejected
+
+pub returns-in_err-paren_open-clause-made : goal.returns-in_err-paren_open-clause-made
+returns-in_err-paren_open-clause-made c =
+    let p = err_from_is_err_and c.from_residual.result c.from_residual.ensures.1 in
+    rw (p.1, p.2) c.in_err-paren_open.ensures.rejected.1.1
+
+pub returns-clause-place : goal.returns-clause-place
+returns-clause-place c =
+    advances_append c.in_ok-paren_open.ensures.place c.paren_close.ensures.place

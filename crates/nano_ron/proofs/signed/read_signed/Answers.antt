@@ -12,6 +12,7 @@ use Rattle.nano_ron_tokens.specs.ScalarsLaws.{signed_tokens}
 use Rattle.nano_ron_tokens.specs.State.{at}
 use Rattle.nano_ron.specs.NumbersLaws.{signed}
 use Rattle.nano_grammar.proofs.Integers.{inside, range_fits, fits_range}
+use Rattle.nano_text.specs.PlaceLaws.{advances_none}
 use Rattle.nano_ron.proofs.signed.read_signed.Goals as goal
 
 pub narrow-requires : goal.narrow-requires
@@ -50,3 +51,16 @@ returns-in_err-next_tok-clause-rejected g c =
     let start = at c.args.state.now c.args.input.now in
     let r = c.in_err-next_tok.ensures.rejected in
     rw (p.1, p.2) (λ known. image_rejected ron number start (one_uncut ron signed_tokens.carries (FitsSigned g.T.Signed.width) start (λ next. r.0 known next.token next.text)), r.1.0)
+
+pub returns-in_err-number-clause-place : goal.returns-in_err-number-clause-place
+returns-in_err-number-clause-place g c = advances_none _ _
+
+pub returns-in_err-number-clause-made : goal.returns-in_err-number-clause-made
+returns-in_err-number-clause-made g c =
+    let p = err_from_is_err_and c.from_residual.result c.from_residual.ensures.1 in
+    rw (p.1, p.2) c.in_err-number.ensures.made.1
+
+pub returns-in_err-next_tok-clause-made : goal.returns-in_err-next_tok-clause-made
+returns-in_err-next_tok-clause-made g c =
+    let p = err_from_is_err_and c.from_residual-in_err-next_tok.result c.from_residual-in_err-next_tok.ensures.1 in
+    rw (p.1, p.2) c.in_err-next_tok.ensures.rejected.1.1

@@ -10,12 +10,14 @@ use Rattle.nano_ron_tokens.specs.Brackets.{parens}
 use Rattle.nano_ron_tokens.specs.RonLaws.{ron, paren_brackets}
 use Rattle.nano_ron_tokens.specs.State.{at}
 use Rattle.nano_ron.proofs.Ron.{ron_laws}
+use Rattle.nano_text.specs.PlaceLaws.{advances_append}
 use Rattle.nano_ron.proofs.slices.read_items.Goals as goal
 
 pub loop-index-init : goal.loop-index-init
 loop-index-init g c = record {
   read = rw c.new-items.ensures.items (read_start ron_laws g.T.RonCodec.ron.encoding.laws parens paren_brackets (at c.args.state.now c.args.input.now) (at c.paren_open.new.self c.paren_open.new.i) c.in_ok-paren_open.ensures.taken);
   count = ap length c.new-items.ensures.items;
+  place = c.in_ok-paren_open.ensures.place;
 }
 
 pub loop-index-preserved : goal.loop-index-preserved
@@ -35,6 +37,7 @@ loop-index-preserved g c =
     rw (c.push.ensures.items, c.if-is_err.ensures.negation) (record {
       read = subst (λ (ms : List Meaning). ReadSoFar ron_laws parens s.encodes start next ms) same more;
       count = omega (arith, long, count);
+      place = advances_append c.loop-index.invariant.place (advances_append c.in_ok-item.ensures.place c.in_ok-eat_comma_paren.ensures.place);
     })
 
 pub returns-clause-decodes : goal.returns-clause-decodes
@@ -89,3 +92,39 @@ returns-in_err-paren_close-clause-rejected g c =
     let full : length c.loop-index.items.items ≡ c.args.count = grind (arith, common_steps) in
     let r = c.in_err-paren_close.ensures.rejected in
     rw (p.1, p.2) (λ known. image_rejected ron listed start (item_too_many ron_laws parens paren_brackets s.laws start here taken c.loop-index.invariant.read c.args.count (length-map c.loop-index.items.items g.T.Value.means ∙ full) (r.0 known)), r.1.0)
+
+pub returns-in_err-paren_open-clause-made : goal.returns-in_err-paren_open-clause-made
+returns-in_err-paren_open-clause-made g c =
+    let p = err_from_is_err_and c.from_residual.result c.from_residual.ensures.1 in
+    rw (p.1, p.2) c.in_err-paren_open.ensures.rejected.1.1
+
+pub returns-in_err-item-clause-place : goal.returns-in_err-item-clause-place
+returns-in_err-item-clause-place g c =
+    advances_append c.loop-index.invariant.place c.in_err-item.ensures.place
+
+pub returns-in_err-item-clause-made : goal.returns-in_err-item-clause-made
+returns-in_err-item-clause-made g c =
+    let p = err_from_is_err_and c.from_residual-in_err-item.result c.from_residual-in_err-item.ensures.1 in
+    rw (p.1, p.2) c.in_err-item.ensures.made
+
+pub returns-in_err-eat_comma_paren-clause-place : goal.returns-in_err-eat_comma_paren-clause-place
+returns-in_err-eat_comma_paren-clause-place g c =
+    advances_append c.loop-index.invariant.place (advances_append c.in_ok-item.ensures.place c.in_err-eat_comma_paren.ensures.place)
+
+pub returns-in_err-eat_comma_paren-clause-made : goal.returns-in_err-eat_comma_paren-clause-made
+returns-in_err-eat_comma_paren-clause-made g c =
+    let p = err_from_is_err_and c.from_residual-in_err-eat_comma_paren.result c.from_residual-in_err-eat_comma_paren.ensures.1 in
+    rw (p.1, p.2) c.in_err-eat_comma_paren.ensures.rejected.1.1
+
+pub returns-in_err-paren_close-clause-place : goal.returns-in_err-paren_close-clause-place
+returns-in_err-paren_close-clause-place g c =
+    advances_append c.loop-index.invariant.place c.in_err-paren_close.ensures.place
+
+pub returns-in_err-paren_close-clause-made : goal.returns-in_err-paren_close-clause-made
+returns-in_err-paren_close-clause-made g c =
+    let p = err_from_is_err_and c.from_residual-in_err-paren_close.result c.from_residual-in_err-paren_close.ensures.1 in
+    rw (p.1, p.2) c.in_err-paren_close.ensures.rejected.1.1
+
+pub returns-clause-place : goal.returns-clause-place
+returns-clause-place g c =
+    advances_append c.loop-index.invariant.place c.in_ok-paren_close.ensures.place

@@ -13,6 +13,7 @@ use Rattle.nano_ron_tokens.specs.Outcomes.{NothingCut}
 use Rattle.nano_ron_tokens.specs.State.{at, pending}
 use Rattle.nano_ron_tokens.specs.Token.{Token, str, IsStr}
 use Rattle.nano_ron_tokens.specs.declared.state.DeRonState.{DeRonState}
+use Rattle.nano_text.specs.PlaceLaws.{advances_none}
 use Rattle.nano_ron.proofs.texts.read_string.Goals as goal
 
 a_string : (t : Token) (bytes : List ℕ) → t ≡ str bytes → IsStr t
@@ -42,3 +43,16 @@ returns-in_err-next_tok-clause-rejected c =
     let r = c.in_err-next_tok.ensures.rejected in
     let uncut = λ (known : c.in_err-next_tok.field-0.0.memory ≡ false). subst (λ (s : DeRonState). NothingCut (remaining s.cur c.args.input.now)) c.in_ok-text.ensures.emptied.1 (r.0 known) in
     rw (p.1, p.2) (λ known. image_rejected ron text start (one_uncut ron text_tokens.carries IsText start (λ next. uncut known next.token next.text)), r.1.0)
+
+pub returns-in_err-text-clause-place : goal.returns-in_err-text-clause-place
+returns-in_err-text-clause-place c = advances_none _ _
+
+pub returns-in_err-text-clause-made : goal.returns-in_err-text-clause-made
+returns-in_err-text-clause-made c =
+    let p = err_from_is_err_and c.from_residual.result c.from_residual.ensures.1 in
+    rw (p.1, p.2) c.in_err-text.ensures.made.1
+
+pub returns-in_err-next_tok-clause-made : goal.returns-in_err-next_tok-clause-made
+returns-in_err-next_tok-clause-made c =
+    let p = err_from_is_err_and c.from_residual-in_err-next_tok.result c.from_residual-in_err-next_tok.ensures.1 in
+    rw (p.1, p.2) c.in_err-next_tok.ensures.rejected.1.1

@@ -5,6 +5,7 @@ use Rattle.nano_ron_tokens.specs.RonLaws.{paren_brackets}
 use Rattle.nano_ron_tokens.specs.State.{at}
 use Rattle.nano_ron.specs.TuplesLaws.{last_codec}
 use Rattle.nano_ron.proofs.Ron.{ron_laws}
+use Rattle.nano_text.specs.PlaceLaws.{advances_append}
 use Rattle.nano_ron.proofs.tuples.read_two.Goals as goal
 
 pub returns-in_err-first-clause-rejected : goal.returns-in_err-first-clause-rejected
@@ -30,3 +31,30 @@ returns-in_err-last-clause-rejected g c =
 
 pub returns-clause-decodes : goal.returns-clause-decodes
 returns-clause-decodes g c = parts_found ron_laws parens paren_brackets g.A.RonCodec.ron.encoding (last_codec g.B.RonCodec.ron).encoding (at c.args.state.now c.args.input.now) (at c.de_ron.new.state c.de_ron.new.input) (at c.eat_comma_paren.new.self c.eat_comma_paren.new.i) (at c.read_last.new.state c.read_last.new.input) (g.A.Value.means c.in_ok-first.first) (g.B.Value.means c.in_ok-last.last) c.in_ok-first.ensures.decodes c.in_ok-eat_comma_paren.ensures.taken c.in_ok-last.ensures.decodes
+
+pub returns-in_err-first-clause-made : goal.returns-in_err-first-clause-made
+returns-in_err-first-clause-made g c =
+    let p = err_from_is_err_and c.from_residual.result c.from_residual.ensures.1 in
+    rw (p.1, p.2) c.in_err-first.ensures.made
+
+pub returns-in_err-eat_comma_paren-clause-place : goal.returns-in_err-eat_comma_paren-clause-place
+returns-in_err-eat_comma_paren-clause-place g c =
+    advances_append c.in_ok-first.ensures.place c.in_err-eat_comma_paren.ensures.place
+
+pub returns-in_err-eat_comma_paren-clause-made : goal.returns-in_err-eat_comma_paren-clause-made
+returns-in_err-eat_comma_paren-clause-made g c =
+    let p = err_from_is_err_and c.from_residual-in_err-eat_comma_paren.result c.from_residual-in_err-eat_comma_paren.ensures.1 in
+    rw (p.1, p.2) c.in_err-eat_comma_paren.ensures.rejected.1.1
+
+pub returns-in_err-last-clause-place : goal.returns-in_err-last-clause-place
+returns-in_err-last-clause-place g c =
+    advances_append c.in_ok-first.ensures.place (advances_append c.in_ok-eat_comma_paren.ensures.place c.in_err-last.ensures.place)
+
+pub returns-in_err-last-clause-made : goal.returns-in_err-last-clause-made
+returns-in_err-last-clause-made g c =
+    let p = err_from_is_err_and c.from_residual-in_err-last.result c.from_residual-in_err-last.ensures.1 in
+    rw (p.1, p.2) c.in_err-last.ensures.made
+
+pub returns-clause-place : goal.returns-clause-place
+returns-clause-place g c =
+    advances_append c.in_ok-first.ensures.place (advances_append c.in_ok-eat_comma_paren.ensures.place c.in_ok-last.ensures.place)

@@ -1,6 +1,8 @@
 use Rattle.std.proofs.Common.{sym, ◌∙◌, ap, subst, List, ℕ, chars}
 use Rattle.std.proofs.lemmas.Result.{IfErr-weaker, IfOk-weaker, err_from_is_err_and}
 use Rattle.nano_text.specs.Place.{before_nul, remaining_text}
+use Rattle.nano_text.specs.PlaceLaws.{advances_append}
+use Rattle.nano_text.specs.PlaceInTextLaws.{stands_in}
 use Rattle.nano_grammar.specs.Tokens.{At, DecodesTo}
 use Rattle.nano_grammar.proofs.Tokens.{same_at}
 use Rattle.nano_json_tokens.specs.Cut.{Cut}
@@ -33,3 +35,14 @@ returns-in_err-next_tok-clause-rejected g c =
     let text = c.next.ensures.rest ∙ ap (λ (b : List ℕ). before_nul (chars b)) c.chars-chars.ensures.rest in
     let r = c.in_err-next_tok.ensures.rejected in
     rw (p.1, p.2) (λ known m f. r.0 known f.0.token f.0.text (subst (λ (t : List ℕ). Cut t f.0.token f.0.text) (sym text) f.1), r.1.0)
+
+pub returns-clause-place : goal.returns-clause-place
+returns-clause-place g c =
+    let whole = advances_append c.in_ok-next_tok.ensures.place c.de_json.ensures.place in
+    IfErr-weaker c.de_json.result _ _ (λ e made. stands_in (ap chars c.chars-chars.ensures.rest) c.new-state.ensures.line c.new-state.ensures.col c.next.ensures.passes c.next.ensures.held c.next.ensures.rest whole made.0 made.1) c.de_json.ensures.made
+
+pub returns-in_err-next_tok-clause-place : goal.returns-in_err-next_tok-clause-place
+returns-in_err-next_tok-clause-place g c =
+    let p = err_from_is_err_and c.from_residual.result c.from_residual.ensures.1 in
+    let made = c.in_err-next_tok.ensures.rejected.1.1 in
+    rw (p.1, p.2) (stands_in (ap chars c.chars-chars.ensures.rest) c.new-state.ensures.line c.new-state.ensures.col c.next.ensures.passes c.next.ensures.held c.next.ensures.rest c.in_err-next_tok.ensures.place made.0 made.1)

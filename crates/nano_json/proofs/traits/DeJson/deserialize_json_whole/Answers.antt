@@ -1,6 +1,8 @@
 use Rattle.std.proofs.Common.{◌≡◌, sym, ◌∙◌, ap, subst, List, ℕ, chars}
 use Rattle.std.proofs.lemmas.Result.{err_from_is_err_and}
 use Rattle.nano_text.specs.Place.{before_nul, remaining_text}
+use Rattle.nano_text.specs.PlaceLaws.{advances_append}
+use Rattle.nano_text.specs.PlaceInTextLaws.{stands_in}
 use Rattle.nano_value.specs.Meaning.{Meaning}
 use Rattle.nano_grammar.specs.Tokens.{At, DecodesTo, DecodesToNothing, TextDecodesToNothing}
 use Rattle.nano_grammar.specs.Whole.{DecodesBefore, GoesOn}
@@ -111,3 +113,23 @@ returns-in_err-expect_end-in-Ok-clause-trailing g c =
     let before = spans_before json_laws S.encodes (remaining_text c.args.input.now) now last m cut c.in-Ok.ensures.decodes in
     let on : GoesOn Cut S.encodes end c.args.input.now = record { value = m; next = last.token; fits = before; more = c.in_err-expect_end-in-Ok.ensures.goes_on } in
     rw (p.1, p.2) (λ known. (λ _. on, λ _. c.in_err-expect_end-in-Ok.ensures.says.0 known))
+
+pub returns-in-Err-clause-place : goal.returns-in-Err-clause-place
+returns-in-Err-clause-place g c =
+    let made = c.in-Err.ensures.rejected.1.1 in
+    let same = c.as_value_error.ensures.place in
+    stands_in (ap chars c.chars-characters.ensures.rest) c.new-state.ensures.line c.new-state.ensures.col c.next.ensures.passes c.next.ensures.held c.next.ensures.rest c.in-Err.ensures.place (same.0 ∙ made.0) (same.1 ∙ made.1)
+
+pub returns-clause-place : goal.returns-clause-place
+returns-clause-place g c =
+    let made = c.in-Err-de_json.ensures.made in
+    let same = c.as_value_error-in-Err-de_json.ensures.place in
+    let whole = advances_append c.in_default.ensures.place c.in-Err-de_json.ensures.place in
+    stands_in (ap chars c.chars-characters.ensures.rest) c.new-state.ensures.line c.new-state.ensures.col c.next.ensures.passes c.next.ensures.held c.next.ensures.rest whole (same.0 ∙ made.0) (same.1 ∙ made.1)
+
+pub returns-in_err-expect_end-in-Ok-clause-place : goal.returns-in_err-expect_end-in-Ok-clause-place
+returns-in_err-expect_end-in-Ok-clause-place g c =
+    let p = err_from_is_err_and c.from_residual.result c.from_residual.ensures.1 in
+    let made = c.in_err-expect_end-in-Ok.ensures.says.1.1 in
+    let whole = advances_append c.in_default.ensures.place c.in-Ok.ensures.place in
+    rw (p.1, p.2) (stands_in (ap chars c.chars-characters.ensures.rest) c.new-state.ensures.line c.new-state.ensures.col c.next.ensures.passes c.next.ensures.held c.next.ensures.rest whole made.0 made.1)
