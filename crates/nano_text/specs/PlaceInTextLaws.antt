@@ -4,7 +4,7 @@ use Rattle.std.proofs.Common.{sym, ◌∙◌, ap, subst, arith, length-append}
 use Rattle.std.specs.declared.str.Chars.{Chars}
 use Rattle.nano_text.specs.declared.place.Place.{Place}
 use Rattle.nano_text.specs.Place.{held, tail, before_nul, text_at, Passes, Advances}
-use Rattle.nano_text.specs.PlaceLaws.{passed_same, passes_append, tail_shorter}
+use Rattle.nano_text.specs.PlaceLaws.{passed_same, passes_append, tail_shorter, advances_within}
 use Rattle.nano_text.specs.PlaceInText.{beginning, StandsIn}
 
 -- a first step from before the first character, and then as far as a reader went
@@ -23,12 +23,11 @@ stands_in {whole} {text} {start} {p} {q} {i} {j} {line} {column} same no_line no
       columns = columns ∙ (all.col ∙ sym moved.1);
       within = omega (
         arith,
-        length-append first.taken h.passes.taken,
-        length-append first.taken (held i),
-        ap length first.split,
+        length-append all.taken (held j),
+        ap length all.split,
         tail_shorter text,
         ap length left,
         ap length rest,
-        h.within,
+        advances_within h,
       );
     })
