@@ -19,6 +19,8 @@ mod frame_source;
 #[cfg(test)]
 mod key_tests;
 #[cfg(test)]
+mod large_tests;
+#[cfg(test)]
 mod law_tests;
 #[cfg(test)]
 mod made;

@@ -8,4 +8,6 @@ mod call_tests;
 #[cfg(test)]
 mod checks;
 #[cfg(test)]
+mod large_tests;
+#[cfg(test)]
 mod law_tests;
