@@ -34,11 +34,16 @@ HEADLINES = {
     "JSON": (["nano_json/src/traits.rt"], "nano_json", 900),
     "RON": (["nano_ron/src/traits.rt"], "nano_ron", 1000),
     "TOML": (["nano_toml/src/parser.rt"], None, 500),
+    "the place of an error of JSON and RON":
+        (["nano_json/src/traits.rt", "nano_ron/src/traits.rt"], None, None),
     "the place of an error of TOML": (["nano_toml/src/parser.rt"], None, None),
     "the program": (["nano_show_answers/src/answers.rt"], None, None),
 }
 # Clauses of the same calls that are a headline of their own, by the definition that they cite.
-APART = dict.fromkeys(["IsErrorAt", "IsFirstError"], "the place of an error of TOML")
+APART = {
+    **dict.fromkeys(["Counts", "IsPlacedAt", "PointsInto"], "the place of an error of JSON and RON"),
+    **dict.fromkeys(["IsErrorAt", "IsFirstError"], "the place of an error of TOML"),
+}
 
 
 def conclusion(text):
