@@ -1,10 +1,13 @@
 //! Fields that are passed over.
 
 ghost use Rattle.std.specs.Prelude.{◌≡◌, ◌≢◌, ◌+◌, ◌<◌, ◌^◌, ℕ, List, true, OnOk, OnErr, IfErr};
+ghost use Rattle.nano_text.specs.Place.{remaining};
 ghost use Rattle.nano_json_tokens.specs.Outcomes.{Reports, Takes, NoneHere, Keeps, Counts};
+ghost use Rattle.nano_json_tokens.specs.Outcomes.{NoCapacity};
+ghost use Rattle.nano_json_tokens.specs.Scan.{is_scalar};
 ghost use Rattle.nano_json_tokens.specs.Scan.{is_opening};
 ghost use Rattle.nano_json_tokens.specs.Skipped.{SkippedField, BeginsField, IsBracketed, opens, closes};
-ghost use Rattle.nano_json_tokens.specs.State.{at, ended, pending};
+ghost use Rattle.nano_json_tokens.specs.State.{at, ended, pending, KeepsOtherBuffers};
 ghost use Rattle.nano_json_tokens.specs.Token.{Token};
 
 use crate::error::DeJsonErr;
@@ -30,6 +33,10 @@ impl DeJsonState {
         ensures unchanged { ¬ BeginsField (pending self.old)
             → OnErr result (Keeps self.old i.old self.new i.new) }
         ensures ended { BeginsField (pending self.old) → OnErr result (at self.new i.new ≡ ended) }
+        ensures buffers { is_scalar (pending self.old) ≡ true
+            → OnOk result (KeepsOtherBuffers self.old self.new) }
+        ensures capacity { is_scalar (pending self.old) ≡ true
+            → OnErr result (NoCapacity self.old (remaining self.old.cur i.old)) }
     {
         if self.is_scalar() {
             return self.next_tok(alloc, i);

@@ -6,7 +6,7 @@ ghost use Rattle.nano_text.specs.Place.{remaining};
 ghost use Rattle.nano_grammar.specs.Tokens.{At};
 ghost use Rattle.nano_ron_tokens.specs.Cut.{Cut};
 ghost use Rattle.nano_ron_tokens.specs.Outcomes.{Reports, Takes, NoneHere, Keeps, FindsOther};
-ghost use Rattle.nano_ron_tokens.specs.Outcomes.{NoCapacityForOther, Counts};
+ghost use Rattle.nano_ron_tokens.specs.Outcomes.{NoCapacity, NoCapacityForOther, Counts};
 ghost use Rattle.nano_ron_tokens.specs.State.{at, ended, pending, KeepsOtherBuffers};
 ghost use Rattle.nano_ron_tokens.specs.Token.{Token, ident, colon, comma, block_open, block_close};
 ghost use Rattle.nano_ron_tokens.specs.Token.{curly_open, curly_close, paren_open, paren_close, IsIdent};
@@ -32,6 +32,8 @@ impl DeRonState {
         ensures unchanged { pending self.old ≢ colon
             → OnErr result (Keeps self.old i.old self.new i.new) }
         ensures ended { pending self.old ≡ colon → OnErr result (at self.new i.new ≡ ended) }
+        ensures capacity { pending self.old ≡ colon
+            → OnErr result (NoCapacity self.old (remaining self.old.cur i.old)) }
     {
         match self.tok {
             DeRonTok::Colon => self.scan_value_token(alloc, i),
@@ -50,6 +52,8 @@ impl DeRonState {
         ensures unchanged { ¬ IsIdent (pending self.old)
             → OnErr result (Keeps self.old i.old self.new i.new) }
         ensures ended { IsIdent (pending self.old) → OnErr result (at self.new i.new ≡ ended) }
+        ensures capacity { IsIdent (pending self.old)
+            → OnErr result (NoCapacity self.old (remaining self.old.cur i.old)) }
     {
         match self.tok {
             DeRonTok::Ident => self.next_tok(alloc, i),
@@ -68,6 +72,8 @@ impl DeRonState {
         ensures unchanged { pending self.old ≢ block_open
             → OnErr result (Keeps self.old i.old self.new i.new) }
         ensures ended { pending self.old ≡ block_open → OnErr result (at self.new i.new ≡ ended) }
+        ensures capacity { pending self.old ≡ block_open
+            → OnErr result (NoCapacity self.old (remaining self.old.cur i.old)) }
     {
         match self.tok {
             DeRonTok::BlockOpen => self.scan_value_token(alloc, i),
@@ -86,6 +92,8 @@ impl DeRonState {
         ensures unchanged { pending self.old ≢ block_close
             → OnErr result (Keeps self.old i.old self.new i.new) }
         ensures ended { pending self.old ≡ block_close → OnErr result (at self.new i.new ≡ ended) }
+        ensures capacity { pending self.old ≡ block_close
+            → OnErr result (NoCapacity self.old (remaining self.old.cur i.old)) }
     {
         match self.tok {
             DeRonTok::BlockClose => self.next_tok(alloc, i),
@@ -104,6 +112,8 @@ impl DeRonState {
         ensures unchanged { pending self.old ≢ curly_open
             → OnErr result (Keeps self.old i.old self.new i.new) }
         ensures ended { pending self.old ≡ curly_open → OnErr result (at self.new i.new ≡ ended) }
+        ensures capacity { pending self.old ≡ curly_open
+            → OnErr result (NoCapacity self.old (remaining self.old.cur i.old)) }
     {
         match self.tok {
             DeRonTok::CurlyOpen => self.scan_value_token(alloc, i),
@@ -122,6 +132,8 @@ impl DeRonState {
         ensures unchanged { pending self.old ≢ curly_close
             → OnErr result (Keeps self.old i.old self.new i.new) }
         ensures ended { pending self.old ≡ curly_close → OnErr result (at self.new i.new ≡ ended) }
+        ensures capacity { pending self.old ≡ curly_close
+            → OnErr result (NoCapacity self.old (remaining self.old.cur i.old)) }
     {
         match self.tok {
             DeRonTok::CurlyClose => self.next_tok(alloc, i),
@@ -140,6 +152,8 @@ impl DeRonState {
         ensures unchanged { pending self.old ≢ paren_open
             → OnErr result (Keeps self.old i.old self.new i.new) }
         ensures ended { pending self.old ≡ paren_open → OnErr result (at self.new i.new ≡ ended) }
+        ensures capacity { pending self.old ≡ paren_open
+            → OnErr result (NoCapacity self.old (remaining self.old.cur i.old)) }
     {
         match self.tok {
             DeRonTok::ParenOpen => self.scan_value_token(alloc, i),
@@ -158,6 +172,8 @@ impl DeRonState {
         ensures unchanged { pending self.old ≢ paren_close
             → OnErr result (Keeps self.old i.old self.new i.new) }
         ensures ended { pending self.old ≡ paren_close → OnErr result (at self.new i.new ≡ ended) }
+        ensures capacity { pending self.old ≡ paren_close
+            → OnErr result (NoCapacity self.old (remaining self.old.cur i.old)) }
     {
         match self.tok {
             DeRonTok::ParenClose => self.next_tok(alloc, i),
@@ -177,6 +193,8 @@ impl DeRonState {
         ensures closed { pending self.old ≡ block_close → IsOk result }
         ensures unchanged { pending self.old ≢ comma → Keeps self.old i.old self.new i.new }
         ensures ended { pending self.old ≡ comma → OnErr result (at self.new i.new ≡ ended) }
+        ensures capacity { pending self.old ≡ comma
+            → OnErr result (NoCapacity self.old (remaining self.old.cur i.old)) }
     {
         match self.tok {
             DeRonTok::Comma => self.scan_value_token(alloc, i),
@@ -197,6 +215,8 @@ impl DeRonState {
         ensures closed { pending self.old ≡ curly_close → IsOk result }
         ensures unchanged { pending self.old ≢ comma → Keeps self.old i.old self.new i.new }
         ensures ended { pending self.old ≡ comma → OnErr result (at self.new i.new ≡ ended) }
+        ensures capacity { pending self.old ≡ comma
+            → OnErr result (NoCapacity self.old (remaining self.old.cur i.old)) }
     {
         match self.tok {
             DeRonTok::Comma => self.scan_value_token(alloc, i),
@@ -217,6 +237,8 @@ impl DeRonState {
         ensures closed { pending self.old ≡ paren_close → IsOk result }
         ensures unchanged { pending self.old ≢ comma → Keeps self.old i.old self.new i.new }
         ensures ended { pending self.old ≡ comma → OnErr result (at self.new i.new ≡ ended) }
+        ensures capacity { pending self.old ≡ comma
+            → OnErr result (NoCapacity self.old (remaining self.old.cur i.old)) }
     {
         match self.tok {
             DeRonTok::Comma => self.scan_value_token(alloc, i),
