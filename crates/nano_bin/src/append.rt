@@ -8,6 +8,7 @@ use std::alloc::{AllocError, Global};
 
 /// Appends the bytes of a part. On error, it truncates `output` back to its first `start`
 /// bytes: so a writer of several parts undoes those that it has written.
+#[inline(always)]
 pub fn append_part<T: SerBin>(
     alloc: Global,
     part: &T,
@@ -26,6 +27,7 @@ pub fn append_part<T: SerBin>(
 }
 
 /// Appends a count as eight bytes.
+#[inline(always)]
 pub(crate) fn append_count(
     alloc: Global,
     count: usize,

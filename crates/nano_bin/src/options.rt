@@ -15,6 +15,7 @@ impl<T: BinCodec> BinCodec for Option<T> {
 }
 
 impl<T: SerBin> SerBin for Option<T> {
+    #[inline(always)]
     fn ser_bin(&self, alloc: Global, output: &mut Vec<u8>) -> Result<(), AllocError> {
         let start = output.len();
         match self {

@@ -1,11 +1,10 @@
 -- Strings that are read at once: plain characters in their line, and short escapes.
-use Rattle.std.proofs.Common.{◌≡◌, ◌≢◌, ℕ, ◌+◌, ◌-◌, ◌^◌, ◌<◌, ◌≤◌, min, List, [], ◌∷◌, ◌++◌, Bool, true, false, cond, drop, take, length, length-append, chars, encode_utf8, encode_utf8_all, IsUtf8, add-one, get_or, count_by, nat_le, refl, ap, sym, ◌∙◌, subst, ne_eqb, arith}
+use Rattle.std.proofs.Common.{◌≡◌, ◌≢◌, ℕ, zero, suc, ◌+◌, ◌-◌, ◌^◌, ◌<◌, ◌≤◌, min, List, [], ◌∷◌, ◌++◌, Bool, true, false, cond, drop, take, length, length-append, chars, encode_utf8, encode_utf8_all, IsUtf8, add-one, get_or, count_by, nat_le, refl, ap, sym, ◌∙◌, subst, ne_eqb, arith}
 use Rattle.std.proofs.Math.Seq.{drop-cons}
 use Rattle.std.proofs.lemmas.Bool.{and_parts}
 use Rattle.std.proofs.lemmas.Bool.Decides.{nat_tests}
 use Rattle.std.proofs.lemmas.Str.{IsUtf8-past_char, IsUtf8-take, IsCharBoundary-at_seam, chars-append, chars_past_char, encode_ascii}
-use Rattle.std.proofs.lemmas.List.{get_or-drop, get_or-take, length-drop, take_all, take-append-drop}
-use Rattle.std.specs.Array.{IsFirstChunk}
+use Rattle.std.proofs.lemmas.List.{take-append-drop}
 use Rattle.std.specs.Str.{IsCharBoundary}
 use Rattle.std.specs.Str.Iter.{chars_rest}
 use Rattle.std.specs.declared.str.Chars.{Chars}
@@ -62,39 +61,15 @@ ascii_more bytes n h within plain ascii =
       columns = omega (arith, h.columns, ap (count_by begins_character) first, one);
     }
 
-abbrev IsPlainAscii : ℕ → Type 0
-IsPlainAscii b = (is_plain_in_line b ≡ true) × (b < 128)
-
--- the next four bytes
-module _ (bytes four : List ℕ) (n : ℕ) (chunk : IsFirstChunk (take (length bytes - n) (drop n bytes)) four 4) (h : IsAsciiTo bytes n) where
-  all_after : take (length bytes - n) (drop n bytes) ≡ drop n bytes
-  all_after = take_all (length bytes - n) (drop n bytes) (omega (arith, length-drop n bytes))
-
-  capacity : n + 4 ≤ length bytes
-  capacity = omega (arith, chunk.enough, ap length all_after, length-drop n bytes, h.within)
-
-  byte_is : (k : ℕ) → k < 4 → get_or four k 0 ≡ get_or bytes (n + k) 0
-  byte_is k small =
-      ap (λ (l : List ℕ). get_or l k 0) (chunk.same ∙ ap (take 4) all_after) ∙ (get_or-take 4 (drop n bytes) k 0 small ∙ get_or-drop n bytes k 0)
-
-  more : (k len next : ℕ) → k < 4 → len ≡ n + k → next ≡ len + 1 → IsAsciiTo bytes len → IsPlainAscii (get_or four k 0) → IsAsciiTo bytes next
-  more k len next small at following so_far plain =
-      let same : get_or four k 0 ≡ get_or bytes len 0 = byte_is k small ∙ ap (λ (i : ℕ). get_or bytes i 0) (sym at) in
-      subst (IsAsciiTo bytes) (sym following)
-      (ascii_more bytes len so_far (omega (arith, capacity)) (subst (λ (b : ℕ). is_plain_in_line b ≡ true) same plain.0) (omega (arith, same, plain.1)))
-
-  pub ascii_one : IsPlainAscii (get_or four 0 0) → IsAsciiTo bytes (n + 1)
-  ascii_one a = more 0 n (n + 1) (omega arith) (omega arith) refl h a
-
-  pub ascii_two : IsPlainAscii (get_or four 0 0) → IsPlainAscii (get_or four 1 0) → IsAsciiTo bytes (n + 2)
-  ascii_two a b = more 1 (n + 1) (n + 2) (omega arith) refl (omega arith) (ascii_one a) b
-
-  pub ascii_three : IsPlainAscii (get_or four 0 0) → IsPlainAscii (get_or four 1 0) → IsPlainAscii (get_or four 2 0) → IsAsciiTo bytes (n + 3)
-  ascii_three a b c = more 2 (n + 2) (n + 3) (omega arith) refl (omega arith) (ascii_two a b) c
-
-  pub ascii_four : IsPlainAscii (get_or four 0 0) → IsPlainAscii (get_or four 1 0) → IsPlainAscii (get_or four 2 0) → IsPlainAscii (get_or four 3 0)
-      → IsAsciiTo bytes (n + 4)
-  ascii_four a b c d = more 3 (n + 3) (n + 4) (omega arith) refl (omega arith) (ascii_three a b c) d
+-- and some more
+pub ascii_by : (bytes : List ℕ) (n r : ℕ) → IsAsciiTo bytes n → n + r ≤ length bytes → ((k : ℕ) → n ≤ k → k < n + r → (is_plain_in_line (get_or bytes k 0) ≡ true) × (get_or bytes k 0 < 127))
+    → IsAsciiTo bytes (n + r)
+ascii_by bytes n zero h room all = let e : n ≡ n + 0 = omega arith in subst (IsAsciiTo bytes) e h
+ascii_by bytes n (suc r) h room all =
+    let e : n + r + 1 ≡ n + suc r = omega arith in
+    let so_far = ascii_by bytes n r h (omega (arith, room)) (λ k low high. all k low (omega (arith, high))) in
+    let this = all (n + r) (omega arith) (omega arith) in
+    subst (IsAsciiTo bytes) e (ascii_more bytes (n + r) so_far (omega (arith, room)) this.0 (omega (arith, this.1)))
 
 -- ---- what is passed
 

@@ -13,6 +13,7 @@ pub mod Numbers
 pub mod Strings
 pub mod Passing
 pub mod InLine
+pub mod LaneMasks
 pub mod Bodies
 pub mod WholeNumbers
 pub mod WrittenRuns

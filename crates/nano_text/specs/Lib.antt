@@ -4,6 +4,7 @@ pub mod EachLaws
 pub mod Prefix
 pub mod RollbackLaws
 pub mod Promises
+pub mod Lanes
 pub mod Number
 pub mod Outcomes
 pub mod Place

@@ -9,6 +9,7 @@ ghost use Rattle.nano_text.specs.Outcomes.{Counts};
 ghost use Rattle.nano_text.specs.Place.{begins_character, text_at};
 ghost use Rattle.nano_text.specs.String.{IsString, escaped_char, is_plain_in_line};
 
+use crate::lanes::{LANES, plain_lanes};
 use crate::place::{Place, begins_character};
 use std::str::Chars;
 
@@ -23,16 +24,8 @@ fn is_plain_in_line(byte: u8) -> bool
     byte >= b' ' && byte != b'"' && byte != b'\\'
 }
 
-/// Whether a byte surely is an ASCII character that stands for itself in a string, and in its
-/// line. Most are greater than the backslash, so that is tested first.
-fn is_plain_ascii(byte: u8) -> bool
-    ensures { result ≡ true → (is_plain_in_line byte ≡ true) × (byte < 128) }
-{
-    byte > b'\\' && byte < 0x80 || byte >= b' ' && byte < b'\\' && byte != b'"'
-}
-
-/// Counts bytes of ASCII that stand for themselves in their line, four in a turn; near the end of
-/// the bytes more of them may follow.
+/// Counts bytes of ASCII that stand for themselves in their line, sixteen in a turn; near the end
+/// of the bytes, and at DEL, more of them may follow.
 #[inline(always)]
 fn ascii_run(bytes: &[u8]) -> usize
     ensures within { result ≤ length bytes.now }
@@ -42,20 +35,12 @@ fn ascii_run(bytes: &[u8]) -> usize
         ≡ result + count_by begins_character (prefix is_plain_in_line (drop result bytes.now)) }
 {
     let mut len = 0;
-    'fours: while let Some(four) = bytes[len..].first_chunk::<4>() {
-        if !is_plain_ascii(four[0]) {
+    'lanes: while bytes.len() - len >= LANES {
+        let plain = plain_lanes(bytes, len);
+        len += plain;
+        if plain < LANES {
             return len;
         }
-        if !is_plain_ascii(four[1]) {
-            return len + 1;
-        }
-        if !is_plain_ascii(four[2]) {
-            return len + 2;
-        }
-        if !is_plain_ascii(four[3]) {
-            return len + 3;
-        }
-        len += 4;
     }
     len
 }

@@ -9,6 +9,7 @@
 mod body;
 mod capacity;
 mod digits;
+mod lanes;
 pub mod laws;
 mod number;
 mod place;

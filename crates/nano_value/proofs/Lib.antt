@@ -1,3 +1,4 @@
 pub mod Results
 pub mod ByRank
+mod NumberRanks
 pub mod TextRanks

@@ -105,10 +105,28 @@ fn ranks<K: Key>(first: &K, second: &K) -> (u64, u64) {
     (entries[0].0, entries[1].0)
 }
 
-/// Whether texts are ranked by their first bytes.
+/// Two texts and their ranks: those of what comes after the bytes that both begin with.
+const RANKED: &[(&str, &str, (u64, u64))] = &[
+    ("a", "b\0", (0x6100_0000_0000_0000, 0x6200_0000_0000_0000)),
+    (
+        "key/a",
+        "key/b",
+        (0x6100_0000_0000_0000, 0x6200_0000_0000_0000),
+    ),
+    ("key", "key/", (0, 0x2F00_0000_0000_0000)),
+    ("", "a", (0, 0x6100_0000_0000_0000)),
+    ("same", "same", (0, 0)),
+];
+
+/// Whether the texts have these ranks.
 fn texts_are_ranked(alloc: Global) -> Result<bool, AllocError> {
-    let (first, second) = (text(alloc, "a")?, text(alloc, "b\0")?);
-    Ok(ranks(&first, &second) == (0x6100_0000_0000_0000, 0x6200_0000_0000_0000))
+    for (first, second, expected) in RANKED {
+        let (first, second) = (text(alloc, first)?, text(alloc, second)?);
+        if ranks(&first, &second) != *expected {
+            return Ok(false);
+        }
+    }
+    Ok(true)
 }
 
 #[test]
@@ -116,7 +134,12 @@ fn in_order(rt: HostRuntime) {
     let alloc = rt.alloc();
     is_made(&rt, are_in_order(alloc), "entries and items");
     is_made(&rt, texts_are_ranked(alloc), "texts");
-    holds(&rt, ranks(&7u8, &5) == (0, 0), "numbers");
+    holds(&rt, ranks(&7u8, &5) == (7, 5), "numbers");
+    holds(&rt, ranks(&u64::MAX, &0) == (u64::MAX, 0), "the ends");
+    let ends = ranks(&i64::MIN, &i64::MAX);
+    holds(&rt, ends == (0, u64::MAX), "the signed ends");
+    holds(&rt, ranks(&-1i8, &0) == ((1 << 63) - 1, 1 << 63), "signed");
+    holds(&rt, ranks(&true, &false) == (0, 0), "no ranks");
 }
 
 #[test]

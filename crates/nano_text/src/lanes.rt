@@ -1,0 +1,38 @@
+//! Bytes looked at sixteen at a time.
+
+ghost use Rattle.std.specs.Prelude.{◌≡◌, ◌<◌, ◌≤◌, ◌+◌, ℕ, true, length, slice_index};
+ghost use Rattle.nano_text.specs.Lanes.{first_set};
+ghost use Rattle.nano_text.specs.String.{is_plain_in_line};
+
+use std::simd::prelude::*;
+
+/// How many bytes are looked at together.
+pub(crate) const LANES: usize = 16;
+
+/// The place of the lowest bit that is set, or how many bits there are.
+#[inline(always)]
+fn first_set(mask: u64) -> usize
+    ensures { result ≡ first_set mask 16 }
+{
+    if mask == 0 {
+        LANES
+    } else {
+        mask.trailing_zeros() as usize
+    }
+}
+
+/// How many of the bytes from a place on, up to sixteen, surely are characters of ASCII that stand
+/// for themselves in a string, and in its line. DEL is left out, which is written with an escape.
+#[inline(always)]
+pub(crate) fn plain_lanes(bytes: &[u8], from: usize) -> usize
+    requires { from + 16 ≤ length bytes.now }
+    ensures within { result ≤ 16 }
+    ensures plain { (k : ℕ) → from ≤ k → k < from + result
+        → (is_plain_in_line (slice_index bytes.now k) ≡ true) × (slice_index bytes.now k < 127) }
+{
+    let lanes = u8x16::from_slice(&bytes[from..]);
+    let is_outside = lanes.simd_lt(u8x16::splat(b' ')) | lanes.simd_ge(u8x16::splat(0x7F));
+    let is_quote = lanes.simd_eq(u8x16::splat(b'"'));
+    let is_backslash = lanes.simd_eq(u8x16::splat(b'\\'));
+    first_set((is_outside | is_quote | is_backslash).to_bitmask())
+}
