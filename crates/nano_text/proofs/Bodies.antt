@@ -64,12 +64,12 @@ ascii_more bytes n h within plain ascii =
 -- and some more
 pub ascii_by : (bytes : List ℕ) (n r : ℕ) → IsAsciiTo bytes n → n + r ≤ length bytes → ((k : ℕ) → n ≤ k → k < n + r → (is_plain_in_line (get_or bytes k 0) ≡ true) × (get_or bytes k 0 < 127))
     → IsAsciiTo bytes (n + r)
-ascii_by bytes n zero h room all = let e : n ≡ n + 0 = omega arith in subst (IsAsciiTo bytes) e h
-ascii_by bytes n (suc r) h room all =
+ascii_by bytes n zero h inside all = let e : n ≡ n + 0 = omega arith in subst (IsAsciiTo bytes) e h
+ascii_by bytes n (suc r) h inside all =
     let e : n + r + 1 ≡ n + suc r = omega arith in
-    let so_far = ascii_by bytes n r h (omega (arith, room)) (λ k low high. all k low (omega (arith, high))) in
+    let so_far = ascii_by bytes n r h (omega (arith, inside)) (λ k low high. all k low (omega (arith, high))) in
     let this = all (n + r) (omega arith) (omega arith) in
-    subst (IsAsciiTo bytes) e (ascii_more bytes (n + r) so_far (omega (arith, room)) this.0 (omega (arith, this.1)))
+    subst (IsAsciiTo bytes) e (ascii_more bytes (n + r) so_far (omega (arith, inside)) this.0 (omega (arith, this.1)))
 
 -- ---- what is passed
 

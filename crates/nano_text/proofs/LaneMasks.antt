@@ -31,14 +31,14 @@ run_is p v n long few =
       | inr some ↦ cond-false _ _ _ (ne_eqb _ _ some) ∙ trailing_mask_l p 64 v (omega arith) (omega arith)
     ]
 
-module _ (q : ℕ → Bool) (d : List ℕ) (i n r : ℕ) (z : List ℕ) (room : i + n ≤ length d) (few : n ≤ 64)
+module _ (q : ℕ → Bool) (d : List ℕ) (i n r : ℕ) (z : List ℕ) (inside : i + n ≤ length d) (few : n ≤ 64)
     (fits : (k : ℕ) → Fits w8 (get_or d k 0)) (found : r ≡ first_set (mask_l (map (top 7) z) % 2 ^ 64) n)
     (f : ℕ → ℕ) (lanes : z ≡ map f (chunk i n d)) where
   abbrev stops : ℕ → Bool
   stops x = top 7 (f x)
 
   long : length (chunk i n d) ≡ n
-  long = length-chunk i n d room
+  long = length-chunk i n d inside
 
   counted : r ≡ prefix_len (λ x. not (stops x)) (chunk i n d)
   counted =
