@@ -1,11 +1,13 @@
 #!/usr/bin/env python3
-"""Compares the snippets of README.md and docs/GUIDE.md with the sources and the stored output.
+"""Compares the snippets of documents with the sources and the stored output.
 
-    ```rust    stands in one file of crates/example_*/src
+    ```rust    stands in one file of crates/example_*/src, or of docs/walk
     ```antt    stands in one file of crates/example_*/specs
     ```toml    stands in the stored input of a program, crates/*/stdin
-    ```text    stands in the stored output of a program (crates/*/stdout), is the answer of a case of
-               crates/conformance_run/data, or is a text that a test of crates/test_* expects
+    ```json    stands in docs/walk/stdin
+    ```text    stands in the stored output of a program (crates/*/stdout) or of docs/walk.sh, is the
+               answer of a case of crates/conformance_run/data, or is a text that a test of
+               crates/test_* expects
     ```sh      is not compared
 
 Lines are compared one by one, after the common indent and blanks at their ends are taken off. A line
@@ -18,13 +20,15 @@ import pathlib
 import re
 import sys
 
-DOCUMENTS = ["README.md", "docs/GUIDE.md"]
+DOCUMENTS = ["README.md", "docs/GUIDE.md", "docs/USER_TYPES.md"]
 CUTS = {"// ..", "-- .."}
 SOURCES = {
-    "rust": ["crates/example_*/src/*.rt"],
+    "rust": ["crates/example_*/src/*.rt", "docs/walk/*.rt.txt"],
     "antt": ["crates/example_*/specs/*.antt"],
     "toml": ["crates/*/stdin"],
-    "text": ["crates/*/stdout", "crates/conformance_run/data/*.tsv", "crates/test_*/src/*.rt"],
+    "json": ["docs/walk/stdin"],
+    "text": ["crates/*/stdout", "docs/walk/stdout", "docs/walk/fault.txt",
+             "crates/conformance_run/data/*.tsv", "crates/test_*/src/*.rt"],
 }
 STRING = re.compile(r'"((?:[^"\\]|\\.)*)"')
 ESCAPES = {"n": "\n", "t": "\t", "\\": "\\", '"': '"', "'": "'", "0": "\0", "r": "\r"}

@@ -1,0 +1,35 @@
+#!/bin/sh
+# Makes the walk of docs/USER_TYPES.md in an empty folder, without a proof, and compares what is
+# printed with docs/walk. The first step that differs ends it with status 1. It takes some minutes.
+#
+#     sh docs/walk.sh FOLDER
+#
+# FOLDER must not be there yet; it is made, and may be removed afterwards.
+set -eu
+[ $# -eq 1 ] || { echo "usage: sh docs/walk.sh FOLDER" >&2; exit 2; }
+top=$(cd "$(dirname "$0")/.." && pwd)
+walk=$top/docs/walk
+mkdir "$1"
+cd "$1"
+
+# The folder of a program over JSON.
+sh "$top/vendor" . nano_schema_json > crates.txt
+echo 'shop: anyhow nano_schema nano_schema_json' >> crates.txt
+mkdir -p crates/shop/src
+cd crates/shop
+cp "$walk/settings.rt.txt" src/settings.rt
+cp "$walk/main.rt.txt" src/main.rt
+cp "$walk/stdin" stdin
+
+# The impls, the program and its test.
+sh "$top/derive" src/settings.rt
+rt try < stdin > printed
+diff "$walk/stdout" printed
+rt try --test
+[ -z "$(sh "$top/derive" --check src/settings.rt)" ]
+
+# A file at fault is shown with its place.
+cp "$walk/fault.rt.txt" src/fault.rt
+if sh "$top/derive" src/fault.rt 2> printed; then echo "no fault" >&2; exit 1; fi
+sed "s|^$(pwd)/||" printed | grep -v '^run=\|^checked:' | diff "$walk/fault.txt" -
+echo "the walk is as it is written"
