@@ -1,18 +1,17 @@
 -- What is proved of Defaults.
-use Rattle.std.specs.Prelude.{◌≡◌, ◌⊎◌, ℕ, false, List, ◌∷◌, ◌++◌, Option, Some, None, bytes_eq}
-use Rattle.std.specs.Prelude.{[]}
-use Rattle.std.proofs.Common.{sym, ◌∙◌, subst, inl, inr}
+use Rattle.std.specs.Prelude.{◌≡◌, ℕ, List, Some, None}
+use Rattle.std.proofs.Common.{sym, ◌∙◌, inl, inr}
 use Rattle.nano_value.specs.Meaning.{Meaning}
 use Rattle.nano_grammar.specs.Cutting.{Cutting}
 use Rattle.nano_grammar.specs.Codec.{Codec}
 use Rattle.nano_grammar.specs.Encoding.{Grammar, Encoding}
-use Rattle.nano_schema_text.specs.Defaults.{IsSoundDefault, defaulted_field}
+use Rattle.nano_schema_text.specs.Defaults.{HasEncoding, defaulted_field}
 use Rattle.nano_schema_text.specs.FieldCanonicalLaws.{must_write}
 use Rattle.nano_schema_text.specs.FieldCodec.{FieldsCodec}
 use Rattle.nano_schema_text.specs.FieldCodecLaws.{must_be_meant, must_be_written}
 use Rattle.nano_schema_text.specs.FieldLaws.{required_laws}
 use Rattle.nano_schema_text.specs.FieldPromises.{IsShape}
-use Rattle.nano_schema_text.specs.Fields.{FieldStyle, Field, LastEncodes, last}
+use Rattle.nano_schema_text.specs.Fields.{FieldStyle, Field}
 use Rattle.nano_schema_text.specs.NamesLaws.{same_name}
 use Rattle.nano_schema_text.specs.Slots.{Holds}
 use Rattle.nano_schema_text.specs.Struct.{Struct}
@@ -30,7 +29,7 @@ module _ {T : Type 0} {g : Grammar T} (name : List ℕ) (s : Encoding g) (missin
   defaulted_means_one fs m n (inr h) (inr k) = (required_laws name s).one fs m n h k
 
   defaulted_is_legal : (fs : List (Field T)) (m : Meaning) → Means fs m → s.legal m
-  defaulted_is_legal fs m (inl h) = h.1.1
+  defaulted_is_legal fs m (inl h) = s.laws.is_legal h.1.1.0 m h.1.1.1
   defaulted_is_legal fs m (inr h) = (required_laws name s).is_legal fs m h
 
   pub defaulted_laws : IsShape (defaulted_field name s missing)
@@ -46,10 +45,10 @@ module _ {T : Type 0} {g : Grammar T} (name : List ℕ) (s : Encoding g) (missin
 
   -- ---- what a slot means in the end
 
-  -- where no field has the name, a legal value that means the default stands in its place
-  pub missing_is_meant : (fs : List (Field T)) (m : Meaning) → m ≡ missing → s.legal m
-      → Holds name s.encodes None fs → Means fs m
-  missing_is_meant fs m e legal h = inl (h, (e, legal))
+  -- where no field has the name, a value that means the default and is encoded stands in its place
+  pub missing_is_meant : (fs : List (Field T)) (m : Meaning) → m ≡ missing
+      → HasEncoding s.encodes m → Holds name s.encodes None fs → Means fs m
+  missing_is_meant fs m e encoded h = inl (h, (e, encoded))
 
   pub present_is_meant : (fs : List (Field T)) (m : Meaning) → Holds name s.encodes (Some m) fs
       → Means fs m
@@ -58,11 +57,11 @@ module _ {T : Type 0} {g : Grammar T} (name : List ℕ) (s : Encoding g) (missin
 -- ---- the codec
 
 module _ {T : Type 0} {c : Cutting T} {g : Grammar T} (s : FieldStyle c g) {A : Type 0}
-    (name : List ℕ) (f : Codec c g A) (missing : Meaning) (is_sound : IsSoundDefault f missing)
+    (name : List ℕ) (f : Codec c g A) (missing : Meaning)
   where
-    defaulted_sound : (x : A) (fs : List (Field T))
+    pub defaulted_sound : (x : A) (fs : List (Field T))
         → (defaulted_field name f.encoding missing).means fs (f.canonical.means x) → f.sound x
-    defaulted_sound x fs (inl h) = is_sound x h.1.0
+    defaulted_sound x fs (inl h) = f.encoded_is_sound x h.1.1.0 h.1.1.1
     defaulted_sound x fs (inr h) = f.encoded_is_sound x h.0 h.2
 
     -- a field that is always written, and has a default where it is missing
