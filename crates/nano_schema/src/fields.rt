@@ -26,6 +26,18 @@ pub struct Optional<N, T> {
     pub of: PhantomData<T>,
 }
 
+/// A field that may be missing, and has its default then, by its name, the type of its value and
+/// the default (`DefaultOf`). It is always written.
+#[derive(Drop)]
+pub struct Defaulted<N, T, D> {
+    /// Its name.
+    pub name: PhantomData<N>,
+    /// The type of its value.
+    pub of: PhantomData<T>,
+    /// What it has where it is missing.
+    pub missing: PhantomData<D>,
+}
+
 /// One field, or fields and more fields: what their values mean.
 pub trait Shape {
     /// The values of the fields.
@@ -104,6 +116,30 @@ impl<'a, N, T: Value + 'a> Borrowed<'a> for Optional<N, T> {
     ghost legal = { LegalOption T.legal };
 
     fn known(refs: &&'a Option<T>) {
+        refs.known();
+    }
+}
+
+impl<N, T: Value, D> Shape for Defaulted<N, T, D> {
+    type Values = T;
+
+    ghost means = { T.means };
+
+    ghost legal = { T.legal };
+}
+
+impl<'a, N, T: Value + 'a, D> Borrowed<'a> for Defaulted<N, T, D> {
+    type Values = T;
+
+    type Refs = &'a T;
+
+    ghost values = { λ r. r.now };
+
+    ghost means = { T.means };
+
+    ghost legal = { T.legal };
+
+    fn known(refs: &&'a T) {
         refs.known();
     }
 }

@@ -9,6 +9,8 @@
 mod choice;
 mod choices;
 mod contents;
+mod default_numbers;
+mod defaults;
 mod fields;
 mod labels;
 mod record;
@@ -16,7 +18,8 @@ mod record;
 pub use choice::{Choice, ChoiceParts, known_choice};
 pub use choices::{BorrowedChoices, Choices, Either, Variant};
 pub use contents::{Alone, Named, OnePart, Tupled};
-pub use fields::{Borrowed, Optional, Required, Shape};
+pub use defaults::{DefaultOf, TypeDefault};
+pub use fields::{Borrowed, Defaulted, Optional, Required, Shape};
 pub use labels::Label;
 pub use nano_value::Value;
 pub use record::{Parts, Record, known_record};

@@ -1,8 +1,10 @@
 -- Named fields in JSON: between curly brackets, with their names as they are between quotes. A
 -- field whose name is not known is passed over.
 use Rattle.std.specs.Prelude.{◌≡◌, ℕ, true, List, Option}
+use Rattle.nano_value.specs.Meaning.{Meaning}
 use Rattle.nano_grammar.specs.Codec.{Codec}
 use Rattle.nano_schema_text.specs.BothFieldsLaws.{also_fields}
+use Rattle.nano_schema_text.specs.DefaultsLaws.{default_field}
 use Rattle.nano_schema_text.specs.FieldCodec.{AreNames, FieldsCodec}
 use Rattle.nano_schema_text.specs.FieldCodecLaws.{must_field, may_field}
 use Rattle.nano_schema_text.specs.Fields.{FieldStyle}
@@ -38,6 +40,11 @@ json_fields = record {
 -- a field that must be there
 abbrev pub must : {A : Type 0} → List ℕ → Codec json json_grammar A → FieldsCodec json_fields A
 must = must_field json_fields
+
+-- a field that is always written, and has a default where it is missing
+abbrev pub default : {A : Type 0} → List ℕ → Codec json json_grammar A → Meaning
+    → FieldsCodec json_fields A
+default = default_field json_fields
 
 -- a field that may be missing, and is not written where it is none
 abbrev pub may : {A : Type 0} → List ℕ → Codec json json_grammar A

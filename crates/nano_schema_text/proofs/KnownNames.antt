@@ -1,5 +1,5 @@
 -- What a reader knows of a field whose name it knows, or one of two groups of fields does.
-use Rattle.std.proofs.Common.{◌≡◌, ℕ, List, Bool, true, false, ap, sym, ◌∙◌, subst}
+use Rattle.std.proofs.Common.{◌≡◌, ℕ, List, Bool, true, false, sym, subst}
 use Rattle.nano_grammar.specs.Tokens.{At, Spans, DecodesToNothing}
 use Rattle.nano_grammar.specs.CutLaws.{CutLaws}
 use Rattle.nano_grammar.specs.Cutting.{Cutting}

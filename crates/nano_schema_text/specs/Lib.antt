@@ -12,6 +12,8 @@ pub mod FieldCanonical
 pub mod FieldCanonicalLaws
 pub mod FieldCodec
 pub mod FieldCodecLaws
+pub mod Defaults
+pub mod DefaultsLaws
 pub mod BothFieldsLaws
 pub mod StructCodecLaws
 pub mod SameLaws

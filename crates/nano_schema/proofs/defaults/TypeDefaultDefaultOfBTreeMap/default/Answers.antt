@@ -1,0 +1,7 @@
+use Rattle.nano_value.specs.Order.{meaning_cmp}
+use Rattle.nano_value.specs.TablesLaws.{no_entries}
+use Rattle.std.proofs.Common.{refl}
+use Rattle.nano_schema.proofs.defaults.TypeDefaultDefaultOfBTreeMap.default.Goals as goal
+
+pub returns : goal.returns
+returns g c = rw (c.new.ensures.empty, no_entries meaning_cmp) refl

@@ -1,0 +1,115 @@
+//! A field that has a default where it is missing.
+
+ghost use Rattle.std.specs.Prelude.{◌≡◌, IfOk, IfErr};
+ghost use Rattle.std.specs.Option.{option_map};
+ghost use Rattle.nano_schema_json.specs.FieldsLaws.{default};
+ghost use Rattle.nano_json.specs.Readers.{Reports};
+ghost use Rattle.nano_schema_text.specs.Defaults.{HasEncoding};
+ghost use Rattle.nano_schema_text.specs.Slots.{Holds};
+ghost use Rattle.nano_schema_text.specs.SlotsLaws.{holds_skips};
+
+use crate::fields::{JsonFields, JsonRefs, JsonShape};
+use crate::named::read_named;
+use crate::writer::append_field;
+use nano_json::{DeJson, DeJsonErr, DeJsonState, JsonCodec, SerJson, SerJsonState};
+use nano_schema::{DefaultOf, Defaulted, Label};
+use std::alloc::{AllocError, Global};
+use std::str::Chars;
+
+/// A default that is read back from JSON.
+pub trait JsonDefaultOf<T: JsonCodec>: DefaultOf<T> {
+    ghost use Rattle.nano_schema_text.specs.Defaults.{IsSoundDefault};
+
+    /// It is sound: nowhere inside it a `Some` stands around what is written as an absent value.
+    ghost is_sound: { IsSoundDefault T.json Self.DefaultOf.missing };
+}
+
+/// The default in the place of a field that is missing.
+fn missing<T: DeJson, D: JsonDefaultOf<T>>(
+    alloc: Global,
+    state: &DeJsonState,
+) -> Result<T, DeJsonErr>
+    ensures value { IfOk result (λ value. T.json.canonical.means value ≡ D.DefaultOf.missing) }
+    ensures encoded { IfOk result (λ value.
+        HasEncoding T.json.encoding.encodes (T.json.canonical.means value)) }
+    ensures memory { IfErr result (Reports ⊥) }
+{
+    match D::default(alloc) {
+        Ok(value) => {
+            value.known();
+            Ok(value)
+        }
+        Err(_error) => Err(state.err_memory(alloc)),
+    }
+}
+
+impl<N: Label, T: JsonCodec, D: JsonDefaultOf<T>> JsonShape for Defaulted<N, T, D> {
+    type Values = T;
+
+    ghost codec = { default N.label T.json D.DefaultOf.missing };
+}
+
+impl<N: Label, T: DeJson, D: JsonDefaultOf<T>> JsonFields for Defaulted<N, T, D> {
+    type Values = T;
+
+    type Slots = Option<T>;
+
+    ghost codec = { default N.label T.json D.DefaultOf.missing };
+
+    ghost holds = { λ slot. Holds N.label T.json.encoding.encodes (option_map T.json.canonical.means slot) };
+
+    ghost skips = { λ slot. holds_skips N.label T.json.encoding.encodes
+        (option_map T.json.canonical.means slot) };
+
+    fn empty() -> Option<T> {
+        None
+    }
+
+    fn knows(name: &str) -> bool {
+        name == N::text()
+    }
+
+    fn read_field(
+        slots: &mut Option<T>,
+        alloc: Global,
+        state: &mut DeJsonState,
+        input: &mut Chars<'_>,
+    ) -> Result<(), DeJsonErr> {
+        let value = read_named(alloc, state, input)?;
+        *slots = Some(value);
+        Ok(())
+    }
+
+    #[tactic(auto, using(nano_schema_text::specs::DefaultsLaws::missing_is_meant, nano_schema_text::specs::DefaultsLaws::present_is_meant))]
+    fn values(slots: Option<T>, alloc: Global, state: &DeJsonState) -> Result<T, DeJsonErr> {
+        match slots {
+            Some(value) => Ok(value),
+            None => missing::<T, D>(alloc, state),
+        }
+    }
+
+    fn discard(_slots: Option<T>) {}
+
+    fn discard_values(_values: T) {}
+}
+
+impl<'a, N: Label, T: SerJson + 'a, D: JsonDefaultOf<T>> JsonRefs<'a> for Defaulted<N, T, D> {
+    type Values = T;
+
+    type Refs = &'a T;
+
+    ghost values = { λ r. r.now };
+
+    ghost codec = { default N.label T.json D.DefaultOf.missing };
+
+    fn append_fields(
+        refs: &&'a T,
+        alloc: Global,
+        first: bool,
+        d: usize,
+        s: &mut SerJsonState,
+    ) -> Result<bool, AllocError> {
+        append_field(alloc, N::text(), *refs, first, d, s)?;
+        Ok(false)
+    }
+}
