@@ -1,9 +1,10 @@
 //! One part between square brackets.
 
-ghost use Rattle.std.specs.Prelude.{◌∷◌, ◌++◌, [], OnOk, OnErr};
+ghost use Rattle.std.specs.Prelude.{◌∷◌, ◌++◌, [], OnOk, OnErr, IfErr};
 ghost use Rattle.nano_value.specs.AgreesLaws.{seen_agrees};
 ghost use Rattle.nano_text.specs.Outcomes.{Appends, AppendsPart};
 ghost use Rattle.nano_json.specs.Codec.{codec_as};
+ghost use Rattle.nano_json_tokens.specs.Outcomes.{Counts, IsPlacedAt};
 ghost use Rattle.nano_json.specs.Readers.{Decodes, Rejects};
 ghost use Rattle.nano_json.specs.State.{at};
 ghost use Rattle.nano_json.specs.TuplesLaws.{last_codec};
@@ -76,6 +77,8 @@ fn read_last<T: DeJson>(
         (at state.old input.old) (at state.new input.new) result }
     ensures rejected { Rejects (last_codec T.json).encoding.encodes
         (at state.old input.old) result }
+    ensures place { Counts state.old input.old state.new input.new }
+    ensures made { IfErr result (IsPlacedAt state.new) }
 {
     let last = T::de_json(alloc, state, input)?;
     state.eat_comma_block(alloc, input)?;
@@ -93,6 +96,8 @@ fn read_brackets<T: DeJson>(
         (at state.old input.old) (at state.new input.new) result }
     ensures rejected { Rejects (single_codec T.json).encoding.encodes
         (at state.old input.old) result }
+    ensures place { Counts state.old input.old state.new input.new }
+    ensures made { IfErr result (IsPlacedAt state.new) }
 {
     state.block_open(alloc, input)?;
     read_last(alloc, state, input)

@@ -1,9 +1,10 @@
 //! User-defined enums in JSON.
 
-ghost use Rattle.std.specs.Prelude.{◌≡◌, OnOk, OnErr};
+ghost use Rattle.std.specs.Prelude.{◌≡◌, OnOk, OnErr, IfErr};
 ghost use Rattle.nano_schema.specs.Views.{SeesAs};
 ghost use Rattle.nano_schema_text.specs.Variants.{EncodesVariant};
 ghost use Rattle.nano_text.specs.Outcomes.{Appends, Unchanged};
+ghost use Rattle.nano_json_tokens.specs.Outcomes.{Counts, IsPlacedAt};
 ghost use Rattle.nano_json.specs.Readers.{Decodes, Rejects};
 ghost use Rattle.nano_json.specs.State.{at, ended};
 ghost use Rattle.nano_schema_json.specs.VariantsLaws.{json_variants};
@@ -32,6 +33,8 @@ pub fn read_choice_json<E: Choice, V: JsonChoices<Values = E::Values>>(
     ensures rejected { Rejects (EncodesVariant json_variants V.codec.encodes)
         (at state.old input.old) result }
     ensures ended { OnErr result (at state.new input.new ≡ ended) }
+    ensures place { Counts state.old input.old state.new input.new }
+    ensures made { IfErr result (IsPlacedAt state.new) }
 {
     let name = read_variant_name(alloc, state, input)?;
     match V::read(&name, alloc, state, input) {

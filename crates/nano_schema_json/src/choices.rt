@@ -1,10 +1,11 @@
 //! The variants of an enum in JSON.
 
-ghost use Rattle.std.specs.Prelude.{◌≡◌, ℕ, suc, [], true, string_bytes, OnOk, OnErr};
+ghost use Rattle.std.specs.Prelude.{◌≡◌, ℕ, suc, [], true, string_bytes, OnOk, OnErr, IfErr};
 ghost use Rattle.std.specs.declared.str.Chars.{Chars};
 ghost use Rattle.nano_value.specs.Meaning.{Meaning};
 ghost use Rattle.nano_value.specs.Sums.{tagged};
 ghost use Rattle.nano_text.specs.Outcomes.{Appends, Unchanged};
+ghost use Rattle.nano_json_tokens.specs.Outcomes.{Counts, IsPlacedAt};
 ghost use Rattle.nano_json.specs.Readers.{Decodes, Rejects};
 ghost use Rattle.nano_json.specs.State.{at, ended};
 ghost use Rattle.nano_schema.specs.Choices.{either_is, either_map};
@@ -58,7 +59,9 @@ pub trait JsonChoices {
         ensures rejected { (from : ℕ) → Rejects (EncodesAfter json_variants from
             codec.encodes (is_alone name.now) (bytes_of name.now))
             (at state.old input.old) result }
-        ensures ended { OnErr result (at state.new input.new ≡ ended) };
+        ensures ended { OnErr result (at state.new input.new ≡ ended) }
+        ensures place { Counts state.old input.old state.new input.new }
+        ensures made { IfErr result (IsPlacedAt state.new) };
 }
 
 /// Variants that are written as JSON.

@@ -1,9 +1,10 @@
 //! What a variant holds, in JSON: nothing, one part between square brackets, or named fields between
 //! curly ones.
 
-ghost use Rattle.std.specs.Prelude.{◌≡◌, OnOk, OnErr};
+ghost use Rattle.std.specs.Prelude.{◌≡◌, OnOk, OnErr, IfErr};
 ghost use Rattle.nano_value.specs.Meaning.{Meaning, nothing};
 ghost use Rattle.nano_text.specs.Outcomes.{Appends, Unchanged};
+ghost use Rattle.nano_json_tokens.specs.Outcomes.{Counts, IsPlacedAt};
 ghost use Rattle.nano_json.specs.Readers.{Decodes, Rejects};
 ghost use Rattle.nano_json.specs.State.{at, ended};
 ghost use Rattle.nano_schema_text.specs.Choices.{Content, EncodesRest, stands_alone};
@@ -59,7 +60,9 @@ pub trait ReadContent {
             (at state.old input.old) (at state.new input.new) result }
         ensures rejected { Rejects (EncodesRest json_variants content.rest)
             (at state.old input.old) result }
-        ensures ended { OnErr result (at state.new input.new ≡ ended) };
+        ensures ended { OnErr result (at state.new input.new ≡ ended) }
+        ensures place { Counts state.old input.old state.new input.new }
+        ensures made { IfErr result (IsPlacedAt state.new) };
 }
 
 /// The content of a variant that is written as JSON.

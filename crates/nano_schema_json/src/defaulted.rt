@@ -3,6 +3,7 @@
 ghost use Rattle.std.specs.Prelude.{◌≡◌, IfOk, IfErr};
 ghost use Rattle.std.specs.Option.{option_map};
 ghost use Rattle.nano_schema_json.specs.FieldsLaws.{default};
+ghost use Rattle.nano_json_tokens.specs.Outcomes.{IsPlacedAt};
 ghost use Rattle.nano_json.specs.Readers.{Reports};
 ghost use Rattle.nano_schema_text.specs.Defaults.{HasEncoding};
 ghost use Rattle.nano_schema_text.specs.Slots.{Holds};
@@ -33,6 +34,7 @@ fn missing<T: DeJson, D: JsonDefaultOf<T>>(
     ensures encoded { IfOk result (λ value.
         HasEncoding T.json.encoding.encodes (T.json.canonical.means value)) }
     ensures memory { IfErr result (Reports ⊥) }
+    ensures made { IfErr result (IsPlacedAt state.now) }
 {
     match D::default(alloc) {
         Ok(value) => {

@@ -10,6 +10,7 @@ ghost use Rattle.nano_schema_text.specs.FieldCanonical.{field_text};
 ghost use Rattle.nano_schema_json.specs.FieldReading.{Field, EncodedField, DecodesField};
 ghost use Rattle.nano_schema_json.specs.FieldTexts.{in_a_row, none_yet};
 ghost use Rattle.nano_schema_json.specs.FieldsLaws.{json_fields};
+ghost use Rattle.nano_json_tokens.specs.Outcomes.{Counts, IsPlacedAt};
 ghost use Rattle.nano_json.specs.Readers.{Rejects, Reports};
 ghost use Rattle.nano_json.specs.State.{at, pending};
 ghost use Rattle.nano_json.specs.Token.{IsStr};
@@ -68,7 +69,9 @@ pub trait JsonFields {
             (holds slots.old) (holds slots.new)
             (at state.old input.old) (at state.new input.new)) }
         ensures rejected { Rejects (EncodedField codec.struct.shape.takes)
-            (at state.old input.old) result };
+            (at state.old input.old) result }
+        ensures place { Counts state.old input.old state.new input.new }
+        ensures made { IfErr result (IsPlacedAt state.new) };
 
     /// The values that the slots hold. It fails with `Key not found {name}` for the first field
     /// that must be there and is missing.
@@ -80,7 +83,8 @@ pub trait JsonFields {
         ensures all { IfOk result (λ values. (fs : List Field) → holds slots fs
             → codec.struct.shape.means fs (codec.canonical.means values)) }
         ensures missing { IfErr result (Reports ((fs : List Field) (m : Meaning)
-            → holds slots fs → codec.struct.shape.means fs m → ⊥)) };
+            → holds slots fs → codec.struct.shape.means fs m → ⊥)) }
+        ensures made { IfErr result (IsPlacedAt state.now) };
 
     /// Drops what was read.
     fn discard(slots: Self::Slots);

@@ -1,8 +1,9 @@
 //! A value after its name.
 
-ghost use Rattle.std.specs.Prelude.{string_bytes};
+ghost use Rattle.std.specs.Prelude.{string_bytes, IfErr};
 ghost use Rattle.nano_schema_text.specs.Fields.{EncodedNamed};
 ghost use Rattle.nano_schema_json.specs.FieldsLaws.{json_fields};
+ghost use Rattle.nano_json_tokens.specs.Outcomes.{Counts, IsPlacedAt};
 ghost use Rattle.nano_json.specs.Readers.{Decodes, Rejects};
 ghost use Rattle.nano_json.specs.State.{at, pending};
 ghost use Rattle.nano_json.specs.Token.{IsStr};
@@ -24,6 +25,8 @@ pub(crate) fn read_named<T: DeJson>(
     ensures rejected { Rejects
         (EncodedNamed json_fields (string_bytes state.old.strbuf) T.json.encoding.encodes)
         (at state.old input.old) result }
+    ensures place { Counts state.old input.old state.new input.new }
+    ensures made { IfErr result (IsPlacedAt state.new) }
 {
     state.next_colon(alloc, input)?;
     T::de_json(alloc, state, input)

@@ -1,10 +1,11 @@
 //! Named fields between curly brackets.
 
-ghost use Rattle.std.specs.Prelude.{◌≡◌, [], OnOk, OnErr};
+ghost use Rattle.std.specs.Prelude.{◌≡◌, [], OnOk, OnErr, IfErr};
 ghost use Rattle.nano_schema_json.specs.FieldReading.{Allowed, EncodedField, DecodesField};
 ghost use Rattle.nano_schema_json.specs.FieldReadingLaws.{fields_of};
 ghost use Rattle.nano_schema_json.specs.ListReading.{HeldIsRead, NothingHeldIsRead};
 ghost use Rattle.nano_schema_json.specs.Punctuation.{is_str};
+ghost use Rattle.nano_json_tokens.specs.Outcomes.{Counts, IsPlacedAt};
 ghost use Rattle.nano_json.specs.Readers.{Decodes, Rejects};
 ghost use Rattle.nano_json.specs.State.{at, ended, pending};
 ghost use Rattle.nano_json.specs.Token.{IsStr};
@@ -32,6 +33,8 @@ pub fn read_fields<F: JsonFields>(
         (at state.old input.old) (at state.new input.new) result }
     ensures rejected { Rejects (fields_of F.codec.struct).encodes (at state.old input.old) result }
     ensures ended { OnErr result (at state.new input.new ≡ ended) }
+    ensures place { Counts state.old input.old state.new input.new }
+    ensures made { IfErr result (IsPlacedAt state.new) }
 {
     let read = read_values::<F>(alloc, state, input);
     end_on_error(state, read)
@@ -46,6 +49,8 @@ fn read_values<F: JsonFields>(
     ensures decodes { Decodes (fields_of F.codec.struct).encodes F.codec.canonical.means
         (at state.old input.old) (at state.new input.new) result }
     ensures rejected { Rejects (fields_of F.codec.struct).encodes (at state.old input.old) result }
+    ensures place { Counts state.old input.old state.new input.new }
+    ensures made { IfErr result (IsPlacedAt state.new) }
 {
     let mut slots = F::empty();
     match read_list::<F>(&mut slots, alloc, state, input) {
@@ -71,6 +76,8 @@ fn read_list<F: JsonFields>(
     ensures nothing { OnOk result
         (NothingHeldIsRead F.codec.struct (F.holds slots.new) (at state.old input.old)) }
     ensures rejected { Rejects (fields_of F.codec.struct).encodes (at state.old input.old) result }
+    ensures place { Counts state.old input.old state.new input.new }
+    ensures made { IfErr result (IsPlacedAt state.new) }
 {
     state.curly_open(alloc, input)?;
     'fields: while is_name(state) {
@@ -95,6 +102,8 @@ fn read_any<F: JsonFields>(
         (at state.old input.old) (at state.new input.new)) }
     ensures rejected { Rejects (EncodedField (Allowed F.codec.struct.shape))
         (at state.old input.old) result }
+    ensures place { Counts state.old input.old state.new input.new }
+    ensures made { IfErr result (IsPlacedAt state.new) }
 {
     if F::knows(state.strbuf.as_str()) {
         return F::read_field(slots, alloc, state, input);

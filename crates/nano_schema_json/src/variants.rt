@@ -7,6 +7,7 @@ ghost use Rattle.nano_schema_json.specs.FieldReadingLaws.{fields_of};
 ghost use Rattle.nano_schema_json.specs.VariantReading.{Closed, name_tokens, NoVariantBegins};
 ghost use Rattle.nano_schema_json.specs.Variants.{alone, opened};
 ghost use Rattle.nano_json_tokens.specs.Outcomes.{Takes, NoneHere};
+ghost use Rattle.nano_json_tokens.specs.Outcomes.{Counts, IsPlacedAt};
 ghost use Rattle.nano_json.specs.Readers.{Decodes, Rejects, Reports};
 ghost use Rattle.nano_json.specs.State.{at, ended};
 ghost use Rattle.nano_json.specs.Token.{str, colon, curly_close};
@@ -41,6 +42,8 @@ pub fn read_variant_name(
         Takes (name_tokens name) state.old input.old state.new input.new) }
     ensures rejected { IfErr result (Reports (NoVariantBegins (at state.old input.old))) }
     ensures ended { OnErr result (at state.new input.new ≡ ended) }
+    ensures place { Counts state.old input.old state.new input.new }
+    ensures made { IfErr result (IsPlacedAt state.new) }
 {
     let read = read_name(alloc, state, input);
     end_on_error(state, read)
@@ -56,6 +59,8 @@ fn read_name(
     ensures taken { IfOk result (λ name.
         Takes (name_tokens name) state.old input.old state.new input.new) }
     ensures rejected { IfErr result (Reports (NoVariantBegins (at state.old input.old))) }
+    ensures place { Counts state.old input.old state.new input.new }
+    ensures made { IfErr result (IsPlacedAt state.new) }
 {
     match state.tok {
         DeJsonTok::Str => read_alone(alloc, state, input),
@@ -74,6 +79,8 @@ fn read_alone(
         Takes (name_tokens name) state.old input.old state.new input.new) }
     ensures rejected { IfErr result (Reports
         ((name : List ℕ) → NoneHere (alone name) state.old input.old)) }
+    ensures place { Counts state.old input.old state.new input.new }
+    ensures made { IfErr result (IsPlacedAt state.new) }
 {
     let name = state.as_string(alloc)?;
     state.next_tok(alloc, input)?;
@@ -90,6 +97,8 @@ fn read_opened(
         Takes (name_tokens name) state.old input.old state.new input.new) }
     ensures rejected { IfErr result (Reports
         ((name : List ℕ) → NoneHere (opened name) state.old input.old)) }
+    ensures place { Counts state.old input.old state.new input.new }
+    ensures made { IfErr result (IsPlacedAt state.new) }
 {
     state.curly_open(alloc, input)?;
     let name = read_key(alloc, state, input)?;
@@ -106,6 +115,8 @@ fn read_key(
         Takes (str (string_bytes name) ∷ colon ∷ []) state.old input.old state.new input.new) }
     ensures rejected { IfErr result (Reports
         ((name : List ℕ) → NoneHere (str name ∷ colon ∷ []) state.old input.old)) }
+    ensures place { Counts state.old input.old state.new input.new }
+    ensures made { IfErr result (IsPlacedAt state.new) }
 {
     if state.next_str().is_none() {
         return Err(state.err_token(alloc, "String"));
@@ -129,6 +140,8 @@ pub fn read_content<T: DeJson>(
         (at state.old input.old) (at state.new input.new) result }
     ensures rejected { Rejects (Closed T.json.encoding.encodes) (at state.old input.old) result }
     ensures ended { OnErr result (at state.new input.new ≡ ended) }
+    ensures place { Counts state.old input.old state.new input.new }
+    ensures made { IfErr result (IsPlacedAt state.new) }
 {
     let content = T::de_json(alloc, state, input)?;
     close_content(alloc, state, input)?;
@@ -150,6 +163,8 @@ pub fn read_fields_content<F: JsonFields>(
     ensures rejected { Rejects (Closed (fields_of F.codec.struct).encodes)
         (at state.old input.old) result }
     ensures ended { OnErr result (at state.new input.new ≡ ended) }
+    ensures place { Counts state.old input.old state.new input.new }
+    ensures made { IfErr result (IsPlacedAt state.new) }
 {
     let values = read_fields::<F>(alloc, state, input)?;
     match close_content(alloc, state, input) {
@@ -172,6 +187,8 @@ fn close_content(
         (Takes (curly_close ∷ []) state.old input.old state.new input.new) }
     ensures rejected { IfErr result (Reports (NoneHere (curly_close ∷ []) state.old input.old)) }
     ensures ended { OnErr result (at state.new input.new ≡ ended) }
+    ensures place { Counts state.old input.old state.new input.new }
+    ensures made { IfErr result (IsPlacedAt state.new) }
 {
     let closed = state.curly_close(alloc, input);
     end_on_error(state, closed)

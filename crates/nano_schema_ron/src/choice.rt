@@ -1,9 +1,10 @@
 //! User-defined enums in RON.
 
-ghost use Rattle.std.specs.Prelude.{◌≡◌, OnOk, OnErr};
+ghost use Rattle.std.specs.Prelude.{◌≡◌, OnOk, OnErr, IfErr};
 ghost use Rattle.nano_schema.specs.Views.{SeesAs};
 ghost use Rattle.nano_schema_text.specs.Variants.{EncodesVariant};
 ghost use Rattle.nano_text.specs.Outcomes.{Appends, Unchanged};
+ghost use Rattle.nano_ron_tokens.specs.Outcomes.{Counts, IsPlacedAt};
 ghost use Rattle.nano_ron.specs.Readers.{Decodes, Rejects};
 ghost use Rattle.nano_ron.specs.State.{at, ended};
 ghost use Rattle.nano_schema_ron.specs.VariantsLaws.{ron_variants};
@@ -32,6 +33,8 @@ pub fn read_choice_ron<E: Choice, V: RonChoices<Values = E::Values>>(
     ensures rejected { Rejects (EncodesVariant ron_variants V.codec.encodes)
         (at state.old input.old) result }
     ensures ended { OnErr result (at state.new input.new ≡ ended) }
+    ensures place { Counts state.old input.old state.new input.new }
+    ensures made { IfErr result (IsPlacedAt state.new) }
 {
     let name = read_variant_name(alloc, state, input)?;
     let alone = V::stands_alone(name.as_str());

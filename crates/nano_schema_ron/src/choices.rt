@@ -1,9 +1,10 @@
 //! The variants of an enum in RON.
 
-ghost use Rattle.std.specs.Prelude.{◌≡◌, ℕ, suc, OnOk, OnErr};
+ghost use Rattle.std.specs.Prelude.{◌≡◌, ℕ, suc, OnOk, OnErr, IfErr};
 ghost use Rattle.nano_value.specs.Meaning.{Meaning};
 ghost use Rattle.nano_value.specs.Sums.{tagged};
 ghost use Rattle.nano_text.specs.Outcomes.{Appends, Unchanged};
+ghost use Rattle.nano_ron_tokens.specs.Outcomes.{Counts, IsPlacedAt};
 ghost use Rattle.nano_ron.specs.Readers.{Decodes, Rejects};
 ghost use Rattle.nano_ron.specs.State.{at, ended};
 ghost use Rattle.nano_schema.specs.Choices.{either_is, either_map};
@@ -62,7 +63,9 @@ pub trait RonChoices {
             (means from) (at state.old input.old) (at state.new input.new) result }
         ensures rejected { (from : ℕ) → Rejects (EncodesAfter ron_variants from
             codec.encodes alone name.now) (at state.old input.old) result }
-        ensures ended { OnErr result (at state.new input.new ≡ ended) };
+        ensures ended { OnErr result (at state.new input.new ≡ ended) }
+        ensures place { Counts state.old input.old state.new input.new }
+        ensures made { IfErr result (IsPlacedAt state.new) };
 }
 
 /// Variants that are written as RON.

@@ -1,8 +1,9 @@
 //! What a variant holds, in RON: nothing, parts between parentheses, or named fields between them.
 
-ghost use Rattle.std.specs.Prelude.{◌≡◌, OnOk, OnErr};
+ghost use Rattle.std.specs.Prelude.{◌≡◌, OnOk, OnErr, IfErr};
 ghost use Rattle.nano_value.specs.Meaning.{Meaning, nothing};
 ghost use Rattle.nano_text.specs.Outcomes.{Appends, Unchanged};
+ghost use Rattle.nano_ron_tokens.specs.Outcomes.{Counts, IsPlacedAt};
 ghost use Rattle.nano_ron.specs.Readers.{Decodes, Rejects};
 ghost use Rattle.nano_ron.specs.State.{at, ended};
 ghost use Rattle.nano_schema_text.specs.Choices.{Content, EncodesRest, stands_alone};
@@ -55,7 +56,9 @@ pub trait ReadContent {
             (at state.old input.old) (at state.new input.new) result }
         ensures rejected { Rejects (EncodesRest ron_variants content.rest)
             (at state.old input.old) result }
-        ensures ended { OnErr result (at state.new input.new ≡ ended) };
+        ensures ended { OnErr result (at state.new input.new ≡ ended) }
+        ensures place { Counts state.old input.old state.new input.new }
+        ensures made { IfErr result (IsPlacedAt state.new) };
 }
 
 /// The content of a variant that is written as RON.
@@ -193,6 +196,8 @@ fn read_named_fields<F: RonFields>(
     ensures rejected { Rejects (EncodesRest ron_variants (fields_content F.codec).rest)
         (at state.old input.old) result }
     ensures ended { OnErr result (at state.new input.new ≡ ended) }
+    ensures place { Counts state.old input.old state.new input.new }
+    ensures made { IfErr result (IsPlacedAt state.new) }
 {
     read_fields::<F>(alloc, state, input)
 }

@@ -10,6 +10,7 @@ ghost use Rattle.nano_schema_text.specs.FieldCanonical.{field_text};
 ghost use Rattle.nano_schema_ron.specs.FieldReading.{Field, EncodedField, DecodesField};
 ghost use Rattle.nano_schema_ron.specs.FieldTexts.{on_lines};
 ghost use Rattle.nano_schema_ron.specs.FieldsLaws.{ron_fields};
+ghost use Rattle.nano_ron_tokens.specs.Outcomes.{Counts, IsPlacedAt};
 ghost use Rattle.nano_ron.specs.Readers.{Rejects, Reports};
 ghost use Rattle.nano_ron.specs.State.{at, pending};
 ghost use Rattle.nano_ron.specs.Token.{IsIdent};
@@ -68,7 +69,9 @@ pub trait RonFields {
             (holds slots.old) (holds slots.new)
             (at state.old input.old) (at state.new input.new)) }
         ensures rejected { Rejects (EncodedField codec.struct.shape.takes)
-            (at state.old input.old) result };
+            (at state.old input.old) result }
+        ensures place { Counts state.old input.old state.new input.new }
+        ensures made { IfErr result (IsPlacedAt state.new) };
 
     /// The values that the slots hold. It fails with `Key not found {name}` for the first field
     /// that must be there and is missing.
@@ -80,7 +83,8 @@ pub trait RonFields {
         ensures all { IfOk result (λ values. (fs : List Field) → holds slots fs
             → codec.struct.shape.means fs (codec.canonical.means values)) }
         ensures missing { IfErr result (Reports ((fs : List Field) (m : Meaning)
-            → holds slots fs → codec.struct.shape.means fs m → ⊥)) };
+            → holds slots fs → codec.struct.shape.means fs m → ⊥)) }
+        ensures made { IfErr result (IsPlacedAt state.now) };
 
     /// Drops what was read.
     fn discard(slots: Self::Slots);

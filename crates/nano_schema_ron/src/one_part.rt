@@ -1,8 +1,9 @@
 //! One part without a name between parentheses, as the content of a variant.
 
-ghost use Rattle.std.specs.Prelude.{◌≡◌, OnOk, OnErr, refl};
+ghost use Rattle.std.specs.Prelude.{◌≡◌, OnOk, OnErr, refl, IfErr};
 ghost use Rattle.nano_text.specs.Outcomes.{Appends, AppendsPart, Unchanged};
 ghost use Rattle.nano_schema_text.specs.Variants.{Closed};
+ghost use Rattle.nano_ron_tokens.specs.Outcomes.{Counts, IsPlacedAt};
 ghost use Rattle.nano_ron.specs.Readers.{Decodes, Rejects};
 ghost use Rattle.nano_ron.specs.State.{at, ended};
 ghost use Rattle.nano_ron.specs.TuplesLaws.{last_codec};
@@ -75,6 +76,8 @@ fn read_one<T: DeRon>(
     ensures rejected { Rejects (Closed ron_variants (single_codec T.ron).encoding.encodes)
         (at state.old input.old) result }
     ensures ended { OnErr result (at state.new input.new ≡ ended) }
+    ensures place { Counts state.old input.old state.new input.new }
+    ensures made { IfErr result (IsPlacedAt state.new) }
 {
     let read = read_single(alloc, state, input);
     end_on_error(state, read)
@@ -90,6 +93,8 @@ fn read_single<T: DeRon>(
         (at state.old input.old) (at state.new input.new) result }
     ensures rejected { Rejects (single_codec T.ron).encoding.encodes
         (at state.old input.old) result }
+    ensures place { Counts state.old input.old state.new input.new }
+    ensures made { IfErr result (IsPlacedAt state.new) }
 {
     state.paren_open(alloc, input)?;
     read_closed(alloc, state, input)
@@ -106,6 +111,8 @@ fn read_closed<T: DeRon>(
         (at state.old input.old) (at state.new input.new) result }
     ensures rejected { Rejects (last_codec T.ron).encoding.encodes
         (at state.old input.old) result }
+    ensures place { Counts state.old input.old state.new input.new }
+    ensures made { IfErr result (IsPlacedAt state.new) }
 {
     let last = T::de_ron(alloc, state, input)?;
     state.eat_comma_paren(alloc, input)?;

@@ -1,10 +1,11 @@
 //! Named fields between parentheses.
 
-ghost use Rattle.std.specs.Prelude.{◌≡◌, [], OnOk, OnErr};
+ghost use Rattle.std.specs.Prelude.{◌≡◌, [], OnOk, OnErr, IfErr};
 ghost use Rattle.nano_schema_ron.specs.FieldReading.{Allowed, EncodedField, DecodesField};
 ghost use Rattle.nano_schema_ron.specs.FieldReadingLaws.{fields_of};
 ghost use Rattle.nano_schema_ron.specs.ListReading.{HeldIsRead, NothingHeldIsRead};
 ghost use Rattle.nano_schema_ron.specs.Punctuation.{is_ident};
+ghost use Rattle.nano_ron_tokens.specs.Outcomes.{Counts, IsPlacedAt};
 ghost use Rattle.nano_ron.specs.Readers.{Decodes, Rejects};
 ghost use Rattle.nano_ron.specs.State.{at, ended, pending};
 ghost use Rattle.nano_ron.specs.Token.{IsIdent};
@@ -33,6 +34,8 @@ pub fn read_fields<F: RonFields>(
     ensures rejected { Rejects (fields_of F.codec.struct).encodes
         (at state.old input.old) result }
     ensures ended { OnErr result (at state.new input.new ≡ ended) }
+    ensures place { Counts state.old input.old state.new input.new }
+    ensures made { IfErr result (IsPlacedAt state.new) }
 {
     let read = read_values::<F>(alloc, state, input);
     end_on_error(state, read)
@@ -47,6 +50,8 @@ fn read_values<F: RonFields>(
     ensures decodes { Decodes (fields_of F.codec.struct).encodes F.codec.canonical.means
         (at state.old input.old) (at state.new input.new) result }
     ensures rejected { Rejects (fields_of F.codec.struct).encodes (at state.old input.old) result }
+    ensures place { Counts state.old input.old state.new input.new }
+    ensures made { IfErr result (IsPlacedAt state.new) }
 {
     let mut slots = F::empty();
     match read_list::<F>(&mut slots, alloc, state, input) {
@@ -72,6 +77,8 @@ fn read_list<F: RonFields>(
     ensures nothing { OnOk result
         (NothingHeldIsRead F.codec.struct (F.holds slots.new) (at state.old input.old)) }
     ensures rejected { Rejects (fields_of F.codec.struct).encodes (at state.old input.old) result }
+    ensures place { Counts state.old input.old state.new input.new }
+    ensures made { IfErr result (IsPlacedAt state.new) }
 {
     state.paren_open(alloc, input)?;
     'fields: while is_name(state) {
@@ -97,6 +104,8 @@ fn read_any<F: RonFields>(
     ensures rejected { Rejects
         (EncodedField (Allowed F.codec.struct.shape))
         (at state.old input.old) result }
+    ensures place { Counts state.old input.old state.new input.new }
+    ensures made { IfErr result (IsPlacedAt state.new) }
 {
     if F::knows(state.identbuf.as_str()) {
         return F::read_field(slots, alloc, state, input);

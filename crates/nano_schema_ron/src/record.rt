@@ -1,7 +1,8 @@
 //! User-defined structs in RON.
 
-ghost use Rattle.std.specs.Prelude.{◌≡◌, OnOk, OnErr};
+ghost use Rattle.std.specs.Prelude.{◌≡◌, OnOk, OnErr, IfErr};
 ghost use Rattle.nano_text.specs.Outcomes.{Appends, Unchanged};
+ghost use Rattle.nano_ron_tokens.specs.Outcomes.{Counts, IsPlacedAt};
 ghost use Rattle.nano_ron.specs.Readers.{Decodes, Rejects};
 ghost use Rattle.nano_ron.specs.State.{at, ended};
 ghost use Rattle.nano_schema.specs.Views.{SeesAs};
@@ -31,6 +32,8 @@ pub fn read_record_ron<R: Record, F: RonFields<Values = R::Values>>(
         (at state.old input.old) (at state.new input.new) result }
     ensures rejected { Rejects (fields_of F.codec.struct).encodes (at state.old input.old) result }
     ensures ended { OnErr result (at state.new input.new ≡ ended) }
+    ensures place { Counts state.old input.old state.new input.new }
+    ensures made { IfErr result (IsPlacedAt state.new) }
 {
     match read_fields::<F>(alloc, state, input) {
         Ok(values) => Ok(R::make(values)),

@@ -1,8 +1,9 @@
 //! Two, three or four parts without names, as the content of a variant.
 
-ghost use Rattle.std.specs.Prelude.{◌≡◌, OnOk, OnErr, refl};
+ghost use Rattle.std.specs.Prelude.{◌≡◌, OnOk, OnErr, refl, IfErr};
 ghost use Rattle.nano_text.specs.Outcomes.{Appends, Unchanged};
 ghost use Rattle.nano_schema_text.specs.Variants.{Closed};
+ghost use Rattle.nano_ron_tokens.specs.Outcomes.{Counts, IsPlacedAt};
 ghost use Rattle.nano_ron.specs.Readers.{Decodes, Rejects};
 ghost use Rattle.nano_ron.specs.State.{at, ended};
 ghost use Rattle.nano_ron.specs.TuplesLaws.{pair_codec, triple_codec, quadruple_codec};
@@ -29,6 +30,8 @@ fn read_content<T: DeRon>(
     ensures rejected { Rejects (Closed ron_variants T.ron.encoding.encodes)
         (at state.old input.old) result }
     ensures ended { OnErr result (at state.new input.new ≡ ended) }
+    ensures place { Counts state.old input.old state.new input.new }
+    ensures made { IfErr result (IsPlacedAt state.new) }
 {
     T::de_ron(alloc, state, input)
 }

@@ -4,6 +4,7 @@ ghost use Rattle.std.specs.Prelude.{◌≡◌, ◌++◌, ◌∷◌, [], ℕ, Lis
 ghost use Rattle.std.specs.Prelude.{string_bytes, codes};
 ghost use Rattle.std.specs.declared.str.Chars.{Chars};
 ghost use Rattle.nano_ron_tokens.specs.Outcomes.{Takes, NoneHere};
+ghost use Rattle.nano_ron_tokens.specs.Outcomes.{Counts, IsPlacedAt};
 ghost use Rattle.nano_ron.specs.Readers.{Reports};
 ghost use Rattle.nano_ron.specs.State.{at, ended, pending};
 ghost use Rattle.nano_ron.specs.Token.{ident, IsIdent};
@@ -28,6 +29,8 @@ pub fn read_variant_name(
     ensures rejected { IfErr result (Reports
         ((name : List ℕ) → NoneHere (ident name ∷ []) state.old input.old)) }
     ensures ended { OnErr result (at state.new input.new ≡ ended) }
+    ensures place { Counts state.old input.old state.new input.new }
+    ensures made { IfErr result (IsPlacedAt state.new) }
 {
     let read = read_name(alloc, state, input);
     end_on_error(state, read)
@@ -43,6 +46,8 @@ fn read_name(
         Takes (ident (string_bytes name) ∷ []) state.old input.old state.new input.new) }
     ensures rejected { IfErr result (Reports
         ((name : List ℕ) → NoneHere (ident name ∷ []) state.old input.old)) }
+    ensures place { Counts state.old input.old state.new input.new }
+    ensures made { IfErr result (IsPlacedAt state.new) }
 {
     let name = pending_word(alloc, state)?;
     state.next_tok(alloc, input)?;
@@ -53,6 +58,7 @@ fn read_name(
 fn pending_word(alloc: Global, state: &DeRonState) -> Result<String, DeRonErr>
     ensures word { IfOk result (λ name. pending state.now ≡ ident (string_bytes name)) }
     ensures rejected { IfErr result (Reports (¬ IsIdent (pending state.now))) }
+    ensures made { IfErr result (IsPlacedAt state.now) }
 {
     match state.tok {
         DeRonTok::Ident => copied_word(alloc, state),
@@ -64,6 +70,7 @@ fn pending_word(alloc: Global, state: &DeRonState) -> Result<String, DeRonErr>
 fn copied_word(alloc: Global, state: &DeRonState) -> Result<String, DeRonErr>
     ensures word { IfOk result (λ name. string_bytes name ≡ string_bytes state.now.identbuf) }
     ensures rejected { IfErr result (λ e. (e.memory ≡ true) × (string_bytes e.msg ≡ [])) }
+    ensures made { IfErr result (IsPlacedAt state.now) }
 {
     match String::from_str(alloc, state.identbuf.as_str()) {
         Ok(name) => Ok(name),
