@@ -38,7 +38,7 @@ returns-in_err-colon-clause-place g c =
 pub returns-in_err-colon-clause-made : goal.returns-in_err-colon-clause-made
 returns-in_err-colon-clause-made g c =
     let p = err_from_is_err_and c.from_residual-in_err-colon.result c.from_residual-in_err-colon.ensures.1 in
-    rw (p.1, p.2) c.in_err-colon.ensures.rejected.1.1
+    rw (p.1, p.2) (c.in_err-colon.ensures.rejected.1.1, c.in_err-colon.ensures.rejected.1.2)
 
 pub returns-in_err-value-clause-place : goal.returns-in_err-value-clause-place
 returns-in_err-value-clause-place g c =

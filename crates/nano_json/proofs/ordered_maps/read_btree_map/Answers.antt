@@ -74,7 +74,7 @@ returns-clause-decodes g c =
 pub returns-in_err-curly_open-clause-made : goal.returns-in_err-curly_open-clause-made
 returns-in_err-curly_open-clause-made g c =
     let p = err_from_is_err_and c.from_residual.result c.from_residual.ensures.1 in
-    rw (p.1, p.2) c.in_err-curly_open.ensures.rejected.1.1
+    rw (p.1, p.2) (c.in_err-curly_open.ensures.rejected.1.1, c.in_err-curly_open.ensures.rejected.1.2)
 
 pub returns-in_err-key-clause-place : goal.returns-in_err-key-clause-place
 returns-in_err-key-clause-place g c = advances_append c.entries.invariant.place c.in_err-key.ensures.place
@@ -91,7 +91,7 @@ returns-in_err-eat_comma_curly-clause-place g c =
 pub returns-in_err-eat_comma_curly-clause-made : goal.returns-in_err-eat_comma_curly-clause-made
 returns-in_err-eat_comma_curly-clause-made g c =
     let p = err_from_is_err_and c.from_residual-in_err-eat_comma_curly.result c.from_residual-in_err-eat_comma_curly.ensures.1 in
-    rw (p.1, p.2) c.in_err-eat_comma_curly.ensures.rejected.1.1
+    rw (p.1, p.2) (c.in_err-eat_comma_curly.ensures.rejected.1.1, c.in_err-eat_comma_curly.ensures.rejected.1.2)
 
 pub returns-in_err-curly_close-clause-place : goal.returns-in_err-curly_close-clause-place
 returns-in_err-curly_close-clause-place g c =
@@ -100,7 +100,7 @@ returns-in_err-curly_close-clause-place g c =
 pub returns-in_err-curly_close-clause-made : goal.returns-in_err-curly_close-clause-made
 returns-in_err-curly_close-clause-made g c =
     let p = err_from_is_err_and c.from_residual-in_err-curly_close.result c.from_residual-in_err-curly_close.ensures.1 in
-    rw (p.1, p.2) c.in_err-curly_close.ensures.rejected.1.1
+    rw (p.1, p.2) (c.in_err-curly_close.ensures.rejected.1.1, c.in_err-curly_close.ensures.rejected.1.2)
 
 pub returns-clause-place : goal.returns-clause-place
 returns-clause-place g c =

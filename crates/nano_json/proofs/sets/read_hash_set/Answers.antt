@@ -74,7 +74,7 @@ returns-in_err-block_close-clause-rejected g c =
 pub returns-in_err-block_open-clause-made : goal.returns-in_err-block_open-clause-made
 returns-in_err-block_open-clause-made g c =
     let p = err_from_is_err_and c.from_residual.result c.from_residual.ensures.1 in
-    rw (p.1, p.2) c.in_err-block_open.ensures.rejected.1.1
+    rw (p.1, p.2) (c.in_err-block_open.ensures.rejected.1.1, c.in_err-block_open.ensures.rejected.1.2)
 
 pub returns-in_err-item-clause-place : goal.returns-in_err-item-clause-place
 returns-in_err-item-clause-place g c = advances_append c.items.invariant.place c.in_err-item.ensures.place
@@ -91,7 +91,7 @@ returns-in_err-eat_comma_block-clause-place g c =
 pub returns-in_err-eat_comma_block-clause-made : goal.returns-in_err-eat_comma_block-clause-made
 returns-in_err-eat_comma_block-clause-made g c =
     let p = err_from_is_err_and c.from_residual-in_err-eat_comma_block.result c.from_residual-in_err-eat_comma_block.ensures.1 in
-    rw (p.1, p.2) c.in_err-eat_comma_block.ensures.rejected.1.1
+    rw (p.1, p.2) (c.in_err-eat_comma_block.ensures.rejected.1.1, c.in_err-eat_comma_block.ensures.rejected.1.2)
 
 pub returns-in_err-block_close-clause-place : goal.returns-in_err-block_close-clause-place
 returns-in_err-block_close-clause-place g c =
@@ -100,7 +100,7 @@ returns-in_err-block_close-clause-place g c =
 pub returns-in_err-block_close-clause-made : goal.returns-in_err-block_close-clause-made
 returns-in_err-block_close-clause-made g c =
     let p = err_from_is_err_and c.from_residual-in_err-block_close.result c.from_residual-in_err-block_close.ensures.1 in
-    rw (p.1, p.2) c.in_err-block_close.ensures.rejected.1.1
+    rw (p.1, p.2) (c.in_err-block_close.ensures.rejected.1.1, c.in_err-block_close.ensures.rejected.1.2)
 
 pub returns-clause-place : goal.returns-clause-place
 returns-clause-place g c =

@@ -1,4 +1,4 @@
-use Rattle.std.proofs.Common.{rules, ◌≡◌, sym, subst, ◌<◌, ℕ, List, length, string_bytes, false}
+use Rattle.std.proofs.Common.{rules, ◌≡◌, sym, subst, ◌<◌, ℕ, List, length, string_bytes, false, ◌∙◌, ap}
 use Rattle.std.proofs.lemmas.Bool.{false≢true}
 use Rattle.std.proofs.lemmas.Result.{err_from_is_err_and}
 use Rattle.std.proofs.lemmas.Str.{IsUtf8-string_bytes}
@@ -10,10 +10,13 @@ use Rattle.nano_json_tokens.specs.Cut.{Cut}
 use Rattle.nano_json_tokens.specs.JsonLaws.{json}
 use Rattle.nano_json_tokens.specs.ScalarsLaws.{text_tokens}
 use Rattle.nano_json_tokens.specs.Outcomes.{NothingCut}
-use Rattle.nano_json_tokens.specs.State.{at, pending}
+use Rattle.nano_json_tokens.specs.State.{at, pending, place_of}
 use Rattle.nano_json_tokens.specs.Token.{Token, str, IsStr}
-use Rattle.nano_json_tokens.specs.declared.state.DeJsonState.{DeJsonState}
+use Rattle.nano_text.specs.Place.{Advances}
 use Rattle.nano_text.specs.PlaceLaws.{advances_none}
+use Rattle.nano_text.specs.declared.place.Place.{Place}
+use Rattle.nano_json_tokens.specs.Outcomes.{Counts}
+use Rattle.nano_json_tokens.specs.declared.state.DeJsonState.{DeJsonState}
 use Rattle.nano_json.proofs.texts.read_string.Goals as goal
 
 a_string : (t : Token) (bytes : List ℕ) → t ≡ str bytes → IsStr t
@@ -45,14 +48,29 @@ returns-in_err-next_tok-clause-rejected c =
     rw (p.1, p.2) (λ known. image_rejected json text start (one_uncut json text_tokens.carries IsText start (λ next. uncut known next.token next.text)), r.1.0)
 
 pub returns-in_err-text-clause-place : goal.returns-in_err-text-clause-place
-returns-in_err-text-clause-place c = advances_none _ _
+returns-in_err-text-clause-place c =
+    subst (λ (s : DeJsonState). Counts c.args.state.now c.args.input.now s c.args.input.now)
+    (sym c.in_err-text.ensures.unchanged) (advances_none _ _)
 
 pub returns-in_err-text-clause-made : goal.returns-in_err-text-clause-made
 returns-in_err-text-clause-made c =
     let p = err_from_is_err_and c.from_residual.result c.from_residual.ensures.1 in
-    rw (p.1, p.2) c.in_err-text.ensures.made.1
+    let same = sym c.in_err-text.ensures.unchanged in
+    let made = c.in_err-text.ensures.made in
+    rw (p.1, p.2) (made.1 ∙ ap (λ (s : DeJsonState). s.line) same, made.2 ∙ ap (λ (s : DeJsonState). s.col) same)
+
+pub returns-in_err-next_tok-clause-place : goal.returns-in_err-next_tok-clause-place
+returns-in_err-next_tok-clause-place c =
+    subst (λ (p : Place). Advances p c.args.input.now (place_of c.next_tok.new.self) c.next_tok.new.i)
+    (ap place_of c.in_ok-text.ensures.emptied.1) c.in_err-next_tok.ensures.place
 
 pub returns-in_err-next_tok-clause-made : goal.returns-in_err-next_tok-clause-made
 returns-in_err-next_tok-clause-made c =
     let p = err_from_is_err_and c.from_residual-in_err-next_tok.result c.from_residual-in_err-next_tok.ensures.1 in
-    rw (p.1, p.2) c.in_err-next_tok.ensures.rejected.1.1
+    let r = c.in_err-next_tok.ensures.rejected in
+    rw (p.1, p.2) (r.1.1, r.1.2)
+
+pub returns-clause-place : goal.returns-clause-place
+returns-clause-place c =
+    subst (λ (p : Place). Advances p c.args.input.now (place_of c.next_tok.new.self) c.next_tok.new.i)
+    (ap place_of c.in_ok-text.ensures.emptied.1) c.in_ok-next_tok.ensures.place

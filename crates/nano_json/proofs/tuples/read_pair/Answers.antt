@@ -32,7 +32,7 @@ returns-clause-rejected g c =
 pub returns-in_err-block_open-clause-made : goal.returns-in_err-block_open-clause-made
 returns-in_err-block_open-clause-made g c =
     let p = err_from_is_err_and c.from_residual.result c.from_residual.ensures.1 in
-    rw (p.1, p.2) c.in_err-block_open.ensures.rejected.1.1
+    rw (p.1, p.2) (c.in_err-block_open.ensures.rejected.1.1, c.in_err-block_open.ensures.rejected.1.2)
 
 pub returns-clause-place : goal.returns-clause-place
 returns-clause-place g c =

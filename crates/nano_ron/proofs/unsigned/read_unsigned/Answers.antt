@@ -46,9 +46,9 @@ returns-in_err-number-clause-place g c = advances_none _ _
 pub returns-in_err-number-clause-made : goal.returns-in_err-number-clause-made
 returns-in_err-number-clause-made g c =
     let p = err_from_is_err_and c.from_residual.result c.from_residual.ensures.1 in
-    rw (p.1, p.2) c.in_err-number.ensures.made.1
+    rw (p.1, p.2) (c.in_err-number.ensures.made.1, c.in_err-number.ensures.made.2)
 
 pub returns-in_err-next_tok-clause-made : goal.returns-in_err-next_tok-clause-made
 returns-in_err-next_tok-clause-made g c =
     let p = err_from_is_err_and c.from_residual-in_err-next_tok.result c.from_residual-in_err-next_tok.ensures.1 in
-    rw (p.1, p.2) c.in_err-next_tok.ensures.rejected.1.1
+    rw (p.1, p.2) (c.in_err-next_tok.ensures.rejected.1.1, c.in_err-next_tok.ensures.rejected.1.2)

@@ -44,5 +44,5 @@ returns-clause-place g c =
 pub returns-in_err-next_tok-clause-place : goal.returns-in_err-next_tok-clause-place
 returns-in_err-next_tok-clause-place g c =
     let p = err_from_is_err_and c.from_residual.result c.from_residual.ensures.1 in
-    let made = c.in_err-next_tok.ensures.rejected.1.1 in
-    rw (p.1, p.2) (stands_in (ap chars c.chars-chars.ensures.rest) c.new-state.ensures.line c.new-state.ensures.col c.next.ensures.passes c.next.ensures.held c.next.ensures.rest c.in_err-next_tok.ensures.place made.0 made.1)
+    let made = c.in_err-next_tok.ensures.rejected.1 in
+    rw (p.1, p.2) (stands_in (ap chars c.chars-chars.ensures.rest) c.new-state.ensures.line c.new-state.ensures.col c.next.ensures.passes c.next.ensures.held c.next.ensures.rest c.in_err-next_tok.ensures.place made.1 made.2)

@@ -116,9 +116,9 @@ returns-in_err-expect_end-in-Ok-clause-trailing g c =
 
 pub returns-in-Err-clause-place : goal.returns-in-Err-clause-place
 returns-in-Err-clause-place g c =
-    let made = c.in-Err.ensures.rejected.1.1 in
+    let made = c.in-Err.ensures.rejected.1 in
     let same = c.as_value_error.ensures.place in
-    stands_in (ap chars c.chars-characters.ensures.rest) c.new-state.ensures.line c.new-state.ensures.col c.next.ensures.passes c.next.ensures.held c.next.ensures.rest c.in-Err.ensures.place (same.0 ∙ made.0) (same.1 ∙ made.1)
+    stands_in (ap chars c.chars-characters.ensures.rest) c.new-state.ensures.line c.new-state.ensures.col c.next.ensures.passes c.next.ensures.held c.next.ensures.rest c.in-Err.ensures.place (same.0 ∙ made.1) (same.1 ∙ made.2)
 
 pub returns-clause-place : goal.returns-clause-place
 returns-clause-place g c =
@@ -130,6 +130,6 @@ returns-clause-place g c =
 pub returns-in_err-expect_end-in-Ok-clause-place : goal.returns-in_err-expect_end-in-Ok-clause-place
 returns-in_err-expect_end-in-Ok-clause-place g c =
     let p = err_from_is_err_and c.from_residual.result c.from_residual.ensures.1 in
-    let made = c.in_err-expect_end-in-Ok.ensures.says.1.1 in
+    let made = c.in_err-expect_end-in-Ok.ensures.says.1 in
     let whole = advances_append c.in_default.ensures.place c.in-Ok.ensures.place in
-    rw (p.1, p.2) (stands_in (ap chars c.chars-characters.ensures.rest) c.new-state.ensures.line c.new-state.ensures.col c.next.ensures.passes c.next.ensures.held c.next.ensures.rest whole made.0 made.1)
+    rw (p.1, p.2) (stands_in (ap chars c.chars-characters.ensures.rest) c.new-state.ensures.line c.new-state.ensures.col c.next.ensures.passes c.next.ensures.held c.next.ensures.rest whole made.1 made.2)
