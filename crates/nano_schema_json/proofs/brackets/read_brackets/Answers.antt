@@ -5,6 +5,7 @@ use Rattle.nano_json_tokens.specs.JsonLaws.{block_brackets}
 use Rattle.nano_json_tokens.specs.State.{at}
 use Rattle.nano_json.specs.TuplesLaws.{last_codec}
 use Rattle.nano_json.proofs.Json.{json_laws}
+use Rattle.nano_text.specs.PlaceLaws.{advances_append}
 use Rattle.nano_schema_json.proofs.brackets.read_brackets.Goals as goal
 
 pub returns-in_err-block_open-clause-rejected : goal.returns-in_err-block_open-clause-rejected
@@ -26,3 +27,12 @@ returns-clause-rejected g c =
     let start = at c.args.state.now c.args.input.now in
     let inside = at c.block_open.new.self c.block_open.new.i in
     IfErr-weaker c.read_last.result _ _ (λ e h. (λ known. parts_rejected json_laws blocks block_brackets (last_codec g.T.JsonCodec.json).encoding start inside c.in_ok-block_open.ensures.taken (h.0 known), h.1)) c.read_last.ensures.rejected
+
+pub returns-in_err-block_open-clause-made : goal.returns-in_err-block_open-clause-made
+returns-in_err-block_open-clause-made g c =
+    let p = err_from_is_err_and c.from_residual.result c.from_residual.ensures.1 in
+    rw (p.1, p.2) (c.in_err-block_open.ensures.rejected.1.1, c.in_err-block_open.ensures.rejected.1.2)
+
+pub returns-clause-place : goal.returns-clause-place
+returns-clause-place g c =
+    advances_append c.in_ok-block_open.ensures.place c.read_last.ensures.place

@@ -5,6 +5,7 @@ use Rattle.nano_json_tokens.specs.State.{at}
 use Rattle.nano_json.proofs.Json.{json_laws}
 use Rattle.nano_schema_json.specs.FieldsLaws.{json_fields}
 use Rattle.nano_schema_json.proofs.Pending.{pending_name}
+use Rattle.nano_text.specs.PlaceLaws.{advances_append}
 use Rattle.nano_schema_json.proofs.named.read_named.Goals as goal
 
 pub returns-in_err-next_colon-clause-rejected : goal.returns-in_err-next_colon-clause-rejected
@@ -37,3 +38,12 @@ returns-clause-rejected g c =
     g.T.JsonCodec.json.encoding.encodes start following c.in_ok-next_colon.ensures.taken in
     IfErr-weaker c.de_json.result _ _ (λ e reported. (λ known. none (reported.0 known), reported.1))
     c.de_json.ensures.rejected
+
+pub returns-in_err-next_colon-clause-made : goal.returns-in_err-next_colon-clause-made
+returns-in_err-next_colon-clause-made g c =
+    let p = err_from_is_err_and c.from_residual.result c.from_residual.ensures.1 in
+    rw (p.1, p.2) (c.in_err-next_colon.ensures.rejected.1.1, c.in_err-next_colon.ensures.rejected.1.2)
+
+pub returns-clause-place : goal.returns-clause-place
+returns-clause-place g c =
+    advances_append c.in_ok-next_colon.ensures.place c.de_json.ensures.place

@@ -2,6 +2,7 @@ use Rattle.std.proofs.lemmas.Result.{err_from_is_err_and}
 use Rattle.nano_json_tokens.specs.State.{at}
 use Rattle.nano_schema_json.specs.FieldReadingLaws.{fields_of}
 use Rattle.nano_schema_json.proofs.VariantReaders.{closed_found, content_rejected, closing_rejected}
+use Rattle.nano_text.specs.PlaceLaws.{advances_append}
 use Rattle.nano_schema_json.proofs.variants.read_fields_content.Goals as goal
 
 pub returns-in-Ok-clause-decodes : goal.returns-in-Ok-clause-decodes
@@ -30,3 +31,14 @@ returns-in_err-values-clause-rejected g c =
     let none = content_rejected (at c.args.state.now c.args.input.now) encoding.encodes in
     let error = c.in_err-values.ensures.rejected in
     rw (p.1, p.2) (λ known. none (error.0 known), error.1)
+
+pub returns-in_err-values-clause-made : goal.returns-in_err-values-clause-made
+returns-in_err-values-clause-made g c =
+    let p = err_from_is_err_and c.from_residual.result c.from_residual.ensures.1 in
+    rw (p.1, p.2) c.in_err-values.ensures.made
+
+pub returns-in-Ok-clause-place : goal.returns-in-Ok-clause-place
+returns-in-Ok-clause-place g c = advances_append c.in_ok-values.ensures.place c.in-Ok.ensures.place
+
+pub returns-in-Err-clause-place : goal.returns-in-Err-clause-place
+returns-in-Err-clause-place g c = advances_append c.in_ok-values.ensures.place c.in-Err.ensures.place

@@ -3,6 +3,7 @@ use Rattle.std.proofs.lemmas.Result.{err_from_is_err_and}
 use Rattle.nano_ron.specs.State.{at}
 use Rattle.nano_schema_ron.proofs.VariantReaders.{name_rejected}
 use Rattle.nano_schema_ron.proofs.ChoiceReaders.{choice_reads, choice_rejected}
+use Rattle.nano_text.specs.PlaceLaws.{advances_append}
 use Rattle.nano_schema_ron.proofs.choice.read_choice_ron.Goals as goal
 
 pub returns-in_err-name-clause-rejected : goal.returns-in_err-name-clause-rejected
@@ -34,3 +35,14 @@ returns-clause-rejected g c =
     let error = rw c.as_str-2.ensures.value at rejected in
     let alone = rw c.as_str.ensures.value at c.stands_alone-alone.ensures in
     (λ known. choice_rejected vs name start mid c.in_ok-name.ensures.taken c.stands_alone-alone.result alone (error.0 known), error.1)
+
+pub returns-in_err-name-clause-made : goal.returns-in_err-name-clause-made
+returns-in_err-name-clause-made g c =
+    let p = err_from_is_err_and c.from_residual.result c.from_residual.ensures.1 in
+    rw (p.1, p.2) c.in_err-name.ensures.made
+
+pub returns-in-Ok-clause-place : goal.returns-in-Ok-clause-place
+returns-in-Ok-clause-place g c = advances_append c.in_ok-name.ensures.place c.in-Ok.ensures.place
+
+pub returns-clause-place : goal.returns-clause-place
+returns-clause-place g c = advances_append c.in_ok-name.ensures.place c.in-Err.ensures.place

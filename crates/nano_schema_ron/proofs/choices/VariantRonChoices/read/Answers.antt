@@ -5,6 +5,7 @@ use Rattle.nano_schema_ron.specs.VariantsLaws.{ron_variants}
 use Rattle.std.proofs.lemmas.Result.{IfOk-weaker, IfErr-weaker}
 use Rattle.nano_schema_text.specs.Variants.{no_variants}
 use Rattle.nano_schema_text.proofs.ChoiceReaders.{first_reads, first_rejected, later_rejected, none_named}
+use Rattle.nano_text.specs.PlaceLaws.{advances_none}
 use Rattle.nano_schema_ron.proofs.choices.VariantRonChoices.read.Goals as goal
 
 pub returns-then-is_named-clause-decodes : goal.returns-then-is_named-clause-decodes
@@ -32,3 +33,6 @@ returns-clause-rejected g c = λ from.
     let start = at c.args.state.now c.args.input.now in
     let name = c.args.name.now in
     (λ known. later_rejected ron_variants Cut rest g.N.Label.label no_variants c.args.alone name other from start (none_named ron_variants Cut (suc from) c.args.alone name start), c.unknown_variant.ensures.memory)
+
+pub returns-clause-place : goal.returns-clause-place
+returns-clause-place g c = c.unknown_variant.ensures.place _ _ _ (advances_none _ _)
