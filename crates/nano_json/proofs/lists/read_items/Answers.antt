@@ -128,3 +128,7 @@ returns-in_err-block_close-clause-made g c =
 pub returns-clause-place : goal.returns-clause-place
 returns-clause-place g c =
     advances_append c.loop-index.invariant.place c.in_ok-block_close.ensures.place
+
+pub returns-then-is_err-clause-place : goal.returns-then-is_err-clause-place
+returns-then-is_err-clause-place g c =
+    advances_append c.loop-index.invariant.place c.in_ok-item.ensures.place

@@ -105,3 +105,7 @@ returns-in_err-block_close-clause-made g c =
 pub returns-clause-place : goal.returns-clause-place
 returns-clause-place g c =
     advances_append c.items.invariant.place c.in_ok-block_close.ensures.place
+
+pub returns-in_default-clause-place : goal.returns-in_default-clause-place
+returns-in_default-clause-place g c =
+    advances_append c.items.invariant.place c.in_ok-item.ensures.place

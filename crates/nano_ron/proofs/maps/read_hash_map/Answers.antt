@@ -97,3 +97,7 @@ returns-in_err-curly_close-clause-made g c =
 pub returns-clause-place : goal.returns-clause-place
 returns-clause-place g c =
     advances_append c.entries.invariant.place c.in_ok-curly_close.ensures.place
+
+pub returns-then-is_err-clause-place : goal.returns-then-is_err-clause-place
+returns-then-is_err-clause-place g c =
+    advances_append c.entries.invariant.place c.in_ok-key.ensures.place
