@@ -15,3 +15,4 @@ pub mod Record
 pub mod Contents
 pub mod ContentsLaws
 pub mod Choice
+pub mod DefaultsLaws

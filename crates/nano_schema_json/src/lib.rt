@@ -8,6 +8,7 @@ mod choice;
 mod choices;
 mod contents;
 mod defaulted;
+mod defaults;
 mod fields;
 pub mod laws;
 mod named;

@@ -14,6 +14,7 @@ pub mod FieldCodec
 pub mod FieldCodecLaws
 pub mod Defaults
 pub mod DefaultsLaws
+pub mod EmptyDefaultsLaws
 pub mod BothFieldsLaws
 pub mod StructCodecLaws
 pub mod SameLaws

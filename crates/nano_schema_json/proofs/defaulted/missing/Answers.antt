@@ -1,4 +1,4 @@
-use Rattle.std.proofs.Common.{◌≡◌, ◌∙◌, ap, subst, sym}
+use Rattle.std.proofs.Common.{◌∙◌, ap, subst, sym}
 use Rattle.nano_schema_json.proofs.defaulted.missing.Goals as goal
 
 pub returns-in-Ok-clause-value : goal.returns-in-Ok-clause-value
