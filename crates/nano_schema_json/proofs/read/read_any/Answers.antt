@@ -10,6 +10,7 @@ use Rattle.nano_json.proofs.Json.{json_laws}
 use Rattle.nano_schema_json.specs.FieldReading.{Allowed}
 use Rattle.nano_schema_json.specs.FieldsLaws.{json_fields}
 use Rattle.nano_schema_json.proofs.Pending.{pending_name}
+use Rattle.nano_text.specs.PlaceLaws.{advances_append}
 use Rattle.nano_schema_json.proofs.read.read_any.Goals as goal
 
 pub returns-then-knows-clause-decodes : goal.returns-then-knows-clause-decodes
@@ -92,3 +93,15 @@ returns-clause-rejected g c =
           (λ field after s l. reported.0 memory field s after l))),
       reported.1.0,
     )) c.whole_field.ensures.rejected
+
+pub returns-in_err-next_colon-clause-made : goal.returns-in_err-next_colon-clause-made
+returns-in_err-next_colon-clause-made g c =
+    let p = err_from_is_err_and c.from_residual.result c.from_residual.ensures.1 in
+    rw (p.1, p.2) (c.in_err-next_colon.ensures.rejected.1.1, c.in_err-next_colon.ensures.rejected.1.2)
+
+pub returns-clause-place : goal.returns-clause-place
+returns-clause-place g c = advances_append c.in_ok-next_colon.ensures.place c.whole_field.ensures.place
+
+pub returns-clause-made : goal.returns-clause-made
+returns-clause-made g c =
+    IfErr-weaker c.whole_field.result _ _ (λ e r. (r.1.1, r.1.2)) c.whole_field.ensures.rejected

@@ -5,6 +5,7 @@ use Rattle.nano_ron_tokens.specs.State.{at}
 use Rattle.nano_ron.proofs.Ron.{ron_laws}
 use Rattle.nano_schema_ron.specs.FieldsLaws.{ron_fields}
 use Rattle.nano_schema_ron.proofs.Pending.{pending_name}
+use Rattle.nano_text.specs.PlaceLaws.{advances_none}
 use Rattle.nano_schema_ron.proofs.read.read_any.Goals as goal
 
 pub returns-then-knows-clause-decodes : goal.returns-then-knows-clause-decodes
@@ -39,3 +40,6 @@ returns-clause-rejected g c =
     let none =
     unknown_rejected ron_fields ron_laws bytes start name shape unknown (λ us h. h) in
     (λ memory. none, c.err_exp.ensures.1.0)
+
+pub returns-clause-place : goal.returns-clause-place
+returns-clause-place g c = advances_none _ _
