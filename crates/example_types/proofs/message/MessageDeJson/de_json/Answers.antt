@@ -3,6 +3,7 @@ use Rattle.std.proofs.lemmas.Int.{to_z-of_z}
 use Rattle.std.proofs.lemmas.Result.{err_from_is_err_and}
 use Rattle.std.specs.Int.{w32}
 use Rattle.std.specs.Prelude.{codes}
+use Rattle.nano_text.specs.PlaceLaws.{advances_append}
 use Rattle.nano_json.specs.State.{at}
 use Rattle.nano_schema_json.specs.Variants.{encodings}
 use Rattle.nano_schema_json.proofs.VariantReaders.{is_another, one_part, name_rejected, content_reads, content_unknown, content_missing}
@@ -66,3 +67,47 @@ returns-clause-rejected c =
     let say = is_another _ _ (codes "Say") c.as_str-in-Content.ensures.value c.in_default-as_str.not-Say in
     let none = content_unknown (at c.args.state.now c.args.input.now) (encodings variants) (at c.read_variant_name.new.state c.read_variant_name.new.input) (string_bytes c.in-Content.name) (rw c.in-Content.is at c.in_ok-name.ensures.taken) (rw (move, wait, say) refl) in
     (λ known. none, search rules)
+
+pub returns-in_err-name-clause-made : goal.returns-in_err-name-clause-made
+returns-in_err-name-clause-made c =
+    let p = err_from_is_err_and c.from_residual.result c.from_residual.ensures.1 in
+    rw (p.1, p.2) c.in_err-name.ensures.made
+
+pub returns-in-Move-clause-place : goal.returns-in-Move-clause-place
+returns-in-Move-clause-place c =
+    advances_append c.in_ok-name.ensures.place c.in_ok-by-in-Move.ensures.place
+
+pub returns-in_err-by-in-Move-clause-place : goal.returns-in_err-by-in-Move-clause-place
+returns-in_err-by-in-Move-clause-place c =
+    advances_append c.in_ok-name.ensures.place c.in_err-by-in-Move.ensures.place
+
+pub returns-in_err-by-in-Move-clause-made : goal.returns-in_err-by-in-Move-clause-made
+returns-in_err-by-in-Move-clause-made c =
+    let p = err_from_is_err_and c.from_residual-in_err-by-in-Move.result c.from_residual-in_err-by-in-Move.ensures.1 in
+    rw (p.1, p.2) c.in_err-by-in-Move.ensures.made
+
+pub returns-in-Wait-clause-place : goal.returns-in-Wait-clause-place
+returns-in-Wait-clause-place c =
+    advances_append c.in_ok-name.ensures.place c.in_ok-time-in-Wait.ensures.place
+
+pub returns-in_err-time-in-Wait-clause-place : goal.returns-in_err-time-in-Wait-clause-place
+returns-in_err-time-in-Wait-clause-place c =
+    advances_append c.in_ok-name.ensures.place c.in_err-time-in-Wait.ensures.place
+
+pub returns-in_err-time-in-Wait-clause-made : goal.returns-in_err-time-in-Wait-clause-made
+returns-in_err-time-in-Wait-clause-made c =
+    let p = err_from_is_err_and c.from_residual-in_err-time-in-Wait.result c.from_residual-in_err-time-in-Wait.ensures.1 in
+    rw (p.1, p.2) c.in_err-time-in-Wait.ensures.made
+
+pub returns-in-Say-clause-place : goal.returns-in-Say-clause-place
+returns-in-Say-clause-place c =
+    advances_append c.in_ok-name.ensures.place c.in_ok-text-in-Say.ensures.place
+
+pub returns-in_err-text-in-Say-clause-place : goal.returns-in_err-text-in-Say-clause-place
+returns-in_err-text-in-Say-clause-place c =
+    advances_append c.in_ok-name.ensures.place c.in_err-text-in-Say.ensures.place
+
+pub returns-in_err-text-in-Say-clause-made : goal.returns-in_err-text-in-Say-clause-made
+returns-in_err-text-in-Say-clause-made c =
+    let p = err_from_is_err_and c.from_residual-in_err-text-in-Say.result c.from_residual-in_err-text-in-Say.ensures.1 in
+    rw (p.1, p.2) c.in_err-text-in-Say.ensures.made
