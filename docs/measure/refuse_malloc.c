@@ -2,8 +2,8 @@
    one is refused this request alone, the other this one and every later one. Each copy goes on to its
    end before the process does; it prints its answer, and one that is stopped is reported.
    cc -shared -fPIC -O2 -o refuse_malloc.so refuse_malloc.c; LD_PRELOAD=./refuse_malloc.so PROGRAM
-   With REFUSE_EVERY=N only each Nth request after the first 200 is refused, and none with N 0. How many requests
-   there are and how many were refused goes to standard error at the end. */
+   After the first 200 requests only each 31st is refused, so that a long case ends. How many there were and how many
+   were refused goes to standard error at the end. */
 #define _GNU_SOURCE
 #include <dlfcn.h>
 #include <stdint.h>
@@ -14,18 +14,18 @@
 #include <sys/wait.h>
 #include <unistd.h>
 
-enum { FIRST = 200 };
+enum { FIRST = 200, STEP = 31 };
 extern void *__libc_malloc(size_t), *__libc_calloc(size_t, size_t), *__libc_realloc(void *, size_t);
 static void *(*own_malloc)(size_t) = __libc_malloc;
 static void *(*own_calloc)(size_t, size_t) = __libc_calloc;
 static void *(*own_realloc)(void *, size_t) = __libc_realloc;
 static int is_copy, refuses_all;
-static long every = 1, requests, refused;
+static long requests, refused;
 
 static int is_refused(void) {
     if (is_copy) return refuses_all;
     requests++;
-    if (every == 0 || (requests > FIRST && requests % every != 0)) return 0;
+    if (requests > FIRST && requests % STEP != 0) return 0;
     refused++;
     for (int all = 0; all < 2; all++) {
         int status;
@@ -64,8 +64,6 @@ static void turn(const char *name, void *to, void *own) {
 }
 
 __attribute__((constructor)) static void start(void) {
-    const char *said = getenv("REFUSE_EVERY");
-    if (said) every = atol(said);
     turn("malloc", taken, &own_malloc);
     turn("calloc", cleared, &own_calloc);
     turn("realloc", moved, &own_realloc);
