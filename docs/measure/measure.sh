@@ -1,5 +1,5 @@
 #!/bin/sh
-# Counts what docs/SPEED.md says: builds the port's side, and runs it beside its peers.
+# Measures what docs/SPEED.md says: builds the port's side, runs it beside its peers, and prints the tables.
 #
 #     sh docs/measure/measure.sh HARNESS OUT [FILTER]
 #
@@ -8,8 +8,10 @@
 # packages that build.sh names. LIBRARY in the environment is a library of the port that is built
 # already. OUT then has
 #     counts.txt   FORMAT/KIND/PEER/OP MEGABYTES INSTRUCTIONS: all at 1 MB, the port also at 10 MB
+#     speeds.txt   FORMAT/KIND/PEER/OP MEGABYTES MB/S: of nine runs the median, all peers in one
+#                  process, in which they take turns; so only those of one case and size compare
 #     peaks.txt    FORMAT/KIND/PEER/OP KIBIBYTES: the peak of a process that reads 10 MB
-#     tables.md    the tables of these
+#     tables.md    the tables of these, which it prints
 #     speed.svg    the picture of the ratios
 set -eu
 [ $# -ge 2 ] || { echo "usage: sh measure.sh HARNESS OUT [FILTER]" >&2; exit 2; }
@@ -23,10 +25,11 @@ filter=${3:-.}
 [ -n "${LIBRARY:-}" ] || (cd "$bench" && rt lib)
 "$harness/build.sh" "$out" "${LIBRARY:-$bench/out/libbench.a}"
 
-# The same program, which now can run one case alone in its process.
+# The same program, which now can run one case alone in its process, and reads TOML of 10 MB too.
 chmod u+w "$out/src/main.rs"
 cat "$here/alone.rs" >> "$out/src/main.rs"
 sed -i 's/^fn main() {$/&\n    if alone() {\n        return;\n    }/' "$out/src/main.rs"
+sed -i 's/^        if m == 1 {$/        if m <= 10 {/' "$out/src/main.rs"
 (cd "$out" && cargo build --offline --release --quiet --features port)
 program=$out/target/release/nano_peers
 
@@ -43,7 +46,7 @@ counted() {
         --callgrind-out-file=/dev/null --log-file="$out/log" \
         "$program" file "$1" "$(input "${1%/*/*}" "$2")" 2> /dev/null < /dev/null
     then
-        echo "$1 $2 $(sed -n 's/.*Collected : //p' "$out/log")" | tee -a "$out/counts.txt"
+        echo "$1 $2 $(sed -n 's/.*Collected : //p' "$out/log")" | tee -a "$out/counts.txt" >&2
     else
         echo "$1 fails" >&2
     fi
@@ -60,5 +63,13 @@ while read -r name; do
             "$program" file "$name" "$(input "${name%/*/*}" 10)" 2> /dev/null < /dev/null || true
     esac
 done < "$out/names"
-sh "$here/tables.sh" "$out/counts.txt" "$out/peaks.txt" > "$out/tables.md"
-sh "$here/picture.sh" "$out/counts.txt" > "$out/speed.svg"
+
+"$program" --runs 9 --sizes 1,10 ${3:+--filter "$3"} > "$out/log"
+awk '{
+    split($1, part, "/")
+    size = $2 < 5 ? 1 : 10
+    for (i = 3; i < NF; i += 2) print part[1] "/" part[2] "/" $i "/" part[3], size, $(i + 1)
+}' "$out/log" | grep -E '/(read|norm) [0-9]+ [0-9]' > "$out/speeds.txt"
+
+sh "$here/tables.sh" "$out/counts.txt" "$out/speeds.txt" "$out/peaks.txt" | tee "$out/tables.md"
+sh "$here/picture.sh" "$out/counts.txt" "$out/speeds.txt" > "$out/speed.svg"

@@ -14,11 +14,15 @@ WITHOUT_MEMORY = (".next", ".fail", ".is_null", ".is_none", ".is_block_close", "
 
 
 def run(program, library, line):
-    """What the case answers: with requests refused, and last with none refused."""
+    """What the case answers, with requests refused and last with none refused; how many requests it
+    makes, and how many of them were refused."""
     environment = dict(os.environ, LD_PRELOAD=library)
-    done = subprocess.run([program, "one", line], env=environment, capture_output=True, check=False)
+    # The program does not look at what is wanted, and a word of a command line is at most 128 KB.
+    case = "\t".join(line.split("\t")[:3] + ["", ""])
+    done = subprocess.run([program, "one", case], env=environment, capture_output=True, check=False)
     lines = done.stdout.decode().split("\n")[:-1]
-    return lines[:-1], lines[-1] if lines else "stopped"
+    requests, refused = done.stderr.split()[-2:] or (0, 0)
+    return lines[:-1], lines[-1] if lines else "stopped", int(requests), int(refused)
 
 
 def judged(line, answer, ample):
@@ -43,12 +47,14 @@ def main():
     with open(table, encoding="ascii") as file:
         lines = [line.rstrip("\n") for line in file]
     lines = [line for line in lines if line and not line.startswith("#")]
-    counts = Counter()
+    counts, long = Counter(), Counter()
     with ThreadPoolExecutor(2) as pool:
         results = pool.map(lambda line: run(program, library, line), lines)
-        for line, (answers, ample) in zip(lines, results):
+        for line, (answers, ample, requests, refused) in zip(lines, results):
             form = line.split("\t")[0]
             counts[form, "cases"] += 1
+            if refused < requests:
+                long.update(cases=1, requests=requests, refused=refused)
             if ample in ("out of memory", "stopped", "no case"):
                 answers = answers + [ample]
                 ample = "an answer"
@@ -56,9 +62,12 @@ def main():
                 kind = judged(line, answer, ample)
                 counts[form, kind] += 1
                 if kind == "other":
-                    print(f"other: {line}\n  wanted {ample}\n  came {answer}")
+                    print(f"other: {line[:1000]}\n  wanted {ample[:1000]}\n  came {answer[:1000]}")
+    print(os.path.basename(table))
     for form in sorted({form for form, _ in counts}):
         print(form, *(f"{kind} {counts[form, kind]}" for kind in ("cases", "ample", "memory", "other")))
+    if long:
+        print(f"{long['cases']} long cases: {long['refused']} of {long['requests']} requests refused")
     return 1 if any(kind == "other" and count for (_, kind), count in counts.items()) else 0
 
 

@@ -1,5 +1,5 @@
 #!/bin/sh
-# The tables of docs/SPEED.md: sh tables.sh COUNTS PEAKS
+# The tables of docs/SPEED.md: sh tables.sh COUNTS SPEEDS PEAKS
 set -eu
 awk '
     BEGIN {
@@ -14,11 +14,13 @@ awk '
         type["file"] = "a file"
     }
     FILENAME == ARGV[1] { count[$1 " " $2] = $3; next }
+    FILENAME == ARGV[2] { speed[$1 " " $2] = $3; next }
     { peak[$1] = $2 }
     function millions(name, size) {
         return (name " " size) in count ? sprintf("%.1f", count[name " " size] / 1e6) : ""
     }
     function bold(words) { return words == "" ? "" : "**" words "**" }
+    # Instructions over those of the best peer, which needs the least.
     function ratio(case, format, op,   one, other, here) {
         one = count[case "/nanoserde/" op " 1"]
         other = count[case "/" peer[format] "/" op " 1"]
@@ -26,15 +28,32 @@ awk '
         if (one == "" || other == "" || here == "") return ""
         return sprintf("%.2f", here / (one + 0 < other + 0 ? one : other))
     }
+    # Speed over that of the best peer in the same run, which is the fastest.
+    function ahead(case, format, op, size,   one, other, here) {
+        one = speed[case "/nanoserde/" op " " size]
+        other = speed[case "/" peer[format] "/" op " " size]
+        here = speed[case "/port/" op " " size]
+        if (one == "" || other == "" || here == "") return ""
+        return sprintf("%.2f", here / (one + 0 > other + 0 ? one : other))
+    }
+    function beside(format, kind, op,   case) {
+        case = format "/" kind
+        return " " bold(ratio(case, format, op)) " | " bold(ahead(case, format, op, 1)) " | " \
+            ahead(case, format, op, 10) " |"
+    }
+    function beside_row(format, kind) {
+        print "| " title[format] " | " type[kind] " |" beside(format, kind, "read") \
+            (format == "toml" ? " | | |" : beside(format, kind, "norm"))
+    }
     function half(format, kind, op,   case) {
         case = format "/" kind
         return " " millions(case "/nanoserde/" op, 1) " | " \
             millions(case "/" peer[format] "/" op, 1) " | " \
-            bold(millions(case "/port/" op, 1)) " | " ratio(case, format, op) " |"
+            bold(millions(case "/port/" op, 1)) " |"
     }
     function row(format, kind) {
         print "| " title[format] " | " type[kind] " |" half(format, kind, "read") \
-            (format == "toml" ? " | | | |" : half(format, kind, "norm"))
+            (format == "toml" ? " | | |" : half(format, kind, "norm"))
     }
     function growth(case, op,   one, ten) {
         one = count[case "/port/" op " 1"]
@@ -49,9 +68,15 @@ awk '
             megabytes(case "/" peer[format] "/read") " | " megabytes(case "/port/read") " |"
     }
     END {
-        print "| Format | Kind | nanoserde read | peer read | here, read | of the best |" \
-            " nanoserde read+write | peer read+write | here, read+write | of the best |"
-        print "|---|---|---|---|---|---|---|---|---|---|"
+        print "| Format | Kind | read: instructions | speed, 1 MB | 10 MB |" \
+            " read+write: instructions | speed, 1 MB | 10 MB |"
+        print "|---|---|---|---|---|---|---|---|"
+        for (f = 1; f <= 3; f++) for (k = 1; k <= 5; k++) beside_row(formats[f], kinds[k])
+        beside_row("toml", "file")
+
+        print "\n| Format | Kind | nanoserde read | peer read | here, read |" \
+            " nanoserde read+write | peer read+write | here, read+write |"
+        print "|---|---|---|---|---|---|---|---|"
         for (f = 1; f <= 3; f++) for (k = 1; k <= 5; k++) row(formats[f], kinds[k])
         row("toml", "file")
 
@@ -77,4 +102,4 @@ awk '
         }
         print "\n| | nanoserde | toml | here |\n|---|---|---|---|"
         print "| a TOML file |" three("toml/file", "toml")
-    }' "$1" "$2"
+    }' "$1" "$2" "$3"

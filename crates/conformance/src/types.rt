@@ -91,11 +91,11 @@ fn of_number(
     match name {
         "u16" => of_one::<u16>(alloc, format, shape, input),
         "u32" => of_one::<u32>(alloc, format, shape, input),
-        "u64" => of_one::<u64>(alloc, format, shape, input),
+        "u64" => of_long::<u64>(alloc, format, shape, input),
         "usize" => of_one::<usize>(alloc, format, shape, input),
         "i8" => of_one::<i8>(alloc, format, shape, input),
         "i16" => of_one::<i16>(alloc, format, shape, input),
-        "i64" => of_one::<i64>(alloc, format, shape, input),
+        "i64" => of_long::<i64>(alloc, format, shape, input),
         "bool" => of_one::<bool>(alloc, format, shape, input),
         "" => of_one::<()>(alloc, format, shape, input),
         _ => Ok(Came::Unknown),
@@ -114,6 +114,20 @@ fn of_one<T: BothBin + BothJson + BothRon>(
         ("Option<", ">") | ("Option<(", ")>") => of_type::<Option<T>>(alloc, format, input),
         ("Vec<", ">") | ("Vec<(", ")>") => of_type::<Vec<T>>(alloc, format, input),
         _ => Ok(Came::Unknown),
+    }
+}
+
+/// A map from numbers of eight bytes, or what has one item.
+fn of_long<T: BothBin + BothJson + BothRon + OrderedKey + Hash>(
+    alloc: Global,
+    format: Format,
+    shape: Shape<'_>,
+    input: &[u8],
+) -> Result<Came, AllocError> {
+    match shape {
+        ("HashMap<", ", u8>") => of_type::<HashMap<T, u8>>(alloc, format, input),
+        ("BTreeMap<", ", u8>") => of_type::<BTreeMap<T, u8>>(alloc, format, input),
+        _ => of_one::<T>(alloc, format, shape, input),
     }
 }
 
