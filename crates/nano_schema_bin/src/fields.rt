@@ -7,7 +7,7 @@ ghost use Rattle.nano_bin.specs.OptionsLaws.{option_codec};
 ghost use Rattle.nano_bin.specs.TuplesLaws.{pair_codec};
 
 use nano_bin::{BinCodec, DeBin, DeBinErr, SerBin};
-use nano_schema::{Optional, Required};
+use nano_schema::{Defaulted, Optional, Required};
 use std::alloc::{AllocError, Global};
 
 /// Fields that stand as bytes.
@@ -120,6 +120,38 @@ impl<'a, N, T: SerBin + 'a> BinRefs<'a> for Optional<N, T> {
     ghost codec = { option_codec T.bin };
 
     fn write(refs: &&'a Option<T>, alloc: Global, output: &mut Vec<u8>) -> Result<(), AllocError> {
+        refs.ser_bin(alloc, output)
+    }
+}
+
+impl<N, T: BinCodec, D> BinShape for Defaulted<N, T, D> {
+    type Values = T;
+
+    ghost codec = { T.bin };
+}
+
+impl<N, T: DeBin, D> BinFields for Defaulted<N, T, D> {
+    type Values = T;
+
+    ghost codec = { T.bin };
+
+    fn read(alloc: Global, offset: &mut usize, bytes: &[u8]) -> Result<T, DeBinErr> {
+        T::de_bin(alloc, offset, bytes)
+    }
+
+    fn discard(_values: T) {}
+}
+
+impl<'a, N, T: SerBin + 'a, D> BinRefs<'a> for Defaulted<N, T, D> {
+    type Values = T;
+
+    type Refs = &'a T;
+
+    ghost values = { λ r. r.now };
+
+    ghost codec = { T.bin };
+
+    fn write(refs: &&'a T, alloc: Global, output: &mut Vec<u8>) -> Result<(), AllocError> {
         refs.ser_bin(alloc, output)
     }
 }

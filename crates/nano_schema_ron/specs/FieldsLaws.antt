@@ -1,8 +1,10 @@
 -- What is proved of Fields.
 use Rattle.std.specs.Prelude.{◌≡◌, ℕ, true, List, Option, chars}
+use Rattle.nano_value.specs.Meaning.{Meaning}
 use Rattle.nano_grammar.specs.Codec.{Codec}
 use Rattle.nano_grammar.specs.Canonical.{ListStyle}
 use Rattle.nano_schema_text.specs.BothFieldsLaws.{also_fields}
+use Rattle.nano_schema_text.specs.DefaultsLaws.{default_field}
 use Rattle.nano_schema_text.specs.FieldCodec.{AreNames, FieldsCodec}
 use Rattle.nano_schema_text.specs.FieldCodecLaws.{must_field, may_field}
 use Rattle.nano_schema_text.specs.Fields.{FieldStyle}
@@ -53,6 +55,11 @@ ron_fields = record {
 -- a field that must be there
 abbrev pub must : {A : Type 0} → List ℕ → Codec ron ron_grammar A → FieldsCodec ron_fields A
 must = must_field ron_fields
+
+-- a field that is always written, and has a default where it is missing
+abbrev pub default : {A : Type 0} → List ℕ → Codec ron ron_grammar A → Meaning
+    → FieldsCodec ron_fields A
+default = default_field ron_fields
 
 -- a field that may be missing, and is not written where it is none
 abbrev pub may : {A : Type 0} → List ℕ → Codec ron ron_grammar A → FieldsCodec ron_fields (Option A)

@@ -13,3 +13,4 @@ pub mod Promises
 pub mod Record
 pub mod ContentsLaws
 pub mod Choice
+pub mod DefaultsLaws

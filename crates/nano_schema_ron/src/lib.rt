@@ -6,6 +6,8 @@
 mod choice;
 mod choices;
 mod contents;
+mod defaulted;
+mod defaults;
 mod fields;
 pub mod laws;
 mod named;
@@ -24,6 +26,7 @@ mod writer;
 pub use choice::{read_choice_ron, write_choice_ron};
 pub use choices::{RonChoiceRefs, RonChoices, RonShapes};
 pub use contents::{ReadContent, RonContent, WriteContent};
+pub use defaulted::RonDefaultOf;
 pub use fields::{RonFields, RonRefs, RonShape};
 pub use nano_ron::{BothRon, DeRon, DeRonErr, DeRonState, RonCodec, SerRon, SerRonState};
 pub use part::Part;
