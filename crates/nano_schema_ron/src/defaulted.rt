@@ -3,6 +3,7 @@
 ghost use Rattle.std.specs.Prelude.{◌≡◌, IfOk, IfErr};
 ghost use Rattle.std.specs.Option.{option_map};
 ghost use Rattle.nano_schema_ron.specs.FieldsLaws.{default};
+ghost use Rattle.nano_ron_tokens.specs.Outcomes.{IsPlacedAt};
 ghost use Rattle.nano_ron.specs.Readers.{Reports};
 ghost use Rattle.nano_schema_text.specs.Defaults.{HasEncoding};
 ghost use Rattle.nano_schema_text.specs.Slots.{Holds};
@@ -30,6 +31,7 @@ fn missing<T: DeRon, D: RonDefaultOf<T>>(alloc: Global, state: &DeRonState) -> R
     ensures encoded { IfOk result (λ value.
         HasEncoding T.ron.encoding.encodes (T.ron.canonical.means value)) }
     ensures memory { IfErr result (Reports ⊥) }
+    ensures made { IfErr result (IsPlacedAt state.now) }
 {
     match D::default(alloc) {
         Ok(value) => {

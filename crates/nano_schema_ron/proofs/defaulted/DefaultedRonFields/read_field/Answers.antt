@@ -31,3 +31,8 @@ returns-clause-decodes g c =
     g.N.Label.label g.T.RonCodec.ron.encoding.encodes start end
     (g.T.RonCodec.ron.canonical.means c.in_ok-value.value) c.requires.known decodes in
     (read.0, read.1, λ fs h. read.2 fs)
+
+pub returns-in_err-value-clause-made : goal.returns-in_err-value-clause-made
+returns-in_err-value-clause-made g c =
+    let p = err_from_is_err_and c.from_residual.result c.from_residual.ensures.1 in
+    rw (p.1, p.2) c.in_err-value.ensures.made
