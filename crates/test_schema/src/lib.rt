@@ -8,6 +8,8 @@ mod bin_tests;
 #[cfg(test)]
 mod call_tests;
 #[cfg(test)]
+mod default_tests;
+#[cfg(test)]
 mod fault_tests;
 #[cfg(test)]
 mod json_tests;
@@ -17,5 +19,7 @@ mod part_tests;
 mod record_tests;
 #[cfg(test)]
 mod ron_tests;
+#[cfg(test)]
+mod site;
 #[cfg(test)]
 mod type_checks;
