@@ -1,6 +1,6 @@
 //! Sources at fault, and what is said of each.
 
-use crate::testing::{fails, gives};
+use crate::testing::{fails, field_fails, gives};
 use derive_text::{DeriveError, derive, module_of};
 
 #[test]
@@ -59,10 +59,6 @@ fn items_are_structs_and_enums(rt: HostRuntime) {
         (
             "struct A(u8);",
             "2:1: no struct or enum above the marker has a line",
-        ),
-        (
-            "// nanoserde: bin\nstruct A(u8, u8);",
-            "2:8: `A` is a struct of several parts",
         ),
         (
             "// nanoserde: bin\nenum A<T> {\n    B(T),\n}",
@@ -125,20 +121,24 @@ fn attributes_stand_where_they_have_a_meaning(rt: HostRuntime) {
             "1:19: `jsn` is no attribute",
         ),
         (
-            "// nanoserde: json\nstruct A {\n    // nanoserde: default\n    a: u8,\n}",
-            "3:19: `default` is for a field that may be missing",
-        ),
-        (
-            "// nanoserde: json\nstruct A {\n    // nanoserde: skip\n    a: u8,\n}",
-            "3:19: `skip` is for a field that is not read",
-        ),
-        (
             "// nanoserde: json\nuse a::b;",
             "1:15: `json` stands above no struct",
         ),
         (
             "// nanoserde: skip\nstruct A(u8);",
             "1:15: `skip` stands only above a field",
+        ),
+        (
+            "// nanoserde: json\nstruct A(\n    // nanoserde: default\n    u8,\n);",
+            "3:19: `default` stands only above a field",
+        ),
+        (
+            "// nanoserde: json\nenum A {\n    // nanoserde: default\n    B,\n}",
+            "3:19: `default` stands only above a field",
+        ),
+        (
+            "struct A {\n    // nanoserde: skip\n    a: u8,\n}",
+            "2:19: `skip` stands in a type with no",
         ),
         (
             "#[nserde(transparent)]\nstruct A(u8);",
@@ -186,6 +186,87 @@ fn attributes_stand_where_they_have_a_meaning(rt: HostRuntime) {
         ),
     ] {
         fails(&rt, alloc, above, expected);
+    }
+}
+
+#[test]
+fn a_default_is_a_value_of_its_field(rt: HostRuntime) {
+    let alloc = rt.alloc();
+    for (field, expected) in [
+        (
+            "default = \"256\"\n    a: u8,",
+            "3:29: `\"256\"` is no number",
+        ),
+        (
+            "default = \"-1\"\n    a: u8,",
+            "3:29: `\"-1\"` is no number",
+        ),
+        (
+            "default = \"-129\"\n    a: i8,",
+            "3:29: `\"-129\"` is no number",
+        ),
+        (
+            "default = \"+1\"\n    a: i8,",
+            "3:29: `\"+1\"` is no number",
+        ),
+        (
+            "default = \"01\"\n    a: u8,",
+            "3:29: `\"01\"` is no number",
+        ),
+        (
+            "default = \"1\"\n    a: bool,",
+            "3:29: `\"1\"` is no number",
+        ),
+        (
+            "default = \"yes\"\n    a: bool,",
+            "3:29: `\"yes\"` is no value",
+        ),
+        (
+            "default = \"a b\"\n    a: u8,",
+            "3:29: `\"a b\"` is no value",
+        ),
+        (
+            "default = \"b\\n\"\n    a: String,",
+            "3:31: this is in no default",
+        ),
+        ("default =\n    a: u8,", "3:28: the end of the line"),
+        (
+            "default default\n    a: u8,",
+            "3:27: `default` stands twice",
+        ),
+    ] {
+        field_fails(&rt, alloc, field, expected);
+    }
+}
+
+#[test]
+fn a_skipped_field_has_a_default(rt: HostRuntime) {
+    let alloc = rt.alloc();
+    for (field, expected) in [
+        (
+            "skip\n    a: String,\n    b: u8,",
+            "3:19: `skip` is for a field whose",
+        ),
+        (
+            "skip\n    a: [Vec<u8>; 2],\n    b: u8,",
+            "3:19: `skip` is for a field whose",
+        ),
+        (
+            "skip, default = \"b\"\n    a: String,",
+            "3:35: `\"b\"` is no number and no truth",
+        ),
+        (
+            "skip, default = \"b\"\n    a: u8,",
+            "3:35: `\"b\"` is no number and no truth",
+        ),
+        (
+            "skip, default = \"256\"\n    a: u8,",
+            "3:35: `\"256\"` is no number of",
+        ),
+        ("skip\n    a: u8,", "4:5: `a` is skipped as each field"),
+        ("skip skip\n    a: u8,", "3:24: `skip` stands twice"),
+    ] {
+        field_fails(&rt, alloc, field, expected);
     }
 }
 

@@ -4,6 +4,8 @@
 #[cfg(test)]
 mod error_tests;
 #[cfg(test)]
+mod form_tests;
+#[cfg(test)]
 mod mutation_tests;
 #[cfg(test)]
 mod testing;

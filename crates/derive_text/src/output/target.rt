@@ -13,7 +13,8 @@ pub(crate) struct Target<'a> {
     pub(crate) full: String,
     /// The name of its row of fields or variants, with its parameters.
     pub(crate) row: String,
-    /// The name of the type of the content of its variants.
+    /// The name of the type of the values of its fields or of the content of its variants, with
+    /// its parameters.
     pub(crate) values: String,
     /// The name of the type of references to that content.
     pub(crate) refs: String,
@@ -51,7 +52,7 @@ impl<'a> Target<'a> {
         Ok(Target {
             full: format!(in alloc; "{name}{arguments}")?,
             row: format!(in alloc; "{row}{arguments}")?,
-            values,
+            values: format!(in alloc; "{values}{arguments}")?,
             refs,
             module,
             name: definition.name,
