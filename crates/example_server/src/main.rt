@@ -1,9 +1,9 @@
 //! An example: reads the settings of a server from a JSON or RON file, and prints them in the
 //! other form.
 //!
-//! `example_server FILE` prints the normal form. The end of the name, `.json` or `.ron`, selects the
-//! form of the file. What is wrong with it is printed with its line and column, that line, and a
-//! caret under the character where reading stopped.
+//! `example_server FILE` prints the normal form. The end of the name, `.json` or `.ron`, selects
+//! the form of the file. What is wrong with it is printed with its line and column, that line, and
+//! a caret under the character where reading stopped.
 #![tactic(auto)]
 
 ghost use Rattle.std.specs.Prelude.{◌≡◌, IfOk, IfErr, string_bytes};

@@ -87,9 +87,8 @@ fn a_skipped_field_is_in_no_row(rt: HostRuntime) {
     ] {
         writes(&rt, alloc, above, expected);
     }
-    let above =
-        "// nanoserde: json\nenum A {\n    B {\n        // nanoserde: skip\n        a: u8,\n        \
-        b: u8,\n    },\n}";
+    let above = "// nanoserde: json\nenum A {\n    B {\n        // nanoserde: skip\n        \
+        a: u8,\n        b: u8,\n    },\n}";
     for expected in [
         "      | B v0 v1 ↦ v1\n",
         "            A::B { a: _, b } => {\n",

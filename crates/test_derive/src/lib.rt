@@ -2,6 +2,8 @@
 #![tactic(auto)]
 
 #[cfg(test)]
+mod default_tests;
+#[cfg(test)]
 mod error_tests;
 #[cfg(test)]
 mod form_tests;
