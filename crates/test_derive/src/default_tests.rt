@@ -1,6 +1,6 @@
 //! Defaults and skipped fields at fault, and what is said of each.
 
-use crate::testing::field_fails;
+use crate::testing::{fails, field_fails};
 
 #[test]
 fn a_default_is_a_value_of_its_field(rt: HostRuntime) {
@@ -80,5 +80,28 @@ fn a_skipped_field_has_a_default(rt: HostRuntime) {
         ("skip skip\n    a: u8,", "3:24: `skip` stands twice"),
     ] {
         field_fails(&rt, alloc, field, expected);
+    }
+}
+
+#[test]
+fn a_type_parameter_has_no_default(rt: HostRuntime) {
+    let alloc = rt.alloc();
+    for (field, expected) in [
+        (
+            "default\n    a: T,",
+            "3:19: `default` is for a field of a type that is known",
+        ),
+        (
+            "skip\n    a: Option<T>,\n    b: T,",
+            "3:19: `skip` is for a field of a type that is known",
+        ),
+    ] {
+        let above = format!(in alloc;
+            "// nanoserde: json\nstruct A<T> {{\n    // nanoserde: {field}\n}}"
+        );
+        match above {
+            Ok(above) => fails(&rt, alloc, above.as_str(), expected),
+            Err(_failed) => assert_eq!(&rt; "no memory", expected),
+        }
     }
 }

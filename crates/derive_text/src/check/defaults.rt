@@ -1,9 +1,9 @@
 //! What a field has where it is missing, or where it is skipped.
 
-use crate::check::known::{is_defined, is_imported};
+use crate::check::known::{is_among, is_defined, is_imported};
 use crate::check::names::within;
 use crate::fault::Fault;
-use crate::syntax::{Field, Source, Type};
+use crate::syntax::{Definition, Field, Source, Type};
 use crate::token::{Token, TokenKind};
 
 /// What a field has where it is missing.
@@ -31,6 +31,8 @@ const CONSTANT: &str = "is no number and no truth value, and a skipped field has
 
 const NO_TYPE: &str = "is no value of the field's type, and no path of a type that stands for one";
 
+const NO_PARAMETER: &str = "is for a field of a type that is known, and no type parameter is";
+
 const NO_NUMBER: &str = "is no number of the field's type, in digits without leading zeros";
 
 /// What a field has where it is missing.
@@ -54,7 +56,12 @@ pub(crate) fn missing_value<'a>(field: Field<'a>) -> Missing<'a> {
 }
 
 /// An error where a field cannot have what its attributes give it.
-pub(crate) fn check_default<'a>(source: &Source<'a>, field: Field<'a>) -> Result<(), Fault> {
+pub(crate) fn check_default<'a>(
+    source: &Source<'a>,
+    definition: &Definition<'a>,
+    field: Field<'a>,
+) -> Result<(), Fault> {
+    check_parameters(definition, field)?;
     let missing = missing_value(field);
     if let Some(word) = field.attributes.skip {
         check_skip(field, word, missing)?;
@@ -74,6 +81,23 @@ pub(crate) fn check_default<'a>(source: &Source<'a>, field: Field<'a>) -> Result
         Missing::Path(text) if !is_known(source, token, text) => Err(Fault::token(token, NO_TYPE)),
         _ => Ok(()),
     }
+}
+
+/// An error where the default of a type parameter is wanted.
+fn check_parameters<'a>(definition: &Definition<'a>, field: Field<'a>) -> Result<(), Fault> {
+    for token in field.of.0 {
+        if !is_among(&definition.parameters, *token) {
+            continue;
+        }
+        match (field.attributes.skip, field.attributes.default) {
+            (Some(word), _) => return Err(Fault::token(word, NO_PARAMETER)),
+            (None, Some(word)) if field.of.0.len() == 1 => {
+                return Err(Fault::token(word, NO_PARAMETER));
+            }
+            _ => {}
+        }
+    }
+    Ok(())
 }
 
 /// An error where a skipped field cannot have this.

@@ -51,7 +51,7 @@ fn check_fields<'a>(
     for field in fields {
         names.push(field.name)?;
         check_attributes(field.attributes, definition)?;
-        check_default(source, *field)?;
+        check_default(source, definition, *field)?;
         if field.attributes.skip.is_some() {
             continue;
         }

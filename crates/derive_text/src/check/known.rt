@@ -78,7 +78,7 @@ pub(crate) fn is_defined<'a>(source: &Source<'a>, word: Token<'a>) -> bool {
 }
 
 /// Whether this word is one of them.
-fn is_among<'a>(words: &[Token<'a>], word: Token<'a>) -> bool {
+pub(crate) fn is_among<'a>(words: &[Token<'a>], word: Token<'a>) -> bool {
     for other in words {
         if other.text == word.text {
             return true;
