@@ -9,13 +9,13 @@ use Rattle.example_text_forms.specs.Forms.{IsWhole, written}
 use Rattle.example_server.specs.declared.settings.Settings.{Settings}
 
 -- the form that a text has not
-abbrev pub other : Form → Form
-other Json = Ron
-other Ron = Json
+abbrev pub other_form : Form → Form
+other_form Json = Ron
+other_form Ron = Json
 
--- the text is settings, and what is printed is their normal form, in the other form
+-- the text is settings, and what is printed is their normal form, in the other_form form
 pub record Converts (json : JsonCodec Settings) (ron : RonCodec Settings)
     (means : Settings → Meaning) (form : Form) (text : List ℕ) (printed : List ℕ) : Type 0 where
   pub settings : Settings
   pub read : IsWhole form json.encoding ron.encoding text (means settings)
-  pub is : printed ≡ written (other form) json.canonical ron.canonical settings
+  pub is : printed ≡ written (other_form form) json.canonical ron.canonical settings

@@ -8,7 +8,7 @@
 
 ghost use Rattle.std.specs.Prelude.{◌≡◌, IfOk, IfErr, string_bytes};
 ghost use Rattle.example_text_forms.specs.Forms.{IsWhole, NotOfMemory};
-ghost use Rattle.example_server.specs.Converted.{Converts, other};
+ghost use Rattle.example_server.specs.Converted.{Converts, other_form};
 
 mod settings;
 
@@ -24,7 +24,7 @@ use std::{env, fs};
 
 /// The form that a text has not.
 fn other(form: Form) -> Form
-    ensures { result ≡ other form }
+    ensures { result ≡ other_form form }
 {
     match form {
         Form::Json => Form::Ron,
