@@ -13,7 +13,7 @@ abbrev pub other_form : Form → Form
 other_form Json = Ron
 other_form Ron = Json
 
--- the text is settings, and what is printed is their normal form, in the other_form form
+-- the text is settings, and what is printed is their normal form, in the other form
 pub record Converts (json : JsonCodec Settings) (ron : RonCodec Settings)
     (means : Settings → Meaning) (form : Form) (text : List ℕ) (printed : List ℕ) : Type 0 where
   pub settings : Settings
