@@ -3,6 +3,7 @@
 //! Everything that is said by name is said by its path, so that nothing which the file declares
 //! or brings in stands in for it.
 
+mod agreement;
 mod chains;
 mod choices;
 mod codec;

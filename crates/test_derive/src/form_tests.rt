@@ -1,6 +1,6 @@
 //! What is written of each form of a struct.
 
-use crate::testing::writes;
+use crate::testing::{fails, writes};
 
 #[test]
 fn a_struct_of_parts_is_a_tuple(rt: HostRuntime) {
@@ -25,18 +25,28 @@ fn a_generic_struct_agrees_as_its_parameters_do(rt: HostRuntime) {
     let alloc = rt.alloc();
     let above = "// nanoserde: bin\nstruct A<T> {\n    a: T,\n    b: Option<T>,\n}";
     for expected in [
-        "type AValues<T> = (T, Option<T>);\n",
-        "    type Values = AValues<T>;\n",
-        "    ghost agrees = { seen_agrees ⟦<AValues<T> as nano_schema_bin::BinCodec>⟧.agrees\n",
-        "    ghost is_decodable = { ⟦<AValues<T> as nano_schema_bin::DeBin>⟧.is_decodable };\n",
+        "    type Values = (T, Option<T>);\n",
+        "    ghost agrees = { seen_agrees (pair_agrees T.agrees (option_agrees T.agrees))\n",
+        "    ghost is_decodable = { (both_are_read T.is_decodable T.is_decodable) };\n",
     ] {
         writes(&rt, alloc, above, expected);
     }
     let above = "// nanoserde: bin\nstruct A<T>(T);";
-    let expected = "seen_agrees ⟦<AFields<T> as nano_schema_bin::BinCodec>⟧.agrees (λ x. x.0) };\n";
-    writes(&rt, alloc, above, expected);
+    writes(
+        &rt,
+        alloc,
+        above,
+        "    ghost agrees = { seen_agrees T.agrees (λ x. x.0) };\n",
+    );
     let above = "// nanoserde: json\nstruct A<T>(T, u8);";
     writes(&rt, alloc, above, "type AValues<T> = (T, u8);\n");
+    let above = "// nanoserde: json\nstruct A<T> {\n    a: Box<T>,\n}";
+    fails(
+        &rt,
+        alloc,
+        above,
+        "3:12: `T` is a type parameter within a type",
+    );
 }
 
 #[test]

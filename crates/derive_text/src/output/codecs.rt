@@ -91,40 +91,54 @@ fn append_definition<'a>(
     sheet.line(target.head(alloc, trait_name, trait_name)?.as_str())?;
     sheet.member(alloc, codec.member, term.as_str())?;
     sheet.line("")?;
-    append_agreement(alloc, sheet, target, kind, codec)?;
+    let agrees = target.agreement.agrees.as_str();
+    import_cited(sheet, agrees, &CITED)?;
+    sheet.member(alloc, "agrees", agrees)?;
     Ok(sheet.line("}")?)
 }
 
-/// Appends that the codec is of what the values mean. A type parameter's own codec says so of its
-/// values.
-fn append_agreement<'a>(
-    alloc: Global,
+/// Brings in what a ghost term cites of these.
+fn import_cited(
     sheet: &mut Sheet,
-    target: &Target<'a>,
-    kind: Kind,
-    codec: &Codec,
+    term: &str,
+    imports: &[(&'static str, &'static str)],
 ) -> Result<(), AllocError> {
-    if target.parameters.is_empty() {
-        sheet.import("ghost use Rattle.nano_schema.specs.UserTypes.{agreed};")?;
-        return sheet.member(alloc, "agrees", "agreed");
+    for (name, line) in imports {
+        if term.contains(*name) {
+            sheet.import(*line)?;
+        }
     }
-    sheet.import("ghost use Rattle.nano_value.specs.AgreesLaws.{seen_agrees};")?;
-    let (held, full, name) = (held(target, kind), target.full.as_str(), codec.codec);
-    let view = match kind {
-        Kind::Transparent => String::from_str(alloc, "(λ x. x.0)")?,
-        _ => format!(in alloc; "⟦<{full} as nano_schema::Record>⟧.view")?,
-    };
-    let term = format!(in alloc; "seen_agrees ⟦<{held} as {name}>⟧.agrees {view}")?;
-    sheet.member(alloc, "agrees", term.as_str())
+    Ok(())
 }
 
-/// The type of what a struct holds.
-fn held<'a>(target: &'a Target<'_>, kind: Kind) -> &'a str {
-    match kind {
-        Kind::Transparent => target.row.as_str(),
-        _ => target.values.as_str(),
-    }
-}
+/// The names that the terms of a definition may cite, and the lines that bring them in.
+const CITED: [(&str, &str); 7] = [
+    (
+        "agreed",
+        "ghost use Rattle.nano_schema.specs.UserTypes.{agreed};",
+    ),
+    (
+        "seen_agrees",
+        "ghost use Rattle.nano_value.specs.AgreesLaws.{seen_agrees};",
+    ),
+    (
+        "pair_agrees",
+        "ghost use Rattle.nano_value.specs.AgreesLaws.{pair_agrees};",
+    ),
+    (
+        "option_agrees",
+        "ghost use Rattle.nano_value.specs.AgreesLaws.{option_agrees};",
+    ),
+    (
+        "list_agrees",
+        "ghost use Rattle.nano_value.specs.AgreesLaws.{list_agrees};",
+    ),
+    ("refl", "ghost use Rattle.std.specs.Prelude.{refl};"),
+    (
+        "both_are_read",
+        "ghost use Rattle.nano_bin.specs.CodecLaws.{both_are_read};",
+    ),
+];
 
 /// Appends the impl that writes.
 fn append_writer<'a>(
@@ -178,7 +192,10 @@ fn append_reader<'a>(
     sheet.line("")?;
     sheet.line(target.head(alloc, codec.de, codec.de)?.as_str())?;
     if codec.says_decodable {
-        append_decodable(alloc, sheet, target, kind, codec)?;
+        let decodable = target.agreement.decodable.as_str();
+        import_cited(sheet, decodable, &CITED)?;
+        sheet.member(alloc, "is_decodable", decodable)?;
+        sheet.line("")?;
     }
     sheet.line(codec.reader)?;
     let (row, arguments) = (target.row.as_str(), codec.de_arguments);
@@ -213,23 +230,4 @@ fn read_held(alloc: Global, codec: &Codec, held: &str, make: &str) -> Result<Str
         Ok(value) => Ok({make}(value)),\n            \
         Err(error) => Err(error),\n        }}\n"
     )
-}
-
-/// Appends that what is written is read back.
-fn append_decodable<'a>(
-    alloc: Global,
-    sheet: &mut Sheet,
-    target: &Target<'a>,
-    kind: Kind,
-    codec: &Codec,
-) -> Result<(), AllocError> {
-    if target.parameters.is_empty() {
-        sheet.import("ghost use Rattle.std.specs.Prelude.{refl};")?;
-        sheet.member(alloc, "is_decodable", "refl")?;
-    } else {
-        let (held, name) = (held(target, kind), codec.de);
-        let term = format!(in alloc; "⟦<{held} as {name}>⟧.is_decodable")?;
-        sheet.member(alloc, "is_decodable", term.as_str())?;
-    }
-    sheet.line("")
 }

@@ -123,5 +123,5 @@ pub(crate) fn ghost_view<'a>(alloc: Global, fields: &[Field<'a>]) -> Result<Stri
     for field in fields {
         texts.push(format!(in alloc; "x.{}", field.name.text)?)?;
     }
-    ghost_pairs(alloc, &texts)
+    ghost_pairs(alloc, &texts, "", ", ")
 }

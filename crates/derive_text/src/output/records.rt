@@ -25,14 +25,8 @@ pub(crate) fn append_record<'a>(
     let in_row = row_fields(alloc, fields)?;
     let leaves = append_labels(alloc, sheet, names, target, target.name.text, &in_row)?;
     append_row(alloc, sheet, target.row.as_str(), &leaves)?;
-    let mut seen = seen(alloc, target, fields, &in_row)?;
-    if !target.parameters.is_empty() {
-        let types = field_types(alloc, &in_row, "")?;
-        append_row(alloc, sheet, target.values.as_str(), &types)?;
-        seen.types = target.values.clone()?;
-    }
     sheet.line("")?;
-    append_seen(alloc, sheet, target, &seen)?;
+    append_seen(alloc, sheet, target, &seen(alloc, target, fields, &in_row)?)?;
     append_codecs(alloc, sheet, target, Kind::Record)
 }
 

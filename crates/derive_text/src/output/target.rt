@@ -1,5 +1,7 @@
 //! The type whose impls are written.
 
+use crate::fault::Fault;
+use crate::output::agreement::{Agreement, agreement};
 use crate::output::layout::{COLUMNS, width};
 use crate::output::names::Names;
 use crate::syntax::{Attributes, Definition, Shape};
@@ -26,6 +28,8 @@ pub(crate) struct Target<'a> {
     pub(crate) parameters: Vec<Token<'a>>,
     /// What stands above it.
     pub(crate) attributes: Attributes<'a>,
+    /// The ghost terms for its codecs.
+    pub(crate) agreement: Agreement,
 }
 
 impl<'a> Target<'a> {
@@ -35,7 +39,7 @@ impl<'a> Target<'a> {
         names: &mut Names,
         module: &'a str,
         definition: &Definition<'a>,
-    ) -> Result<Target<'a>, AllocError> {
+    ) -> Result<Target<'a>, Fault> {
         let mut parameters = Vec::new(alloc);
         for parameter in &definition.parameters {
             parameters.push(*parameter)?;
@@ -49,8 +53,10 @@ impl<'a> Target<'a> {
         let row = names.take(alloc, format!(in alloc; "{name}{end}")?.as_str())?;
         let values = names.take(alloc, format!(in alloc; "{name}Values")?.as_str())?;
         let refs = names.take(alloc, format!(in alloc; "{name}Refs")?.as_str())?;
+        let full = format!(in alloc; "{name}{arguments}")?;
         Ok(Target {
-            full: format!(in alloc; "{name}{arguments}")?,
+            agreement: agreement(alloc, definition, full.as_str())?,
+            full,
             row: format!(in alloc; "{row}{arguments}")?,
             values: format!(in alloc; "{values}{arguments}")?,
             refs,

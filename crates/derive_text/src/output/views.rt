@@ -102,7 +102,7 @@ fn ghost_content<'a>(
                     in_row.push(binder.clone()?)?;
                 }
             }
-            ghost_pairs(alloc, &in_row)
+            ghost_pairs(alloc, &in_row, "", ", ")
         }
     }
 }
