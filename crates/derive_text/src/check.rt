@@ -1,11 +1,13 @@
 //! What is asked of structs and enums beyond their grammar.
 
+mod defaults;
 mod definitions;
 mod known;
 mod names;
 
 use crate::fault::Fault;
 use crate::syntax::Source;
+pub(crate) use defaults::{Missing, missing_value};
 use definitions::check_definition;
 use names::check_distinct;
 pub(crate) use names::encoded_name;

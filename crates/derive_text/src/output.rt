@@ -3,22 +3,25 @@
 //! Everything that is said by name is said by its path, so that nothing which the file declares
 //! or brings in stands in for it.
 
+mod agreement;
 mod chains;
 mod choices;
 mod codec;
 mod codecs;
+mod defaults;
 mod fields;
 mod kind;
 mod labels;
 mod layout;
-mod limits;
 mod making;
 mod names;
 mod records;
 mod rows;
+mod seen;
 mod sheet;
 mod target;
 mod transparent;
+mod tuples;
 mod types;
 mod variants;
 mod views;
@@ -26,13 +29,13 @@ mod views;
 use crate::fault::Fault;
 use crate::syntax::{Definition, Shape, Source};
 use choices::append_choice;
-use limits::check_limits;
 use names::Names;
 use records::append_record;
 use sheet::Sheet;
 use std::alloc::Global;
 use target::Target;
 use transparent::append_transparent;
+use tuples::append_tuple;
 
 const NO_TYPE: &str = "no struct or enum above the marker has a line `// nanoserde: bin json ron`, \
     which says in which formats it is read and written";
@@ -67,16 +70,12 @@ fn append_impls<'a>(
     module: &'a str,
     definition: &Definition<'a>,
 ) -> Result<(), Fault> {
-    check_limits(&definition.shape)?;
     let target = Target::new(alloc, names, module, definition)?;
     match &definition.shape {
         Shape::Fields(fields) => append_record(alloc, sheet, names, &target, fields),
         Shape::Parts(parts) => match parts.as_slice() {
             [part] => append_transparent(alloc, sheet, &target, *part),
-            _ => Err(Fault::token(
-                definition.name,
-                "is a struct of several parts without names",
-            )),
+            _ => append_tuple(alloc, sheet, &target, parts),
         },
         Shape::Variants(variants) => append_choice(alloc, sheet, names, &target, variants),
     }

@@ -1,7 +1,5 @@
 //! What a game remembers: its schema, JSON and RON.
 
-ghost use Rattle.std.specs.Prelude.{refl};
-
 use std::collections::HashMap;
 
 // nanoserde: json ron
@@ -20,6 +18,7 @@ pub struct State {
 
 ghost use Rattle.std.specs.Prelude.{codes};
 ghost use Rattle.nano_schema_json.specs.Record.{json_of};
+ghost use Rattle.std.specs.Prelude.{refl};
 ghost use Rattle.nano_schema.specs.UserTypes.{agreed};
 ghost use Rattle.nano_schema_ron.specs.Record.{ron_of};
 

@@ -61,10 +61,6 @@ fn items_are_structs_and_enums(rt: HostRuntime) {
             "2:1: no struct or enum above the marker has a line",
         ),
         (
-            "// nanoserde: bin\nstruct A(u8, u8);",
-            "2:8: `A` is a struct of several parts",
-        ),
-        (
             "// nanoserde: bin\nenum A<T> {\n    B(T),\n}",
             "2:6: `A` is a generic enum",
         ),
@@ -125,20 +121,24 @@ fn attributes_stand_where_they_have_a_meaning(rt: HostRuntime) {
             "1:19: `jsn` is no attribute",
         ),
         (
-            "// nanoserde: json\nstruct A {\n    // nanoserde: default\n    a: u8,\n}",
-            "3:19: `default` is for a field that may be missing",
-        ),
-        (
-            "// nanoserde: json\nstruct A {\n    // nanoserde: skip\n    a: u8,\n}",
-            "3:19: `skip` is for a field that is not read",
-        ),
-        (
             "// nanoserde: json\nuse a::b;",
             "1:15: `json` stands above no struct",
         ),
         (
             "// nanoserde: skip\nstruct A(u8);",
             "1:15: `skip` stands only above a field",
+        ),
+        (
+            "// nanoserde: json\nstruct A(\n    // nanoserde: default\n    u8,\n);",
+            "3:19: `default` stands only above a field",
+        ),
+        (
+            "// nanoserde: json\nenum A {\n    // nanoserde: default\n    B,\n}",
+            "3:19: `default` stands only above a field",
+        ),
+        (
+            "struct A {\n    // nanoserde: skip\n    a: u8,\n}",
+            "2:19: `skip` stands in a type with no",
         ),
         (
             "#[nserde(transparent)]\nstruct A(u8);",

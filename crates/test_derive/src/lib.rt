@@ -2,7 +2,11 @@
 #![tactic(auto)]
 
 #[cfg(test)]
+mod default_tests;
+#[cfg(test)]
 mod error_tests;
+#[cfg(test)]
+mod form_tests;
 #[cfg(test)]
 mod mutation_tests;
 #[cfg(test)]

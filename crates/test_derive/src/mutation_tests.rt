@@ -18,6 +18,10 @@ pub struct Server {
     // nanoserde: rename = \"type\"
     pub host: String,
     pub(crate) port: Option<u16>,
+    // nanoserde: default = \"-5\"
+    pub offset: i32,
+    // nanoserde: skip
+    pub hits: u64,
     pub words: HashMap<String, Vec<(u8, [u32; 4])>>,
 }
 

@@ -35,3 +35,27 @@ pub(crate) fn fails(rt: &impl Abort, alloc: Global, above: &str, expected: &str)
         Err(_failed) => assert_eq!(rt; "no memory", expected),
     }
 }
+
+/// What becomes of a struct in JSON and RON, whose first field's attributes come first and then its
+/// fields, begins with what was expected.
+pub(crate) fn field_fails(rt: &impl Abort, alloc: Global, fields: &str, expected: &str) {
+    let above = format!(in alloc;
+        "// nanoserde: json ron\nstruct A {{\n    // nanoserde: {fields}\n}}"
+    );
+    match above {
+        Ok(above) => fails(rt, alloc, above.as_str(), expected),
+        Err(_failed) => assert_eq!(rt; "no memory", expected),
+    }
+}
+
+/// What is written of a source has this in it, or, where it has not, what is written.
+pub(crate) fn writes(rt: &impl Abort, alloc: Global, above: &str, expected: &str) {
+    let found = match format!(in alloc; "{above}\n// ---- written by nano_derive\n") {
+        Ok(source) => outcome(alloc, source.as_str()),
+        Err(failed) => Err(failed),
+    };
+    match found {
+        Ok(found) => assert!(rt; found.as_str().contains(expected), "{found}"),
+        Err(_failed) => assert_eq!(rt; "no memory", expected),
+    }
+}

@@ -1,13 +1,17 @@
 //! One struct or enum.
 
+use crate::check::defaults::check_default;
 use crate::check::known::check_type;
 use crate::check::names::{check_distinct, check_name, encoded_name};
 use crate::fault::Fault;
 use crate::syntax::{Attributes, Content, Definition, Field, Shape, Source, Type, Variant};
+use crate::token::Token;
 use std::alloc::Global;
 
 const NO_CODEC: &str = "stands in a type with no formats: write `// nanoserde: bin json ron` above \
     it, or those of the three that it has";
+
+const NO_FIELD: &str = "is skipped as each field here is: one at least is read and written";
 
 /// An error where a struct or an enum cannot be written.
 pub(crate) fn check_definition<'a>(
@@ -47,6 +51,7 @@ fn check_fields<'a>(
     for field in fields {
         names.push(field.name)?;
         check_attributes(field.attributes, definition)?;
+        check_default(source, definition, *field)?;
         if field.attributes.skip.is_some() {
             continue;
         }
@@ -56,7 +61,16 @@ fn check_fields<'a>(
         encoded_names.push(name)?;
     }
     check_distinct(&names)?;
+    check_some(fields, &encoded_names)?;
     check_distinct(&encoded_names)
+}
+
+/// An error where each field is skipped.
+fn check_some<'a>(fields: &[Field<'a>], encoded_names: &[Token<'a>]) -> Result<(), Fault> {
+    match fields.first() {
+        Some(field) if encoded_names.is_empty() => Err(Fault::token(field.name, NO_FIELD)),
+        _ => Ok(()),
+    }
 }
 
 /// An error where attributes of a field or a variant have no meaning.

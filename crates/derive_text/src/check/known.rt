@@ -68,7 +68,7 @@ fn check_number(word: Token<'_>, attributes: Attributes<'_>) -> Result<(), Fault
 }
 
 /// Whether a type of the file has this name.
-fn is_defined<'a>(source: &Source<'a>, word: Token<'a>) -> bool {
+pub(crate) fn is_defined<'a>(source: &Source<'a>, word: Token<'a>) -> bool {
     for definition in &source.definitions {
         if definition.name.text == word.text {
             return true;
@@ -78,7 +78,7 @@ fn is_defined<'a>(source: &Source<'a>, word: Token<'a>) -> bool {
 }
 
 /// Whether this word is one of them.
-fn is_among<'a>(words: &[Token<'a>], word: Token<'a>) -> bool {
+pub(crate) fn is_among<'a>(words: &[Token<'a>], word: Token<'a>) -> bool {
     for other in words {
         if other.text == word.text {
             return true;
@@ -88,7 +88,7 @@ fn is_among<'a>(words: &[Token<'a>], word: Token<'a>) -> bool {
 }
 
 /// Whether a line may bring in this name.
-fn is_imported<'a>(imported: &[Token<'a>], word: Token<'a>) -> bool {
+pub(crate) fn is_imported<'a>(imported: &[Token<'a>], word: Token<'a>) -> bool {
     for token in imported {
         if token.text == word.text || token.is("*") {
             return true;

@@ -65,6 +65,6 @@ fn check_json_name(name: Token<'_>) -> Result<(), Fault> {
 }
 
 /// A fault at a byte of what stands between a name's quotes.
-fn within(name: Token<'_>, at: usize, words: &'static str) -> Fault {
+pub(crate) fn within(name: Token<'_>, at: usize, words: &'static str) -> Fault {
     Fault::place(name.offset.saturating_add(1).saturating_add(at), words)
 }

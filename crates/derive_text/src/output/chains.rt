@@ -1,6 +1,6 @@
 //! The types of an enum's variants, and of their content: each of the first variant and the rest.
 
-use crate::output::fields::field_types;
+use crate::output::fields::{field_types, row_fields};
 use crate::output::layout::Items;
 use crate::output::names::Names;
 use crate::output::rows::{Leaf, pairs};
@@ -157,14 +157,8 @@ fn held_type<'a>(alloc: Global, variant: &Variant<'a>, before: &str) -> Result<S
             tuple_of(alloc, &texts, Items::Patterns, 4, 4)
         }
         Content::Fields(fields) => {
-            let row = pairs(
-                alloc,
-                &field_types(alloc, fields, before)?,
-                Items::Patterns,
-                4,
-                4,
-            )?;
-            Ok(row.flat)
+            let types = field_types(alloc, &row_fields(alloc, fields)?, before)?;
+            Ok(pairs(alloc, &types, Items::Patterns, 4, 4)?.flat)
         }
     }
 }

@@ -4,7 +4,7 @@ use crate::check::encoded_name;
 use crate::fault::Fault;
 use crate::output::chains::{Arm, append_chains};
 use crate::output::codecs::append_codecs;
-use crate::output::fields::append_labels;
+use crate::output::fields::{append_labels, row_fields};
 use crate::output::kind::Kind;
 use crate::output::labels::append_label;
 use crate::output::layout::Items;
@@ -72,7 +72,8 @@ fn append_variant<'a>(
         }
         Content::Fields(fields) => {
             let held = names.take(alloc, held.as_str())?;
-            let leaves = append_labels(alloc, sheet, names, wanted.as_str(), fields)?;
+            let fields = row_fields(alloc, fields)?;
+            let leaves = append_labels(alloc, sheet, names, target, wanted.as_str(), &fields)?;
             let start = format!(in alloc; "type {held} = ")?;
             let row = pairs(alloc, &leaves, Items::Types, 0, start.len())?;
             sheet.line(format!(in alloc; "\n{start}{};", row.laid.as_str())?.as_str())?;

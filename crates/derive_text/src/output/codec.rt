@@ -42,6 +42,8 @@ pub(crate) struct Codec {
     pub(crate) ser_arguments: &'static str,
     /// What writes a struct.
     pub(crate) write_record: &'static str,
+    /// The type of a part by reference, in the tuple that is written of a struct of parts.
+    pub(crate) part: &'static str,
     /// The trait that reads.
     pub(crate) de: &'static str,
     /// Its method.
@@ -79,6 +81,7 @@ pub(crate) const BIN: Codec = Codec {
         output: &mut Vec<u8>,\n    ) -> Result<(), std::alloc::AllocError> {",
     ser_arguments: "alloc, output",
     write_record: "nano_schema_bin::write_record_bin",
+    part: "",
     de: "nano_schema_bin::DeBin",
     de_method: "de_bin",
     reader: "    fn de_bin(\n        alloc: std::alloc::Global,\n        offset: &mut usize,\n        \
@@ -112,6 +115,7 @@ pub(crate) const JSON: Codec = Codec {
         ) -> Result<(), std::alloc::AllocError> {",
     ser_arguments: "alloc, d, s",
     write_record: "nano_schema_json::write_record_json",
+    part: "nano_schema_json::Part",
     de: "nano_schema_json::DeJson",
     de_method: "de_json",
     reader: "    fn de_json(\n        alloc: std::alloc::Global,\n        \
@@ -146,6 +150,7 @@ pub(crate) const RON: Codec = Codec {
         ) -> Result<(), std::alloc::AllocError> {",
     ser_arguments: "alloc, d, s",
     write_record: "nano_schema_ron::write_record_ron",
+    part: "nano_schema_ron::Part",
     de: "nano_schema_ron::DeRon",
     de_method: "de_ron",
     reader: "    fn de_ron(\n        alloc: std::alloc::Global,\n        \

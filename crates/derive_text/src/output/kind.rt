@@ -7,6 +7,8 @@ pub(crate) enum Kind {
     Record,
     /// An enum, by its schema.
     Choice,
-    /// What its one field is.
+    /// What its one part is.
     Transparent,
+    /// What the tuple of its parts is, which are so many.
+    Tuple(usize),
 }

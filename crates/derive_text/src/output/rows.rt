@@ -85,8 +85,14 @@ pub(crate) fn pairs(
     list(alloc, brackets, &halves)
 }
 
-/// The texts as nested pairs of a ghost term.
-pub(crate) fn ghost_pairs(alloc: Global, texts: &[String]) -> Result<String, AllocError> {
+/// The texts as nested pairs of a ghost term: each pair with something before it, and something
+/// between its two.
+pub(crate) fn ghost_pairs(
+    alloc: Global,
+    texts: &[String],
+    before: &str,
+    between: &str,
+) -> Result<String, AllocError> {
     if let [text] = texts {
         return text.clone();
     }
@@ -94,7 +100,7 @@ pub(crate) fn ghost_pairs(alloc: Global, texts: &[String]) -> Result<String, All
     if texts.is_empty() {
         return String::from_str(alloc, "tt");
     }
-    let first = ghost_pairs(alloc, first)?;
-    let second = ghost_pairs(alloc, second)?;
-    format!(in alloc; "({first}, {second})")
+    let first = ghost_pairs(alloc, first, before, between)?;
+    let second = ghost_pairs(alloc, second, before, between)?;
+    format!(in alloc; "({before}{first}{between}{second})")
 }

@@ -1,5 +1,7 @@
 //! The type whose impls are written.
 
+use crate::fault::Fault;
+use crate::output::agreement::{Agreement, agreement};
 use crate::output::layout::{COLUMNS, width};
 use crate::output::names::Names;
 use crate::syntax::{Attributes, Definition, Shape};
@@ -13,7 +15,8 @@ pub(crate) struct Target<'a> {
     pub(crate) full: String,
     /// The name of its row of fields or variants, with its parameters.
     pub(crate) row: String,
-    /// The name of the type of the content of its variants.
+    /// The name of the type of the values of its fields or of the content of its variants, with
+    /// its parameters.
     pub(crate) values: String,
     /// The name of the type of references to that content.
     pub(crate) refs: String,
@@ -25,6 +28,8 @@ pub(crate) struct Target<'a> {
     pub(crate) parameters: Vec<Token<'a>>,
     /// What stands above it.
     pub(crate) attributes: Attributes<'a>,
+    /// The ghost terms for its codecs.
+    pub(crate) agreement: Agreement,
 }
 
 impl<'a> Target<'a> {
@@ -34,7 +39,7 @@ impl<'a> Target<'a> {
         names: &mut Names,
         module: &'a str,
         definition: &Definition<'a>,
-    ) -> Result<Target<'a>, AllocError> {
+    ) -> Result<Target<'a>, Fault> {
         let mut parameters = Vec::new(alloc);
         for parameter in &definition.parameters {
             parameters.push(*parameter)?;
@@ -48,10 +53,12 @@ impl<'a> Target<'a> {
         let row = names.take(alloc, format!(in alloc; "{name}{end}")?.as_str())?;
         let values = names.take(alloc, format!(in alloc; "{name}Values")?.as_str())?;
         let refs = names.take(alloc, format!(in alloc; "{name}Refs")?.as_str())?;
+        let full = format!(in alloc; "{name}{arguments}")?;
         Ok(Target {
-            full: format!(in alloc; "{name}{arguments}")?,
+            agreement: agreement(alloc, definition, full.as_str())?,
+            full,
             row: format!(in alloc; "{row}{arguments}")?,
-            values,
+            values: format!(in alloc; "{values}{arguments}")?,
             refs,
             module,
             name: definition.name,

@@ -36,8 +36,13 @@ fn ends_bracket(following: Option<Token<'_>>) -> bool {
 
 /// The type in an `Option`, if the type is one.
 pub(crate) fn optional_part<'a>(of: Type<'a>) -> Option<Type<'a>> {
+    argument_of(of, "Option")
+}
+
+/// The one argument of a type of this name, if the type is one.
+pub(crate) fn argument_of<'a>(of: Type<'a>, name: &str) -> Option<Type<'a>> {
     match of.0 {
-        [option, open, .., close] if option.is("Option") && open.is("<") && close.is(">") => {
+        [found, open, .., close] if found.is(name) && open.is("<") && close.is(">") => {
             Some(Type(of.0.get(2..of.0.len().saturating_sub(1))?))
         }
         _ => None,

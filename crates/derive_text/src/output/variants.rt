@@ -1,6 +1,7 @@
 //! Variants in code: what is matched, and what is done in each case.
 
-use crate::output::fields::field_names;
+use crate::output::defaults::{bound_field, made_field};
+use crate::output::fields::{field_names, row_fields};
 use crate::output::layout::{Brackets, Items, Piece, list};
 use crate::output::rows::pairs;
 use crate::output::sheet::Sheet;
@@ -8,7 +9,8 @@ use crate::output::target::Target;
 use crate::syntax::{Content, Variant};
 use std::alloc::{AllocError, Global};
 
-const PARTS: [&str; 4] = ["first", "second", "third", "fourth"];
+/// What a pattern calls parts without names.
+pub(crate) const PARTS: [&str; 4] = ["first", "second", "third", "fourth"];
 
 /// Texts as a tuple, or the one text that there is.
 pub(crate) fn tuple_of(
@@ -25,7 +27,7 @@ pub(crate) fn tuple_of(
 }
 
 /// Texts between brackets, with a character after them.
-fn bracketed(
+pub(crate) fn bracketed(
     alloc: Global,
     open: &str,
     close: &str,
@@ -49,8 +51,12 @@ fn bracketed(
     list(alloc, brackets, &pieces)
 }
 
-/// The names that a pattern gives to what a variant holds.
-fn bound_names<'a>(alloc: Global, variant: &Variant<'a>) -> Result<Vec<String>, AllocError> {
+/// The names that a pattern gives to what a variant holds, or that a value has in their places.
+fn bound_names<'a>(
+    alloc: Global,
+    variant: &Variant<'a>,
+    items: Items,
+) -> Result<Vec<String>, AllocError> {
     let mut names = Vec::new(alloc);
     match &variant.content {
         Content::Nothing => {}
@@ -61,7 +67,10 @@ fn bound_names<'a>(alloc: Global, variant: &Variant<'a>) -> Result<Vec<String>, 
         }
         Content::Fields(fields) => {
             for field in fields {
-                names.push(String::from_str(alloc, field.name.text)?)?;
+                names.push(match items {
+                    Items::Patterns => bound_field(alloc, *field)?,
+                    _ => made_field(alloc, *field)?,
+                })?;
             }
         }
     }
@@ -78,7 +87,7 @@ pub(crate) fn named_variant<'a>(
     indent: usize,
     before: usize,
 ) -> Result<String, AllocError> {
-    let names = bound_names(alloc, variant)?;
+    let names = bound_names(alloc, variant, items)?;
     let path = format!(in alloc; "{}::{}", target.name.text, variant.name.text)?;
     match &variant.content {
         Content::Nothing => Ok(path),
@@ -115,10 +124,11 @@ pub(crate) fn content_of<'a>(
     match &variant.content {
         Content::Nothing => String::from_str(alloc, "()"),
         Content::Parts(_) => {
-            tuple_of(alloc, &bound_names(alloc, variant)?, items, indent, before)
+            let names = bound_names(alloc, variant, items)?;
+            tuple_of(alloc, &names, items, indent, before)
         }
         Content::Fields(fields) => {
-            let leaves = field_names(alloc, fields, "")?;
+            let leaves = field_names(alloc, &row_fields(alloc, fields)?, "")?;
             Ok(pairs(alloc, &leaves, items, indent, before)?.laid)
         }
     }

@@ -95,7 +95,15 @@ fn ghost_content<'a>(
             text.push(')')?;
             Ok(text)
         }
-        Content::Fields(_) => ghost_pairs(alloc, binders),
+        Content::Fields(fields) => {
+            let mut in_row = Vec::new(alloc);
+            for (field, binder) in fields.iter().zip(binders) {
+                if field.attributes.skip.is_none() {
+                    in_row.push(binder.clone()?)?;
+                }
+            }
+            ghost_pairs(alloc, &in_row, "", ", ")
+        }
     }
 }
 

@@ -1,0 +1,486 @@
+//! The settings of a server, in JSON and RON.
+
+// nanoserde: json ron
+/// How many requests a server answers at a time.
+#[derive(PartialEq, Debug, Drop)]
+pub enum Mode {
+    /// None.
+    Off,
+    /// So many.
+    Fixed(u32),
+    /// As many as it can.
+    Range {
+        /// At least.
+        least: u32,
+        /// At most.
+        most: u32,
+    },
+}
+
+// nanoserde: json ron
+/// The settings of a server.
+#[derive(PartialEq, Debug, Drop)]
+pub struct Settings {
+    /// Its name.
+    pub name: String,
+    /// The port on which it listens.
+    pub port: u16,
+    /// How many threads it has.
+    pub workers: u16,
+    /// Whether it prints each request.
+    pub verbose: bool,
+    /// What it is for.
+    pub tags: Vec<String>,
+    /// Who answers for it, if that is known.
+    pub owner: Option<String>,
+    /// How many requests it answers at a time.
+    pub mode: Mode,
+}
+
+// ---- written by nano_derive
+
+ghost use Rattle.std.specs.Prelude.{codes};
+ghost use Rattle.nano_schema.specs.declared.choices.Either.TheVariants.{First, Later};
+ghost use Rattle.nano_schema.specs.UserTypes.{LegalVariant};
+ghost use Rattle.nano_schema_json.specs.Choice.{json_choice};
+ghost use Rattle.std.specs.Prelude.{refl};
+ghost use Rattle.nano_schema.specs.UserTypes.{agreed};
+ghost use Rattle.nano_schema_ron.specs.Choice.{ron_choice};
+ghost use Rattle.nano_schema_json.specs.Record.{json_of};
+ghost use Rattle.nano_schema_ron.specs.Record.{ron_of};
+
+/// The name `Off`.
+#[derive(Drop)]
+struct ModeOff {}
+
+impl nano_schema::Label for ModeOff {
+    ghost label = { codes "Off" };
+
+    fn text() -> &'static str {
+        "Off"
+    }
+}
+
+/// The name `Fixed`.
+#[derive(Drop)]
+struct ModeFixed {}
+
+impl nano_schema::Label for ModeFixed {
+    ghost label = { codes "Fixed" };
+
+    fn text() -> &'static str {
+        "Fixed"
+    }
+}
+
+type ModeFixedParts = u32;
+
+/// The name `Range`.
+#[derive(Drop)]
+struct ModeRange {}
+
+impl nano_schema::Label for ModeRange {
+    ghost label = { codes "Range" };
+
+    fn text() -> &'static str {
+        "Range"
+    }
+}
+
+/// The name `least`.
+#[derive(Drop)]
+struct ModeRangeLeast {}
+
+impl nano_schema::Label for ModeRangeLeast {
+    ghost label = { codes "least" };
+
+    fn text() -> &'static str {
+        "least"
+    }
+}
+
+/// The name `most`.
+#[derive(Drop)]
+struct ModeRangeMost {}
+
+impl nano_schema::Label for ModeRangeMost {
+    ghost label = { codes "most" };
+
+    fn text() -> &'static str {
+        "most"
+    }
+}
+
+type ModeRangeParts = (
+    nano_schema::Required<ModeRangeLeast, u32>,
+    nano_schema::Required<ModeRangeMost, u32>,
+);
+
+type ModeVariants3 = nano_schema::Variant<ModeRange, nano_schema::Named<ModeRangeParts>>;
+
+type ModeVariants2 = (
+    nano_schema::Variant<ModeFixed, nano_schema::OnePart<ModeFixedParts>>,
+    ModeVariants3,
+);
+
+type ModeVariants = (
+    nano_schema::Variant<ModeOff, nano_schema::Alone>,
+    ModeVariants2,
+);
+
+type ModeValues3 = (u32, u32);
+
+type ModeValues2 = nano_schema::Either<u32, ModeValues3>;
+
+type ModeValues = nano_schema::Either<(), ModeValues2>;
+
+type ModeRefs3<'a> = (&'a u32, &'a u32);
+
+type ModeRefs2<'a> = nano_schema::Either<&'a u32, ModeRefs3<'a>>;
+
+type ModeRefs<'a> = nano_schema::Either<(), ModeRefs2<'a>>;
+
+impl nano_schema::Choice for Mode {
+    ghost use Rattle.example_server.specs.declared.settings.Mode.TheVariants.{Off};
+    ghost use Rattle.example_server.specs.declared.settings.Mode.TheVariants.{Fixed};
+    ghost use Rattle.example_server.specs.declared.settings.Mode.TheVariants.{Range};
+
+    type Values = ModeValues;
+
+    ghost view = { λ x. elim x [
+      | Off ↦ First tt
+      | Fixed v0 ↦ Later (First v0)
+      | Range v0 v1 ↦ Later (Later (v0, v1))
+    ] };
+
+    fn make(values: Self::Values) -> Self {
+        let later = match values {
+            nano_schema::Either::First(values) => {
+                let () = values;
+                return Mode::Off;
+            }
+            nano_schema::Either::Later(later) => later,
+        };
+        let later = match later {
+            nano_schema::Either::First(values) => {
+                let first = values;
+                return Mode::Fixed(first);
+            }
+            nano_schema::Either::Later(later) => later,
+        };
+        let (least, most) = later;
+        Mode::Range { least, most }
+    }
+}
+
+impl<'a> nano_schema::ChoiceParts<'a> for Mode {
+    type Refs = ModeRefs<'a>;
+
+    ghost values = { ⟦<ModeVariants as nano_schema::BorrowedChoices<'a>>⟧.values };
+
+    fn as_refs(&'a self) -> Self::Refs {
+        match self {
+            Mode::Off => {
+                let refs = ();
+                let refs = nano_schema::Either::First(refs);
+                refs
+            }
+            Mode::Fixed(first) => {
+                let refs = first;
+                let refs = nano_schema::Either::First(refs);
+                let refs = nano_schema::Either::Later(refs);
+                refs
+            }
+            Mode::Range { least, most } => {
+                let refs = (least, most);
+                let refs = nano_schema::Either::Later(refs);
+                let refs = nano_schema::Either::Later(refs);
+                refs
+            }
+        }
+    }
+}
+
+impl nano_schema::Value for Mode {
+    ghost means = { λ x. ⟦<ModeVariants as nano_schema::Choices>⟧.means 0
+        (⟦<Mode as nano_schema::Choice>⟧.view x) };
+
+    ghost legal = { LegalVariant ⟦<ModeVariants as nano_schema::Choices>⟧.legals };
+
+    fn known(&self) {
+        nano_schema::known_choice::<Self, ModeVariants>(self);
+    }
+}
+
+// ---- JSON
+
+impl nano_schema_json::JsonCodec for Mode {
+    ghost json = { json_choice ⟦<Mode as nano_schema::Choice>⟧.view
+        ⟦<ModeVariants as nano_schema_json::JsonShapes>⟧.codec refl refl refl };
+
+    ghost agrees = { agreed };
+}
+
+impl nano_schema_json::SerJson for Mode {
+    fn ser_json(
+        &self,
+        alloc: std::alloc::Global,
+        d: usize,
+        s: &mut nano_schema_json::SerJsonState,
+    ) -> Result<(), std::alloc::AllocError> {
+        nano_schema_json::write_choice_json::<Self, ModeVariants>(self, alloc, d, s)
+    }
+}
+
+impl nano_schema_json::DeJson for Mode {
+    fn de_json(
+        alloc: std::alloc::Global,
+        state: &mut nano_schema_json::DeJsonState,
+        input: &mut std::str::Chars<'_>,
+    ) -> nano_schema_json::JsonResult<Self> {
+        nano_schema_json::read_choice_json::<Self, ModeVariants>(alloc, state, input)
+    }
+}
+
+// ---- RON
+
+impl nano_schema_ron::RonCodec for Mode {
+    ghost ron = { ron_choice ⟦<Mode as nano_schema::Choice>⟧.view
+        ⟦<ModeVariants as nano_schema_ron::RonShapes>⟧.codec refl refl refl };
+
+    ghost agrees = { agreed };
+}
+
+impl nano_schema_ron::SerRon for Mode {
+    fn ser_ron(
+        &self,
+        alloc: std::alloc::Global,
+        d: usize,
+        s: &mut nano_schema_ron::SerRonState,
+    ) -> Result<(), std::alloc::AllocError> {
+        nano_schema_ron::write_choice_ron::<Self, ModeVariants>(self, alloc, d, s)
+    }
+}
+
+impl nano_schema_ron::DeRon for Mode {
+    fn de_ron(
+        alloc: std::alloc::Global,
+        state: &mut nano_schema_ron::DeRonState,
+        input: &mut std::str::Chars<'_>,
+    ) -> nano_schema_ron::RonResult<Self> {
+        nano_schema_ron::read_choice_ron::<Self, ModeVariants>(alloc, state, input)
+    }
+}
+
+/// The name `name`.
+#[derive(Drop)]
+struct SettingsName {}
+
+impl nano_schema::Label for SettingsName {
+    ghost label = { codes "name" };
+
+    fn text() -> &'static str {
+        "name"
+    }
+}
+
+/// The name `port`.
+#[derive(Drop)]
+struct SettingsPort {}
+
+impl nano_schema::Label for SettingsPort {
+    ghost label = { codes "port" };
+
+    fn text() -> &'static str {
+        "port"
+    }
+}
+
+/// The name `workers`.
+#[derive(Drop)]
+struct SettingsWorkers {}
+
+impl nano_schema::Label for SettingsWorkers {
+    ghost label = { codes "workers" };
+
+    fn text() -> &'static str {
+        "workers"
+    }
+}
+
+/// The name `verbose`.
+#[derive(Drop)]
+struct SettingsVerbose {}
+
+impl nano_schema::Label for SettingsVerbose {
+    ghost label = { codes "verbose" };
+
+    fn text() -> &'static str {
+        "verbose"
+    }
+}
+
+/// The name `tags`.
+#[derive(Drop)]
+struct SettingsTags {}
+
+impl nano_schema::Label for SettingsTags {
+    ghost label = { codes "tags" };
+
+    fn text() -> &'static str {
+        "tags"
+    }
+}
+
+/// The name `owner`.
+#[derive(Drop)]
+struct SettingsOwner {}
+
+impl nano_schema::Label for SettingsOwner {
+    ghost label = { codes "owner" };
+
+    fn text() -> &'static str {
+        "owner"
+    }
+}
+
+/// The name `mode`.
+#[derive(Drop)]
+struct SettingsMode {}
+
+impl nano_schema::Label for SettingsMode {
+    ghost label = { codes "mode" };
+
+    fn text() -> &'static str {
+        "mode"
+    }
+}
+
+type SettingsFields = (
+    (
+        nano_schema::Required<SettingsName, String>,
+        (
+            nano_schema::Required<SettingsPort, u16>,
+            nano_schema::Required<SettingsWorkers, u16>,
+        ),
+    ),
+    (
+        (
+            nano_schema::Required<SettingsVerbose, bool>,
+            nano_schema::Required<SettingsTags, Vec<String>>,
+        ),
+        (
+            nano_schema::Optional<SettingsOwner, String>,
+            nano_schema::Required<SettingsMode, Mode>,
+        ),
+    ),
+);
+
+impl nano_schema::Record for Settings {
+    type Values = (
+        (String, (u16, u16)),
+        ((bool, Vec<String>), (Option<String>, Mode)),
+    );
+
+    ghost view = { λ x. ((x.name, (x.port, x.workers)), ((x.verbose, x.tags), (x.owner, x.mode))) };
+
+    fn make(values: Self::Values) -> Self {
+        let ((name, (port, workers)), ((verbose, tags), (owner, mode))) = values;
+        Settings {
+            name,
+            port,
+            workers,
+            verbose,
+            tags,
+            owner,
+            mode,
+        }
+    }
+}
+
+impl<'a> nano_schema::Parts<'a> for Settings {
+    type Refs = (
+        (&'a String, (&'a u16, &'a u16)),
+        ((&'a bool, &'a Vec<String>), (&'a Option<String>, &'a Mode)),
+    );
+
+    ghost values = { ⟦<SettingsFields as nano_schema::Borrowed<'a>>⟧.values };
+
+    fn as_refs(&'a self) -> Self::Refs {
+        (
+            (&self.name, (&self.port, &self.workers)),
+            ((&self.verbose, &self.tags), (&self.owner, &self.mode)),
+        )
+    }
+}
+
+impl nano_schema::Value for Settings {
+    ghost means = { λ x. ⟦<SettingsFields as nano_schema::Shape>⟧.means
+        (⟦<Settings as nano_schema::Record>⟧.view x) };
+
+    ghost legal = { ⟦<SettingsFields as nano_schema::Shape>⟧.legal };
+
+    fn known(&self) {
+        nano_schema::known_record::<Self, SettingsFields>(self);
+    }
+}
+
+// ---- JSON
+
+impl nano_schema_json::JsonCodec for Settings {
+    ghost json = { json_of ⟦<Settings as nano_schema::Record>⟧.view
+        ⟦<SettingsFields as nano_schema_json::JsonShape>⟧.codec refl };
+
+    ghost agrees = { agreed };
+}
+
+impl nano_schema_json::SerJson for Settings {
+    fn ser_json(
+        &self,
+        alloc: std::alloc::Global,
+        d: usize,
+        s: &mut nano_schema_json::SerJsonState,
+    ) -> Result<(), std::alloc::AllocError> {
+        nano_schema_json::write_record_json::<Self, SettingsFields>(self, alloc, d, s)
+    }
+}
+
+impl nano_schema_json::DeJson for Settings {
+    fn de_json(
+        alloc: std::alloc::Global,
+        state: &mut nano_schema_json::DeJsonState,
+        input: &mut std::str::Chars<'_>,
+    ) -> nano_schema_json::JsonResult<Self> {
+        nano_schema_json::read_record_json::<Self, SettingsFields>(alloc, state, input)
+    }
+}
+
+// ---- RON
+
+impl nano_schema_ron::RonCodec for Settings {
+    ghost ron = { ron_of ⟦<Settings as nano_schema::Record>⟧.view
+        ⟦<SettingsFields as nano_schema_ron::RonShape>⟧.codec refl };
+
+    ghost agrees = { agreed };
+}
+
+impl nano_schema_ron::SerRon for Settings {
+    fn ser_ron(
+        &self,
+        alloc: std::alloc::Global,
+        d: usize,
+        s: &mut nano_schema_ron::SerRonState,
+    ) -> Result<(), std::alloc::AllocError> {
+        nano_schema_ron::write_record_ron::<Self, SettingsFields>(self, alloc, d, s)
+    }
+}
+
+impl nano_schema_ron::DeRon for Settings {
+    fn de_ron(
+        alloc: std::alloc::Global,
+        state: &mut nano_schema_ron::DeRonState,
+        input: &mut std::str::Chars<'_>,
+    ) -> nano_schema_ron::RonResult<Self> {
+        nano_schema_ron::read_record_ron::<Self, SettingsFields>(alloc, state, input)
+    }
+}
