@@ -2,9 +2,10 @@
 
 use crate::site::{Event, Site};
 use crate::type_checks::holds;
+use nano_schema::{DefaultOf, TypeDefault};
+use nano_value::Value;
 use nanoserde::{DeBin, DeJson, DeRon, SerBin, SerJson, SerRon};
-use std::alloc::Global;
-use std::process::Abort;
+use std::alloc::{AllocError, Global};
 use std::test::Fail;
 
 /// A text, and the port, the number of tags and whether there is an owner.
@@ -125,5 +126,30 @@ fn a_variant_has_fields_with_defaults(rt: HostRuntime) -> Result<(), Fail> {
         are_said(rt.alloc(), json, "Say(times:3,text:\"x\")", 3)?,
         "there",
     );
+    Ok(())
+}
+
+/// A default, made through its bound.
+fn default_of<T: Value, D: DefaultOf<T>>(alloc: Global) -> Result<T, AllocError> {
+    D::default(alloc)
+}
+
+#[test]
+fn types_have_defaults(rt: HostRuntime) -> Result<(), Fail> {
+    let alloc = rt.alloc();
+    holds(
+        &rt,
+        default_of::<u128, TypeDefault>(alloc)? == 0,
+        "a number",
+    );
+    holds(
+        &rt,
+        !default_of::<bool, TypeDefault>(alloc)?,
+        "a truth value",
+    );
+    let text = default_of::<String, TypeDefault>(alloc)?;
+    holds(&rt, text.is_empty(), "a text");
+    let option = default_of::<Option<String>, TypeDefault>(alloc)?;
+    holds(&rt, option.is_none(), "an option");
     Ok(())
 }
