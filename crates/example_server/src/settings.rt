@@ -26,10 +26,13 @@ pub struct Settings {
     /// The port on which it listens.
     pub port: u16,
     /// How many threads it has.
+    // nanoserde: default = "4"
     pub workers: u16,
     /// Whether it prints each request.
+    // nanoserde: default
     pub verbose: bool,
     /// What it is for.
+    // nanoserde: default
     pub tags: Vec<String>,
     /// Who answers for it, if that is known.
     pub owner: Option<String>,
@@ -46,6 +49,7 @@ ghost use Rattle.nano_schema_json.specs.Choice.{json_choice};
 ghost use Rattle.std.specs.Prelude.{refl};
 ghost use Rattle.nano_schema.specs.UserTypes.{agreed};
 ghost use Rattle.nano_schema_ron.specs.Choice.{ron_choice};
+ghost use Rattle.nano_value.specs.Meaning.{whole};
 ghost use Rattle.nano_schema_json.specs.Record.{json_of};
 ghost use Rattle.nano_schema_ron.specs.Record.{ron_of};
 
@@ -308,6 +312,26 @@ impl nano_schema::Label for SettingsWorkers {
     }
 }
 
+/// The default of `workers`.
+#[derive(Drop)]
+struct SettingsWorkersDefault {}
+
+impl nano_schema::DefaultOf<u16> for SettingsWorkersDefault {
+    ghost missing = { whole 4 };
+
+    fn default(_alloc: std::alloc::Global) -> Result<u16, std::alloc::AllocError> {
+        Ok(4)
+    }
+}
+
+impl nano_schema_json::JsonDefaultOf<u16> for SettingsWorkersDefault {
+    ghost is_sound = { λ x e. tt };
+}
+
+impl nano_schema_ron::RonDefaultOf<u16> for SettingsWorkersDefault {
+    ghost is_sound = { λ x e. tt };
+}
+
 /// The name `verbose`.
 #[derive(Drop)]
 struct SettingsVerbose {}
@@ -361,13 +385,13 @@ type SettingsFields = (
         nano_schema::Required<SettingsName, String>,
         (
             nano_schema::Required<SettingsPort, u16>,
-            nano_schema::Required<SettingsWorkers, u16>,
+            nano_schema::Defaulted<SettingsWorkers, u16, SettingsWorkersDefault>,
         ),
     ),
     (
         (
-            nano_schema::Required<SettingsVerbose, bool>,
-            nano_schema::Required<SettingsTags, Vec<String>>,
+            nano_schema::Defaulted<SettingsVerbose, bool, nano_schema::TypeDefault>,
+            nano_schema::Defaulted<SettingsTags, Vec<String>, nano_schema::TypeDefault>,
         ),
         (
             nano_schema::Optional<SettingsOwner, String>,
