@@ -20,7 +20,7 @@ pub(crate) struct Agreement {
 const UNKNOWN: &str = "is a type parameter within a type that is neither an `Option` nor a `Vec`";
 
 /// The terms of a definition whose name has these parameters.
-pub(crate) fn agreement<'a>(
+pub(crate) fn agreement_of<'a>(
     alloc: Global,
     definition: &Definition<'a>,
     full: &str,

@@ -1,7 +1,7 @@
 //! The type whose impls are written.
 
 use crate::fault::Fault;
-use crate::output::agreement::{Agreement, agreement};
+use crate::output::agreement::{Agreement, agreement_of};
 use crate::output::layout::{COLUMNS, width};
 use crate::output::names::Names;
 use crate::syntax::{Attributes, Definition, Shape};
@@ -55,7 +55,7 @@ impl<'a> Target<'a> {
         let refs = names.take(alloc, format!(in alloc; "{name}Refs")?.as_str())?;
         let full = format!(in alloc; "{name}{arguments}")?;
         Ok(Target {
-            agreement: agreement(alloc, definition, full.as_str())?,
+            agreement: agreement_of(alloc, definition, full.as_str())?,
             full,
             row: format!(in alloc; "{row}{arguments}")?,
             values: format!(in alloc; "{values}{arguments}")?,
