@@ -1,4 +1,5 @@
 use Rattle.std.proofs.lemmas.Result.{IfErr-weaker}
+use Rattle.nano_text.specs.PlaceLaws.{advances_none}
 use Rattle.nano_grammar.proofs.Reading.{one_token}
 use Rattle.nano_json_tokens.specs.JsonLaws.{json}
 use Rattle.nano_json_tokens.specs.State.{at}
@@ -13,3 +14,6 @@ returns-then-is_null-clause-rejected c =
           r.0 known one.1.0.token one.1.0.text one.1.1,
       r.1.0,
     )) c.next_tok.ensures.rejected
+
+pub returns-clause-place : goal.returns-clause-place
+returns-clause-place c = advances_none _ _

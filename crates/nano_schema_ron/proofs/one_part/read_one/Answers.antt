@@ -9,3 +9,6 @@ returns-clause-rejected g c =
     let start = at c.args.state.now c.args.input.now in
     let encodes = (single_codec g.T.RonCodec.ron).encoding.encodes in
     rw c.end_on_error.ensures.same (IfErr-weaker c.read_single-read.result _ _ (λ e h. (λ known. closed_rejected encodes start (h.0 known), h.1)) c.read_single-read.ensures.rejected)
+
+pub returns-clause-place : goal.returns-clause-place
+returns-clause-place g c = c.end_on_error.ensures.place _ _ _ c.read_single-read.ensures.place

@@ -1,0 +1,4 @@
+use Rattle.nano_json.proofs.signed.I8DeJson.de_json.Goals as goal
+
+pub returns-clause-place : goal.returns-clause-place
+returns-clause-place c = c.end_on_error.ensures.place _ _ _ c.read_signed-read.ensures.place

@@ -1,0 +1,4 @@
+use Rattle.nano_ron.proofs.tuples.Tuple3DeRon.de_ron.Goals as goal
+
+pub returns-clause-place : goal.returns-clause-place
+returns-clause-place g c = c.end_on_error.ensures.place _ _ _ c.read_triple-read.ensures.place
