@@ -111,9 +111,3 @@ pub returns-in_err-text-in-Say-clause-made : goal.returns-in_err-text-in-Say-cla
 returns-in_err-text-in-Say-clause-made c =
     let p = err_from_is_err_and c.from_residual-in_err-text-in-Say.result c.from_residual-in_err-text-in-Say.ensures.1 in
     rw (p.1, p.2) c.in_err-text-in-Say.ensures.made
-
-pub returns-in_default-clause-place : goal.returns-in_default-clause-place
-returns-in_default-clause-place c = c.unknown_variant.ensures.place _ _ _ c.in_ok-name.ensures.place
-
-pub returns-clause-place : goal.returns-clause-place
-returns-clause-place c = c.unknown_variant-in_default-as_str.ensures.place _ _ _ c.in_ok-name.ensures.place
