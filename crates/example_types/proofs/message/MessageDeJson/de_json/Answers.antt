@@ -111,3 +111,10 @@ pub returns-in_err-text-in-Say-clause-made : goal.returns-in_err-text-in-Say-cla
 returns-in_err-text-in-Say-clause-made c =
     let p = err_from_is_err_and c.from_residual-in_err-text-in-Say.result c.from_residual-in_err-text-in-Say.ensures.1 in
     rw (p.1, p.2) c.in_err-text-in-Say.ensures.made
+
+pub returns-in-Unit-clause-place : goal.returns-in-Unit-clause-place
+returns-in-Unit-clause-place c = c.unknown_variant.ensures.place _ _ _ c.in_ok-name.ensures.place
+
+pub returns-clause-place : goal.returns-clause-place
+returns-clause-place c =
+    c.unknown_variant-in_default-as_str.ensures.place _ _ _ c.in_ok-name.ensures.place
