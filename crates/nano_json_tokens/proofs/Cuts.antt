@@ -153,6 +153,15 @@ lexeme_cut text t rest h =
     let s = prefix_split is_space text in
     record { space = prefix is_space text; body = following is_space text; split = s.0; skipped = s.1; lexeme = h }
 
+-- white space that was passed changes no token
+pub cut_spaced : (text after : List ℕ) → after ≡ following is_space text → (t : Token) (rest : List ℕ) → Cut after t rest ↔ Cut text t rest
+cut_spaced text after e t rest =
+    let still : following is_space after ≡ following is_space text =
+    ap (following is_space) e ∙ after_stop is_space (following is_space text) (prefix_split is_space text).2 in (
+      λ h. lexeme_cut text t rest (subst (λ (l : List ℕ). IsLexeme t l rest) still (cut_lexeme after t rest h)),
+      λ h. lexeme_cut after t rest (subst (λ (l : List ℕ). IsLexeme t l rest) (sym still) (cut_lexeme text t rest h)),
+    )
+
 -- a text is cut in one way
 pub cut_one_way : IsOneWay Cut
 cut_one_way text t u r q h k = lexeme_one_way t u (following is_space text) r q (cut_lexeme text t r h) (cut_lexeme text u q k)

@@ -6,6 +6,7 @@ mod error;
 mod helpers;
 mod input;
 pub mod laws;
+mod names;
 mod punctuation;
 mod rollback;
 mod scan;

@@ -79,7 +79,7 @@ impl DeJsonState {
 
     /// Passes over white space, of which most texts have none here.
     #[inline(always)]
-    fn skip_space(&mut self, i: &mut Chars<'_>)
+    pub(crate) fn skip_space(&mut self, i: &mut Chars<'_>)
         ensures remaining { remaining self.new.cur i.new ≡ following is_space (remaining self.old.cur i.old) }
         ensures place { Counts self.old i.old self.new i.new }
         ensures tok { self.new.tok ≡ self.old.tok }

@@ -7,6 +7,7 @@ pub mod Punctuation
 pub mod FieldReading
 pub mod FieldReadingLaws
 pub mod ListReading
+pub mod NameReading
 pub mod FieldTexts
 pub mod VariantReading
 pub mod Promises

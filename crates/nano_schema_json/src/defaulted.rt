@@ -10,7 +10,6 @@ ghost use Rattle.nano_schema_text.specs.Slots.{Holds};
 ghost use Rattle.nano_schema_text.specs.SlotsLaws.{holds_skips};
 
 use crate::fields::{JsonFields, JsonRefs, JsonShape};
-use crate::named::read_named;
 use crate::writer::append_field;
 use nano_json::{DeJson, DeJsonErr, DeJsonState, JsonCodec, SerJson, SerJsonState};
 use nano_schema::{DefaultOf, Defaulted, Label};
@@ -67,19 +66,19 @@ impl<N: Label, T: DeJson, D: JsonDefaultOf<T>> JsonFields for Defaulted<N, T, D>
         None
     }
 
-    fn knows(name: &str) -> bool {
-        name == N::text()
-    }
-
     fn read_field(
+        name: &str,
         slots: &mut Option<T>,
         alloc: Global,
         state: &mut DeJsonState,
         input: &mut Chars<'_>,
-    ) -> Result<(), DeJsonErr> {
-        let value = read_named(alloc, state, input)?;
+    ) -> Result<bool, DeJsonErr> {
+        if name != N::text() {
+            return Ok(false);
+        }
+        let value = T::de_json(alloc, state, input)?;
         *slots = Some(value);
-        Ok(())
+        Ok(true)
     }
 
     #[tactic(auto, using(nano_schema_text::specs::DefaultsLaws::missing_is_meant, nano_schema_text::specs::DefaultsLaws::present_is_meant))]

@@ -1,19 +1,17 @@
-//! The fields of a struct: what knows their names, reads the value after a name, makes the values
-//! of all, and writes them.
+//! The fields of a struct: what reads the value of a name, makes the values of all, and writes
+//! them.
 
 ghost use Rattle.std.specs.Prelude.{◌≡◌, List, [], ◌∷◌, ◌++◌, true, false, IfOk, OnOk, IfErr, OnErr};
-ghost use Rattle.std.specs.Prelude.{string_bytes};
 ghost use Rattle.nano_value.specs.Meaning.{Meaning};
 ghost use Rattle.nano_text.specs.Outcomes.{Appends, AppendsPart};
 ghost use Rattle.nano_schema_text.specs.FieldCodec.{FieldsCodec};
 ghost use Rattle.nano_schema_text.specs.FieldCanonical.{field_text};
-ghost use Rattle.nano_schema_json.specs.FieldReading.{Field, EncodedField, DecodesField};
+ghost use Rattle.nano_schema_json.specs.FieldReading.{Field, DecodesValue, ValueOf};
 ghost use Rattle.nano_schema_json.specs.FieldTexts.{in_a_row, none_yet};
 ghost use Rattle.nano_schema_json.specs.FieldsLaws.{json_fields};
-ghost use Rattle.nano_json_tokens.specs.Outcomes.{Counts, IsPlacedAt};
+ghost use Rattle.nano_json_tokens.specs.Outcomes.{Counts, IsPlacedAt, Keeps};
 ghost use Rattle.nano_json.specs.Readers.{Rejects, Reports};
-ghost use Rattle.nano_json.specs.State.{at, pending};
-ghost use Rattle.nano_json.specs.Token.{IsStr};
+ghost use Rattle.nano_json.specs.State.{at};
 
 use nano_json::{DeJsonErr, DeJsonState, SerJsonState};
 use std::alloc::{AllocError, Global};
@@ -48,27 +46,27 @@ pub trait JsonFields {
     fn empty() -> Self::Slots
         ensures { holds result [] };
 
-    /// Whether a field has this name. It takes no memory.
-    fn knows(name: &str) -> bool
-        ensures { result ≡ codec.struct.shape.knows name.now };
-
-    /// Reads the field whose name is pending, and puts its value in place of an earlier one.
+    /// Reads the value of the field with this name, whose first token is pending, and puts it in
+    /// place of an earlier one. Answers whether a field has the name; where none has, nothing is
+    /// read.
     ///
-    /// An error other than out of memory says that no field with this name and a value of its
-    /// type stands there, with one more token or the end after it. The state may be at any
-    /// position then.
+    /// An error other than out of memory says that no value of that field's type stands there,
+    /// with one more token or the end after it. The state may be at any position then.
     fn read_field(
+        name: &str,
         slots: &mut Self::Slots,
         alloc: Global,
         state: &mut DeJsonState,
         input: &mut Chars<'_>,
-    ) -> Result<(), DeJsonErr>
-        requires text { IsStr (pending state.old) }
-        requires known { codec.struct.shape.knows (string_bytes state.old.strbuf) ≡ true }
-        ensures decodes { OnOk result (DecodesField codec.struct.shape.takes
-            (holds slots.old) (holds slots.new)
+    ) -> Result<bool, DeJsonErr>
+        ensures known { IfOk result (λ known. known ≡ codec.struct.shape.knows name.now) }
+        ensures decodes { IfOk result (λ known. known ≡ true
+            → DecodesValue name.now codec.struct.shape.takes (holds slots.old) (holds slots.new)
             (at state.old input.old) (at state.new input.new)) }
-        ensures rejected { Rejects (EncodedField codec.struct.shape.takes)
+        ensures unknown { IfOk result (λ known. known ≡ false → (slots.new ≡ slots.old)
+            × Keeps state.old input.old state.new input.new) }
+        ensures fails { OnErr result (codec.struct.shape.knows name.now ≡ true) }
+        ensures rejected { Rejects (ValueOf name.now codec.struct.shape.takes)
             (at state.old input.old) result }
         ensures place { Counts state.old input.old state.new input.new }
         ensures made { IfErr result (IsPlacedAt state.new) };

@@ -11,7 +11,7 @@ mod defaulted;
 mod defaults;
 mod fields;
 pub mod laws;
-mod named;
+mod names;
 mod optional;
 mod pairs;
 mod part;

@@ -7,7 +7,6 @@ ghost use Rattle.nano_schema_json.specs.FieldsLaws.{may};
 ghost use Rattle.nano_schema_text.specs.SlotsLaws.{optional_skips};
 
 use crate::fields::{JsonFields, JsonRefs, JsonShape};
-use crate::named::read_named;
 use crate::writer::append_field;
 use nano_json::{DeJson, DeJsonErr, DeJsonState, JsonCodec, SerJson, SerJsonState};
 use nano_schema::{Label, Optional};
@@ -37,19 +36,19 @@ impl<N: Label, T: DeJson> JsonFields for Optional<N, T> {
         None
     }
 
-    fn knows(name: &str) -> bool {
-        name == N::text()
-    }
-
     fn read_field(
+        name: &str,
         slots: &mut Option<T>,
         alloc: Global,
         state: &mut DeJsonState,
         input: &mut Chars<'_>,
-    ) -> Result<(), DeJsonErr> {
-        let value = read_named(alloc, state, input)?;
+    ) -> Result<bool, DeJsonErr> {
+        if name != N::text() {
+            return Ok(false);
+        }
+        let value = Option::<T>::de_json(alloc, state, input)?;
         *slots = value;
-        Ok(())
+        Ok(true)
     }
 
     fn values(

@@ -34,20 +34,17 @@ impl<A: JsonFields, B: JsonFields> JsonFields for (A, B) {
         (A::empty(), B::empty())
     }
 
-    fn knows(name: &str) -> bool {
-        A::knows(name) || B::knows(name)
-    }
-
     fn read_field(
+        name: &str,
         slots: &mut (A::Slots, B::Slots),
         alloc: Global,
         state: &mut DeJsonState,
         input: &mut Chars<'_>,
-    ) -> Result<(), DeJsonErr> {
-        if A::knows(state.strbuf.as_str()) {
-            return A::read_field(&mut slots.0, alloc, state, input);
+    ) -> Result<bool, DeJsonErr> {
+        if A::read_field(name, &mut slots.0, alloc, state, input)? {
+            return Ok(true);
         }
-        B::read_field(&mut slots.1, alloc, state, input)
+        B::read_field(name, &mut slots.1, alloc, state, input)
     }
 
     fn values(

@@ -1,17 +1,22 @@
 //! Named fields between curly brackets.
 
-ghost use Rattle.std.specs.Prelude.{◌≡◌, [], OnOk, OnErr, IfErr};
+ghost use Rattle.std.specs.Prelude.{◌≡◌, [], None, OnOk, OnErr, IfErr};
+ghost use Rattle.std.specs.Option.{option_map};
+ghost use Rattle.nano_grammar.specs.Tokens.{At};
 ghost use Rattle.nano_schema_json.specs.FieldReading.{Allowed, EncodedField, DecodesField};
+ghost use Rattle.nano_schema_json.specs.FieldReading.{DecodesValue, ValueOf};
+ghost use Rattle.nano_schema_json.specs.NameReading.{StandsAfter, TakesSome};
 ghost use Rattle.nano_schema_json.specs.FieldReadingLaws.{fields_of};
 ghost use Rattle.nano_schema_json.specs.ListReading.{HeldIsRead, NothingHeldIsRead};
-ghost use Rattle.nano_schema_json.specs.Punctuation.{is_str};
 ghost use Rattle.nano_json_tokens.specs.Outcomes.{Counts, IsPlacedAt};
-ghost use Rattle.nano_json.specs.Readers.{Decodes, Rejects};
+ghost use Rattle.nano_json.specs.Readers.{Decodes, Rejects, Reports};
+ghost use Rattle.nano_json.specs.Encoding.{DecodesToNothing};
 ghost use Rattle.nano_json.specs.State.{at, ended, pending};
-ghost use Rattle.nano_json.specs.Token.{IsStr};
+ghost use Rattle.nano_json.specs.Token.{Token, IsStr};
 
 use crate::fields::JsonFields;
-use nano_json::{DeJsonErr, DeJsonState, DeJsonTok, end_on_error};
+use crate::names::{is_at_field, next_field, open_fields, take_name};
+use nano_json::{DeJsonErr, DeJsonState, end_on_error};
 use std::alloc::Global;
 use std::str::Chars;
 
@@ -79,46 +84,68 @@ fn read_list<F: JsonFields>(
     ensures place { Counts state.old input.old state.new input.new }
     ensures made { IfErr result (IsPlacedAt state.new) }
 {
-    state.curly_open(alloc, input)?;
-    'fields: while is_name(state) {
-        read_any::<F>(slots, alloc, state, input)?;
-        state.eat_comma_curly(alloc, input)?;
+    let mut moved = String::new(alloc);
+    let mut name = open_fields(alloc, state, input)?;
+    'fields: while is_at_field(name, state) {
+        read_any::<F>(name, &mut moved, slots, alloc, state, input)?;
+        name = next_field(alloc, state, input)?;
     }
     state.curly_close(alloc, input)
 }
 
-/// Reads the field whose name is pending, or skips it where the name is not known. The name is
-/// compared in place in the state, before the next token is taken. On an error, the state may
-/// be at any position.
+/// Reads a field, whose name is taken in place or pending, or skips it where the name is not
+/// known. On an error, the state may be at any position.
 fn read_any<F: JsonFields>(
+    name: Option<&str>,
+    moved: &mut String,
     slots: &mut F::Slots,
     alloc: Global,
     state: &mut DeJsonState,
     input: &mut Chars<'_>,
 ) -> Result<(), DeJsonErr>
-    requires { IsStr (pending state.old) }
-    ensures decodes { OnOk result (DecodesField (Allowed F.codec.struct.shape)
+    requires { name ≡ None → IsStr (pending state.old) }
+    ensures decodes { OnOk result ((here : At Token)
+        → StandsAfter (option_map (λ n. n.now) name.entry) here (at state.old input.old)
+        → DecodesField (Allowed F.codec.struct.shape) (F.holds slots.old) (F.holds slots.new)
+        here (at state.new input.new)) }
+    ensures some { OnOk result (TakesSome (at state.old input.old) (at state.new input.new)) }
+    ensures rejected { IfErr result (Reports ((here : At Token)
+        → StandsAfter (option_map (λ n. n.now) name.entry) here (at state.old input.old)
+        → DecodesToNothing (EncodedField (Allowed F.codec.struct.shape)) here)) }
+    ensures place { Counts state.old input.old state.new input.new }
+    ensures made { IfErr result (IsPlacedAt state.new) }
+{
+    match name {
+        Some(name) => {
+            state.colon(alloc, input)?;
+            read_named::<F>(name, slots, alloc, state, input)
+        }
+        None => {
+            take_name(moved, alloc, state, input)?;
+            read_named::<F>(moved.as_str(), slots, alloc, state, input)
+        }
+    }
+}
+
+/// Reads the value after this name, or skips it where the name is not known. On an error, the
+/// state may be at any position.
+fn read_named<F: JsonFields>(
+    name: &str,
+    slots: &mut F::Slots,
+    alloc: Global,
+    state: &mut DeJsonState,
+    input: &mut Chars<'_>,
+) -> Result<(), DeJsonErr>
+    ensures decodes { OnOk result (DecodesValue name.now (Allowed F.codec.struct.shape)
         (F.holds slots.old) (F.holds slots.new)
         (at state.old input.old) (at state.new input.new)) }
-    ensures rejected { Rejects (EncodedField (Allowed F.codec.struct.shape))
+    ensures rejected { Rejects (ValueOf name.now (Allowed F.codec.struct.shape))
         (at state.old input.old) result }
     ensures place { Counts state.old input.old state.new input.new }
     ensures made { IfErr result (IsPlacedAt state.new) }
 {
-    if F::knows(state.strbuf.as_str()) {
-        return F::read_field(slots, alloc, state, input);
+    if F::read_field(name, slots, alloc, state, input)? {
+        return Ok(());
     }
-    state.next_colon(alloc, input)?;
     state.whole_field(alloc, input)
-}
-
-/// Whether a string is pending.
-#[inline]
-fn is_name(state: &DeJsonState) -> bool
-    ensures { result ≡ is_str (pending state.now) }
-{
-    match state.tok {
-        DeJsonTok::Str => true,
-        _ => false,
-    }
 }

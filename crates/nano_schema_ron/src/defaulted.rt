@@ -64,19 +64,18 @@ impl<N: Label, T: DeRon, D: RonDefaultOf<T>> RonFields for Defaulted<N, T, D> {
         None
     }
 
-    fn knows(name: &str) -> bool {
-        name == N::text()
-    }
-
     fn read_field(
         slots: &mut Option<T>,
         alloc: Global,
         state: &mut DeRonState,
         input: &mut Chars<'_>,
-    ) -> Result<(), DeRonErr> {
+    ) -> Result<bool, DeRonErr> {
+        if state.identbuf.as_str() != N::text() {
+            return Ok(false);
+        }
         let value = read_named(alloc, state, input)?;
         *slots = Some(value);
-        Ok(())
+        Ok(true)
     }
 
     #[tactic(auto, using(nano_schema_text::specs::DefaultsLaws::missing_is_meant, nano_schema_text::specs::DefaultsLaws::present_is_meant))]

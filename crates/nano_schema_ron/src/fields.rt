@@ -1,5 +1,5 @@
-//! The fields of a struct: what knows their names, reads the value after a name, makes the values
-//! of all, and writes them.
+//! The fields of a struct: what reads the field of a name, makes the values of all, and writes
+//! them.
 
 ghost use Rattle.std.specs.Prelude.{◌≡◌, List, [], ◌∷◌, ◌++◌, true, false, IfOk, OnOk, IfErr, OnErr};
 ghost use Rattle.std.specs.Prelude.{string_bytes};
@@ -10,7 +10,7 @@ ghost use Rattle.nano_schema_text.specs.FieldCanonical.{field_text};
 ghost use Rattle.nano_schema_ron.specs.FieldReading.{Field, EncodedField, DecodesField};
 ghost use Rattle.nano_schema_ron.specs.FieldTexts.{on_lines};
 ghost use Rattle.nano_schema_ron.specs.FieldsLaws.{ron_fields};
-ghost use Rattle.nano_ron_tokens.specs.Outcomes.{Counts, IsPlacedAt};
+ghost use Rattle.nano_ron_tokens.specs.Outcomes.{Counts, IsPlacedAt, Keeps};
 ghost use Rattle.nano_ron.specs.Readers.{Rejects, Reports};
 ghost use Rattle.nano_ron.specs.State.{at, pending};
 ghost use Rattle.nano_ron.specs.Token.{IsIdent};
@@ -48,11 +48,8 @@ pub trait RonFields {
     fn empty() -> Self::Slots
         ensures { holds result [] };
 
-    /// Whether a field has this name. It takes no memory.
-    fn knows(name: &str) -> bool
-        ensures { result ≡ codec.struct.shape.knows name.now };
-
     /// Reads the field whose name is pending, and puts its value in place of an earlier one.
+    /// Answers whether a field has the name; where none has, nothing is taken.
     ///
     /// An error other than out of memory says that no field with this name and a value of its
     /// type stands there, with one more token or the end after it. The state may be at any
@@ -62,12 +59,17 @@ pub trait RonFields {
         alloc: Global,
         state: &mut DeRonState,
         input: &mut Chars<'_>,
-    ) -> Result<(), DeRonErr>
-        requires text { IsIdent (pending state.old) }
-        requires known { codec.struct.shape.knows (string_bytes state.old.identbuf) ≡ true }
-        ensures decodes { OnOk result (DecodesField codec.struct.shape.takes
-            (holds slots.old) (holds slots.new)
+    ) -> Result<bool, DeRonErr>
+        requires { IsIdent (pending state.old) }
+        ensures known { IfOk result (λ known. known
+            ≡ codec.struct.shape.knows (string_bytes state.old.identbuf)) }
+        ensures decodes { IfOk result (λ known. known ≡ true
+            → DecodesField codec.struct.shape.takes (holds slots.old) (holds slots.new)
             (at state.old input.old) (at state.new input.new)) }
+        ensures unknown { IfOk result (λ known. known ≡ false → (slots.new ≡ slots.old)
+            × Keeps state.old input.old state.new input.new) }
+        ensures fails { OnErr result
+            (codec.struct.shape.knows (string_bytes state.old.identbuf) ≡ true) }
         ensures rejected { Rejects (EncodedField codec.struct.shape.takes)
             (at state.old input.old) result }
         ensures place { Counts state.old input.old state.new input.new }

@@ -37,19 +37,18 @@ impl<N: Label, T: DeRon> RonFields for Optional<N, T> {
         None
     }
 
-    fn knows(name: &str) -> bool {
-        name == N::text()
-    }
-
     fn read_field(
         slots: &mut Option<T>,
         alloc: Global,
         state: &mut DeRonState,
         input: &mut Chars<'_>,
-    ) -> Result<(), DeRonErr> {
+    ) -> Result<bool, DeRonErr> {
+        if state.identbuf.as_str() != N::text() {
+            return Ok(false);
+        }
         let value = read_named(alloc, state, input)?;
         *slots = value;
-        Ok(())
+        Ok(true)
     }
 
     fn values(

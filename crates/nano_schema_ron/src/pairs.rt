@@ -34,18 +34,14 @@ impl<A: RonFields, B: RonFields> RonFields for (A, B) {
         (A::empty(), B::empty())
     }
 
-    fn knows(name: &str) -> bool {
-        A::knows(name) || B::knows(name)
-    }
-
     fn read_field(
         slots: &mut (A::Slots, B::Slots),
         alloc: Global,
         state: &mut DeRonState,
         input: &mut Chars<'_>,
-    ) -> Result<(), DeRonErr> {
-        if A::knows(state.identbuf.as_str()) {
-            return A::read_field(&mut slots.0, alloc, state, input);
+    ) -> Result<bool, DeRonErr> {
+        if A::read_field(&mut slots.0, alloc, state, input)? {
+            return Ok(true);
         }
         B::read_field(&mut slots.1, alloc, state, input)
     }

@@ -107,8 +107,8 @@ fn read_any<F: RonFields>(
     ensures place { Counts state.old input.old state.new input.new }
     ensures made { IfErr result (IsPlacedAt state.new) }
 {
-    if F::knows(state.identbuf.as_str()) {
-        return F::read_field(slots, alloc, state, input);
+    if F::read_field(slots, alloc, state, input)? {
+        return Ok(());
     }
     Err(state.err_exp(alloc, state.identbuf.as_str()))
 }

@@ -13,7 +13,7 @@ use Rattle.nano_schema_text.specs.SlotsLaws.{last_takes}
 
 module _ {T : Type 0} {c : Cutting T} {g : Grammar T} (s : FieldStyle c g) (r : CutLaws c g) where
   -- the same tokens lead to one place
-  leaves_same : (ts : List T) (start x y : At T) → Leaves c.cut ts start x → Leaves c.cut ts start y
+  pub leaves_same : (ts : List T) (start x y : At T) → Leaves c.cut ts start x → Leaves c.cut ts start y
       → x ≡ y
   leaves_same [] start x y h k = sym h ∙ k
   leaves_same (t ∷ ts) start x y h k =
@@ -21,7 +21,7 @@ module _ {T : Type 0} {c : Cutting T} {g : Grammar T} (s : FieldStyle c g) (r : 
       leaves_same ts h.1.0 x y h.1.2 (subst (λ (z : At T). Leaves c.cut ts z y) e k.1.2)
 
   -- a name and a colon
-  abbrev Head : List ℕ → List T
+  abbrev pub Head : List ℕ → List T
   Head name = s.name name ∷ (s.pair.token ∷ [])
 
   -- the pending token and a colon were taken
@@ -124,6 +124,51 @@ module _ {T : Type 0} {c : Cutting T} {g : Grammar T} (s : FieldStyle c g) (r : 
     (h.0, (h.1.1, (m, h.1.2)), h.2),
     λ fs. (h.1.0, last_takes name fs (record { name = n; value = h.1.0 }) known, h.1.2),
   )
+
+  -- the same of a value whose name was taken
+  pub value_field : (n name : List ℕ) (S : List T → Meaning → Type 0) (start end : At T) (m : Meaning)
+      → bytes_eq n name ≡ true → Spans c.cut S start end m
+      → (us : List T) × ((y : Meaning) × S us y) × Leaves c.cut us start end
+      × ((fs : List (Field T)) → LastEncodes name S (fs ++ record { name = n; value = us } ∷ []) m)
+  value_field n name S start end m known h = (
+    h.0,
+    (m, h.1),
+    h.2,
+    λ fs. (h.0, last_takes name fs (record { name = n; value = h.0 }) known, h.1),
+  )
+
+  pub no_value : (S : List T → Meaning → Type 0) (start : At T) → DecodesToNothing c.cut S start
+      → DecodesToNothing c.cut (λ us (x : Unit {0}). (y : Meaning) × S us y) start
+  no_value S start none x h = none h.2.0 (h.0, h.1, h.2.1, h.3)
+
+  -- ---- a name and a colon that were taken, and the value after them
+
+  module _ (name : List ℕ) (takes : List ℕ → List T → Type 0) where
+    pub field_after : (here following end : At T) (us : List T)
+        → Leaves c.cut (Head name) here following → takes name us → Leaves c.cut us following end
+        → Spans c.cut (EncodedField s takes) here end (record { name = name; value = us })
+    field_after here following end us l t k = (
+      s.name name ∷ (s.pair.token ∷ us),
+      (refl, t),
+      leaves_append c.cut (Head name) us here following end l k,
+    )
+
+    abbrev Value : List T → Unit {0} → Type 0
+    Value us x = takes name us
+
+    pub no_field_after : (here following : At T) → Leaves c.cut (Head name) here following
+        → DecodesToNothing c.cut Value following
+        → DecodesToNothing c.cut (EncodedField s takes) here
+    no_field_after here following l none =
+        field_rejected name here (sym l.0) Value takes (λ us t. (tt, t))
+        (value_rejected name Value here following (refl, l.1) none)
+
+    pub no_head : (here : At T) → here.token ≡ s.name name
+        → ((following : At T) → Leaves c.cut (Head name) here following → ⊥)
+        → DecodesToNothing c.cut (EncodedField s takes) here
+    no_head here e bad =
+        field_rejected name here e Value takes (λ us t. (tt, t))
+        (colon_rejected name Value here (λ following l. bad following (sym e, l.1)))
 
   -- a field that is skipped
   pub skipped_found : (shape : Shape T) (n : List ℕ) (start following end : At T)

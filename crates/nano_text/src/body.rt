@@ -1,7 +1,7 @@
 //! Strings of plain characters and short escapes in one line, which nearly all are: they are read at
 //! once. What is odd is left to the pieces (`string`), with nothing taken.
 
-ghost use Rattle.std.specs.Prelude.{◌≡◌, ◌≢◌, ◌++◌, ◌∷◌, ◌<◌, ◌≤◌, true, false, IfSome};
+ghost use Rattle.std.specs.Prelude.{◌≡◌, ◌≢◌, ◌++◌, ◌∷◌, ◌<◌, ◌≤◌, true, false, IfSome, None};
 ghost use Rattle.std.specs.Prelude.{List, ℕ, count_by, string_bytes, string_capacity};
 ghost use Rattle.std.specs.Prelude.{◌+◌, drop, encode_utf8_all, length};
 ghost use Rattle.nano_text.specs.Prefix.{prefix};
@@ -115,6 +115,31 @@ fn short_escape(bytes: &[u8]) -> Option<char>
         return None;
     }
     Some(escaped_char(char::from(escaped)))
+}
+
+/// Takes the string that begins at the current character, where all of it stands for itself in its
+/// line: the text between the quotes, in place. Where it does not, nothing is taken.
+#[inline(always)]
+pub fn plain_string<'a>(p: &mut Place, i: &mut Chars<'a>) -> Option<&'a str>
+    ensures found { IfSome result (λ text. (characters : List ℕ)
+        × IsString (text_at p.old i.old) characters (text_at p.new i.new)
+        × (text.now ≡ encode_utf8_all characters)) }
+    ensures place { Counts p.old i.old p.new i.new }
+    ensures unchanged { result ≡ None → (p.new ≡ p.old) × (i.new ≡ i.old) }
+{
+    if p.cur != '"' {
+        return None;
+    }
+    let rest = i.as_str();
+    let run = line_run(rest.as_bytes());
+    let (plain, following) = rest.split_at(run.len);
+    if !begins_with_quote(following.as_bytes()) {
+        return None;
+    }
+    p.col = p.col.saturating_add(run.columns).saturating_add(1);
+    *i = following.split_at(1).1.chars();
+    p.next(i);
+    Some(plain)
 }
 
 /// Reads the string that begins at the current character, and answers whether that could be done at

@@ -1,107 +1,146 @@
-use Rattle.std.proofs.Common.{List, string_bytes, ap, sym, ◌∙◌}
-use Rattle.std.proofs.lemmas.Result.{err_from_is_err_and, IfErr-weaker, on_ok_weaker}
-use Rattle.nano_schema_text.proofs.FieldReading.{skipped_found, skipped_rejected, colon_rejected}
-use Rattle.nano_schema_text.proofs.FieldReading.{value_rejected, field_rejected}
-use Rattle.nano_schema_text.proofs.KnownNames.{second_of, known_field, known_rejected}
-use Rattle.nano_json_tokens.specs.Skipped.{SkippedField}
-use Rattle.nano_json_tokens.specs.State.{at}
-use Rattle.nano_json_tokens.specs.Token.{Token}
-use Rattle.nano_json.proofs.Json.{json_laws}
-use Rattle.nano_schema_json.specs.FieldReading.{Allowed}
-use Rattle.nano_schema_json.specs.FieldsLaws.{json_fields}
-use Rattle.nano_schema_json.proofs.Pending.{pending_name}
+use Rattle.std.proofs.Common.{◌≡◌, Option, Some, None, List, ℕ, [], ◌∷◌, Bor, string_bytes, ap, refl, sym, ◌∙◌, subst}
+use Rattle.std.proofs.lemmas.Result.{err_from_is_err_and, on_ok_weaker, IfErr-weaker}
+use Rattle.std.specs.Option.{option_map}
 use Rattle.nano_text.specs.PlaceLaws.{advances_append}
+use Rattle.nano_grammar.specs.Tokens.{At, Leaves}
+use Rattle.nano_grammar.proofs.Tokens.{leaves_append}
+use Rattle.nano_schema_text.proofs.FieldReading.{field_after, no_field_after, no_head}
+use Rattle.nano_json_tokens.specs.Cut.{Cut}
+use Rattle.nano_json_tokens.specs.State.{at, pending}
+use Rattle.nano_json_tokens.specs.Token.{Token, str, colon}
+use Rattle.nano_json.specs.Encoding.{DecodesToNothing}
+use Rattle.nano_json.proofs.Json.{json_laws}
+use Rattle.nano_schema_json.specs.FieldReading.{Allowed, DecodesField, EncodedField}
+use Rattle.nano_schema_json.specs.FieldsLaws.{json_fields}
+use Rattle.nano_schema_json.specs.NameReading.{StandsAfter}
+use Rattle.nano_schema_json.proofs.FieldNames.{head_taken, head_rejected}
+use Rattle.nano_schema_json.proofs.Pending.{pending_name}
 use Rattle.nano_schema_json.proofs.read.read_any.Goals as goal
 
-pub returns-then-knows-clause-decodes : goal.returns-then-knows-clause-decodes
-returns-then-knows-clause-decodes g c =
-    let shape = g.F.JsonFields.codec.struct.shape in
-    let name = pending_name c.args.state.now c.requires in
-    let known = ap shape.knows (sym c.as_str.ensures.value) ∙ sym c.if-knows.ensures in
-    let bytes = string_bytes c.args.state.now.strbuf in
-    let start = at c.args.state.now c.args.input.now in
-    let end = at c.read_field.new.state c.read_field.new.input in
-    let field = known_field json_fields json_laws bytes start name shape known end in
-    on_ok_weaker c.read_field.result (λ h. (h.0, field h.0 h.1, h.2)) c.read_field.ensures.decodes
+-- where it is known whether a name was taken
+stands_by : (name other : Option (Bor (List ℕ))) (here now : At Token) → name ≡ other
+    → StandsAfter (option_map (λ n. n.now) name) here now
+    → StandsAfter (option_map (λ n. n.now) other) here now
+stands_by name other here now e = subst (λ o. StandsAfter (option_map (λ n. n.now) o) here now) e
 
-pub returns-then-knows-clause-rejected : goal.returns-then-knows-clause-rejected
-returns-then-knows-clause-rejected g c =
-    let shape = g.F.JsonFields.codec.struct.shape in
-    let name = pending_name c.args.state.now c.requires in
-    let known = ap shape.knows (sym c.as_str.ensures.value) ∙ sym c.if-knows.ensures in
-    let bytes = string_bytes c.args.state.now.strbuf in
-    let start = at c.args.state.now c.args.input.now in
-    let none = known_rejected json_fields json_laws bytes start name shape known in
-    IfErr-weaker c.read_field.result _ _ (λ e reported. (λ memory. none (reported.0 memory), reported.1))
-    c.read_field.ensures.rejected
+-- ---- a name that was taken in place
 
-pub returns-in_err-next_colon-clause-rejected : goal.returns-in_err-next_colon-clause-rejected
-returns-in_err-next_colon-clause-rejected g c =
+pub returns-in_err-colon-in-Some-clause-rejected : goal.returns-in_err-colon-in-Some-clause-rejected
+returns-in_err-colon-in-Some-clause-rejected g c =
     let p = err_from_is_err_and c.from_residual.result c.from_residual.ensures.1 in
-    let shape = g.F.JsonFields.codec.struct.shape in
-    let n = string_bytes c.args.state.now.strbuf in
-    let start = at c.args.state.now c.args.input.now in
-    let name = pending_name c.args.state.now c.requires in
-    let unknown = ap shape.knows (sym c.as_str.ensures.value) ∙ sym c.if-knows.ensures in
-    let skipped = λ (us : List Token) (x : Unit {0}). SkippedField us in
-    let only = λ (us : List Token). second_of (shape.knows n) (shape.takes n us) (SkippedField us) unknown in
-    let none =
-    field_rejected json_fields json_laws n start name skipped (Allowed shape)
-    (λ us t. (tt, only us t)) in
-    let error = c.in_err-next_colon.ensures.rejected in
+    let now = at c.args.state.now c.args.input.now in
+    let error = c.in_err-colon-in-Some.ensures.rejected in
     rw (p.1, p.2) (
-      λ memory.
-          none (colon_rejected json_fields json_laws n skipped start (error.0 memory)),
+      λ known here stands.
+          head_rejected c.in-Some.name.now here now (stands_by c.args.name (Some c.in-Some.name) here now c.in-Some.is stands)
+          (Allowed g.F.JsonFields.codec.struct.shape) (error.0 known),
       error.1.0,
     )
 
-pub returns-clause-decodes : goal.returns-clause-decodes
-returns-clause-decodes g c =
-    let shape = g.F.JsonFields.codec.struct.shape in
-    let n = string_bytes c.args.state.now.strbuf in
-    let name = pending_name c.args.state.now c.requires in
-    let unknown = ap shape.knows (sym c.as_str.ensures.value) ∙ sym c.if-knows.ensures in
-    let start = at c.args.state.now c.args.input.now in
-    let following = at c.next_colon.new.self c.next_colon.new.i in
-    let end = at c.whole_field.new.self c.whole_field.new.i in
+pub returns-in_ok-colon-in-Some-clause-decodes : goal.returns-in_ok-colon-in-Some-clause-decodes
+returns-in_ok-colon-in-Some-clause-decodes g c =
+    let n = c.in-Some.name.now in
+    let now = at c.args.state.now c.args.input.now in
+    let following = at c.colon.new.self c.colon.new.i in
+    let end = at c.read_named.new.state c.read_named.new.input in
+    on_ok_weaker c.read_named.result (λ h here stands.
+    let head = head_taken n here now (stands_by c.args.name (Some c.in-Some.name) here now c.in-Some.is stands)
+    following c.in_ok-colon-in-Some.ensures.taken in
     let field =
-    skipped_found json_fields json_laws shape n start following end name unknown
-    c.in_ok-next_colon.ensures.taken in
-    let skips = g.met.F.JsonFields.skips c.args.slots.now in
-    on_ok_weaker c.whole_field.result (λ h.
-    let f = field h in
-    (f.0, f.1, λ fs x. skips fs f.0 f.2 x)) c.whole_field.ensures.taken
+    field_after json_fields json_laws n (Allowed g.F.JsonFields.codec.struct.shape) here following end
+    h.0 head h.1 h.2 in
+    (record { name = n; value = h.0 }, field, h.3)) c.read_named.ensures.decodes
 
-pub returns-clause-rejected : goal.returns-clause-rejected
-returns-clause-rejected g c =
-    let shape = g.F.JsonFields.codec.struct.shape in
-    let n = string_bytes c.args.state.now.strbuf in
-    let start = at c.args.state.now c.args.input.now in
-    let following = at c.next_colon.new.self c.next_colon.new.i in
-    let name = pending_name c.args.state.now c.requires in
-    let unknown = ap shape.knows (sym c.as_str.ensures.value) ∙ sym c.if-knows.ensures in
-    let skipped = λ (us : List Token) (x : Unit {0}). SkippedField us in
-    let only = λ (us : List Token). second_of (shape.knows n) (shape.takes n us) (SkippedField us) unknown in
-    let none =
-    field_rejected json_fields json_laws n start name skipped (Allowed shape)
-    (λ us t. (tt, only us t)) in
-    let no_value =
-    value_rejected json_fields json_laws n skipped start following
-    c.in_ok-next_colon.ensures.taken in
-    IfErr-weaker c.whole_field.result _ _ (λ e reported. (
-      λ memory. none (no_value (skipped_rejected json_fields json_laws following
-          (λ field after s l. reported.0 memory field s after l))),
-      reported.1.0,
-    )) c.whole_field.ensures.rejected
+pub returns-in_ok-colon-in-Some-clause-rejected : goal.returns-in_ok-colon-in-Some-clause-rejected
+returns-in_ok-colon-in-Some-clause-rejected g c =
+    let n = c.in-Some.name.now in
+    let now = at c.args.state.now c.args.input.now in
+    let following = at c.colon.new.self c.colon.new.i in
+    IfErr-weaker c.read_named.result _ _ (λ e reported. (
+      λ known here stands.
+          let head = head_taken n here now (stands_by c.args.name (Some c.in-Some.name) here now c.in-Some.is stands)
+          following c.in_ok-colon-in-Some.ensures.taken in
+          no_field_after json_fields json_laws n (Allowed g.F.JsonFields.codec.struct.shape) here
+          following head (reported.0 known),
+      reported.1,
+    )) c.read_named.ensures.rejected
 
-pub returns-in_err-next_colon-clause-made : goal.returns-in_err-next_colon-clause-made
-returns-in_err-next_colon-clause-made g c =
-    let p = err_from_is_err_and c.from_residual.result c.from_residual.ensures.1 in
-    rw (p.1, p.2) (c.in_err-next_colon.ensures.rejected.1.1, c.in_err-next_colon.ensures.rejected.1.2)
+pub returns-in_ok-colon-in-Some-clause-place : goal.returns-in_ok-colon-in-Some-clause-place
+returns-in_ok-colon-in-Some-clause-place g c =
+    advances_append c.in_ok-colon-in-Some.ensures.place c.read_named.ensures.place
 
-pub returns-clause-place : goal.returns-clause-place
-returns-clause-place g c = advances_append c.in_ok-next_colon.ensures.place c.whole_field.ensures.place
+-- ---- a name that is pending
 
-pub returns-clause-made : goal.returns-clause-made
-returns-clause-made g c =
-    IfErr-weaker c.whole_field.result _ _ (λ e r. (r.1.1, r.1.2)) c.whole_field.ensures.rejected
+pub returns-in_err-take_name-in-None-clause-rejected : goal.returns-in_err-take_name-in-None-clause-rejected
+returns-in_err-take_name-in-None-clause-rejected g c =
+    let p = err_from_is_err_and c.from_residual-in_err-take_name-in-None.result c.from_residual-in_err-take_name-in-None.ensures.1 in
+    let now = at c.args.state.now c.args.input.now in
+    let error = c.in_err-take_name-in-None.ensures.rejected in
+    let is = pending_name c.args.state.now (c.requires c.in-None.is) in
+    let takes = Allowed g.F.JsonFields.codec.struct.shape in
+    let name = string_bytes c.args.state.now.strbuf in
+    rw (p.1, p.2) (
+      λ known here stands.
+          let none = no_head json_fields json_laws name takes now is (λ after l.
+          error.0 known after (subst (λ (t : Token). Leaves Cut (t ∷ (colon ∷ [])) now after) (sym is) l)) in
+          let same = stands_by c.args.name None here now c.in-None.is stands in
+          subst (DecodesToNothing (EncodedField takes)) (sym same) none,
+      error.1,
+    )
+
+pub returns-in_ok-take_name-in-None-clause-decodes : goal.returns-in_ok-take_name-in-None-clause-decodes
+returns-in_ok-take_name-in-None-clause-decodes g c =
+    let n = c.as_str.result.now in
+    let now = at c.args.state.now c.args.input.now in
+    let following = at c.take_name.new.state c.take_name.new.input in
+    let end = at c.read_named-in-None.new.state c.read_named-in-None.new.input in
+    let takes = Allowed g.F.JsonFields.codec.struct.shape in
+    let named = pending_name c.args.state.now (c.requires c.in-None.is)
+    ∙ ap str (sym (c.as_str.ensures.value ∙ c.in_ok-take_name-in-None.ensures.moved)) in
+    let head = subst (λ (t : Token). Leaves Cut (t ∷ (colon ∷ [])) now following) named
+    c.in_ok-take_name-in-None.ensures.taken in
+    on_ok_weaker c.read_named-in-None.result (λ h here stands.
+    let same = stands_by c.args.name None here now c.in-None.is stands in
+    let field = field_after json_fields json_laws n takes now following end h.0 head h.1 h.2 in
+    subst (λ (z : At Token). DecodesField takes (g.F.JsonFields.holds c.args.slots.now)
+    (g.F.JsonFields.holds c.read_named-in-None.new.slots) z end) (sym same)
+    (record { name = n; value = h.0 }, field, h.3)) c.read_named-in-None.ensures.decodes
+
+pub returns-in_ok-take_name-in-None-clause-some : goal.returns-in_ok-take_name-in-None-clause-some
+returns-in_ok-take_name-in-None-clause-some g c =
+    let n = c.as_str.result.now in
+    let now = at c.args.state.now c.args.input.now in
+    let following = at c.take_name.new.state c.take_name.new.input in
+    let end = at c.read_named-in-None.new.state c.read_named-in-None.new.input in
+    let named = pending_name c.args.state.now (c.requires c.in-None.is)
+    ∙ ap str (sym (c.as_str.ensures.value ∙ c.in_ok-take_name-in-None.ensures.moved)) in
+    let head = subst (λ (t : Token). Leaves Cut (t ∷ (colon ∷ [])) now following) named
+    c.in_ok-take_name-in-None.ensures.taken in
+    on_ok_weaker c.read_named-in-None.result (λ h. (
+      str n,
+      colon ∷ h.0,
+      refl,
+      leaves_append Cut (str n ∷ (colon ∷ [])) h.0 now following end head h.2,
+    )) c.read_named-in-None.ensures.decodes
+
+pub returns-in_ok-take_name-in-None-clause-rejected : goal.returns-in_ok-take_name-in-None-clause-rejected
+returns-in_ok-take_name-in-None-clause-rejected g c =
+    let n = c.as_str.result.now in
+    let now = at c.args.state.now c.args.input.now in
+    let following = at c.take_name.new.state c.take_name.new.input in
+    let takes = Allowed g.F.JsonFields.codec.struct.shape in
+    let named = pending_name c.args.state.now (c.requires c.in-None.is)
+    ∙ ap str (sym (c.as_str.ensures.value ∙ c.in_ok-take_name-in-None.ensures.moved)) in
+    let head = subst (λ (t : Token). Leaves Cut (t ∷ (colon ∷ [])) now following) named
+    c.in_ok-take_name-in-None.ensures.taken in
+    IfErr-weaker c.read_named-in-None.result _ _ (λ e reported. (
+      λ known here stands.
+          let same = stands_by c.args.name None here now c.in-None.is stands in
+          let none = no_field_after json_fields json_laws n takes now following head (reported.0 known) in
+          subst (DecodesToNothing (EncodedField takes)) (sym same) none,
+      reported.1,
+    )) c.read_named-in-None.ensures.rejected
+
+pub returns-in_ok-take_name-in-None-clause-place : goal.returns-in_ok-take_name-in-None-clause-place
+returns-in_ok-take_name-in-None-clause-place g c =
+    advances_append c.in_ok-take_name-in-None.ensures.place c.read_named-in-None.ensures.place

@@ -1,0 +1,44 @@
+-- A name that stands ahead, and a colon after it.
+use Rattle.std.proofs.Common.{◌≡◌, ℕ, List, [], ◌∷◌, encode_utf8_all, chars, length, refl, ap, sym, ◌∙◌, subst, arith}
+use Rattle.std.specs.Str.Iter.{chars_rest}
+use Rattle.std.specs.declared.str.Chars.{Chars}
+use Rattle.nano_text.specs.Place.{before_nul, remaining, Advances}
+use Rattle.nano_text.specs.declared.place.Place.{Place}
+use Rattle.nano_text.specs.Prefix.{following}
+use Rattle.nano_text.specs.String.{IsString}
+use Rattle.nano_grammar.specs.Tokens.{Leaves}
+use Rattle.nano_json_tokens.specs.Cut.{is_space, IsLexeme, quoted, Cut}
+use Rattle.nano_json_tokens.specs.Token.{Token, str, colon}
+use Rattle.nano_json_tokens.proofs.Cuts.{lexeme_cut, punctuator_cut}
+
+-- what a text still holds does not depend on which iterator holds it
+pub same_remaining : (cur : ℕ) (i j : Chars) → chars_rest i ≡ chars_rest j → remaining cur i ≡ remaining cur j
+unfolding remaining
+same_remaining cur i j e = ap (λ (bytes : List ℕ). before_nul (cur ∷ chars bytes)) e
+
+pub advances_from : (p q : Place) (i j k : Chars) → chars_rest i ≡ chars_rest j → Advances p i q k → Advances p j q k
+advances_from p q i j k e h = record {
+  passes = record {
+    taken = h.passes.taken;
+    split = sym (ap chars e) ∙ h.passes.split;
+    line = h.passes.line;
+    col = h.passes.col;
+  };
+  within = omega (arith, h.within, ap length (same_remaining p.cur i j e));
+}
+
+-- the name is cut after white space, and then the colon
+pub name_ahead : (text string left last characters name : List ℕ) (pending : Token) → string ≡ following is_space text
+    → IsString string characters left → left ≡ 58 ∷ last → name ≡ encode_utf8_all characters
+    → Leaves Cut (pending ∷ (str name ∷ [])) (record { token = pending; text = text }) (record { token = colon; text = last })
+name_ahead text string left last characters name pending spaced is left_is bytes =
+    let lexeme : IsLexeme (str name) (following is_space text) (58 ∷ last) =
+    subst (λ (l : List ℕ). IsLexeme (str name) l (58 ∷ last)) spaced
+    (quoted (characters, subst (IsString string characters) left_is is, bytes)) in (
+      refl,
+      (
+        record { token = str name; text = 58 ∷ last },
+        lexeme_cut text (str name) (58 ∷ last) lexeme,
+        (refl, (record { token = colon; text = last }, punctuator_cut 58 last colon refl, refl)),
+      ),
+    )

@@ -1,0 +1,31 @@
+use Rattle.std.proofs.Common.{ap, arith, refl, subst, ◌∙◌, ◌∷◌}
+use Rattle.nano_text.specs.Place.{remaining, text_at, Advances}
+use Rattle.nano_text.specs.PlaceLaws.{advances_append}
+use Rattle.nano_text.specs.declared.place.Place.{Place}
+use Rattle.nano_json_tokens.specs.State.{pending, place_of}
+use Rattle.nano_json_tokens.proofs.NamesAhead.{same_remaining, advances_from, name_ahead}
+use Rattle.nano_json_tokens.proofs.state.DeJsonState.next_name.Goals as goal
+
+pub returns-clause-taken : goal.returns-clause-taken
+returns-clause-taken c =
+    let found = c.in_ok-name.ensures.found in
+    let here = c.place-place.result in
+    let same = same_remaining here.cur c.chars-rest.result c.skip_space.new.i (c.chars-rest.ensures.rest ∙ c.as_str.ensures) in
+    let spaced = same
+    ∙ (ap (λ (p : Place). text_at p c.skip_space.new.i) c.place-place.ensures ∙ c.skip_space.ensures.remaining) in
+    let colon_first = c.next.ensures.taken (λ e. omega (arith, e, c.if-place-ne58.false))
+    ∙ ap (λ n. n ∷ text_at c.next.new.self c.next.new.i) c.if-place-ne58.false in
+    rw c.stand_at.ensures (
+      refl,
+      name_ahead (remaining c.args.self.now.cur c.args.i.now) (text_at here c.chars-rest.result)
+      (text_at c.plain_string.new.p c.plain_string.new.i) (text_at c.next.new.self c.next.new.i) found.0 c.in_ok-name.name.now
+      (pending c.args.self.now) spaced found.1 colon_first found.2,
+    )
+
+pub returns-clause-place : goal.returns-clause-place
+returns-clause-place c =
+    let same = c.chars-rest.ensures.rest ∙ c.as_str.ensures in
+    let string = advances_from (place_of c.skip_space.new.self) c.plain_string.new.p c.chars-rest.result c.skip_space.new.i c.plain_string.new.i same
+    (subst (λ (p : Place). Advances p c.chars-rest.result c.plain_string.new.p c.plain_string.new.i) c.place-place.ensures c.in_ok-name.ensures.place) in
+    let colon = c.next.ensures.counts (λ e. omega (arith, e, c.if-place-ne58.false)) in
+    rw c.stand_at.ensures (advances_append c.skip_space.ensures.place (advances_append string colon))
