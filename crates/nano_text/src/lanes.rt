@@ -1,6 +1,6 @@
 //! Bytes looked at sixteen at a time.
 
-ghost use Rattle.std.specs.Prelude.{◌≡◌, ◌<◌, ◌≤◌, ◌+◌, ℕ, true, length, slice_index};
+ghost use Rattle.std.specs.Prelude.{◌≡◌, ◌≢◌, ◌<◌, ◌≤◌, ◌+◌, ℕ, true, length, slice_index};
 ghost use Rattle.nano_text.specs.Lanes.{first_set};
 ghost use Rattle.nano_text.specs.String.{is_plain_in_line};
 
@@ -35,4 +35,42 @@ pub(crate) fn plain_lanes(bytes: &[u8], from: usize) -> usize
     let is_quote = lanes.simd_eq(u8x16::splat(b'"'));
     let is_backslash = lanes.simd_eq(u8x16::splat(b'\\'));
     first_set((is_outside | is_quote | is_backslash).to_bitmask())
+}
+
+/// How many of the bytes from a place on, up to sixteen, surely stand for themselves in a string, and
+/// in its line: ASCII and beyond. DEL is left out, which may be written with an escape.
+#[inline(always)]
+fn unescaped_lanes(bytes: &[u8], from: usize) -> usize
+    requires { from + 16 ≤ length bytes.now }
+    ensures within { result ≤ 16 }
+    ensures plain { (k : ℕ) → from ≤ k → k < from + result
+        → (is_plain_in_line (slice_index bytes.now k) ≡ true) × (slice_index bytes.now k ≢ 127) }
+{
+    let lanes = u8x16::from_slice(&bytes[from..]);
+    let is_control = lanes.simd_lt(u8x16::splat(b' ')) | lanes.simd_eq(u8x16::splat(0x7F));
+    let is_quote = lanes.simd_eq(u8x16::splat(b'"'));
+    let is_backslash = lanes.simd_eq(u8x16::splat(b'\\'));
+    first_set((is_control | is_quote | is_backslash).to_bitmask())
+}
+
+/// Counts the first bytes that surely stand for themselves in a string, and in its line, sixteen in
+/// a turn; the last sixteen are looked at whole. More may follow, and all of fewer than sixteen.
+pub(crate) fn unescaped_run(bytes: &[u8]) -> usize
+    ensures within { result ≤ length bytes.now }
+    ensures plain { (k : ℕ) → k < result
+        → (is_plain_in_line (slice_index bytes.now k) ≡ true) × (slice_index bytes.now k ≢ 127) }
+{
+    if bytes.len() < LANES {
+        return 0;
+    }
+    let last = bytes.len() - LANES;
+    let mut len = 0;
+    'lanes: while len < last {
+        let plain = unescaped_lanes(bytes, len);
+        len += plain;
+        if plain < LANES {
+            return len;
+        }
+    }
+    last + unescaped_lanes(bytes, last)
 }

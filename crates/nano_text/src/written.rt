@@ -1,11 +1,13 @@
 //! Texts that are written with escapes: a run of characters that stand for themselves is appended
 //! at once.
 
-ghost use Rattle.std.specs.Prelude.{◌≡◌, ◌≤◌, ◌<◌, ◌++◌, ◌∷◌, [], true, Bool, List, ℕ, IfOk, OnOk};
+ghost use Rattle.std.specs.Prelude.{◌≡◌, ◌≢◌, ◌≤◌, ◌<◌, ◌++◌, ◌∷◌, [], true, Bool, List, ℕ, IfOk, OnOk};
 ghost use Rattle.std.specs.Prelude.{OnErr, chars, flat_map, encode_utf8_all, string_bytes, length};
 ghost use Rattle.nano_text.specs.Prefix.{prefix};
 ghost use Rattle.nano_text.specs.Outcomes.{Appends, AppendsPart};
+ghost use Rattle.nano_text.specs.String.{is_plain_in_line};
 
+use crate::lanes::unescaped_run;
 use std::alloc::AllocError;
 
 /// How a format writes the characters of a text.
@@ -25,8 +27,11 @@ pub trait Escaping {
         ensures ok { OnOk result (Appends out.old out.new (written c)) }
         ensures err { OnErr result (AppendsPart out.old out.new) };
 
-    // all beyond ASCII stand for themselves, and a character that does is written alone
+    // all beyond ASCII stand for themselves, and so does what is plain in its line but DEL; a
+    // character that does is written alone
     ghost wide_stands: { (n : ℕ) → 128 ≤ n → stands n ≡ true };
+
+    ghost plain_stands: { (n : ℕ) → is_plain_in_line n ≡ true → n ≢ 127 → stands n ≡ true };
 
     ghost as_itself: { (c : ℕ) → stands c ≡ true → written c ≡ c ∷ [] };
 }
@@ -46,7 +51,7 @@ fn plain_prefix<E: Escaping>(bytes: &[u8]) -> usize
 }
 
 /// How many bytes stand for themselves before the first that doesn't, looked at four a turn.
-fn plain_len<E: Escaping>(bytes: &[u8]) -> usize
+fn plain_fours<E: Escaping>(bytes: &[u8]) -> usize
     ensures { result ≡ length (prefix E.stands bytes.now) }
 {
     let mut rest = bytes;
@@ -61,6 +66,15 @@ fn plain_len<E: Escaping>(bytes: &[u8]) -> usize
         rest = following;
     }
     len + plain_prefix::<E>(rest)
+}
+
+/// How many bytes stand for themselves before the first that doesn't. Those that do in every
+/// format are passed sixteen a turn.
+fn plain_len<E: Escaping>(bytes: &[u8]) -> usize
+    ensures { result ≡ length (prefix E.stands bytes.now) }
+{
+    let unescaped = unescaped_run(bytes);
+    unescaped + plain_fours::<E>(&bytes[unescaped..])
 }
 
 /// Appends the longest prefix of a text that stands for itself, at once, and the character

@@ -86,6 +86,8 @@ impl Escaping for TwoQuotes {
 
     ghost wide_stands = { λ n h. Prim.grind (arith, nat_tests) };
 
+    ghost plain_stands = { λ n plain other. Prim.grind (arith, nat_tests) };
+
     ghost as_itself = { λ c h. Prim.grind (arith, nat_tests) };
 }
 
@@ -101,6 +103,14 @@ const ESCAPED: &[(&str, &str)] = &[
     ("abcd\"", "abcd\"\""),
     ("abcdefg\"h", "abcdefg\"\"h"),
     ("abcdefgh\"i", "abcdefgh\"\"i"),
+    ("abcdefghijklmnop", "abcdefghijklmnop"),
+    ("abcdefghijklmno\"", "abcdefghijklmno\"\""),
+    ("abcdefghijklmnop\"", "abcdefghijklmnop\"\""),
+    ("\"abcdefghijklmnopqr", "\"\"abcdefghijklmnopqr"),
+    (
+        "abc\ndéfghi\\klm\u{7f}opqr\"s",
+        "abc\ndéfghi\\klm\u{7f}opqr\"\"s",
+    ),
 ];
 
 /// Whether the texts are written so.

@@ -1,6 +1,6 @@
 use Rattle.std.proofs.Common.{◌≡◌, ◌+◌, length}
 use Rattle.nano_text.specs.Prefix.{prefix}
-use Rattle.nano_text.proofs.written.plain_len.Given as goal
+use Rattle.nano_text.proofs.written.plain_fours.Given as goal
 
 -- what is passed and what is left make the whole
 abbrev pub invariant-fours : goal.invariant-fours
