@@ -1,5 +1,5 @@
-use Rattle.std.proofs.Common.{drop, arith, ◌∙◌, sym, string_bytes}
-use Rattle.std.proofs.lemmas.Fmt.{IsAscii-decimal, decimal_nonempty, length-decimal-le}
+use Rattle.std.proofs.Common.{arith, sym, string_bytes}
+use Rattle.std.proofs.lemmas.Fmt.{IsAscii-decimal, length-decimal-le}
 use Rattle.std.specs.Fmt.{decimal}
 use Rattle.nano_text.proofs.Decimals.{appended_as}
 use Rattle.nano_text.proofs.DigitBuffers.{written_ascii, written_taken}

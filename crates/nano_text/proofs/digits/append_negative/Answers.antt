@@ -1,4 +1,4 @@
-use Rattle.std.proofs.Common.{◌≡◌, ◌∷◌, ◌++◌, ◌-◌, replicate, set, length-set, drop, arith, ◌∙◌, sym, string_bytes}
+use Rattle.std.proofs.Common.{◌∷◌, ◌-◌, replicate, length-set, arith, ◌∙◌, sym, string_bytes}
 use Rattle.std.proofs.lemmas.Fmt.{IsAscii-decimal, length-decimal-le}
 use Rattle.std.proofs.lemmas.Str.Ascii.{IsAscii-cons}
 use Rattle.std.specs.Fmt.{decimal}

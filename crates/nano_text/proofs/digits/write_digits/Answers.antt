@@ -1,4 +1,4 @@
-use Rattle.std.proofs.Common.{◌≡◌, ◌/◌, ◌++◌, List, ℕ, drop, append_assoc, ap, sym, ◌∙◌, arith}
+use Rattle.std.proofs.Common.{◌/◌, ◌++◌, List, ℕ, drop, append_assoc, ap, sym, ◌∙◌, arith}
 use Rattle.std.proofs.lemmas.Fmt.{decimal_nonempty}
 use Rattle.std.specs.Fmt.{decimal}
 use Rattle.nano_text.proofs.Decimals.{decimal_thousand}

@@ -1,4 +1,4 @@
-use Rattle.std.proofs.Common.{◌≡◌, ◌∷◌, ◌∙◌, List, ℕ, get_or, ap}
+use Rattle.std.proofs.Common.{◌≡◌, ◌∷◌, ◌∙◌}
 use Rattle.nano_text.specs.Digits.{three_digits}
 use Rattle.nano_text.proofs.DigitBuffers.{triple_written}
 use Rattle.nano_text.proofs.digits.write_triple.Goals as goal
