@@ -36,9 +36,7 @@ pub trait Escaping {
     ghost as_itself: { (c : ℕ) → stands c ≡ true → written c ≡ c ∷ [] };
 }
 
-/// How many bytes stand for themselves before the first that doesn't. Inlined, so that a slice
-/// of a known length is checked without a loop.
-#[inline(always)]
+/// How many bytes stand for themselves before the first that doesn't, looked at one by one.
 fn plain_prefix<E: Escaping>(bytes: &[u8]) -> usize
     ensures { result ≡ length (prefix E.stands bytes.now) }
 {
@@ -50,31 +48,13 @@ fn plain_prefix<E: Escaping>(bytes: &[u8]) -> usize
     bytes.len()
 }
 
-/// How many bytes stand for themselves before the first that doesn't, looked at four a turn.
-fn plain_fours<E: Escaping>(bytes: &[u8]) -> usize
-    ensures { result ≡ length (prefix E.stands bytes.now) }
-{
-    let mut rest = bytes;
-    let mut len = 0;
-    'fours: while let Some(parts) = rest.split_first_chunk::<4>() {
-        let (four, following) = parts;
-        let plain = plain_prefix::<E>(four);
-        if plain < 4 {
-            return len + plain;
-        }
-        len += 4;
-        rest = following;
-    }
-    len + plain_prefix::<E>(rest)
-}
-
 /// How many bytes stand for themselves before the first that doesn't. Those that do in every
-/// format are passed sixteen a turn.
+/// format are passed sixteen in a turn.
 fn plain_len<E: Escaping>(bytes: &[u8]) -> usize
     ensures { result ≡ length (prefix E.stands bytes.now) }
 {
     let unescaped = unescaped_run(bytes);
-    unescaped + plain_fours::<E>(&bytes[unescaped..])
+    unescaped + plain_prefix::<E>(&bytes[unescaped..])
 }
 
 /// Appends the longest prefix of a text that stands for itself, at once, and the character

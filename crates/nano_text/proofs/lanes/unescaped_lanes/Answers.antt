@@ -16,9 +16,9 @@ unescaped_parts b h =
     (parts.0, grind (arith, nat_tests, parts.1))
 
 pub returns : goal.returns
-returns c =
-    let v = chunk c.args.from 16 c.args.bytes.now in
-    let long = length-chunk c.args.from 16 c.args.bytes.now c.requires in
-    let passed = passes_in is_unescaped c.args.bytes.now c.args.from 16 _ _ c.requires (omega arith) c.type_inv.bytes c.first_set.ensures _
-    (joined _ _ _ v (joined _ _ _ v (joined _ _ _ v (zip2_splat _ v 16 32 long) (zip2_splat _ v 16 127 long)) (zip2_splat _ v 16 34 long)) (zip2_splat _ v 16 92 long)) refl in
+returns g c =
+    let v = chunk c.args.from g.row.N c.args.bytes.now in
+    let long = length-chunk c.args.from g.row.N c.args.bytes.now c.requires.0 in
+    let passed = passes_in is_unescaped c.args.bytes.now c.args.from g.row.N _ _ c.requires.0 c.requires.1 c.type_inv.bytes c.first_set.ensures _
+    (joined _ _ _ v (joined _ _ _ v (joined _ _ _ v (zip2_splat _ v g.row.N 32 long) (zip2_splat _ v g.row.N 127 long)) (zip2_splat _ v g.row.N 34 long)) (zip2_splat _ v g.row.N 92 long)) refl in
     record { within = passed.0; plain = λ k low high. unescaped_parts _ (passed.1 k low high) }

@@ -11,8 +11,8 @@ returns g c =
     let run = c.unescaped_run-unescaped.ensures in
     let past = prefix_past e.stands bytes n run.within (λ k low. let plain = run.plain k low in g.met.E.Escaping.plain_stands _ plain.0 plain.1) in
     let rest : take (length bytes - n) (drop n bytes) ≡ drop n bytes = take_all (length bytes - n) (drop n bytes) (omega (arith, length-drop n bytes)) in
-    let fours = c.plain_fours.ensures ∙ ap (λ l. length (prefix e.stands l)) rest in
-    omega (arith, past, fours)
+    let more = c.plain_prefix.ensures ∙ ap (λ l. length (prefix e.stands l)) rest in
+    omega (arith, past, more)
 
 pub overflow_add-result : goal.overflow_add-result
 overflow_add-result g c =
@@ -21,4 +21,4 @@ overflow_add-result g c =
     let bytes = c.args.bytes.now in
     let few = prefix_fits e.stands (take (length bytes - n) (drop n bytes)) in
     let rest : take (length bytes - n) (drop n bytes) ≡ drop n bytes = take_all (length bytes - n) (drop n bytes) (omega (arith, length-drop n bytes)) in
-    record { fits = omega (arith, c.plain_fours.ensures, few, ap length rest, length-drop n bytes, c.unescaped_run-unescaped.ensures.within) }
+    record { fits = omega (arith, c.plain_prefix.ensures, few, ap length rest, length-drop n bytes, c.unescaped_run-unescaped.ensures.within) }
