@@ -55,6 +55,8 @@ impl Escaping for JsonText {
 
     ghost wide_stands = { λ n h. Prim.grind (arith, nat_tests) };
 
+    ghost plain_stands = { λ n plain other. Prim.grind (arith, nat_tests) };
+
     ghost as_itself = { written_as_itself };
 }
 

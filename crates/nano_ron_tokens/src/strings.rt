@@ -44,6 +44,8 @@ impl Escaping for RonText {
 
     ghost wide_stands = { λ n h. Prim.grind (arith, nat_tests) };
 
+    ghost plain_stands = { λ n plain other. Prim.grind (arith, nat_tests) };
+
     ghost as_itself = { λ c h. Prim.grind (arith, nat_tests) };
 }
 

@@ -1,4 +1,4 @@
--- The digits of a number, the leading ones and three or six at its end.
+-- The digits of a number, the leading ones and three at its end.
 use Rattle.std.proofs.Common.{◌≡◌, ℕ, ℤ, pos, negsuc, true, false, refl, ◌+◌, ◌/◌, ◌%◌, ◌<◌, ◌≤◌, ◌^◌, List, [], ◌∷◌, ◌++◌, Result, Ok, Err, OnOk, append_assoc, sym, ◌∙◌, ap, arith}
 use Rattle.std.specs.Fmt.{decimal, signed_decimal}
 use Rattle.std.specs.Int.Signed.{lt_z}
@@ -6,11 +6,6 @@ use Rattle.std.proofs.Math.IntN.{nat_abs}
 use Rattle.std.proofs.lemmas.Bool.{false≢true, ltb-true}
 use Rattle.std.proofs.lemmas.Fmt.{decimal_digit, decimal_step}
 use Rattle.nano_text.specs.Digits.{three_digits}
-
--- what is appended after a prefix that was appended
-pub appended_after : {T E : Type 0} (r : Result T E) (before middle after prefix piece whole : List ℕ) → OnOk r (after ≡ middle ++ piece) → middle ≡ before ++ prefix → whole ≡ prefix ++ piece → OnOk r (after ≡ before ++ whole)
-appended_after (Ok x) before middle after prefix piece whole e m w = e ∙ (ap (λ l. l ++ piece) m ∙ (append_assoc before prefix piece ∙ ap (λ l. before ++ l) (sym w)))
-appended_after (Err x) before middle after prefix piece whole e m w = tt
 
 -- what is appended, under another name
 pub appended_as : {T E : Type 0} (r : Result T E) (before after piece whole : List ℕ) → OnOk r (after ≡ before ++ piece) → whole ≡ piece → OnOk r (after ≡ before ++ whole)
@@ -42,17 +37,6 @@ decimal_thousand n low fits =
     ∙ (ap (λ l. l ++ tens) (decimal_step (n / 10 / 10) (omega (arith, low)) (omega (arith, fits))) ∙ append_assoc prefix hundreds tens))
     ∙ (append_assoc prefix (hundreds ++ tens) ones
     ∙ (λ i. decimal (a i) ++ (48 + b i) ∷ (48 + c i) ∷ (48 + d i) ∷ [])))
-
-pub decimal_million : (n : ℕ) → 1000000 ≤ n → n < 2 ^ 64 → decimal n ≡ decimal (n / 1000000) ++ (three_digits (n % 1000000 / 1000) ++ three_digits (n % 1000000 % 1000))
-decimal_million n low fits =
-    let a : n / 1000 / 1000 ≡ n / 1000000 = omega arith in
-    let b : n / 1000 % 1000 ≡ n % 1000000 / 1000 = omega arith in
-    let c : n % 1000 ≡ n % 1000000 % 1000 = omega arith in
-    let last = three_digits (n % 1000) in
-    decimal_thousand n (omega (arith, low)) fits
-    ∙ (ap (λ l. l ++ last) (decimal_thousand (n / 1000) (omega (arith, low)) (omega (arith, fits)))
-    ∙ (append_assoc (decimal (n / 1000 / 1000)) (three_digits (n / 1000 % 1000)) last
-    ∙ (λ i. decimal (a i) ++ (three_digits (b i) ++ three_digits (c i)))))
 
 -- ---- a sign before the digits
 

@@ -1,6 +1,7 @@
 pub mod RemainingText
 pub mod DigitValues
 pub mod Decimals
+pub mod DigitBuffers
 pub mod TripleText
 pub mod Escapes
 pub mod Prefixes

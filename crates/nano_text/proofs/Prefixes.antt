@@ -1,5 +1,5 @@
 -- The prefix of a text that passes a test, and what is after it.
-use Rattle.std.proofs.Common.{◌≡◌, ℕ, ◌≤◌, List, [], ◌∷◌, ◌++◌, Bool, true, false, cond, length, refl, ap, arith}
+use Rattle.std.proofs.Common.{◌≡◌, ℕ, zero, suc, ◌+◌, ◌<◌, ◌≤◌, List, [], ◌∷◌, ◌++◌, Bool, true, false, cond, length, drop, get_or, refl, ap, arith}
 use Rattle.std.specs.List.{AllByRecursion}
 use Rattle.nano_text.specs.Prefix.{first_is, prefix, following}
 
@@ -19,6 +19,14 @@ prefix_fits p (c ∷ cs) =
       | true ↦ let more = prefix_fits p cs in omega (arith, more)
       | false ↦ omega arith
     ]
+
+-- a prefix begins with the first characters, where they pass
+pub prefix_past : (p : ℕ → Bool) (t : List ℕ) (n : ℕ) → n ≤ length t → ((k : ℕ) → k < n → p (get_or t k 0) ≡ true) → length (prefix p t) ≡ n + length (prefix p (drop n t))
+prefix_past p t zero within all = omega arith
+prefix_past p [] (suc n) within all = absurd (omega (arith, within))
+prefix_past p (c ∷ cs) (suc n) within all =
+    let more = prefix_past p cs n (omega (arith, within)) (λ k low. all (suc k) (omega (arith, low))) in
+    rw (all 0 (omega arith)) (omega (arith, more))
 
 -- the longest prefix of a list of such characters and what doesn't continue them
 pub prefix_all : (p : ℕ → Bool) (w rest : List ℕ) → AllByRecursion (λ c. p c ≡ true) w → first_is p rest ≡ false → (prefix p (w ++ rest) ≡ w) × (following p (w ++ rest) ≡ rest)

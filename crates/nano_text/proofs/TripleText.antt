@@ -8,38 +8,30 @@ use Rattle.std.proofs.lemmas.Str.Ascii.{IsAscii-from_all}
 use Rattle.nano_text.specs.declared.triples.TheConstants.{TRIPLES}
 use Rattle.nano_text.specs.Digits.{three_digits}
 
-abbrev entry : ℕ → List ℕ
-entry n = take 3 (drop (n * 3) TRIPLES.now)
+-- so many bytes from a number's place on are its digits
+module _ (digits : ℕ → List ℕ) (place : ℕ → ℕ) (count : ℕ) where
+  abbrev entry : ℕ → List ℕ
+  entry n = take count (drop (place n) TRIPLES.now)
 
-abbrev entries_match : ℕ → Bool
-entries_match zero = true
-entries_match (suc n) = bytes_eq (entry n) (three_digits n) && entries_match n
+  abbrev entries_match : ℕ → Bool
+  entries_match zero = true
+  entries_match (suc n) = bytes_eq (entry n) (digits n) && entries_match n
 
-entries_checked : entries_match 1000 ≡ true
-entries_checked = refl
+  entries_are : (most : ℕ) → entries_match most ≡ true → (n : ℕ) → n < most → entry n ≡ digits n
+  entries_are most checked =
+      (Decides-below_and (λ n. bytes_eq (entry n) (digits n)) (λ n. entry n ≡ digits n) entries_match (λ n. bytes_eq-Decides _ _) refl (λ _. refl) most).0 checked
 
--- the three bytes at three times a number are its digits
-pub triple_entry : (n : ℕ) → n < 1000 → take 3 (drop (n * 3) TRIPLES.now) ≡ three_digits n
-triple_entry =
-    (Decides-below_and (λ n. bytes_eq (entry n) (three_digits n)) (λ n. entry n ≡ three_digits n) entries_match (λ n. bytes_eq-Decides _ _) refl (λ _. refl) 1000).0 entries_checked
+-- the three bytes after the first are its digits
+pub triple_entry : (n : ℕ) → n < 1000 → take 3 (drop (n * 4 + 1) TRIPLES.now) ≡ three_digits n
+triple_entry = entries_are three_digits (λ n. n * 4 + 1) 3 1000 refl
 
-abbrev pair : ℕ → List ℕ
-pair n = take 2 (drop (n * 3 + 1) TRIPLES.now)
+-- the first is a zero
+pub padded_entry : (n : ℕ) → n < 1000 → take 4 (drop (n * 4) TRIPLES.now) ≡ 48 ∷ three_digits n
+padded_entry = entries_are (λ n. 48 ∷ three_digits n) (λ n. n * 4) 4 1000 refl
 
-abbrev two_digits : ℕ → List ℕ
-two_digits n = (48 + n / 10) ∷ (48 + n % 10) ∷ []
-
-abbrev pairs_match : ℕ → Bool
-pairs_match zero = true
-pairs_match (suc n) = bytes_eq (pair n) (two_digits n) && pairs_match n
-
-pairs_checked : pairs_match 100 ≡ true
-pairs_checked = refl
-
--- the two bytes after the first of these are the digits of a number below 100
-pub pair_entry : (n : ℕ) → n < 100 → take 2 (drop (n * 3 + 1) TRIPLES.now) ≡ (48 + n / 10) ∷ (48 + n % 10) ∷ []
-pair_entry =
-    (Decides-below_and (λ n. bytes_eq (pair n) (two_digits n)) (λ n. pair n ≡ two_digits n) pairs_match (λ n. bytes_eq-Decides _ _) refl (λ _. refl) 100).0 pairs_checked
+-- the last two are the digits of a number below 100
+pub pair_entry : (n : ℕ) → n < 100 → take 2 (drop (n * 4 + 2) TRIPLES.now) ≡ (48 + n / 10) ∷ (48 + n % 10) ∷ []
+pair_entry = entries_are (λ n. (48 + n / 10) ∷ (48 + n % 10) ∷ []) (λ n. n * 4 + 2) 2 100 refl
 
 abbrev all_ascii : List ℕ → Bool
 all_ascii [] = true

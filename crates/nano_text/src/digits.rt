@@ -1,16 +1,21 @@
 //! Decimal digits of integers.
 
-ghost use Rattle.std.specs.Prelude.{◌≡◌, ◌+◌, ◌/◌, ◌%◌, ◌<◌, ◌≤◌, ◌++◌, ◌∷◌, []};
-ghost use Rattle.std.specs.Prelude.{OnOk, OnErr, string_bytes};
+ghost use Rattle.std.specs.Prelude.{◌≡◌, ◌+◌, ◌-◌, ◌/◌, ◌%◌, ◌^◌, ◌<◌, ◌≤◌, ◌++◌, ◌∷◌, []};
+ghost use Rattle.std.specs.Prelude.{OnOk, OnErr, string_bytes, IsAscii, length, take, drop};
 ghost use Rattle.std.specs.Fmt.{decimal, signed_decimal};
 ghost use Rattle.nano_text.specs.Digits.{three_digits};
-ghost use Rattle.nano_text.specs.Outcomes.{Appends, AppendsPart, Unchanged};
+ghost use Rattle.nano_text.specs.Outcomes.{Appends, Unchanged};
 
-use crate::rollback::rollback_on_error;
-use crate::triples::{pair, triple};
+use crate::triples::{padded_triple, pair, triple};
 use std::alloc::AllocError;
+use std::str;
 
-const MILLION: u64 = 1_000_000;
+/// The most digits that a number has.
+const MOST_DIGITS: usize = 20;
+/// Where the digits of a number end in a buffer: before them is space for a triple's zero.
+const DIGITS_END: usize = MOST_DIGITS + 3;
+/// From each place where digits may start there are as many bytes as the most digits.
+const BUFFER_LEN: usize = DIGITS_END + MOST_DIGITS;
 
 /// Appends one digit. If the allocation fails, `out` is unchanged.
 #[inline(always)]
@@ -63,72 +68,94 @@ fn append_short(out: &mut String, number: u64) -> Result<(), AllocError>
     append_digit(out, number)
 }
 
-/// Appends a number below a million. If an allocation fails, the digits before remain.
+/// How many digits a number below 1,000 has.
 #[inline(always)]
-fn append_prefix(out: &mut String, number: u64) -> Result<(), AllocError>
-    requires { number < 1000000 }
-    ensures ok { OnOk result (string_bytes out.new ≡ string_bytes out.old ++ decimal number) }
-    ensures err { OnErr result (AppendsPart out.old out.new) }
+fn digit_count(number: u64) -> usize
+    requires { number < 1000 }
+    ensures { result ≡ length (decimal number) }
 {
-    if number < 1000 {
-        return append_short(out, number);
+    if number >= 100 {
+        3
+    } else if number >= 10 {
+        2
+    } else {
+        1
     }
-    append_short(out, number / 1000)?;
-    append_triple(out, number % 1000)
 }
 
-/// Appends a number below a million as six digits, with leading zeros. If an allocation fails,
-/// the digits before remain.
+/// Writes a number below 1,000 as three digits that end at `end`. The byte before them is
+/// overwritten too.
 #[inline(always)]
-fn append_six(out: &mut String, number: u64) -> Result<(), AllocError>
-    requires { number < 1000000 }
+fn write_triple(number: u64, buffer: &mut [u8], end: usize)
+    requires small { number < 1000 }
+    requires within { (4 ≤ end) × (end ≤ length buffer.old) }
+    ensures { drop (end - 3) buffer.new ≡ three_digits number ++ drop end buffer.old }
+{
+    let digits = padded_triple(number).as_bytes();
+    buffer[end - 1] = digits[3];
+    buffer[end - 2] = digits[2];
+    buffer[end - 3] = digits[1];
+    buffer[end - 4] = digits[0];
+}
+
+/// Writes the digits of a number so that they end at `end`, three at a time from the last.
+/// Returns where they start. Bytes before them may be overwritten too.
+#[inline(always)]
+fn write_digits(number: u64, buffer: &mut [u8], end: usize) -> usize
+    requires within { (length (decimal number) + 3 ≤ end) × (end ≤ length buffer.old) }
+    ensures start { result + length (decimal number) ≡ end }
+    ensures written { drop result buffer.new ≡ decimal number ++ drop end buffer.old }
+{
+    let mut rest = number;
+    let mut at = end;
+    'triples: while rest >= 1000 {
+        write_triple(rest % 1000, buffer, at);
+        rest /= 1000;
+        at -= 3;
+    }
+    write_triple(rest, buffer, at);
+    at - digit_count(rest)
+}
+
+/// Appends the first bytes of an ASCII text. All of it is appended and then truncated: a copy of
+/// a length that is known where this is inlined is no call. If the allocation fails, `out` is
+/// unchanged.
+#[inline(always)]
+fn append_first(out: &mut String, text: &str, len: usize) -> Result<(), AllocError>
+    requires ascii { IsAscii text.now }
+    requires within { len ≤ length text.now }
+    ensures ok { OnOk result (string_bytes out.new ≡ string_bytes out.old ++ take len text.now) }
+    ensures err { OnErr result (Unchanged out.old out.new) }
+{
+    let start = out.len();
+    out.push_str(text)?;
+    out.truncate(start + len);
+    Ok(())
+}
+
+/// Appends what a buffer holds from `start` to where its digits end. If the allocation fails,
+/// `out` is unchanged.
+#[inline(always)]
+fn append_written(out: &mut String, buffer: &[u8], start: usize) -> Result<(), AllocError>
+    requires ascii { IsAscii (drop start buffer.now) }
+    requires within { (3 ≤ start) × (start ≤ 23) × (length buffer.now ≡ 43) }
     ensures ok { OnOk result
-        (string_bytes out.new ≡ string_bytes out.old
-        ++ (three_digits (number / 1000) ++ three_digits (number % 1000))) }
-    ensures err { OnErr result (AppendsPart out.old out.new) }
+        (string_bytes out.new ≡ string_bytes out.old ++ take (23 - start) (drop start buffer.now)) }
+    ensures err { OnErr result (Unchanged out.old out.new) }
 {
-    append_triple(out, number / 1000)?;
-    append_triple(out, number % 1000)
+    let text = unsafe { str::from_utf8_unchecked(&buffer[start..start + MOST_DIGITS]) };
+    append_first(out, text, DIGITS_END - start)
 }
 
-/// Appends a number of at most twelve digits. If an allocation fails, the digits before remain.
-#[inline(always)]
-fn append_middle(out: &mut String, number: u64) -> Result<(), AllocError>
-    requires { number < 1000000000000 }
-    ensures ok { OnOk result (string_bytes out.new ≡ string_bytes out.old ++ decimal number) }
-    ensures err { OnErr result (AppendsPart out.old out.new) }
-{
-    if number < MILLION {
-        return append_prefix(out, number);
-    }
-    append_prefix(out, number / MILLION)?;
-    append_six(out, number % MILLION)
-}
-
-/// Appends a number of seven to eighteen digits. If an allocation fails, the digits before
-/// remain.
-#[inline(always)]
-fn append_upper(out: &mut String, number: u64) -> Result<(), AllocError>
-    requires long { 1000000 ≤ number }
-    requires short { number < 1000000000000000000 }
-    ensures ok { OnOk result (string_bytes out.new ≡ string_bytes out.old ++ decimal number) }
-    ensures err { OnErr result (AppendsPart out.old out.new) }
-{
-    append_middle(out, number / MILLION)?;
-    append_six(out, number % MILLION)
-}
-
-/// Appends a number, in steps by its size. If an allocation fails, the digits before remain.
+/// Appends a number, without inlining. If the allocation fails, `out` is unchanged.
 #[inline(never)]
 fn append_long(out: &mut String, number: u64) -> Result<(), AllocError>
     ensures ok { OnOk result (string_bytes out.new ≡ string_bytes out.old ++ decimal number) }
-    ensures err { OnErr result (AppendsPart out.old out.new) }
+    ensures err { OnErr result (Unchanged out.old out.new) }
 {
-    if number < MILLION * MILLION {
-        return append_middle(out, number);
-    }
-    append_upper(out, number / MILLION)?;
-    append_six(out, number % MILLION)
+    let mut buffer = [b'0'; BUFFER_LEN];
+    let start = write_digits(number, &mut buffer, DIGITS_END);
+    append_written(out, &buffer, start)
 }
 
 /// Appends a number in decimal digits, one below 1,000 without a call. If an allocation fails,
@@ -141,42 +168,21 @@ pub fn append_unsigned(out: &mut String, value: u64) -> Result<(), AllocError>
     if value < 1000 {
         return append_short(out, value);
     }
-    let start = out.len();
-    let written = append_long(out, value);
-    rollback_on_error(out, start, written)
+    append_long(out, value)
 }
 
-/// Appends a minus sign. If the allocation fails, `out` is unchanged.
-#[inline(always)]
-fn append_minus(out: &mut String) -> Result<(), AllocError>
-    ensures ok { OnOk result (string_bytes out.new ≡ string_bytes out.old ++ 45 ∷ []) }
-    ensures err { OnErr result (Unchanged out.old out.new) }
-{
-    out.push('-')
-}
-
-/// Appends a minus sign and the digits of a number. If an allocation fails, what was written
-/// before remains.
-#[inline(always)]
-fn append_minus_and_digits(out: &mut String, magnitude: u64) -> Result<(), AllocError>
-    ensures ok { OnOk result
-        (string_bytes out.new ≡ string_bytes out.old ++ 45 ∷ decimal magnitude) }
-    ensures err { OnErr result (AppendsPart out.old out.new) }
-{
-    append_minus(out)?;
-    append_unsigned(out, magnitude)
-}
-
-/// Appends a minus sign and the digits of a number. If an allocation fails, `out` is unchanged.
-#[inline]
+/// Appends a minus sign and the digits of a number. If the allocation fails, `out` is unchanged.
+#[inline(never)]
 fn append_negative(out: &mut String, magnitude: u64) -> Result<(), AllocError>
+    requires { magnitude ≤ 2 ^ 63 }
     ensures ok { OnOk result
         (string_bytes out.new ≡ string_bytes out.old ++ 45 ∷ decimal magnitude) }
     ensures err { OnErr result (Unchanged out.old out.new) }
 {
-    let start = out.len();
-    let written = append_minus_and_digits(out, magnitude);
-    rollback_on_error(out, start, written)
+    let mut buffer = [b'0'; BUFFER_LEN];
+    let first = write_digits(magnitude, &mut buffer, DIGITS_END);
+    buffer[first - 1] = b'-';
+    append_written(out, &buffer, first - 1)
 }
 
 /// Appends a number in decimal digits, with a minus sign where it is negative. If an allocation

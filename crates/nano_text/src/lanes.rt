@@ -1,6 +1,6 @@
 //! Bytes looked at sixteen at a time.
 
-ghost use Rattle.std.specs.Prelude.{◌≡◌, ◌<◌, ◌≤◌, ◌+◌, ℕ, true, length, slice_index};
+ghost use Rattle.std.specs.Prelude.{◌≡◌, ◌≢◌, ◌<◌, ◌≤◌, ◌+◌, ℕ, true, length, slice_index};
 ghost use Rattle.nano_text.specs.Lanes.{first_set};
 ghost use Rattle.nano_text.specs.String.{is_plain_in_line};
 
@@ -9,13 +9,13 @@ use std::simd::prelude::*;
 /// How many bytes are looked at together.
 pub(crate) const LANES: usize = 16;
 
-/// The place of the lowest bit that is set, or how many bits there are.
+/// The place of the lowest bit that is set, or how many lanes there are.
 #[inline(always)]
-fn first_set(mask: u64) -> usize
-    ensures { result ≡ first_set mask 16 }
+fn first_set(mask: u64, lanes: usize) -> usize
+    ensures { result ≡ first_set mask lanes }
 {
     if mask == 0 {
-        LANES
+        lanes
     } else {
         mask.trailing_zeros() as usize
     }
@@ -34,5 +34,60 @@ pub(crate) fn plain_lanes(bytes: &[u8], from: usize) -> usize
     let is_outside = lanes.simd_lt(u8x16::splat(b' ')) | lanes.simd_ge(u8x16::splat(0x7F));
     let is_quote = lanes.simd_eq(u8x16::splat(b'"'));
     let is_backslash = lanes.simd_eq(u8x16::splat(b'\\'));
-    first_set((is_outside | is_quote | is_backslash).to_bitmask())
+    first_set((is_outside | is_quote | is_backslash).to_bitmask(), LANES)
+}
+
+/// How many of the bytes from a place on, up to the lanes, surely stand for themselves in a string,
+/// and in its line: ASCII and beyond. DEL is left out, which may be written with an escape.
+#[inline(always)]
+fn unescaped_lanes<const N: usize>(bytes: &[u8], from: usize) -> usize
+    requires { (from + N ≤ length bytes.now) × (N ≤ 64) }
+    ensures within { result ≤ N }
+    ensures plain { (k : ℕ) → from ≤ k → k < from + result
+        → (is_plain_in_line (slice_index bytes.now k) ≡ true) × (slice_index bytes.now k ≢ 127) }
+{
+    let lanes = Simd::<u8, N>::from_slice(&bytes[from..]);
+    let is_control = lanes.simd_lt(Simd::splat(b' ')) | lanes.simd_eq(Simd::splat(0x7F));
+    let is_quote = lanes.simd_eq(Simd::splat(b'"'));
+    let is_backslash = lanes.simd_eq(Simd::splat(b'\\'));
+    first_set((is_control | is_quote | is_backslash).to_bitmask(), N)
+}
+
+/// Counts the first bytes that surely stand for themselves, so many in a turn. The last lanes end
+/// where the bytes do, and may begin with bytes that are counted already.
+#[inline(always)]
+fn unescaped_by<const N: usize>(bytes: &[u8]) -> usize
+    requires { (0 < N) × (N ≤ length bytes.now) × (N ≤ 64) }
+    ensures within { result ≤ length bytes.now }
+    ensures plain { (k : ℕ) → k < result
+        → (is_plain_in_line (slice_index bytes.now k) ≡ true) × (slice_index bytes.now k ≢ 127) }
+{
+    let last = bytes.len() - N;
+    let mut len = 0;
+    'lanes: while len < last {
+        let plain = unescaped_lanes::<N>(bytes, len);
+        len += plain;
+        if plain < N {
+            return len;
+        }
+    }
+    last + unescaped_lanes::<N>(bytes, last)
+}
+
+/// Counts the first bytes that surely stand for themselves in a string, and in its line, sixteen in
+/// a turn, or fewer where there are not so many. More may follow.
+pub(crate) fn unescaped_run(bytes: &[u8]) -> usize
+    ensures within { result ≤ length bytes.now }
+    ensures plain { (k : ℕ) → k < result
+        → (is_plain_in_line (slice_index bytes.now k) ≡ true) × (slice_index bytes.now k ≢ 127) }
+{
+    if bytes.len() >= 16 {
+        unescaped_by::<16>(bytes)
+    } else if bytes.len() >= 8 {
+        unescaped_by::<8>(bytes)
+    } else if bytes.len() >= 4 {
+        unescaped_by::<4>(bytes)
+    } else {
+        0
+    }
 }

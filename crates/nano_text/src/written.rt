@@ -1,11 +1,13 @@
 //! Texts that are written with escapes: a run of characters that stand for themselves is appended
 //! at once.
 
-ghost use Rattle.std.specs.Prelude.{◌≡◌, ◌≤◌, ◌<◌, ◌++◌, ◌∷◌, [], true, Bool, List, ℕ, IfOk, OnOk};
+ghost use Rattle.std.specs.Prelude.{◌≡◌, ◌≢◌, ◌≤◌, ◌<◌, ◌++◌, ◌∷◌, [], true, Bool, List, ℕ, IfOk, OnOk};
 ghost use Rattle.std.specs.Prelude.{OnErr, chars, flat_map, encode_utf8_all, string_bytes, length};
 ghost use Rattle.nano_text.specs.Prefix.{prefix};
 ghost use Rattle.nano_text.specs.Outcomes.{Appends, AppendsPart};
+ghost use Rattle.nano_text.specs.String.{is_plain_in_line};
 
+use crate::lanes::unescaped_run;
 use std::alloc::AllocError;
 
 /// How a format writes the characters of a text.
@@ -25,15 +27,16 @@ pub trait Escaping {
         ensures ok { OnOk result (Appends out.old out.new (written c)) }
         ensures err { OnErr result (AppendsPart out.old out.new) };
 
-    // all beyond ASCII stand for themselves, and a character that does is written alone
+    // all beyond ASCII stand for themselves, and so does what is plain in its line but DEL; a
+    // character that does is written alone
     ghost wide_stands: { (n : ℕ) → 128 ≤ n → stands n ≡ true };
+
+    ghost plain_stands: { (n : ℕ) → is_plain_in_line n ≡ true → n ≢ 127 → stands n ≡ true };
 
     ghost as_itself: { (c : ℕ) → stands c ≡ true → written c ≡ c ∷ [] };
 }
 
-/// How many bytes stand for themselves before the first that doesn't. Inlined, so that a slice
-/// of a known length is checked without a loop.
-#[inline(always)]
+/// How many bytes stand for themselves before the first that doesn't, looked at one by one.
 fn plain_prefix<E: Escaping>(bytes: &[u8]) -> usize
     ensures { result ≡ length (prefix E.stands bytes.now) }
 {
@@ -45,22 +48,13 @@ fn plain_prefix<E: Escaping>(bytes: &[u8]) -> usize
     bytes.len()
 }
 
-/// How many bytes stand for themselves before the first that doesn't, looked at four a turn.
+/// How many bytes stand for themselves before the first that doesn't. Those that do in every
+/// format are passed sixteen in a turn.
 fn plain_len<E: Escaping>(bytes: &[u8]) -> usize
     ensures { result ≡ length (prefix E.stands bytes.now) }
 {
-    let mut rest = bytes;
-    let mut len = 0;
-    'fours: while let Some(parts) = rest.split_first_chunk::<4>() {
-        let (four, following) = parts;
-        let plain = plain_prefix::<E>(four);
-        if plain < 4 {
-            return len + plain;
-        }
-        len += 4;
-        rest = following;
-    }
-    len + plain_prefix::<E>(rest)
+    let unescaped = unescaped_run(bytes);
+    unescaped + plain_prefix::<E>(&bytes[unescaped..])
 }
 
 /// Appends the longest prefix of a text that stands for itself, at once, and the character

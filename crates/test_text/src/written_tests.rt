@@ -16,11 +16,14 @@ const UNSIGNED: &[(u64, &str)] = &[
     (999, "999"),
     (1_000, "1000"),
     (1_009, "1009"),
+    (12_345, "12345"),
     (999_999, "999999"),
     (1_000_000, "1000000"),
+    (10_020_030, "10020030"),
     (1_000_000_000, "1000000000"),
     (999_999_999_999, "999999999999"),
     (1_000_000_000_000, "1000000000000"),
+    (1_002_003_004_005_006_007, "1002003004005006007"),
     (1 << 63, "9223372036854775808"),
     (u64::MAX, "18446744073709551615"),
 ];
@@ -34,6 +37,7 @@ const SIGNED: &[(i64, &str)] = &[
     (100, "100"),
     (-999, "-999"),
     (-1_000, "-1000"),
+    (-12_345_678, "-12345678"),
     (i64::MAX, "9223372036854775807"),
     (i64::MIN, "-9223372036854775808"),
 ];
@@ -82,6 +86,8 @@ impl Escaping for TwoQuotes {
 
     ghost wide_stands = { λ n h. Prim.grind (arith, nat_tests) };
 
+    ghost plain_stands = { λ n plain other. Prim.grind (arith, nat_tests) };
+
     ghost as_itself = { λ c h. Prim.grind (arith, nat_tests) };
 }
 
@@ -97,6 +103,14 @@ const ESCAPED: &[(&str, &str)] = &[
     ("abcd\"", "abcd\"\""),
     ("abcdefg\"h", "abcdefg\"\"h"),
     ("abcdefgh\"i", "abcdefgh\"\"i"),
+    ("abcdefghijklmnop", "abcdefghijklmnop"),
+    ("abcdefghijklmno\"", "abcdefghijklmno\"\""),
+    ("abcdefghijklmnop\"", "abcdefghijklmnop\"\""),
+    ("\"abcdefghijklmnopqr", "\"\"abcdefghijklmnopqr"),
+    (
+        "abc\ndéfghi\\klm\u{7f}opqr\"s",
+        "abc\ndéfghi\\klm\u{7f}opqr\"\"s",
+    ),
 ];
 
 /// Whether the texts are written so.

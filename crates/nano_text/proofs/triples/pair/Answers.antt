@@ -12,5 +12,5 @@ range-requires-clause-end_boundary c = IsCharBoundary-from_ascii TRIPLES.now _ t
 
 pub returns : goal.returns
 returns c =
-    let two : c.args.number * 3 + 1 + 2 - (c.args.number * 3 + 1) ≡ 2 = omega arith in
+    let two : c.args.number * 4 + 2 + 2 - (c.args.number * 4 + 2) ≡ 2 = omega arith in
     rw (c.range.ensures.value, two) (pair_entry c.args.number (omega arith))

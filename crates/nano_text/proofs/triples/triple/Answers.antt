@@ -12,5 +12,5 @@ range-requires-clause-end_boundary c = IsCharBoundary-from_ascii TRIPLES.now _ t
 
 pub returns : goal.returns
 returns c =
-    let three : c.args.number * 3 + 3 - c.args.number * 3 ≡ 3 = omega arith in
+    let three : c.args.number * 4 + 1 + 3 - (c.args.number * 4 + 1) ≡ 3 = omega arith in
     rw (c.range.ensures.value, three) (triple_entry c.args.number (omega arith))
