@@ -1,5 +1,5 @@
 -- What a reader of named fields knows between two fields, where a name is pending or was taken in place.
-use Rattle.std.proofs.Common.{◌≡◌, ◌≢◌, ◌<◌, ◌≤◌, ◌⊎◌, ◌||◌, ℕ, List, [], ◌∷◌, Bool, true, false, Option, Some, None}
+use Rattle.std.proofs.Common.{◌≡◌, ◌≢◌, ◌<◌, ◌≤◌, ℕ, List, [], ◌∷◌, Bool, true, false, Option, Some, None}
 use Rattle.std.proofs.Common.{inl, inr, refl, sym, ◌∙◌, ap, subst, arith, IfSome}
 use Rattle.std.specs.Option.{option_map, is_some}
 use Rattle.nano_grammar.specs.Tokens.{At, Leaves}
@@ -7,14 +7,14 @@ use Rattle.nano_grammar.proofs.Tokens.{leaves_append, leaves_split}
 use Rattle.nano_grammar.proofs.TokensLeft.{tokens_left, leaves_shorter, token_shorter}
 use Rattle.nano_schema_text.proofs.FieldReading.{leaves_same, no_head}
 use Rattle.nano_json_tokens.specs.Cut.{Cut}
-use Rattle.nano_json_tokens.specs.Token.{Token, str, colon, comma, curly_close, end}
+use Rattle.nano_json_tokens.specs.Token.{Token, str, colon, comma, curly_close}
 use Rattle.nano_json.specs.Encoding.{DecodesToNothing}
 use Rattle.nano_json.proofs.Json.{json_laws}
 use Rattle.nano_schema_json.specs.FieldReading.{EncodedField}
 use Rattle.nano_schema_json.specs.FieldsLaws.{json_fields}
 use Rattle.nano_schema_json.specs.NameReading.{StandsAfter, GoesOn, HasCutsOf, TakesSome}
 use Rattle.nano_schema_json.specs.Punctuation.{is_str}
-use Rattle.nano_schema_json.proofs.Pending.{name_goes_on, no_name_pending}
+use Rattle.nano_schema_json.proofs.Pending.{name_goes_on}
 
 -- ---- the colon
 

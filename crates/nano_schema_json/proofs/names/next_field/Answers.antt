@@ -1,4 +1,4 @@
-use Rattle.std.proofs.Common.{[], inl, inr, refl, sym, ◌∙◌, true, ◌≡◌}
+use Rattle.std.proofs.Common.{[], inl, inr, refl, sym, ◌∙◌}
 use Rattle.std.proofs.lemmas.Result.{err_from_is_err_and}
 use Rattle.nano_text.specs.Place.{remaining}
 use Rattle.nano_text.specs.PlaceLaws.{advances_append}

@@ -6,7 +6,7 @@ use Rattle.nano_grammar.specs.Tokens.{At, Leaves}
 use Rattle.nano_grammar.proofs.Tokens.{leaves_append}
 use Rattle.nano_schema_text.proofs.FieldReading.{field_after, no_field_after, no_head}
 use Rattle.nano_json_tokens.specs.Cut.{Cut}
-use Rattle.nano_json_tokens.specs.State.{at, pending}
+use Rattle.nano_json_tokens.specs.State.{at}
 use Rattle.nano_json_tokens.specs.Token.{Token, str, colon}
 use Rattle.nano_json.specs.Encoding.{DecodesToNothing}
 use Rattle.nano_json.proofs.Json.{json_laws}

@@ -25,10 +25,12 @@ returns-clause-decodes g c is =
     same_name c.args.name.now c.text.result.now c.args.name.now g.N.Label.label c.ne.result
     refl c.text.ensures c.ne.ensures c.if-ne.false in
     let decodes = rw (sym g.met.T.JsonCodec.agrees.means_is) at c.in_ok-value.ensures.decodes in
+    let read =
     value_field json_fields json_laws c.args.name.now g.N.Label.label
     g.T.JsonCodec.json.encoding.encodes (at c.args.state.now c.args.input.now)
     (at c.de_json.new.state c.de_json.new.input)
-    (g.T.JsonCodec.json.canonical.means c.in_ok-value.value) named decodes
+    (g.T.JsonCodec.json.canonical.means c.in_ok-value.value) named decodes in
+    (read.0, read.1, read.2, λ fs h. read.3 fs)
 
 pub returns-in_err-value-clause-made : goal.returns-in_err-value-clause-made
 returns-in_err-value-clause-made g c =
