@@ -202,10 +202,12 @@ fn json_field<F: JsonFields>(
 ) -> JsonResult<()> {
     match state.tok {
         DeJsonTok::Str => {
-            if F::knows(state.strbuf.as_str()) {
-                return F::read_field(slots, alloc, state, input);
+            let name = state.as_string(alloc)?;
+            state.next_colon(alloc, input)?;
+            if F::read_field(name.as_str(), slots, alloc, state, input)? {
+                return Ok(());
             }
-            Err(state.err_exp(alloc, state.strbuf.as_str()))
+            Err(state.err_exp(alloc, name.as_str()))
         }
         _ => Err(state.err_token(alloc, "name")),
     }
@@ -234,8 +236,8 @@ fn ron_field<F: RonFields>(
 ) -> RonResult<()> {
     match state.tok {
         DeRonTok::Ident => {
-            if F::knows(state.identbuf.as_str()) {
-                return F::read_field(slots, alloc, state, input);
+            if F::read_field(slots, alloc, state, input)? {
+                return Ok(());
             }
             Err(state.err_exp(alloc, state.identbuf.as_str()))
         }

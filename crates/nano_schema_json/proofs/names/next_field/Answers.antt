@@ -43,8 +43,8 @@ returns-clause-taken c =
       | inr p ↦
           let closes = sym (e.tok none) ∙ p.0 in
           let other = is_false c.is_comma.result (λ is. let x = sym (c.is_comma.ensures is) ∙ closes in cc x) in
-          let kept = e.unchanged other in
-          (end, inr (closes, p.1 ∙ (λ i. at (kept.0 i) (kept.1 i))), refl)
+          let unchanged = e.unchanged other in
+          (end, inr (closes, p.1 ∙ (λ i. at (unchanged.0 i) (unchanged.1 i))), refl)
     ]
 
 pub returns-clause-place : goal.returns-clause-place
