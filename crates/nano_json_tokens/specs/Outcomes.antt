@@ -3,6 +3,7 @@ use Rattle.std.specs.Prelude.{◌≡◌, ◌≢◌, ◌<◌, true, false, ℕ, L
 use Rattle.std.specs.Prelude.{IsOk, IfOk, String, string_bytes, string_capacity}
 use Rattle.std.specs.declared.str.Chars.{Chars}
 use Rattle.nano_text.specs.Place.{remaining, Advances}
+use Rattle.nano_text.specs.declared.place.Place.{Place}
 use Rattle.nano_grammar.specs.Tokens.{At, Leaves}
 use Rattle.nano_json_tokens.specs.declared.error.DeJsonErr.{DeJsonErr}
 use Rattle.nano_json_tokens.specs.declared.state.DeJsonState.{DeJsonState}
@@ -56,6 +57,11 @@ FindsOther old before new after = (pending new ≢ colon)
 -- line and column count each character that was taken, and all of them are of the text
 abbrev pub Counts : DeJsonState → Chars → DeJsonState → Chars → Type 0
 Counts old before new after = Advances (place_of old) before (place_of new) after
+
+-- what line and column counted of a text before, they count still
+abbrev pub StillCounts : DeJsonState → DeJsonState → Type 0
+StillCounts old new = (start : Place) (before after : Chars)
+    → Advances start before (place_of old) after → Advances start before (place_of new) after
 
 -- the token's text goes to a buffer that has no capacity for it yet
 abbrev pub Outgrows : DeJsonState → Token → Type 0

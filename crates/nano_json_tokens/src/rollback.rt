@@ -2,10 +2,8 @@
 
 ghost use Rattle.std.specs.Prelude.{◌≡◌, OnOk, OnErr, IfErr};
 ghost use Rattle.std.specs.declared.str.Chars.{Chars};
-ghost use Rattle.nano_text.specs.Place.{Advances};
-ghost use Rattle.nano_text.specs.declared.place.Place.{Place};
-ghost use Rattle.nano_json_tokens.specs.Outcomes.{IsPlacedAt};
-ghost use Rattle.nano_json_tokens.specs.State.{at, ended, place_of};
+ghost use Rattle.nano_json_tokens.specs.Outcomes.{IsPlacedAt, StillCounts};
+ghost use Rattle.nano_json_tokens.specs.State.{at, ended};
 
 use crate::error::DeJsonErr;
 use crate::state::DeJsonState;
@@ -17,9 +15,7 @@ pub fn end_on_error<T>(state: &mut DeJsonState, read: Result<T, DeJsonErr>) -> R
     ensures same { result ≡ read }
     ensures unchanged { OnOk read (state.new ≡ state.old) }
     ensures ended { OnErr read ((i : Chars) → at state.new i ≡ ended) }
-    ensures place { (start : Place) (before after : Chars)
-        → Advances start before (place_of state.old) after
-        → Advances start before (place_of state.new) after }
+    ensures place { StillCounts state.old state.new }
     ensures made { IfErr read (IsPlacedAt state.old) → IfErr result (IsPlacedAt state.new) }
 {
     if read.is_err() {

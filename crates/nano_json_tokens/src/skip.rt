@@ -23,7 +23,8 @@ impl DeJsonState {
     /// closes it, square and curly brackets counted together.
     ///
     /// If another token is pending, it is rejected, and the token and its text are unchanged.
-    /// Once the field has begun, an error leaves the state at the end of the text.
+    /// Once the field has begun, an error leaves the state at the end of the text. What the buffers
+    /// hold after brackets is not said: they may have been used for the tokens between them.
     pub fn whole_field(&mut self, alloc: Global, i: &mut Chars<'_>) -> Result<(), DeJsonErr>
         ensures taken { OnOk result ((field : List Token)
             × SkippedField field × Takes field self.old i.old self.new i.new) }

@@ -5,11 +5,9 @@ ghost use Rattle.std.specs.declared.str.Chars.{Chars};
 ghost use Rattle.nano_value.specs.Meaning.{Meaning};
 ghost use Rattle.nano_value.specs.Sums.{tagged};
 ghost use Rattle.nano_text.specs.Outcomes.{Appends, Unchanged};
-ghost use Rattle.nano_text.specs.Place.{Advances};
-ghost use Rattle.nano_text.specs.declared.place.Place.{Place};
-ghost use Rattle.nano_json_tokens.specs.Outcomes.{Counts, IsPlacedAt};
+ghost use Rattle.nano_json_tokens.specs.Outcomes.{Counts, IsPlacedAt, StillCounts};
 ghost use Rattle.nano_json.specs.Readers.{Decodes, Rejects};
-ghost use Rattle.nano_json.specs.State.{at, ended, place_of};
+ghost use Rattle.nano_json.specs.State.{at, ended};
 ghost use Rattle.nano_schema.specs.Choices.{either_is, either_map};
 ghost use Rattle.nano_schema_text.specs.Choices.{ChoiceCodec, EncodesAfter, is_named, last_choice};
 ghost use Rattle.nano_schema_text.specs.ChoicesLaws.{next_choice};
@@ -107,9 +105,7 @@ fn is_named(read: &VariantName, name: &str, alone: bool) -> bool
 fn unknown(alloc: Global, state: &mut DeJsonState, name: &VariantName) -> DeJsonErr
     ensures memory { result.memory ≡ true → string_bytes result.msg ≡ [] }
     ensures ended { (i : Chars) → at state.new i ≡ ended }
-    ensures place { (start : Place) (before after : Chars)
-        → Advances start before (place_of state.old) after
-        → Advances start before (place_of state.new) after }
+    ensures place { StillCounts state.old state.new }
     ensures made { IsPlacedAt state.new result }
 {
     match name {

@@ -6,12 +6,10 @@ ghost use Rattle.std.specs.declared.str.Chars.{Chars};
 ghost use Rattle.nano_schema_json.specs.FieldReadingLaws.{fields_of};
 ghost use Rattle.nano_schema_json.specs.VariantReading.{Closed, name_tokens, NoVariantBegins};
 ghost use Rattle.nano_schema_json.specs.Variants.{alone, opened};
-ghost use Rattle.nano_text.specs.Place.{Advances};
-ghost use Rattle.nano_text.specs.declared.place.Place.{Place};
-ghost use Rattle.nano_json_tokens.specs.Outcomes.{Takes, NoneHere};
+ghost use Rattle.nano_json_tokens.specs.Outcomes.{Takes, NoneHere, StillCounts};
 ghost use Rattle.nano_json_tokens.specs.Outcomes.{Counts, IsPlacedAt};
 ghost use Rattle.nano_json.specs.Readers.{Decodes, Rejects, Reports};
-ghost use Rattle.nano_json.specs.State.{at, ended, place_of};
+ghost use Rattle.nano_json.specs.State.{at, ended};
 ghost use Rattle.nano_json.specs.Token.{str, colon, curly_close};
 
 use crate::fields::JsonFields;
@@ -207,9 +205,7 @@ pub fn unknown_variant(alloc: Global, state: &mut DeJsonState, name: &str) -> De
     ensures line { result.line ≡ state.old.line }
     ensures col { result.col ≡ state.old.col }
     ensures ended { (i : Chars) → at state.new i ≡ ended }
-    ensures place { (start : Place) (before after : Chars)
-        → Advances start before (place_of state.old) after
-        → Advances start before (place_of state.new) after }
+    ensures place { StillCounts state.old state.new }
     ensures made { IsPlacedAt state.new result }
 {
     let error = state.err_enum(alloc, name);

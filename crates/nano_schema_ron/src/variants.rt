@@ -3,12 +3,10 @@
 ghost use Rattle.std.specs.Prelude.{◌≡◌, ◌++◌, ◌∷◌, [], ℕ, List, true, false, IfOk, IfErr, OnErr};
 ghost use Rattle.std.specs.Prelude.{string_bytes, codes};
 ghost use Rattle.std.specs.declared.str.Chars.{Chars};
-ghost use Rattle.nano_text.specs.Place.{Advances};
-ghost use Rattle.nano_text.specs.declared.place.Place.{Place};
-ghost use Rattle.nano_ron_tokens.specs.Outcomes.{Takes, NoneHere};
+ghost use Rattle.nano_ron_tokens.specs.Outcomes.{Takes, NoneHere, StillCounts};
 ghost use Rattle.nano_ron_tokens.specs.Outcomes.{Counts, IsPlacedAt};
 ghost use Rattle.nano_ron.specs.Readers.{Reports};
-ghost use Rattle.nano_ron.specs.State.{at, ended, pending, place_of};
+ghost use Rattle.nano_ron.specs.State.{at, ended, pending};
 ghost use Rattle.nano_ron.specs.Token.{ident, IsIdent};
 
 use nano_ron::{DeRonErr, DeRonState, DeRonTok, end_on_error};
@@ -91,9 +89,7 @@ pub fn unknown_variant(alloc: Global, state: &mut DeRonState, name: &str) -> DeR
     ensures line { result.line ≡ state.old.line }
     ensures col { result.col ≡ state.old.col }
     ensures ended { (i : Chars) → at state.new i ≡ ended }
-    ensures place { (start : Place) (before after : Chars)
-        → Advances start before (place_of state.old) after
-        → Advances start before (place_of state.new) after }
+    ensures place { StillCounts state.old state.new }
     ensures made { IsPlacedAt state.new result }
 {
     let error = state.err_enum(alloc, name);

@@ -18,8 +18,8 @@ returns-clause-taken c =
     rw c.stand_at.ensures (
       refl,
       name_ahead (remaining c.args.self.now.cur c.args.i.now) (text_at here c.chars-rest.result)
-      (text_at c.plain_string.new.p c.plain_string.new.i) (text_at c.next.new.self c.next.new.i) found.0 c.in_ok-name.name.now
-      (pending c.args.self.now) spaced found.1 colon_first found.2,
+          (text_at c.plain_string.new.p c.plain_string.new.i) (text_at c.next.new.self c.next.new.i) found.0 c.in_ok-name.name.now
+          (pending c.args.self.now) spaced found.1 colon_first found.2,
     )
 
 pub returns-clause-place : goal.returns-clause-place
