@@ -138,11 +138,13 @@ fn append_first(out: &mut String, text: &str, len: usize) -> Result<(), AllocErr
 #[inline(always)]
 fn append_written(out: &mut String, buffer: &[u8], start: usize) -> Result<(), AllocError>
     requires ascii { IsAscii (drop start buffer.now) }
-    requires within { (3 ≤ start) × (start ≤ 23) × (length buffer.now ≡ 43) }
+    requires within { (3 ≤ start) × (start ≤ DIGITS_END) × (length buffer.now ≡ BUFFER_LEN) }
     ensures ok { OnOk result
-        (string_bytes out.new ≡ string_bytes out.old ++ take (23 - start) (drop start buffer.now)) }
+        (string_bytes out.new ≡ string_bytes out.old
+        ++ take (DIGITS_END - start) (drop start buffer.now)) }
     ensures err { OnErr result (Unchanged out.old out.new) }
 {
+    // ASCII is UTF-8, and its check would cost as much as the digits.
     let text = unsafe { str::from_utf8_unchecked(&buffer[start..start + MOST_DIGITS]) };
     append_first(out, text, DIGITS_END - start)
 }
