@@ -136,19 +136,19 @@ impl nano_schema::Choice for Message {
         let later = match values {
             nano_schema::Either::First(values) => {
                 let () = values;
-                return Message::Leave;
+                return Self::Leave;
             }
             nano_schema::Either::Later(later) => later,
         };
         let later = match later {
             nano_schema::Either::First(values) => {
                 let (first, second) = values;
-                return Message::Move(first, second);
+                return Self::Move(first, second);
             }
             nano_schema::Either::Later(later) => later,
         };
         let (text, to) = later;
-        Message::Say { text, to }
+        Self::Say { text, to }
     }
 }
 
@@ -158,23 +158,20 @@ impl<'a> nano_schema::ChoiceParts<'a> for Message {
     ghost values = { ⟦<MessageVariants as nano_schema::BorrowedChoices<'a>>⟧.values };
 
     fn as_refs(&'a self) -> Self::Refs {
+        use nano_schema::Either;
+
         match self {
-            Message::Leave => {
+            Self::Leave => {
                 let refs = ();
-                let refs = nano_schema::Either::First(refs);
-                refs
+                Either::First(refs)
             }
-            Message::Move(first, second) => {
+            Self::Move(first, second) => {
                 let refs = (first, second);
-                let refs = nano_schema::Either::First(refs);
-                let refs = nano_schema::Either::Later(refs);
-                refs
+                Either::Later(Either::First(refs))
             }
-            Message::Say { text, to } => {
+            Self::Say { text, to } => {
                 let refs = (text, to);
-                let refs = nano_schema::Either::Later(refs);
-                let refs = nano_schema::Either::Later(refs);
-                refs
+                Either::Later(Either::Later(refs))
             }
         }
     }
@@ -187,7 +184,7 @@ impl nano_schema::Value for Message {
     ghost legal = { LegalVariant ⟦<MessageVariants as nano_schema::Choices>⟧.legals };
 
     fn known(&self) {
-        nano_schema::known_choice::<Self, MessageVariants>(self);
+        nano_schema::known_variant::<Self, MessageVariants>(self);
     }
 }
 

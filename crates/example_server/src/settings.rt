@@ -161,19 +161,19 @@ impl nano_schema::Choice for Mode {
         let later = match values {
             nano_schema::Either::First(values) => {
                 let () = values;
-                return Mode::Off;
+                return Self::Off;
             }
             nano_schema::Either::Later(later) => later,
         };
         let later = match later {
             nano_schema::Either::First(values) => {
                 let first = values;
-                return Mode::Fixed(first);
+                return Self::Fixed(first);
             }
             nano_schema::Either::Later(later) => later,
         };
         let (least, most) = later;
-        Mode::Range { least, most }
+        Self::Range { least, most }
     }
 }
 
@@ -183,23 +183,20 @@ impl<'a> nano_schema::ChoiceParts<'a> for Mode {
     ghost values = { ⟦<ModeVariants as nano_schema::BorrowedChoices<'a>>⟧.values };
 
     fn as_refs(&'a self) -> Self::Refs {
+        use nano_schema::Either;
+
         match self {
-            Mode::Off => {
+            Self::Off => {
                 let refs = ();
-                let refs = nano_schema::Either::First(refs);
-                refs
+                Either::First(refs)
             }
-            Mode::Fixed(first) => {
+            Self::Fixed(first) => {
                 let refs = first;
-                let refs = nano_schema::Either::First(refs);
-                let refs = nano_schema::Either::Later(refs);
-                refs
+                Either::Later(Either::First(refs))
             }
-            Mode::Range { least, most } => {
+            Self::Range { least, most } => {
                 let refs = (least, most);
-                let refs = nano_schema::Either::Later(refs);
-                let refs = nano_schema::Either::Later(refs);
-                refs
+                Either::Later(Either::Later(refs))
             }
         }
     }
@@ -212,7 +209,7 @@ impl nano_schema::Value for Mode {
     ghost legal = { LegalVariant ⟦<ModeVariants as nano_schema::Choices>⟧.legals };
 
     fn known(&self) {
-        nano_schema::known_choice::<Self, ModeVariants>(self);
+        nano_schema::known_variant::<Self, ModeVariants>(self);
     }
 }
 

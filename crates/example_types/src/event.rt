@@ -136,19 +136,19 @@ impl nano_schema::Choice for Event {
         let later = match values {
             nano_schema::Either::First(values) => {
                 let () = values;
-                return Event::Stop;
+                return Self::Stop;
             }
             nano_schema::Either::Later(later) => later,
         };
         let later = match later {
             nano_schema::Either::First(values) => {
                 let (first, second) = values;
-                return Event::Move(first, second);
+                return Self::Move(first, second);
             }
             nano_schema::Either::Later(later) => later,
         };
         let (text, times) = later;
-        Event::Say { text, times }
+        Self::Say { text, times }
     }
 }
 
@@ -158,23 +158,20 @@ impl<'a> nano_schema::ChoiceParts<'a> for Event {
     ghost values = { ⟦<EventVariants as nano_schema::BorrowedChoices<'a>>⟧.values };
 
     fn as_refs(&'a self) -> Self::Refs {
+        use nano_schema::Either;
+
         match self {
-            Event::Stop => {
+            Self::Stop => {
                 let refs = ();
-                let refs = nano_schema::Either::First(refs);
-                refs
+                Either::First(refs)
             }
-            Event::Move(first, second) => {
+            Self::Move(first, second) => {
                 let refs = (first, second);
-                let refs = nano_schema::Either::First(refs);
-                let refs = nano_schema::Either::Later(refs);
-                refs
+                Either::Later(Either::First(refs))
             }
-            Event::Say { text, times } => {
+            Self::Say { text, times } => {
                 let refs = (text, times);
-                let refs = nano_schema::Either::Later(refs);
-                let refs = nano_schema::Either::Later(refs);
-                refs
+                Either::Later(Either::Later(refs))
             }
         }
     }
@@ -187,7 +184,7 @@ impl nano_schema::Value for Event {
     ghost legal = { LegalVariant ⟦<EventVariants as nano_schema::Choices>⟧.legals };
 
     fn known(&self) {
-        nano_schema::known_choice::<Self, EventVariants>(self);
+        nano_schema::known_variant::<Self, EventVariants>(self);
     }
 }
 

@@ -106,19 +106,19 @@ impl nano_schema::Choice for Signal {
         let later = match values {
             nano_schema::Either::First(values) => {
                 let first = values;
-                return Signal::Wait(first);
+                return Self::Wait(first);
             }
             nano_schema::Either::Later(later) => later,
         };
         let later = match later {
             nano_schema::Either::First(values) => {
                 let (first, second, third) = values;
-                return Signal::Move(first, second, third);
+                return Self::Move(first, second, third);
             }
             nano_schema::Either::Later(later) => later,
         };
         let (first, second, third, fourth) = later;
-        Signal::Light(first, second, third, fourth)
+        Self::Light(first, second, third, fourth)
     }
 }
 
@@ -128,23 +128,20 @@ impl<'a> nano_schema::ChoiceParts<'a> for Signal {
     ghost values = { ⟦<SignalVariants as nano_schema::BorrowedChoices<'a>>⟧.values };
 
     fn as_refs(&'a self) -> Self::Refs {
+        use nano_schema::Either;
+
         match self {
-            Signal::Wait(first) => {
+            Self::Wait(first) => {
                 let refs = first;
-                let refs = nano_schema::Either::First(refs);
-                refs
+                Either::First(refs)
             }
-            Signal::Move(first, second, third) => {
+            Self::Move(first, second, third) => {
                 let refs = (first, second, third);
-                let refs = nano_schema::Either::First(refs);
-                let refs = nano_schema::Either::Later(refs);
-                refs
+                Either::Later(Either::First(refs))
             }
-            Signal::Light(first, second, third, fourth) => {
+            Self::Light(first, second, third, fourth) => {
                 let refs = (first, second, third, fourth);
-                let refs = nano_schema::Either::Later(refs);
-                let refs = nano_schema::Either::Later(refs);
-                refs
+                Either::Later(Either::Later(refs))
             }
         }
     }
@@ -157,7 +154,7 @@ impl nano_schema::Value for Signal {
     ghost legal = { LegalVariant ⟦<SignalVariants as nano_schema::Choices>⟧.legals };
 
     fn known(&self) {
-        nano_schema::known_choice::<Self, SignalVariants>(self);
+        nano_schema::known_variant::<Self, SignalVariants>(self);
     }
 }
 

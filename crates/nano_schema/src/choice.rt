@@ -45,3 +45,17 @@ pub fn known_choice<
     let refs = value.as_refs();
     V::known(&refs);
 }
+
+/// Does nothing. Its contract says that what the value means is legal, for an enum that is seen by
+/// these variants. Unlike that of `known_choice`, it is at once that of `Value::known`, so it
+/// serves an enum of any number of variants.
+pub fn known_variant<
+    'a,
+    E: ChoiceParts<'a>,
+    V: BorrowedChoices<'a, Refs = E::Refs, Values = E::Values>,
+>(value: &'a E)
+    requires { SeesAs V.values E.ChoiceParts.values }
+    ensures { LegalVariant V.legals (V.means 0 (E.view value.now)) }
+{
+    known_choice::<E, V>(value);
+}

@@ -108,7 +108,7 @@ fn append_schema<'a>(
 ) -> Result<(), AllocError> {
     sheet.line(target.head(alloc, "nano_schema::Choice", "")?.as_str())?;
     append_view(alloc, sheet, target, variants)?;
-    append_make(alloc, sheet, target, variants)
+    append_make(alloc, sheet, variants)
 }
 
 /// Appends the impl that has references to the content of the variant.
@@ -128,7 +128,7 @@ fn append_references<'a>(
     let term = format!(in alloc; "⟦<{row} as nano_schema::BorrowedChoices<'a>>⟧.values")?;
     sheet.member(alloc, "values", term.as_str())?;
     sheet.line("\n    fn as_refs(&'a self) -> Self::Refs {")?;
-    append_arms(alloc, sheet, target, variants)?;
+    append_arms(alloc, sheet, variants)?;
     sheet.line("    }\n}\n")
 }
 
@@ -147,6 +147,6 @@ fn append_value<'a>(
     sheet.member(alloc, "means", means.as_str())?;
     sheet.line("")?;
     sheet.member(alloc, "legal", legal.as_str())?;
-    let call = format!(in alloc; "nano_schema::known_choice::<Self, {row}>(self);")?;
+    let call = format!(in alloc; "nano_schema::known_variant::<Self, {row}>(self);")?;
     sheet.line(format!(in alloc; "\n    fn known(&self) {{\n        {call}\n    }}\n}}")?.as_str())
 }

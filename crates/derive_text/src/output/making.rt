@@ -2,7 +2,6 @@
 
 use crate::output::layout::Items;
 use crate::output::sheet::Sheet;
-use crate::output::target::Target;
 use crate::output::variants::{content_of, named_variant};
 use crate::syntax::Variant;
 use std::alloc::{AllocError, Global};
@@ -11,16 +10,15 @@ use std::alloc::{AllocError, Global};
 pub(crate) fn append_make<'a>(
     alloc: Global,
     sheet: &mut Sheet,
-    target: &Target<'a>,
     variants: &[Variant<'a>],
 ) -> Result<(), AllocError> {
     sheet.line("    fn make(values: Self::Values) -> Self {")?;
     let mut name = "values";
     for (i, variant) in variants.iter().enumerate() {
         if i.saturating_add(1) < variants.len() {
-            append_test(alloc, sheet, target, variant, name)?;
+            append_test(alloc, sheet, variant, name)?;
         } else {
-            append_last(alloc, sheet, target, variant, name)?;
+            append_last(alloc, sheet, variant, name)?;
         }
         name = "later";
     }
@@ -31,11 +29,10 @@ pub(crate) fn append_make<'a>(
 fn append_test<'a>(
     alloc: Global,
     sheet: &mut Sheet,
-    target: &Target<'a>,
     variant: &Variant<'a>,
     name: &str,
 ) -> Result<(), AllocError> {
-    let made = named_variant(alloc, target, variant, Items::Values, 16, 19)?;
+    let made = named_variant(alloc, variant, Items::Values, 16, 19)?;
     let pattern = content_of(alloc, variant, Items::Patterns, 16, 20)?;
     sheet.line(format!(in alloc;
         "        let later = match {name} {{\n            \
@@ -50,11 +47,10 @@ fn append_test<'a>(
 fn append_last<'a>(
     alloc: Global,
     sheet: &mut Sheet,
-    target: &Target<'a>,
     variant: &Variant<'a>,
     name: &str,
 ) -> Result<(), AllocError> {
-    let made = named_variant(alloc, target, variant, Items::Values, 8, 4)?;
+    let made = named_variant(alloc, variant, Items::Values, 8, 4)?;
     let pattern = content_of(alloc, variant, Items::Patterns, 8, 12)?;
     sheet.line(format!(in alloc; "        let {pattern} = {name};\n        {made}")?.as_str())
 }

@@ -5,7 +5,6 @@ use crate::output::fields::{field_names, row_fields};
 use crate::output::layout::{Brackets, Items, Piece, list};
 use crate::output::rows::pairs;
 use crate::output::sheet::Sheet;
-use crate::output::target::Target;
 use crate::syntax::{Content, Variant};
 use std::alloc::{AllocError, Global};
 
@@ -81,14 +80,13 @@ fn bound_names<'a>(
 /// so many columns of it: a pattern, or a value.
 pub(crate) fn named_variant<'a>(
     alloc: Global,
-    target: &Target<'a>,
     variant: &Variant<'a>,
     items: Items,
     indent: usize,
     before: usize,
 ) -> Result<String, AllocError> {
     let names = bound_names(alloc, variant, items)?;
-    let path = format!(in alloc; "{}::{}", target.name.text, variant.name.text)?;
+    let path = format!(in alloc; "Self::{}", variant.name.text)?;
     match &variant.content {
         Content::Nothing => Ok(path),
         Content::Parts(_) => {
@@ -138,28 +136,49 @@ pub(crate) fn content_of<'a>(
 pub(crate) fn append_arms<'a>(
     alloc: Global,
     sheet: &mut Sheet,
-    target: &Target<'a>,
     variants: &[Variant<'a>],
 ) -> Result<(), AllocError> {
+    if variants.len() > 1 {
+        sheet.line("        use nano_schema::Either;\n")?;
+    }
     sheet.line("        match self {")?;
     for (i, variant) in variants.iter().enumerate() {
-        let pattern = named_variant(alloc, target, variant, Items::Patterns, 12, 12)?;
+        let pattern = named_variant(alloc, variant, Items::Patterns, 12, 12)?;
         let refs = content_of(alloc, variant, Items::Values, 16, 27)?;
         sheet.line(format!(in alloc; "            {pattern} => {{")?.as_str())?;
         sheet.line(format!(in alloc; "                let refs = {refs};")?.as_str())?;
-        append_place(sheet, i, variants.len())?;
-        sheet.line("                refs\n            }")?;
+        append_place(alloc, sheet, i, variants.len())?;
+        sheet.line("            }")?;
     }
     sheet.line("        }")
 }
 
-/// Appends what puts references at the place of their variant among so many.
-fn append_place(sheet: &mut Sheet, i: usize, count: usize) -> Result<(), AllocError> {
-    if i.saturating_add(1) < count {
-        sheet.line("                let refs = nano_schema::Either::First(refs);")?;
-    }
+/// How many steps stand on one line.
+const STEPS: usize = 4;
+
+/// Appends what puts references at the place of their variant among so many, as the value of the
+/// arm. A variable for each step would make the check longer.
+fn append_place(
+    alloc: Global,
+    sheet: &mut Sheet,
+    i: usize,
+    count: usize,
+) -> Result<(), AllocError> {
+    let is_last = i.saturating_add(1) == count;
+    let innermost = if is_last {
+        "refs"
+    } else {
+        "Either::First(refs)"
+    };
+    let mut steps = usize::from(!is_last);
+    let mut place = String::from_str(alloc, innermost)?;
     for _later in 0..i {
-        sheet.line("                let refs = nano_schema::Either::Later(refs);")?;
+        if steps == STEPS {
+            sheet.line(format!(in alloc; "                let refs = {place};")?.as_str())?;
+            (steps, place) = (0, String::from_str(alloc, "refs")?);
+        }
+        place = format!(in alloc; "Either::Later({place})")?;
+        steps = steps.saturating_add(1);
     }
-    Ok(())
+    sheet.line(format!(in alloc; "                {place}")?.as_str())
 }

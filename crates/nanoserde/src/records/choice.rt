@@ -136,19 +136,19 @@ impl nano_schema::Choice for Choice {
         let later = match values {
             nano_schema::Either::First(values) => {
                 let () = values;
-                return Choice::A;
+                return Self::A;
             }
             nano_schema::Either::Later(later) => later,
         };
         let later = match later {
             nano_schema::Either::First(values) => {
                 let (first, second) = values;
-                return Choice::B(first, second);
+                return Self::B(first, second);
             }
             nano_schema::Either::Later(later) => later,
         };
         let (a, b) = later;
-        Choice::C { a, b }
+        Self::C { a, b }
     }
 }
 
@@ -158,23 +158,20 @@ impl<'a> nano_schema::ChoiceParts<'a> for Choice {
     ghost values = { ⟦<ChoiceVariants as nano_schema::BorrowedChoices<'a>>⟧.values };
 
     fn as_refs(&'a self) -> Self::Refs {
+        use nano_schema::Either;
+
         match self {
-            Choice::A => {
+            Self::A => {
                 let refs = ();
-                let refs = nano_schema::Either::First(refs);
-                refs
+                Either::First(refs)
             }
-            Choice::B(first, second) => {
+            Self::B(first, second) => {
                 let refs = (first, second);
-                let refs = nano_schema::Either::First(refs);
-                let refs = nano_schema::Either::Later(refs);
-                refs
+                Either::Later(Either::First(refs))
             }
-            Choice::C { a, b } => {
+            Self::C { a, b } => {
                 let refs = (a, b);
-                let refs = nano_schema::Either::Later(refs);
-                let refs = nano_schema::Either::Later(refs);
-                refs
+                Either::Later(Either::Later(refs))
             }
         }
     }
@@ -187,7 +184,7 @@ impl nano_schema::Value for Choice {
     ghost legal = { LegalVariant ⟦<ChoiceVariants as nano_schema::Choices>⟧.legals };
 
     fn known(&self) {
-        nano_schema::known_choice::<Self, ChoiceVariants>(self);
+        nano_schema::known_variant::<Self, ChoiceVariants>(self);
     }
 }
 
