@@ -49,9 +49,12 @@ pub(crate) fn came_of_type(
     match kind {
         "u128" => of_bytes::<u128>(alloc, format, input),
         "i128" => of_bytes::<i128>(alloc, format, input),
+        "Vec<u128>" => of_bytes::<Vec<u128>>(alloc, format, input),
+        "Vec<i128>" => of_bytes::<Vec<i128>>(alloc, format, input),
         "[u8; 0]" => of_type::<[u8; 0]>(alloc, format, input),
         "[u8; 2]" => of_type::<[u8; 2]>(alloc, format, input),
         "[u16; 2]" => of_type::<[u16; 2]>(alloc, format, input),
+        "[String; 2]" => of_type::<[String; 2]>(alloc, format, input),
         "Holder<[u64; 100]>" => of_held::<[u64; 100]>(alloc, format, HELD, input),
         _ => match shape_and_name(kind) {
             Some((shape, name)) => of_name(alloc, format, (shape, name), input),
@@ -94,7 +97,7 @@ fn of_number(
         "u64" => of_long::<u64>(alloc, format, shape, input),
         "usize" => of_one::<usize>(alloc, format, shape, input),
         "i8" => of_one::<i8>(alloc, format, shape, input),
-        "i16" => of_one::<i16>(alloc, format, shape, input),
+        "i16" => of_short::<i16>(alloc, format, shape, input),
         "i64" => of_long::<i64>(alloc, format, shape, input),
         "bool" => of_one::<bool>(alloc, format, shape, input),
         "" => of_one::<()>(alloc, format, shape, input),
@@ -114,6 +117,19 @@ fn of_one<T: BothBin + BothJson + BothRon>(
         ("Option<", ">") | ("Option<(", ")>") => of_type::<Option<T>>(alloc, format, input),
         ("Vec<", ">") | ("Vec<(", ")>") => of_type::<Vec<T>>(alloc, format, input),
         _ => Ok(Came::Unknown),
+    }
+}
+
+/// A map from numbers of two bytes to texts, or what has one item.
+fn of_short<T: BothBin + BothJson + BothRon + OrderedKey + Hash>(
+    alloc: Global,
+    format: Format,
+    shape: Shape<'_>,
+    input: &[u8],
+) -> Result<Came, AllocError> {
+    match shape {
+        (before, ", String>") => of_map::<T, String>(alloc, format, before, input),
+        _ => of_one::<T>(alloc, format, shape, input),
     }
 }
 
@@ -189,7 +205,7 @@ where
     }
 }
 
-/// A map from names, or what has one item.
+/// A map from names, a tuple of names, or a container of them.
 fn of_names<T: BothBin + BothJson + BothRon + OrderedKey + Hash>(
     alloc: Global,
     format: Format,
@@ -198,7 +214,25 @@ fn of_names<T: BothBin + BothJson + BothRon + OrderedKey + Hash>(
 ) -> Result<Came, AllocError> {
     match shape {
         (before, ", i32>" | ", i32>>") => of_map::<T, i32>(alloc, format, before, input),
-        _ => of_one::<T>(alloc, format, shape, input),
+        (before, ", String>") => of_map::<T, T>(alloc, format, before, input),
+        ("(", ", String)") => of_type::<(T, T)>(alloc, format, input),
+        ("(", ", String, String)") => of_type::<(T, T, T)>(alloc, format, input),
+        ("(", ", String, String, String)") => of_type::<(T, T, T, T)>(alloc, format, input),
+        _ => of_container::<T>(alloc, format, shape, input),
+    }
+}
+
+/// A box, a linked list or a set, or what has one item.
+fn of_container<T: BothBin + BothJson + BothRon + OrderedKey + Hash>(
+    alloc: Global,
+    format: Format,
+    shape: Shape<'_>,
+    input: &[u8],
+) -> Result<Came, AllocError> {
+    match shape {
+        ("Box<", ">") => of_type::<Box<T>>(alloc, format, input),
+        ("LinkedList<", ">") => of_type::<LinkedList<T>>(alloc, format, input),
+        _ => of_key::<T>(alloc, format, shape, input),
     }
 }
 
@@ -210,14 +244,12 @@ fn of_byte<T: BothBin + BothJson + BothRon + OrderedKey + Hash>(
     input: &[u8],
 ) -> Result<Came, AllocError> {
     match shape {
-        ("Box<", ">") => of_type::<Box<T>>(alloc, format, input),
-        ("LinkedList<", ">") => of_type::<LinkedList<T>>(alloc, format, input),
         (before, ", u8>" | ", u8>>") => of_map::<T, T>(alloc, format, before, input),
         (before, ", bool>") => of_map::<T, bool>(alloc, format, before, input),
         ("HashMap<String, Vec<", ">>") => of_type::<HashMap<String, Vec<T>>>(alloc, format, input),
         ("(", _) => of_tuple::<T>(alloc, format, shape.1, input),
         (_, ">>") => of_nested::<T>(alloc, format, shape.0, input),
-        _ => of_key::<T>(alloc, format, shape, input),
+        _ => of_container::<T>(alloc, format, shape, input),
     }
 }
 
