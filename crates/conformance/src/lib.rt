@@ -19,6 +19,7 @@ mod start;
 mod table;
 mod twins;
 mod types;
+mod user_types;
 mod words;
 mod writer;
 

@@ -5,7 +5,8 @@
 use crate::came::Came;
 use crate::format::Format;
 use crate::reads::{of_bytes, of_type};
-use nanoserde::records::{Choice, Holder, Item, Plain, Test};
+use crate::user_types::of_user_type;
+use nanoserde::records::Holder;
 use nanoserde::{BothBin, BothJson, BothRon, OrderedKey};
 use std::alloc::{AllocError, Global};
 use std::collections::{BTreeMap, BTreeSet, HashMap, HashSet, LinkedList};
@@ -18,7 +19,7 @@ type Lists<T> = (Vec<T>, LinkedList<T>, HashSet<T>, BTreeSet<T>);
 type Pair = Option<([u32; 4], String)>;
 
 /// What stands before and after the name of a type that has no parts.
-type Shape<'a> = (&'a str, &'a str);
+pub(crate) type Shape<'a> = (&'a str, &'a str);
 
 /// The shape of what a struct holds.
 const HELD: Shape<'static> = ("Holder<", ">");
@@ -76,15 +77,11 @@ fn of_name(
         "String" => of_names::<String>(alloc, format, shape, input),
         "Pair" => of_held::<Pair>(alloc, format, shape, input),
         "Lists" => of_lists::<i32>(alloc, format, shape, input),
-        "Test" => of_held::<Test>(alloc, format, shape, input),
-        "Plain" => of_held::<Plain>(alloc, format, shape, input),
-        "Item" => of_held::<Item>(alloc, format, shape, input),
-        "Choice" => of_held::<Choice>(alloc, format, shape, input),
         _ => of_number(alloc, format, (shape, name), input),
     }
 }
 
-/// A number, a truth or the unit.
+/// A number, a truth or the unit, or a user-defined type.
 fn of_number(
     alloc: Global,
     format: Format,
@@ -101,7 +98,7 @@ fn of_number(
         "i64" => of_long::<i64>(alloc, format, shape, input),
         "bool" => of_one::<bool>(alloc, format, shape, input),
         "" => of_one::<()>(alloc, format, shape, input),
-        _ => Ok(Came::Unknown),
+        _ => of_user_type(alloc, format, (shape, name), input),
     }
 }
 
@@ -147,8 +144,8 @@ fn of_long<T: BothBin + BothJson + BothRon + OrderedKey + Hash>(
     }
 }
 
-/// A type alone, or held by a struct.
-fn of_held<T: BothBin + BothJson + BothRon>(
+/// A type alone, held by a struct, or in a container of such.
+pub(crate) fn of_held<T: BothBin + BothJson + BothRon>(
     alloc: Global,
     format: Format,
     shape: Shape<'_>,
@@ -157,6 +154,10 @@ fn of_held<T: BothBin + BothJson + BothRon>(
     match shape {
         ("", "") => of_type::<T>(alloc, format, input),
         ("Holder<", ">") => of_type::<Holder<T>>(alloc, format, input),
+        ("Holder<Holder<Option<", ">>>") => of_type::<Holder<Holder<Option<T>>>>(
+            alloc, format, input,
+        ),
+        ("Vec<Option<Holder<", ">>>") => of_type::<Vec<Option<Holder<T>>>>(alloc, format, input),
         _ => Ok(Came::Unknown),
     }
 }

@@ -15,6 +15,7 @@ const TABLES: &[(&str, bool)] = &[
     ("worked.tsv", false),
     ("requests.tsv", false),
     ("parts.tsv", false),
+    ("user_types.tsv", false),
     ("words.tsv", false),
     ("rust_crate.tsv", false),
     ("states.tsv", false),
