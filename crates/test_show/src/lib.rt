@@ -7,6 +7,8 @@ mod error_tests;
 #[cfg(test)]
 mod law_tests;
 #[cfg(test)]
+mod listing_tests;
+#[cfg(test)]
 mod stream_tests;
 #[cfg(test)]
 mod testing;
