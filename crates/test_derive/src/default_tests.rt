@@ -107,7 +107,7 @@ fn a_type_parameter_has_no_default(rt: HostRuntime) {
         );
         match above {
             Ok(above) => fails(&rt, alloc, above.as_str(), expected),
-            Err(_failed) => assert_eq!(&rt; "no memory", expected),
+            Err(_failed) => assert_eq!(&rt; "no memory", *expected),
         }
     }
 }

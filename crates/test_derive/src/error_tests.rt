@@ -223,9 +223,9 @@ const PATHS: &[(&str, &str)] = &[
 fn a_path_tells_the_module(rt: HostRuntime) {
     for (path, expected) in PATHS {
         match module_of(rt.alloc(), path) {
-            Ok(Some(module)) => assert_eq!(&rt; module.as_str(), expected),
-            Ok(None) => assert_eq!(&rt; "none", expected),
-            Err(_failed) => assert_eq!(&rt; "no memory", expected),
+            Ok(Some(module)) => assert_eq!(&rt; module.as_str(), *expected),
+            Ok(None) => assert_eq!(&rt; "none", *expected),
+            Err(_failed) => assert_eq!(&rt; "no memory", *expected),
         }
     }
 }
