@@ -1,6 +1,6 @@
 //! What comes of an input.
 
-use crate::fields::escape;
+use crate::fields::{escape, push_digits};
 use std::alloc::{AllocError, Global};
 
 /// What comes of an input. Out of memory is no such answer, but an `AllocError`.
@@ -43,7 +43,7 @@ fn pairs(alloc: Global, bytes: &[u8]) -> Result<String, AllocError> {
         if !text.is_empty() {
             text.push(' ')?;
         }
-        write!(text, "{byte:02x}")?;
+        push_digits(&mut text, *byte, b'a')?;
     }
     Ok(text)
 }

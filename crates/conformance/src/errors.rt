@@ -1,4 +1,4 @@
-//! Errors as answers, and and out of memory, which is none.
+//! Errors as answers, and out of memory, which is none.
 
 use crate::came::Came;
 use nanoserde::{DeBinErr, DeBinKind, DeJsonErr, DeRonErr};

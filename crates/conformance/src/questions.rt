@@ -184,7 +184,7 @@ fn rejected(
     Ok(())
 }
 
-/// The bytes of a text's value are their own normal form.
+/// The bytes of a text's value are their own normal form. A type that has no bytes is passed over.
 fn ask_bytes(
     alloc: Global,
     case: &Case<'_>,
@@ -193,6 +193,7 @@ fn ask_bytes(
 ) -> Result<(), AllocError> {
     match came_of(alloc, whole.as_bytes(), case.kind, &case.input)? {
         Came::Code(code) => ask_code(alloc, case.kind, &code, found),
+        Came::Unknown => Ok(()),
         came => {
             found.push(Difference::new(alloc, "the text's bytes", "is", &came)?)?;
             Ok(())

@@ -65,6 +65,18 @@ pub(crate) fn of_bytes<T: BothBin>(
     }
 }
 
+/// What comes of a text of a type that has JSON alone.
+pub(crate) fn of_json<T: BothJson>(
+    alloc: Global,
+    format: Format,
+    input: &[u8],
+) -> Result<Came, AllocError> {
+    match str::from_utf8(input) {
+        Ok(text) => of_json_text::<T>(alloc, format, text),
+        Err(_) => Ok(Came::Error(Vec::from_slice(alloc, b"not UTF-8")?)),
+    }
+}
+
 /// What comes of a text.
 fn of_text<T: BothBin + BothJson + BothRon>(
     alloc: Global,
@@ -72,16 +84,27 @@ fn of_text<T: BothBin + BothJson + BothRon>(
     text: &str,
 ) -> Result<Came, AllocError> {
     match format {
-        Format::JsonState => json_state::read_at::<T>(alloc, text),
-        Format::RonState => ron_state::read_at::<T>(alloc, text),
-        Format::Json => json(alloc, normal_json::<T>(alloc, text)),
-        Format::JsonWhole => json(alloc, whole_json::<T>(alloc, text)),
         Format::JsonBin => json_code(alloc, json_to_bin::<T>(alloc, text)),
-        Format::JsonAgain => json(alloc, again_json::<T>(alloc, text)),
+        Format::RonState => ron_state::read_at::<T>(alloc, text),
         Format::Ron => ron(alloc, normal_ron::<T>(alloc, text)),
         Format::RonWhole => ron(alloc, whole_ron::<T>(alloc, text)),
         Format::RonBin => ron_code(alloc, ron_to_bin::<T>(alloc, text)),
         Format::RonAgain => ron(alloc, again_ron::<T>(alloc, text)),
+        _ => of_json_text::<T>(alloc, format, text),
+    }
+}
+
+/// What comes of a JSON text, in JSON.
+fn of_json_text<T: BothJson>(
+    alloc: Global,
+    format: Format,
+    text: &str,
+) -> Result<Came, AllocError> {
+    match format {
+        Format::JsonState => json_state::read_at::<T>(alloc, text),
+        Format::Json => json(alloc, normal_json::<T>(alloc, text)),
+        Format::JsonWhole => json(alloc, whole_json::<T>(alloc, text)),
+        Format::JsonAgain => json(alloc, again_json::<T>(alloc, text)),
         _ => Ok(Came::Unknown),
     }
 }

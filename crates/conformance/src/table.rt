@@ -1,6 +1,7 @@
 //! A line of a table: its case is run, and what differs is reported.
 
 use crate::case::Case;
+use crate::repeat::write_out;
 use std::alloc::{AllocError, Global};
 
 /// The number of questions of a line that answer otherwise, each reported in a line of `report`, or
@@ -13,7 +14,8 @@ pub fn differences_of(
     if line.is_empty() || line.starts_with('#') {
         return Ok(None);
     }
-    match Case::of_line(alloc, line)? {
+    let line = write_out(alloc, line)?;
+    match Case::of_line(alloc, line.as_str())? {
         Some(case) => {
             let found = case.differences(alloc)?;
             for difference in &found {

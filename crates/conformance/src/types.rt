@@ -5,7 +5,8 @@
 use crate::came::Came;
 use crate::format::Format;
 use crate::reads::{of_bytes, of_type};
-use nanoserde::records::{Choice, Holder, Item, Plain, Test};
+use crate::user_types::of_user_type;
+use nanoserde::records::Holder;
 use nanoserde::{BothBin, BothJson, BothRon, OrderedKey};
 use std::alloc::{AllocError, Global};
 use std::collections::{BTreeMap, BTreeSet, HashMap, HashSet, LinkedList};
@@ -18,7 +19,7 @@ type Lists<T> = (Vec<T>, LinkedList<T>, HashSet<T>, BTreeSet<T>);
 type Pair = Option<([u32; 4], String)>;
 
 /// What stands before and after the name of a type that has no parts.
-type Shape<'a> = (&'a str, &'a str);
+pub(crate) type Shape<'a> = (&'a str, &'a str);
 
 /// The shape of what a struct holds.
 const HELD: Shape<'static> = ("Holder<", ">");
@@ -49,9 +50,12 @@ pub(crate) fn came_of_type(
     match kind {
         "u128" => of_bytes::<u128>(alloc, format, input),
         "i128" => of_bytes::<i128>(alloc, format, input),
+        "Vec<u128>" => of_bytes::<Vec<u128>>(alloc, format, input),
+        "Vec<i128>" => of_bytes::<Vec<i128>>(alloc, format, input),
         "[u8; 0]" => of_type::<[u8; 0]>(alloc, format, input),
         "[u8; 2]" => of_type::<[u8; 2]>(alloc, format, input),
         "[u16; 2]" => of_type::<[u16; 2]>(alloc, format, input),
+        "[String; 2]" => of_type::<[String; 2]>(alloc, format, input),
         "Holder<[u64; 100]>" => of_held::<[u64; 100]>(alloc, format, HELD, input),
         _ => match shape_and_name(kind) {
             Some((shape, name)) => of_name(alloc, format, (shape, name), input),
@@ -73,15 +77,11 @@ fn of_name(
         "String" => of_names::<String>(alloc, format, shape, input),
         "Pair" => of_held::<Pair>(alloc, format, shape, input),
         "Lists" => of_lists::<i32>(alloc, format, shape, input),
-        "Test" => of_held::<Test>(alloc, format, shape, input),
-        "Plain" => of_held::<Plain>(alloc, format, shape, input),
-        "Item" => of_held::<Item>(alloc, format, shape, input),
-        "Choice" => of_held::<Choice>(alloc, format, shape, input),
         _ => of_number(alloc, format, (shape, name), input),
     }
 }
 
-/// A number, a truth or the unit.
+/// A number, a truth or the unit, or a user-defined type.
 fn of_number(
     alloc: Global,
     format: Format,
@@ -94,11 +94,11 @@ fn of_number(
         "u64" => of_long::<u64>(alloc, format, shape, input),
         "usize" => of_one::<usize>(alloc, format, shape, input),
         "i8" => of_one::<i8>(alloc, format, shape, input),
-        "i16" => of_one::<i16>(alloc, format, shape, input),
+        "i16" => of_short::<i16>(alloc, format, shape, input),
         "i64" => of_long::<i64>(alloc, format, shape, input),
         "bool" => of_one::<bool>(alloc, format, shape, input),
         "" => of_one::<()>(alloc, format, shape, input),
-        _ => Ok(Came::Unknown),
+        _ => of_user_type(alloc, format, (shape, name), input),
     }
 }
 
@@ -117,6 +117,19 @@ fn of_one<T: BothBin + BothJson + BothRon>(
     }
 }
 
+/// A map from numbers of two bytes to texts, or what has one item.
+fn of_short<T: BothBin + BothJson + BothRon + OrderedKey + Hash>(
+    alloc: Global,
+    format: Format,
+    shape: Shape<'_>,
+    input: &[u8],
+) -> Result<Came, AllocError> {
+    match shape {
+        (before, ", String>") => of_map::<T, String>(alloc, format, before, input),
+        _ => of_one::<T>(alloc, format, shape, input),
+    }
+}
+
 /// A map from numbers of eight bytes, or what has one item.
 fn of_long<T: BothBin + BothJson + BothRon + OrderedKey + Hash>(
     alloc: Global,
@@ -131,8 +144,8 @@ fn of_long<T: BothBin + BothJson + BothRon + OrderedKey + Hash>(
     }
 }
 
-/// A type alone, or held by a struct.
-fn of_held<T: BothBin + BothJson + BothRon>(
+/// A type alone, held by a struct, or in a container of such.
+pub(crate) fn of_held<T: BothBin + BothJson + BothRon>(
     alloc: Global,
     format: Format,
     shape: Shape<'_>,
@@ -141,6 +154,10 @@ fn of_held<T: BothBin + BothJson + BothRon>(
     match shape {
         ("", "") => of_type::<T>(alloc, format, input),
         ("Holder<", ">") => of_type::<Holder<T>>(alloc, format, input),
+        ("Holder<Holder<Option<", ">>>") => of_type::<Holder<Holder<Option<T>>>>(
+            alloc, format, input,
+        ),
+        ("Vec<Option<Holder<", ">>>") => of_type::<Vec<Option<Holder<T>>>>(alloc, format, input),
         _ => Ok(Came::Unknown),
     }
 }
@@ -189,7 +206,7 @@ where
     }
 }
 
-/// A map from names, or what has one item.
+/// A map from names, a tuple of names, or a container of them.
 fn of_names<T: BothBin + BothJson + BothRon + OrderedKey + Hash>(
     alloc: Global,
     format: Format,
@@ -198,7 +215,25 @@ fn of_names<T: BothBin + BothJson + BothRon + OrderedKey + Hash>(
 ) -> Result<Came, AllocError> {
     match shape {
         (before, ", i32>" | ", i32>>") => of_map::<T, i32>(alloc, format, before, input),
-        _ => of_one::<T>(alloc, format, shape, input),
+        (before, ", String>") => of_map::<T, T>(alloc, format, before, input),
+        ("(", ", String)") => of_type::<(T, T)>(alloc, format, input),
+        ("(", ", String, String)") => of_type::<(T, T, T)>(alloc, format, input),
+        ("(", ", String, String, String)") => of_type::<(T, T, T, T)>(alloc, format, input),
+        _ => of_container::<T>(alloc, format, shape, input),
+    }
+}
+
+/// A box, a linked list or a set, or what has one item.
+fn of_container<T: BothBin + BothJson + BothRon + OrderedKey + Hash>(
+    alloc: Global,
+    format: Format,
+    shape: Shape<'_>,
+    input: &[u8],
+) -> Result<Came, AllocError> {
+    match shape {
+        ("Box<", ">") => of_type::<Box<T>>(alloc, format, input),
+        ("LinkedList<", ">") => of_type::<LinkedList<T>>(alloc, format, input),
+        _ => of_key::<T>(alloc, format, shape, input),
     }
 }
 
@@ -210,14 +245,12 @@ fn of_byte<T: BothBin + BothJson + BothRon + OrderedKey + Hash>(
     input: &[u8],
 ) -> Result<Came, AllocError> {
     match shape {
-        ("Box<", ">") => of_type::<Box<T>>(alloc, format, input),
-        ("LinkedList<", ">") => of_type::<LinkedList<T>>(alloc, format, input),
         (before, ", u8>" | ", u8>>") => of_map::<T, T>(alloc, format, before, input),
         (before, ", bool>") => of_map::<T, bool>(alloc, format, before, input),
         ("HashMap<String, Vec<", ">>") => of_type::<HashMap<String, Vec<T>>>(alloc, format, input),
         ("(", _) => of_tuple::<T>(alloc, format, shape.1, input),
         (_, ">>") => of_nested::<T>(alloc, format, shape.0, input),
-        _ => of_key::<T>(alloc, format, shape, input),
+        _ => of_container::<T>(alloc, format, shape, input),
     }
 }
 

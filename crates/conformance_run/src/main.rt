@@ -4,7 +4,7 @@
 //! `conformance_run one LINE` prints what comes of the case of a table's line.
 #![tactic(auto)]
 
-use conformance::{Case, differences_of};
+use conformance::{Case, differences_of, write_out};
 use std::alloc::{AllocError, Global};
 use std::io::{self, ErrorKind};
 use std::process::ExitCode;
@@ -14,6 +14,9 @@ use std::{env, fs};
 const TABLES: &[(&str, bool)] = &[
     ("worked.tsv", false),
     ("requests.tsv", false),
+    ("parts.tsv", false),
+    ("user_types.tsv", false),
+    ("words.tsv", false),
     ("rust_crate.tsv", false),
     ("states.tsv", false),
     ("wrong.tsv", true),
@@ -83,7 +86,8 @@ fn run_files(rt: &HostRuntime, names: &[String]) -> io::Result<bool> {
 
 /// What comes of the case of a line, in one text.
 fn came_of_line(alloc: Global, line: &str) -> Result<String, AllocError> {
-    match Case::of_line(alloc, line)? {
+    let line = write_out(alloc, line)?;
+    match Case::of_line(alloc, line.as_str())? {
         Some(case) => {
             let came = case.run(alloc)?;
             let (verdict, answer) = (came.verdict(), came.answer(alloc)?);

@@ -9,8 +9,6 @@ mod checks;
 #[cfg(test)]
 mod codec_law_tests;
 #[cfg(test)]
-mod large_tests;
-#[cfg(test)]
 mod law_tests;
 #[cfg(test)]
 mod punctuation_tests;

@@ -8,6 +8,4 @@ mod call_tests;
 #[cfg(test)]
 mod checks;
 #[cfg(test)]
-mod large_tests;
-#[cfg(test)]
 mod law_tests;

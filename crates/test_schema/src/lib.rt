@@ -1,24 +1,18 @@
 //! Tests of user-defined types over the public surfaces of `nanoserde` and `example_types`: what the
-//! tables of `conformance_run` cannot say, and the types of `example_types`. They are a crate of their
-//! own, so that they are proved beside them.
+//! tables of `conformance_run` cannot say. They are a crate of their own, so that they are proved
+//! beside them.
 #![tactic(auto)]
 
-#[cfg(test)]
-mod bin_tests;
 #[cfg(test)]
 mod call_tests;
 #[cfg(test)]
 mod default_tests;
 #[cfg(test)]
-mod fault_tests;
-#[cfg(test)]
-mod json_tests;
-#[cfg(test)]
 mod part_tests;
 #[cfg(test)]
-mod record_tests;
+mod query_tests;
 #[cfg(test)]
-mod ron_tests;
+mod record_tests;
 #[cfg(test)]
 mod site;
 #[cfg(test)]

@@ -1,11 +1,10 @@
 //! Readers and writers of the tests, and what they assert.
 
-use nano_show_answers::{ShowFault, ending, run};
+use nano_show_answers::{ShowFault, ending};
 use std::alloc::{AllocError, Global};
 use std::io;
 use std::io::{ErrorKind, Read, Write};
 use std::process::Abort;
-use std::test::Fail;
 
 /// A reader that gives a few bytes a call, and fails at one of its calls with an error of this
 /// kind.
@@ -138,56 +137,4 @@ pub(crate) fn holds(rt: &impl Abort, is_so: bool, line: &str) {
 /// The fault ends so.
 pub(crate) fn is_ending(rt: &impl Abort, fault: &ShowFault, expected: (u8, &str)) {
     assert_eq!(rt; ending(fault), expected);
-}
-
-/// Runs the words of a line over a reader that is not to be read.
-pub(crate) fn run_without_input<W: Write>(
-    rt: &impl Abort,
-    alloc: Global,
-    words: &[String],
-    output: &mut W,
-) -> Result<(), ShowFault> {
-    let mut input = Source::new(b"", 1, 1, ErrorKind::Other);
-    let result = run(alloc, words, &mut input, output);
-    is_count(rt, input.calls, 0);
-    result
-}
-
-/// The input is rejected for this reason, and nothing is written.
-pub(crate) fn is_rejected(
-    rt: &impl Abort,
-    alloc: Global,
-    line: &str,
-    input: &[u8],
-    reason: &str,
-) -> Result<(), Fail> {
-    let words = words(alloc, line)?;
-    let mut rest = input;
-    let mut output = Pipe::new(alloc, 64, 0, ErrorKind::Other)?;
-    match run(alloc, &words, &mut rest, &mut output) {
-        Ok(()) => holds(rt, false, line),
-        Err(fault) => is_ending(rt, &fault, (1, reason)),
-    }
-    is_count(rt, output.calls, 0);
-    Ok(())
-}
-
-/// Words, or the type after a word, an input that has no answer, and what is reported of it.
-pub(crate) type Rejection = (&'static str, &'static [u8], &'static str);
-
-/// Each row of a word is rejected, with the prefix of the format's errors before what is
-/// reported.
-pub(crate) fn are_rejected(
-    rt: &impl Abort,
-    alloc: Global,
-    word: &str,
-    begins: &str,
-    rows: &[Rejection],
-) -> Result<(), Fail> {
-    for (kind, input, reported) in rows {
-        let line = format!(in alloc; "{word}{kind}")?;
-        let reason = format!(in alloc; "{begins}{reported}")?;
-        is_rejected(rt, alloc, &line, input, &reason)?;
-    }
-    Ok(())
 }

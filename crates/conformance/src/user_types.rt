@@ -1,0 +1,42 @@
+//! The user-defined types that a case can name: those of `nanoserde::records`, and of the examples.
+
+use crate::came::Came;
+use crate::format::Format;
+use crate::reads::{of_bytes, of_json};
+use crate::types::{Shape, of_held};
+use example_types::{Command, Event, Message, Server, Signal};
+use nanoserde::records::{Choice, Item, Plain, Test};
+use std::alloc::{AllocError, Global};
+
+/// A user-defined type.
+pub(crate) fn of_user_type(
+    alloc: Global,
+    format: Format,
+    (shape, name): (Shape<'_>, &str),
+    input: &[u8],
+) -> Result<Came, AllocError> {
+    match name {
+        "Test" => of_held::<Test>(alloc, format, shape, input),
+        "Plain" => of_held::<Plain>(alloc, format, shape, input),
+        "Item" => of_held::<Item>(alloc, format, shape, input),
+        "Choice" => of_held::<Choice>(alloc, format, shape, input),
+        _ => of_example(alloc, format, (shape, name), input),
+    }
+}
+
+/// A type of the examples.
+fn of_example(
+    alloc: Global,
+    format: Format,
+    (shape, name): (Shape<'_>, &str),
+    input: &[u8],
+) -> Result<Came, AllocError> {
+    match (name, shape) {
+        ("Server", _) => of_held::<Server>(alloc, format, shape, input),
+        ("Event", _) => of_held::<Event>(alloc, format, shape, input),
+        ("Signal", _) => of_held::<Signal>(alloc, format, shape, input),
+        ("Message", ("", "")) => of_json::<Message>(alloc, format, input),
+        ("Command", ("", "")) => of_bytes::<Command>(alloc, format, input),
+        _ => Ok(Came::Unknown),
+    }
+}
