@@ -32,23 +32,9 @@ pub trait ChoiceParts<'a>: Choice {
         ensures { values result ≡ Self.view self.now };
 }
 
-/// Does nothing. Its contract says that what the value means is legal, where the variants are
-/// those that the enum is seen by.
-pub fn known_choice<
-    'a,
-    E: ChoiceParts<'a>,
-    V: BorrowedChoices<'a, Refs = E::Refs, Values = E::Values>,
->(value: &'a E)
-    ensures { SeesAs V.values E.ChoiceParts.values
-        → LegalVariant V.legals (V.means 0 (E.view value.now)) }
-{
-    let refs = value.as_refs();
-    V::known(&refs);
-}
-
 /// Does nothing. Its contract says that what the value means is legal, for an enum that is seen by
-/// these variants. Unlike that of `known_choice`, it is at once that of `Value::known`, so it
-/// serves an enum of any number of variants.
+/// these variants. It is at once that of `Value::known`, so it serves an enum of any number of
+/// variants.
 pub fn known_variant<
     'a,
     E: ChoiceParts<'a>,
@@ -57,5 +43,6 @@ pub fn known_variant<
     requires { SeesAs V.values E.ChoiceParts.values }
     ensures { LegalVariant V.legals (V.means 0 (E.view value.now)) }
 {
-    known_choice::<E, V>(value);
+    let refs = value.as_refs();
+    V::known(&refs);
 }

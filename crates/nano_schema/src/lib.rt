@@ -15,7 +15,7 @@ mod fields;
 mod labels;
 mod record;
 
-pub use choice::{Choice, ChoiceParts, known_choice, known_variant};
+pub use choice::{Choice, ChoiceParts, known_variant};
 pub use choices::{BorrowedChoices, Choices, Either, Variant};
 pub use contents::{Alone, Named, OnePart, Tupled};
 pub use defaults::{DefaultOf, TypeDefault};

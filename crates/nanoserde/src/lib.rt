@@ -26,7 +26,7 @@ pub use nano_ron::{
 };
 pub use nano_schema::{
     Alone, Borrowed, BorrowedChoices, Choice, ChoiceParts, Choices, Either, Label, Named, OnePart,
-    Optional, Parts, Record, Required, Shape, Tupled, Variant, known_choice, known_record,
+    Optional, Parts, Record, Required, Shape, Tupled, Variant, known_record,
     known_variant,
 };
 pub use nano_schema_bin::{

@@ -2,7 +2,7 @@
 
 use crate::checks::{holds, is_made};
 use nano_grammar::{holds_nul, strip_end_message};
-use nano_json_tokens::{append_string, bytes_left};
+use nano_json_tokens::{DeJsonState, DeJsonTok, append_string, bytes_left};
 use std::alloc::{AllocError, Global};
 
 /// A text after an open bracket, as it is written.
@@ -49,4 +49,30 @@ fn bytes_are_left(rt: HostRuntime) {
     holds(&rt, bytes_left(&input) == 7, "aé😋");
     let _first = input.next();
     holds(&rt, bytes_left(&input) == 6, "é😋");
+}
+
+/// Texts after an opening bracket, the name that is taken in place, and the token that is pending
+/// then.
+const NAMES: &[(&str, Option<&str>, DeJsonTok)] = &[
+    ("\"a\":1", Some("a"), DeJsonTok::Colon),
+    (" \n\"é\":1", Some("é"), DeJsonTok::Colon),
+    ("\"a\" :1", None, DeJsonTok::CurlyOpen),
+    ("\"\\u0061\":1", None, DeJsonTok::CurlyOpen),
+    ("}", None, DeJsonTok::CurlyOpen),
+];
+
+/// Whether this name is taken after an opening bracket, and this token is pending then.
+fn is_name(alloc: Global, text: &str, name: Option<&str>, tok: &DeJsonTok) -> bool {
+    let mut input = text.chars();
+    let mut state = DeJsonState::new(alloc);
+    state.tok = DeJsonTok::CurlyOpen;
+    state.next(&mut input);
+    state.next_name(&mut input) == name && state.tok == *tok
+}
+
+#[test]
+fn names_in_place(rt: HostRuntime) {
+    for (text, name, tok) in NAMES {
+        holds(&rt, is_name(rt.alloc(), text, *name, tok), text);
+    }
 }

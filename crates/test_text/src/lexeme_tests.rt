@@ -1,7 +1,7 @@
 //! Lexemes that no format begins, characters that are set by hand, places, and the laws.
 
 use crate::checks::{BEFORE, NumberRow, StringRow, are_numbers, are_strings, holds, is_text};
-use nano_text::{Fault, Number, Place, laws, read_number, read_string};
+use nano_text::{Fault, Number, Place, laws, plain_string, read_number, read_string};
 use std::alloc::{AllocError, Global};
 use std::test::Fail;
 
@@ -185,4 +185,34 @@ fn string_or_memory(alloc: Global) -> bool {
 fn out_of_memory(rt: HostRuntime) {
     holds(&rt, decimal_or_memory(rt.alloc()), "a decimal");
     holds(&rt, string_or_memory(rt.alloc()), "a string");
+}
+
+/// Texts after a quote, the string that is taken in place, and the column and the character
+/// after it.
+const IN_PLACE: &[(&str, Option<&str>, usize, char)] = &[
+    ("a\":", Some("a"), 3, ':'),
+    ("\"", Some(""), 2, '\0'),
+    ("0123456789abcdefé\" ", Some("0123456789abcdefé"), 20, ' '),
+    ("a\\n\"", None, 1, '"'),
+    ("a\nb\"", None, 1, '"'),
+    ("a", None, 1, '"'),
+];
+
+/// Whether this string is taken in place, up to this character.
+fn is_in_place(text: &str, string: Option<&str>, col: usize, cur: char) -> bool {
+    let mut i = text.chars();
+    let mut p = Place {
+        cur: '"',
+        line: 0,
+        col: 1,
+    };
+    let taken = plain_string(&mut p, &mut i);
+    taken == string && p.col == col && p.cur == cur
+}
+
+#[test]
+fn strings_in_place(rt: HostRuntime) {
+    for (text, string, col, cur) in IN_PLACE {
+        holds(&rt, is_in_place(text, *string, *col, *cur), text);
+    }
 }
