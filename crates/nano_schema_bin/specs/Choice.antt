@@ -1,10 +1,12 @@
 -- The format of an own enum as bytes.
-use Rattle.std.specs.Prelude.{◌≡◌, true}
+use Rattle.std.specs.Prelude.{◌≡◌, ◌≤◌, ℕ, List, true}
 use Rattle.std.proofs.Common.{leb}
 use Rattle.std.proofs.lemmas.Bool.{leb-true}
 use Rattle.nano_value.specs.Sums.{count_variants}
+use Rattle.nano_bytes.specs.LittleEndian.{EncodesNumber}
+use Rattle.nano_bytes.specs.Reading.{Decodes}
 use Rattle.nano_bin.specs.Codec.{Codec, codec_as}
-use Rattle.nano_bin.specs.Variants.{legal_bodies}
+use Rattle.nano_bin.specs.Variants.{Variants, legal_bodies}
 use Rattle.nano_schema_bin.specs.Choices.{Chosen}
 use Rattle.nano_schema_bin.specs.ChoicesLaws.{choice_codec}
 
@@ -15,3 +17,10 @@ abbrev pub bin_choice : {A B : Type 0} (view : A → B) (variants : Chosen B)
 bin_choice view variants few =
     let count = count_variants (legal_bodies variants.bodies) in
     codec_as view (choice_codec variants (leb-true count 65536 few))
+
+-- the two bytes at this place are a tag that no variant has
+pub record HasUnknownTag (vs : Variants) (bytes : List ℕ) (start : ℕ) : Type 0 where
+  pub tag : ℕ
+  pub end : ℕ
+  pub stands : Decodes (EncodesNumber 2) bytes start tag end
+  pub unknown : count_variants (legal_bodies vs) ≤ tag

@@ -1,11 +1,14 @@
 //! User-defined enums as bytes.
 
-ghost use Rattle.std.specs.Prelude.{◌≡◌, ◌++◌, ◌≤◌, drop, IfOk, IfErr, OnOk, OnErr};
+ghost use Rattle.std.specs.Prelude.{◌≡◌, ◌++◌, ◌≤◌, drop, Err, IfOk, IfErr, OnOk, OnErr};
 ghost use Rattle.nano_value.specs.Sums.{count_variants};
+ghost use Rattle.nano_bytes.specs.Errors.{rejection};
 ghost use Rattle.nano_bytes.specs.Reading.{Decodes, Rejects};
+ghost use Rattle.nano_bytes.specs.declared.error.DeBinKind.TheVariants.{Own};
 ghost use Rattle.nano_bin.specs.Variants.{written_tagged, legal_bodies};
 ghost use Rattle.nano_bin.specs.VariantsLaws.{variants_of};
 ghost use Rattle.nano_schema.specs.Views.{SeesAs};
+ghost use Rattle.nano_schema_bin.specs.Choice.{HasUnknownTag};
 
 use crate::choices::{BinChoiceRefs, BinChoices};
 use nano_bin::{DeBin, DeBinErr};
@@ -25,6 +28,8 @@ pub fn read_choice_bin<E: Choice, V: BinChoices<Values = E::Values>>(
         bytes.now offset.old (V.chosen.means 0 (E.view value)) offset.new) }
     ensures err { IfErr result
         (Rejects (variants_of V.chosen.bodies).encodes (drop offset.old bytes.now)) }
+    ensures own { HasUnknownTag V.chosen.bodies bytes.now offset.old
+        → result ≡ Err (rejection Own offset.old 0 bytes.now) }
     ensures unchanged { OnErr result (offset.new ≡ offset.old) }
 {
     let mut at = *offset;
