@@ -101,7 +101,7 @@ fn a_skipped_field_is_in_no_row(rt: HostRuntime) {
         a: u8,\n        b: u8,\n    },\n}";
     for expected in [
         "      | B v0 v1 ↦ v1\n",
-        "            A::B { a: _, b } => {\n",
+        "            Self::B { a: _, b } => {\n",
         "            a: std::default::Default::default(),\n",
     ] {
         writes(&rt, alloc, above, expected);
