@@ -111,7 +111,7 @@ const WITHOUT_SKIPPED: &[&str] = &[
 
 const VARIANT_WITHOUT_SKIPPED: &[&str] = &[
     "      | B v0 v1 ↦ v1\n",
-    "            A::B { a: _, b } => {\n",
+    "            Self::B { a: _, b } => {\n",
     "            a: std::default::Default::default(),\n",
 ];
 
