@@ -26,8 +26,7 @@ pub use nano_ron::{
 };
 pub use nano_schema::{
     Alone, Borrowed, BorrowedChoices, Choice, ChoiceParts, Choices, Either, Label, Named, OnePart,
-    Optional, Parts, Record, Required, Shape, Tupled, Variant, known_record,
-    known_variant,
+    Optional, Parts, Record, Required, Shape, Tupled, Variant, known_record, known_variant,
 };
 pub use nano_schema_bin::{
     BinFields, BinRefs, BinShape, BinShapes, read_choice_bin, read_record_bin, write_choice_bin,
