@@ -1,6 +1,6 @@
 -- The format of an own enum as bytes.
 use Rattle.std.specs.Prelude.{◌≡◌, ◌≤◌, ℕ, List, true}
-use Rattle.std.proofs.Common.{leb}
+use Rattle.std.proofs.Common.{leb, sym}
 use Rattle.std.proofs.lemmas.Bool.{leb-true}
 use Rattle.nano_value.specs.Sums.{count_variants}
 use Rattle.nano_bytes.specs.LittleEndian.{EncodesNumber}
@@ -13,10 +13,10 @@ use Rattle.nano_schema_bin.specs.ChoicesLaws.{choice_codec}
 -- an enum as the content of the variant that it is, and what the variants hold. The last is
 -- `refl`: it checks that two bytes distinguish the variants
 abbrev pub bin_choice : {A B : Type 0} (view : A → B) (variants : Chosen B)
-    → leb (count_variants (legal_bodies variants.bodies)) 65536 ≡ true → Codec A
+    → true ≡ leb (count_variants (legal_bodies variants.bodies)) 65536 → Codec A
 bin_choice view variants few =
     let count = count_variants (legal_bodies variants.bodies) in
-    codec_as view (choice_codec variants (leb-true count 65536 few))
+    codec_as view (choice_codec variants (leb-true count 65536 (sym few)))
 
 -- the two bytes at this place are a tag that no variant has
 pub record HasUnknownTag (vs : Variants) (bytes : List ℕ) (start : ℕ) : Type 0 where

@@ -1,5 +1,6 @@
 -- The format of an own enum in JSON.
 use Rattle.std.specs.Prelude.{◌≡◌, true}
+use Rattle.std.proofs.Common.{sym}
 use Rattle.nano_schema_text.specs.Variants.{names_differ}
 use Rattle.nano_schema_text.specs.VariantCanonical.{names_are_good}
 use Rattle.nano_json.specs.Codec.{Codec, codec_as}
@@ -12,8 +13,9 @@ use Rattle.nano_schema_text.specs.ChoicesLaws.{choice_codec}
 -- an escape, and none occurs twice in a variant; that those of the variants are such too; and
 -- that no two variants have one name
 abbrev pub json_choice : {A B : Type 0} (view : A → B) (variants : ChoiceCodec json_variants B)
-    → (ok : variants.good ≡ true)
-    → names_are_good (variants.chosen ok).variants ≡ true
-    → names_differ (variants.chosen ok).variants ≡ true
+    → (ok : true ≡ variants.good)
+    → true ≡ names_are_good (variants.chosen (sym ok)).variants
+    → true ≡ names_differ (variants.chosen (sym ok)).variants
     → Codec A
-json_choice view variants ok good differ = codec_as view (choice_codec variants ok good differ)
+json_choice view variants ok good differ =
+    codec_as view (choice_codec variants (sym ok) (sym good) (sym differ))

@@ -1,5 +1,6 @@
 -- The format of an own struct in RON.
 use Rattle.std.specs.Prelude.{◌≡◌, ◌&&◌, true}
+use Rattle.std.proofs.Common.{sym}
 use Rattle.std.proofs.lemmas.Bool.{and_parts}
 use Rattle.nano_schema_text.specs.FieldCodec.{FieldsCodec}
 use Rattle.nano_schema_text.specs.Names.{are_distinct}
@@ -11,9 +12,9 @@ use Rattle.nano_schema_ron.specs.Names.{are_names}
 -- a struct as the values of its fields, and their format. The last is `refl`: it checks that the
 -- names are words but `true` and `false`, and that none occurs twice
 abbrev pub ron_of : {A B : Type 0} (view : A → B) (fields : FieldsCodec ron_fields B)
-    → (are_names fields.canonical.names && are_distinct fields.canonical.names) ≡ true
+    → true ≡ (are_names fields.canonical.names && are_distinct fields.canonical.names)
     → Codec A
 ron_of view fields good =
     let all = fields.canonical.names in
-    let parts = and_parts (are_names all) (are_distinct all) good in
+    let parts = and_parts (are_names all) (are_distinct all) (sym good) in
     codec_as view (fields_codec fields (word_names {names = all} parts.0) parts.1)
