@@ -190,7 +190,7 @@ fn out_of_memory(rt: HostRuntime) {
 /// Texts after a quote, the string that is taken in place, and the column and the character
 /// after it.
 const IN_PLACE: &[(&str, Option<&str>, usize, char)] = &[
-    ("a\":", Some("a"), 3, ':'),
+    ("a\":", Some("a"), 4, ':'),
     ("\"", Some(""), 2, '\0'),
     ("0123456789abcdefé\" ", Some("0123456789abcdefé"), 20, ' '),
     ("a\\n\"", None, 1, '"'),
