@@ -1,5 +1,6 @@
 #!/usr/bin/env python3
-"""Compares the snippets of documents with the sources and the stored output.
+"""Compares the snippets of documents, and the examples of doc comments, with the sources and the
+stored output.
 
     ```rust    stands in one file of crates/example_*/src, or of docs/walk
     ```antt    stands in one file of crates/example_*/specs
@@ -9,6 +10,9 @@
                answer of a case of crates/conformance_run/data, or is a text that a test of
                crates/test_* expects
     ```sh      is not compared
+
+An example in a doc comment of crates/*/src, between ``` and ```, stands in one file of
+crates/example_*/src.
 
 Lines are compared one by one, after the common indent and blanks at their ends are taken off. A line
 `// ..` or `-- ..` leaves lines of the source out; what follows it stands further down in the same
@@ -46,6 +50,23 @@ def snippets(text):
                 language = None
         elif language is not None:
             lines.append(line)
+
+
+def examples(text):
+    """Each fenced block of a doc comment: the number of its first line, and its lines."""
+    start, lines = None, []
+    for number, line in enumerate(text.splitlines(), 1):
+        comment = re.match(r"\s*///? ?(.*)", line)
+        if comment is None:
+            start = None
+        elif comment.group(1).startswith("```"):
+            if start is None:
+                start, lines = number + 1, []
+            else:
+                yield start, lines
+                start = None
+        elif start is not None:
+            lines.append(comment.group(1))
 
 
 def without_indent(lines):
@@ -124,19 +145,27 @@ def place_of(language, lines):
     return None
 
 
-def main():
-    count, faults = 0, 0
+def all_snippets():
+    """Each snippet of the documents and of the doc comments: its file, line, language and lines."""
     for document in DOCUMENTS:
         for number, language, lines in snippets(pathlib.Path(document).read_text()):
-            if language == "sh":
-                continue
-            count += 1
-            place = place_of(language, lines) if language in SOURCES else None
-            if place is None:
-                print(f"{document}:{number}: this {language or 'unnamed'} snippet stands nowhere")
-                faults += 1
-            elif "-v" in sys.argv:
-                print(f"{document}:{number}: {place}")
+            if language != "sh":
+                yield document, number, language, lines
+    for path in sorted(pathlib.Path(".").glob("crates/*/src/**/*.rt")):
+        for number, lines in examples(path.read_text()):
+            yield path, number, "rust", lines
+
+
+def main():
+    count, faults = 0, 0
+    for document, number, language, lines in all_snippets():
+        count += 1
+        place = place_of(language, lines) if language in SOURCES else None
+        if place is None:
+            print(f"{document}:{number}: this {language or 'unnamed'} snippet stands nowhere")
+            faults += 1
+        elif "-v" in sys.argv:
+            print(f"{document}:{number}: {place}")
     print(f"{count} snippets, {faults} that stand nowhere")
     return 1 if faults else 0
 

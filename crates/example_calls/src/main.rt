@@ -5,8 +5,8 @@
 use anyhow::Result;
 use nanoserde::records::{Choice, Item};
 use nanoserde::{
-    DeBin, DeJson, DeJsonState, DeRon, DeRonState, SerBin, SerJson, SerJsonState, SerRon, Toml,
-    TomlParser, json_to_bin, normal_bin, normal_json, normal_ron, ron_to_bin,
+    DeBin, DeJson, DeJsonState, DeRon, DeRonState, SerBin, SerJson, SerJsonState, SerRon,
+    SerRonState, Toml, TomlParser, json_to_bin, normal_bin, normal_json, normal_ron, ron_to_bin,
 };
 use std::collections::HashMap;
 
@@ -91,7 +91,11 @@ fn ron_state(rt: &HostRuntime) -> Result<()> {
     println!(rt; "{}", state.identbuf)?;
     state.colon(alloc, &mut input)?;
     let age = u8::de_ron(alloc, &mut state, &mut input)?;
-    println!(rt; "{age}")?;
+    let mut written = SerRonState {
+        out: String::new(alloc),
+    };
+    age.ser_ron(alloc, 0, &mut written)?;
+    println!(rt; "{}", written.out)?;
     Ok(())
 }
 

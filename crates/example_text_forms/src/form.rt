@@ -35,8 +35,9 @@ impl Form {
     /// The value that the whole text encodes in this form, with nothing after it but white
     /// space, and in RON comments.
     ///
-    /// It is an error where the text is no value of the type, with words, line and column, and
-    /// where an allocation fails.
+    /// # Errors
+    ///
+    /// The text is no value of the type, with words, line and column, or memory ran out.
     pub fn read<T: DeJson + DeRon>(self, alloc: Global, text: &str) -> Result<T, Rejection>
         ensures decodes { IfOk result (λ value.
             IsWhole self T.json.encoding T.ron.encoding text.now (T.means value)) }
@@ -49,7 +50,11 @@ impl Form {
         }
     }
 
-    /// The normal form of a value. The only error is out of memory.
+    /// The normal form of a value.
+    ///
+    /// # Errors
+    ///
+    /// Out of memory alone.
     pub fn write<T: SerJson + SerRon>(self, alloc: Global, value: &T) -> Result<String, AllocError>
         ensures { IfOk result (λ text.
             string_bytes text ≡ written self T.json.canonical T.ron.canonical value.now) }

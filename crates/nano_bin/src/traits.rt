@@ -21,13 +21,34 @@ pub trait SerBin: BinCodec {
     ghost use Rattle.std.specs.Prelude.{◌≡◌, ◌++◌, IfOk, OnOk, OnErr};
     ghost use Rattle.std.specs.List.{flat_map};
 
-    /// Appends the canonical encoding. On error, `output` is unchanged.
+    /// Appends the canonical encoding of the value to `output`.
+    ///
+    /// # Errors
+    ///
+    /// Out of memory alone, and then `output` is unchanged.
+    ///
+    /// # Examples
+    ///
+    /// ```
+    /// let mut code = vec![in alloc; 255]?;
+    /// 7u16.ser_bin(alloc, &mut code)?;
+    /// ```
     fn ser_bin(&self, alloc: Global, output: &mut Vec<u8>) -> Result<(), AllocError>
         ensures ok { OnOk result
             (output.new.items ≡ output.old.items ++ Self.bin.canonical.written self.now) }
         ensures err { OnErr result (output.new.items ≡ output.old.items) };
 
-    /// The written bytes, as a new list.
+    /// Returns the canonical encoding of the value, as a new list of bytes.
+    ///
+    /// # Errors
+    ///
+    /// Out of memory alone.
+    ///
+    /// # Examples
+    ///
+    /// ```
+    /// let code = vec![in alloc; 1u16, 2]?.serialize_bin(alloc)?;
+    /// ```
     fn serialize_bin(&self, alloc: Global) -> Result<Vec<u8>, AllocError>
         ensures { IfOk result (λ bytes. bytes.items ≡ Self.bin.canonical.written self.now) }
     {
@@ -68,16 +89,36 @@ pub trait DeBin: BinCodec + Drop {
     /// Reads the value that a prefix of the bytes from `offset` on encodes, and sets `offset`
     /// after that prefix.
     ///
-    /// An offset past the end leaves no bytes to read. An error other than out of memory
-    /// reports that no prefix encodes a value. Every error leaves `offset` unchanged.
+    /// `offset` counts bytes from 0. An offset past the end leaves no bytes to read.
+    ///
+    /// # Errors
+    ///
+    /// No prefix of those bytes encodes a value, or memory ran out (`DeBinKind::Memory`). Every
+    /// error leaves `offset` unchanged.
+    ///
+    /// # Examples
+    ///
+    /// ```
+    /// let mut offset = 1;
+    /// let number = u16::de_bin(alloc, &mut offset, &code)?;
+    /// ```
     fn de_bin(alloc: Global, offset: &mut usize, bytes: &[u8]) -> Result<Self, DeBinErr>
         ensures ok { IfOk result (λ value.
             Decodes Self.bin.encoding.encodes bytes.now offset.old (Self.means value) offset.new) }
         ensures err { IfErr result (Rejects Self.bin.encoding.encodes (drop offset.old bytes.now)) }
         ensures unchanged { OnErr result (offset.new ≡ offset.old) };
 
-    /// Reads at the offset 0, and lets bytes follow. An error other than out of memory reports
-    /// that no prefix of `d` encodes a value.
+    /// Reads the value that a prefix of `d` encodes. More bytes may follow it.
+    ///
+    /// # Errors
+    ///
+    /// No prefix of `d` encodes a value, or memory ran out (`DeBinKind::Memory`).
+    ///
+    /// # Examples
+    ///
+    /// ```
+    /// let again = Vec::<u16>::deserialize_bin(alloc, &code)?;
+    /// ```
     fn deserialize_bin(alloc: Global, d: &[u8]) -> Result<Self, DeBinErr>
         ensures ok { IfOk result (λ value.
             DecodesTo Self.bin.encoding.encodes d.now (Self.means value)) }
@@ -89,11 +130,21 @@ pub trait DeBin: BinCodec + Drop {
 
     /// Reads the value that all the bytes of `d` together encode.
     ///
+    /// # Errors
+    ///
     /// Where a prefix of them encodes a value, and bytes follow it, the error is
     /// `TrailingBytes`, with the place after that prefix and no bytes wanted there, or it is
     /// out of memory. Nothing else is rejected so. An error of this kind from the value's own
     /// reader is passed on as `Own`. Any other error except out of memory reports that no
     /// prefix of `d` encodes a value.
+    ///
+    /// # Examples
+    ///
+    /// ```
+    /// if let Err(error) = u16::deserialize_bin_whole(alloc, &code) {
+    ///     println!(rt; "{error}")?;
+    /// }
+    /// ```
     fn deserialize_bin_whole(alloc: Global, d: &[u8]) -> Result<Self, DeBinErr>
         ensures ok { IfOk result (λ value. Self.bin.encoding.encodes d.now (Self.means value)) }
         ensures err { IfErr result (RejectsWhole Self.bin.encoding.encodes d.now) }

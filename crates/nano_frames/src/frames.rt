@@ -44,13 +44,26 @@ impl<R: Read> Messages<R> {
         })
     }
 
-    /// Takes the next message with its frame, or answers none where the stream is at its end.
+    /// Takes the next message with its frame, or returns none where the stream is at its end.
+    ///
+    /// A frame's count reserves no memory before its bytes have arrived.
+    ///
+    /// # Errors
     ///
     /// `Cut` reports that bytes are left and no frame begins there, `Bad` that one does and its
     /// code is no message, and `Stream` that a read or an allocation failed. `Bad` carries the
     /// error of `deserialize_bin_whole` for the code. Neither a fault nor the end takes anything
-    /// of what is left, so a call after it begins at the same place. A frame's count reserves no
-    /// memory before its bytes have arrived.
+    /// of what is left, so a call after it begins at the same place.
+    ///
+    /// # Examples
+    ///
+    /// ```
+    /// let mut messages = Messages::new(alloc, rt.stdin(), chunk)?;
+    /// // ..
+    ///     match messages.next::<Message>(alloc) {
+    ///         Ok(Some(message)) => writeln!(output, "{message:?}")?,
+    ///         Ok(None) => break,
+    /// ```
     pub fn next<T: DeBin>(&mut self, alloc: Global) -> Result<Option<T>, Fault>
         ensures taken { IfOk result (λ answer. IfSome answer (λ message.
             TakesMessage T.bin.encoding.encodes (left R.remaining self.old)

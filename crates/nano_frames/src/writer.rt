@@ -12,9 +12,17 @@ use std::io::{self, ErrorKind, Write};
 
 /// Writes a message, in its frame, after those that were written.
 ///
-/// An error is the writer's, or `WriteZero` for a write that takes nothing, or out of memory; a
-/// write that was interrupted is tried again. After an error a prefix of the frame is written,
-/// and nothing else.
+/// # Errors
+///
+/// The writer's error, or `WriteZero` for a write that takes nothing, or out of memory; a write
+/// that was interrupted is tried again. After an error a prefix of the frame is written, and
+/// nothing else.
+///
+/// # Examples
+///
+/// ```
+/// put(alloc, &sample(alloc, number)?, &mut output)?;
+/// ```
 pub fn put<T: SerBin, W: Write>(alloc: Global, message: &T, output: &mut W) -> io::Result<()>
     ensures ok { OnOk result (AppendsFrame (T.bin.canonical.written message.now)
         (W.contents output.old) (W.contents output.new)) }

@@ -23,12 +23,37 @@ pub trait SerJson: JsonCodec {
     ghost use Rattle.std.specs.Prelude.{◌≡◌, IfOk, OnOk, OnErr, string_bytes, encode_utf8_all};
     ghost use Rattle.nano_text.specs.Outcomes.{Appends, Unchanged};
 
-    /// Appends the canonical text of the value at level `d`. On error, `s.out` is unchanged.
+    /// Appends the canonical text of the value to `s.out`.
+    ///
+    /// `d` is the nesting level, from 0, which JSON ignores.
+    ///
+    /// # Errors
+    ///
+    /// Out of memory alone, and then `s.out` is unchanged.
+    ///
+    /// # Examples
+    ///
+    /// ```
+    /// let mut written = SerJsonState {
+    ///     out: String::new(alloc),
+    /// };
+    /// list.ser_json(alloc, 0, &mut written)?;
+    /// ```
     fn ser_json(&self, alloc: Global, d: usize, s: &mut SerJsonState) -> Result<(), AllocError>
         ensures ok { OnOk result (Appends s.old.out s.new.out (Self.json.canonical.text d self.now)) }
         ensures err { OnErr result (Unchanged s.old.out s.new.out) };
 
-    /// The text of the value at level 0, as a new text.
+    /// Returns the canonical text of the value at level 0, as a new text.
+    ///
+    /// # Errors
+    ///
+    /// Out of memory alone.
+    ///
+    /// # Examples
+    ///
+    /// ```
+    /// let text = ages.serialize_json(alloc)?;
+    /// ```
     fn serialize_json(&self, alloc: Global) -> Result<String, AllocError>
         ensures { IfOk result (λ text.
             string_bytes text ≡ encode_utf8_all (Self.json.canonical.text 0 self.now)) }
@@ -53,8 +78,17 @@ pub trait DeJson: JsonCodec + Drop {
     /// Reads the value that the tokens from the pending one on encode. The token after the
     /// value is pending then, which may be the end.
     ///
-    /// An error other than out of memory reports that no value is encoded there, with one more
-    /// token or the end after it. Every error leaves the state at the end of the text.
+    /// # Errors
+    ///
+    /// No value is encoded there with one more token or the end after it, or memory ran out
+    /// (`memory`). Every error leaves the state at the end of the text. The error's line and
+    /// column, from 0, are those of the characters taken.
+    ///
+    /// # Examples
+    ///
+    /// ```
+    /// let age = u8::de_json(alloc, &mut state, &mut input)?;
+    /// ```
     fn de_json(
         alloc: Global,
         state: &mut DeJsonState,
@@ -68,10 +102,20 @@ pub trait DeJson: JsonCodec + Drop {
         ensures made { IfErr result (IsPlacedAt state.new) };
 
     /// Reads the value that begins the text, which ends before its first NUL. More may follow:
-    /// of that, one token is cut.
+    /// of that, one token is read.
     ///
-    /// An error other than out of memory reports that no value is encoded at the beginning of
-    /// the text, with one more token or the end after it.
+    /// # Errors
+    ///
+    /// No value is encoded at the beginning of the text with one more token or the end after
+    /// it, or memory ran out (`memory`).
+    ///
+    /// # Examples
+    ///
+    /// ```
+    /// if let Err(error) = Vec::<u8>::deserialize_json(alloc, "[1, 256]") {
+    ///     println!(rt; "{error}")?;
+    /// }
+    /// ```
     fn deserialize_json(alloc: Global, input: &str) -> Result<Self, DeJsonErr>
         ensures decodes { DecodesText Self.json.encoding.encodes Self.means (remaining_text input.now) result }
         ensures rejected { RejectsText Self.json.encoding.encodes (remaining_text input.now) result }
@@ -87,11 +131,21 @@ pub trait DeJson: JsonCodec + Drop {
     /// Reads the value that is the whole input: no token follows it, and no NUL stands
     /// anywhere. White space may stand around it and inside it.
     ///
+    /// # Errors
+    ///
     /// Where the beginning of the text decodes to a value, and another token or a NUL follows
     /// it, the message of the error is `Cannot parse end `, or the error is out of memory.
     /// Nothing else is rejected so. An error of the value's own reader that has this very
     /// message loses the space at its end. Any other error except out of memory reports that no
     /// value is encoded at the beginning of the text, with one more token or the end after it.
+    ///
+    /// # Examples
+    ///
+    /// ```
+    /// if let Err(error) = u8::deserialize_json_whole(alloc, "42 43") {
+    ///     println!(rt; "{error}")?;
+    /// }
+    /// ```
     fn deserialize_json_whole(alloc: Global, input: &str) -> Result<Self, DeJsonErr>
         ensures decodes { DecodesWhole Self.json.encoding.encodes Self.means input.now result }
         ensures rejected { RejectsWhole Self.json.encoding.encodes input.now result }

@@ -23,12 +23,37 @@ pub trait SerRon: RonCodec {
     ghost use Rattle.std.specs.Prelude.{◌≡◌, IfOk, OnOk, OnErr, string_bytes, encode_utf8_all};
     ghost use Rattle.nano_text.specs.Outcomes.{Appends, Unchanged};
 
-    /// Appends the text of the value at level `d`. A failed write leaves `s.out` unchanged.
+    /// Appends the canonical text of the value to `s.out`.
+    ///
+    /// `d` is the nesting level, from 0: each level is indented by four spaces more.
+    ///
+    /// # Errors
+    ///
+    /// Out of memory alone, and then `s.out` is unchanged.
+    ///
+    /// # Examples
+    ///
+    /// ```
+    /// let mut written = SerRonState {
+    ///     out: String::new(alloc),
+    /// };
+    /// age.ser_ron(alloc, 0, &mut written)?;
+    /// ```
     fn ser_ron(&self, alloc: Global, d: usize, s: &mut SerRonState) -> Result<(), AllocError>
         ensures ok { OnOk result (Appends s.old.out s.new.out (Self.ron.canonical.text d self.now)) }
         ensures err { OnErr result (Unchanged s.old.out s.new.out) };
 
-    /// The text of the value at level 0, as a new text.
+    /// Returns the canonical text of the value at level 0, as a new text.
+    ///
+    /// # Errors
+    ///
+    /// Out of memory alone.
+    ///
+    /// # Examples
+    ///
+    /// ```
+    /// let text = point.serialize_ron(alloc)?;
+    /// ```
     fn serialize_ron(&self, alloc: Global) -> Result<String, AllocError>
         ensures { IfOk result (λ text.
             string_bytes text ≡ encode_utf8_all (Self.ron.canonical.text 0 self.now)) }
@@ -50,11 +75,20 @@ pub trait DeRon: RonCodec + Drop {
     ghost use Rattle.nano_ron.specs.Readers.{DecodesWhole, RejectsWhole, NamesTheEnd, PointsInto};
     ghost use Rattle.nano_ron.specs.State.{at, ended};
 
-    /// Reads the value that is encoded by the tokens from the pending one on. The token after
-    /// the value is pending then, which may be the end.
+    /// Reads the value that the tokens from the pending one on encode. The token after the
+    /// value is pending then, which may be the end.
     ///
-    /// An error other than out of memory says that no value is encoded there, with one more
-    /// token or the end after it. Every error leaves the state at the end of the text.
+    /// # Errors
+    ///
+    /// No value is encoded there with one more token or the end after it, or memory ran out
+    /// (`memory`). Every error leaves the state at the end of the text. The error's line and
+    /// column, from 0, are those of the characters taken.
+    ///
+    /// # Examples
+    ///
+    /// ```
+    /// let age = u8::de_ron(alloc, &mut state, &mut input)?;
+    /// ```
     fn de_ron(
         alloc: Global,
         state: &mut DeRonState,
@@ -70,8 +104,16 @@ pub trait DeRon: RonCodec + Drop {
     /// Reads the value that begins the text, which ends before its first NUL. More may follow:
     /// of that, one token is read.
     ///
-    /// An error other than out of memory says that no value is encoded at the beginning of the
-    /// text, with one more token or the end after it.
+    /// # Errors
+    ///
+    /// No value is encoded at the beginning of the text with one more token or the end after
+    /// it, or memory ran out (`memory`).
+    ///
+    /// # Examples
+    ///
+    /// ```
+    /// let point = <(i32, Option<bool>)>::deserialize_ron(alloc, "(-1, None) // a point")?;
+    /// ```
     fn deserialize_ron(alloc: Global, input: &str) -> Result<Self, DeRonErr>
         ensures decodes { DecodesText Self.ron.encoding.encodes Self.means (remaining_text input.now) result }
         ensures rejected { RejectsText Self.ron.encoding.encodes (remaining_text input.now) result }
@@ -84,15 +126,24 @@ pub trait DeRon: RonCodec + Drop {
         Self::de_ron(alloc, &mut state, &mut chars)
     }
 
-    /// Reads the value that is the whole input: no token comes after it, and no NUL is
+    /// Reads the value that is the whole input: no token follows it, and no NUL stands
     /// anywhere. White space and comments may stand around it and inside it.
     ///
-    /// Where the beginning of the text decodes to a value, and another token or a NUL comes
-    /// after it, the message of the error is `Cannot parse end `, or the error is out of
-    /// memory. Nothing else is rejected so: an error of the value's own reader that has this
-    /// very message loses the space at its end. Any other error except out of memory says that
-    /// no value is encoded at the beginning of the text, with one more token or the end after
-    /// it.
+    /// # Errors
+    ///
+    /// Where the beginning of the text decodes to a value, and another token or a NUL follows
+    /// it, the message of the error is `Cannot parse end `, or the error is out of memory.
+    /// Nothing else is rejected so. An error of the value's own reader that has this very
+    /// message loses the space at its end. Any other error except out of memory reports that no
+    /// value is encoded at the beginning of the text, with one more token or the end after it.
+    ///
+    /// # Examples
+    ///
+    /// ```
+    /// if let Err(error) = u8::deserialize_ron_whole(alloc, "42 /* and */ 43") {
+    ///     println!(rt; "{error}")?;
+    /// }
+    /// ```
     fn deserialize_ron_whole(alloc: Global, input: &str) -> Result<Self, DeRonErr>
         ensures decodes { DecodesWhole Self.ron.encoding.encodes Self.means input.now result }
         ensures rejected { RejectsWhole Self.ron.encoding.encodes input.now result }

@@ -103,12 +103,23 @@ impl TomlParser {
     /// key, which has the pairs after the header, up to the next one; the scope remains. A header
     /// `[[key]]` on a key that a pair gave is not lawful.
     ///
+    /// # Errors
+    ///
     /// The error says why there is no table, and where that was found; or, with `memory`, that
     /// memory was wanted. Where it is of the text, it is the first one, and its place is after all
     /// that was taken and the one character that stands next: after a token that can't stand
     /// there, after what can begin a lexeme that goes on wrong, or after a header `[[key]]` on a
     /// key that a pair gave. The text ends at its first NUL, which is the character that stands
     /// next there.
+    ///
+    /// # Examples
+    ///
+    /// ```
+    /// let settings = TomlParser::parse(alloc, "[window]\ntitle = \"a\"\nwidth = 1_280")?;
+    /// if let Some(Toml::Str(title)) = settings.get("window.title") {
+    ///     println!(rt; "{title}")?;
+    /// }
+    /// ```
     pub fn parse(alloc: Global, input: &str) -> Result<HashMap<String, Toml>, TomlErr>
         ensures found { IfOk result
             (λ table. EncodesTable (remaining_text input.now) (table_view table.entries)) }

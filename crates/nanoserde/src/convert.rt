@@ -12,9 +12,17 @@ use std::alloc::Global;
 
 /// The canonical encoding, as bytes, of the value that a JSON text begins with.
 ///
+/// # Errors
+///
 /// An error other than out of memory comes from the reader. It says that no value is encoded at
 /// the beginning of the text, with one more token or the end after it. If the writer runs out
 /// of memory, the error has line and column 0.
+///
+/// # Examples
+///
+/// ```
+/// let code = json_to_bin::<Item>(alloc, normal.as_str())?;
+/// ```
 pub fn json_to_bin<T: DeJson + BothBin>(alloc: Global, input: &str) -> Result<Vec<u8>, DeJsonErr>
     ensures written { IfOk result (λ bytes.
         JsonAsBytes T.means T.json T.bin input.now bytes.items) }
@@ -26,9 +34,17 @@ pub fn json_to_bin<T: DeJson + BothBin>(alloc: Global, input: &str) -> Result<Ve
 
 /// The canonical encoding, as bytes, of the value that a RON text begins with.
 ///
+/// # Errors
+///
 /// An error other than out of memory comes from the reader. It says that no value is encoded at
 /// the beginning of the text, with one more token or the end after it. If the writer runs out
 /// of memory, the error has line and column 0.
+///
+/// # Examples
+///
+/// ```
+/// ron_to_bin::<Choice>(alloc, normal.as_str())?
+/// ```
 pub fn ron_to_bin<T: DeRon + BothBin>(alloc: Global, input: &str) -> Result<Vec<u8>, DeRonErr>
     ensures written { IfOk result (λ bytes.
         RonAsBytes T.means T.ron T.bin input.now bytes.items) }

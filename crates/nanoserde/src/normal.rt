@@ -14,8 +14,16 @@ use std::alloc::Global;
 /// The normal form of bytes: the canonical encoding of the value that they begin with. Bytes
 /// that follow are not looked at.
 ///
+/// # Errors
+///
 /// An error other than out of memory comes from the reader. It says that no prefix of `d`
 /// encodes a value. If the writer runs out of memory, the error has `o` and `l` 0.
+///
+/// # Examples
+///
+/// ```
+/// println!(rt; "{:?}", normal_bin::<Item>(alloc, &code)?)?;
+/// ```
 pub fn normal_bin<T: BothBin>(alloc: Global, d: &[u8]) -> Result<Vec<u8>, DeBinErr>
     ensures normal { IfOk result (λ bytes. NormalBytes T.means T.bin d.now bytes.items) }
     ensures rejected { IfErr result (Rejects T.bin.encoding.encodes d.now) }
@@ -27,9 +35,17 @@ pub fn normal_bin<T: BothBin>(alloc: Global, d: &[u8]) -> Result<Vec<u8>, DeBinE
 /// The normal form of a JSON text: the canonical text, at level 0, of the value that it begins
 /// with.
 ///
+/// # Errors
+///
 /// An error other than out of memory comes from the reader. It says that no value is encoded at
 /// the beginning of the text, with one more token or the end after it. If the writer runs out
 /// of memory, the error has line and column 0.
+///
+/// # Examples
+///
+/// ```
+/// let normal = normal_json::<Item>(alloc, text)?;
+/// ```
 pub fn normal_json<T: BothJson>(alloc: Global, input: &str) -> Result<String, DeJsonErr>
     ensures normal { IfOk result (λ text. NormalJson T.means T.json input.now (string_bytes text)) }
     ensures rejected { RejectsJson T.json.encoding.encodes (remaining_text input.now) result }
@@ -41,9 +57,17 @@ pub fn normal_json<T: BothJson>(alloc: Global, input: &str) -> Result<String, De
 /// The normal form of a RON text: the canonical text, at level 0, of the value that it begins
 /// with.
 ///
+/// # Errors
+///
 /// An error other than out of memory comes from the reader. It says that no value is encoded at
 /// the beginning of the text, with one more token or the end after it. If the writer runs out
 /// of memory, the error has line and column 0.
+///
+/// # Examples
+///
+/// ```
+/// let normal = normal_ron::<Choice>(alloc, "B(1, \"a\",) // two parts")?;
+/// ```
 pub fn normal_ron<T: BothRon>(alloc: Global, input: &str) -> Result<String, DeRonErr>
     ensures normal { IfOk result (λ text. NormalRon T.means T.ron input.now (string_bytes text)) }
     ensures rejected { RejectsRon T.ron.encoding.encodes (remaining_text input.now) result }
