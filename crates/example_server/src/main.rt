@@ -10,6 +10,7 @@ ghost use Rattle.std.specs.Prelude.{◌≡◌, IfOk, IfErr, string_bytes};
 ghost use Rattle.example_text_forms.specs.Forms.{IsWhole, NotOfMemory};
 ghost use Rattle.example_server.specs.Converted.{Converts, other_form};
 
+mod mode;
 mod settings;
 
 use anyhow::{Context, Result, bail};

@@ -1,4 +1,5 @@
-//! Tuples: two, three or four parts between square brackets.
+//! Tuples: two, three or four parts between square brackets. On an error the private functions leave
+//! the state anywhere and the text that they wrote; the impls put that right.
 
 ghost use Rattle.std.specs.Prelude.{◌++◌, ◌∷◌, [], OnOk, OnErr, IfErr};
 ghost use Rattle.nano_value.specs.Meaning.{paired};
@@ -16,8 +17,7 @@ use nano_text::rollback_on_error;
 use std::alloc::{AllocError, Global};
 use std::str::Chars;
 
-/// Reads the last part of a tuple, and its closing bracket. On error, the state may be
-/// anywhere.
+/// Reads the last part of a tuple, and its closing bracket.
 fn read_last<T: DeJson>(
     alloc: Global,
     state: &mut DeJsonState,
@@ -36,8 +36,7 @@ fn read_last<T: DeJson>(
     Ok(last)
 }
 
-/// Reads the last two parts of a tuple, and its closing bracket. On error, the state may be
-/// anywhere.
+/// Reads the last two parts of a tuple, and its closing bracket.
 fn read_two<A: DeJson, B: DeJson>(
     alloc: Global,
     state: &mut DeJsonState,
@@ -57,8 +56,7 @@ fn read_two<A: DeJson, B: DeJson>(
     Ok((first, last))
 }
 
-/// Reads the last three parts of a tuple, and its closing bracket. On error, the state may be
-/// anywhere.
+/// Reads the last three parts of a tuple, and its closing bracket.
 fn read_three<A: DeJson, B: DeJson, C: DeJson>(
     alloc: Global,
     state: &mut DeJsonState,
@@ -78,8 +76,7 @@ fn read_three<A: DeJson, B: DeJson, C: DeJson>(
     Ok((first, rest.0, rest.1))
 }
 
-/// Reads the four parts of a tuple, and its closing bracket. On error, the state may be
-/// anywhere.
+/// Reads the four parts of a tuple, and its closing bracket.
 fn read_four<A: DeJson, B: DeJson, C: DeJson, D: DeJson>(
     alloc: Global,
     state: &mut DeJsonState,
@@ -99,8 +96,7 @@ fn read_four<A: DeJson, B: DeJson, C: DeJson, D: DeJson>(
     Ok((first, rest.0, rest.1, rest.2))
 }
 
-/// Appends a part of a tuple and the punctuator after it. If allocation fails, the text written
-/// so far remains.
+/// Appends a part of a tuple and the punctuator after it.
 fn append_part<T: SerJson>(
     alloc: Global,
     part: &T,
@@ -116,15 +112,13 @@ fn append_part<T: SerJson>(
     s.out.push(punctuator)
 }
 
-// ---- two parts
-
 impl<A: JsonCodec, B: JsonCodec> JsonCodec for (A, B) {
     ghost json = { pair_codec A.json B.json };
 
     ghost agrees = { pair_agrees A.agrees B.agrees };
 }
 
-/// Appends a tuple. If allocation fails, the text written so far remains.
+/// Appends a tuple.
 fn append_pair<A: SerJson, B: SerJson>(
     alloc: Global,
     parts: &(A, B),
@@ -148,7 +142,7 @@ impl<A: SerJson, B: SerJson> SerJson for (A, B) {
     }
 }
 
-/// Reads a tuple. On error, the state may be anywhere.
+/// Reads a tuple.
 fn read_pair<A: DeJson, B: DeJson>(
     alloc: Global,
     state: &mut DeJsonState,
@@ -177,8 +171,6 @@ impl<A: DeJson, B: DeJson> DeJson for (A, B) {
     }
 }
 
-// ---- three parts
-
 impl<A: JsonCodec, B: JsonCodec, C: JsonCodec> JsonCodec for (A, B, C) {
     ghost json = { triple_codec A.json B.json C.json };
 
@@ -186,7 +178,7 @@ impl<A: JsonCodec, B: JsonCodec, C: JsonCodec> JsonCodec for (A, B, C) {
         (λ x. (x.0, (x.1, x.2))) };
 }
 
-/// Appends a tuple. If allocation fails, the text written so far remains.
+/// Appends a tuple.
 fn append_triple<A: SerJson, B: SerJson, C: SerJson>(
     alloc: Global,
     parts: &(A, B, C),
@@ -211,7 +203,7 @@ impl<A: SerJson, B: SerJson, C: SerJson> SerJson for (A, B, C) {
     }
 }
 
-/// Reads a tuple. On error, the state may be anywhere.
+/// Reads a tuple.
 fn read_triple<A: DeJson, B: DeJson, C: DeJson>(
     alloc: Global,
     state: &mut DeJsonState,
@@ -240,8 +232,6 @@ impl<A: DeJson, B: DeJson, C: DeJson> DeJson for (A, B, C) {
     }
 }
 
-// ---- four parts
-
 impl<A: JsonCodec, B: JsonCodec, C: JsonCodec, D: JsonCodec> JsonCodec for (A, B, C, D) {
     ghost json = { quadruple_codec A.json B.json C.json D.json };
 
@@ -249,7 +239,7 @@ impl<A: JsonCodec, B: JsonCodec, C: JsonCodec, D: JsonCodec> JsonCodec for (A, B
         (λ x. (x.0, (x.1, (x.2, x.3)))) };
 }
 
-/// Appends a tuple. If allocation fails, the text written so far remains.
+/// Appends a tuple.
 fn append_quadruple<A: SerJson, B: SerJson, C: SerJson, D: SerJson>(
     alloc: Global,
     parts: &(A, B, C, D),
@@ -275,7 +265,7 @@ impl<A: SerJson, B: SerJson, C: SerJson, D: SerJson> SerJson for (A, B, C, D) {
     }
 }
 
-/// Reads a tuple. On error, the state may be anywhere.
+/// Reads a tuple.
 fn read_quadruple<A: DeJson, B: DeJson, C: DeJson, D: DeJson>(
     alloc: Global,
     state: &mut DeJsonState,

@@ -1,4 +1,5 @@
-//! Tuples: two, three or four parts between parentheses.
+//! Tuples: two, three or four parts between parentheses. On an error the private functions leave
+//! the state anywhere and the text that they wrote; the impls put that right.
 
 ghost use Rattle.std.specs.Prelude.{OnOk, OnErr, IfErr};
 ghost use Rattle.nano_value.specs.Meaning.{paired};
@@ -80,15 +81,13 @@ fn read_four<A: DeRon, B: DeRon, C: DeRon, D: DeRon>(
     Ok((first, rest.0, rest.1, rest.2))
 }
 
-// ---- two parts
-
 impl<A: RonCodec, B: RonCodec> RonCodec for (A, B) {
     ghost ron = { pair_codec A.ron B.ron };
 
     ghost agrees = { pair_agrees A.agrees B.agrees };
 }
 
-/// Appends a tuple. If an allocation fails, what was written so far remains.
+/// Appends a tuple.
 fn append_pair<A: SerRon, B: SerRon>(
     alloc: Global,
     parts: &(A, B),
@@ -141,8 +140,6 @@ impl<A: DeRon, B: DeRon> DeRon for (A, B) {
     }
 }
 
-// ---- three parts
-
 impl<A: RonCodec, B: RonCodec, C: RonCodec> RonCodec for (A, B, C) {
     ghost ron = { triple_codec A.ron B.ron C.ron };
 
@@ -150,7 +147,7 @@ impl<A: RonCodec, B: RonCodec, C: RonCodec> RonCodec for (A, B, C) {
         (λ x. (x.0, (x.1, x.2))) };
 }
 
-/// Appends a tuple. If an allocation fails, what was written so far remains.
+/// Appends a tuple.
 fn append_triple<A: SerRon, B: SerRon, C: SerRon>(
     alloc: Global,
     parts: &(A, B, C),
@@ -204,8 +201,6 @@ impl<A: DeRon, B: DeRon, C: DeRon> DeRon for (A, B, C) {
     }
 }
 
-// ---- four parts
-
 impl<A: RonCodec, B: RonCodec, C: RonCodec, D: RonCodec> RonCodec for (A, B, C, D) {
     ghost ron = { quadruple_codec A.ron B.ron C.ron D.ron };
 
@@ -213,7 +208,7 @@ impl<A: RonCodec, B: RonCodec, C: RonCodec, D: RonCodec> RonCodec for (A, B, C, 
         (λ x. (x.0, (x.1, (x.2, x.3)))) };
 }
 
-/// Appends a tuple. If an allocation fails, what was written so far remains.
+/// Appends a tuple.
 fn append_quadruple<A: SerRon, B: SerRon, C: SerRon, D: SerRon>(
     alloc: Global,
     parts: &(A, B, C, D),

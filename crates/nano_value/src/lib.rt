@@ -10,15 +10,16 @@ mod boxes;
 pub mod laws;
 mod lists;
 mod maps;
-mod numbers;
 mod options;
 mod ordered;
 mod ordered_maps;
 mod ordered_sets;
 mod ranks;
 mod sets;
+mod signed;
 mod texts;
 mod tuples;
+mod unsigned;
 mod value;
 
 pub use ordered::{entries_by_rank, entries_in_order, items_in_order};

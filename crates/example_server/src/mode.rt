@@ -1,0 +1,248 @@
+//! How many requests a server answers, in JSON and RON.
+
+// nanoserde: json ron
+/// How many requests a server answers at a time.
+#[derive(PartialEq, Debug, Drop)]
+pub enum Mode {
+    /// None.
+    Off,
+    /// So many.
+    Fixed(u32),
+    /// As many as it can.
+    Range {
+        /// At least.
+        least: u32,
+        /// At most.
+        most: u32,
+    },
+}
+
+// ---- written by nano_derive
+
+ghost use Rattle.std.specs.Prelude.{codes};
+ghost use Rattle.nano_schema.specs.declared.choices.Either.TheVariants.{First, Later};
+ghost use Rattle.nano_schema.specs.UserTypes.{LegalVariant};
+ghost use Rattle.nano_schema_json.specs.Choice.{json_choice};
+ghost use Rattle.std.specs.Prelude.{refl};
+ghost use Rattle.nano_schema.specs.UserTypes.{agreed};
+ghost use Rattle.nano_schema_ron.specs.Choice.{ron_choice};
+
+/// The name `Off`.
+#[derive(Drop)]
+struct ModeOff {}
+
+impl nano_schema::Label for ModeOff {
+    ghost label = { codes "Off" };
+
+    fn text() -> &'static str {
+        "Off"
+    }
+}
+
+/// The name `Fixed`.
+#[derive(Drop)]
+struct ModeFixed {}
+
+impl nano_schema::Label for ModeFixed {
+    ghost label = { codes "Fixed" };
+
+    fn text() -> &'static str {
+        "Fixed"
+    }
+}
+
+type ModeFixedParts = u32;
+
+/// The name `Range`.
+#[derive(Drop)]
+struct ModeRange {}
+
+impl nano_schema::Label for ModeRange {
+    ghost label = { codes "Range" };
+
+    fn text() -> &'static str {
+        "Range"
+    }
+}
+
+/// The name `least`.
+#[derive(Drop)]
+struct ModeRangeLeast {}
+
+impl nano_schema::Label for ModeRangeLeast {
+    ghost label = { codes "least" };
+
+    fn text() -> &'static str {
+        "least"
+    }
+}
+
+/// The name `most`.
+#[derive(Drop)]
+struct ModeRangeMost {}
+
+impl nano_schema::Label for ModeRangeMost {
+    ghost label = { codes "most" };
+
+    fn text() -> &'static str {
+        "most"
+    }
+}
+
+type ModeRangeParts = (
+    nano_schema::Required<ModeRangeLeast, u32>,
+    nano_schema::Required<ModeRangeMost, u32>,
+);
+
+type ModeVariants3 = nano_schema::Variant<ModeRange, nano_schema::Named<ModeRangeParts>>;
+
+type ModeVariants2 = (
+    nano_schema::Variant<ModeFixed, nano_schema::OnePart<ModeFixedParts>>,
+    ModeVariants3,
+);
+
+type ModeVariants = (
+    nano_schema::Variant<ModeOff, nano_schema::Alone>,
+    ModeVariants2,
+);
+
+type ModeValues3 = (u32, u32);
+
+type ModeValues2 = nano_schema::Either<u32, ModeValues3>;
+
+type ModeValues = nano_schema::Either<(), ModeValues2>;
+
+type ModeRefs3<'a> = (&'a u32, &'a u32);
+
+type ModeRefs2<'a> = nano_schema::Either<&'a u32, ModeRefs3<'a>>;
+
+type ModeRefs<'a> = nano_schema::Either<(), ModeRefs2<'a>>;
+
+impl nano_schema::Choice for Mode {
+    ghost use Rattle.example_server.specs.declared.mode.Mode.TheVariants.{Off};
+    ghost use Rattle.example_server.specs.declared.mode.Mode.TheVariants.{Fixed};
+    ghost use Rattle.example_server.specs.declared.mode.Mode.TheVariants.{Range};
+
+    type Values = ModeValues;
+
+    ghost view = { λ x. elim x [
+      | Off ↦ First tt
+      | Fixed v0 ↦ Later (First v0)
+      | Range v0 v1 ↦ Later (Later (v0, v1))
+    ] };
+
+    fn make(values: Self::Values) -> Self {
+        let later = match values {
+            nano_schema::Either::First(values) => {
+                let () = values;
+                return Self::Off;
+            }
+            nano_schema::Either::Later(later) => later,
+        };
+        let later = match later {
+            nano_schema::Either::First(values) => {
+                let first = values;
+                return Self::Fixed(first);
+            }
+            nano_schema::Either::Later(later) => later,
+        };
+        let (least, most) = later;
+        Self::Range { least, most }
+    }
+}
+
+impl<'a> nano_schema::ChoiceParts<'a> for Mode {
+    type Refs = ModeRefs<'a>;
+
+    ghost values = { ⟦<ModeVariants as nano_schema::BorrowedChoices<'a>>⟧.values };
+
+    fn as_refs(&'a self) -> Self::Refs {
+        use nano_schema::Either;
+
+        match self {
+            Self::Off => {
+                let refs = ();
+                Either::First(refs)
+            }
+            Self::Fixed(first) => {
+                let refs = first;
+                Either::Later(Either::First(refs))
+            }
+            Self::Range { least, most } => {
+                let refs = (least, most);
+                Either::Later(Either::Later(refs))
+            }
+        }
+    }
+}
+
+impl nano_schema::Value for Mode {
+    ghost means = { λ x. ⟦<ModeVariants as nano_schema::Choices>⟧.means 0
+        (⟦<Mode as nano_schema::Choice>⟧.view x) };
+
+    ghost legal = { LegalVariant ⟦<ModeVariants as nano_schema::Choices>⟧.legals };
+
+    fn known(&self) {
+        nano_schema::known_variant::<Self, ModeVariants>(self);
+    }
+}
+
+// ---- JSON
+
+impl nano_schema_json::JsonCodec for Mode {
+    ghost json = { json_choice ⟦<Mode as nano_schema::Choice>⟧.view
+        ⟦<ModeVariants as nano_schema_json::JsonShapes>⟧.codec refl refl refl };
+
+    ghost agrees = { agreed };
+}
+
+impl nano_schema_json::SerJson for Mode {
+    fn ser_json(
+        &self,
+        alloc: std::alloc::Global,
+        d: usize,
+        s: &mut nano_schema_json::SerJsonState,
+    ) -> Result<(), std::alloc::AllocError> {
+        nano_schema_json::write_choice_json::<Self, ModeVariants>(self, alloc, d, s)
+    }
+}
+
+impl nano_schema_json::DeJson for Mode {
+    fn de_json(
+        alloc: std::alloc::Global,
+        state: &mut nano_schema_json::DeJsonState,
+        input: &mut std::str::Chars<'_>,
+    ) -> nano_schema_json::JsonResult<Self> {
+        nano_schema_json::read_choice_json::<Self, ModeVariants>(alloc, state, input)
+    }
+}
+
+// ---- RON
+
+impl nano_schema_ron::RonCodec for Mode {
+    ghost ron = { ron_choice ⟦<Mode as nano_schema::Choice>⟧.view
+        ⟦<ModeVariants as nano_schema_ron::RonShapes>⟧.codec refl refl refl };
+
+    ghost agrees = { agreed };
+}
+
+impl nano_schema_ron::SerRon for Mode {
+    fn ser_ron(
+        &self,
+        alloc: std::alloc::Global,
+        d: usize,
+        s: &mut nano_schema_ron::SerRonState,
+    ) -> Result<(), std::alloc::AllocError> {
+        nano_schema_ron::write_choice_ron::<Self, ModeVariants>(self, alloc, d, s)
+    }
+}
+
+impl nano_schema_ron::DeRon for Mode {
+    fn de_ron(
+        alloc: std::alloc::Global,
+        state: &mut nano_schema_ron::DeRonState,
+        input: &mut std::str::Chars<'_>,
+    ) -> nano_schema_ron::RonResult<Self> {
+        nano_schema_ron::read_choice_ron::<Self, ModeVariants>(alloc, state, input)
+    }
+}
