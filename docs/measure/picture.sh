@@ -1,8 +1,8 @@
 #!/bin/sh
 # Draws docs/speed.svg: sh picture.sh COUNTS SPEEDS. On the left a bar is what the port needs in parts
 # of what the best peer needs, the lesser of the Rust crate and the other one; on the right it is the
-# port's speed over that of the best peer at 1 MB, and the dot is the same at 10 MB. The colours stand
-# out from a light and from a dark page alike.
+# port's speed over that of the best peer at 1 MB, and the dot is the same at 10 MB. The text is dark on
+# a light page and light on a dark one, and the other colours stand out from both.
 set -eu
 awk '
     BEGIN {
@@ -84,6 +84,8 @@ awk '
         printf "<svg xmlns=\"http://www.w3.org/2000/svg\" width=\"760\" height=\"%d\" ", y + 10
         printf "fill=\"%s\" font-family=\"sans-serif\" role=\"img\">\n", grey
         print "<title>Instructions and speed of the port over those of the best peer</title>"
+        print "<style>text { fill: #333 }"
+        print "@media (prefers-color-scheme: dark) { text { fill: #ddd } }</style>"
         printf "<rect x=\"10\" y=\"10\" width=\"12\" height=\"9\" fill=\"%s\"/>\n", blue
         print "<text x=\"27\" y=\"18\" font-size=\"12\">read</text>"
         printf "<rect x=\"70\" y=\"10\" width=\"12\" height=\"9\" fill=\"%s\"/>\n", orange
