@@ -3,3 +3,4 @@ pub mod WrittenFields
 pub mod VariantReaders
 pub mod ChoiceReaders
 pub mod FieldNames
+pub mod UnknownNames

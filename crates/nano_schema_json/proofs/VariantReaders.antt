@@ -75,7 +75,7 @@ after_token t ts start mid end l k =
 
 module _ (start : At Token) where
   -- after what opens a content, the rest of a value is left
-  after_opened : (a b : List ℕ) (back : List Token) (mid end : At Token)
+  pub after_opened : (a b : List ℕ) (back : List Token) (mid end : At Token)
       → Leaves Cut (opened a) start mid → Leaves Cut (opened b ++ back) start end
       → (b ≡ a) × Leaves Cut back mid end
   after_opened a b back mid end h k =

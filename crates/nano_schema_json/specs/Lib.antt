@@ -17,3 +17,4 @@ pub mod Contents
 pub mod ContentsLaws
 pub mod Choice
 pub mod DefaultsLaws
+pub mod UnknownNames

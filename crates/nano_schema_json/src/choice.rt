@@ -1,12 +1,14 @@
 //! User-defined enums in JSON.
 
-ghost use Rattle.std.specs.Prelude.{◌≡◌, OnOk, OnErr, IfErr};
+ghost use Rattle.std.specs.Prelude.{◌≡◌, OnOk, OnErr, IfErr, IsErrAnd};
 ghost use Rattle.nano_schema.specs.Views.{SeesAs};
 ghost use Rattle.nano_schema_text.specs.Variants.{EncodesVariant};
+ghost use Rattle.nano_schema_text.specs.UnknownNames.{HasUnknownName};
 ghost use Rattle.nano_text.specs.Outcomes.{Appends, Unchanged};
 ghost use Rattle.nano_json_tokens.specs.Outcomes.{Counts, IsPlacedAt};
-ghost use Rattle.nano_json.specs.Readers.{Decodes, Rejects};
+ghost use Rattle.nano_json.specs.Readers.{Decodes, Rejects, Reports};
 ghost use Rattle.nano_json.specs.State.{at, ended};
+ghost use Rattle.nano_schema_json.specs.UnknownNames.{IsUnknownAfter};
 ghost use Rattle.nano_schema_json.specs.VariantsLaws.{json_variants};
 
 use crate::choices::{JsonChoiceRefs, JsonChoices};
@@ -18,7 +20,8 @@ use std::str::Chars;
 
 /// Reads a user-defined enum: the name of a variant alone, or between curly brackets a name, a
 /// colon and the content. The token after it is pending then, which may be the end. A name that
-/// no variant has is rejected with `Enum not defined {name}`.
+/// no variant has is rejected with `Enum not defined {name}`, once the token after it, or after
+/// its colon, is taken.
 ///
 /// An error other than out of memory says that no variant is encoded there, with one more token
 /// or the end after it. Every error leaves the state at the end of the text.
@@ -32,6 +35,9 @@ pub fn read_choice_json<E: Choice, V: JsonChoices<Values = E::Values>>(
         (at state.old input.old) (at state.new input.new) result }
     ensures rejected { Rejects (EncodesVariant json_variants V.codec.encodes)
         (at state.old input.old) result }
+    ensures own { (unknown : HasUnknownName json_variants V.codec.encodes (at state.old input.old))
+        → IsErrAnd result (λ e. Reports
+        (IsUnknownAfter state.old input.old unknown.name unknown.after e) e) }
     ensures ended { OnErr result (at state.new input.new ≡ ended) }
     ensures place { Counts state.old input.old state.new input.new }
     ensures made { IfErr result (IsPlacedAt state.new) }

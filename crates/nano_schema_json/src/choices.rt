@@ -1,6 +1,6 @@
 //! The variants of an enum in JSON.
 
-ghost use Rattle.std.specs.Prelude.{◌≡◌, ℕ, suc, [], true, string_bytes, OnOk, OnErr, IfErr};
+ghost use Rattle.std.specs.Prelude.{◌≡◌, ℕ, suc, false, OnOk, OnErr, IfErr, IsErrAnd};
 ghost use Rattle.std.specs.declared.str.Chars.{Chars};
 ghost use Rattle.nano_value.specs.Meaning.{Meaning};
 ghost use Rattle.nano_value.specs.Sums.{tagged};
@@ -11,7 +11,9 @@ ghost use Rattle.nano_json.specs.State.{at, ended};
 ghost use Rattle.nano_schema.specs.Choices.{either_is, either_map};
 ghost use Rattle.nano_schema_text.specs.Choices.{ChoiceCodec, EncodesAfter, is_named, last_choice};
 ghost use Rattle.nano_schema_text.specs.ChoicesLaws.{next_choice};
+ghost use Rattle.nano_schema_text.specs.UnknownNames.{is_known_name};
 ghost use Rattle.nano_schema_json.specs.Contents.{is_alone, bytes_of};
+ghost use Rattle.nano_schema_json.specs.UnknownNames.{IsUnknownName};
 ghost use Rattle.nano_schema_json.specs.VariantsLaws.{json_variants};
 
 use crate::contents::{JsonContent, ReadContent, WriteContent};
@@ -59,6 +61,8 @@ pub trait JsonChoices {
         ensures rejected { (from : ℕ) → Rejects (EncodesAfter json_variants from
             codec.encodes (is_alone name.now) (bytes_of name.now))
             (at state.old input.old) result }
+        ensures own { is_known_name codec.encodes (is_alone name.now) (bytes_of name.now) ≡ false
+            → IsErrAnd result (IsUnknownName state.old (bytes_of name.now)) }
         ensures ended { OnErr result (at state.new input.new ≡ ended) }
         ensures place { Counts state.old input.old state.new input.new }
         ensures made { IfErr result (IsPlacedAt state.new) };
@@ -103,7 +107,7 @@ fn is_named(read: &VariantName, name: &str, alone: bool) -> bool
 
 /// The error for a name that no variant has. It leaves the state at the end of the text.
 fn unknown(alloc: Global, state: &mut DeJsonState, name: &VariantName) -> DeJsonErr
-    ensures memory { result.memory ≡ true → string_bytes result.msg ≡ [] }
+    ensures own { IsUnknownName state.old (bytes_of name.now) result }
     ensures ended { (i : Chars) → at state.new i ≡ ended }
     ensures place { StillCounts state.old state.new }
     ensures made { IsPlacedAt state.new result }

@@ -2,3 +2,4 @@ pub mod Pending
 pub mod WrittenFields
 pub mod VariantReaders
 pub mod ChoiceReaders
+pub mod UnknownNames

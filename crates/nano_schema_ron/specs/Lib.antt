@@ -14,3 +14,4 @@ pub mod Record
 pub mod ContentsLaws
 pub mod Choice
 pub mod DefaultsLaws
+pub mod UnknownNames

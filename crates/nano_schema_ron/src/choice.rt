@@ -1,12 +1,14 @@
 //! User-defined enums in RON.
 
-ghost use Rattle.std.specs.Prelude.{◌≡◌, OnOk, OnErr, IfErr};
+ghost use Rattle.std.specs.Prelude.{◌≡◌, OnOk, OnErr, IfErr, IsErrAnd};
 ghost use Rattle.nano_schema.specs.Views.{SeesAs};
 ghost use Rattle.nano_schema_text.specs.Variants.{EncodesVariant};
+ghost use Rattle.nano_schema_text.specs.UnknownNames.{HasUnknownName};
 ghost use Rattle.nano_text.specs.Outcomes.{Appends, Unchanged};
 ghost use Rattle.nano_ron_tokens.specs.Outcomes.{Counts, IsPlacedAt};
-ghost use Rattle.nano_ron.specs.Readers.{Decodes, Rejects};
+ghost use Rattle.nano_ron.specs.Readers.{Decodes, Rejects, Reports};
 ghost use Rattle.nano_ron.specs.State.{at, ended};
+ghost use Rattle.nano_schema_ron.specs.UnknownNames.{IsUnknownAfter};
 ghost use Rattle.nano_schema_ron.specs.VariantsLaws.{ron_variants};
 
 use crate::choices::{RonChoiceRefs, RonChoices};
@@ -18,7 +20,7 @@ use std::str::Chars;
 
 /// Reads a user-defined enum: the name of a variant, and directly after it the content if it
 /// has one. The token after it is pending then, which may be the end. A name that no variant
-/// has is rejected with `Enum not defined {name}`.
+/// has is rejected with `Enum not defined {name}`, once the token after it is taken.
 ///
 /// An error other than out of memory says that no variant is encoded there, with one more token
 /// or the end after it. Every error leaves the state at the end of the text.
@@ -32,6 +34,9 @@ pub fn read_choice_ron<E: Choice, V: RonChoices<Values = E::Values>>(
         (at state.old input.old) (at state.new input.new) result }
     ensures rejected { Rejects (EncodesVariant ron_variants V.codec.encodes)
         (at state.old input.old) result }
+    ensures own { (unknown : HasUnknownName ron_variants V.codec.encodes (at state.old input.old))
+        → IsErrAnd result (λ e. Reports
+        (IsUnknownAfter state.old input.old unknown.name unknown.after e) e) }
     ensures ended { OnErr result (at state.new input.new ≡ ended) }
     ensures place { Counts state.old input.old state.new input.new }
     ensures made { IfErr result (IsPlacedAt state.new) }

@@ -1,6 +1,6 @@
 //! The variants of an enum in RON.
 
-ghost use Rattle.std.specs.Prelude.{◌≡◌, ℕ, suc, OnOk, OnErr, IfErr};
+ghost use Rattle.std.specs.Prelude.{◌≡◌, ℕ, suc, false, OnOk, OnErr, IfErr, IsErrAnd};
 ghost use Rattle.nano_value.specs.Meaning.{Meaning};
 ghost use Rattle.nano_value.specs.Sums.{tagged};
 ghost use Rattle.nano_text.specs.Outcomes.{Appends, Unchanged};
@@ -11,6 +11,8 @@ ghost use Rattle.nano_schema.specs.Choices.{either_is, either_map};
 ghost use Rattle.nano_schema_text.specs.Choices.{ChoiceCodec, EncodesAfter, has_alone, is_named};
 ghost use Rattle.nano_schema_text.specs.Choices.{last_choice};
 ghost use Rattle.nano_schema_text.specs.ChoicesLaws.{next_choice};
+ghost use Rattle.nano_schema_text.specs.UnknownNames.{is_known_name};
+ghost use Rattle.nano_schema_ron.specs.UnknownNames.{IsUnknownName};
 ghost use Rattle.nano_schema_ron.specs.VariantsLaws.{ron_variants};
 
 use crate::contents::{ReadContent, RonContent, WriteContent};
@@ -63,6 +65,8 @@ pub trait RonChoices {
             (means from) (at state.old input.old) (at state.new input.new) result }
         ensures rejected { (from : ℕ) → Rejects (EncodesAfter ron_variants from
             codec.encodes alone name.now) (at state.old input.old) result }
+        ensures own { is_known_name codec.encodes alone name.now ≡ false
+            → IsErrAnd result (IsUnknownName state.old name.now) }
         ensures ended { OnErr result (at state.new input.new ≡ ended) }
         ensures place { Counts state.old input.old state.new input.new }
         ensures made { IfErr result (IsPlacedAt state.new) };

@@ -78,7 +78,7 @@ impl<N: Label, T: DeRon, D: RonDefaultOf<T>> RonFields for Defaulted<N, T, D> {
         Ok(true)
     }
 
-    #[tactic(auto, using(nano_schema_text::specs::DefaultsLaws::missing_is_meant, nano_schema_text::specs::DefaultsLaws::present_is_meant))]
+    #[tactic(auto, using(nano_schema_text::specs::DefaultsLaws::meant_values))]
     fn values(slots: Option<T>, alloc: Global, state: &DeRonState) -> Result<T, DeRonErr> {
         match slots {
             Some(value) => Ok(value),

@@ -1,5 +1,5 @@
 -- What a reader of one field knows of the tokens that it takes.
-use Rattle.std.proofs.Common.{◌≡◌, ℕ, List, [], ◌∷◌, ◌++◌, Bool, true, false, bytes_eq, refl, ap}
+use Rattle.std.proofs.Common.{◌≡◌, ℕ, List, [], ◌∷◌, ◌++◌, Bool, true, bytes_eq, refl, ap}
 use Rattle.std.proofs.Common.{sym, ◌∙◌, subst}
 use Rattle.nano_value.specs.Meaning.{Meaning}
 use Rattle.nano_grammar.specs.Tokens.{At, Leaves, DecodesTo, Spans, DecodesToNothing}
@@ -7,8 +7,8 @@ use Rattle.nano_grammar.proofs.Tokens.{same_at, leaves_append, leaves_split}
 use Rattle.nano_grammar.specs.CutLaws.{CutLaws}
 use Rattle.nano_grammar.specs.Cutting.{Cutting}
 use Rattle.nano_grammar.specs.Encoding.{Grammar}
-use Rattle.nano_schema_text.specs.Fields.{FieldStyle, Field, Shape, Allowed, EncodedField, EncodedNamed}
-use Rattle.nano_schema_text.specs.Fields.{LastEncodes, either}
+use Rattle.nano_schema_text.specs.Fields.{FieldStyle, Field, EncodedField, EncodedNamed}
+use Rattle.nano_schema_text.specs.Fields.{LastEncodes}
 use Rattle.nano_schema_text.specs.SlotsLaws.{last_takes}
 
 module _ {T : Type 0} {c : Cutting T} {g : Grammar T} (s : FieldStyle c g) (r : CutLaws c g) where
@@ -169,24 +169,3 @@ module _ {T : Type 0} {c : Cutting T} {g : Grammar T} (s : FieldStyle c g) (r : 
     no_head here e bad =
         field_rejected name here e Value takes (λ us t. (tt, t))
         (colon_rejected name Value here (λ following l. bad following (sym e, l.1)))
-
-  -- a field that is skipped
-  pub skipped_found : (shape : Shape T) (n : List ℕ) (start following end : At T)
-      → start.token ≡ s.name n → shape.knows n ≡ false → HeadTaken start following
-      → (field : List T) × s.Skipped field × Leaves c.cut field following end
-      → (f : Field T) × Spans c.cut (EncodedField s (Allowed s shape)) start end f ×
-      (shape.knows f.name ≡ false)
-  skipped_found shape n start following end e unknown l h = (
-    record { name = n; value = h.0 },
-    (
-      s.name n ∷ (s.pair.token ∷ h.0),
-      (refl, subst (λ b. either b (shape.takes n h.0) (s.Skipped h.0)) (sym unknown) h.1),
-      leaves_append c.cut (Head n) h.0 start following end (sym e, l.1) h.2,
-    ),
-    unknown,
-  )
-
-  pub skipped_rejected : (following : At T)
-      → ((field : List T) (after : At T) → s.Skipped field → Leaves c.cut field following after → ⊥)
-      → DecodesToNothing c.cut (λ us (x : Unit {0}). s.Skipped us) following
-  skipped_rejected following bad x h = bad h.0 h.1 h.2 h.3

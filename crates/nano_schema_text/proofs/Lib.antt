@@ -3,3 +3,4 @@ pub mod FieldReading
 pub mod KnownNames
 pub mod StructReading
 pub mod ChoiceReaders
+pub mod UnknownNames

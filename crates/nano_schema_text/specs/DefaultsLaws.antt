@@ -54,6 +54,9 @@ module _ {T : Type 0} {g : Grammar T} (name : List ℕ) (s : Encoding g) (missin
       → Means fs m
   present_is_meant fs m h = inr h
 
+-- for the search of goals
+pub ruleset meant_values = (missing_is_meant, present_is_meant)
+
 -- ---- the codec
 
 module _ {T : Type 0} {c : Cutting T} {g : Grammar T} (s : FieldStyle c g) {A : Type 0}

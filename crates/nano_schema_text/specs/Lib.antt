@@ -27,3 +27,4 @@ pub mod VariantCodec
 pub mod VariantCodecLaws
 pub mod Choices
 pub mod ChoicesLaws
+pub mod UnknownNames

@@ -7,6 +7,7 @@ use Rattle.nano_schema_json.specs.VariantsLaws.{json_variants}
 use Rattle.nano_schema_json.specs.Contents.{is_alone, bytes_of}
 use Rattle.nano_schema_text.proofs.ChoiceReaders.{first_reads, first_rejected, later_rejected, none_named}
 use Rattle.nano_text.specs.PlaceLaws.{advances_none}
+use Rattle.nano_schema_text.proofs.UnknownNames.{first_unknown}
 use Rattle.nano_schema_json.proofs.choices.VariantJsonChoices.read.Goals as goal
 
 pub returns-then-is_named-clause-decodes : goal.returns-then-is_named-clause-decodes
@@ -34,7 +35,14 @@ returns-clause-rejected g c = λ from.
     let start = at c.args.state.now c.args.input.now in
     let stood = is_alone c.args.name.now in
     let name = bytes_of c.args.name.now in
-    (λ known. later_rejected json_variants Cut rest g.N.Label.label no_variants stood name other from start (none_named json_variants Cut (suc from) stood name start), c.unknown.ensures.memory)
+    (λ known. later_rejected json_variants Cut rest g.N.Label.label no_variants stood name other from start (none_named json_variants Cut (suc from) stood name start), c.unknown.ensures.own.1.0)
 
 pub returns-clause-place : goal.returns-clause-place
 returns-clause-place g c = c.unknown.ensures.place _ _ _ (advances_none _ _)
+
+pub returns-then-is_named-clause-own : goal.returns-then-is_named-clause-own
+returns-then-is_named-clause-own g c = λ unknown.
+    let it = sym c.is_named.ensures ∙ c.if-is_named.true in
+    let named = rw (c.stands_alone.ensures, c.text.ensures) at it in
+    let rest = g.S.ReadContent.content.rest in
+    absurd (first_unknown rest g.N.Label.label no_variants (is_alone c.args.name.now) (bytes_of c.args.name.now) named unknown)

@@ -6,6 +6,7 @@ use Rattle.std.proofs.lemmas.Result.{IfOk-weaker, IfErr-weaker}
 use Rattle.nano_schema_text.specs.Variants.{no_variants}
 use Rattle.nano_schema_text.proofs.ChoiceReaders.{first_reads, first_rejected, later_rejected, none_named}
 use Rattle.nano_text.specs.PlaceLaws.{advances_none}
+use Rattle.nano_schema_text.proofs.UnknownNames.{first_unknown}
 use Rattle.nano_schema_ron.proofs.choices.VariantRonChoices.read.Goals as goal
 
 pub returns-then-is_named-clause-decodes : goal.returns-then-is_named-clause-decodes
@@ -36,3 +37,10 @@ returns-clause-rejected g c = λ from.
 
 pub returns-clause-place : goal.returns-clause-place
 returns-clause-place g c = c.unknown_variant.ensures.place _ _ _ (advances_none _ _)
+
+pub returns-then-is_named-clause-own : goal.returns-then-is_named-clause-own
+returns-then-is_named-clause-own g c = λ unknown.
+    let it = sym c.is_named.ensures ∙ c.if-is_named.true in
+    let named = rw (c.stands_alone.ensures, c.text.ensures) at it in
+    let rest = g.S.ReadContent.content.rest in
+    absurd (first_unknown rest g.N.Label.label no_variants c.args.alone c.args.name.now named unknown)
