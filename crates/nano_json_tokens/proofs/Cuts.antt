@@ -7,7 +7,7 @@ use Rattle.nano_text.proofs.Numbers.{IsNumber-unique}
 use Rattle.nano_text.proofs.Strings.{IsString-unique}
 use Rattle.nano_text.specs.declared.number.Number.{Number}
 use Rattle.nano_text.specs.declared.number.Number.TheVariants.{U64, I64, Dec}
-use Rattle.nano_text.specs.Prefix.{first_is, prefix, following}
+use Rattle.nano_text.specs.Prefix.{prefix, following}
 use Rattle.nano_text.specs.Number.{IsNumber}
 use Rattle.nano_text.specs.String.{IsString}
 use Rattle.nano_grammar.specs.Tokens.{IsOneWay}

@@ -22,7 +22,7 @@ use std::str::Chars;
 /// at the end of the text. In any case line and column count the characters that were taken.
 impl DeJsonState {
     /// Takes the next token where a colon is pending.
-    #[inline]
+    #[inline(always)]
     pub fn colon(&mut self, alloc: Global, i: &mut Chars<'_>) -> Result<(), DeJsonErr>
         ensures taken { OnOk result (Takes (colon ∷ []) self.old i.old self.new i.new) }
         ensures buffers { OnOk result (KeepsOtherBuffers self.old self.new) }
@@ -76,7 +76,7 @@ impl DeJsonState {
             → OnErr result (NoCapacity self.old (remaining self.old.cur i.old)) }
     {
         match self.tok {
-            DeJsonTok::BlockOpen => self.scan_value_token(alloc, i),
+            DeJsonTok::BlockOpen => self.scan_other_token(alloc, i),
             _ => Err(self.err_token(alloc, "[")),
         }
     }
@@ -116,7 +116,7 @@ impl DeJsonState {
             → OnErr result (NoCapacity self.old (remaining self.old.cur i.old)) }
     {
         match self.tok {
-            DeJsonTok::CurlyOpen => self.scan_value_token(alloc, i),
+            DeJsonTok::CurlyOpen => self.scan_other_token(alloc, i),
             _ => Err(self.err_token(alloc, "{")),
         }
     }
@@ -142,7 +142,7 @@ impl DeJsonState {
     }
 
     /// Takes the next token where a comma is pending, and nothing where `]` is.
-    #[inline]
+    #[inline(always)]
     pub fn eat_comma_block(&mut self, alloc: Global, i: &mut Chars<'_>) -> Result<(), DeJsonErr>
         ensures taken { OnOk result (Takes (comma ∷ []) self.old i.old self.new i.new
             ⊎ ((pending self.old ≡ block_close) × (at self.new i.new ≡ at self.old i.old))) }
@@ -179,7 +179,7 @@ impl DeJsonState {
             → OnErr result (NoCapacity self.old (remaining self.old.cur i.old)) }
     {
         match self.tok {
-            DeJsonTok::Comma => self.scan_value_token(alloc, i),
+            DeJsonTok::Comma => self.scan_other_token(alloc, i),
             DeJsonTok::CurlyClose => Ok(()),
             _ => Err(self.err_token(alloc, ", or }")),
         }

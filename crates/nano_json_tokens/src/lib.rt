@@ -2,6 +2,7 @@
 //! and a writer's state. `nano_json` passes all of it on.
 #![tactic(auto)]
 
+mod ahead;
 mod error;
 mod helpers;
 mod input;

@@ -1,6 +1,6 @@
 //! How a reader's state takes the next token: white space, and one lexeme.
 
-ghost use Rattle.std.specs.Prelude.{◌≡◌, ◌≢◌, ℕ, List, OnOk, IfErr, IfSome, Some, None, false};
+ghost use Rattle.std.specs.Prelude.{◌≡◌, ◌≢◌, ℕ, List, OnOk, IfErr, None, false};
 ghost use Rattle.std.specs.Option.{option_map};
 ghost use Rattle.nano_text.specs.Prefix.{following};
 ghost use Rattle.nano_text.specs.Place.{remaining};
@@ -36,32 +36,8 @@ pub(crate) enum Rejection {
 }
 
 impl DeJsonState {
-    /// Takes the next token. An error leaves the pending token, and the place where the error
-    /// was found.
-    ///
-    /// A comma, a colon or a closing curly bracket directly follows most values and names. It
-    /// is taken here, inlined, and what makes errors is inlined in the callers too. A separate
-    /// function takes any other token, so no error is written where a token is taken.
-    #[inline(always)]
-    pub(crate) fn scan_after_value(&mut self, i: &mut Chars<'_>) -> Result<(), Rejection>
-        ensures taken { OnOk result
-            (Cut (remaining self.old.cur i.old) (pending self.new) (remaining self.new.cur i.new)) }
-        ensures buffers { OnOk result (KeepsOtherBuffers self.old self.new) }
-        ensures place { Counts self.old i.old self.new i.new }
-        ensures rejected { IfErr result (λ r. r ≢ Rejection.Memory
-            → NothingCut (remaining self.old.cur i.old)) }
-        ensures capacity { IfErr result (λ r. r ≡ Rejection.Memory
-            → NoCapacity self.old (remaining self.old.cur i.old)) }
-    {
-        if let Some(tok) = separator(self.cur) {
-            self.next(i);
-            self.tok = tok;
-            return Ok(());
-        }
-        self.scan_token(i)
-    }
-
-    /// Takes the next token, whatever it is.
+    /// Takes the next token, whatever it is. An error leaves the pending token, and the place where
+    /// the error was found.
     #[inline(never)]
     pub(crate) fn scan_token(&mut self, i: &mut Chars<'_>) -> Result<(), Rejection>
         ensures taken { OnOk result
@@ -110,7 +86,7 @@ impl DeJsonState {
     /// Takes the token that begins here, where no white space stands. Most are a number, a
     /// string or a punctuator; it may be another.
     #[inline(always)]
-    fn take_lexeme(&mut self, i: &mut Chars<'_>) -> Result<(), Rejection>
+    pub(crate) fn take_lexeme(&mut self, i: &mut Chars<'_>) -> Result<(), Rejection>
         ensures taken { OnOk result
             (IsLexeme (pending self.new) (remaining self.old.cur i.old) (remaining self.new.cur i.new)) }
         ensures buffers { OnOk result (KeepsOtherBuffers self.old self.new) }
@@ -230,20 +206,6 @@ fn starts_number(c: char) -> bool
     ensures { result ≡ starts_number c }
 {
     c.is_ascii_digit() || c == '-' || c == '+'
-}
-
-/// The punctuator that a character is, if it is one that follows a value or a name.
-#[inline(always)]
-fn separator(c: char) -> Option<DeJsonTok>
-    ensures { IfSome result (λ t. (strbuf numbuf : List ℕ)
-        → punctuator_of c ≡ Some (token_of t strbuf numbuf)) }
-{
-    match c {
-        ',' => Some(DeJsonTok::Comma),
-        ':' => Some(DeJsonTok::Colon),
-        '}' => Some(DeJsonTok::CurlyClose),
-        _ => None,
-    }
 }
 
 /// The punctuator that a character is.

@@ -103,10 +103,31 @@ impl DeJsonState {
         }
     }
 
+    /// Takes the next token as `next_tok` does, where most often a value directly stands.
+    #[inline(always)]
+    pub(crate) fn scan_value_token(
+        &mut self,
+        alloc: Global,
+        i: &mut Chars<'_>,
+    ) -> Result<(), DeJsonErr>
+        ensures taken { OnOk result
+            (Cut (remaining self.old.cur i.old) (pending self.new) (remaining self.new.cur i.new)) }
+        ensures buffers { OnOk result (KeepsOtherBuffers self.old self.new) }
+        ensures place { Counts self.old i.old self.new i.new }
+        ensures rejected { IfErr result (Reports self.new (NothingCut (remaining self.old.cur i.old))) }
+        ensures capacity { OnErr result (NoCapacity self.old (remaining self.old.cur i.old)) }
+        ensures ended { OnErr result (at self.new i.new ≡ ended) }
+    {
+        match self.scan_value(i) {
+            Ok(()) => Ok(()),
+            Err(rejection) => Err(self.reject(alloc, rejection)),
+        }
+    }
+
     /// Takes the next token as `next_tok` does, where most often a value or a name begins. So
     /// it looks for no punctuator first.
     #[inline(always)]
-    pub(crate) fn scan_value_token(
+    pub(crate) fn scan_other_token(
         &mut self,
         alloc: Global,
         i: &mut Chars<'_>,

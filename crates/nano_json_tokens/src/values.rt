@@ -96,6 +96,7 @@ impl DeJsonState {
     /// The text is a copy, so that `strbuf` keeps its capacity for the next string. If
     /// allocation of the copy fails, the text itself is returned, and `strbuf` has no capacity.
     /// So the call never fails because of that allocation.
+    #[inline(always)]
     pub fn as_string(&mut self, alloc: Global) -> Result<String, DeJsonErr>
         ensures ok { IfOk result (λ text. pending self.old ≡ str (string_bytes text)) }
         ensures emptied { OnOk result ((string_bytes self.new.strbuf ≡ [])
@@ -114,6 +115,7 @@ impl DeJsonState {
     ///
     /// The text is copied, so that `strbuf` keeps its capacity for the next string. If
     /// allocation of the copy fails, the text is moved.
+    #[inline(always)]
     fn take_text(&mut self, alloc: Global) -> String
         ensures text { string_bytes result ≡ string_bytes self.old.strbuf }
         ensures emptied { (string_bytes self.new.strbuf ≡ [])

@@ -23,15 +23,6 @@ module _ (name : List ℕ) (here now : At Token) (stands : StandsAfter (Some nam
       → Leaves Cut (str name ∷ (colon ∷ [])) here following
   head_taken following l = leaves_append Cut (str name ∷ []) (colon ∷ []) here now following stands.0 l
 
-  pub head_rejected : (takes : List ℕ → List Token → Type 0)
-      → ((following : At Token) → Leaves Cut (colon ∷ []) now following → ⊥)
-      → DecodesToNothing (EncodedField takes) here
-  head_rejected takes bad =
-      no_head json_fields json_laws name takes here (sym stands.0.0) (λ following l.
-      let both = leaves_split Cut (str name ∷ []) (colon ∷ []) here following l in
-      let same = leaves_same json_fields json_laws (str name ∷ []) here both.0 now both.1 stands.0 in
-      bad following (subst (λ (z : At Token). Leaves Cut (colon ∷ []) z following) same both.2))
-
 -- ---- before a name
 
 module _ (text other : List ℕ) (same : HasCutsOf text other) (pending now : Token) (e : now ≡ pending) where

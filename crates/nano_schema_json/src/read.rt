@@ -1,8 +1,8 @@
 //! Named fields between curly brackets.
 
-ghost use Rattle.std.specs.Prelude.{◌≡◌, [], None, OnOk, OnErr, IfErr};
+ghost use Rattle.std.specs.Prelude.{◌≡◌, ℕ, List, [], ◌∷◌, None, OnOk, OnErr, IfOk, IfErr};
 ghost use Rattle.std.specs.Option.{option_map};
-ghost use Rattle.nano_grammar.specs.Tokens.{At};
+ghost use Rattle.nano_grammar.specs.Tokens.{At, Leaves};
 ghost use Rattle.nano_schema_json.specs.FieldReading.{Allowed, EncodedField, DecodesField};
 ghost use Rattle.nano_schema_json.specs.FieldReading.{DecodesValue, ValueOf};
 ghost use Rattle.nano_schema_json.specs.NameReading.{StandsAfter, TakesSome};
@@ -13,6 +13,8 @@ ghost use Rattle.nano_json.specs.Readers.{Decodes, Rejects, Reports};
 ghost use Rattle.nano_json.specs.Encoding.{DecodesToNothing};
 ghost use Rattle.nano_json.specs.State.{at, ended, pending};
 ghost use Rattle.nano_json.specs.Token.{Token, IsStr};
+ghost use Rattle.nano_json_tokens.specs.Cut.{Cut};
+ghost use Rattle.nano_json_tokens.specs.Token.{str, colon};
 
 use crate::fields::JsonFields;
 use crate::names::{is_at_field, next_field, open_fields, take_name};
@@ -115,14 +117,39 @@ fn read_any<F: JsonFields>(
     ensures place { Counts state.old input.old state.new input.new }
     ensures made { IfErr result (IsPlacedAt state.new) }
 {
+    let name = take_colon(name, moved, alloc, state, input)?;
+    read_named::<F>(name, slots, alloc, state, input)
+}
+
+/// Takes the colon after the name of a field, which is taken in place or pending, and answers the
+/// name. On an error, the state may be at any position.
+#[inline(always)]
+fn take_colon<'n>(
+    name: Option<&'n str>,
+    moved: &'n mut String,
+    alloc: Global,
+    state: &mut DeJsonState,
+    input: &mut Chars<'_>,
+) -> Result<&'n str, DeJsonErr>
+    requires { name ≡ None → IsStr (pending state.old) }
+    ensures taken { IfOk result (λ n. (here : At Token)
+        → StandsAfter (option_map (λ m. m.now) name.entry) here (at state.old input.old)
+        → Leaves Cut (str n.now ∷ (colon ∷ [])) here (at state.new input.new)) }
+    ensures some { OnOk result (TakesSome (at state.old input.old) (at state.new input.new)) }
+    ensures rejected { IfErr result (Reports ((here : At Token)
+        → StandsAfter (option_map (λ m. m.now) name.entry) here (at state.old input.old)
+        → (end : At Token) → Leaves Cut (here.token ∷ (colon ∷ [])) here end → ⊥)) }
+    ensures place { Counts state.old input.old state.new input.new }
+    ensures made { IfErr result (IsPlacedAt state.new) }
+{
     match name {
         Some(name) => {
             state.colon(alloc, input)?;
-            read_named::<F>(name, slots, alloc, state, input)
+            Ok(name)
         }
         None => {
             take_name(moved, alloc, state, input)?;
-            read_named::<F>(moved.as_str(), slots, alloc, state, input)
+            Ok(moved.as_str())
         }
     }
 }

@@ -1,5 +1,5 @@
 pub mod ArrayViews
-pub mod BracketCut
+pub mod MarkCut
 pub mod Broken
 pub mod BuildLemmas
 pub mod BuilderSteps

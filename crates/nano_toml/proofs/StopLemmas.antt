@@ -2,7 +2,7 @@
 use Rattle.std.proofs.Common.{◌≡◌, ◌≢◌, ℕ, List, [], ◌∷◌, ◌++◌, sym, refl, ap, ◌∙◌, subst, append_assoc, true}
 use Rattle.nano_toml.specs.Cut.{Cut}
 use Rattle.nano_toml.specs.Data.{Values, values}
-use Rattle.nano_toml.specs.Prefixes.{Prefix, closed, nothing, push_value, ClosesNothing}
+use Rattle.nano_toml.specs.Prefixes.{Prefix, closed, nothing, push_value, ClosesNothing, ParsesNothing}
 use Rattle.nano_toml.specs.PrefixesLaws.{array_prefix, value_prefix, pair_of, pair_prefix, scope_prefix, element_prefix, header_prefix, statement_prefix, closing}
 use Rattle.nano_toml.specs.Statements.{pair}
 use Rattle.nano_toml.specs.Stops.{Fails, StandsNext, Breaks, Rejects, CanFind, Stops}
@@ -128,6 +128,28 @@ Stops-closing next e text remaining ts a found r =
     Stops-here (closing next) e text remaining (close_bracket, ts, a, found) (rejects_closing next e text remaining r)
 
 -- ---- pairs
+
+fails_equals : (name text rest : List ℕ) (n : Next) → Took text n rest → ((left : List ℕ) → Cut text equals left → ⊥) → Fails (pair_prefix name) n
+fails_equals name text rest (a_token equals) took none = absurd (none rest took)
+fails_equals name text rest (a_token _) took none = λ more. refl
+fails_equals name text rest the_end took none = refl
+fails_equals name text rest nothing_yet took none = tt
+
+-- no equals sign stands next
+rejects_equals : (name : List ℕ) (e : Fault) (text remaining : List ℕ) → e ≢ fault.Memory → StandsNext e text remaining → ((left : List ℕ) → Cut text equals left → ⊥) → Rejects (pair_prefix name) e text remaining
+rejects_equals name fault.Memory text remaining n stands none = absurd (n refl)
+rejects_equals name (fault.Malformed lexeme) text remaining n stands none = stands
+rejects_equals name (fault.Unexpected token) text remaining n stands none = (stands, fails_equals name text remaining (token_of token) stands none)
+rejects_equals name (fault.OtherKind key) text remaining n stands none = stands
+
+pub Stops-equals : (name : List ℕ) (e : Fault) (text remaining : List ℕ) → e ≢ fault.Memory → StandsNext e text remaining → ((left : List ℕ) → Cut text equals left → ⊥) → Stops (pair_prefix name) e text remaining
+Stops-equals name e text remaining n stands none =
+    Stops-here (pair_prefix name) e text remaining (can_find_pair name) (rejects_equals name e text remaining n stands none)
+
+pub ParsesNothing-equals : (name text : List ℕ) → ((left : List ℕ) → Cut text equals left → ⊥) → ParsesNothing (pair_prefix name) text
+ParsesNothing-equals name text none [] k = refl
+ParsesNothing-equals name text none (equals ∷ ts) k = absurd (none k.0 k.1)
+ParsesNothing-equals name text none (_ ∷ ts) k = refl
 
 fails_pair : (name : List ℕ) (ts : List Token) (n : Next) → Fails (λ more. value_prefix (ts ++ more)) n → Fails (λ more. pair_of name (value_prefix (ts ++ more))) n
 fails_pair name ts (a_token t) fails = λ more. ap (pair_of name) (fails more)

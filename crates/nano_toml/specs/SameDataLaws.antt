@@ -1,5 +1,5 @@
 -- What is proved of SameData.
-use Rattle.std.specs.Prelude.{◌≡◌, true, false, ◌&&◌}
+use Rattle.std.specs.Prelude.{◌≡◌, true, ◌&&◌}
 use Rattle.std.specs.Bool.{Decides}
 use Rattle.std.specs.Str.{bytes_eq}
 use Rattle.std.specs.Cmp.{IsPartialEquivalence, IsEquivalence, decided, booleans_Decides}

@@ -20,10 +20,12 @@ pub(crate) fn starts_word(c: u8) -> bool
     c.is_ascii_alphabetic() || c == b'_'
 }
 
+/// Most are small letters, which are tested first.
 fn is_in_word(c: u8) -> bool
     ensures { result ≡ is_in_word c }
 {
-    starts_word(c) || c == b'-' || c == b'.'
+    let is_letter = c >= b'a' && c <= b'z' || c >= b'A' && c <= b'Z';
+    is_letter || c == b'_' || c == b'-' || c == b'.'
 }
 
 /// The value that a word is, unless it is a name.

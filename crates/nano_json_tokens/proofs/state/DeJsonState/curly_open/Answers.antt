@@ -5,7 +5,7 @@ use Rattle.nano_json_tokens.proofs.state.DeJsonState.curly_open.Goals as goal
 pub returns-in-CurlyOpen-clause-rejected : goal.returns-in-CurlyOpen-clause-rejected
 returns-in-CurlyOpen-clause-rejected c =
     let none = none_after curly_open c.args.self.now c.args.i.now in
-    reports c.scan_value_token.result c.scan_value_token.new.self _ _ none c.scan_value_token.ensures.rejected
+    reports c.scan_other_token.result c.scan_other_token.new.self _ _ none c.scan_other_token.ensures.rejected
 
 pub returns-in_default-clause-place : goal.returns-in_default-clause-place
 returns-in_default-clause-place c = counts_none c.args.self.now c.args.i.now

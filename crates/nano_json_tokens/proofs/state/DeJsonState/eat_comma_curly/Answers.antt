@@ -8,9 +8,9 @@ pub returns-in-Comma-clause-rejected : goal.returns-in-Comma-clause-rejected
 returns-in-Comma-clause-rejected c =
     let s = c.args.self.now in
     let is_comma : pending s ≡ comma = ap (λ t. token_of t (string_bytes s.strbuf) (string_bytes s.numbuf)) c.in-Comma.is in
-    reports c.scan_value_token.result c.scan_value_token.new.self _ _
+    reports c.scan_other_token.result c.scan_other_token.new.self _ _
     (λ h. (λ closing. let x = sym is_comma ∙ closing in cc x, none_after comma s c.args.i.now h))
-    c.scan_value_token.ensures.rejected
+    c.scan_other_token.ensures.rejected
 
 pub returns-in_default-clause-place : goal.returns-in_default-clause-place
 returns-in_default-clause-place c = counts_none c.args.self.now c.args.i.now

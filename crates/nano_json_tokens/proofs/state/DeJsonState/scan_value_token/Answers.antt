@@ -10,4 +10,4 @@ returns-in-Err-clause-capacity c =
 
 pub returns-in-Err-clause-place : goal.returns-in-Err-clause-place
 returns-in-Err-clause-place c =
-    counts_ended c.args.self.now c.scan_token.new.self c.reject.new.self c.args.i.now c.scan_token.new.i c.scan_token.ensures.place c.reject.ensures.unchanged
+    counts_ended c.args.self.now c.scan_value.new.self c.reject.new.self c.args.i.now c.scan_value.new.i c.scan_value.ensures.place c.reject.ensures.unchanged
