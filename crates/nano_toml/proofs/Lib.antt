@@ -1,5 +1,5 @@
 pub mod ArrayViews
-pub mod MarkCut
+pub mod SeparatorCut
 pub mod Broken
 pub mod BuildLemmas
 pub mod BuilderSteps

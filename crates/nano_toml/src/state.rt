@@ -156,12 +156,13 @@ impl<'a> Cursor<'a> {
 
     /// Takes what is skipped and this bracket or equals sign after it, if it is there, and returns
     /// whether it is. If not, nothing is taken.
-    pub(crate) fn next_mark(&mut self, wanted: u8) -> bool
+    pub(crate) fn next_separator(&mut self, wanted: u8) -> bool
         requires { (wanted ≡ 91) ⊎ ((wanted ≡ 93) ⊎ (wanted ≡ 61)) }
         ensures cut { result ≡ true → (token : Token) → punctuator_token wanted ≡ Some token
             → Cut (remaining self.old) token (remaining self.new) }
         ensures none { result ≡ false → remaining self.new ≡ remaining self.old }
-        ensures no_mark { result ≡ false → (token : Token) → punctuator_token wanted ≡ Some token
+        ensures no_separator { result ≡ false → (token : Token)
+            → punctuator_token wanted ≡ Some token
             → (rest : List ℕ) → Cut (remaining self.old) token rest → ⊥ }
     {
         let mut ahead = self.again();

@@ -140,7 +140,7 @@ impl<'a> Reader<'a> {
         ensures rejects { IfErr result (λ e. e ≢ Memory
             → Rejects close_prefix e (remaining self.old.cursor) (remaining self.new.cursor)) }
     {
-        if !self.cursor.next_mark(b']') {
+        if !self.cursor.next_separator(b']') {
             return Err(self.unexpected());
         }
         Ok(())
@@ -155,7 +155,7 @@ impl<'a> Reader<'a> {
         ensures stops { StopsAt result (pair_prefix (name_view name.entry))
             (remaining self.old.cursor) (remaining self.new.cursor) }
     {
-        if !self.cursor.next_mark(b'=') {
+        if !self.cursor.next_separator(b'=') {
             return Err(self.unexpected());
         }
         let value = self.read_value()?;
@@ -202,7 +202,7 @@ impl<'a> Reader<'a> {
         if let Some(name) = self.cursor.next_name() {
             return self.read_scope(Name::Word(name));
         }
-        if self.cursor.next_mark(b'[') {
+        if self.cursor.next_separator(b'[') {
             return self.read_element();
         }
         match self.read_token()? {
@@ -227,7 +227,7 @@ impl<'a> Reader<'a> {
         if let Some(name) = self.cursor.next_name() {
             return Ok(Some(self.read_pair(Name::Word(name))?));
         }
-        if self.cursor.next_mark(b'[') {
+        if self.cursor.next_separator(b'[') {
             return Ok(Some(self.read_header()?));
         }
         match self.read_token()? {

@@ -11,23 +11,23 @@ use Rattle.nano_toml.proofs.ReadLemmas.{Parses-token, Parses-pair, ParsesNothing
 use Rattle.nano_toml.proofs.StopLemmas.{Stops-equals, ParsesNothing-equals, Stops-token, Stops-pair}
 use Rattle.nano_toml.proofs.statements.Reader.read_pair.Goals as goal
 
-pub returns-then-not-next_mark-clause-rejected : goal.returns-then-not-next_mark-clause-rejected
-returns-then-not-next_mark-clause-rejected c =
-    λ n. ParsesNothing-equals (name_view c.args.name) (remaining c.args.self.now.cursor) (c.if-not-next_mark.ensures.no_mark refl equals refl)
+pub returns-then-not-next_separator-clause-rejected : goal.returns-then-not-next_separator-clause-rejected
+returns-then-not-next_separator-clause-rejected c =
+    λ n. ParsesNothing-equals (name_view c.args.name) (remaining c.args.self.now.cursor) (c.if-not-next_separator.ensures.no_separator refl equals refl)
 
-pub returns-then-not-next_mark-clause-stops : goal.returns-then-not-next_mark-clause-stops
-returns-then-not-next_mark-clause-stops c =
+pub returns-then-not-next_separator-clause-stops : goal.returns-then-not-next_separator-clause-stops
+returns-then-not-next_separator-clause-stops c =
     let text = remaining c.args.self.now.cursor in
     let now = remaining c.unexpected.new.self.cursor in
-    let stands = subst (λ (t : List ℕ). StandsNext c.unexpected.result t now) (c.if-not-next_mark.ensures.none refl) c.unexpected.ensures in
-    λ n. Stops-equals (name_view c.args.name) c.unexpected.result text now n stands (c.if-not-next_mark.ensures.no_mark refl equals refl)
+    let stands = subst (λ (t : List ℕ). StandsNext c.unexpected.result t now) (c.if-not-next_separator.ensures.none refl) c.unexpected.ensures in
+    λ n. Stops-equals (name_view c.args.name) c.unexpected.result text now n stands (c.if-not-next_separator.ensures.no_separator refl equals refl)
 
 pub returns-in_err-value-clause-rejected : goal.returns-in_err-value-clause-rejected
 returns-in_err-value-clause-rejected c =
     let name = name_view c.args.name in
     let text = remaining c.args.self.now.cursor in
-    let now = remaining c.next_mark.new.self in
-    let cut = c.if-not-next_mark.ensures.cut refl equals refl in
+    let now = remaining c.next_separator.new.self in
+    let cut = c.if-not-next_separator.ensures.cut refl equals refl in
     let p = err_from_is_err_and c.from_residual.result c.from_residual.ensures.1 in
     rw (p.1, p.2) (λ n. ParsesNothing-token (pair_prefix name) (λ ts. pair_of name (value_prefix ts)) text now equals cut (λ more. refl) (ParsesNothing-pair name now (c.in_err-value.ensures.rejected n)))
 
@@ -35,9 +35,9 @@ pub returns-in_err-value-clause-stops : goal.returns-in_err-value-clause-stops
 returns-in_err-value-clause-stops c =
     let name = name_view c.args.name in
     let text = remaining c.args.self.now.cursor in
-    let now = remaining c.next_mark.new.self in
+    let now = remaining c.next_separator.new.self in
     let rest = remaining c.read_value.new.self.cursor in
-    let cut = c.if-not-next_mark.ensures.cut refl equals refl in
+    let cut = c.if-not-next_separator.ensures.cut refl equals refl in
     let p = err_from_is_err_and c.from_residual.result c.from_residual.ensures.1 in
     rw (p.1, p.2) (λ n. Stops-token (pair_prefix name) (λ ts. pair_of name (value_prefix ts)) _ text now rest equals cut (λ more. refl) (Stops-pair name _ now rest (c.in_err-value.ensures.stops n)))
 
@@ -45,8 +45,8 @@ pub returns-clause-found : goal.returns-clause-found
 returns-clause-found c =
     let name = name_view c.args.name in
     let text = remaining c.args.self.now.cursor in
-    let now = remaining c.next_mark.new.self in
+    let now = remaining c.next_separator.new.self in
     let rest = remaining c.read_value.new.self.cursor in
     let means = view c.in_ok-value.value in
-    let cut = c.if-not-next_mark.ensures.cut refl equals refl in
+    let cut = c.if-not-next_separator.ensures.cut refl equals refl in
     Parses-token (pair_prefix name) (λ ts. pair_of name (value_prefix ts)) text now rest equals (pair name means) cut (λ more. refl) (Parses-pair name now rest means c.in_ok-value.ensures.found)

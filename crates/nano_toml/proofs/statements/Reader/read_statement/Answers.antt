@@ -12,7 +12,7 @@ use Rattle.nano_toml.specs.Token.{Token, ident, string, open_bracket}
 use Rattle.nano_toml.specs.declared.token.TomlTok.TheVariants as tok
 use Rattle.nano_toml.proofs.CutLength.{Cut-shorter}
 use Rattle.nano_toml.proofs.CutLaws.{cut_in_one_way}
-use Rattle.nano_toml.proofs.MarkCut.{NoOpening-from, not_open}
+use Rattle.nano_toml.proofs.SeparatorCut.{NoOpening-from, not_open}
 use Rattle.nano_toml.proofs.NameCut.{NoName-from, Took-no_name, not_name}
 use Rattle.nano_toml.proofs.ReadLemmas.{Took-at, token_not_at_end, Parses-token, Parses-shorter, ParsesNothing-fails, ParsesNothing-token, IsNext-some, IsNext-none, EncodesNothing-some, EncodesNothing-cut, Parses-plain}
 use Rattle.nano_toml.proofs.Unexpected.{no_statement}
@@ -55,12 +55,12 @@ returns-in_err-read_pair-clause-rejected c =
     let p = err_from_is_err_and c.from_residual.result c.from_residual.ensures.1 in
     rw (p.1, p.2) (λ n. not_begun (pair_prefix name) text now (ident name) cut (λ more. refl) (c.in_err-read_pair.ensures.rejected n))
 
-pub returns-then-next_mark : goal.returns-then-next_mark
-returns-then-next_mark c =
+pub returns-then-next_separator : goal.returns-then-next_separator
+returns-then-next_separator c =
     let text = remaining c.args.self.now.cursor in
-    let now = remaining c.next_mark.new.self in
+    let now = remaining c.next_separator.new.self in
     let looked = NoName-from c.next_name.result (remaining c.args.self.now.cursor) (remaining c.next_name.new.self) c.in_default.is c.next_name.ensures.none c.next_name.ensures.no_name in
-    let cut : Cut text open_bracket now = subst (λ (t : List ℕ). Cut t open_bracket now) looked.same (c.if-next_mark.ensures.cut refl open_bracket refl) in
+    let cut : Cut text open_bracket now = subst (λ (t : List ℕ). Cut t open_bracket now) looked.same (c.if-next_separator.ensures.cut refl open_bracket refl) in
     let means = statement_view c.in_ok-read_header.field-0 in
     let one = begun header_prefix text now (remaining c.read_header.new.self.cursor) open_bracket means cut (λ more. refl) c.in_ok-read_header.ensures.found in
     record { found = one.next; rejected = tt; stops = tt; reads = one.reads; plain = one.plain; shorter = one.shorter }
@@ -68,9 +68,9 @@ returns-then-next_mark c =
 pub returns-in_err-read_header-clause-rejected : goal.returns-in_err-read_header-clause-rejected
 returns-in_err-read_header-clause-rejected c =
     let text = remaining c.args.self.now.cursor in
-    let now = remaining c.next_mark.new.self in
+    let now = remaining c.next_separator.new.self in
     let looked = NoName-from c.next_name.result (remaining c.args.self.now.cursor) (remaining c.next_name.new.self) c.in_default.is c.next_name.ensures.none c.next_name.ensures.no_name in
-    let cut : Cut text open_bracket now = subst (λ (t : List ℕ). Cut t open_bracket now) looked.same (c.if-next_mark.ensures.cut refl open_bracket refl) in
+    let cut : Cut text open_bracket now = subst (λ (t : List ℕ). Cut t open_bracket now) looked.same (c.if-next_separator.ensures.cut refl open_bracket refl) in
     let p = err_from_is_err_and c.from_residual-in_err-read_header.result c.from_residual-in_err-read_header.ensures.1 in
     rw (p.1, p.2) (λ n. not_begun header_prefix text now open_bracket cut (λ more. refl) (c.in_err-read_header.ensures.rejected n))
 
@@ -79,9 +79,9 @@ returns-in_ok-read_pair-in-Str c =
     let name = string_bytes c.in-Str.name in
     let text = remaining c.args.self.now.cursor in
     let now = remaining c.read_token.new.self.cursor in
-    let looked = NoOpening-from (remaining c.args.self.now.cursor) (remaining c.next_name.new.self) (remaining c.next_mark.new.self) (NoName-from c.next_name.result (remaining c.args.self.now.cursor) (remaining c.next_name.new.self) c.in_default.is c.next_name.ensures.none c.next_name.ensures.no_name)
-    (c.if-next_mark.ensures.none refl) (c.if-next_mark.ensures.no_mark refl open_bracket refl) in
-    let cut = Took-at text now c.in_ok-tok.tok (tok.Str c.in-Str.name) c.in-Str.is (Took-no_name text (remaining c.next_mark.new.self) now (token_of c.in_ok-tok.tok) looked.no_name c.in_ok-tok.ensures.cut) in
+    let looked = NoOpening-from (remaining c.args.self.now.cursor) (remaining c.next_name.new.self) (remaining c.next_separator.new.self) (NoName-from c.next_name.result (remaining c.args.self.now.cursor) (remaining c.next_name.new.self) c.in_default.is c.next_name.ensures.none c.next_name.ensures.no_name)
+    (c.if-next_separator.ensures.none refl) (c.if-next_separator.ensures.no_separator refl open_bracket refl) in
+    let cut = Took-at text now c.in_ok-tok.tok (tok.Str c.in-Str.name) c.in-Str.is (Took-no_name text (remaining c.next_separator.new.self) now (token_of c.in_ok-tok.tok) looked.no_name c.in_ok-tok.ensures.cut) in
     let means = statement_view c.in_ok-read_pair-in-Str.field-0 in
     let one = begun (pair_prefix name) text now (remaining c.read_pair-in-Str.new.self.cursor) (string name) means cut (λ more. refl) c.in_ok-read_pair-in-Str.ensures.found in
     record { found = one.next; rejected = tt; stops = tt; reads = one.reads; plain = one.plain; shorter = one.shorter }
@@ -91,16 +91,16 @@ returns-in_err-read_pair-in-Str-clause-rejected c =
     let name = string_bytes c.in-Str.name in
     let text = remaining c.args.self.now.cursor in
     let now = remaining c.read_token.new.self.cursor in
-    let looked = NoOpening-from (remaining c.args.self.now.cursor) (remaining c.next_name.new.self) (remaining c.next_mark.new.self) (NoName-from c.next_name.result (remaining c.args.self.now.cursor) (remaining c.next_name.new.self) c.in_default.is c.next_name.ensures.none c.next_name.ensures.no_name)
-    (c.if-next_mark.ensures.none refl) (c.if-next_mark.ensures.no_mark refl open_bracket refl) in
-    let cut = Took-at text now c.in_ok-tok.tok (tok.Str c.in-Str.name) c.in-Str.is (Took-no_name text (remaining c.next_mark.new.self) now (token_of c.in_ok-tok.tok) looked.no_name c.in_ok-tok.ensures.cut) in
+    let looked = NoOpening-from (remaining c.args.self.now.cursor) (remaining c.next_name.new.self) (remaining c.next_separator.new.self) (NoName-from c.next_name.result (remaining c.args.self.now.cursor) (remaining c.next_name.new.self) c.in_default.is c.next_name.ensures.none c.next_name.ensures.no_name)
+    (c.if-next_separator.ensures.none refl) (c.if-next_separator.ensures.no_separator refl open_bracket refl) in
+    let cut = Took-at text now c.in_ok-tok.tok (tok.Str c.in-Str.name) c.in-Str.is (Took-no_name text (remaining c.next_separator.new.self) now (token_of c.in_ok-tok.tok) looked.no_name c.in_ok-tok.ensures.cut) in
     let p = err_from_is_err_and c.from_residual-in_err-read_pair-in-Str.result c.from_residual-in_err-read_pair-in-Str.ensures.1 in
     rw (p.1, p.2) (λ n. not_begun (pair_prefix name) text now (string name) cut (λ more. refl) (c.in_err-read_pair-in-Str.ensures.rejected n))
 
 pub returns-in_err-tok-clause-rejected : goal.returns-in_err-tok-clause-rejected
 returns-in_err-tok-clause-rejected c =
-    let looked = NoOpening-from (remaining c.args.self.now.cursor) (remaining c.next_name.new.self) (remaining c.next_mark.new.self) (NoName-from c.next_name.result (remaining c.args.self.now.cursor) (remaining c.next_name.new.self) c.in_default.is c.next_name.ensures.none c.next_name.ensures.no_name)
-    (c.if-next_mark.ensures.none refl) (c.if-next_mark.ensures.no_mark refl open_bracket refl) in
+    let looked = NoOpening-from (remaining c.args.self.now.cursor) (remaining c.next_name.new.self) (remaining c.next_separator.new.self) (NoName-from c.next_name.result (remaining c.args.self.now.cursor) (remaining c.next_name.new.self) c.in_default.is c.next_name.ensures.none c.next_name.ensures.no_name)
+    (c.if-next_separator.ensures.none refl) (c.if-next_separator.ensures.no_separator refl open_bracket refl) in
     let p = err_from_is_err_and c.from_residual-in_err-tok.result c.from_residual-in_err-tok.ensures.1 in
     rw (p.1, p.2) (λ n. EncodesNothing-cut (remaining c.args.self.now.cursor) (subst CutsNothing looked.no_name.same (c.in_err-tok.ensures.rejected n)))
 
@@ -108,19 +108,19 @@ pub returns-in-Eof-clause-found : goal.returns-in-Eof-clause-found
 returns-in-Eof-clause-found c =
     let text = remaining c.args.self.now.cursor in
     let now = remaining c.read_token.new.self.cursor in
-    let looked = NoOpening-from (remaining c.args.self.now.cursor) (remaining c.next_name.new.self) (remaining c.next_mark.new.self) (NoName-from c.next_name.result (remaining c.args.self.now.cursor) (remaining c.next_name.new.self) c.in_default.is c.next_name.ensures.none c.next_name.ensures.no_name)
-    (c.if-next_mark.ensures.none refl) (c.if-next_mark.ensures.no_mark refl open_bracket refl) in
-    let cut = Took-at text now c.in_ok-tok.tok tok.Eof c.in-Eof.is (Took-no_name text (remaining c.next_mark.new.self) now (token_of c.in_ok-tok.tok) looked.no_name c.in_ok-tok.ensures.cut) in
+    let looked = NoOpening-from (remaining c.args.self.now.cursor) (remaining c.next_name.new.self) (remaining c.next_separator.new.self) (NoName-from c.next_name.result (remaining c.args.self.now.cursor) (remaining c.next_name.new.self) c.in_default.is c.next_name.ensures.none c.next_name.ensures.no_name)
+    (c.if-next_separator.ensures.none refl) (c.if-next_separator.ensures.no_separator refl open_bracket refl) in
+    let cut = Took-at text now c.in_ok-tok.tok tok.Eof c.in-Eof.is (Took-no_name text (remaining c.next_separator.new.self) now (token_of c.in_ok-tok.tok) looked.no_name c.in_ok-tok.ensures.cut) in
     IsNext-none text now cut
 
 pub returns-in_default-2-clause-rejected : goal.returns-in_default-2-clause-rejected
 returns-in_default-2-clause-rejected c =
     let text = remaining c.args.self.now.cursor in
-    let now = remaining c.next_mark.new.self in
+    let now = remaining c.next_separator.new.self in
     let rest = remaining c.read_token.new.self.cursor in
     let t = c.in_ok-tok.tok in
-    let looked = NoOpening-from (remaining c.args.self.now.cursor) (remaining c.next_name.new.self) (remaining c.next_mark.new.self) (NoName-from c.next_name.result (remaining c.args.self.now.cursor) (remaining c.next_name.new.self) c.in_default.is c.next_name.ensures.none c.next_name.ensures.no_name)
-    (c.if-next_mark.ensures.none refl) (c.if-next_mark.ensures.no_mark refl open_bracket refl) in
+    let looked = NoOpening-from (remaining c.args.self.now.cursor) (remaining c.next_name.new.self) (remaining c.next_separator.new.self) (NoName-from c.next_name.result (remaining c.args.self.now.cursor) (remaining c.next_name.new.self) c.in_default.is c.next_name.ensures.none c.next_name.ensures.no_name)
+    (c.if-next_separator.ensures.none refl) (c.if-next_separator.ensures.no_separator refl open_bracket refl) in
     let took = Took-no_name text now rest (token_of t) looked.no_name c.in_ok-tok.ensures.cut in
     λ n. EncodesNothing-some text
     (ParsesNothing-fails statement_prefix text rest (token_of t) took (no_statement t (not_name text now rest t looked.no_name c.in_ok-tok.ensures.cut) c.in_default-2.not-Str (not_open text now rest t looked c.in_ok-tok.ensures.cut)))
@@ -140,9 +140,9 @@ returns-in_err-read_pair-clause-stops c =
 pub returns-in_err-read_header-clause-stops : goal.returns-in_err-read_header-clause-stops
 returns-in_err-read_header-clause-stops c =
     let text = remaining c.args.self.now.cursor in
-    let now = remaining c.next_mark.new.self in
+    let now = remaining c.next_separator.new.self in
     let looked = NoName-from c.next_name.result (remaining c.args.self.now.cursor) (remaining c.next_name.new.self) c.in_default.is c.next_name.ensures.none c.next_name.ensures.no_name in
-    let cut : Cut text open_bracket now = subst (λ (t : List ℕ). Cut t open_bracket now) looked.same (c.if-next_mark.ensures.cut refl open_bracket refl) in
+    let cut : Cut text open_bracket now = subst (λ (t : List ℕ). Cut t open_bracket now) looked.same (c.if-next_separator.ensures.cut refl open_bracket refl) in
     let p = err_from_is_err_and c.from_residual-in_err-read_header.result c.from_residual-in_err-read_header.ensures.1 in
     rw (p.1, p.2) (λ n. Stops-token statement_prefix header_prefix _ text now (remaining c.read_header.new.self.cursor) open_bracket cut (λ more. refl) (c.in_err-read_header.ensures.stops n))
 
@@ -151,16 +151,16 @@ returns-in_err-read_pair-in-Str-clause-stops c =
     let name = string_bytes c.in-Str.name in
     let text = remaining c.args.self.now.cursor in
     let now = remaining c.read_token.new.self.cursor in
-    let looked = NoOpening-from (remaining c.args.self.now.cursor) (remaining c.next_name.new.self) (remaining c.next_mark.new.self) (NoName-from c.next_name.result (remaining c.args.self.now.cursor) (remaining c.next_name.new.self) c.in_default.is c.next_name.ensures.none c.next_name.ensures.no_name)
-    (c.if-next_mark.ensures.none refl) (c.if-next_mark.ensures.no_mark refl open_bracket refl) in
-    let cut = Took-at text now c.in_ok-tok.tok (tok.Str c.in-Str.name) c.in-Str.is (Took-no_name text (remaining c.next_mark.new.self) now (token_of c.in_ok-tok.tok) looked.no_name c.in_ok-tok.ensures.cut) in
+    let looked = NoOpening-from (remaining c.args.self.now.cursor) (remaining c.next_name.new.self) (remaining c.next_separator.new.self) (NoName-from c.next_name.result (remaining c.args.self.now.cursor) (remaining c.next_name.new.self) c.in_default.is c.next_name.ensures.none c.next_name.ensures.no_name)
+    (c.if-next_separator.ensures.none refl) (c.if-next_separator.ensures.no_separator refl open_bracket refl) in
+    let cut = Took-at text now c.in_ok-tok.tok (tok.Str c.in-Str.name) c.in-Str.is (Took-no_name text (remaining c.next_separator.new.self) now (token_of c.in_ok-tok.tok) looked.no_name c.in_ok-tok.ensures.cut) in
     let p = err_from_is_err_and c.from_residual-in_err-read_pair-in-Str.result c.from_residual-in_err-read_pair-in-Str.ensures.1 in
     rw (p.1, p.2) (λ n. Stops-token statement_prefix (pair_prefix name) _ text now (remaining c.read_pair-in-Str.new.self.cursor) (string name) cut (λ more. refl) (c.in_err-read_pair-in-Str.ensures.stops n))
 
 pub returns-in_err-tok-clause-stops : goal.returns-in_err-tok-clause-stops
 returns-in_err-tok-clause-stops c =
-    let looked = NoOpening-from (remaining c.args.self.now.cursor) (remaining c.next_name.new.self) (remaining c.next_mark.new.self) (NoName-from c.next_name.result (remaining c.args.self.now.cursor) (remaining c.next_name.new.self) c.in_default.is c.next_name.ensures.none c.next_name.ensures.no_name)
-    (c.if-next_mark.ensures.none refl) (c.if-next_mark.ensures.no_mark refl open_bracket refl) in
+    let looked = NoOpening-from (remaining c.args.self.now.cursor) (remaining c.next_name.new.self) (remaining c.next_separator.new.self) (NoName-from c.next_name.result (remaining c.args.self.now.cursor) (remaining c.next_name.new.self) c.in_default.is c.next_name.ensures.none c.next_name.ensures.no_name)
+    (c.if-next_separator.ensures.none refl) (c.if-next_separator.ensures.no_separator refl open_bracket refl) in
     let rest = remaining c.read_token.new.self.cursor in
     let p = err_from_is_err_and c.from_residual-in_err-tok.result c.from_residual-in_err-tok.ensures.1 in
     rw (p.1, p.2) (λ n. Stops-looked statement_prefix _ (remaining c.args.self.now.cursor) _ rest can_find_statement looked.no_name.same (c.in_err-tok.ensures.broken n))
@@ -168,10 +168,10 @@ returns-in_err-tok-clause-stops c =
 pub returns-in_default-2-clause-stops : goal.returns-in_default-2-clause-stops
 returns-in_default-2-clause-stops c =
     let text = remaining c.args.self.now.cursor in
-    let now = remaining c.next_mark.new.self in
+    let now = remaining c.next_separator.new.self in
     let rest = remaining c.read_token.new.self.cursor in
     let t = c.in_ok-tok.tok in
-    let looked = NoOpening-from (remaining c.args.self.now.cursor) (remaining c.next_name.new.self) (remaining c.next_mark.new.self) (NoName-from c.next_name.result (remaining c.args.self.now.cursor) (remaining c.next_name.new.self) c.in_default.is c.next_name.ensures.none c.next_name.ensures.no_name)
-    (c.if-next_mark.ensures.none refl) (c.if-next_mark.ensures.no_mark refl open_bracket refl) in
+    let looked = NoOpening-from (remaining c.args.self.now.cursor) (remaining c.next_name.new.self) (remaining c.next_separator.new.self) (NoName-from c.next_name.result (remaining c.args.self.now.cursor) (remaining c.next_name.new.self) c.in_default.is c.next_name.ensures.none c.next_name.ensures.no_name)
+    (c.if-next_separator.ensures.none refl) (c.if-next_separator.ensures.no_separator refl open_bracket refl) in
     let took = Took-no_name text now rest (token_of t) looked.no_name c.in_ok-tok.ensures.cut in
     λ n. Stops-fails statement_prefix t text rest can_find_statement took (no_statement t (not_name text now rest t looked.no_name c.in_ok-tok.ensures.cut) c.in_default-2.not-Str (not_open text now rest t looked c.in_ok-tok.ensures.cut))
