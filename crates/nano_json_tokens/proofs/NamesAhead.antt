@@ -5,7 +5,10 @@ use Rattle.std.specs.declared.str.Chars.{Chars}
 use Rattle.nano_text.specs.Place.{before_nul, remaining, Advances}
 use Rattle.nano_text.specs.declared.place.Place.{Place}
 use Rattle.nano_text.specs.Prefix.{following}
-use Rattle.nano_text.specs.String.{IsString}
+use Rattle.nano_text.specs.String.{IsString, IsPlainString}
+use Rattle.nano_text.proofs.PlainStrings.{plain_is_string}
+use Rattle.nano_text.proofs.RemainingText.{remaining-first}
+use Rattle.nano_text.proofs.Strings.{IsString-unique}
 use Rattle.nano_grammar.specs.Tokens.{Leaves}
 use Rattle.nano_json_tokens.specs.Cut.{is_space, IsLexeme, quoted, Cut}
 use Rattle.nano_json_tokens.specs.Token.{Token, str, colon}
@@ -42,3 +45,11 @@ name_ahead text string left last characters name pending spaced is left_is bytes
         (refl, (record { token = colon; text = last }, punctuator_cut 58 last colon refl, refl)),
       ),
     )
+
+-- where a string was taken, and a name with its colon stands there, the colon is the next character
+pub colon_ahead : (cur : ℕ) (i : Chars) (text string characters name rest : List ℕ) → string ≡ text
+    → IsString string characters (remaining cur i) → IsPlainString text name (58 ∷ rest) → cur ≡ 58
+colon_ahead cur i text string characters name rest same taken ahead =
+    let plain = plain_is_string text name (58 ∷ rest) ahead in
+    let here = subst (λ (l : List ℕ). IsString l characters (remaining cur i)) same taken in
+    remaining-first cur 58 i rest (IsString-unique text characters plain.0 (remaining cur i) (58 ∷ rest) here plain.1).1

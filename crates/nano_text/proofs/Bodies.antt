@@ -24,10 +24,10 @@ use Rattle.nano_text.proofs.Utf8Prefixes.{CutAfterPrefix, cut_wide, prefix-appen
 in_line_wide : (n : ℕ) → 128 ≤ n → is_plain_in_line n ≡ true
 in_line_wide n h = grind (arith, nat_tests)
 
-in_line_cut : (bytes : List ℕ) → IsUtf8 bytes → CutAfterPrefix is_plain_in_line bytes
+pub in_line_cut : (bytes : List ℕ) → IsUtf8 bytes → CutAfterPrefix is_plain_in_line bytes
 in_line_cut bytes utf8 = cut_wide is_plain_in_line in_line_wide bytes utf8
 
-in_line_plain : (c : ℕ) → is_plain_in_line c ≡ true → is_plain c ≡ true
+pub in_line_plain : (c : ℕ) → is_plain_in_line c ≡ true → is_plain c ≡ true
 in_line_plain c h = (and_parts (nat_le 32 c) (is_plain c) h).1
 
 no_feed : (c : ℕ) → is_plain_in_line c ≡ true → is_line_feed c ≡ false

@@ -18,3 +18,4 @@ pub mod LaneMasks
 pub mod Bodies
 pub mod WholeNumbers
 pub mod WrittenRuns
+pub mod PlainStrings

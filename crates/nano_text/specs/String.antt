@@ -82,3 +82,9 @@ pub record IsString (text characters rest : List ℕ) : Type 0 where
   pub good : AllByRecursion IsPiece pieces
   pub split : text ≡ quote ∷ (flat_map piece_text pieces ++ quote ∷ rest)
   pub characters_are : characters ≡ map piece_char pieces
+
+-- the text begins with a string in which each character stands for itself and none is a control
+-- character, and that is the rest
+pub record IsPlainString (text characters rest : List ℕ) : Type 0 where
+  pub plain : AllByRecursion (λ c. is_plain_in_line c ≡ true) characters
+  pub split : text ≡ quote ∷ (characters ++ quote ∷ rest)

@@ -7,7 +7,7 @@ ghost use Rattle.std.specs.Prelude.{◌+◌, drop, encode_utf8_all, length};
 ghost use Rattle.nano_text.specs.Prefix.{prefix};
 ghost use Rattle.nano_text.specs.Outcomes.{Counts};
 ghost use Rattle.nano_text.specs.Place.{begins_character, text_at};
-ghost use Rattle.nano_text.specs.String.{IsString, escaped_char, is_plain_in_line};
+ghost use Rattle.nano_text.specs.String.{IsPlainString, IsString, escaped_char, is_plain_in_line};
 
 use crate::lanes::{LANES, plain_lanes};
 use crate::place::{Place, begins_character};
@@ -95,7 +95,8 @@ pub(crate) fn escaped_char(c: char) -> char
 
 /// Whether these bytes begin with a quote.
 fn begins_with_quote(bytes: &[u8]) -> bool
-    ensures { result ≡ true → (rest : List ℕ) × (bytes.now ≡ 34 ∷ rest) }
+    ensures yes { result ≡ true → (rest : List ℕ) × (bytes.now ≡ 34 ∷ rest) }
+    ensures no { result ≡ false → (rest : List ℕ) → bytes.now ≢ 34 ∷ rest }
 {
     match bytes.first() {
         Some(byte) => *byte == b'"',
@@ -117,13 +118,16 @@ fn short_escape(bytes: &[u8]) -> Option<char>
     Some(escaped_char(char::from(escaped)))
 }
 
-/// Takes the string that begins at the current character, where all of it stands for itself in its
-/// line: the text between the quotes, in place. Where it does not, nothing is taken.
+/// Takes the string that begins at the current character, where it has no escape and no character
+/// below U+0020: the text between the quotes, in place. Where no such string begins there, nothing
+/// is taken.
 #[inline(always)]
 pub fn plain_string<'a>(p: &mut Place, i: &mut Chars<'a>) -> Option<&'a str>
     ensures found { IfSome result (λ text. (characters : List ℕ)
         × IsString (text_at p.old i.old) characters (text_at p.new i.new)
         × (text.now ≡ encode_utf8_all characters)) }
+    ensures none { result ≡ None → (characters : List ℕ) → (rest : List ℕ)
+        → IsPlainString (text_at p.old i.old) characters rest → ⊥ }
     ensures place { Counts p.old i.old p.new i.new }
     ensures unchanged { result ≡ None → (p.new ≡ p.old) × (i.new ≡ i.old) }
 {

@@ -46,7 +46,7 @@ split_at-requires-then-begins_with_quote c =
     c.split_at.result.0.now c.split_at.result.1.now (string_bytes c.push_str.new.self) c.line_run-run.result.len c.line_run-run.result.columns
     c.runs.invariant.read c.as_bytes.ensures.value c.line_run-run.ensures.len c.line_run-run.ensures.columns c.split_at.ensures.front
     c.split_at.ensures.back c.in-Ok.ensures.bytes refl c.saturating_add-col.ensures in
-    let quote = c.begins_with_quote.ensures c.if-begins_with_quote.true in
+    let quote = c.begins_with_quote.ensures.yes c.if-begins_with_quote.true in
     quote_boundary c.split_at.result.1.now _ quote.0 run.utf8 c.as_bytes-in-runs.ensures.value quote.1
 
 pub returns-then-begins_with_quote-clause-found : goal.returns-then-begins_with_quote-clause-found
@@ -56,7 +56,7 @@ returns-then-begins_with_quote-clause-found c e =
     c.split_at.result.0.now c.split_at.result.1.now (string_bytes c.push_str.new.self) c.line_run-run.result.len c.line_run-run.result.columns
     c.runs.invariant.read c.as_bytes.ensures.value c.line_run-run.ensures.len c.line_run-run.ensures.columns c.split_at.ensures.front
     c.split_at.ensures.back c.in-Ok.ensures.bytes refl c.saturating_add-col.ensures in
-    let quote = c.begins_with_quote.ensures c.if-begins_with_quote.true in
+    let quote = c.begins_with_quote.ensures.yes c.if-begins_with_quote.true in
     string_read_at_once c.args.p.now.cur c.args.i.now c.chars.result c.args.p.now q (string_bytes c.push_str.new.self) c.split_at.result.1.now
     c.as_bytes-in-runs.result.now quote.0 (text_at c.next.new.self c.next.new.i) run c.if-p-ne34.false c.as_bytes-in-runs.ensures.value quote.1
     (c.chars.ensures.rest ∙ c.split_at-then-begins_with_quote.ensures.back) c.next.ensures.rest
@@ -69,7 +69,7 @@ returns-then-begins_with_quote-clause-place c =
     c.split_at.result.0.now c.split_at.result.1.now (string_bytes c.push_str.new.self) c.line_run-run.result.len c.line_run-run.result.columns
     c.runs.invariant.read c.as_bytes.ensures.value c.line_run-run.ensures.len c.line_run-run.ensures.columns c.split_at.ensures.front
     c.split_at.ensures.back c.in-Ok.ensures.bytes refl c.saturating_add-col.ensures in
-    let quote = c.begins_with_quote.ensures c.if-begins_with_quote.true in
+    let quote = c.begins_with_quote.ensures.yes c.if-begins_with_quote.true in
     let passed = passes_quote (held c.args.i.now) c.args.p.now q r (string_bytes c.push_str.new.self) c.split_at.result.1.now
     c.as_bytes-in-runs.result.now quote.0 c.split_at-then-begins_with_quote.result.1.now run c.as_bytes-in-runs.ensures.value quote.1
     c.split_at-then-begins_with_quote.ensures.back (ap (λ (s : Place). s.line) c.runs.invariant.place) c.saturating_add-p.ensures in

@@ -1,9 +1,12 @@
-use Rattle.std.proofs.Common.{ap, arith, refl, subst, ◌∙◌, ◌∷◌}
+use Rattle.std.proofs.Common.{ℕ, List, ap, arith, refl, subst, sym, ◌∙◌, ◌∷◌}
 use Rattle.nano_text.specs.Place.{remaining, text_at, Advances}
+use Rattle.nano_text.specs.Prefix.{following}
+use Rattle.nano_text.specs.String.{IsPlainString}
+use Rattle.nano_json_tokens.specs.Cut.{is_space}
 use Rattle.nano_text.specs.PlaceLaws.{advances_append}
 use Rattle.nano_text.specs.declared.place.Place.{Place}
 use Rattle.nano_json_tokens.specs.State.{pending, place_of}
-use Rattle.nano_json_tokens.proofs.NamesAhead.{same_remaining, advances_from, name_ahead}
+use Rattle.nano_json_tokens.proofs.NamesAhead.{same_remaining, advances_from, name_ahead, colon_ahead}
 use Rattle.nano_json_tokens.proofs.state.DeJsonState.next_name.Goals as goal
 
 pub returns-clause-taken : goal.returns-clause-taken
@@ -29,3 +32,19 @@ returns-clause-place c =
     (subst (λ (p : Place). Advances p c.chars-rest.result c.plain_string.new.p c.plain_string.new.i) c.place-place.ensures c.in_ok-name.ensures.place) in
     let colon = c.next.ensures.counts (λ e. omega (arith, e, c.if-place-ne58.false)) in
     rw c.stand_at.ensures (advances_append c.skip_space.ensures.place (advances_append string colon))
+
+pub returns-in_err-name-clause-none : goal.returns-in_err-name-clause-none
+returns-in_err-name-clause-none c = λ none name rest ahead.
+    let same = same_remaining c.place-place.result.cur c.chars-rest.result c.skip_space.new.i (c.chars-rest.ensures.rest ∙ c.as_str.ensures) in
+    let spaced = same
+    ∙ (ap (λ (p : Place). text_at p c.skip_space.new.i) c.place-place.ensures ∙ c.skip_space.ensures.remaining) in
+    c.in_err-name.ensures.none refl name (58 ∷ rest) (subst (λ (l : List ℕ). IsPlainString l name (58 ∷ rest)) (sym spaced) ahead)
+
+pub returns-then-place-ne58-clause-none : goal.returns-then-place-ne58-clause-none
+returns-then-place-ne58-clause-none c = λ none name rest ahead.
+    let same = same_remaining c.place-place.result.cur c.chars-rest.result c.skip_space.new.i (c.chars-rest.ensures.rest ∙ c.as_str.ensures) in
+    let spaced = same
+    ∙ (ap (λ (p : Place). text_at p c.skip_space.new.i) c.place-place.ensures ∙ c.skip_space.ensures.remaining) in
+    let found = c.in_ok-name.ensures.found in
+    let text = following is_space (remaining c.args.self.now.cur c.args.i.now) in
+    c.if-place-ne58.true (colon_ahead c.plain_string.new.p.cur c.plain_string.new.i text _ found.0 name rest spaced found.1 ahead)
