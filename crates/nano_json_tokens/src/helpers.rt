@@ -122,7 +122,7 @@ impl DeJsonState {
     }
 
     /// Takes the next token where `}` is pending.
-    #[inline]
+    #[inline(always)]
     pub fn curly_close(&mut self, alloc: Global, i: &mut Chars<'_>) -> Result<(), DeJsonErr>
         ensures taken { OnOk result (Takes (curly_close ∷ []) self.old i.old self.new i.new) }
         ensures buffers { OnOk result (KeepsOtherBuffers self.old self.new) }

@@ -20,6 +20,9 @@ use crate::state::Cursor;
 use crate::token::TomlTok;
 use std::alloc::{AllocError, Global};
 
+/// With one more digit, a number below this one is not too great.
+const SMALL: u64 = 1 << 60;
+
 fn is_sign(c: u8) -> bool
     ensures { result ≡ is_sign c }
 {
@@ -106,12 +109,17 @@ fn push_digits(text: &mut String, run: &str) -> Result<(), AllocError>
     Ok(())
 }
 
-/// The value with one more digit, unless it is too great.
+/// The value with one more digit, unless it is too great. Most are small, and so is what they
+/// become.
 fn with_digit(value: Option<u64>, digit: u8) -> Option<u64>
     requires { is_digit digit ≡ true }
     ensures { result ≡ more_value value digit }
 {
-    value?.checked_mul(10)?.checked_add(u64::from(digit - b'0'))
+    let size = value?;
+    if size < SMALL {
+        return Some(size * 10 + u64::from(digit - b'0'));
+    }
+    size.checked_mul(10)?.checked_add(u64::from(digit - b'0'))
 }
 
 /// The negative number of this size, where it is in range.
