@@ -9,7 +9,7 @@ import sys
 MARKER = "// ---- written by nano_derive\n"
 CRATES = os.path.join(os.path.dirname(os.path.abspath(__file__)), "..", "crates")
 DATA = os.path.join(CRATES, "nano_derive", "data")
-OTHERS = ("derive_text", "nano_derive", "test_derive")
+OTHERS = ("derive_source", "derive_syntax", "derive_text", "nano_derive", "test_derive")
 
 
 def text_of(path):

@@ -1,13 +1,12 @@
-//! The impls of the structs and enums that a text declares.
+//! From a source to the source with the impls of its structs and enums.
 
-ghost use Rattle.std.specs.Prelude.{IfOk};
+ghost use Rattle.std.specs.Prelude.{IfOk, IfErr, string_bytes};
+ghost use Rattle.derive_source.specs.Below.{IsDerived};
+ghost use Rattle.derive_source.specs.Errors.{IsErrorIn};
 
-use crate::check::check;
-use crate::derived::Writer;
-use crate::fault::Fault;
 use crate::output::impls;
-use crate::parse::parse;
-use crate::scan::scan;
+use derive_source::{DeriveError, Fault, Writer, derive_by};
+use derive_syntax::{check_source, source_of, tokens_of};
 use std::alloc::Global;
 
 /// Writes the impls of structs and enums.
@@ -17,9 +16,29 @@ impl Writer for Impls {
     ghost writes = { λ _ _ _. Unit {0} };
 
     fn write(alloc: Global, module_name: &str, above: &str) -> Result<String, Fault> {
-        let tokens = scan(alloc, above)?;
-        let source = parse(alloc, &tokens, above.len())?;
-        check(alloc, &source)?;
+        let tokens = tokens_of(alloc, above)?;
+        let source = source_of(alloc, &tokens, above.len())?;
+        check_source(alloc, &source)?;
         impls(alloc, module_name, &source, above.len())
     }
+}
+
+/// The source with the impls of its structs and enums below the marker.
+///
+/// `module_name` is the module that the source is, as ghost names say it:
+/// `app.specs.declared.shapes` is `src/shapes.rt` of the crate `app`.
+///
+/// What stands above the marker is unchanged. What stood below it is left out and is not read, so
+/// that the answer is its own.
+///
+/// # Errors
+///
+/// The source is at fault: it has no marker or two, what stands above it is no Rust that the
+/// generator reads, or an attribute or a type is none that it knows. Or an allocation fails.
+pub fn derive(alloc: Global, module_name: &str, source: &str) -> Result<String, DeriveError>
+    ensures derived { IfOk result (λ text.
+        IsDerived (⟦<Impls as Writer>⟧.writes module_name.now) source.now (string_bytes text)) }
+    ensures error { IfErr result (IsErrorIn source.now) }
+{
+    derive_by::<Impls>(alloc, module_name, source)
 }

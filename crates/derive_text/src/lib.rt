@@ -2,22 +2,9 @@
 //! Rattle, and writes below it how they are encoded.
 #![tactic(auto)]
 
-mod check;
-mod derived;
-mod error;
-mod fault;
 mod impls;
-mod marker;
-mod module;
 mod output;
-mod parse;
-mod place;
-mod scan;
-mod state;
-mod syntax;
-mod token;
 
-pub use derived::derive;
-pub use error::{DeriveError, SourceFault};
-pub use marker::MARKER;
-pub use module::module_of;
+pub use derive_source::{DeriveError, MARKER, SourceFault};
+pub use derive_syntax::module_of;
+pub use impls::derive;

@@ -10,7 +10,7 @@ mod codec;
 mod codecs;
 mod defaults;
 mod fields;
-mod kind;
+mod forms;
 mod labels;
 mod layout;
 mod making;
@@ -20,15 +20,16 @@ mod rows;
 mod seen;
 mod sheet;
 mod target;
+mod template;
 mod transparent;
 mod tuples;
 mod types;
 mod variants;
 mod views;
 
-use crate::fault::Fault;
-use crate::syntax::{Definition, Shape, Source};
 use choices::append_choice;
+use derive_source::Fault;
+use derive_syntax::{Definition, Shape, Source};
 use names::Names;
 use records::append_record;
 use sheet::Sheet;
@@ -40,6 +41,8 @@ use tuples::append_tuple;
 const NO_TYPE: &str = "no struct or enum above the marker has a line `// nanoserde: bin json ron`, \
     which says in which formats it is read and written";
 
+const GENERIC_ENUM: &str = "is a generic enum: only a struct has type parameters";
+
 /// The impls of each struct and enum for which a format is named.
 pub(crate) fn impls<'a>(
     alloc: Global,
@@ -47,36 +50,37 @@ pub(crate) fn impls<'a>(
     source: &Source<'a>,
     end: usize,
 ) -> Result<String, Fault> {
-    let mut sheet = Sheet::new(alloc);
-    let mut names = Names::new(alloc, source)?;
+    let mut sheet = Sheet::new(alloc, Names::new(alloc, source)?);
     let mut is_empty = true;
     for definition in &source.definitions {
         if definition.attributes.codec.is_some() {
-            append_impls(alloc, &mut sheet, &mut names, module, definition)?;
+            append_impls(&mut sheet, module, definition)?;
             is_empty = false;
         }
     }
     if is_empty {
         return Err(Fault::place(end, NO_TYPE));
     }
-    Ok(sheet.finish(alloc)?)
+    Ok(sheet.finish()?)
 }
 
 /// Appends the impls of a struct or an enum.
 fn append_impls<'a>(
-    alloc: Global,
     sheet: &mut Sheet,
-    names: &mut Names,
     module: &'a str,
     definition: &Definition<'a>,
 ) -> Result<(), Fault> {
-    let target = Target::new(alloc, names, module, definition)?;
+    let target = Target::new(sheet, module, definition)?;
     match &definition.shape {
-        Shape::Fields(fields) => append_record(alloc, sheet, names, &target, fields),
+        Shape::Fields(fields) => append_record(sheet, &target, fields)?,
         Shape::Parts(parts) => match parts.as_slice() {
-            [part] => append_transparent(alloc, sheet, &target, *part),
-            _ => append_tuple(alloc, sheet, &target, parts),
+            [part] => append_transparent(sheet, &target, *part)?,
+            _ => append_tuple(sheet, &target, parts)?,
         },
-        Shape::Variants(variants) => append_choice(alloc, sheet, names, &target, variants),
+        Shape::Variants(_) if !target.parameters.is_empty() => {
+            return Err(target.name.fault(GENERIC_ENUM));
+        }
+        Shape::Variants(variants) => append_choice(sheet, &target, variants)?,
     }
+    Ok(())
 }

@@ -1,11 +1,11 @@
 //! That the codec of a struct is of what its values mean. A type parameter's codec says so of its
 //! values, and the codec of a generic struct says it by those of its parameters.
 
-use crate::fault::Fault;
 use crate::output::rows::ghost_pairs;
+use crate::output::tuples::{PLACES, named};
 use crate::output::types::{argument_of, type_text};
-use crate::syntax::{Definition, Shape, Type};
-use crate::token::Token;
+use derive_source::Fault;
+use derive_syntax::{Definition, Field, Shape, Token, Type};
 use std::alloc::{AllocError, Global};
 
 /// The ghost terms of a struct or an enum for its codecs.
@@ -25,25 +25,29 @@ pub(crate) fn agreement_of<'a>(
     definition: &Definition<'a>,
     full: &str,
 ) -> Result<Agreement, Fault> {
-    if !definition.parameters.is_empty() {
-        match &definition.shape {
-            Shape::Fields(fields) => {
-                let mut types = Vec::new(alloc);
-                for field in fields {
-                    if field.attributes.skip.is_none() {
-                        types.push(field.of)?;
-                    }
-                }
-                return of_fields(alloc, definition, &types, full);
-            }
-            Shape::Parts(parts) => return of_parts(alloc, definition, parts),
-            Shape::Variants(_) => {}
+    match &definition.shape {
+        Shape::Fields(fields) if !definition.parameters.is_empty() => {
+            of_fields(alloc, definition, &encoded_types(alloc, fields)?, full)
+        }
+        Shape::Parts(parts) if !definition.parameters.is_empty() => {
+            of_parts(alloc, definition, parts)
+        }
+        _ => Ok(Agreement {
+            agrees: String::from_str(alloc, "agreed")?,
+            decodable: String::from_str(alloc, "refl")?,
+        }),
+    }
+}
+
+/// The types of the fields that are read and written.
+fn encoded_types<'a>(alloc: Global, fields: &[Field<'a>]) -> Result<Vec<Type<'a>>, AllocError> {
+    let mut types = Vec::new(alloc);
+    for field in fields {
+        if field.attributes.skip.is_none() {
+            types.push(field.of)?;
         }
     }
-    Ok(Agreement {
-        agrees: String::from_str(alloc, "agreed")?,
-        decodable: String::from_str(alloc, "refl")?,
-    })
+    Ok(types)
 }
 
 /// The terms of a struct with fields of these types.
@@ -53,42 +57,73 @@ fn of_fields<'a>(
     types: &[Type<'a>],
     full: &str,
 ) -> Result<Agreement, Fault> {
-    let (mut agree, mut decode) = (Vec::new(alloc), Vec::new(alloc));
-    for of in types {
-        agree.push(agrees(alloc, &definition.parameters, *of)?)?;
-        decode.push(decodable(alloc, &definition.parameters, *of)?)?;
-    }
+    let agree = all_agree(alloc, &definition.parameters, types)?;
     let pairs = ghost_pairs(alloc, &agree, "pair_agrees ", " ")?;
+    let decode = all_decodable(alloc, &definition.parameters, types)?;
     Ok(Agreement {
         agrees: format!(in alloc; "seen_agrees {pairs} ⟦<{full} as nano_schema::Record>⟧.view")?,
         decodable: ghost_pairs(alloc, &decode, "both_are_read ", " ")?,
     })
 }
 
-/// The terms of a struct with parts of these types, each part before the tuple of the later ones.
+/// The terms of a struct with parts of these types.
 fn of_parts<'a>(
     alloc: Global,
     definition: &Definition<'a>,
     types: &[Type<'a>],
 ) -> Result<Agreement, Fault> {
-    let mut agree = String::new(alloc);
-    let mut decode = String::new(alloc);
-    let mut view = String::new(alloc);
-    for (i, of) in types.iter().enumerate().rev() {
-        let part = agrees(alloc, &definition.parameters, *of)?;
-        let read = decodable(alloc, &definition.parameters, *of)?;
-        if view.is_empty() {
-            (agree, decode, view) = (part, read, format!(in alloc; "x.{i}")?);
-        } else {
-            agree = format!(in alloc; "(pair_agrees {part} {agree})")?;
-            decode = format!(in alloc; "(both_are_read {read} {decode})")?;
-            view = format!(in alloc; "(x.{i}, {view})")?;
-        }
-    }
+    let agree = all_agree(alloc, &definition.parameters, types)?;
+    let pairs = in_turn(alloc, &agree, "pair_agrees ", " ")?;
+    let view = in_turn(alloc, &named(alloc, "x.", &PLACES, types.len())?, "", ", ")?;
+    let decode = all_decodable(alloc, &definition.parameters, types)?;
     Ok(Agreement {
-        agrees: format!(in alloc; "seen_agrees {agree} (λ x. {view})")?,
-        decodable: decode,
+        agrees: format!(in alloc; "seen_agrees {pairs} (λ x. {view})")?,
+        decodable: in_turn(alloc, &decode, "both_are_read ", " ")?,
     })
+}
+
+/// The texts as pairs of a ghost term, each text before the pair of the later ones.
+fn in_turn(
+    alloc: Global,
+    texts: &[String],
+    before: &str,
+    between: &str,
+) -> Result<String, AllocError> {
+    let mut pairs = String::new(alloc);
+    for text in texts.iter().rev() {
+        pairs = if pairs.is_empty() {
+            text.clone()?
+        } else {
+            format!(in alloc; "({before}{text}{between}{pairs})")?
+        };
+    }
+    Ok(pairs)
+}
+
+/// That the codec of each of these types is of what its values mean.
+fn all_agree<'a>(
+    alloc: Global,
+    parameters: &[Token<'a>],
+    types: &[Type<'a>],
+) -> Result<Vec<String>, Fault> {
+    let mut terms = Vec::new(alloc);
+    for of in types {
+        terms.push(agrees(alloc, parameters, *of)?)?;
+    }
+    Ok(terms)
+}
+
+/// That what is written of each of these types as bytes is read back.
+fn all_decodable<'a>(
+    alloc: Global,
+    parameters: &[Token<'a>],
+    types: &[Type<'a>],
+) -> Result<Vec<String>, AllocError> {
+    let mut terms = Vec::new(alloc);
+    for of in types {
+        terms.push(decodable(alloc, parameters, *of)?)?;
+    }
+    Ok(terms)
 }
 
 /// That the codec of a type is of what its values mean.
@@ -112,7 +147,7 @@ fn agrees<'a>(alloc: Global, parameters: &[Token<'a>], of: Type<'a>) -> Result<S
     }
     let term = match (parameter_in(parameters, inner), inner.0) {
         (Some(_), [parameter]) => format!(in alloc; "{}.agrees", parameter.text)?,
-        (Some(parameter), _) => return Err(Fault::token(parameter, UNKNOWN)),
+        (Some(parameter), _) => return Err(parameter.fault(UNKNOWN)),
         (None, _) => known(alloc, inner)?,
     };
     Ok(format!(in alloc; "{open}{term}{close}")?)

@@ -1,24 +1,14 @@
 //! The types of an enum's variants, and of their content: each of the first variant and the rest.
 
-use crate::output::fields::{field_types, row_fields};
+use crate::output::fields::{field_texts, row_fields};
 use crate::output::layout::Items;
-use crate::output::names::Names;
-use crate::output::rows::{Leaf, pairs};
+use crate::output::rows::{Leaf, append_row, paired};
 use crate::output::sheet::Sheet;
 use crate::output::target::Target;
-use crate::output::types::type_text;
+use crate::output::tuples::part_types;
 use crate::output::variants::tuple_of;
-use crate::syntax::{Content, Variant};
+use derive_syntax::{Content, Variant};
 use std::alloc::{AllocError, Global};
-
-/// What is written of a variant.
-#[derive(Drop)]
-pub(crate) struct Arm {
-    /// The type that stands for its name.
-    pub(crate) label: String,
-    /// The type that says what it holds.
-    pub(crate) content: String,
-}
 
 /// A chain of types: of the first variant and the rest.
 #[derive(Clone, Copy)]
@@ -33,132 +23,94 @@ struct Chain<'a> {
     close: &'static str,
 }
 
-/// Appends the types, the last variant's first.
+/// Appends the types, the last variant's first. Each variant has a schema.
 pub(crate) fn append_chains<'a>(
-    alloc: Global,
     sheet: &mut Sheet,
-    names: &mut Names,
     target: &Target<'a>,
     variants: &[Variant<'a>],
-    arms: &[Arm],
+    schemas: &[String],
 ) -> Result<(), AllocError> {
-    let mut schemas = Vec::new(alloc);
-    for arm in arms {
-        let (label, content) = (arm.label.as_str(), arm.content.as_str());
-        schemas.push(format!(in alloc; "nano_schema::Variant<{label}, {content}>")?)?;
-    }
     let row = Chain {
         name: target.row.as_str(),
         parameter: "",
         open: "(",
         close: ")",
     };
-    append_chain(alloc, sheet, names, row, &schemas)?;
+    append_chain(sheet, row, schemas)?;
     let values = Chain {
         name: target.values.as_str(),
+        parameter: "",
         open: "nano_schema::Either<",
         close: ">",
-        parameter: "",
     };
-    append_chain(
-        alloc,
-        sheet,
-        names,
-        values,
-        &held_types(alloc, variants, "")?,
-    )?;
+    let held = held_types(sheet.alloc, variants, "$TYPE")?;
+    append_chain(sheet, values, &held)?;
     let refs = Chain {
         name: target.refs.as_str(),
         parameter: "<'a>",
         open: "nano_schema::Either<",
         close: ">",
     };
-    append_chain(
-        alloc,
-        sheet,
-        names,
-        refs,
-        &held_types(alloc, variants, "&'a ")?,
-    )?;
-    sheet.line("")
+    let held = held_types(sheet.alloc, variants, "&'a $TYPE")?;
+    append_chain(sheet, refs, &held)
 }
 
 /// Appends a chain of types.
-fn append_chain(
-    alloc: Global,
-    sheet: &mut Sheet,
-    names: &mut Names,
-    chain: Chain<'_>,
-    firsts: &[String],
-) -> Result<(), AllocError> {
+fn append_chain(sheet: &mut Sheet, chain: Chain<'_>, firsts: &[String]) -> Result<(), AllocError> {
     let mut later: Option<String> = None;
     for (i, first) in firsts.iter().enumerate().rev() {
-        let name = if i == 0 {
-            String::from_str(alloc, chain.name)?
-        } else {
-            let wanted = format!(in alloc; "{}{}", chain.name, i.saturating_add(1))?;
-            names.take(alloc, wanted.as_str())?
-        };
-        let parameter = chain.parameter;
-        let full = format!(in alloc; "{name}{parameter}")?;
-        let mut texts = Vec::new(alloc);
-        texts.push(first.clone()?)?;
-        let leaf = match later {
-            Some(rest) => {
-                texts.push(rest)?;
-                Leaf {
-                    open: chain.open,
-                    texts,
-                    close: chain.close,
-                }
-            }
-            None => Leaf {
-                open: "",
-                texts,
-                close: "",
-            },
-        };
-        append_type(alloc, sheet, full.as_str(), leaf)?;
+        let full = link_name(sheet, chain, i)?;
+        let mut leaf = Leaf::of(sheet.alloc, first.clone()?)?;
+        if let Some(rest) = later {
+            leaf.texts.push(rest)?;
+            (leaf.open, leaf.close) = (chain.open, chain.close);
+        }
+        append_row(sheet, full.as_str(), &[leaf])?;
         later = Some(full);
     }
     Ok(())
 }
 
-/// Appends the name of a type.
-fn append_type(alloc: Global, sheet: &mut Sheet, name: &str, leaf: Leaf) -> Result<(), AllocError> {
-    let start = format!(in alloc; "type {name} = ")?;
-    let row = pairs(alloc, &[leaf], Items::Types, 0, start.len())?;
-    sheet.line(format!(in alloc; "\n{start}{};", row.laid.as_str())?.as_str())
+/// The name of the type of the variants from this one on.
+fn link_name(sheet: &mut Sheet, chain: Chain<'_>, i: usize) -> Result<String, AllocError> {
+    let (alloc, parameter) = (sheet.alloc, chain.parameter);
+    if i == 0 {
+        return format!(in alloc; "{}{parameter}", chain.name);
+    }
+    let wanted = format!(in alloc; "{}{}", chain.name, i.saturating_add(1))?;
+    let mut name = sheet.names.take(alloc, wanted.as_str())?;
+    name.push_str(parameter)?;
+    Ok(name)
 }
 
-/// The types of what the variants hold, each part after some text.
+/// The types of what the variants hold, each part by a template.
 fn held_types<'a>(
     alloc: Global,
     variants: &[Variant<'a>],
-    before: &str,
+    template: &str,
 ) -> Result<Vec<String>, AllocError> {
     let mut types = Vec::new(alloc);
     for variant in variants {
-        types.push(held_type(alloc, variant, before)?)?;
+        types.push(held_type(alloc, &variant.content, template)?)?;
     }
     Ok(types)
 }
 
 /// The type of what a variant holds.
-fn held_type<'a>(alloc: Global, variant: &Variant<'a>, before: &str) -> Result<String, AllocError> {
-    match &variant.content {
+fn held_type<'a>(
+    alloc: Global,
+    content: &Content<'a>,
+    template: &str,
+) -> Result<String, AllocError> {
+    match content {
         Content::Nothing => String::from_str(alloc, "()"),
         Content::Parts(parts) => {
-            let mut texts = Vec::new(alloc);
-            for part in parts {
-                let text = type_text(alloc, *part)?;
-                texts.push(format!(in alloc; "{before}{text}")?)?;
-            }
-            tuple_of(alloc, &texts, Items::Patterns, 4, 4)
+            let types = part_types(alloc, parts, template)?;
+            tuple_of(alloc, &types, Items::Patterns, (4, 4))
         }
         Content::Fields(fields) => {
-            let types = field_types(alloc, &row_fields(alloc, fields)?, before)?;
-            Ok(pairs(alloc, &types, Items::Patterns, 4, 4)?.flat)
+            let types = field_texts(alloc, &row_fields(alloc, fields)?, template)?;
+            Ok(paired(alloc, types, Items::Patterns, 4, 4)?.flat)
         }
     }
 }

@@ -1,152 +1,159 @@
 //! Enums: their schema, and then each format.
 
-use crate::check::encoded_name;
-use crate::fault::Fault;
-use crate::output::chains::{Arm, append_chains};
+use crate::output::chains::append_chains;
 use crate::output::codecs::append_codecs;
-use crate::output::fields::{append_labels, row_fields};
-use crate::output::kind::Kind;
+use crate::output::fields::{append_labels, label_of, row_fields};
+use crate::output::forms::CHOICE;
 use crate::output::labels::append_label;
 use crate::output::layout::Items;
-use crate::output::making::append_make;
-use crate::output::names::{Names, in_type_name};
-use crate::output::rows::pairs;
+use crate::output::making::making;
+use crate::output::names::in_type_name;
+use crate::output::rows::append_row;
 use crate::output::sheet::Sheet;
 use crate::output::target::Target;
-use crate::output::types::type_text;
-use crate::output::variants::{append_arms, tuple_of};
-use crate::output::views::append_view;
-use crate::syntax::{Content, Type, Variant};
-use std::alloc::{AllocError, Global};
+use crate::output::tuples::part_types;
+use crate::output::variants::{arms, tuple_of};
+use crate::output::views::{cases, variant_imports};
+use derive_syntax::{Content, Type, Variant, encoded_name};
+use std::alloc::AllocError;
 
 /// Appends the impls of an enum.
 pub(crate) fn append_choice<'a>(
-    alloc: Global,
     sheet: &mut Sheet,
-    names: &mut Names,
     target: &Target<'a>,
     variants: &[Variant<'a>],
-) -> Result<(), Fault> {
-    if !target.parameters.is_empty() {
-        return Err(Fault::token(
-            target.name,
-            "is a generic enum: only a struct has type parameters",
-        ));
-    }
-    let mut arms = Vec::new(alloc);
+) -> Result<(), AllocError> {
+    let mut schemas = Vec::new(sheet.alloc);
     for variant in variants {
-        arms.push(append_variant(alloc, sheet, names, target, variant)?)?;
+        schemas.push(append_variant(sheet, target, variant)?)?;
     }
-    append_chains(alloc, sheet, names, target, variants, &arms)?;
-    append_schema(alloc, sheet, target, variants)?;
-    append_references(alloc, sheet, target, variants)?;
-    append_value(alloc, sheet, target)?;
-    append_codecs(alloc, sheet, target, Kind::Choice)
+    append_chains(sheet, target, variants, &schemas)?;
+    append_view(sheet, target, variants)?;
+    append_references(sheet, target, variants)?;
+    append_codecs(sheet, target, &CHOICE, &CHOICE)
 }
 
-/// Appends the labels of a variant, and the type of what it holds.
+/// Appends the labels of a variant and the type of what it holds, and returns its schema.
 fn append_variant<'a>(
-    alloc: Global,
     sheet: &mut Sheet,
-    names: &mut Names,
     target: &Target<'a>,
     variant: &Variant<'a>,
-) -> Result<Arm, AllocError> {
-    let part = in_type_name(alloc, variant.name.text)?;
-    let wanted = format!(in alloc; "{}{}", target.name.text, part.as_str())?;
-    let label = names.take(alloc, wanted.as_str())?;
+) -> Result<String, AllocError> {
+    let label = label_of(sheet, target.name.text, variant.name.text)?;
     let name = encoded_name(variant.name, variant.attributes).quoted();
-    append_label(alloc, sheet, label.as_str(), name)?;
-    let held = format!(in alloc; "{wanted}Parts")?;
-    let content = match &variant.content {
-        Content::Nothing => String::from_str(alloc, "nano_schema::Alone")?,
-        Content::Parts(parts) => {
-            let held = names.take(alloc, held.as_str())?;
-            append_parts(alloc, sheet, held.as_str(), parts)?;
-            let kind = if parts.len() == 1 {
-                "OnePart"
-            } else {
-                "Tupled"
-            };
-            format!(in alloc; "nano_schema::{kind}<{held}>")?
-        }
-        Content::Fields(fields) => {
-            let held = names.take(alloc, held.as_str())?;
-            let fields = row_fields(alloc, fields)?;
-            let leaves = append_labels(alloc, sheet, names, target, wanted.as_str(), &fields)?;
-            let start = format!(in alloc; "type {held} = ")?;
-            let row = pairs(alloc, &leaves, Items::Types, 0, start.len())?;
-            sheet.line(format!(in alloc; "\n{start}{};", row.laid.as_str())?.as_str())?;
-            format!(in alloc; "nano_schema::Named<{held}>")?
-        }
+    append_label(sheet, label.as_str(), name)?;
+    let content = append_content(sheet, target, variant)?;
+    format!(in sheet.alloc; "nano_schema::Variant<{label}, {content}>")
+}
+
+/// Appends the type of what a variant holds, and returns its schema.
+fn append_content<'a>(
+    sheet: &mut Sheet,
+    target: &Target<'a>,
+    variant: &Variant<'a>,
+) -> Result<String, AllocError> {
+    let alloc = sheet.alloc;
+    let mut owner = String::from_str(alloc, target.name.text)?;
+    owner.push_str(in_type_name(alloc, variant.name.text)?.as_str())?;
+    let kind = match &variant.content {
+        Content::Nothing => return String::from_str(alloc, "nano_schema::Alone"),
+        Content::Parts(parts) if parts.len() == 1 => "OnePart",
+        Content::Parts(_) => "Tupled",
+        Content::Fields(_) => "Named",
     };
-    Ok(Arm { label, content })
+    let held = label_of(sheet, owner.as_str(), "Parts")?;
+    match &variant.content {
+        Content::Nothing => {}
+        Content::Parts(parts) => append_parts(sheet, held.as_str(), parts)?,
+        Content::Fields(fields) => {
+            let fields = row_fields(alloc, fields)?;
+            let leaves = append_labels(sheet, target, owner.as_str(), &fields)?;
+            append_row(sheet, held.as_str(), &leaves)?;
+        }
+    }
+    format!(in alloc; "nano_schema::{kind}<{held}>")
 }
 
 /// Appends the type of parts without names.
-fn append_parts<'a>(
-    alloc: Global,
-    sheet: &mut Sheet,
-    held: &str,
-    parts: &[Type<'a>],
-) -> Result<(), AllocError> {
-    let mut texts = Vec::new(alloc);
-    for part in parts {
-        texts.push(type_text(alloc, *part)?)?;
-    }
-    let start = format!(in alloc; "type {held} = ")?;
-    let row = tuple_of(alloc, &texts, Items::Types, 0, start.len())?;
-    sheet.line(format!(in alloc; "\n{start}{row};")?.as_str())
+fn append_parts<'a>(sheet: &mut Sheet, held: &str, parts: &[Type<'a>]) -> Result<(), AllocError> {
+    let types = part_types(sheet.alloc, parts, "$TYPE")?;
+    let before = held.len().saturating_add("type  = ".len());
+    let row = tuple_of(sheet.alloc, &types, Items::Types, (0, before))?;
+    sheet.alias(held, row.as_str())
 }
+
+const VIEW: &str = "
+impl nano_schema::Choice for $FULL {
+$IMPORTS
+    type Values = $VALUES;
+
+    ghost view = { λ x. elim x [
+$CASES    ] };
+
+    fn make(values: Self::Values) -> Self {
+$MAKING    }
+}
+";
 
 /// Appends the impl that splits an enum into the content of its variant, and makes it of that.
-fn append_schema<'a>(
-    alloc: Global,
+fn append_view<'a>(
     sheet: &mut Sheet,
     target: &Target<'a>,
     variants: &[Variant<'a>],
 ) -> Result<(), AllocError> {
-    sheet.line(target.head(alloc, "nano_schema::Choice", "")?.as_str())?;
-    append_view(alloc, sheet, target, variants)?;
-    append_make(alloc, sheet, variants)
+    if variants.len() > 1 {
+        sheet.import(EITHER)?;
+    }
+    let imports = variant_imports(sheet.alloc, target, variants)?;
+    let cases = cases(sheet.alloc, variants)?;
+    let making = making(sheet.alloc, variants)?;
+    let mut holes = target.holes(sheet.alloc)?;
+    holes.put("IMPORTS", imports.as_str())?;
+    holes.put("CASES", cases.as_str())?;
+    holes.put("MAKING", making.as_str())?;
+    sheet.write(VIEW, &holes)
 }
 
-/// Appends the impl that has references to the content of the variant.
+const EITHER: &str =
+    "ghost use Rattle.nano_schema.specs.declared.choices.Either.TheVariants.{First, Later};";
+
+const REFERENCES: &str = "impl<'a> nano_schema::ChoiceParts<'a> for $FULL {
+    type Refs = $REFS<'a>;
+
+    ghost values = { ⟦<$ROW as nano_schema::BorrowedChoices<'a>>⟧.values };
+
+    fn as_refs(&'a self) -> Self::Refs {
+$EITHER        match self {
+$ARMS        }
+    }
+}
+
+impl nano_schema::Value for $FULL {
+    ghost means = { λ x. ⟦<$ROW as nano_schema::Choices>⟧.means 0 \
+        (⟦<$FULL as nano_schema::Choice>⟧.view x) };
+
+    ghost legal = { LegalVariant ⟦<$ROW as nano_schema::Choices>⟧.legals };
+
+    fn known(&self) {
+        nano_schema::known_variant::<Self, $ROW>(self);
+    }
+}";
+
+/// Appends the impl that has references to the content of the variant, and the one that says what an
+/// enum means.
 fn append_references<'a>(
-    alloc: Global,
     sheet: &mut Sheet,
     target: &Target<'a>,
     variants: &[Variant<'a>],
 ) -> Result<(), AllocError> {
-    let row = target.row.as_str();
-    sheet.line(
-        target
-            .borrowed_head(alloc, "nano_schema::ChoiceParts", "")?
-            .as_str(),
-    )?;
-    sheet.line(format!(in alloc; "    type Refs = {}<'a>;\n", target.refs.as_str())?.as_str())?;
-    let term = format!(in alloc; "⟦<{row} as nano_schema::BorrowedChoices<'a>>⟧.values")?;
-    sheet.member(alloc, "values", term.as_str())?;
-    sheet.line("\n    fn as_refs(&'a self) -> Self::Refs {")?;
-    append_arms(alloc, sheet, variants)?;
-    sheet.line("    }\n}\n")
-}
-
-/// Appends the impl that says what an enum means.
-fn append_value<'a>(
-    alloc: Global,
-    sheet: &mut Sheet,
-    target: &Target<'a>,
-) -> Result<(), AllocError> {
-    let (row, full) = (target.row.as_str(), target.full.as_str());
-    let view = format!(in alloc; "⟦<{full} as nano_schema::Choice>⟧.view")?;
-    let means = format!(in alloc; "λ x. ⟦<{row} as nano_schema::Choices>⟧.means 0 ({view} x)")?;
-    let legal = format!(in alloc; "LegalVariant ⟦<{row} as nano_schema::Choices>⟧.legals")?;
+    let arms = arms(sheet.alloc, variants)?;
+    let either = match variants.len() {
+        1 => "",
+        _ => "        use nano_schema::Either;\n\n",
+    };
     sheet.import("ghost use Rattle.nano_schema.specs.UserTypes.{LegalVariant};")?;
-    sheet.line(target.head(alloc, "nano_schema::Value", "")?.as_str())?;
-    sheet.member(alloc, "means", means.as_str())?;
-    sheet.line("")?;
-    sheet.member(alloc, "legal", legal.as_str())?;
-    let call = format!(in alloc; "nano_schema::known_variant::<Self, {row}>(self);")?;
-    sheet.line(format!(in alloc; "\n    fn known(&self) {{\n        {call}\n    }}\n}}")?.as_str())
+    let mut holes = target.holes(sheet.alloc)?;
+    holes.put("EITHER", either)?;
+    holes.put("ARMS", arms.as_str())?;
+    sheet.write(REFERENCES, &holes)
 }

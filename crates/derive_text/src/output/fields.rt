@@ -1,14 +1,14 @@
 //! Fields with names, of a struct or of a variant.
 
-use crate::check::encoded_name;
 use crate::output::defaults::append_default;
 use crate::output::labels::append_label;
-use crate::output::names::{Names, in_type_name};
-use crate::output::rows::{Leaf, ghost_pairs};
+use crate::output::names::in_type_name;
+use crate::output::rows::Leaf;
 use crate::output::sheet::Sheet;
 use crate::output::target::Target;
+use crate::output::template::Holes;
 use crate::output::types::{optional_part, type_text};
-use crate::syntax::Field;
+use derive_syntax::{Field, encoded_name};
 use std::alloc::{AllocError, Global};
 
 /// The fields that are read and written.
@@ -27,61 +27,46 @@ pub(crate) fn row_fields<'a>(
 
 /// Appends a label for each field, and returns the fields as they stand in a schema.
 pub(crate) fn append_labels<'a>(
-    alloc: Global,
     sheet: &mut Sheet,
-    names: &mut Names,
     target: &Target<'a>,
     owner: &str,
     fields: &[Field<'a>],
 ) -> Result<Vec<Leaf>, AllocError> {
-    let mut leaves = Vec::new(alloc);
+    let mut leaves = Vec::new(sheet.alloc);
     for field in fields {
-        let wanted = format!(in alloc;
-            "{owner}{}",
-            in_type_name(alloc, field.name.text)?.as_str()
-        )?;
-        let label = names.take(alloc, wanted.as_str())?;
+        let label = label_of(sheet, owner, field.name.text)?;
         let name = encoded_name(field.name, field.attributes).quoted();
-        append_label(alloc, sheet, label.as_str(), name)?;
-        let leaf = match field.attributes.default {
-            Some(_) => {
-                let default = append_default(alloc, sheet, names, target, label.as_str(), *field)?;
-                defaulted_field(alloc, *field, label, default)?
-            }
-            None => schema_field(alloc, *field, label)?,
-        };
-        leaves.push(leaf)?;
+        append_label(sheet, label.as_str(), name)?;
+        leaves.push(schema_field(sheet, target, *field, label.as_str())?)?;
     }
     Ok(leaves)
 }
 
-/// A field with a default, as it stands in a schema.
-fn defaulted_field<'a>(
-    alloc: Global,
-    field: Field<'a>,
-    label: String,
-    default: String,
-) -> Result<Leaf, AllocError> {
-    let mut texts = Vec::new(alloc);
-    texts.push(label)?;
-    texts.push(type_text(alloc, field.of)?)?;
-    texts.push(default)?;
-    Ok(Leaf {
-        open: "nano_schema::Defaulted<",
-        texts,
-        close: ">",
-    })
+/// A free name for the label of something.
+pub(crate) fn label_of(sheet: &mut Sheet, owner: &str, name: &str) -> Result<String, AllocError> {
+    let mut wanted = String::from_str(sheet.alloc, owner)?;
+    wanted.push_str(in_type_name(sheet.alloc, name)?.as_str())?;
+    sheet.names.take(sheet.alloc, wanted.as_str())
 }
 
-/// A field as it stands in a schema.
-fn schema_field<'a>(alloc: Global, field: Field<'a>, label: String) -> Result<Leaf, AllocError> {
-    let (open, part) = match optional_part(field.of) {
-        Some(part) => ("nano_schema::Optional<", part),
-        None => ("nano_schema::Required<", field.of),
+/// A field as it stands in a schema, after its default, if it has one.
+fn schema_field<'a>(
+    sheet: &mut Sheet,
+    target: &Target<'a>,
+    field: Field<'a>,
+    label: &str,
+) -> Result<Leaf, AllocError> {
+    let mut texts = Vec::new(sheet.alloc);
+    let (open, part) = match (field.attributes.default, optional_part(field.of)) {
+        (Some(_), _) => ("nano_schema::Defaulted<", field.of),
+        (None, Some(part)) => ("nano_schema::Optional<", part),
+        (None, None) => ("nano_schema::Required<", field.of),
     };
-    let mut texts = Vec::new(alloc);
-    texts.push(label)?;
-    texts.push(type_text(alloc, part)?)?;
+    texts.push(String::from_str(sheet.alloc, label)?)?;
+    texts.push(type_text(sheet.alloc, part)?)?;
+    if field.attributes.default.is_some() {
+        texts.push(append_default(sheet, target, label, field)?)?;
+    }
     Ok(Leaf {
         open,
         texts,
@@ -89,39 +74,23 @@ fn schema_field<'a>(alloc: Global, field: Field<'a>, label: String) -> Result<Le
     })
 }
 
-/// The types of the fields, each after some text.
-pub(crate) fn field_types<'a>(
+/// A text for each field, from a template with its name and its type.
+pub(crate) fn field_texts<'a>(
     alloc: Global,
     fields: &[Field<'a>],
-    before: &str,
-) -> Result<Vec<Leaf>, AllocError> {
-    let mut leaves = Vec::new(alloc);
-    for field in fields {
-        let text = format!(in alloc; "{before}{}", type_text(alloc, field.of)?.as_str())?;
-        leaves.push(Leaf::of(alloc, text)?)?;
-    }
-    Ok(leaves)
-}
-
-/// The names of the fields, each after some text.
-pub(crate) fn field_names<'a>(
-    alloc: Global,
-    fields: &[Field<'a>],
-    before: &str,
-) -> Result<Vec<Leaf>, AllocError> {
-    let mut leaves = Vec::new(alloc);
-    for field in fields {
-        let text = format!(in alloc; "{before}{}", field.name.text)?;
-        leaves.push(Leaf::of(alloc, text)?)?;
-    }
-    Ok(leaves)
-}
-
-/// The fields of a struct in a ghost term, as nested pairs.
-pub(crate) fn ghost_view<'a>(alloc: Global, fields: &[Field<'a>]) -> Result<String, AllocError> {
+    template: &str,
+) -> Result<Vec<String>, AllocError> {
     let mut texts = Vec::new(alloc);
     for field in fields {
-        texts.push(format!(in alloc; "x.{}", field.name.text)?)?;
+        texts.push(field_text(alloc, *field, template)?)?;
     }
-    ghost_pairs(alloc, &texts, "", ", ")
+    Ok(texts)
+}
+
+/// A text for a field, from a template with its name and its type.
+fn field_text<'a>(alloc: Global, field: Field<'a>, template: &str) -> Result<String, AllocError> {
+    let mut holes = Holes::new(alloc);
+    holes.put("NAME", field.name.text)?;
+    holes.put("TYPE", type_text(alloc, field.of)?.as_str())?;
+    holes.fill(template)
 }

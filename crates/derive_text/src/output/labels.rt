@@ -1,21 +1,27 @@
 //! The names of fields and variants, each as a type.
 
 use crate::output::sheet::Sheet;
-use std::alloc::{AllocError, Global};
+use crate::output::template::Holes;
+use std::alloc::AllocError;
+
+const LABEL: &str = "
+/// The name `$TEXT`.
+#[derive(Drop)]
+struct $LABEL {}
+
+impl nano_schema::Label for $LABEL {
+    ghost label = { codes \"$TEXT\" };
+
+    fn text() -> &'static str {
+        \"$TEXT\"
+    }
+}";
 
 /// Appends the type that stands for a name.
-pub(crate) fn append_label(
-    alloc: Global,
-    sheet: &mut Sheet,
-    label: &str,
-    name: &str,
-) -> Result<(), AllocError> {
+pub(crate) fn append_label(sheet: &mut Sheet, label: &str, name: &str) -> Result<(), AllocError> {
     sheet.import("ghost use Rattle.std.specs.Prelude.{codes};")?;
-    sheet.line(format!(in alloc;
-        "\n/// The name `{name}`.\n#[derive(Drop)]\nstruct {label} {{}}\n\n\
-            impl nano_schema::Label for {label} {{\n    \
-            ghost label = {{ codes \"{name}\" }};\n\n    \
-            fn text() -> &'static str {{\n        \"{name}\"\n    }}\n}}"
-    )?
-    .as_str())
+    let mut holes = Holes::new(sheet.alloc);
+    holes.put("TEXT", name)?;
+    holes.put("LABEL", label)?;
+    sheet.write(LABEL, &holes)
 }

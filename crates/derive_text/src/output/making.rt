@@ -1,56 +1,54 @@
-//! The function that makes an enum of the content of its variant.
+//! The body that makes an enum of the content of its variant.
 
 use crate::output::layout::Items;
-use crate::output::sheet::Sheet;
+use crate::output::template::Holes;
 use crate::output::variants::{content_of, named_variant};
-use crate::syntax::Variant;
+use derive_syntax::Variant;
 use std::alloc::{AllocError, Global};
 
-/// Appends the function: for each variant but the last one test, and one line for the last.
-pub(crate) fn append_make<'a>(
-    alloc: Global,
-    sheet: &mut Sheet,
-    variants: &[Variant<'a>],
-) -> Result<(), AllocError> {
-    sheet.line("    fn make(values: Self::Values) -> Self {")?;
-    let mut name = "values";
+const TEST: &str = "        let later = match $OF {
+            nano_schema::Either::First(values) => {
+                let $PATTERN = values;
+                return $MADE;
+            }
+            nano_schema::Either::Later(later) => later,
+        };
+";
+
+const LAST: &str = "        let $PATTERN = $OF;
+        $MADE
+";
+
+/// The body: for each variant but the last one test, and what makes the last.
+pub(crate) fn making<'a>(alloc: Global, variants: &[Variant<'a>]) -> Result<String, AllocError> {
+    let mut text = String::new(alloc);
+    let mut of = "values";
     for (i, variant) in variants.iter().enumerate() {
-        if i.saturating_add(1) < variants.len() {
-            append_test(alloc, sheet, variant, name)?;
+        let step = if i.saturating_add(1) < variants.len() {
+            step(alloc, variant, of, TEST, [(16, 19), (16, 20)])?
         } else {
-            append_last(alloc, sheet, variant, name)?;
-        }
-        name = "later";
+            step(alloc, variant, of, LAST, [(8, 4), (8, 12)])?
+        };
+        text.push_str(step.as_str())?;
+        of = "later";
     }
-    sheet.line("    }\n}\n")
+    Ok(text)
 }
 
-/// Appends what returns this variant, or binds what it is among the later ones.
-fn append_test<'a>(
+/// What makes this variant of what something is, by a template that has the variant and the pattern
+/// of its content at these places.
+fn step<'a>(
     alloc: Global,
-    sheet: &mut Sheet,
     variant: &Variant<'a>,
-    name: &str,
-) -> Result<(), AllocError> {
-    let made = named_variant(alloc, variant, Items::Values, 16, 19)?;
-    let pattern = content_of(alloc, variant, Items::Patterns, 16, 20)?;
-    sheet.line(format!(in alloc;
-        "        let later = match {name} {{\n            \
-            nano_schema::Either::First(values) => {{\n                \
-            let {pattern} = values;\n                return {made};\n            }}\n            \
-            nano_schema::Either::Later(later) => later,\n        }};"
-    )?
-    .as_str())
-}
-
-/// Appends what makes the last variant.
-fn append_last<'a>(
-    alloc: Global,
-    sheet: &mut Sheet,
-    variant: &Variant<'a>,
-    name: &str,
-) -> Result<(), AllocError> {
-    let made = named_variant(alloc, variant, Items::Values, 8, 4)?;
-    let pattern = content_of(alloc, variant, Items::Patterns, 8, 12)?;
-    sheet.line(format!(in alloc; "        let {pattern} = {name};\n        {made}")?.as_str())
+    of: &str,
+    template: &str,
+    [made, pattern]: [(usize, usize); 2],
+) -> Result<String, AllocError> {
+    let made = named_variant(alloc, variant, Items::Values, made)?;
+    let pattern = content_of(alloc, variant, Items::Patterns, pattern)?;
+    let mut holes = Holes::new(alloc);
+    holes.put("OF", of)?;
+    holes.put("MADE", made.as_str())?;
+    holes.put("PATTERN", pattern.as_str())?;
+    holes.fill(template)
 }

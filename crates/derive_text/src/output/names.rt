@@ -1,6 +1,6 @@
 //! Names of the items that are written, each of which no item above the marker has.
 
-use crate::syntax::Source;
+use derive_syntax::Source;
 use std::alloc::{AllocError, Global};
 
 /// The names that are taken.

@@ -1,45 +1,28 @@
 //! Structs with named fields: their schema, and then each format.
 
-use crate::fault::Fault;
 use crate::output::codecs::append_codecs;
 use crate::output::defaults::made_field;
-use crate::output::fields::{append_labels, field_names, field_types, ghost_view, row_fields};
-use crate::output::kind::Kind;
+use crate::output::fields::{append_labels, field_texts, row_fields};
+use crate::output::forms::RECORD;
 use crate::output::layout::{Brackets, Items, Piece, list};
-use crate::output::names::Names;
-use crate::output::rows::{Leaf, pairs};
+use crate::output::rows::{append_row, ghost_pairs, paired};
 use crate::output::seen::{Seen, append_seen};
 use crate::output::sheet::Sheet;
 use crate::output::target::Target;
-use crate::syntax::Field;
+use derive_syntax::Field;
 use std::alloc::{AllocError, Global};
 
 /// Appends the impls of a struct with named fields.
 pub(crate) fn append_record<'a>(
-    alloc: Global,
     sheet: &mut Sheet,
-    names: &mut Names,
     target: &Target<'a>,
     fields: &[Field<'a>],
-) -> Result<(), Fault> {
-    let in_row = row_fields(alloc, fields)?;
-    let leaves = append_labels(alloc, sheet, names, target, target.name.text, &in_row)?;
-    append_row(alloc, sheet, target.row.as_str(), &leaves)?;
-    sheet.line("")?;
-    append_seen(alloc, sheet, target, &seen(alloc, target, fields, &in_row)?)?;
-    append_codecs(alloc, sheet, target, Kind::Record)
-}
-
-/// Appends the name of a type that is a row.
-fn append_row(
-    alloc: Global,
-    sheet: &mut Sheet,
-    name: &str,
-    leaves: &[Leaf],
 ) -> Result<(), AllocError> {
-    let start = format!(in alloc; "type {name} = ")?;
-    let row = pairs(alloc, leaves, Items::Types, 0, start.len())?;
-    sheet.line(format!(in alloc; "\n{start}{};", row.laid.as_str())?.as_str())
+    let in_row = row_fields(sheet.alloc, fields)?;
+    let leaves = append_labels(sheet, target, target.name.text, &in_row)?;
+    append_row(sheet, target.row.as_str(), &leaves)?;
+    append_seen(sheet, target, &seen(sheet.alloc, target, fields, &in_row)?)?;
+    append_codecs(sheet, target, &RECORD, &RECORD)
 }
 
 /// The struct as the values of the fields that stand in its row.
@@ -49,18 +32,27 @@ fn seen<'a>(
     fields: &[Field<'a>],
     in_row: &[Field<'a>],
 ) -> Result<Seen, AllocError> {
-    let types = field_types(alloc, in_row, "")?;
-    let refs = field_types(alloc, in_row, "&'a ")?;
-    let names = field_names(alloc, in_row, "")?;
-    let borrowed = field_names(alloc, in_row, "&self.")?;
     Ok(Seen {
-        types: pairs(alloc, &types, Items::Types, 4, 18)?.laid,
-        refs: pairs(alloc, &refs, Items::Types, 4, 16)?.laid,
-        view: ghost_view(alloc, in_row)?,
-        pattern: pairs(alloc, &names, Items::Patterns, 8, 12)?.laid,
+        types: laid(alloc, in_row, "$TYPE", Items::Types, (4, 18))?,
+        refs: laid(alloc, in_row, "&'a $TYPE", Items::Types, (4, 16))?,
+        view: ghost_pairs(alloc, &field_texts(alloc, in_row, "x.$NAME")?, "", ", ")?,
+        pattern: laid(alloc, in_row, "$NAME", Items::Patterns, (8, 12))?,
         made: made(alloc, target, fields)?.laid,
-        borrowed: pairs(alloc, &borrowed, Items::Values, 8, 7)?.laid,
+        borrowed: laid(alloc, in_row, "&self.$NAME", Items::Values, (8, 7))?,
     })
+}
+
+/// A text for each field as nested pairs, on a line that is indented so far, after so many columns
+/// of it.
+fn laid<'a>(
+    alloc: Global,
+    fields: &[Field<'a>],
+    template: &str,
+    items: Items,
+    (indent, before): (usize, usize),
+) -> Result<String, AllocError> {
+    let texts = field_texts(alloc, fields, template)?;
+    Ok(paired(alloc, texts, items, indent, before)?.laid)
 }
 
 /// A struct of fields that are at hand by their names, but for those that are skipped.

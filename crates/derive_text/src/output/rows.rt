@@ -1,6 +1,7 @@
 //! Rows of fields, nested in pairs so that the way to none of them is long.
 
 use crate::output::layout::{Brackets, Items, Piece, list};
+use crate::output::sheet::Sheet;
 use std::alloc::{AllocError, Global};
 
 /// One item of a row: a text, or a list between brackets.
@@ -53,9 +54,31 @@ impl Leaf {
     }
 }
 
+/// Appends the name of a type that is nested pairs of these.
+pub(crate) fn append_row(sheet: &mut Sheet, name: &str, leaves: &[Leaf]) -> Result<(), AllocError> {
+    let before = name.len().saturating_add("type  = ".len());
+    let row = pairs(sheet.alloc, leaves, Items::Types, 0, before)?;
+    sheet.alias(name, row.laid.as_str())
+}
+
+/// Texts as nested pairs, on a line that is indented so far, after so many columns of it.
+pub(crate) fn paired(
+    alloc: Global,
+    texts: Vec<String>,
+    items: Items,
+    indent: usize,
+    before: usize,
+) -> Result<Piece, AllocError> {
+    let mut leaves = Vec::new(alloc);
+    for text in texts {
+        leaves.push(Leaf::of(alloc, text)?)?;
+    }
+    pairs(alloc, &leaves, items, indent, before)
+}
+
 /// The leaves as nested pairs: half of them, and the other half. They begin a line that is indented
 /// so far, after so many columns of it.
-pub(crate) fn pairs(
+fn pairs(
     alloc: Global,
     leaves: &[Leaf],
     items: Items,

@@ -2,7 +2,7 @@
 
 use crate::output::sheet::Sheet;
 use crate::output::target::Target;
-use std::alloc::{AllocError, Global};
+use std::alloc::AllocError;
 
 /// A struct as the values of its fields.
 #[derive(Drop)]
@@ -21,85 +21,56 @@ pub(crate) struct Seen {
     pub(crate) borrowed: String,
 }
 
+const RECORD: &str = "
+impl$BOUNDS nano_schema::Record for $FULL {
+    type Values = $FIELDS;
+
+    ghost view = { λ x. $VIEW };
+
+    fn make(values: Self::Values) -> Self {
+        let $PATTERN = values;
+        $MADE
+    }
+}
+
+impl$LIFETIME nano_schema::Parts<'a> for $FULL {
+    type Refs = $PARTS;
+
+    ghost values = { ⟦<$ROW as nano_schema::Borrowed<'a>>⟧.values };
+
+    fn as_refs(&'a self) -> Self::Refs {
+        $BORROWED
+    }
+}
+
+impl$BOUNDS nano_schema::Value for $FULL {
+    ghost means = { λ x. ⟦<$ROW as nano_schema::Shape>⟧.means \
+        (⟦<$FULL as nano_schema::Record>⟧.view x) };
+
+    ghost legal = { ⟦<$ROW as nano_schema::Shape>⟧.legal };
+
+    fn known(&self) {
+        nano_schema::known_record::<Self, $ROW>(self);
+    }
+}";
+
 /// Appends the impls that split a struct into the values of its fields, by value and by reference,
 /// and make it of them, and the one that says what it means.
 pub(crate) fn append_seen<'a>(
-    alloc: Global,
     sheet: &mut Sheet,
     target: &Target<'a>,
     seen: &Seen,
 ) -> Result<(), AllocError> {
-    append_schema(alloc, sheet, target, seen)?;
-    append_references(alloc, sheet, target, seen)?;
-    append_value(alloc, sheet, target)
-}
-
-/// Appends the impl that splits a struct into the values of its fields, and makes it of them.
-fn append_schema<'a>(
-    alloc: Global,
-    sheet: &mut Sheet,
-    target: &Target<'a>,
-    seen: &Seen,
-) -> Result<(), AllocError> {
-    let head = target.head(alloc, "nano_schema::Record", "nano_schema::Value")?;
-    let (types, pattern, made) = (
-        seen.types.as_str(),
-        seen.pattern.as_str(),
-        seen.made.as_str(),
-    );
-    sheet.line(format!(in alloc; "{head}\n    type Values = {types};\n")?.as_str())?;
-    sheet.member(
-        alloc,
-        "view",
-        format!(in alloc; "λ x. {}", seen.view.as_str())?.as_str(),
-    )?;
-    sheet.line(format!(in alloc;
-        "\n    fn make(values: Self::Values) -> Self {{\n        \
-        let {pattern} = values;\n        {made}\n    }}\n}}\n"
-    )?
-    .as_str())
-}
-
-/// Appends the impl that has references to the fields.
-fn append_references<'a>(
-    alloc: Global,
-    sheet: &mut Sheet,
-    target: &Target<'a>,
-    seen: &Seen,
-) -> Result<(), AllocError> {
-    let head = target.borrowed_head(alloc, "nano_schema::Parts", "nano_schema::Value")?;
-    let (refs, borrowed, row) = (
-        seen.refs.as_str(),
-        seen.borrowed.as_str(),
-        target.row.as_str(),
-    );
-    sheet.line(format!(in alloc; "{head}\n    type Refs = {refs};\n")?.as_str())?;
-    let term = format!(in alloc; "⟦<{row} as nano_schema::Borrowed<'a>>⟧.values")?;
-    sheet.member(alloc, "values", term.as_str())?;
-    sheet.line(format!(in alloc;
-        "\n    fn as_refs(&'a self) -> Self::Refs {{\n        {borrowed}\n    }}\n}}\n"
-    )?.as_str())
-}
-
-/// Appends the impl that says what a struct means.
-fn append_value<'a>(
-    alloc: Global,
-    sheet: &mut Sheet,
-    target: &Target<'a>,
-) -> Result<(), AllocError> {
-    let (row, full) = (target.row.as_str(), target.full.as_str());
-    let head = target.head(alloc, "nano_schema::Value", "nano_schema::Value")?;
-    sheet.line(head.as_str())?;
-    let means = format!(in alloc;
-        "λ x. ⟦<{row} as nano_schema::Shape>⟧.means (⟦<{full} as nano_schema::Record>⟧.view x)"
-    )?;
-    sheet.member(alloc, "means", means.as_str())?;
-    sheet.line("")?;
-    let legal = format!(in alloc; "⟦<{row} as nano_schema::Shape>⟧.legal")?;
-    sheet.member(alloc, "legal", legal.as_str())?;
-    sheet.line(format!(in alloc;
-        "\n    fn known(&self) {{\n        \
-        nano_schema::known_record::<Self, {row}>(self);\n    }}\n}}"
-    )?
-    .as_str())
+    let bounds = target.bounds(sheet.alloc, ": nano_schema::Value")?;
+    let lifetime = target.borrowed_bounds(sheet.alloc, ": nano_schema::Value + 'a")?;
+    let mut holes = target.holes(sheet.alloc)?;
+    holes.put("BOUNDS", bounds.as_str())?;
+    holes.put("LIFETIME", lifetime.as_str())?;
+    holes.put("FIELDS", seen.types.as_str())?;
+    holes.put("PARTS", seen.refs.as_str())?;
+    holes.put("VIEW", seen.view.as_str())?;
+    holes.put("PATTERN", seen.pattern.as_str())?;
+    holes.put("MADE", seen.made.as_str())?;
+    holes.put("BORROWED", seen.borrowed.as_str())?;
+    sheet.write(RECORD, &holes)
 }

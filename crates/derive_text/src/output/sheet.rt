@@ -1,11 +1,20 @@
 //! What is written, line by line.
 
-use crate::output::layout::{COLUMNS, Piece, start_line, width};
+use crate::output::layout::{COLUMNS, start_line, width};
+use crate::output::names::Names;
+use crate::output::template::Holes;
 use std::alloc::{AllocError, Global};
+
+/// How far a line is indented that goes on with a ghost member, but for the space before a word.
+const INDENT: usize = 7;
 
 /// What is written so far.
 #[derive(Drop)]
 pub(crate) struct Sheet {
+    /// What takes memory.
+    pub(crate) alloc: Global,
+    /// The names that are taken.
+    pub(crate) names: Names,
     /// The items.
     text: String,
     /// The lines that bring ghost names in, each once.
@@ -14,8 +23,10 @@ pub(crate) struct Sheet {
 
 impl Sheet {
     /// Nothing.
-    pub(crate) fn new(alloc: Global) -> Sheet {
+    pub(crate) fn new(alloc: Global, names: Names) -> Sheet {
         Sheet {
+            alloc,
+            names,
             text: String::new(alloc),
             imports: Vec::new(alloc),
         }
@@ -29,36 +40,54 @@ impl Sheet {
         Ok(())
     }
 
-    /// Appends a line with no indentation, or an empty one.
-    pub(crate) fn line(&mut self, text: &str) -> Result<(), AllocError> {
-        self.text.push_str(text)?;
+    /// Appends the name of a type.
+    pub(crate) fn alias(&mut self, name: &str, of: &str) -> Result<(), AllocError> {
+        let mut holes = Holes::new(self.alloc);
+        holes.put("NAME", name)?;
+        holes.put("OF", of)?;
+        self.write("\ntype $NAME = $OF;", &holes)
+    }
+
+    /// Appends the lines of a template.
+    pub(crate) fn write(&mut self, template: &str, holes: &Holes) -> Result<(), AllocError> {
+        let text = holes.fill(template)?;
+        for line in text.split('\n') {
+            self.line(line)?;
+        }
+        Ok(())
+    }
+
+    /// Appends a line. One that is too long becomes several if it is the head of an impl, or a
+    /// ghost member with no text in it.
+    fn line(&mut self, line: &str) -> Result<(), AllocError> {
+        if width(line) <= COLUMNS {
+            self.text.push_str(line)?;
+        } else if line.starts_with("impl") {
+            self.broken(line, " for ", "\n    for ")?;
+        } else if line.starts_with("    ghost ") && line.ends_with(" };") && !line.contains('"') {
+            self.member(line)?;
+        } else {
+            self.text.push_str(line)?;
+        }
         self.text.push('\n')
     }
 
-    /// Appends what was laid for a line that is indented so far, and what follows it there.
-    pub(crate) fn piece(
-        &mut self,
-        indent: usize,
-        piece: &Piece,
-        after: &str,
-    ) -> Result<(), AllocError> {
-        self.indent(indent)?;
-        self.text.push_str(piece.laid.as_str())?;
-        self.line(after)
+    /// Appends a line with something else in the place of the first of its parts that is this one.
+    fn broken(&mut self, line: &str, part: &str, put: &str) -> Result<(), AllocError> {
+        let (before, after) = line.split_once(part).unwrap_or((line, ""));
+        self.text.push_str(before)?;
+        self.text.push_str(put)?;
+        self.text.push_str(after)
     }
 
     /// Appends a ghost member, in lines of as many columns as there are. A line ends at a space,
     /// but at none between `⟦` and `⟧`.
-    pub(crate) fn member(
-        &mut self,
-        alloc: Global,
-        name: &str,
-        term: &str,
-    ) -> Result<(), AllocError> {
-        let start = format!(in alloc; "    ghost {name} = {{")?;
-        self.text.push_str(start.as_str())?;
-        let mut used = width(start.as_str());
-        let mut part = String::new(alloc);
+    fn member(&mut self, line: &str) -> Result<(), AllocError> {
+        let (start, term) = line.split_once(" = { ").unwrap_or((line, ""));
+        self.text.push_str(start)?;
+        self.text.push_str(" = {")?;
+        let mut used = width(start).saturating_add(4);
+        let mut part = String::new(self.alloc);
         for word in term.split(' ') {
             part.push(' ')?;
             part.push_str(word)?;
@@ -67,32 +96,25 @@ impl Sheet {
                 part.clear();
             }
         }
-        self.line(" };")
+        Ok(())
     }
 
     /// Appends a part of a ghost term, after a space or on a new line, to a line of so many
     /// columns. Answers how many it has then.
     fn word(&mut self, part: &str, used: usize) -> Result<usize, AllocError> {
         let whole = used.saturating_add(width(part));
-        if whole.saturating_add(3) <= COLUMNS {
+        if part == " };" || whole.saturating_add(3) <= COLUMNS {
             self.text.push_str(part)?;
             return Ok(whole);
         }
-        start_line(&mut self.text, 7)?;
+        start_line(&mut self.text, INDENT)?;
         self.text.push_str(part)?;
-        Ok(width(part).saturating_add(7))
-    }
-
-    fn indent(&mut self, indent: usize) -> Result<(), AllocError> {
-        for _column in 0..indent {
-            self.text.push(' ')?;
-        }
-        Ok(())
+        Ok(width(part).saturating_add(INDENT))
     }
 
     /// The lines that bring names in, and then the items.
-    pub(crate) fn finish(self, alloc: Global) -> Result<String, AllocError> {
-        let mut output = String::from_str(alloc, "\n")?;
+    pub(crate) fn finish(self) -> Result<String, AllocError> {
+        let mut output = String::from_str(self.alloc, "\n")?;
         for line in &self.imports {
             output.push_str(*line)?;
             output.push('\n')?;

@@ -1,11 +1,10 @@
 //! The type whose impls are written.
 
-use crate::fault::Fault;
 use crate::output::agreement::{Agreement, agreement_of};
-use crate::output::layout::{COLUMNS, width};
-use crate::output::names::Names;
-use crate::syntax::{Attributes, Definition, Shape};
-use crate::token::Token;
+use crate::output::sheet::Sheet;
+use crate::output::template::Holes;
+use derive_source::Fault;
+use derive_syntax::{Attributes, Definition, Shape, Token};
 use std::alloc::{AllocError, Global};
 
 /// The type whose impls are written.
@@ -35,98 +34,81 @@ pub(crate) struct Target<'a> {
 impl<'a> Target<'a> {
     /// The type of a definition.
     pub(crate) fn new(
-        alloc: Global,
-        names: &mut Names,
+        sheet: &mut Sheet,
         module: &'a str,
         definition: &Definition<'a>,
     ) -> Result<Target<'a>, Fault> {
-        let mut parameters = Vec::new(alloc);
-        for parameter in &definition.parameters {
-            parameters.push(*parameter)?;
-        }
-        let arguments = arguments(alloc, &parameters)?;
         let name = definition.name.text;
+        let arguments = bounds(sheet.alloc, "", &definition.parameters, "")?;
+        let full = format!(in sheet.alloc; "{name}{arguments}")?;
         let end = match definition.shape {
             Shape::Variants(_) => "Variants",
             _ => "Fields",
         };
-        let row = names.take(alloc, format!(in alloc; "{name}{end}")?.as_str())?;
-        let values = names.take(alloc, format!(in alloc; "{name}Values")?.as_str())?;
-        let refs = names.take(alloc, format!(in alloc; "{name}Refs")?.as_str())?;
-        let full = format!(in alloc; "{name}{arguments}")?;
         Ok(Target {
-            agreement: agreement_of(alloc, definition, full.as_str())?,
+            row: type_name(sheet, name, end, arguments.as_str())?,
+            values: type_name(sheet, name, "Values", arguments.as_str())?,
+            refs: type_name(sheet, name, "Refs", "")?,
+            agreement: agreement_of(sheet.alloc, definition, full.as_str())?,
+            parameters: definition.parameters.clone()?,
             full,
-            row: format!(in alloc; "{row}{arguments}")?,
-            values: format!(in alloc; "{values}{arguments}")?,
-            refs,
             module,
             name: definition.name,
-            parameters,
             attributes: definition.attributes,
         })
     }
 
-    /// The head of an impl of a trait with a lifetime `'a`, for which each parameter has a bound.
-    pub(crate) fn borrowed_head(
-        &self,
-        alloc: Global,
-        name: &str,
-        bound: &str,
-    ) -> Result<String, AllocError> {
-        let mut bounds = String::from_str(alloc, "'a")?;
-        for parameter in &self.parameters {
-            bounds.push_str(", ")?;
-            bounds.push_str(parameter.text)?;
-            bounds.push_str(format!(in alloc; ": {bound} + 'a")?.as_str())?;
-        }
-        let start = format!(in alloc; "impl<{bounds}> {name}<'a>")?;
-        self.for_target(alloc, start.as_str())
+    /// The holes that its names stand in.
+    pub(crate) fn holes(&self, alloc: Global) -> Result<Holes, AllocError> {
+        let mut holes = Holes::new(alloc);
+        holes.put("FULL", self.full.as_str())?;
+        holes.put("TYPE", self.name.text)?;
+        holes.put("ROW", self.row.as_str())?;
+        holes.put("VALUES", self.values.as_str())?;
+        holes.put("REFS", self.refs.as_str())?;
+        Ok(holes)
     }
 
-    /// The head of an impl of a trait, for which each parameter has a bound.
-    pub(crate) fn head(
-        &self,
-        alloc: Global,
-        name: &str,
-        bound: &str,
-    ) -> Result<String, AllocError> {
-        let bounds = bounds(alloc, &self.parameters, bound)?;
-        let start = format!(in alloc; "impl{bounds} {name}")?;
-        self.for_target(alloc, start.as_str())
+    /// Its parameters with a bound each, in angle brackets, if there are any.
+    pub(crate) fn bounds(&self, alloc: Global, bound: &str) -> Result<String, AllocError> {
+        bounds(alloc, "", &self.parameters, bound)
     }
 
-    /// The head of an impl from `for` on, on a line of its own if the first has no columns for it.
-    fn for_target(&self, alloc: Global, start: &str) -> Result<String, AllocError> {
-        let full = self.full.as_str();
-        let line = format!(in alloc; "{start} for {full} {{")?;
-        if width(line.as_str()) <= COLUMNS {
-            return Ok(line);
-        }
-        format!(in alloc; "{start}\n    for {full} {{")
+    /// A lifetime `'a` and its parameters with a bound each, in angle brackets.
+    pub(crate) fn borrowed_bounds(&self, alloc: Global, bound: &str) -> Result<String, AllocError> {
+        bounds(alloc, "<'a", &self.parameters, bound)
     }
 }
 
-/// Parameters in angle brackets, if there are any.
-fn arguments<'a>(alloc: Global, parameters: &[Token<'a>]) -> Result<String, AllocError> {
-    bounds(alloc, parameters, "")
+/// A free name that begins and ends so, with arguments.
+fn type_name(
+    sheet: &mut Sheet,
+    name: &str,
+    end: &str,
+    arguments: &str,
+) -> Result<String, AllocError> {
+    let wanted = format!(in sheet.alloc; "{name}{end}")?;
+    let mut text = sheet.names.take(sheet.alloc, wanted.as_str())?;
+    text.push_str(arguments)?;
+    Ok(text)
 }
 
-/// Parameters with a bound each, if it is not empty, in angle brackets, if there are any.
-fn bounds<'a>(alloc: Global, parameters: &[Token<'a>], bound: &str) -> Result<String, AllocError> {
-    let mut text = String::new(alloc);
+/// Parameters with a bound each, in angle brackets with what stands before them, if there is
+/// anything.
+fn bounds<'a>(
+    alloc: Global,
+    before: &str,
+    parameters: &[Token<'a>],
+    bound: &str,
+) -> Result<String, AllocError> {
+    let mut text = String::from_str(alloc, before)?;
     for parameter in parameters {
-        if !text.is_empty() {
-            text.push_str(", ")?;
-        }
+        text.push_str(if text.is_empty() { "<" } else { ", " })?;
         text.push_str(parameter.text)?;
-        if !bound.is_empty() {
-            text.push_str(": ")?;
-            text.push_str(bound)?;
-        }
+        text.push_str(bound)?;
     }
-    if text.is_empty() {
-        return Ok(text);
+    if !text.is_empty() {
+        text.push('>')?;
     }
-    format!(in alloc; "<{text}>")
+    Ok(text)
 }

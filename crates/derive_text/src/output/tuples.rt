@@ -1,73 +1,101 @@
 //! Structs of two to four parts without names, each of which is what the tuple of its parts is.
 
-use crate::fault::Fault;
 use crate::output::codecs::append_codecs;
-use crate::output::kind::Kind;
+use crate::output::forms::{RECORD, tupled};
 use crate::output::layout::Items;
 use crate::output::seen::{Seen, append_seen};
 use crate::output::sheet::Sheet;
 use crate::output::target::Target;
+use crate::output::template::Holes;
 use crate::output::types::type_text;
 use crate::output::variants::{PARTS, bracketed};
-use crate::syntax::Type;
+use derive_syntax::Type;
 use std::alloc::{AllocError, Global};
 
 /// Appends the impls of a struct of parts without names.
 pub(crate) fn append_tuple<'a>(
-    alloc: Global,
     sheet: &mut Sheet,
     target: &Target<'a>,
     parts: &[Type<'a>],
-) -> Result<(), Fault> {
-    let (values, row) = (target.values.as_str(), target.row.as_str());
-    let types = part_types(alloc, parts, "")?;
-    let start = format!(in alloc; "type {values} = ")?;
-    let tuple = bracketed(alloc, "(", ")", &types, Items::Types, 0, start.len())?;
-    sheet.line(format!(in alloc; "\n{start}{};", tuple.laid.as_str())?.as_str())?;
-    sheet.line(format!(in alloc; "\ntype {row} = nano_schema::Tupled<{values}>;\n")?.as_str())?;
-    append_seen(alloc, sheet, target, &seen(alloc, target, parts)?)?;
-    append_codecs(alloc, sheet, target, Kind::Tuple(parts.len()))
+) -> Result<(), AllocError> {
+    let values = target.values.as_str();
+    let types = part_types(sheet.alloc, parts, "$TYPE")?;
+    let before = values.len().saturating_add("type  = ".len());
+    let tuple = bracketed(sheet.alloc, ("(", ")"), &types, Items::Types, (0, before))?;
+    sheet.alias(values, tuple.laid.as_str())?;
+    let row = format!(in sheet.alloc; "nano_schema::Tupled<{values}>")?;
+    sheet.alias(target.row.as_str(), row.as_str())?;
+    append_seen(sheet, target, &seen(sheet.alloc, target, parts)?)?;
+    let write = parts_writer(sheet.alloc, parts.len())?;
+    append_codecs(sheet, target, &RECORD, &tupled(write.as_str()))
 }
+
+/// What writes the tuple of so many parts in a text.
+fn parts_writer(alloc: Global, count: usize) -> Result<String, AllocError> {
+    let mut text = String::from_str(alloc, "        let parts = (\n")?;
+    for place in PLACES.iter().take(count) {
+        text.push_str("            nano_schema_$MODULE::Part { of: &self.")?;
+        text.push_str(*place)?;
+        text.push_str(" },\n")?;
+    }
+    text.push_str(
+        "        );\n        nano_schema_$MODULE::Ser$NAME::ser_$MODULE(&parts, $ARGUMENTS)",
+    )?;
+    Ok(text)
+}
+
+/// What a program calls the parts of a struct.
+pub(crate) const PLACES: [&str; 4] = ["0", "1", "2", "3"];
 
 /// The struct as the tuple of its parts.
 fn seen<'a>(alloc: Global, target: &Target<'a>, parts: &[Type<'a>]) -> Result<Seen, AllocError> {
     let count = parts.len();
-    let mut names = Vec::new(alloc);
-    for name in PARTS.iter().take(count) {
-        names.push(String::from_str(alloc, *name)?)?;
-    }
-    let refs = part_types(alloc, parts, "&'a ")?;
-    let borrowed = places(alloc, "&self.", count)?;
-    let view = places(alloc, "x.", count)?;
+    let names = named(alloc, "", &PARTS, count)?;
+    let refs = part_types(alloc, parts, "&'a $TYPE")?;
+    let borrowed = named(alloc, "&self.", &PLACES, count)?;
+    let view = named(alloc, "x.", &PLACES, count)?;
     let open = format!(in alloc; "{}(", target.name.text)?;
+    let made = (open.as_str(), ")");
     Ok(Seen {
         types: target.values.clone()?,
-        refs: bracketed(alloc, "(", ")", &refs, Items::Types, 4, 16)?.laid,
-        view: bracketed(alloc, "(", ")", &view, Items::Values, 0, 0)?.flat,
-        pattern: bracketed(alloc, "(", ")", &names, Items::Patterns, 8, 12)?.laid,
-        made: bracketed(alloc, open.as_str(), ")", &names, Items::Values, 8, 8)?.laid,
-        borrowed: bracketed(alloc, "(", ")", &borrowed, Items::Values, 8, 7)?.laid,
+        refs: bracketed(alloc, ("(", ")"), &refs, Items::Types, (4, 16))?.laid,
+        view: bracketed(alloc, ("(", ")"), &view, Items::Values, (0, 0))?.flat,
+        pattern: bracketed(alloc, ("(", ")"), &names, Items::Patterns, (8, 12))?.laid,
+        made: bracketed(alloc, made, &names, Items::Values, (8, 8))?.laid,
+        borrowed: bracketed(alloc, ("(", ")"), &borrowed, Items::Values, (8, 7))?.laid,
     })
 }
 
-/// The types of the parts, each after some text.
-fn part_types<'a>(
+/// A text for each part, from a template with its type.
+pub(crate) fn part_types<'a>(
     alloc: Global,
     parts: &[Type<'a>],
-    before: &str,
+    template: &str,
 ) -> Result<Vec<String>, AllocError> {
     let mut texts = Vec::new(alloc);
     for part in parts {
-        texts.push(format!(in alloc; "{before}{}", type_text(alloc, *part)?.as_str())?)?;
+        texts.push(part_type(alloc, *part, template)?)?;
     }
     Ok(texts)
 }
 
-/// The places of so many parts, each after some text.
-fn places(alloc: Global, before: &str, count: usize) -> Result<Vec<String>, AllocError> {
+/// A text for a part, from a template with its type.
+fn part_type<'a>(alloc: Global, part: Type<'a>, template: &str) -> Result<String, AllocError> {
+    let mut holes = Holes::new(alloc);
+    holes.put("TYPE", type_text(alloc, part)?.as_str())?;
+    holes.fill(template)
+}
+
+/// The first of these names, so many, each after some text.
+pub(crate) fn named(
+    alloc: Global,
+    before: &str,
+    names: &[&str],
+    count: usize,
+) -> Result<Vec<String>, AllocError> {
     let mut texts = Vec::new(alloc);
-    for place in 0..count {
-        texts.push(format!(in alloc; "{before}{place}")?)?;
+    for name in names.iter().take(count) {
+        texts.push(format!(in alloc; "{before}{name}")?)?;
     }
     Ok(texts)
 }

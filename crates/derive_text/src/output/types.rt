@@ -1,7 +1,6 @@
 //! Types as they are written.
 
-use crate::syntax::Type;
-use crate::token::Token;
+use derive_syntax::{Token, Type};
 use std::alloc::{AllocError, Global};
 
 /// A type on one line.

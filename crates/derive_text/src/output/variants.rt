@@ -1,39 +1,38 @@
 //! Variants in code: what is matched, and what is done in each case.
 
 use crate::output::defaults::{bound_field, made_field};
-use crate::output::fields::{field_names, row_fields};
+use crate::output::fields::{field_texts, row_fields};
 use crate::output::layout::{Brackets, Items, Piece, list};
-use crate::output::rows::pairs;
-use crate::output::sheet::Sheet;
-use crate::syntax::{Content, Variant};
+use crate::output::rows::paired;
+use crate::output::template::Holes;
+use crate::output::tuples::named;
+use derive_syntax::{Content, Variant};
 use std::alloc::{AllocError, Global};
 
 /// What a pattern calls parts without names.
 pub(crate) const PARTS: [&str; 4] = ["first", "second", "third", "fourth"];
 
-/// Texts as a tuple, or the one text that there is.
+/// Texts as a tuple, or the one text that there is, on a line that is indented so far, after so many
+/// columns of it.
 pub(crate) fn tuple_of(
     alloc: Global,
     texts: &[String],
     items: Items,
-    indent: usize,
-    before: usize,
+    place: (usize, usize),
 ) -> Result<String, AllocError> {
     if let [text] = texts {
         return text.clone();
     }
-    Ok(bracketed(alloc, "(", ")", texts, items, indent, before)?.laid)
+    Ok(bracketed(alloc, ("(", ")"), texts, items, place)?.laid)
 }
 
 /// Texts between brackets, with a character after them.
 pub(crate) fn bracketed(
     alloc: Global,
-    open: &str,
-    close: &str,
+    (open, close): (&str, &str),
     texts: &[String],
     items: Items,
-    indent: usize,
-    before: usize,
+    (indent, before): (usize, usize),
 ) -> Result<Piece, AllocError> {
     let mut pieces = Vec::new(alloc);
     for text in texts {
@@ -53,25 +52,20 @@ pub(crate) fn bracketed(
 /// The names that a pattern gives to what a variant holds, or that a value has in their places.
 fn bound_names<'a>(
     alloc: Global,
-    variant: &Variant<'a>,
+    content: &Content<'a>,
     items: Items,
 ) -> Result<Vec<String>, AllocError> {
+    let fields = match content {
+        Content::Nothing => return Ok(Vec::new(alloc)),
+        Content::Parts(parts) => return named(alloc, "", &PARTS, parts.len()),
+        Content::Fields(fields) => fields,
+    };
     let mut names = Vec::new(alloc);
-    match &variant.content {
-        Content::Nothing => {}
-        Content::Parts(parts) => {
-            for name in PARTS.iter().take(parts.len()) {
-                names.push(String::from_str(alloc, *name)?)?;
-            }
-        }
-        Content::Fields(fields) => {
-            for field in fields {
-                names.push(match items {
-                    Items::Patterns => bound_field(alloc, *field)?,
-                    _ => made_field(alloc, *field)?,
-                })?;
-            }
-        }
+    for field in fields {
+        names.push(match items {
+            Items::Patterns => bound_field(alloc, *field)?,
+            _ => made_field(alloc, *field)?,
+        })?;
     }
     Ok(names)
 }
@@ -82,33 +76,16 @@ pub(crate) fn named_variant<'a>(
     alloc: Global,
     variant: &Variant<'a>,
     items: Items,
-    indent: usize,
-    before: usize,
+    place: (usize, usize),
 ) -> Result<String, AllocError> {
-    let names = bound_names(alloc, variant, items)?;
-    let path = format!(in alloc; "Self::{}", variant.name.text)?;
-    match &variant.content {
-        Content::Nothing => Ok(path),
-        Content::Parts(_) => {
-            let open = format!(in alloc; "{path}(")?;
-            Ok(bracketed(alloc, open.as_str(), ")", &names, items, indent, before)?.laid)
-        }
-        Content::Fields(_) => {
-            let open = format!(in alloc; "{path} {{")?;
-            Ok(
-                bracketed(
-                    alloc,
-                    open.as_str(),
-                    "}",
-                    &names,
-                    Items::Fields,
-                    indent,
-                    before,
-                )?
-                .laid,
-            )
-        }
-    }
+    let (end, close, items_there) = match &variant.content {
+        Content::Nothing => return format!(in alloc; "Self::{}", variant.name.text),
+        Content::Parts(_) => ("(", ")", items),
+        Content::Fields(_) => (" {", "}", Items::Fields),
+    };
+    let names = bound_names(alloc, &variant.content, items)?;
+    let open = format!(in alloc; "Self::{}{end}", variant.name.text)?;
+    Ok(bracketed(alloc, (open.as_str(), close), &names, items_there, place)?.laid)
 }
 
 /// The content of a variant by the names of a pattern: a tuple, nested pairs, or one of them.
@@ -116,54 +93,60 @@ pub(crate) fn content_of<'a>(
     alloc: Global,
     variant: &Variant<'a>,
     items: Items,
-    indent: usize,
-    before: usize,
+    (indent, before): (usize, usize),
 ) -> Result<String, AllocError> {
     match &variant.content {
         Content::Nothing => String::from_str(alloc, "()"),
-        Content::Parts(_) => {
-            let names = bound_names(alloc, variant, items)?;
-            tuple_of(alloc, &names, items, indent, before)
+        Content::Parts(parts) => {
+            let names = named(alloc, "", &PARTS, parts.len())?;
+            tuple_of(alloc, &names, items, (indent, before))
         }
         Content::Fields(fields) => {
-            let leaves = field_names(alloc, &row_fields(alloc, fields)?, "")?;
-            Ok(pairs(alloc, &leaves, items, indent, before)?.laid)
+            let names = field_texts(alloc, &row_fields(alloc, fields)?, "$NAME")?;
+            Ok(paired(alloc, names, items, indent, before)?.laid)
         }
     }
 }
 
-/// Appends a `match` on `self`, which gives references to the content of the variant.
-pub(crate) fn append_arms<'a>(
-    alloc: Global,
-    sheet: &mut Sheet,
-    variants: &[Variant<'a>],
-) -> Result<(), AllocError> {
-    if variants.len() > 1 {
-        sheet.line("        use nano_schema::Either;\n")?;
-    }
-    sheet.line("        match self {")?;
+const ARM: &str = "            $PATTERN => {
+                let refs = $REFS;
+$STEPS                $PLACE
+            }
+";
+
+/// The arms of a `match` that gives references to the content of the variant.
+pub(crate) fn arms<'a>(alloc: Global, variants: &[Variant<'a>]) -> Result<String, AllocError> {
+    let mut text = String::new(alloc);
     for (i, variant) in variants.iter().enumerate() {
-        let pattern = named_variant(alloc, variant, Items::Patterns, 12, 12)?;
-        let refs = content_of(alloc, variant, Items::Values, 16, 27)?;
-        sheet.line(format!(in alloc; "            {pattern} => {{")?.as_str())?;
-        sheet.line(format!(in alloc; "                let refs = {refs};")?.as_str())?;
-        append_place(alloc, sheet, i, variants.len())?;
-        sheet.line("            }")?;
+        text.push_str(arm(alloc, variant, i, variants.len())?.as_str())?;
     }
-    sheet.line("        }")
+    Ok(text)
+}
+
+/// The arm of a variant, at its place among so many.
+fn arm<'a>(
+    alloc: Global,
+    variant: &Variant<'a>,
+    i: usize,
+    count: usize,
+) -> Result<String, AllocError> {
+    let mut holes = Holes::new(alloc);
+    let pattern = named_variant(alloc, variant, Items::Patterns, (12, 12))?;
+    holes.put("PATTERN", pattern.as_str())?;
+    let refs = content_of(alloc, variant, Items::Values, (16, 27))?;
+    holes.put("REFS", refs.as_str())?;
+    let (lines, place) = steps(alloc, i, count)?;
+    holes.put("STEPS", lines.as_str())?;
+    holes.put("PLACE", place.as_str())?;
+    holes.fill(ARM)
 }
 
 /// How many steps stand on one line.
 const STEPS: usize = 4;
 
-/// Appends what puts references at the place of their variant among so many, as the value of the
-/// arm. A variable for each step would make the check longer.
-fn append_place(
-    alloc: Global,
-    sheet: &mut Sheet,
-    i: usize,
-    count: usize,
-) -> Result<(), AllocError> {
+/// What puts references at the place of their variant among so many: lines before the last step,
+/// and the value of the arm. A variable for each step would make the check longer.
+fn steps(alloc: Global, i: usize, count: usize) -> Result<(String, String), AllocError> {
     let is_last = i.saturating_add(1) == count;
     let innermost = if is_last {
         "refs"
@@ -171,14 +154,15 @@ fn append_place(
         "Either::First(refs)"
     };
     let mut steps = usize::from(!is_last);
+    let mut lines = String::new(alloc);
     let mut place = String::from_str(alloc, innermost)?;
     for _later in 0..i {
         if steps == STEPS {
-            sheet.line(format!(in alloc; "                let refs = {place};")?.as_str())?;
+            lines = format!(in alloc; "{lines}                let refs = {place};\n")?;
             (steps, place) = (0, String::from_str(alloc, "refs")?);
         }
         place = format!(in alloc; "Either::Later({place})")?;
         steps = steps.saturating_add(1);
     }
-    sheet.line(format!(in alloc; "                {place}")?.as_str())
+    Ok((lines, place))
 }

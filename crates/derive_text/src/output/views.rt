@@ -1,77 +1,64 @@
 //! How an enum is seen as the content of its variant, in a ghost term.
 
 use crate::output::rows::ghost_pairs;
-use crate::output::sheet::Sheet;
 use crate::output::target::Target;
-use crate::syntax::{Content, Variant};
+use derive_syntax::{Content, Variant};
 use std::alloc::{AllocError, Global};
 
-const EITHER: &str =
-    "ghost use Rattle.nano_schema.specs.declared.choices.Either.TheVariants.{First, Later};";
-
-/// Appends the types of the content, and the term that splits an enum into it.
-pub(crate) fn append_view<'a>(
+/// Lines that bring in the ghost names of the variants.
+pub(crate) fn variant_imports<'a>(
     alloc: Global,
-    sheet: &mut Sheet,
     target: &Target<'a>,
     variants: &[Variant<'a>],
-) -> Result<(), AllocError> {
-    if variants.len() > 1 {
-        sheet.import(EITHER)?;
-    }
-    append_imports(alloc, sheet, target, variants)?;
-    sheet.line(format!(in alloc; "\n    type Values = {};\n", target.values.as_str())?.as_str())?;
-    sheet.line("    ghost view = { λ x. elim x [")?;
-    for (i, variant) in variants.iter().enumerate() {
-        append_case(alloc, sheet, variant, i, variants.len())?;
-    }
-    sheet.line("    ] };\n")
-}
-
-/// Appends lines that bring in the ghost names of the variants.
-fn append_imports<'a>(
-    alloc: Global,
-    sheet: &mut Sheet,
-    target: &Target<'a>,
-    variants: &[Variant<'a>],
-) -> Result<(), AllocError> {
-    let (module, name) = (target.module, target.name.text);
-    let start = format!(in alloc; "    ghost use Rattle.{module}.{name}.TheVariants.{{")?;
+) -> Result<String, AllocError> {
+    let mut text = String::new(alloc);
     for variant in variants {
-        let name = variant.name.text;
-        sheet.line(format!(in alloc; "{start}{name}}};")?.as_str())?;
+        text.push_str(variant_import(alloc, target, variant.name.text)?.as_str())?;
     }
-    Ok(())
+    Ok(text)
 }
 
-/// Appends one case of the term.
-fn append_case<'a>(
+/// A line that brings in the ghost name of a variant.
+fn variant_import<'a>(
     alloc: Global,
-    sheet: &mut Sheet,
-    variant: &Variant<'a>,
-    i: usize,
-    count: usize,
-) -> Result<(), AllocError> {
-    let mut binders = Vec::new(alloc);
-    let mut pattern = String::from_str(alloc, variant.name.text)?;
-    for k in 0..held(variant) {
-        let binder = format!(in alloc; "v{k}")?;
-        pattern.push(' ')?;
-        pattern.push_str(binder.as_str())?;
-        binders.push(binder)?;
-    }
-    let content = ghost_content(alloc, variant, &binders)?;
-    let path = ghost_path(alloc, content.as_str(), i, count)?;
-    sheet.line(format!(in alloc; "      | {pattern} ↦ {path}")?.as_str())
+    target: &Target<'a>,
+    name: &str,
+) -> Result<String, AllocError> {
+    let (module, owner) = (target.module, target.name.text);
+    format!(in alloc; "    ghost use Rattle.{module}.{owner}.TheVariants.{{{name}}};\n")
 }
 
-/// How many parts or fields a variant holds.
-fn held<'a>(variant: &Variant<'a>) -> usize {
-    match &variant.content {
+/// The cases of the term, each a line.
+pub(crate) fn cases<'a>(alloc: Global, variants: &[Variant<'a>]) -> Result<String, AllocError> {
+    let mut text = String::new(alloc);
+    for (i, variant) in variants.iter().enumerate() {
+        let binders = binders(alloc, variant)?;
+        text.push_str("      | ")?;
+        text.push_str(variant.name.text)?;
+        for binder in &binders {
+            text.push(' ')?;
+            text.push_str(binder.as_str())?;
+        }
+        text.push_str(" ↦ ")?;
+        let content = ghost_content(alloc, variant, &binders)?;
+        text.push_str(ghost_path(alloc, content.as_str(), i, variants.len())?.as_str())?;
+        text.push('\n')?;
+    }
+    Ok(text)
+}
+
+/// A name for each part or field that a variant holds.
+fn binders<'a>(alloc: Global, variant: &Variant<'a>) -> Result<Vec<String>, AllocError> {
+    let count = match &variant.content {
         Content::Nothing => 0,
         Content::Parts(parts) => parts.len(),
         Content::Fields(fields) => fields.len(),
+    };
+    let mut binders = Vec::new(alloc);
+    for k in 0..count {
+        binders.push(format!(in alloc; "v{k}")?)?;
     }
+    Ok(binders)
 }
 
 /// What a variant holds, in a ghost term.
@@ -82,19 +69,7 @@ fn ghost_content<'a>(
 ) -> Result<String, AllocError> {
     match &variant.content {
         Content::Nothing => String::from_str(alloc, "tt"),
-        Content::Parts(_) => {
-            if let [binder] = binders {
-                return binder.clone();
-            }
-            let mut text = String::new(alloc);
-            for binder in binders {
-                let comma = if text.is_empty() { "(" } else { ", " };
-                text.push_str(comma)?;
-                text.push_str(binder.as_str())?;
-            }
-            text.push(')')?;
-            Ok(text)
-        }
+        Content::Parts(_) => ghost_tuple(alloc, binders),
         Content::Fields(fields) => {
             let mut in_row = Vec::new(alloc);
             for (field, binder) in fields.iter().zip(binders) {
@@ -105,6 +80,20 @@ fn ghost_content<'a>(
             ghost_pairs(alloc, &in_row, "", ", ")
         }
     }
+}
+
+/// Terms as a tuple, or the one that there is.
+fn ghost_tuple(alloc: Global, terms: &[String]) -> Result<String, AllocError> {
+    if let [term] = terms {
+        return term.clone();
+    }
+    let mut text = String::new(alloc);
+    for term in terms {
+        text.push_str(if text.is_empty() { "(" } else { ", " })?;
+        text.push_str(term.as_str())?;
+    }
+    text.push(')')?;
+    Ok(text)
 }
 
 /// A variant's content at its place among so many variants.
@@ -118,13 +107,9 @@ fn ghost_path(alloc: Global, content: &str, i: usize, count: usize) -> Result<St
     } else {
         (i, "First")
     };
-    let mut text = String::new(alloc);
+    let mut path = format!(in alloc; "{end} {content}")?;
     for _later in 0..depth {
-        text.push_str("Later (")?;
+        path = format!(in alloc; "Later ({path})")?;
     }
-    text.push_str(format!(in alloc; "{end} {content}")?.as_str())?;
-    for _later in 0..depth {
-        text.push(')')?;
-    }
-    Ok(text)
+    Ok(path)
 }

@@ -1,0 +1,28 @@
+//! What is asked of structs and enums beyond their grammar.
+
+mod defaults;
+mod definitions;
+mod known;
+mod names;
+
+use crate::syntax::Source;
+pub use defaults::{Missing, missing_value};
+use definitions::check_definition;
+use derive_source::Fault;
+use names::check_distinct;
+pub use names::encoded_name;
+use std::alloc::Global;
+
+/// An error where what stands above the marker cannot be written: a name stands twice, a renamed
+/// name is none of a format, an attribute has no meaning where it stands, or a type is not known.
+pub fn check_source<'a>(alloc: Global, source: &Source<'a>) -> Result<(), Fault> {
+    let mut names = Vec::new(alloc);
+    for definition in &source.definitions {
+        names.push(definition.name)?;
+    }
+    check_distinct(&names)?;
+    for definition in &source.definitions {
+        check_definition(alloc, source, definition)?;
+    }
+    Ok(())
+}

@@ -1,0 +1,205 @@
+//! What a field has where it is missing, or where it is skipped.
+
+use crate::check::known::{is_among, is_defined, is_imported};
+use crate::check::names::within;
+use crate::syntax::{Definition, Field, Source, Type};
+use crate::token::{Token, TokenKind};
+use derive_source::Fault;
+
+/// What a field has where it is missing.
+#[derive(Clone, Copy)]
+pub enum Missing<'a> {
+    /// The default of its type.
+    OfType,
+    /// A number of an unsigned type.
+    Whole(&'a str),
+    /// A number of a signed type.
+    Signed(&'a str),
+    /// `true` or `false`.
+    Truth(&'a str),
+    /// A text.
+    Text(&'a str),
+    /// What the type of this path stands for.
+    Path(&'a str),
+}
+
+const MEMORY: &str = "is for a field whose type has a `Default` that takes no memory: no text, \
+    list, map, set or box is one";
+
+const CONSTANT: &str = "is no number and no truth value, and a skipped field has one of these or \
+    the default of its type";
+
+const NO_TYPE: &str = "is no value of the field's type, and no path of a type that stands for one";
+
+const NO_PARAMETER: &str = "is for a field of a type that is known, and no type parameter is";
+
+const NO_NUMBER: &str = "is no number of the field's type, in digits without leading zeros";
+
+/// What a field has where it is missing.
+pub fn missing_value<'a>(field: Field<'a>) -> Missing<'a> {
+    let Some(token) = field.attributes.default_path else {
+        return Missing::OfType;
+    };
+    let text = token.quoted();
+    let of = type_name(field.of);
+    if of == "String" {
+        Missing::Text(text)
+    } else if of == "bool" && (text == "true" || text == "false") {
+        Missing::Truth(text)
+    } else if is_path(text) {
+        Missing::Path(text)
+    } else if of.starts_with('i') {
+        Missing::Signed(text)
+    } else {
+        Missing::Whole(text)
+    }
+}
+
+/// An error where a field cannot have what its attributes give it.
+pub(crate) fn check_default<'a>(
+    source: &Source<'a>,
+    definition: &Definition<'a>,
+    field: Field<'a>,
+) -> Result<(), Fault> {
+    check_parameters(definition, field)?;
+    let missing = missing_value(field);
+    if let Some(word) = field.attributes.skip {
+        check_skip(field, word, missing)?;
+    }
+    let Some(token) = field.attributes.default_path else {
+        return Ok(());
+    };
+    match missing {
+        Missing::Whole(text) | Missing::Signed(text) => {
+            if is_number(type_name(field.of), text) {
+                Ok(())
+            } else {
+                Err(token.fault(NO_NUMBER))
+            }
+        }
+        Missing::Text(text) => check_text(token, text),
+        Missing::Path(text) if !is_known(source, token, text) => Err(token.fault(NO_TYPE)),
+        _ => Ok(()),
+    }
+}
+
+/// An error where the default of a type parameter is wanted.
+fn check_parameters<'a>(definition: &Definition<'a>, field: Field<'a>) -> Result<(), Fault> {
+    for token in field.of.0 {
+        if !is_among(&definition.parameters, *token) {
+            continue;
+        }
+        match (field.attributes.skip, field.attributes.default) {
+            (Some(word), _) => return Err(word.fault(NO_PARAMETER)),
+            (None, Some(word)) if field.of.0.len() == 1 => {
+                return Err(word.fault(NO_PARAMETER));
+            }
+            _ => {}
+        }
+    }
+    Ok(())
+}
+
+/// An error where a skipped field cannot have this.
+fn check_skip<'a>(field: Field<'a>, word: Token<'a>, missing: Missing<'a>) -> Result<(), Fault> {
+    match (missing, field.attributes.default_path) {
+        (Missing::Text(_) | Missing::Path(_), Some(token)) => Err(token.fault(CONSTANT)),
+        (Missing::OfType, _) if takes_memory(field.of) => Err(word.fault(MEMORY)),
+        _ => Ok(()),
+    }
+}
+
+/// Whether a type is known to have no default without an allocation.
+fn takes_memory(of: Type<'_>) -> bool {
+    for token in of.0 {
+        if token.text == "Option" || HELD_IN_MEMORY.contains(&token.text) {
+            return token.text != "Option";
+        }
+    }
+    false
+}
+
+const HELD_IN_MEMORY: [&str; 8] = [
+    "String",
+    "Vec",
+    "LinkedList",
+    "HashMap",
+    "HashSet",
+    "BTreeMap",
+    "BTreeSet",
+    "Box",
+];
+
+/// The name of a type of one word, or nothing.
+fn type_name<'a>(of: Type<'a>) -> &'a str {
+    match of.0 {
+        [token] => token.text,
+        _ => "",
+    }
+}
+
+/// Whether a text may be the path of a type.
+fn is_path(text: &str) -> bool {
+    match text.chars().next() {
+        Some(c) => c == '_' || c.is_ascii_alphabetic(),
+        None => false,
+    }
+}
+
+/// Whether a text is the path of a type that is known here, or one of another module.
+fn is_known<'a>(source: &Source<'a>, token: Token<'a>, text: &'a str) -> bool {
+    for c in text.chars() {
+        if c != '_' && c != ':' && !c.is_ascii_alphanumeric() {
+            return false;
+        }
+    }
+    let word = Token {
+        kind: TokenKind::Word,
+        text,
+        offset: token.offset,
+    };
+    text.contains("::") || is_defined(source, word) || is_imported(&source.imported, word)
+}
+
+/// Whether a text is a number of this type, in digits without leading zeros.
+fn is_number(of: &str, text: &str) -> bool {
+    let digits = text.strip_prefix('-').unwrap_or(text);
+    let is_plain = match digits.chars().next() {
+        Some('0') => digits == "0",
+        Some(c) => c.is_ascii_digit(),
+        None => false,
+    };
+    is_plain && is_in_range(of, text)
+}
+
+/// Whether a text is read as a number of this type.
+fn is_in_range(of: &str, text: &str) -> bool {
+    match of {
+        "u8" => text.parse::<u8>().is_ok(),
+        "u16" => text.parse::<u16>().is_ok(),
+        "u32" => text.parse::<u32>().is_ok(),
+        "u64" => text.parse::<u64>().is_ok(),
+        "u128" => text.parse::<u128>().is_ok(),
+        "usize" => text.parse::<usize>().is_ok(),
+        "i8" => text.parse::<i8>().is_ok(),
+        "i16" => text.parse::<i16>().is_ok(),
+        "i32" => text.parse::<i32>().is_ok(),
+        "i64" => text.parse::<i64>().is_ok(),
+        "i128" => text.parse::<i128>().is_ok(),
+        _ => false,
+    }
+}
+
+/// An error at the first character of a text that would need an escape.
+fn check_text(token: Token<'_>, text: &str) -> Result<(), Fault> {
+    for (at, c) in text.char_indices() {
+        if c == '"' || c == '\\' || c.is_ascii_control() || !c.is_ascii() {
+            return Err(within(
+                token,
+                at,
+                "this is in no default: a text is ASCII that needs no escape",
+            ));
+        }
+    }
+    Ok(())
+}

@@ -1,0 +1,201 @@
+//! Comments `// nanoserde: ..`, and Rust's attributes, which are passed over.
+
+use crate::parse::cursor::Cursor;
+use crate::syntax::{Attributes, Directions};
+use crate::token::{Token, TokenKind};
+use derive_source::Fault;
+
+/// What stands below an attribute.
+#[derive(Clone, Copy, PartialEq)]
+pub(crate) enum Below {
+    /// A struct or an enum.
+    Definition,
+    /// A field.
+    Field,
+    /// A variant.
+    Variant,
+    /// A part without a name.
+    Part,
+}
+
+const UNTOUCHED: Directions = Directions {
+    reads: false,
+    writes: false,
+};
+
+const NO_ATTRIBUTES: Attributes = Attributes {
+    first: None,
+    codec: None,
+    bin: UNTOUCHED,
+    json: UNTOUCHED,
+    ron: UNTOUCHED,
+    transparent: None,
+    rename: None,
+    default: None,
+    default_path: None,
+    skip: None,
+};
+
+/// Takes what stands above something.
+pub(crate) fn attributes<'a>(
+    cursor: &mut Cursor<'a>,
+    below: Below,
+) -> Result<Attributes<'a>, Fault> {
+    let mut attributes = NO_ATTRIBUTES;
+    for _turn in cursor.tokens {
+        if cursor.is_at_kind(TokenKind::Attribute) {
+            let _ = cursor.next();
+            read_words(cursor, &mut attributes, below)?;
+        } else if cursor.take("#") {
+            let _ = cursor.take("!");
+            cursor.expect("[", "stands where `[` is wanted")?;
+            skip_brackets(cursor)?;
+        } else {
+            break;
+        }
+    }
+    Ok(attributes)
+}
+
+impl<'a> Attributes<'a> {
+    /// An error if there is any: nothing follows that could have them.
+    pub(crate) fn of_nothing(self) -> Result<(), Fault> {
+        match self.first {
+            Some(word) => Err(word.fault("stands above no struct, enum, field or variant")),
+            None => Ok(()),
+        }
+    }
+}
+
+/// Passes over the rest of `[..]`, of which the first bracket is taken.
+fn skip_brackets<'a>(cursor: &mut Cursor<'a>) -> Result<(), Fault> {
+    if cursor.is_at("nserde") {
+        return Err(cursor.fault("is written as a comment: `// nanoserde: ..`"));
+    }
+    let mut depth = 1usize;
+    for _turn in cursor.tokens {
+        if cursor.take("[") {
+            depth = depth.saturating_add(1);
+        } else if cursor.take("]") {
+            depth = depth.saturating_sub(1);
+        } else {
+            let _ = cursor.next();
+        }
+        if depth == 0 {
+            return Ok(());
+        }
+    }
+    Err(cursor.fault("stands where `]` is wanted"))
+}
+
+/// Takes the words of a comment, to its end.
+fn read_words<'a>(
+    cursor: &mut Cursor<'a>,
+    attributes: &mut Attributes<'a>,
+    below: Below,
+) -> Result<(), Fault> {
+    for _turn in cursor.tokens {
+        if cursor.is_at_kind(TokenKind::AttributeEnd) {
+            let _ = cursor.next();
+            break;
+        }
+        let word = cursor.of_kind(TokenKind::Word, "stands where an attribute is wanted")?;
+        if attributes.first.is_none() {
+            attributes.first = Some(word);
+        }
+        read_word(cursor, attributes, below, word)?;
+        let _ = cursor.take(",");
+    }
+    Ok(())
+}
+
+/// Takes what belongs to a word.
+fn read_word<'a>(
+    cursor: &mut Cursor<'a>,
+    attributes: &mut Attributes<'a>,
+    below: Below,
+    word: Token<'a>,
+) -> Result<(), Fault> {
+    match word.text {
+        "rename" => {
+            above(
+                below == Below::Field || below == Below::Variant,
+                word,
+                FIELD_OR_VARIANT,
+            )?;
+            let text = value(cursor)?;
+            set(&mut attributes.rename, text, word)
+        }
+        "skip" => {
+            above(below == Below::Field, word, FIELD)?;
+            set(&mut attributes.skip, word, word)
+        }
+        "default" => {
+            above(below == Below::Field, word, FIELD)?;
+            if cursor.is_at("=") {
+                attributes.default_path = Some(value(cursor)?);
+            }
+            set(&mut attributes.default, word, word)
+        }
+        "transparent" => {
+            above(below == Below::Definition, word, DEFINITION)?;
+            set(&mut attributes.transparent, word, word)
+        }
+        _ => read_codec(attributes, below, word),
+    }
+}
+
+const DEFINITION: &str = "stands only above a struct or an enum";
+
+const FIELD: &str = "stands only above a field with a name";
+
+const FIELD_OR_VARIANT: &str = "stands only above a field with a name or a variant";
+
+const NO_ATTRIBUTE: &str = "is no attribute: those of a type are bin, json, ron, each of them also \
+    with de_ or ser_ before it, and transparent; those of a field rename, default and skip";
+
+/// An error if the word is not where it may stand.
+fn above(may: bool, word: Token<'_>, words: &'static str) -> Result<(), Fault> {
+    if may { Ok(()) } else { Err(word.fault(words)) }
+}
+
+/// Takes an equals sign and a text.
+fn value<'a>(cursor: &mut Cursor<'a>) -> Result<Token<'a>, Fault> {
+    cursor.expect("=", "stands where `=` and a text are wanted")?;
+    cursor.of_kind(TokenKind::Text, "stands where a text is wanted")
+}
+
+/// Sets what is to be set once.
+fn set<'a>(place: &mut Option<Token<'a>>, value: Token<'a>, word: Token<'a>) -> Result<(), Fault> {
+    if place.is_some() {
+        return Err(word.fault("stands twice"));
+    }
+    *place = Some(value);
+    Ok(())
+}
+
+/// Takes a word that names a format, and perhaps one direction.
+fn read_codec<'a>(
+    attributes: &mut Attributes<'a>,
+    below: Below,
+    word: Token<'a>,
+) -> Result<(), Fault> {
+    let (reads, writes, name) = match word.text.split_once('_') {
+        Some(("de", name)) => (true, false, name),
+        Some(("ser", name)) => (false, true, name),
+        Some(_) => (false, false, ""),
+        None => (true, true, word.text),
+    };
+    let directions = match name {
+        "bin" => &mut attributes.bin,
+        "json" => &mut attributes.json,
+        "ron" => &mut attributes.ron,
+        _ => return Err(word.fault(NO_ATTRIBUTE)),
+    };
+    directions.reads = directions.reads || reads;
+    directions.writes = directions.writes || writes;
+    if attributes.codec.is_none() {
+        attributes.codec = Some(word);
+    }
+    above(below == Below::Definition, word, DEFINITION)
+}

@@ -1,0 +1,174 @@
+//! Fields, parts and variants.
+
+use crate::parse::attributes::{Below, attributes};
+use crate::parse::cursor::Cursor;
+use crate::parse::types::parse_type;
+use crate::syntax::{Attributes, Content, Field, Type, Variant};
+use crate::token::Token;
+use derive_source::Fault;
+use std::alloc::Global;
+
+const MOST_PARTS: usize = 4;
+
+/// Takes `pub`, and what may follow it in brackets.
+pub(crate) fn visibility<'a>(cursor: &mut Cursor<'a>) -> Result<(), Fault> {
+    if cursor.take("pub") && cursor.take("(") {
+        let _ = cursor.next();
+        cursor.expect(")", "stands where `)` is wanted")?;
+    }
+    Ok(())
+}
+
+/// Takes fields with names, from their bracket to its end.
+pub(crate) fn fields<'a>(alloc: Global, cursor: &mut Cursor<'a>) -> Result<Vec<Field<'a>>, Fault> {
+    cursor.expect("{", "stands where `{` is wanted")?;
+    let fields = listed_fields(alloc, cursor)?;
+    if fields.is_empty() {
+        return Err(cursor.fault("stands where a field is wanted"));
+    }
+    cursor.expect("}", "stands where a comma or `}` is wanted")?;
+    Ok(fields)
+}
+
+/// Takes fields with names, as long as there are commas between them.
+fn listed_fields<'a>(alloc: Global, cursor: &mut Cursor<'a>) -> Result<Vec<Field<'a>>, Fault> {
+    let mut fields = Vec::new(alloc);
+    for _turn in cursor.tokens {
+        match next_field(alloc, cursor)? {
+            Some(field) => fields.push(field)?,
+            None => break,
+        }
+        if !cursor.take(",") {
+            break;
+        }
+    }
+    Ok(fields)
+}
+
+/// Takes a field with a name, or nothing before a bracket that closes.
+fn next_field<'a>(alloc: Global, cursor: &mut Cursor<'a>) -> Result<Option<Field<'a>>, Fault> {
+    let above = attributes(cursor, Below::Field)?;
+    if cursor.is_at("}") {
+        above.of_nothing()?;
+        return Ok(None);
+    }
+    Ok(Some(field(alloc, cursor, above)?))
+}
+
+/// Takes a field with a name.
+fn field<'a>(
+    alloc: Global,
+    cursor: &mut Cursor<'a>,
+    attributes: Attributes<'a>,
+) -> Result<Field<'a>, Fault> {
+    visibility(cursor)?;
+    let name = cursor.name()?;
+    cursor.expect(":", "stands where `:` is wanted")?;
+    let of = parse_type(alloc, cursor)?;
+    Ok(Field {
+        name,
+        of,
+        attributes,
+    })
+}
+
+/// Takes parts without names, from their bracket to its end: one to four.
+pub(crate) fn parts<'a>(alloc: Global, cursor: &mut Cursor<'a>) -> Result<Vec<Type<'a>>, Fault> {
+    cursor.expect("(", "stands where `(` is wanted")?;
+    let parts = listed_parts(alloc, cursor)?;
+    cursor.expect(")", "stands where a comma or `)` is wanted")?;
+    Ok(parts)
+}
+
+/// Takes parts without names, as long as there are commas between them.
+fn listed_parts<'a>(alloc: Global, cursor: &mut Cursor<'a>) -> Result<Vec<Type<'a>>, Fault> {
+    let mut parts = Vec::new(alloc);
+    for _turn in cursor.tokens {
+        match next_part(alloc, cursor, parts.len())? {
+            Some(part) => parts.push(part)?,
+            None => break,
+        }
+        if !cursor.take(",") {
+            break;
+        }
+    }
+    Ok(parts)
+}
+
+/// Takes a part without a name that so many come before, or nothing before a bracket that closes.
+fn next_part<'a>(
+    alloc: Global,
+    cursor: &mut Cursor<'a>,
+    count: usize,
+) -> Result<Option<Type<'a>>, Fault> {
+    attributes(cursor, Below::Part)?.of_nothing()?;
+    if count > 0 && cursor.is_at(")") {
+        return Ok(None);
+    }
+    if count >= MOST_PARTS {
+        return Err(cursor.fault("begins a fifth part: there are one to four without names"));
+    }
+    visibility(cursor)?;
+    Ok(Some(parse_type(alloc, cursor)?))
+}
+
+/// Takes variants, from their bracket to its end.
+pub(crate) fn variants<'a>(
+    alloc: Global,
+    cursor: &mut Cursor<'a>,
+) -> Result<Vec<Variant<'a>>, Fault> {
+    cursor.expect("{", "stands where `{` is wanted")?;
+    let variants = listed_variants(alloc, cursor)?;
+    if variants.is_empty() {
+        return Err(cursor.fault("stands where a variant is wanted"));
+    }
+    cursor.expect("}", "stands where a comma or `}` is wanted")?;
+    Ok(variants)
+}
+
+/// Takes variants, as long as there are commas between them.
+fn listed_variants<'a>(alloc: Global, cursor: &mut Cursor<'a>) -> Result<Vec<Variant<'a>>, Fault> {
+    let mut variants = Vec::new(alloc);
+    for _turn in cursor.tokens {
+        match next_variant(alloc, cursor)? {
+            Some(variant) => variants.push(variant)?,
+            None => break,
+        }
+        if !cursor.take(",") {
+            break;
+        }
+    }
+    Ok(variants)
+}
+
+/// Takes a variant, or nothing before a bracket that closes.
+fn next_variant<'a>(alloc: Global, cursor: &mut Cursor<'a>) -> Result<Option<Variant<'a>>, Fault> {
+    let above = attributes(cursor, Below::Variant)?;
+    if cursor.is_at("}") {
+        above.of_nothing()?;
+        return Ok(None);
+    }
+    let name = cursor.name()?;
+    Ok(Some(variant(alloc, cursor, above, name)?))
+}
+
+/// Takes what a variant holds.
+fn variant<'a>(
+    alloc: Global,
+    cursor: &mut Cursor<'a>,
+    attributes: Attributes<'a>,
+    name: Token<'a>,
+) -> Result<Variant<'a>, Fault> {
+    let content = if cursor.is_at("(") {
+        Content::Parts(parts(alloc, cursor)?)
+    } else if cursor.is_at("{") {
+        Content::Fields(fields(alloc, cursor)?)
+    } else {
+        Content::Nothing
+    };
+    Ok(Variant {
+        name,
+        content,
+        attributes,
+    })
+}

@@ -1,0 +1,114 @@
+//! What stands above the marker, as far as the generator asks for it.
+
+use crate::token::Token;
+
+/// A type: its tokens.
+#[derive(Clone, Copy)]
+pub struct Type<'a>(pub &'a [Token<'a>]);
+
+/// Whether a format is read, and whether it is written.
+#[derive(Clone, Copy, PartialEq)]
+pub struct Directions {
+    /// Whether it is read.
+    pub reads: bool,
+    /// Whether it is written.
+    pub writes: bool,
+}
+
+impl Directions {
+    /// Whether it is read or written.
+    pub fn is_used(self) -> bool {
+        self.reads || self.writes
+    }
+}
+
+/// The words of the comments `// nanoserde: ..` above something.
+#[derive(Clone, Copy)]
+pub struct Attributes<'a> {
+    /// The first of these words, if there is one.
+    pub first: Option<Token<'a>>,
+    /// The first word that names a format, if there is one.
+    pub codec: Option<Token<'a>>,
+    /// What becomes of bytes.
+    pub bin: Directions,
+    /// What becomes of JSON.
+    pub json: Directions,
+    /// What becomes of RON.
+    pub ron: Directions,
+    /// The word `transparent`.
+    pub transparent: Option<Token<'a>>,
+    /// The text after `rename`.
+    pub rename: Option<Token<'a>>,
+    /// The word `default`.
+    pub default: Option<Token<'a>>,
+    /// The text after `default`.
+    pub default_path: Option<Token<'a>>,
+    /// The word `skip`.
+    pub skip: Option<Token<'a>>,
+}
+
+/// A field with a name.
+#[derive(Clone, Copy)]
+pub struct Field<'a> {
+    /// Its name in the program.
+    pub name: Token<'a>,
+    /// Its type.
+    pub of: Type<'a>,
+    /// What stands above it.
+    pub attributes: Attributes<'a>,
+}
+
+/// What a variant holds.
+#[derive(Drop)]
+pub enum Content<'a> {
+    /// Nothing.
+    Nothing,
+    /// Parts without names.
+    Parts(Vec<Type<'a>>),
+    /// Fields with names.
+    Fields(Vec<Field<'a>>),
+}
+
+/// A variant of an enum.
+#[derive(Drop)]
+pub struct Variant<'a> {
+    /// Its name in the program.
+    pub name: Token<'a>,
+    /// What it holds.
+    pub content: Content<'a>,
+    /// What stands above it.
+    pub attributes: Attributes<'a>,
+}
+
+/// What a user-defined type is made of.
+#[derive(Drop)]
+pub enum Shape<'a> {
+    /// A struct with named fields.
+    Fields(Vec<Field<'a>>),
+    /// A struct with parts without names.
+    Parts(Vec<Type<'a>>),
+    /// An enum.
+    Variants(Vec<Variant<'a>>),
+}
+
+/// A user-defined type.
+#[derive(Drop)]
+pub struct Definition<'a> {
+    /// Its name.
+    pub name: Token<'a>,
+    /// Its type parameters.
+    pub parameters: Vec<Token<'a>>,
+    /// What it is made of.
+    pub shape: Shape<'a>,
+    /// What stands above it.
+    pub attributes: Attributes<'a>,
+}
+
+/// What stands above the marker.
+#[derive(Drop)]
+pub struct Source<'a> {
+    /// The structs and enums, in their order.
+    pub definitions: Vec<Definition<'a>>,
+    /// The tokens of the lines that bring in names.
+    pub imported: Vec<Token<'a>>,
+}

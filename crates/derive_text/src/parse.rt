@@ -1,9 +1,0 @@
-//! From tokens to structs and enums.
-
-mod attributes;
-mod cursor;
-mod fields;
-mod items;
-mod types;
-
-pub(crate) use items::parse;
