@@ -1,10 +1,9 @@
 //! Keys of each type, entries and items in order, and `known` of each type through its bound.
 
-use crate::checks::{holds, is_made};
-use crate::made::{boxed, hashed, linked, list, mapped, ordered, ordered_map, text};
+use crate::checks::{holds, is_so};
 use nano_value::{Key, OrderedKey, Value, entries_by_rank, entries_in_order, items_in_order, laws};
 use std::alloc::{AllocError, Global};
-use std::process::Abort;
+use std::collections::{BTreeMap, BTreeSet, HashMap, HashSet, LinkedList};
 
 /// Whether a key is what it means, and orders as it does.
 fn orders<T: OrderedKey>(less: &T, more: &T) -> bool {
@@ -13,31 +12,14 @@ fn orders<T: OrderedKey>(less: &T, more: &T) -> bool {
     less == less && less < more && more != less && less.cmp(more).is_lt()
 }
 
-/// Two keys, if they could be made, are what they mean, and order as they do.
-fn keys<T: OrderedKey + Drop>(
-    rt: &impl Abort,
-    name: &str,
-    less: Result<T, AllocError>,
-    more: Result<T, AllocError>,
-) {
-    match (less, more) {
-        (Ok(less), Ok(more)) => holds(rt, orders(&less, &more), name),
-        _ => holds(rt, false, "no memory"),
-    }
-}
-
 #[test]
-fn unsigned_numbers_are_keys(rt: HostRuntime) {
+fn numbers_are_keys(rt: HostRuntime) {
     holds(&rt, orders(&1u8, &2), "u8");
     holds(&rt, orders(&1u16, &2), "u16");
     holds(&rt, orders(&1u32, &2), "u32");
     holds(&rt, orders(&1u64, &2), "u64");
     holds(&rt, orders(&1usize, &2), "usize");
     holds(&rt, orders(&1u128, &2), "u128");
-}
-
-#[test]
-fn signed_numbers_are_keys(rt: HostRuntime) {
     holds(&rt, orders(&-1i8, &2), "i8");
     holds(&rt, orders(&-1i16, &2), "i16");
     holds(&rt, orders(&-1i32, &2), "i32");
@@ -50,60 +32,73 @@ fn other_types_are_keys(rt: HostRuntime) {
     holds(&rt, orders(&false, &true), "bool");
     holds(&rt, orders(&"a", &"b"), "a str");
     holds(&rt, orders(&None, &Some(1u8)), "an option");
-}
-
-#[test]
-fn arrays_and_tuples_are_keys(rt: HostRuntime) {
     holds(&rt, orders(&[1u8, 2], &[1, 3]), "an array");
     holds(&rt, orders(&(1u8, 2u8), &(1, 3)), "a pair");
     holds(&rt, orders(&(1u8, 2u8, 3u8), &(1, 2, 4)), "three");
     holds(&rt, orders(&(1u8, 2u8, 3u8, 4u8), &(1, 2, 3, 5)), "four");
+    ().known();
+    let slice: &[u16] = &[1, 2];
+    slice.known();
+}
+
+/// Whether texts and boxes order as what they hold.
+fn texts_and_boxes_order(alloc: Global) -> Result<bool, AllocError> {
+    let (less, more) = (String::from_str(alloc, "a")?, String::from_str(alloc, "b")?);
+    let (one, two) = (Box::new(alloc, 1u16)?, Box::new(alloc, 2u16)?);
+    Ok(orders(&less, &more) && orders(&one, &two))
+}
+
+/// Whether lists order as their items, one after the other.
+fn lists_order(alloc: Global) -> Result<bool, AllocError> {
+    let (less, more) = (vec![in alloc; 1u16]?, vec![in alloc; 1u16, 0]?);
+    let mut linked = LinkedList::new(alloc);
+    linked.push_back("a")?;
+    Ok(orders(&less, &more) && orders(&LinkedList::new(alloc), &linked))
+}
+
+/// Whether sets and maps order as their items and entries.
+fn sets_and_maps_order(alloc: Global) -> Result<bool, AllocError> {
+    let mut set = BTreeSet::new(alloc);
+    set.insert("a")?;
+    let mut map = BTreeMap::new(alloc);
+    if map.insert(5u16, "a").is_err() {
+        return Err(AllocError);
+    }
+    Ok(orders(&BTreeSet::new(alloc), &set) && orders(&BTreeMap::new(alloc), &map))
 }
 
 #[test]
 fn types_that_take_memory_are_keys(rt: HostRuntime) {
     let alloc = rt.alloc();
-    keys(&rt, "a text", text(alloc, "a"), text(alloc, "b"));
-    keys(&rt, "a box", boxed(alloc, 1u16), boxed(alloc, 2));
-    keys(&rt, "a list", list(alloc, &[1u16]), list(alloc, &[1, 0]));
-    keys(&rt, "a set", ordered(alloc, &[]), ordered(alloc, &["a"]));
-    let (less, more) = (&[(5, "a")], &[(5, "b")]);
-    keys(
-        &rt,
-        "a map",
-        ordered_map(alloc, less),
-        ordered_map(alloc, more),
-    );
+    is_so(&rt, texts_and_boxes_order(alloc), "texts and boxes");
+    is_so(&rt, lists_order(alloc), "lists");
+    is_so(&rt, sets_and_maps_order(alloc), "sets and maps");
 }
 
-/// Whether there are three entries, of which these keys are the first and the last.
-fn are_three(entries: &[(&i16, &String)], first: i16, last: i16) -> bool {
-    match (entries.first(), entries.last()) {
-        (Some(one), Some(other)) => entries.len() == 3 && *one.0 == first && *other.0 == last,
-        _ => false,
+/// The keys 3, -2 and 0 in order, each with its value.
+const IN_ORDER: &[(&i16, &u8)] = &[(&-2, &2), (&0, &3), (&3, &1)];
+
+/// Whether the entries of a map come in the order of their keys.
+fn entries_come_in_order(alloc: Global) -> Result<bool, AllocError> {
+    let mut map = HashMap::new(alloc);
+    for (key, value) in [(3i16, 1u8), (-2, 2), (0, 3)] {
+        map.insert(key, value)?;
     }
-}
-
-/// Whether there are three items, of which these are the first and the last.
-fn are_texts(items: &[&String], first: &str, last: &str) -> bool {
-    match (items.first(), items.last()) {
-        (Some(one), Some(other)) => {
-            items.len() == 3 && one.as_str() == first && other.as_str() == last
-        }
-        _ => false,
-    }
-}
-
-/// Whether the entries of a map and the items of a set come in the order of their keys.
-fn are_in_order(alloc: Global) -> Result<bool, AllocError> {
-    let map = mapped(alloc, &[(3, "b"), (-2, "a"), (0, "")])?;
-    let set = hashed(alloc, &["aaaaaaaab", "aaaaaaaa", "aaaaaaaaa"])?;
     map.known();
+    let in_order = entries_in_order(alloc, &map)?;
+    let by_rank = entries_by_rank(alloc, &map)?;
+    Ok(in_order.as_slice() == IN_ORDER && by_rank.as_slice() == IN_ORDER)
+}
+
+/// Whether the items of a set come in order.
+fn items_come_in_order(alloc: Global) -> Result<bool, AllocError> {
+    let mut set = HashSet::new(alloc);
+    for item in ["aaaaaaaab", "aaaaaaaa", "aaaaaaaaa"] {
+        set.insert(item)?;
+    }
     set.known();
-    let in_order = are_three(&entries_in_order(alloc, &map)?, -2, 3);
-    let by_rank = are_three(&entries_by_rank(alloc, &map)?, -2, 3);
     let items = items_in_order(alloc, &set)?;
-    Ok(in_order && by_rank && are_texts(&items, "aaaaaaaa", "aaaaaaaab"))
+    Ok(items.as_slice() == [&"aaaaaaaa", &"aaaaaaaaa", &"aaaaaaaab"].as_slice())
 }
 
 /// The ranks that two keys are given.
@@ -129,7 +124,8 @@ const RANKED: &[(&str, &str, (u64, u64))] = &[
 /// Whether the texts have these ranks.
 fn texts_are_ranked(alloc: Global) -> Result<bool, AllocError> {
     for (first, second, expected) in RANKED {
-        let (first, second) = (text(alloc, first)?, text(alloc, second)?);
+        let first = String::from_str(alloc, first)?;
+        let second = String::from_str(alloc, second)?;
         if ranks(&first, &second) != *expected {
             return Ok(false);
         }
@@ -140,28 +136,15 @@ fn texts_are_ranked(alloc: Global) -> Result<bool, AllocError> {
 #[test]
 fn in_order(rt: HostRuntime) {
     let alloc = rt.alloc();
-    is_made(&rt, are_in_order(alloc), "entries and items");
-    is_made(&rt, texts_are_ranked(alloc), "texts");
+    is_so(&rt, entries_come_in_order(alloc), "entries");
+    is_so(&rt, items_come_in_order(alloc), "items");
+    is_so(&rt, texts_are_ranked(alloc), "texts");
     holds(&rt, ranks(&7u8, &5) == (7, 5), "numbers");
     holds(&rt, ranks(&u64::MAX, &0) == (u64::MAX, 0), "the ends");
     let ends = ranks(&i64::MIN, &i64::MAX);
     holds(&rt, ends == (0, u64::MAX), "the signed ends");
     holds(&rt, ranks(&-1i8, &0) == ((1 << 63) - 1, 1 << 63), "signed");
     holds(&rt, ranks(&true, &false) == (0, 0), "no ranks");
-}
-
-#[test]
-fn laws_can_be_called(rt: HostRuntime) {
-    let alloc = rt.alloc();
-    keys(
-        &rt,
-        "a linked list",
-        linked(alloc, &["a"]),
-        linked(alloc, &["b"]),
-    );
-    ().known();
-    let slice: &[u16] = &[1, 2];
-    slice.known();
     laws::tables_hold_last_values::<u8, bool>();
     laws::ascending_is_in_order::<u8, bool>();
 }

@@ -17,7 +17,7 @@ impl laws::AnyCodec<u32, u32> for Characters {
 }
 
 #[test]
-fn laws_can_be_called(_rt: HostRuntime) {
+fn laws_of_a_codec(_rt: HostRuntime) {
     laws::taken_tokens_begin_the_text::<u32, u32, Characters>();
     laws::a_value_decodes_where_the_text_begins::<u32, u32, Characters>();
     laws::a_value_spans_to_one_place::<u32, u32, Characters>();
