@@ -1,6 +1,6 @@
-//! What the tests share. A call through a bound stands in a function that answers whether it did as it
-//! should, and the answer is asserted separately: a function that does both takes many times as long
-//! to prove. Out of memory is reported as `no memory`, so that it is distinct.
+//! What the tests share. A call through a bound stands in a function that answers whether it did
+//! as it should, and the answer is asserted separately: a function that does both takes many
+//! times as long to prove. Out of memory is reported as `no memory`, so that it is distinct.
 
 use std::alloc::AllocError;
 use std::process::Abort;

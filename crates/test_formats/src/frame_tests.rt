@@ -27,9 +27,9 @@ fn are_written(alloc: Global) -> Result<bool, AllocError> {
     Ok(faults == (None, None) && output.taken.as_slice() == TWO)
 }
 
-/// Whether a message over a writer that takes two bytes a call, and fails so at one of its calls, is
-/// written up to that call, which is the last, and the fault is of this kind; or, where none is
-/// reported, is written whole in seven calls.
+/// Whether a message over a writer that takes two bytes a call, and fails so at one of its calls,
+/// is written up to that call, which is the last, and the fault is of this kind; or, where none
+/// is reported, is written whole in seven calls.
 fn is_written_up_to(
     alloc: Global,
     fails_at: usize,
@@ -145,8 +145,8 @@ fn taken(
     Ok(given)
 }
 
-/// Whether a row is taken so in chunks of this size, by a reader that gives at most so many bytes a
-/// call.
+/// Whether a row is taken so in chunks of this size, by a reader that gives at most so many bytes
+/// a call.
 fn is_taken(alloc: Global, row: Row, most: usize, chunk: usize) -> Result<bool, AllocError> {
     let given = taken(alloc, Source::new(row.0, most, 0), chunk, 0)?;
     Ok(given.messages.as_slice() == row.1 && given.text.as_str() == row.2)

@@ -1,5 +1,5 @@
-//! Lexemes that begin at a character that is set by hand, places, digits, characters with escapes,
-//! and the laws of texts.
+//! Lexemes that begin at a character that is set by hand, places, digits, characters with
+//! escapes, and the laws of texts.
 
 use crate::checks::{holds, is_made, is_so};
 use nano_text::{
@@ -55,8 +55,8 @@ fn is_number(alloc: Global, row: &NumberRow) -> bool {
     read == *expected && is_text && is_after
 }
 
-/// A first character, what `Chars` holds, the fault or the text of the string that begins there, and
-/// the current character, what `Chars` holds, the line and the column afterwards.
+/// A first character, what `Chars` holds, the fault or the text of the string that begins there,
+/// and the current character, what `Chars` holds, the line and the column afterwards.
 type StringRow = (
     char,
     &'static str,

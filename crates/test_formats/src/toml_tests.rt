@@ -1,4 +1,5 @@
-//! Tables of TOML texts: what is found in them, their equality, what is nested deep, and the laws.
+//! Tables of TOML texts: what is found in them, their equality, what is nested deep, and the
+//! laws.
 
 use crate::checks::{holds, is_made, is_reported};
 use nano_toml::{Toml, TomlErr, TomlParser, TomlTok, laws};
@@ -43,8 +44,8 @@ fn is_found(alloc: Global, value: &Toml) -> Result<bool, AllocError> {
     }
 }
 
-/// Whether what is taken out of a value is what stands in the text, by its kind. A number and a
-/// truth are no more than they are.
+/// Whether what is taken out of a value is what stands in the text, by its kind. From a number or
+/// a truth nothing is taken out.
 fn is_taken_out(value: Toml) -> bool {
     match &value {
         Toml::Str(_) => value.into_str().as_str() == "x",

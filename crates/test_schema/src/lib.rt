@@ -1,18 +1,18 @@
-//! Tests of user-defined types over the public surfaces of `nanoserde` and `example_types`: what the
-//! tables of `conformance_run` cannot say. They are a crate of their own, so that they are proved
-//! beside them.
+//! Tests of `nanoserde`, of user-defined types, of `example_types` and of the answers of `nano_show` over
+//! their public surfaces: what the tables of `conformance_run` cannot say. They are a crate of their
+//! own, so that they are proved beside them.
 #![tactic(auto)]
 
 #[cfg(test)]
-mod call_tests;
-#[cfg(test)]
 mod default_tests;
+#[cfg(test)]
+mod law_tests;
 #[cfg(test)]
 mod part_tests;
 #[cfg(test)]
-mod query_tests;
+mod show_source;
 #[cfg(test)]
-mod record_tests;
+mod show_tests;
 #[cfg(test)]
 mod site;
 #[cfg(test)]

@@ -1,24 +1,26 @@
-//! The calls by which the formats read and write the fields and the variants of a schema. Each is
-//! made once, over a struct and an enum, with what it returns.
+//! The calls by which the formats read and write the fields and the variants of a schema, and a name.
+//! Each is made once, with what it returns. What they do for the types of programs is in the tables of
+//! `conformance_run`.
 
 ghost use Rattle.std.specs.Prelude.{codes};
 
-use crate::type_checks::holds;
+use crate::type_checks::{holds, is_made, is_reported};
 use nano_schema::Label;
 use nano_schema_json::{
     ReadContent as JsonContent, read_fields as read_json, write_fields as write_json,
 };
 use nano_schema_ron::{
-    ReadContent as RonContent, RonChoices, read_fields as read_ron, write_fields as write_ron,
+    Part, ReadContent as RonContent, RonChoices, read_fields as read_ron, read_variant_name,
+    unknown_variant, write_fields as write_ron, write_fields_variant, write_unit_variant,
+    write_variant,
 };
 use nanoserde::records::{Choice, Item};
 use nanoserde::{
-    Alone, BinFields, BinRefs, ChoiceParts, DeBinErr, DeJsonState, DeJsonTok, DeRonState, DeRonTok,
-    Either, JsonFields, JsonRefs, JsonResult, Named, Optional, Parts, Record, Required, RonFields,
-    RonRefs, RonResult, SerJsonState, SerRonState, Variant,
+    Alone, BinFields, BinRefs, ChoiceParts, DeBinErr, DeJsonState, DeRonState, DeRonTok, Either,
+    JsonFields, JsonRefs, JsonResult, Named, Parts, Record, Required, RonFields, RonRefs,
+    RonResult, SerJsonState, SerRonState, Variant,
 };
 use std::alloc::{AllocError, Global};
-use std::process::Abort;
 use std::str::Chars;
 
 /// The name `value`.
@@ -45,26 +47,17 @@ impl Label for NoteName {
     }
 }
 
-type ItemFields = (Required<ValueName, i32>, Optional<NoteName, String>);
+/// A field.
+type Field = Required<ValueName, i32>;
 
 /// Variants under the same names.
-type Variants = (
-    Variant<ValueName, Alone>,
-    Variant<NoteName, Named<ItemFields>>,
-);
+type Variants = (Variant<ValueName, Alone>, Variant<NoteName, Named<Field>>);
 
-/// An item, made of its values.
-fn item(alloc: Global) -> Result<Item, AllocError> {
-    Ok(Item::make((7, Some(String::from_str(alloc, "x")?))))
-}
-
-/// Whether it is that item.
-fn is_item(found: &Item) -> bool {
-    let (value, note) = found.as_refs();
-    match note {
-        Some(note) => *value == 7 && note.as_str() == "x",
-        None => false,
-    }
+/// Whether an item is made of its values, and seen as them.
+fn is_item() -> bool {
+    let item = Item::make((7, None));
+    let (value, note) = item.as_refs();
+    *value == 7 && note.is_none()
 }
 
 /// Whether the variant without content is made and seen as itself.
@@ -79,303 +72,214 @@ fn is_alone() -> bool {
 /// Whether exactly the variant without content stands alone, in both texts.
 fn stand_alone() -> bool {
     let alone = <Alone as JsonContent>::stands_alone() && <Alone as RonContent>::stands_alone();
-    let json = <Named<ItemFields> as JsonContent>::stands_alone();
-    let ron = <Named<ItemFields> as RonContent>::stands_alone();
+    let json = <Named<Field> as JsonContent>::stands_alone();
+    let ron = <Named<Field> as RonContent>::stands_alone();
     let other = <Variants as RonChoices>::stands_alone(NoteName::text());
     let named = <Variants as RonChoices>::stands_alone(ValueName::text());
     alone && named && !json && !ron && !other
 }
 
-#[test]
-fn own_types_are_taken_apart(rt: HostRuntime) {
-    holds(
-        &rt,
-        item(rt.alloc()).is_ok_and(|made| is_item(&made)),
-        "an item",
-    );
-    holds(&rt, is_alone(), "a variant");
-    holds(&rt, stand_alone(), "variants");
+/// Whether the field is read from bytes, and none from fewer.
+fn is_in_bytes(alloc: Global) -> Result<bool, DeBinErr> {
+    let mut offset = 1;
+    let value = <Field as BinFields>::read(alloc, &mut offset, &[9, 7, 0, 0, 0])?;
+    let cut = <Field as BinFields>::read(alloc, &mut 2, &[9, 7, 0, 0, 0]);
+    Ok(value == 7 && offset == 5 && cut.is_err())
 }
 
-/// The fields of the item as JSON, and whether none stands before the next.
-fn json_fields(alloc: Global) -> Result<(String, bool), AllocError> {
-    let item = item(alloc)?;
-    let mut state = SerJsonState {
-        out: String::new(alloc),
-    };
-    let refs = item.as_refs();
-    let first = <ItemFields as JsonRefs>::append_fields(&refs, alloc, true, 1, &mut state)?;
-    Ok((state.out, first))
-}
-
-/// The fields of the item as RON.
-fn ron_fields(alloc: Global) -> Result<String, AllocError> {
-    let item = item(alloc)?;
-    let mut state = SerRonState {
-        out: String::new(alloc),
-    };
-    <ItemFields as RonRefs>::append_fields(&item.as_refs(), alloc, 1, &mut state)?;
-    Ok(state.out)
-}
-
-/// The item between its brackets as JSON.
-fn json_struct(alloc: Global) -> Result<String, AllocError> {
-    let item = item(alloc)?;
-    let mut state = SerJsonState {
-        out: String::new(alloc),
-    };
-    write_json::<ItemFields>(&item.as_refs(), alloc, 0, &mut state)?;
-    Ok(state.out)
-}
-
-/// The item between its brackets as RON.
-fn ron_struct(alloc: Global) -> Result<String, AllocError> {
-    let item = item(alloc)?;
-    let mut state = SerRonState {
-        out: String::new(alloc),
-    };
-    write_ron::<ItemFields>(&item.as_refs(), alloc, 0, &mut state)?;
-    Ok(state.out)
-}
-
-#[test]
-fn structs_are_appended(rt: HostRuntime) {
-    let alloc = rt.alloc();
-    is_text(&rt, json_struct(alloc), "{\"value\":7,\"note\":\"x\"}");
-    is_text(
-        &rt,
-        ron_struct(alloc),
-        "(\n    value:7,\n    note:\"x\",\n)",
-    );
-}
-
-/// The fields of the item as bytes.
-fn bin_fields(alloc: Global) -> Result<Vec<u8>, AllocError> {
-    let item = item(alloc)?;
-    let mut output = Vec::new(alloc);
-    <ItemFields as BinRefs>::write(&item.as_refs(), alloc, &mut output)?;
+/// The field as bytes, after a byte.
+fn bin_field(alloc: Global) -> Result<Vec<u8>, AllocError> {
+    let mut output = vec![in alloc; 9u8]?;
+    <Field as BinRefs>::write(&&7, alloc, &mut output)?;
     Ok(output)
 }
 
-/// The fields of the item as bytes.
-const BYTES: &[u8] = &[7, 0, 0, 0, 1, 1, 0, 0, 0, 0, 0, 0, 0, 120];
-
-/// The texts are the expected ones.
-fn is_text(rt: &impl Abort, found: Result<String, AllocError>, expected: &str) {
-    match found {
-        Ok(text) => holds(rt, text.as_str() == expected, text.as_str()),
-        Err(_rejected) => holds(rt, false, "no memory"),
+#[test]
+fn parts_and_bytes(rt: HostRuntime) {
+    holds(&rt, is_item(), "an item");
+    holds(&rt, is_alone(), "a variant");
+    holds(&rt, stand_alone(), "variants");
+    holds(&rt, is_in_bytes(rt.alloc()).unwrap_or(false), "bytes");
+    match bin_field(rt.alloc()) {
+        Ok(bytes) => holds(
+            &rt,
+            bytes.as_slice() == [9u8, 7, 0, 0, 0].as_slice(),
+            "code",
+        ),
+        Err(_rejected) => holds(&rt, false, "no memory"),
     }
+    <Field as BinFields>::discard(7);
+    <Field as JsonFields>::discard(Some(7));
+    <Field as JsonFields>::discard_values(7);
+    <Field as RonFields>::discard(Some(7));
+    <Field as RonFields>::discard_values(7);
 }
 
-/// The text alone, where a field stands before the next.
-fn text_of(found: Result<(String, bool), AllocError>) -> Result<String, AllocError> {
-    match found {
-        Ok((text, false)) => Ok(text),
-        _ => Err(AllocError),
-    }
+/// The field as JSON, alone and between brackets.
+fn json_field(alloc: Global) -> Result<String, AllocError> {
+    let mut state = SerJsonState {
+        out: String::new(alloc),
+    };
+    let _first = <Field as JsonRefs>::append_fields(&&7, alloc, true, 1, &mut state)?;
+    write_json::<Field>(&&7, alloc, 0, &mut state)?;
+    Ok(state.out)
+}
+
+/// The field as RON, alone and between brackets.
+fn ron_field(alloc: Global) -> Result<String, AllocError> {
+    let mut state = SerRonState {
+        out: String::new(alloc),
+    };
+    <Field as RonRefs>::append_fields(&&7, alloc, 1, &mut state)?;
+    write_ron::<Field>(&&7, alloc, 0, &mut state)?;
+    Ok(state.out)
+}
+
+/// Variants as RON: without content, with two parts, and with a field.
+fn ron_variants(alloc: Global) -> Result<String, AllocError> {
+    let mut state = SerRonState {
+        out: String::new(alloc),
+    };
+    write_unit_variant("A", &mut state)?;
+    write_variant(alloc, "B", &(1i32, Part { of: &true }), 0, &mut state)?;
+    write_fields_variant::<Field>("C", &&2, alloc, 1, &mut state)?;
+    Ok(state.out)
 }
 
 #[test]
-fn fields_are_appended(rt: HostRuntime) {
+fn fields_are_written(rt: HostRuntime) {
     let alloc = rt.alloc();
-    is_text(
-        &rt,
-        text_of(json_fields(alloc)),
-        "\"value\":7,\"note\":\"x\"",
-    );
-    is_text(&rt, ron_fields(alloc), "    value:7,\n    note:\"x\",\n");
-    let bytes = bin_fields(alloc);
-    holds(
-        &rt,
-        bytes.is_ok_and(|bytes| bytes.as_slice() == BYTES),
-        "bytes",
-    );
+    is_made(&rt, json_field(alloc), "\"value\":7{\"value\":7}", "JSON");
+    let expected = "    value:7,\n(\n    value:7,\n)";
+    is_made(&rt, ron_field(alloc), expected, "RON");
+    let expected = "AB(1, true)C(\n        value:2,\n    )";
+    is_made(&rt, ron_variants(alloc), expected, "variants");
 }
 
-/// Reads the field whose name is pending.
-fn json_field<F: JsonFields>(
-    slots: &mut F::Slots,
-    alloc: Global,
-    state: &mut DeJsonState,
-    input: &mut Chars<'_>,
-) -> JsonResult<()> {
-    match state.tok {
-        DeJsonTok::Str => {
-            let name = state.as_string(alloc)?;
-            state.next_colon(alloc, input)?;
-            if F::read_field(name.as_str(), slots, alloc, state, input)? {
-                return Ok(());
-            }
-            Err(state.err_exp(alloc, name.as_str()))
-        }
-        _ => Err(state.err_token(alloc, "name")),
-    }
-}
-
-/// The item of a text of so many fields.
-fn json_item(alloc: Global, text: &str, count: usize) -> JsonResult<Item> {
+/// The value of the field that a JSON text begins with.
+fn json_value(alloc: Global, text: &str) -> JsonResult<i32> {
     let mut input = text.chars();
     let mut state = DeJsonState::new(alloc);
     state.next(&mut input);
     state.next_tok(alloc, &mut input)?;
-    let mut slots = <ItemFields as JsonFields>::empty();
-    for _ in 0..count {
-        json_field::<ItemFields>(&mut slots, alloc, &mut state, &mut input)?;
-        state.eat_comma_curly(alloc, &mut input)?;
-    }
-    Ok(Item::make(<ItemFields as JsonFields>::values(slots, alloc, &state)?))
+    let name = state.as_string(alloc)?;
+    state.next_colon(alloc, &mut input)?;
+    let mut slots = <Field as JsonFields>::empty();
+    let _is_known = <Field as JsonFields>::read_field(
+        name.as_str(),
+        &mut slots,
+        alloc,
+        &mut state,
+        &mut input,
+    )?;
+    <Field as JsonFields>::values(slots, alloc, &state)
 }
 
-/// Reads the field whose name is pending.
-fn ron_field<F: RonFields>(
+/// The value of the field of a JSON text.
+fn json_struct(alloc: Global, text: &str) -> JsonResult<i32> {
+    let mut input = text.chars();
+    let mut state = DeJsonState::new(alloc);
+    state.next(&mut input);
+    state.next_tok(alloc, &mut input)?;
+    read_json::<Field>(alloc, &mut state, &mut input)
+}
+
+/// Reads the field whose name is pending, and answers whether the name is its own.
+fn read_field_of<F: RonFields>(
     slots: &mut F::Slots,
     alloc: Global,
     state: &mut DeRonState,
     input: &mut Chars<'_>,
-) -> RonResult<()> {
+) -> RonResult<bool> {
     match state.tok {
-        DeRonTok::Ident => {
-            if F::read_field(slots, alloc, state, input)? {
-                return Ok(());
-            }
-            Err(state.err_exp(alloc, state.identbuf.as_str()))
-        }
+        DeRonTok::Ident => F::read_field(slots, alloc, state, input),
         _ => Err(state.err_token(alloc, "name")),
     }
 }
 
-/// The item of a text of so many fields.
-fn ron_item(alloc: Global, text: &str, count: usize) -> RonResult<Item> {
+/// The value of the field that a RON text begins with.
+fn ron_value(alloc: Global, text: &str) -> RonResult<i32> {
     let mut input = text.chars();
     let mut state = DeRonState::new(alloc);
     state.next(&mut input);
     state.next_tok(alloc, &mut input)?;
-    let mut slots = <ItemFields as RonFields>::empty();
-    for _ in 0..count {
-        ron_field::<ItemFields>(&mut slots, alloc, &mut state, &mut input)?;
-        state.eat_comma_paren(alloc, &mut input)?;
-    }
-    Ok(Item::make(<ItemFields as RonFields>::values(slots, alloc, &state)?))
+    let mut slots = <Field as RonFields>::empty();
+    let _is_known = read_field_of::<Field>(&mut slots, alloc, &mut state, &mut input)?;
+    <Field as RonFields>::values(slots, alloc, &state)
 }
 
-/// The item of a text between its brackets.
-fn json_item_of(alloc: Global, text: &str) -> JsonResult<Item> {
-    let mut input = text.chars();
-    let mut state = DeJsonState::new(alloc);
-    state.next(&mut input);
-    state.next_tok(alloc, &mut input)?;
-    let values = read_json::<ItemFields>(alloc, &mut state, &mut input)?;
-    Ok(Item::make(values))
-}
-
-/// The same of RON.
-fn ron_item_of(alloc: Global, text: &str) -> RonResult<Item> {
+/// The value of the field of a RON text.
+fn ron_struct(alloc: Global, text: &str) -> RonResult<i32> {
     let mut input = text.chars();
     let mut state = DeRonState::new(alloc);
     state.next(&mut input);
     state.next_tok(alloc, &mut input)?;
-    let values = read_ron::<ItemFields>(alloc, &mut state, &mut input)?;
-    Ok(Item::make(values))
+    read_ron::<Field>(alloc, &mut state, &mut input)
 }
 
-#[test]
-fn structs_are_read(rt: HostRuntime) {
-    let alloc = rt.alloc();
-    let read = json_item_of(alloc, "{\"note\":\"x\",\"z\":[1],\"value\":7}");
-    is_text(&rt, json_answer(read, alloc), "the item");
-    let read = ron_item_of(alloc, "(note:\"x\",value:7)");
-    is_text(&rt, ron_answer(read, alloc), "the item");
+/// The name of a variant that a RON text begins with.
+fn ron_name(alloc: Global, text: &str) -> RonResult<String> {
+    let mut input = text.chars();
+    let mut state = DeRonState::new(alloc);
+    state.next(&mut input);
+    state.next_tok(alloc, &mut input)?;
+    read_variant_name(alloc, &mut state, &mut input)
 }
 
-/// The item of the fields' bytes from an offset on, and where the offset stands then.
-fn bin_item(alloc: Global, start: usize) -> Result<(Item, usize), DeBinErr> {
-    let mut offset = start;
-    let values = <ItemFields as BinFields>::read(alloc, &mut offset, BYTES)?;
-    Ok((Item::make(values), offset))
-}
-
-/// What the error of a JSON text reports, or how its item is seen.
-fn json_answer(read: JsonResult<Item>, alloc: Global) -> Result<String, AllocError> {
+/// Whether a JSON text is rejected with this message.
+fn is_json_error(read: JsonResult<i32>, msg: &str) -> bool {
     match read {
-        Ok(item) => String::from_str(
-            alloc,
-            if is_item(&item) {
-                "the item"
-            } else {
-                "another"
-            },
-        ),
-        Err(error) => Ok(error.msg),
+        Ok(_value) => false,
+        Err(error) => error.msg.as_str() == msg,
     }
 }
 
-/// The same of a RON text.
-fn ron_answer(read: RonResult<Item>, alloc: Global) -> Result<String, AllocError> {
+/// Whether a RON text is rejected with this message.
+fn is_ron_error<T: Drop>(read: RonResult<T>, msg: &str) -> bool {
     match read {
-        Ok(item) => String::from_str(
-            alloc,
-            if is_item(&item) {
-                "the item"
-            } else {
-                "another"
-            },
-        ),
-        Err(error) => Ok(error.msg),
+        Ok(_value) => false,
+        Err(error) => error.msg.as_str() == msg,
     }
 }
 
-/// Texts of fields, how many are read, and the answer.
-const JSON: &[(&str, usize, &str)] = &[
-    ("\"value\":7,\"note\":\"x\"}", 2, "the item"),
-    ("\"note\":\"x\",\"value\":7}", 2, "the item"),
-    ("\"value\":7}", 1, "another"),
-    ("\"note\":\"x\"}", 1, "Key not found value"),
-    ("\"z\":\"x\"}", 1, "Unexpected key z"),
-];
-
-/// The same of RON.
-const RON: &[(&str, usize, &str)] = &[
-    ("value:7,note:\"x\")", 2, "the item"),
-    ("note:\"x\",value:7)", 2, "the item"),
-    ("value:7)", 1, "another"),
-    ("note:\"x\")", 1, "Key not found value"),
-    ("z:\"x\")", 1, "Unexpected key z"),
-];
-
 #[test]
-fn fields_of_texts_are_read(rt: HostRuntime) {
+fn fields_are_read(rt: HostRuntime) {
     let alloc = rt.alloc();
-    for (text, count, expected) in JSON {
-        is_text(
-            &rt,
-            json_answer(json_item(alloc, text, *count), alloc),
-            expected,
-        );
-    }
-    for (text, count, expected) in RON {
-        is_text(
-            &rt,
-            ron_answer(ron_item(alloc, text, *count), alloc),
-            expected,
-        );
-    }
+    let missing = "Key not found value";
+    holds(
+        &rt,
+        json_value(alloc, "\"value\":7}").ok() == Some(7),
+        "JSON",
+    );
+    holds(
+        &rt,
+        is_json_error(json_value(alloc, "\"z\":7}"), missing),
+        "z",
+    );
+    holds(
+        &rt,
+        json_struct(alloc, "{\"z\":1,\"value\":7}").ok() == Some(7),
+        "{}",
+    );
+    holds(&rt, ron_value(alloc, "value:7)").ok() == Some(7), "RON");
+    holds(&rt, is_ron_error(ron_value(alloc, "z:7)"), missing), "z");
+    holds(&rt, ron_struct(alloc, "(value:7)").ok() == Some(7), "()");
+    holds(&rt, is_name(ron_name(alloc, "B (1"), "B"), "B");
+    let expected = "Unexpected token Str expected Identifier ";
+    holds(
+        &rt,
+        is_ron_error(ron_name(alloc, "\"B\"(1"), expected),
+        "\"B\"",
+    );
+    let mut state = DeRonState::new(alloc);
+    let error = unknown_variant(alloc, &mut state, "D");
+    is_reported(&rt, error.msg.as_str(), "Enum not defined D", "D");
 }
 
-#[test]
-fn fields_of_bytes_are_read(rt: HostRuntime) {
-    match bin_item(rt.alloc(), 0) {
-        Ok((item, end)) => holds(&rt, is_item(&item) && end == 14, "bytes"),
-        Err(_error) => holds(&rt, false, "bytes that are rejected"),
+/// Whether a name is read.
+fn is_name(read: RonResult<String>, name: &str) -> bool {
+    match read {
+        Ok(found) => found.as_str() == name,
+        Err(_error) => false,
     }
-    holds(&rt, bin_item(rt.alloc(), 1).is_err(), "bytes cut short");
-}
-
-#[test]
-fn what_was_read_is_dropped(_rt: HostRuntime) {
-    <ItemFields as BinFields>::discard((7, None));
-    <ItemFields as JsonFields>::discard((Some(7), None));
-    <ItemFields as JsonFields>::discard_values((7, None));
-    <ItemFields as RonFields>::discard((Some(7), None));
-    <ItemFields as RonFields>::discard_values((7, None));
 }
