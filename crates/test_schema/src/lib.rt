@@ -14,6 +14,4 @@ mod query_tests;
 #[cfg(test)]
 mod record_tests;
 #[cfg(test)]
-mod site;
-#[cfg(test)]
 mod type_checks;
