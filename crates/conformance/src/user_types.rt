@@ -2,9 +2,9 @@
 
 use crate::came::Came;
 use crate::format::Format;
-use crate::reads::{of_bytes, of_json};
+use crate::reads::{of_bytes, of_json, of_type};
 use crate::types::{Shape, of_held};
-use example_types::{Command, Event, Message, Server, Signal};
+use example_types::{Command, Event, Message, Notice, Server, Signal, Site, Tagged};
 use nanoserde::records::{Choice, Item, Plain, Test};
 use std::alloc::{AllocError, Global};
 
@@ -37,6 +37,22 @@ fn of_example(
         ("Signal", _) => of_held::<Signal>(alloc, format, shape, input),
         ("Message", ("", "")) => of_json::<Message>(alloc, format, input),
         ("Command", ("", "")) => of_bytes::<Command>(alloc, format, input),
+        (_, ("", "")) => of_attributed(alloc, format, name, input),
+        _ => Ok(Came::Unknown),
+    }
+}
+
+/// A type of the examples that has attributes or type parameters.
+fn of_attributed(
+    alloc: Global,
+    format: Format,
+    name: &str,
+    input: &[u8],
+) -> Result<Came, AllocError> {
+    match name {
+        "Site" => of_type::<Site>(alloc, format, input),
+        "Notice" => of_type::<Notice>(alloc, format, input),
+        "Tagged" => of_type::<Tagged<i32, String>>(alloc, format, input),
         _ => Ok(Came::Unknown),
     }
 }

@@ -14,6 +14,4 @@ mod show_source;
 #[cfg(test)]
 mod show_tests;
 #[cfg(test)]
-mod site;
-#[cfg(test)]
 mod type_checks;
