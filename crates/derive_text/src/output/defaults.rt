@@ -97,7 +97,6 @@ fn import_constants(sheet: &mut Sheet, kind: &Given, given: &str) -> Result<(), 
 
 const DEFAULT: &str = "
 /// The default of `$FIELD`.
-#[derive(Drop)]
 struct $NAME {}
 
 impl nano_schema::DefaultOf<$OF> for $NAME {

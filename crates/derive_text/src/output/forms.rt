@@ -80,9 +80,6 @@ pub(crate) fn tupled(write: &str) -> Form<'_> {
         term: "$MODULE_as ⟦<$FULL as nano_schema::Record>⟧.view \
             ⟦<$VALUES as nano_schema_$MODULE::$NAMECodec>⟧.$MODULE",
         write,
-        read: "        match <$VALUES as nano_schema_$MODULE::De$NAME>::de_$MODULE($ARGUMENTS) {
-            Ok(value) => Ok(<Self as nano_schema::Record>::make(value)),
-            Err(error) => Err(error),
-        }",
+        read: "        nano_schema_$MODULE::read_parts_$MODULE::<Self, $VALUES>($ARGUMENTS)",
     }
 }
