@@ -17,6 +17,7 @@ mod ordered_maps;
 mod read;
 mod sets;
 mod signed;
+mod text_lists;
 mod texts;
 mod traits;
 mod tuples;

@@ -12,6 +12,7 @@ ghost use Rattle.nano_bytes.specs.Errors.{IsTextRejection};
 
 use crate::append::append_count;
 use crate::read::read_count;
+use crate::text_lists::append_texts;
 use crate::traits::{BinCodec, DeBin, SerBin};
 use nano_bytes::{DeBinErr, append_bytes_after, read_utf8};
 use std::alloc::{AllocError, Global};
@@ -28,6 +29,14 @@ impl SerBin for String {
         let start = output.len();
         append_count(alloc, self.len(), output)?;
         append_bytes_after(self.as_bytes(), output, start)
+    }
+
+    fn ser_bin_items(
+        alloc: Global,
+        items: &[String],
+        output: &mut Vec<u8>,
+    ) -> Result<(), AllocError> {
+        append_texts(items, output)
     }
 }
 

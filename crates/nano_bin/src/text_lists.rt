@@ -1,0 +1,110 @@
+//! Many texts at a time: short ones are gathered and appended at once, so that most of them cost no
+//! test of the capacity.
+
+ghost use Rattle.std.specs.Prelude.{◌≡◌, ◌+◌, ◌≤◌, ◌<◌, ◌++◌, take, length, string_bytes, IfOk};
+ghost use Rattle.std.specs.Prelude.{OnOk, OnErr};
+ghost use Rattle.std.specs.List.{flat_map};
+ghost use Rattle.nano_bin.specs.Texts.{written_text};
+ghost use Rattle.nano_bin.specs.TextsLaws.{string_codec};
+
+use nano_bytes::{FixedWidth, append_bytes_after};
+use std::alloc::AllocError;
+
+/// So many bytes are gathered before they are appended.
+const BLOCK: usize = 512;
+/// So many bytes hold the length of a text.
+const LENGTH: usize = 8;
+
+/// Appends texts, one after the other. On error, `output` is unchanged.
+pub(crate) fn append_texts(texts: &[String], output: &mut Vec<u8>) -> Result<(), AllocError>
+    ensures ok { OnOk result
+        (output.new.items ≡ output.old.items ++ flat_map string_codec.canonical.written texts.now) }
+    ensures err { OnErr result (output.new.items ≡ output.old.items) }
+{
+    let start = output.len();
+    output.reserve(room_for(texts))?;
+    let mut bytes = [0; BLOCK];
+    let mut rest = texts;
+    while !rest.is_empty() {
+        let count = append_some(rest, &mut bytes, output, start)?;
+        (_, rest) = rest.split_at(count);
+    }
+    Ok(())
+}
+
+/// How many bytes the texts take. It is for making room alone, so it may wrap.
+fn room_for(texts: &[String]) -> usize {
+    let mut room = texts.len().wrapping_mul(LENGTH);
+    for text in texts {
+        room = room.wrapping_add(text.len());
+    }
+    room
+}
+
+/// Appends the texts that fit into a block together, or the first alone where it is longer, and
+/// returns how many. On error, it truncates `output` back to its first `start` bytes.
+fn append_some(
+    texts: &[String],
+    bytes: &mut [u8; BLOCK],
+    output: &mut Vec<u8>,
+    start: usize,
+) -> Result<usize, AllocError>
+    requires any { 0 < length texts.now }
+    requires within { start ≤ length output.old.items }
+    ensures some { IfOk result (λ count. 0 < count) }
+    ensures within { IfOk result (λ count. count ≤ length texts.now) }
+    ensures ok { IfOk result (λ count. output.new.items ≡ output.old.items
+        ++ flat_map string_codec.canonical.written (take count texts.now)) }
+    ensures err { OnErr result (output.new.items ≡ take start output.old.items) }
+{
+    let (count, end) = gather(texts, bytes);
+    if count == 0 {
+        append_text(texts[0].as_bytes(), output, start)?;
+        return Ok(1);
+    }
+    append_bytes_after(&bytes[..end], output, start)?;
+    Ok(count)
+}
+
+/// Puts texts from the first on into a block, as many as fit. Returns how many, and the place
+/// after them.
+fn gather(texts: &[String], bytes: &mut [u8; BLOCK]) -> (usize, usize)
+    ensures within { result.0 ≤ length texts.now }
+    ensures end { result.1 ≤ BLOCK }
+    ensures gathered { take result.1 bytes.new
+        ≡ flat_map string_codec.canonical.written (take result.0 texts.now) }
+{
+    let mut place = 0;
+    for (count, text) in texts.iter().enumerate() {
+        if BLOCK - place < LENGTH + text.len() {
+            return (count, place);
+        }
+        place = put_text(text.as_bytes(), place, bytes);
+    }
+    (texts.len(), place)
+}
+
+/// Puts the length and the bytes of a text from `place` on, and returns the place after them.
+#[inline(always)]
+fn put_text(text: &[u8], place: usize, bytes: &mut [u8; BLOCK]) -> usize
+    requires { place + 8 + length text.now ≤ BLOCK }
+    ensures end { result ≡ place + 8 + length text.now }
+    ensures put { take result bytes.new ≡ take place bytes.old ++ written_text text.now }
+{
+    let start = place + LENGTH;
+    let end = start + text.len();
+    bytes[place..start].copy_from_slice(&text.len().to_bytes());
+    bytes[start..end].copy_from_slice(text);
+    end
+}
+
+/// Appends the length and the bytes of a text. On error, it truncates `output` back to its first
+/// `start` bytes.
+fn append_text(text: &[u8], output: &mut Vec<u8>, start: usize) -> Result<(), AllocError>
+    requires { start ≤ length output.old.items }
+    ensures ok { OnOk result (output.new.items ≡ output.old.items ++ written_text text.now) }
+    ensures err { OnErr result (output.new.items ≡ take start output.old.items) }
+{
+    append_bytes_after(&text.len().to_bytes(), output, start)?;
+    append_bytes_after(text, output, start)
+}
