@@ -28,9 +28,8 @@ pub struct Settings {
 // ---- written by nano_derive
 
 ghost use Rattle.std.specs.Prelude.{codes, refl};
-ghost use Rattle.nano_value.specs.Meaning.{whole};
+ghost use Rattle.nano_schema.specs.UserTypes.{whole, agreed};
 ghost use Rattle.nano_schema_json.specs.Record.{json_of};
-ghost use Rattle.nano_schema.specs.UserTypes.{agreed};
 ghost use Rattle.nano_schema_ron.specs.Record.{ron_of};
 
 struct SettingsName {}

@@ -15,9 +15,8 @@ pub struct Clock {
 // ---- written by nano_derive
 
 ghost use Rattle.std.specs.Prelude.{codes, pos, neg_ℤ, true, refl};
-ghost use Rattle.nano_value.specs.Meaning.{number, truth};
+ghost use Rattle.nano_schema.specs.UserTypes.{number, truth, agreed};
 ghost use Rattle.nano_schema_bin.specs.Record.{bin_of};
-ghost use Rattle.nano_schema.specs.UserTypes.{agreed};
 ghost use Rattle.nano_schema_json.specs.Record.{json_of};
 ghost use Rattle.nano_schema_ron.specs.Record.{ron_of};
 

@@ -12,8 +12,8 @@ pub struct Entry(pub u64, pub Option<String>, pub Point, pub bool);
 ghost use Rattle.nano_schema_bin.specs.Record.{bin_of};
 ghost use Rattle.nano_schema.specs.UserTypes.{agreed};
 ghost use Rattle.std.specs.Prelude.{refl};
-ghost use Rattle.nano_json.specs.Codec.{codec_as as json_as};
-ghost use Rattle.nano_ron.specs.Codec.{codec_as as ron_as};
+ghost use Rattle.nano_schema_json.specs.Record.{codec_as as json_as};
+ghost use Rattle.nano_schema_ron.specs.Record.{codec_as as ron_as};
 
 type EntryValues = (u64, Option<String>, Point, bool);
 

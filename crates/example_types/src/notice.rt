@@ -26,9 +26,8 @@ pub enum Notice {
 // ---- written by nano_derive
 
 ghost use Rattle.std.specs.Prelude.{codes, refl};
-ghost use Rattle.nano_value.specs.Meaning.{whole};
+ghost use Rattle.nano_schema.specs.UserTypes.{whole, LegalVariant, agreed};
 ghost use Rattle.nano_schema.specs.declared.choices.Either.TheVariants.{First, Later};
-ghost use Rattle.nano_schema.specs.UserTypes.{LegalVariant, agreed};
 ghost use Rattle.nano_schema_bin.specs.Choice.{bin_choice};
 ghost use Rattle.nano_schema_json.specs.Choice.{json_choice};
 ghost use Rattle.nano_schema_ron.specs.Choice.{ron_choice};

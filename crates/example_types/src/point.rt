@@ -10,8 +10,8 @@ pub struct Point(pub i32, pub i32, pub String);
 ghost use Rattle.nano_schema_bin.specs.Record.{bin_of};
 ghost use Rattle.nano_schema.specs.UserTypes.{agreed};
 ghost use Rattle.std.specs.Prelude.{refl};
-ghost use Rattle.nano_json.specs.Codec.{codec_as as json_as};
-ghost use Rattle.nano_ron.specs.Codec.{codec_as as ron_as};
+ghost use Rattle.nano_schema_json.specs.Record.{codec_as as json_as};
+ghost use Rattle.nano_schema_ron.specs.Record.{codec_as as ron_as};
 
 type PointValues = (i32, i32, String);
 

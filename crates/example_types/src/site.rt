@@ -26,9 +26,8 @@ pub struct Site {
 // ---- written by nano_derive
 
 ghost use Rattle.std.specs.Prelude.{codes, refl};
-ghost use Rattle.nano_value.specs.Meaning.{whole, text};
+ghost use Rattle.nano_schema.specs.UserTypes.{whole, text, agreed};
 ghost use Rattle.nano_schema_bin.specs.Record.{bin_of};
-ghost use Rattle.nano_schema.specs.UserTypes.{agreed};
 ghost use Rattle.nano_schema_json.specs.Record.{json_of};
 ghost use Rattle.nano_schema_ron.specs.Record.{ron_of};
 

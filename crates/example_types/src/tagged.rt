@@ -22,11 +22,9 @@ pub struct Tagged<A, B> {
 // ---- written by nano_derive
 
 ghost use Rattle.std.specs.Prelude.{codes, refl};
-ghost use Rattle.nano_value.specs.Meaning.{whole};
-ghost use Rattle.nano_schema_bin.specs.Record.{bin_of};
-ghost use Rattle.nano_schema.specs.UserTypes.{agreed};
-ghost use Rattle.nano_value.specs.AgreesLaws.{seen_agrees, pair_agrees, option_agrees, list_agrees};
-ghost use Rattle.nano_bin.specs.CodecLaws.{both_are_read};
+ghost use Rattle.nano_schema.specs.UserTypes.{whole, agreed, seen_agrees, pair_agrees};
+ghost use Rattle.nano_schema.specs.UserTypes.{option_agrees, list_agrees};
+ghost use Rattle.nano_schema_bin.specs.Record.{bin_of, both_are_read};
 ghost use Rattle.nano_schema_json.specs.Record.{json_of};
 ghost use Rattle.nano_schema_ron.specs.Record.{ron_of};
 

@@ -151,11 +151,22 @@ impl Sheet {
     }
 }
 
-/// Appends the line that brings in names of a module.
+/// Appends what brings in names of a module, on each line as many as it has space for.
 fn append_import(output: &mut String, import: &Import) -> Result<(), AllocError> {
-    output.push_str(import.module)?;
-    for (i, names) in import.names.iter().enumerate() {
-        output.push_str(if i == 0 { ".{" } else { ", " })?;
+    let mut used = 0usize;
+    for names in &import.names {
+        let longer = used.saturating_add(width(*names)).saturating_add(2);
+        if used > 0 && longer.saturating_add(2) <= COLUMNS {
+            output.push_str(", ")?;
+            used = longer;
+        } else {
+            output.push_str(if used > 0 { "};\n" } else { "" })?;
+            output.push_str(import.module)?;
+            output.push_str(".{")?;
+            used = width(import.module)
+                .saturating_add(2)
+                .saturating_add(width(*names));
+        }
         output.push_str(*names)?;
     }
     output.push_str("};\n")
