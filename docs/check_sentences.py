@@ -23,7 +23,7 @@ PLANNED = {
     "docs/GUIDE.md": 250,
     "docs/SECURITY.md": 60,
     "docs/SPEED.md": None,
-    "docs/USER_TYPES.md": 190,
+    "docs/USER_TYPES.md": 200,
 }
 
 

@@ -12,11 +12,11 @@ walk=$top/docs/walk
 mkdir "$1"
 cd "$1"
 
-# The folder of a program over JSON.
-sh "$top/vendor" . nano_schema_json > crates.txt
-echo 'shop: anyhow nano_schema nano_schema_json' >> crates.txt
-mkdir -p crates/shop/src
-cd crates/shop
+# The folder of a program over JSON and RON.
+sh "$top/vendor" . nano_schema_json nano_schema_ron > crates.txt
+echo 'server: anyhow nano_schema nano_schema_json nano_schema_ron' >> crates.txt
+mkdir -p crates/server/src
+cd crates/server
 cp "$walk/settings.rt.txt" src/settings.rt
 cp "$walk/main.rt.txt" src/main.rt
 cp "$walk/stdin" stdin

@@ -4,7 +4,9 @@ use crate::came::Came;
 use crate::format::Format;
 use crate::reads::{of_bytes, of_json, of_type};
 use crate::types::{Shape, of_held};
-use example_types::{Command, Event, Message, Notice, Server, Signal, Site, Tagged};
+use example_types::{
+    Clock, Command, Entry, Event, Message, Notice, Point, Server, Signal, Site, Tagged,
+};
 use nanoserde::records::{Choice, Item, Plain, Test};
 use std::alloc::{AllocError, Global};
 
@@ -42,7 +44,7 @@ fn of_example(
     }
 }
 
-/// A type of the examples that has attributes or type parameters.
+/// A type of the examples that has attributes, type parameters or parts without names.
 fn of_attributed(
     alloc: Global,
     format: Format,
@@ -51,8 +53,11 @@ fn of_attributed(
 ) -> Result<Came, AllocError> {
     match name {
         "Site" => of_type::<Site>(alloc, format, input),
+        "Clock" => of_type::<Clock>(alloc, format, input),
         "Notice" => of_type::<Notice>(alloc, format, input),
         "Tagged" => of_type::<Tagged<i32, String>>(alloc, format, input),
+        "Point" => of_type::<Point>(alloc, format, input),
+        "Entry" => of_type::<Entry>(alloc, format, input),
         _ => Ok(Came::Unknown),
     }
 }

@@ -21,15 +21,11 @@ pub enum Message {
 
 // ---- written by nano_derive
 
-ghost use Rattle.std.specs.Prelude.{codes};
+ghost use Rattle.std.specs.Prelude.{codes, refl};
 ghost use Rattle.nano_schema.specs.declared.choices.Either.TheVariants.{First, Later};
-ghost use Rattle.nano_schema.specs.UserTypes.{LegalVariant};
+ghost use Rattle.nano_schema.specs.UserTypes.{LegalVariant, agreed};
 ghost use Rattle.nano_schema_bin.specs.Choice.{bin_choice};
-ghost use Rattle.std.specs.Prelude.{refl};
-ghost use Rattle.nano_schema.specs.UserTypes.{agreed};
 
-/// The name `Leave`.
-#[derive(Drop)]
 struct MessageLeave {}
 
 impl nano_schema::Label for MessageLeave {
@@ -40,8 +36,6 @@ impl nano_schema::Label for MessageLeave {
     }
 }
 
-/// The name `Move`.
-#[derive(Drop)]
 struct MessageMove {}
 
 impl nano_schema::Label for MessageMove {
@@ -54,8 +48,6 @@ impl nano_schema::Label for MessageMove {
 
 type MessageMoveParts = (u32, Vec<i16>);
 
-/// The name `Say`.
-#[derive(Drop)]
 struct MessageSay {}
 
 impl nano_schema::Label for MessageSay {
@@ -66,8 +58,6 @@ impl nano_schema::Label for MessageSay {
     }
 }
 
-/// The name `text`.
-#[derive(Drop)]
 struct MessageSayText {}
 
 impl nano_schema::Label for MessageSayText {
@@ -78,8 +68,6 @@ impl nano_schema::Label for MessageSayText {
     }
 }
 
-/// The name `to`.
-#[derive(Drop)]
 struct MessageSayTo {}
 
 impl nano_schema::Label for MessageSayTo {
@@ -120,9 +108,7 @@ type MessageRefs2<'a> = nano_schema::Either<(&'a u32, &'a Vec<i16>), MessageRefs
 type MessageRefs<'a> = nano_schema::Either<(), MessageRefs2<'a>>;
 
 impl nano_schema::Choice for Message {
-    ghost use Rattle.example_messages.specs.declared.message.Message.TheVariants.{Leave};
-    ghost use Rattle.example_messages.specs.declared.message.Message.TheVariants.{Move};
-    ghost use Rattle.example_messages.specs.declared.message.Message.TheVariants.{Say};
+    ghost use Rattle.example_messages.specs.declared.message.Message.TheVariants.{Leave, Move, Say};
 
     type Values = MessageValues;
 

@@ -16,14 +16,11 @@ pub struct State {
 
 // ---- written by nano_derive
 
-ghost use Rattle.std.specs.Prelude.{codes};
+ghost use Rattle.std.specs.Prelude.{codes, refl};
 ghost use Rattle.nano_schema_json.specs.Record.{json_of};
-ghost use Rattle.std.specs.Prelude.{refl};
 ghost use Rattle.nano_schema.specs.UserTypes.{agreed};
 ghost use Rattle.nano_schema_ron.specs.Record.{ron_of};
 
-/// The name `coins`.
-#[derive(Drop)]
 struct StateCoins {}
 
 impl nano_schema::Label for StateCoins {
@@ -34,8 +31,6 @@ impl nano_schema::Label for StateCoins {
     }
 }
 
-/// The name `times`.
-#[derive(Drop)]
 struct StateTimes {}
 
 impl nano_schema::Label for StateTimes {
@@ -46,8 +41,6 @@ impl nano_schema::Label for StateTimes {
     }
 }
 
-/// The name `player`.
-#[derive(Drop)]
 struct StatePlayer {}
 
 impl nano_schema::Label for StatePlayer {

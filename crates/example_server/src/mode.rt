@@ -19,16 +19,12 @@ pub enum Mode {
 
 // ---- written by nano_derive
 
-ghost use Rattle.std.specs.Prelude.{codes};
+ghost use Rattle.std.specs.Prelude.{codes, refl};
 ghost use Rattle.nano_schema.specs.declared.choices.Either.TheVariants.{First, Later};
-ghost use Rattle.nano_schema.specs.UserTypes.{LegalVariant};
+ghost use Rattle.nano_schema.specs.UserTypes.{LegalVariant, agreed};
 ghost use Rattle.nano_schema_json.specs.Choice.{json_choice};
-ghost use Rattle.std.specs.Prelude.{refl};
-ghost use Rattle.nano_schema.specs.UserTypes.{agreed};
 ghost use Rattle.nano_schema_ron.specs.Choice.{ron_choice};
 
-/// The name `Off`.
-#[derive(Drop)]
 struct ModeOff {}
 
 impl nano_schema::Label for ModeOff {
@@ -39,8 +35,6 @@ impl nano_schema::Label for ModeOff {
     }
 }
 
-/// The name `Fixed`.
-#[derive(Drop)]
 struct ModeFixed {}
 
 impl nano_schema::Label for ModeFixed {
@@ -53,8 +47,6 @@ impl nano_schema::Label for ModeFixed {
 
 type ModeFixedParts = u32;
 
-/// The name `Range`.
-#[derive(Drop)]
 struct ModeRange {}
 
 impl nano_schema::Label for ModeRange {
@@ -65,8 +57,6 @@ impl nano_schema::Label for ModeRange {
     }
 }
 
-/// The name `least`.
-#[derive(Drop)]
 struct ModeRangeLeast {}
 
 impl nano_schema::Label for ModeRangeLeast {
@@ -77,8 +67,6 @@ impl nano_schema::Label for ModeRangeLeast {
     }
 }
 
-/// The name `most`.
-#[derive(Drop)]
 struct ModeRangeMost {}
 
 impl nano_schema::Label for ModeRangeMost {
@@ -119,9 +107,7 @@ type ModeRefs2<'a> = nano_schema::Either<&'a u32, ModeRefs3<'a>>;
 type ModeRefs<'a> = nano_schema::Either<(), ModeRefs2<'a>>;
 
 impl nano_schema::Choice for Mode {
-    ghost use Rattle.example_server.specs.declared.mode.Mode.TheVariants.{Off};
-    ghost use Rattle.example_server.specs.declared.mode.Mode.TheVariants.{Fixed};
-    ghost use Rattle.example_server.specs.declared.mode.Mode.TheVariants.{Range};
+    ghost use Rattle.example_server.specs.declared.mode.Mode.TheVariants.{Off, Fixed, Range};
 
     type Values = ModeValues;
 

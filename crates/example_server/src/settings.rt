@@ -27,15 +27,11 @@ pub struct Settings {
 
 // ---- written by nano_derive
 
-ghost use Rattle.std.specs.Prelude.{codes};
-ghost use Rattle.nano_value.specs.Meaning.{whole};
+ghost use Rattle.std.specs.Prelude.{codes, refl};
+ghost use Rattle.nano_schema.specs.UserTypes.{whole, agreed};
 ghost use Rattle.nano_schema_json.specs.Record.{json_of};
-ghost use Rattle.std.specs.Prelude.{refl};
-ghost use Rattle.nano_schema.specs.UserTypes.{agreed};
 ghost use Rattle.nano_schema_ron.specs.Record.{ron_of};
 
-/// The name `name`.
-#[derive(Drop)]
 struct SettingsName {}
 
 impl nano_schema::Label for SettingsName {
@@ -46,8 +42,6 @@ impl nano_schema::Label for SettingsName {
     }
 }
 
-/// The name `port`.
-#[derive(Drop)]
 struct SettingsPort {}
 
 impl nano_schema::Label for SettingsPort {
@@ -58,8 +52,6 @@ impl nano_schema::Label for SettingsPort {
     }
 }
 
-/// The name `workers`.
-#[derive(Drop)]
 struct SettingsWorkers {}
 
 impl nano_schema::Label for SettingsWorkers {
@@ -71,7 +63,6 @@ impl nano_schema::Label for SettingsWorkers {
 }
 
 /// The default of `workers`.
-#[derive(Drop)]
 struct SettingsWorkersDefault {}
 
 impl nano_schema::DefaultOf<u16> for SettingsWorkersDefault {
@@ -90,8 +81,6 @@ impl nano_schema_ron::RonDefaultOf<u16> for SettingsWorkersDefault {
     ghost is_sound = { λ x e. tt };
 }
 
-/// The name `verbose`.
-#[derive(Drop)]
 struct SettingsVerbose {}
 
 impl nano_schema::Label for SettingsVerbose {
@@ -102,8 +91,6 @@ impl nano_schema::Label for SettingsVerbose {
     }
 }
 
-/// The name `tags`.
-#[derive(Drop)]
 struct SettingsTags {}
 
 impl nano_schema::Label for SettingsTags {
@@ -114,8 +101,6 @@ impl nano_schema::Label for SettingsTags {
     }
 }
 
-/// The name `owner`.
-#[derive(Drop)]
 struct SettingsOwner {}
 
 impl nano_schema::Label for SettingsOwner {
@@ -126,8 +111,6 @@ impl nano_schema::Label for SettingsOwner {
     }
 }
 
-/// The name `mode`.
-#[derive(Drop)]
 struct SettingsMode {}
 
 impl nano_schema::Label for SettingsMode {

@@ -19,17 +19,13 @@ pub enum Event {
 
 // ---- written by nano_derive
 
-ghost use Rattle.std.specs.Prelude.{codes};
+ghost use Rattle.std.specs.Prelude.{codes, refl};
 ghost use Rattle.nano_schema.specs.declared.choices.Either.TheVariants.{First, Later};
-ghost use Rattle.nano_schema.specs.UserTypes.{LegalVariant};
+ghost use Rattle.nano_schema.specs.UserTypes.{LegalVariant, agreed};
 ghost use Rattle.nano_schema_bin.specs.Choice.{bin_choice};
-ghost use Rattle.std.specs.Prelude.{refl};
-ghost use Rattle.nano_schema.specs.UserTypes.{agreed};
 ghost use Rattle.nano_schema_json.specs.Choice.{json_choice};
 ghost use Rattle.nano_schema_ron.specs.Choice.{ron_choice};
 
-/// The name `Stop`.
-#[derive(Drop)]
 struct EventStop {}
 
 impl nano_schema::Label for EventStop {
@@ -40,8 +36,6 @@ impl nano_schema::Label for EventStop {
     }
 }
 
-/// The name `Move`.
-#[derive(Drop)]
 struct EventMove {}
 
 impl nano_schema::Label for EventMove {
@@ -54,8 +48,6 @@ impl nano_schema::Label for EventMove {
 
 type EventMoveParts = (u32, String);
 
-/// The name `Say`.
-#[derive(Drop)]
 struct EventSay {}
 
 impl nano_schema::Label for EventSay {
@@ -66,8 +58,6 @@ impl nano_schema::Label for EventSay {
     }
 }
 
-/// The name `text`.
-#[derive(Drop)]
 struct EventSayText {}
 
 impl nano_schema::Label for EventSayText {
@@ -78,8 +68,6 @@ impl nano_schema::Label for EventSayText {
     }
 }
 
-/// The name `times`.
-#[derive(Drop)]
 struct EventSayTimes {}
 
 impl nano_schema::Label for EventSayTimes {
@@ -120,9 +108,7 @@ type EventRefs2<'a> = nano_schema::Either<(&'a u32, &'a String), EventRefs3<'a>>
 type EventRefs<'a> = nano_schema::Either<(), EventRefs2<'a>>;
 
 impl nano_schema::Choice for Event {
-    ghost use Rattle.example_types.specs.declared.event.Event.TheVariants.{Stop};
-    ghost use Rattle.example_types.specs.declared.event.Event.TheVariants.{Move};
-    ghost use Rattle.example_types.specs.declared.event.Event.TheVariants.{Say};
+    ghost use Rattle.example_types.specs.declared.event.Event.TheVariants.{Stop, Move, Say};
 
     type Values = EventValues;
 

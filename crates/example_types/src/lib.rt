@@ -2,15 +2,19 @@
 //! copies.
 //!
 //! `Server`, `Event`, `Signal` and `Query` are described once by a schema, and `nano_derive` wrote each
-//! format from it; so are `Site`, `Notice` and `Tagged`, which have attributes, and the last has type
-//! parameters. `Limits` and `Tags` are encoded as their one field. `Command` implements bytes and
+//! format from it; so are `Site`, `Clock`, `Notice` and `Tagged`, which have attributes, and the last has type
+//! parameters, and `Point` and `Entry`, whose parts have no names. `Limits` and `Tags` are encoded as their one field. `Command` implements bytes and
 //! `Message` implements JSON by hand, without a schema.
 #![tactic(auto)]
 
+mod clock;
 mod command;
+mod entry;
 mod event;
 mod limits;
 mod message;
+mod notice;
+mod point;
 mod query;
 mod server;
 mod signal;
@@ -18,13 +22,17 @@ mod site;
 mod tagged;
 mod tags;
 
+pub use clock::Clock;
 pub use command::Command;
+pub use entry::Entry;
 pub use event::Event;
 pub use limits::Limits;
 pub use message::Message;
+pub use notice::Notice;
+pub use point::Point;
 pub use query::Query;
 pub use server::Server;
 pub use signal::Signal;
-pub use site::{Notice, Site};
+pub use site::Site;
 pub use tagged::Tagged;
 pub use tags::Tags;

@@ -12,14 +12,11 @@ pub struct Query {
 
 // ---- written by nano_derive
 
-ghost use Rattle.std.specs.Prelude.{codes};
+ghost use Rattle.std.specs.Prelude.{codes, refl};
 ghost use Rattle.nano_schema_bin.specs.Record.{bin_of};
 ghost use Rattle.nano_schema.specs.UserTypes.{agreed};
-ghost use Rattle.std.specs.Prelude.{refl};
 ghost use Rattle.nano_schema_json.specs.Record.{json_of};
 
-/// The name `words`.
-#[derive(Drop)]
 struct QueryWords {}
 
 impl nano_schema::Label for QueryWords {
@@ -30,8 +27,6 @@ impl nano_schema::Label for QueryWords {
     }
 }
 
-/// The name `limit`.
-#[derive(Drop)]
 struct QueryLimit {}
 
 impl nano_schema::Label for QueryLimit {

@@ -22,15 +22,12 @@ pub struct Server {
 
 // ---- written by nano_derive
 
-ghost use Rattle.std.specs.Prelude.{codes};
+ghost use Rattle.std.specs.Prelude.{codes, refl};
 ghost use Rattle.nano_schema_bin.specs.Record.{bin_of};
 ghost use Rattle.nano_schema.specs.UserTypes.{agreed};
-ghost use Rattle.std.specs.Prelude.{refl};
 ghost use Rattle.nano_schema_json.specs.Record.{json_of};
 ghost use Rattle.nano_schema_ron.specs.Record.{ron_of};
 
-/// The name `host`.
-#[derive(Drop)]
 struct ServerHost {}
 
 impl nano_schema::Label for ServerHost {
@@ -41,8 +38,6 @@ impl nano_schema::Label for ServerHost {
     }
 }
 
-/// The name `port`.
-#[derive(Drop)]
 struct ServerPort {}
 
 impl nano_schema::Label for ServerPort {
@@ -53,8 +48,6 @@ impl nano_schema::Label for ServerPort {
     }
 }
 
-/// The name `tags`.
-#[derive(Drop)]
 struct ServerTags {}
 
 impl nano_schema::Label for ServerTags {
@@ -65,8 +58,6 @@ impl nano_schema::Label for ServerTags {
     }
 }
 
-/// The name `limits`.
-#[derive(Drop)]
 struct ServerLimits {}
 
 impl nano_schema::Label for ServerLimits {
@@ -77,8 +68,6 @@ impl nano_schema::Label for ServerLimits {
     }
 }
 
-/// The name `note`.
-#[derive(Drop)]
 struct ServerNote {}
 
 impl nano_schema::Label for ServerNote {

@@ -14,17 +14,13 @@ pub enum Signal {
 
 // ---- written by nano_derive
 
-ghost use Rattle.std.specs.Prelude.{codes};
+ghost use Rattle.std.specs.Prelude.{codes, refl};
 ghost use Rattle.nano_schema.specs.declared.choices.Either.TheVariants.{First, Later};
-ghost use Rattle.nano_schema.specs.UserTypes.{LegalVariant};
+ghost use Rattle.nano_schema.specs.UserTypes.{LegalVariant, agreed};
 ghost use Rattle.nano_schema_bin.specs.Choice.{bin_choice};
-ghost use Rattle.std.specs.Prelude.{refl};
-ghost use Rattle.nano_schema.specs.UserTypes.{agreed};
 ghost use Rattle.nano_schema_json.specs.Choice.{json_choice};
 ghost use Rattle.nano_schema_ron.specs.Choice.{ron_choice};
 
-/// The name `Wait`.
-#[derive(Drop)]
 struct SignalWait {}
 
 impl nano_schema::Label for SignalWait {
@@ -37,8 +33,6 @@ impl nano_schema::Label for SignalWait {
 
 type SignalWaitParts = u64;
 
-/// The name `Move`.
-#[derive(Drop)]
 struct SignalMove {}
 
 impl nano_schema::Label for SignalMove {
@@ -51,8 +45,6 @@ impl nano_schema::Label for SignalMove {
 
 type SignalMoveParts = (u16, u16, u16);
 
-/// The name `Light`.
-#[derive(Drop)]
 struct SignalLight {}
 
 impl nano_schema::Label for SignalLight {
@@ -90,9 +82,7 @@ type SignalRefs2<'a> = nano_schema::Either<(&'a u16, &'a u16, &'a u16), SignalRe
 type SignalRefs<'a> = nano_schema::Either<&'a u64, SignalRefs2<'a>>;
 
 impl nano_schema::Choice for Signal {
-    ghost use Rattle.example_types.specs.declared.signal.Signal.TheVariants.{Wait};
-    ghost use Rattle.example_types.specs.declared.signal.Signal.TheVariants.{Move};
-    ghost use Rattle.example_types.specs.declared.signal.Signal.TheVariants.{Light};
+    ghost use Rattle.example_types.specs.declared.signal.Signal.TheVariants.{Wait, Move, Light};
 
     type Values = SignalValues;
 

@@ -21,21 +21,13 @@ pub struct Tagged<A, B> {
 
 // ---- written by nano_derive
 
-ghost use Rattle.std.specs.Prelude.{codes};
-ghost use Rattle.nano_value.specs.Meaning.{whole};
-ghost use Rattle.nano_schema_bin.specs.Record.{bin_of};
-ghost use Rattle.nano_schema.specs.UserTypes.{agreed};
-ghost use Rattle.nano_value.specs.AgreesLaws.{seen_agrees};
-ghost use Rattle.nano_value.specs.AgreesLaws.{pair_agrees};
-ghost use Rattle.nano_value.specs.AgreesLaws.{option_agrees};
-ghost use Rattle.nano_value.specs.AgreesLaws.{list_agrees};
-ghost use Rattle.std.specs.Prelude.{refl};
-ghost use Rattle.nano_bin.specs.CodecLaws.{both_are_read};
+ghost use Rattle.std.specs.Prelude.{codes, refl};
+ghost use Rattle.nano_schema.specs.UserTypes.{whole, agreed, seen_agrees, pair_agrees};
+ghost use Rattle.nano_schema.specs.UserTypes.{option_agrees, list_agrees};
+ghost use Rattle.nano_schema_bin.specs.Record.{bin_of, both_are_read};
 ghost use Rattle.nano_schema_json.specs.Record.{json_of};
 ghost use Rattle.nano_schema_ron.specs.Record.{ron_of};
 
-/// The name `first`.
-#[derive(Drop)]
 struct TaggedFirst {}
 
 impl nano_schema::Label for TaggedFirst {
@@ -46,8 +38,6 @@ impl nano_schema::Label for TaggedFirst {
     }
 }
 
-/// The name `other`.
-#[derive(Drop)]
 struct TaggedSecond {}
 
 impl nano_schema::Label for TaggedSecond {
@@ -58,8 +48,6 @@ impl nano_schema::Label for TaggedSecond {
     }
 }
 
-/// The name `more`.
-#[derive(Drop)]
 struct TaggedMore {}
 
 impl nano_schema::Label for TaggedMore {
@@ -70,8 +58,6 @@ impl nano_schema::Label for TaggedMore {
     }
 }
 
-/// The name `times`.
-#[derive(Drop)]
 struct TaggedTimes {}
 
 impl nano_schema::Label for TaggedTimes {
@@ -83,7 +69,6 @@ impl nano_schema::Label for TaggedTimes {
 }
 
 /// The default of `times`.
-#[derive(Drop)]
 struct TaggedTimesDefault {}
 
 impl nano_schema::DefaultOf<u32> for TaggedTimesDefault {

@@ -49,7 +49,7 @@ pub trait SerBin: BinCodec {
     /// ```
     /// let code = vec![in alloc; 1u16, 2]?.serialize_bin(alloc)?;
     /// ```
-    fn serialize_bin(&self, alloc: Global) -> Result<Vec<u8>, AllocError>
+    final fn serialize_bin(&self, alloc: Global) -> Result<Vec<u8>, AllocError>
         ensures { IfOk result (λ bytes. bytes.items ≡ Self.bin.canonical.written self.now) }
     {
         let mut output = Vec::new(alloc);
@@ -119,7 +119,7 @@ pub trait DeBin: BinCodec + Drop {
     /// ```
     /// let again = Vec::<u16>::deserialize_bin(alloc, &code)?;
     /// ```
-    fn deserialize_bin(alloc: Global, d: &[u8]) -> Result<Self, DeBinErr>
+    final fn deserialize_bin(alloc: Global, d: &[u8]) -> Result<Self, DeBinErr>
         ensures ok { IfOk result (λ value.
             DecodesTo Self.bin.encoding.encodes d.now (Self.means value)) }
         ensures err { IfErr result (Rejects Self.bin.encoding.encodes d.now) }
@@ -145,7 +145,7 @@ pub trait DeBin: BinCodec + Drop {
     ///     println!(rt; "{error}")?;
     /// }
     /// ```
-    fn deserialize_bin_whole(alloc: Global, d: &[u8]) -> Result<Self, DeBinErr>
+    final fn deserialize_bin_whole(alloc: Global, d: &[u8]) -> Result<Self, DeBinErr>
         ensures ok { IfOk result (λ value. Self.bin.encoding.encodes d.now (Self.means value)) }
         ensures err { IfErr result (RejectsWhole Self.bin.encoding.encodes d.now) }
         ensures trailing { IfErr result (IsOfTrailing Self.bin.encoding.encodes d.now) }

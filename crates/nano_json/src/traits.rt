@@ -54,7 +54,7 @@ pub trait SerJson: JsonCodec {
     /// ```
     /// let text = ages.serialize_json(alloc)?;
     /// ```
-    fn serialize_json(&self, alloc: Global) -> Result<String, AllocError>
+    final fn serialize_json(&self, alloc: Global) -> Result<String, AllocError>
         ensures { IfOk result (λ text.
             string_bytes text ≡ encode_utf8_all (Self.json.canonical.text 0 self.now)) }
     {
@@ -116,7 +116,7 @@ pub trait DeJson: JsonCodec + Drop {
     ///     println!(rt; "{error}")?;
     /// }
     /// ```
-    fn deserialize_json(alloc: Global, input: &str) -> Result<Self, DeJsonErr>
+    final fn deserialize_json(alloc: Global, input: &str) -> Result<Self, DeJsonErr>
         ensures decodes { DecodesText Self.json.encoding.encodes Self.means (remaining_text input.now) result }
         ensures rejected { RejectsText Self.json.encoding.encodes (remaining_text input.now) result }
         ensures place { PointsInto input.now result }
@@ -146,7 +146,7 @@ pub trait DeJson: JsonCodec + Drop {
     ///     println!(rt; "{error}")?;
     /// }
     /// ```
-    fn deserialize_json_whole(alloc: Global, input: &str) -> Result<Self, DeJsonErr>
+    final fn deserialize_json_whole(alloc: Global, input: &str) -> Result<Self, DeJsonErr>
         ensures decodes { DecodesWhole Self.json.encoding.encodes Self.means input.now result }
         ensures rejected { RejectsWhole Self.json.encoding.encodes input.now result }
         ensures trailing { NamesTheEnd Self.json.encoding.encodes input.now result }

@@ -54,7 +54,7 @@ pub trait SerRon: RonCodec {
     /// ```
     /// let text = point.serialize_ron(alloc)?;
     /// ```
-    fn serialize_ron(&self, alloc: Global) -> Result<String, AllocError>
+    final fn serialize_ron(&self, alloc: Global) -> Result<String, AllocError>
         ensures { IfOk result (λ text.
             string_bytes text ≡ encode_utf8_all (Self.ron.canonical.text 0 self.now)) }
     {
@@ -114,7 +114,7 @@ pub trait DeRon: RonCodec + Drop {
     /// ```
     /// let point = <(i32, Option<bool>)>::deserialize_ron(alloc, "(-1, None) // a point")?;
     /// ```
-    fn deserialize_ron(alloc: Global, input: &str) -> Result<Self, DeRonErr>
+    final fn deserialize_ron(alloc: Global, input: &str) -> Result<Self, DeRonErr>
         ensures decodes { DecodesText Self.ron.encoding.encodes Self.means (remaining_text input.now) result }
         ensures rejected { RejectsText Self.ron.encoding.encodes (remaining_text input.now) result }
         ensures place { PointsInto input.now result }
@@ -144,7 +144,7 @@ pub trait DeRon: RonCodec + Drop {
     ///     println!(rt; "{error}")?;
     /// }
     /// ```
-    fn deserialize_ron_whole(alloc: Global, input: &str) -> Result<Self, DeRonErr>
+    final fn deserialize_ron_whole(alloc: Global, input: &str) -> Result<Self, DeRonErr>
         ensures decodes { DecodesWhole Self.ron.encoding.encodes Self.means input.now result }
         ensures rejected { RejectsWhole Self.ron.encoding.encodes input.now result }
         ensures trailing { NamesTheEnd Self.ron.encoding.encodes input.now result }

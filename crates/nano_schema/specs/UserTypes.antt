@@ -1,3 +1,5 @@
 -- What the file of a user-defined type needs of `nano_value`, passed on.
-pub use Rattle.nano_value.specs.AgreesLaws.{agreed}
+pub use Rattle.nano_value.specs.AgreesLaws.{agreed, seen_agrees, pair_agrees}
+pub use Rattle.nano_value.specs.AgreesLaws.{option_agrees, list_agrees}
+pub use Rattle.nano_value.specs.Meaning.{whole, number, truth, text}
 pub use Rattle.nano_value.specs.Sums.{LegalVariant}

@@ -13,7 +13,7 @@ ghost use Rattle.nano_schema_json.specs.FieldsLaws.{json_fields};
 use crate::fields::{JsonFields, JsonRefs};
 use crate::read::read_fields;
 use crate::writer::write_fields;
-use nano_json::{DeJsonErr, DeJsonState, SerJsonState};
+use nano_json::{DeJson, DeJsonErr, DeJsonState, SerJsonState};
 use nano_schema::{Parts, Record};
 use std::alloc::{AllocError, Global};
 use std::str::Chars;
@@ -36,6 +36,29 @@ pub fn read_record_json<R: Record, F: JsonFields<Values = R::Values>>(
     ensures made { IfErr result (IsPlacedAt state.new) }
 {
     match read_fields::<F>(alloc, state, input) {
+        Ok(values) => Ok(R::make(values)),
+        Err(error) => Err(error),
+    }
+}
+
+/// Reads a user-defined struct of parts without names, which is encoded as their tuple. The token
+/// after it is pending then, which may be the end.
+///
+/// An error other than out of memory says that no such tuple is encoded there, with one more token
+/// or the end after it. Every error leaves the state at the end of the text.
+pub fn read_parts_json<R: Record<Values = P>, P: DeJson>(
+    alloc: Global,
+    state: &mut DeJsonState,
+    input: &mut Chars<'_>,
+) -> Result<R, DeJsonErr>
+    ensures decodes { Decodes P.json.encoding.encodes (λ value. P.means (R.view value))
+        (at state.old input.old) (at state.new input.new) result }
+    ensures rejected { Rejects P.json.encoding.encodes (at state.old input.old) result }
+    ensures ended { OnErr result (at state.new input.new ≡ ended) }
+    ensures place { Counts state.old input.old state.new input.new }
+    ensures made { IfErr result (IsPlacedAt state.new) }
+{
+    match P::de_json(alloc, state, input) {
         Ok(values) => Ok(R::make(values)),
         Err(error) => Err(error),
     }

@@ -4,7 +4,9 @@ use Rattle.std.proofs.Common.{sym}
 use Rattle.std.proofs.lemmas.Bool.{and_parts}
 use Rattle.nano_schema_text.specs.FieldCodec.{FieldsCodec}
 use Rattle.nano_schema_text.specs.Names.{are_distinct}
-use Rattle.nano_ron.specs.Codec.{Codec, codec_as}
+use Rattle.nano_ron.specs.Codec.{Codec}
+-- what a struct without names needs, passed on
+pub use Rattle.nano_ron.specs.Codec.{codec_as}
 use Rattle.nano_schema_ron.specs.FieldsLaws.{ron_fields, word_names}
 use Rattle.nano_schema_ron.specs.Fields.{fields_codec}
 use Rattle.nano_schema_ron.specs.Names.{are_names}

@@ -31,7 +31,7 @@ pub use fields::{RonFields, RonRefs, RonShape};
 pub use nano_ron::{BothRon, DeRon, DeRonErr, DeRonState, RonCodec, SerRon, SerRonState};
 pub use part::Part;
 pub use read::read_fields;
-pub use record::{read_record_ron, write_record_ron};
+pub use record::{read_parts_ron, read_record_ron, write_record_ron};
 pub use variant_writer::{write_fields_variant, write_unit_variant, write_variant};
 pub use variants::{read_variant_name, unknown_variant};
 pub use writer::write_fields;

@@ -33,12 +33,12 @@ pub use nano_schema_bin::{
     write_record_bin,
 };
 pub use nano_schema_json::{
-    JsonFields, JsonRefs, JsonResult, JsonShape, JsonShapes, read_choice_json, read_record_json,
-    write_choice_json, write_record_json,
+    JsonFields, JsonRefs, JsonResult, JsonShape, JsonShapes, read_choice_json, read_parts_json,
+    read_record_json, write_choice_json, write_record_json,
 };
 pub use nano_schema_ron::{
-    RonFields, RonRefs, RonResult, RonShape, RonShapes, read_choice_ron, read_record_ron,
-    write_choice_ron, write_record_ron,
+    RonFields, RonRefs, RonResult, RonShape, RonShapes, read_choice_ron, read_parts_ron,
+    read_record_ron, write_choice_ron, write_record_ron,
 };
 pub use nano_toml::{Toml, TomlErr, TomlParser, TomlTok, laws as toml_laws};
 pub use nano_value::{

@@ -29,7 +29,7 @@ const OF_PARTS: &[&str] = &[
     "nano_schema_bin::write_record_bin::<Self, AFields>(self, alloc, output)",
     "            nano_schema_json::Part { of: &self.1 },\n        );\n",
     "        nano_schema_ron::SerRon::ser_ron(&parts, alloc, d, s)\n",
-    "        match <AValues as nano_schema_ron::DeRon>::de_ron(alloc, state, input) {\n",
+    "        nano_schema_ron::read_parts_ron::<Self, AValues>(alloc, state, input)\n",
 ];
 
 #[test]
@@ -129,11 +129,11 @@ fn a_skipped_field_is_in_no_row(rt: HostRuntime) {
 const CITING: &[Row] = &[
     (
         "// nanoserde: json\nstruct A {\n    a: u8,\n}",
-        "ghost use Rattle.std.specs.Prelude.{refl};\n",
+        "ghost use Rattle.std.specs.Prelude.{codes, refl};\n",
     ),
     (
         "// nanoserde: ron\nstruct A {\n    a: u8,\n}",
-        "ghost use Rattle.std.specs.Prelude.{refl};\n",
+        "ghost use Rattle.std.specs.Prelude.{codes, refl};\n",
     ),
 ];
 

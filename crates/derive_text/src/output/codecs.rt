@@ -103,23 +103,23 @@ const CITED: [(&str, &str); 7] = [
     ),
     (
         "seen_agrees",
-        "ghost use Rattle.nano_value.specs.AgreesLaws.{seen_agrees};",
+        "ghost use Rattle.nano_schema.specs.UserTypes.{seen_agrees};",
     ),
     (
         "pair_agrees",
-        "ghost use Rattle.nano_value.specs.AgreesLaws.{pair_agrees};",
+        "ghost use Rattle.nano_schema.specs.UserTypes.{pair_agrees};",
     ),
     (
         "option_agrees",
-        "ghost use Rattle.nano_value.specs.AgreesLaws.{option_agrees};",
+        "ghost use Rattle.nano_schema.specs.UserTypes.{option_agrees};",
     ),
     (
         "list_agrees",
-        "ghost use Rattle.nano_value.specs.AgreesLaws.{list_agrees};",
+        "ghost use Rattle.nano_schema.specs.UserTypes.{list_agrees};",
     ),
     ("refl", "ghost use Rattle.std.specs.Prelude.{refl};"),
     (
         "both_are_read",
-        "ghost use Rattle.nano_bin.specs.CodecLaws.{both_are_read};",
+        "ghost use Rattle.nano_schema_bin.specs.Record.{both_are_read};",
     ),
 ];

@@ -17,35 +17,35 @@ struct Given {
 }
 
 const WHOLE: Given = Given {
-    import: "ghost use Rattle.nano_value.specs.Meaning.{whole};",
+    import: "ghost use Rattle.nano_schema.specs.UserTypes.{whole};",
     meaning: "whole $GIVEN",
     argument: "_alloc",
     value: "Ok($GIVEN)",
 };
 
 const POSITIVE: Given = Given {
-    import: "ghost use Rattle.nano_value.specs.Meaning.{number};",
+    import: "ghost use Rattle.nano_schema.specs.UserTypes.{number};",
     meaning: "number (pos $GIVEN)",
     argument: "_alloc",
     value: "Ok($GIVEN)",
 };
 
 const NEGATIVE: Given = Given {
-    import: "ghost use Rattle.nano_value.specs.Meaning.{number};",
+    import: "ghost use Rattle.nano_schema.specs.UserTypes.{number};",
     meaning: "number (neg_ℤ (pos $GIVEN))",
     argument: "_alloc",
     value: "Ok(-$GIVEN)",
 };
 
 const TRUTH: Given = Given {
-    import: "ghost use Rattle.nano_value.specs.Meaning.{truth};",
+    import: "ghost use Rattle.nano_schema.specs.UserTypes.{truth};",
     meaning: "truth $GIVEN",
     argument: "_alloc",
     value: "Ok($GIVEN)",
 };
 
 const TEXT: Given = Given {
-    import: "ghost use Rattle.nano_value.specs.Meaning.{text};",
+    import: "ghost use Rattle.nano_schema.specs.UserTypes.{text};",
     meaning: "text (codes \"$GIVEN\")",
     argument: "alloc",
     value: "String::from_str(alloc, \"$GIVEN\")",
@@ -97,7 +97,6 @@ fn import_constants(sheet: &mut Sheet, kind: &Given, given: &str) -> Result<(), 
 
 const DEFAULT: &str = "
 /// The default of `$FIELD`.
-#[derive(Drop)]
 struct $NAME {}
 
 impl nano_schema::DefaultOf<$OF> for $NAME {

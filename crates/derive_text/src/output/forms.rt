@@ -57,9 +57,9 @@ pub(crate) const CHOICE: Form = Form {
 };
 
 const HELD: [&[&str]; 3] = [
-    &["ghost use Rattle.nano_bin.specs.Codec.{codec_as as bin_as};"],
-    &["ghost use Rattle.nano_json.specs.Codec.{codec_as as json_as};"],
-    &["ghost use Rattle.nano_ron.specs.Codec.{codec_as as ron_as};"],
+    &["ghost use Rattle.nano_schema_bin.specs.Record.{codec_as as bin_as};"],
+    &["ghost use Rattle.nano_schema_json.specs.Record.{codec_as as json_as};"],
+    &["ghost use Rattle.nano_schema_ron.specs.Record.{codec_as as ron_as};"],
 ];
 
 /// A struct of one part, which it is.
@@ -80,9 +80,6 @@ pub(crate) fn tupled(write: &str) -> Form<'_> {
         term: "$MODULE_as ⟦<$FULL as nano_schema::Record>⟧.view \
             ⟦<$VALUES as nano_schema_$MODULE::$NAMECodec>⟧.$MODULE",
         write,
-        read: "        match <$VALUES as nano_schema_$MODULE::De$NAME>::de_$MODULE($ARGUMENTS) {
-            Ok(value) => Ok(<Self as nano_schema::Record>::make(value)),
-            Err(error) => Err(error),
-        }",
+        read: "        nano_schema_$MODULE::read_parts_$MODULE::<Self, $VALUES>($ARGUMENTS)",
     }
 }

@@ -5,8 +5,6 @@ use crate::output::template::Holes;
 use std::alloc::AllocError;
 
 const LABEL: &str = "
-/// The name `$TEXT`.
-#[derive(Drop)]
 struct $LABEL {}
 
 impl nano_schema::Label for $LABEL {

@@ -17,8 +17,27 @@ pub(crate) struct Sheet {
     pub(crate) names: Names,
     /// The items.
     text: String,
-    /// The lines that bring ghost names in, each once.
-    imports: Vec<&'static str>,
+    /// What brings ghost names in, once for each module.
+    imports: Vec<Import>,
+}
+
+/// What brings in ghost names of a module.
+#[derive(Drop)]
+struct Import {
+    /// The line up to the names.
+    module: &'static str,
+    /// The names, each once.
+    names: Vec<&'static str>,
+}
+
+impl Import {
+    /// Adds names, if they are not there yet.
+    fn add(&mut self, names: &'static str) -> Result<(), AllocError> {
+        if !self.names.contains(&names) {
+            self.names.push(names)?;
+        }
+        Ok(())
+    }
 }
 
 impl Sheet {
@@ -32,12 +51,21 @@ impl Sheet {
         }
     }
 
-    /// Brings in a ghost name by a line.
+    /// Brings in what a line brings in: `ghost use`, a module, and names between curly brackets.
     pub(crate) fn import(&mut self, line: &'static str) -> Result<(), AllocError> {
-        if !self.imports.contains(&line) {
-            self.imports.push(line)?;
+        let (module, names) = line.split_once(".{").unwrap_or((line, "};"));
+        let names = names.strip_suffix("};").unwrap_or(names);
+        for import in &mut self.imports {
+            if import.module == module {
+                return import.add(names);
+            }
         }
-        Ok(())
+        let mut import = Import {
+            module,
+            names: Vec::new(self.alloc),
+        };
+        import.add(names)?;
+        Ok(self.imports.push(import)?)
     }
 
     /// Appends the name of a type.
@@ -115,13 +143,33 @@ impl Sheet {
     /// The lines that bring names in, and then the items.
     pub(crate) fn finish(self) -> Result<String, AllocError> {
         let mut output = String::from_str(self.alloc, "\n")?;
-        for line in &self.imports {
-            output.push_str(*line)?;
-            output.push('\n')?;
+        for import in &self.imports {
+            append_import(&mut output, import)?;
         }
         output.push_str(self.text.as_str())?;
         Ok(output)
     }
+}
+
+/// Appends what brings in names of a module, on each line as many as it has space for.
+fn append_import(output: &mut String, import: &Import) -> Result<(), AllocError> {
+    let mut used = 0usize;
+    for names in &import.names {
+        let longer = used.saturating_add(width(*names)).saturating_add(2);
+        if used > 0 && longer.saturating_add(2) <= COLUMNS {
+            output.push_str(", ")?;
+            used = longer;
+        } else {
+            output.push_str(if used > 0 { "};\n" } else { "" })?;
+            output.push_str(import.module)?;
+            output.push_str(".{")?;
+            used = width(import.module)
+                .saturating_add(2)
+                .saturating_add(width(*names));
+        }
+        output.push_str(*names)?;
+    }
+    output.push_str("};\n")
 }
 
 /// Whether no `⟦` is open in a part of a term.

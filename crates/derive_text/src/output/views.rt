@@ -1,21 +1,34 @@
 //! How an enum is seen as the content of its variant, in a ghost term.
 
+use crate::output::layout::{COLUMNS, width};
 use crate::output::rows::ghost_pairs;
 use crate::output::target::Target;
 use derive_syntax::{Content, Variant};
 use std::alloc::{AllocError, Global};
 
-/// Lines that bring in the ghost names of the variants.
+/// Lines that bring in the ghost names of the variants, on each line as many as it has space for.
 pub(crate) fn variant_imports<'a>(
     alloc: Global,
     target: &Target<'a>,
     variants: &[Variant<'a>],
 ) -> Result<String, AllocError> {
-    let mut text = String::new(alloc);
+    let mut lines = String::new(alloc);
+    let mut last = String::new(alloc);
     for variant in variants {
-        text.push_str(variant_import(alloc, target, variant.name.text)?.as_str())?;
+        let name = variant.name.text;
+        let longer = match last.strip_suffix("};\n") {
+            Some(start) => format!(in alloc; "{start}, {name}}};\n")?,
+            None => variant_import(alloc, target, name)?,
+        };
+        if width(longer.as_str()) > COLUMNS.saturating_add(1) {
+            lines.push_str(last.as_str())?;
+            last = variant_import(alloc, target, name)?;
+        } else {
+            last = longer;
+        }
     }
-    Ok(text)
+    lines.push_str(last.as_str())?;
+    Ok(lines)
 }
 
 /// A line that brings in the ghost name of a variant.

@@ -19,17 +19,13 @@ pub enum Choice {
 
 // ---- written by nano_derive
 
-ghost use Rattle.std.specs.Prelude.{codes};
+ghost use Rattle.std.specs.Prelude.{codes, refl};
 ghost use Rattle.nano_schema.specs.declared.choices.Either.TheVariants.{First, Later};
-ghost use Rattle.nano_schema.specs.UserTypes.{LegalVariant};
+ghost use Rattle.nano_schema.specs.UserTypes.{LegalVariant, agreed};
 ghost use Rattle.nano_schema_bin.specs.Choice.{bin_choice};
-ghost use Rattle.std.specs.Prelude.{refl};
-ghost use Rattle.nano_schema.specs.UserTypes.{agreed};
 ghost use Rattle.nano_schema_json.specs.Choice.{json_choice};
 ghost use Rattle.nano_schema_ron.specs.Choice.{ron_choice};
 
-/// The name `A`.
-#[derive(Drop)]
 struct ChoiceA {}
 
 impl nano_schema::Label for ChoiceA {
@@ -40,8 +36,6 @@ impl nano_schema::Label for ChoiceA {
     }
 }
 
-/// The name `B`.
-#[derive(Drop)]
 struct ChoiceB {}
 
 impl nano_schema::Label for ChoiceB {
@@ -54,8 +48,6 @@ impl nano_schema::Label for ChoiceB {
 
 type ChoiceBParts = (i32, String);
 
-/// The name `C`.
-#[derive(Drop)]
 struct ChoiceC {}
 
 impl nano_schema::Label for ChoiceC {
@@ -66,8 +58,6 @@ impl nano_schema::Label for ChoiceC {
     }
 }
 
-/// The name `a`.
-#[derive(Drop)]
 struct ChoiceCA {}
 
 impl nano_schema::Label for ChoiceCA {
@@ -78,8 +68,6 @@ impl nano_schema::Label for ChoiceCA {
     }
 }
 
-/// The name `b`.
-#[derive(Drop)]
 struct ChoiceCB {}
 
 impl nano_schema::Label for ChoiceCB {
@@ -120,9 +108,7 @@ type ChoiceRefs2<'a> = nano_schema::Either<(&'a i32, &'a String), ChoiceRefs3<'a
 type ChoiceRefs<'a> = nano_schema::Either<(), ChoiceRefs2<'a>>;
 
 impl nano_schema::Choice for Choice {
-    ghost use Rattle.nanoserde.specs.declared.records.choice.Choice.TheVariants.{A};
-    ghost use Rattle.nanoserde.specs.declared.records.choice.Choice.TheVariants.{B};
-    ghost use Rattle.nanoserde.specs.declared.records.choice.Choice.TheVariants.{C};
+    ghost use Rattle.nanoserde.specs.declared.records.choice.Choice.TheVariants.{A, B, C};
 
     type Values = ChoiceValues;
 

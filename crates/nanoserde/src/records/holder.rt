@@ -10,15 +10,12 @@ pub struct Holder<T> {
 
 // ---- written by nano_derive
 
-ghost use Rattle.std.specs.Prelude.{codes};
+ghost use Rattle.std.specs.Prelude.{codes, refl};
 ghost use Rattle.nano_schema_bin.specs.Record.{bin_of};
-ghost use Rattle.nano_value.specs.AgreesLaws.{seen_agrees};
+ghost use Rattle.nano_schema.specs.UserTypes.{seen_agrees};
 ghost use Rattle.nano_schema_json.specs.Record.{json_of};
-ghost use Rattle.std.specs.Prelude.{refl};
 ghost use Rattle.nano_schema_ron.specs.Record.{ron_of};
 
-/// The name `x`.
-#[derive(Drop)]
 struct HolderX {}
 
 impl nano_schema::Label for HolderX {

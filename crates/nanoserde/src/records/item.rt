@@ -12,15 +12,12 @@ pub struct Item {
 
 // ---- written by nano_derive
 
-ghost use Rattle.std.specs.Prelude.{codes};
+ghost use Rattle.std.specs.Prelude.{codes, refl};
 ghost use Rattle.nano_schema_bin.specs.Record.{bin_of};
 ghost use Rattle.nano_schema.specs.UserTypes.{agreed};
-ghost use Rattle.std.specs.Prelude.{refl};
 ghost use Rattle.nano_schema_json.specs.Record.{json_of};
 ghost use Rattle.nano_schema_ron.specs.Record.{ron_of};
 
-/// The name `value`.
-#[derive(Drop)]
 struct ItemValue {}
 
 impl nano_schema::Label for ItemValue {
@@ -31,8 +28,6 @@ impl nano_schema::Label for ItemValue {
     }
 }
 
-/// The name `note`.
-#[derive(Drop)]
 struct ItemNote {}
 
 impl nano_schema::Label for ItemNote {
