@@ -31,6 +31,7 @@ impl<T: SerBin> SerBin for Option<T> {
 impl<T: DeBin> DeBin for Option<T> {
     ghost is_decodable = { T.is_decodable };
 
+    #[inline(always)]
     fn de_bin(alloc: Global, offset: &mut usize, bytes: &[u8]) -> Result<Option<T>, DeBinErr> {
         let mut at = *offset;
         let tag = u8::de_bin(alloc, &mut at, bytes)?;

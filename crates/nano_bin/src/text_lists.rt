@@ -11,12 +11,41 @@ use nano_bytes::{FixedWidth, append_bytes_after};
 use std::alloc::AllocError;
 
 /// So many bytes are gathered before they are appended.
-const BLOCK: usize = 512;
+const BLOCK: usize = 1024;
+/// From so many texts on, blocks cost less than a test of the capacity for each text.
+const MANY: usize = 32;
 /// So many bytes hold the length of a text.
 const LENGTH: usize = 8;
 
 /// Appends texts, one after the other. On error, `output` is unchanged.
 pub(crate) fn append_texts(texts: &[String], output: &mut Vec<u8>) -> Result<(), AllocError>
+    ensures ok { OnOk result
+        (output.new.items ≡ output.old.items ++ flat_map string_codec.canonical.written texts.now) }
+    ensures err { OnErr result (output.new.items ≡ output.old.items) }
+{
+    if texts.len() < MANY {
+        append_each(texts, output)
+    } else {
+        append_blocks(texts, output)
+    }
+}
+
+/// Appends each text by itself. On error, `output` is unchanged.
+fn append_each(texts: &[String], output: &mut Vec<u8>) -> Result<(), AllocError>
+    ensures ok { OnOk result
+        (output.new.items ≡ output.old.items ++ flat_map string_codec.canonical.written texts.now) }
+    ensures err { OnErr result (output.new.items ≡ output.old.items) }
+{
+    let start = output.len();
+    for text in texts {
+        append_text(text.as_bytes(), output, start)?;
+    }
+    Ok(())
+}
+
+/// Appends texts block by block, into room that is made for all of them. On error, `output` is
+/// unchanged.
+fn append_blocks(texts: &[String], output: &mut Vec<u8>) -> Result<(), AllocError>
     ensures ok { OnOk result
         (output.new.items ≡ output.old.items ++ flat_map string_codec.canonical.written texts.now) }
     ensures err { OnErr result (output.new.items ≡ output.old.items) }

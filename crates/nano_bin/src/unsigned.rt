@@ -20,8 +20,12 @@ impl BinCodec for u8 {
 }
 
 impl SerBin for u8 {
+    #[tactic(auto, using(nano_bytes::specs::LittleEndianLaws::little_byte))]
     fn ser_bin(&self, alloc: Global, output: &mut Vec<u8>) -> Result<(), AllocError> {
-        append_number::<u8, 1>(self, output)
+        match output.push(*self) {
+            Ok(()) => Ok(()),
+            Err(_) => Err(AllocError),
+        }
     }
 
     fn ser_bin_items(alloc: Global, items: &[u8], output: &mut Vec<u8>) -> Result<(), AllocError> {

@@ -98,6 +98,7 @@ pub fn read_bytes<'a>(
 ///
 /// It fails where fewer bytes are left, where they are not UTF-8, and where allocation of the
 /// text fails; every error leaves `offset` unchanged.
+#[inline(always)]
 pub fn read_utf8(
     alloc: Global,
     count: usize,

@@ -6,6 +6,6 @@ use Rattle.nano_bin.proofs.text_lists.gather.Given as goal
 
 abbrev pub invariant-loop-count : goal.invariant-loop-count
 invariant-loop-count l = record {
-  inside : l.place ≤ 512;
+  inside : l.place ≤ 1024;
   gathered : take l.place l.bytes ≡ flat_map string_codec.canonical.written (take l.count l.texts);
 }

@@ -1,4 +1,4 @@
-use Rattle.std.proofs.Common.{rules, ◌≡◌, ◌+◌, ◌-◌, ◌≤◌, ◌++◌, ◌∙◌, ℕ, List, take, length, ap, arith, append_assoc}
+use Rattle.std.proofs.Common.{rules, ◌≡◌, ◌+◌, ◌≤◌, ◌++◌, ◌∙◌, ℕ, List, take, length, ap, arith, append_assoc}
 use Rattle.std.proofs.lemmas.Slice.{take-put_mid, overwrites}
 use borrow.Rule.Slice.PartMut.{put_mid}
 use Rattle.nano_bytes.specs.LittleEndian.{little_endian}

@@ -2,7 +2,7 @@
 use Rattle.std.proofs.Common.{length}
 use Rattle.nano_bytes.proofs.Writers.{WritesSoFar}
 use Rattle.nano_bin.specs.TextsLaws.{string_codec}
-use Rattle.nano_bin.proofs.text_lists.append_texts.Given as goal
+use Rattle.nano_bin.proofs.text_lists.append_blocks.Given as goal
 
 abbrev pub invariant-loop-rest : goal.invariant-loop-rest
 invariant-loop-rest l = WritesSoFar string_codec.canonical.written l.fn.output.items l.output.items l.rest l.texts

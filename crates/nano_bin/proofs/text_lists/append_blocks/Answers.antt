@@ -2,7 +2,7 @@ use Rattle.std.proofs.Common.{◌≡◌, ◌++◌, ◌∙◌, take, sym, ap}
 use Rattle.std.proofs.lemmas.List.{take-append-drop}
 use Rattle.nano_bytes.proofs.Writers.{write_block}
 use Rattle.nano_bin.specs.TextsLaws.{string_codec}
-use Rattle.nano_bin.proofs.text_lists.append_texts.Goals as goal
+use Rattle.nano_bin.proofs.text_lists.append_blocks.Goals as goal
 
 pub loop-rest-preserved : goal.loop-rest-preserved
 loop-rest-preserved c =
