@@ -12,7 +12,7 @@ import pathlib
 import re
 import sys
 
-ITEM = re.compile(r"^(\s*)(pub |pub\(crate\) )?(trait|impl|fn)\b(.*)")
+ITEM = re.compile(r"^(\s*)(pub |pub\(crate\) )?(?:final )?(trait|impl|fn)\b(.*)")
 COMMENT = re.compile(r"//.*")
 
 
