@@ -9,7 +9,8 @@
 # already. OUT then has
 #     counts.txt   FORMAT/KIND/PEER/OP MEGABYTES INSTRUCTIONS: all at 1 MB, the port also at 10 MB
 #     speeds.txt   FORMAT/KIND/PEER/OP MEGABYTES MB/S: of nine runs the median, all peers in one
-#                  process, in which they take turns; so only those of one case and size compare
+#                  process, in which they take turns; at 1 MB, of five such processes the one in
+#                  which the port is in the middle. Only those of one case and size compare
 #     peaks.txt    FORMAT/KIND/PEER/OP KIBIBYTES: the peak of a process that reads 10 MB
 #     tables.md    the tables of these, which it prints
 #     speed.svg    the picture of the ratios
@@ -76,12 +77,27 @@ while read -r name; do
     esac
 done < "$out/names"
 
-"$program" --runs 9 --sizes 1,10 ${3:+--filter "$3"} > "$out/log"
-awk '{
-    split($1, part, "/")
-    size = $2 < 5 ? 1 : 10
-    for (i = 3; i < NF; i += 2) print part[1] "/" part[2] "/" $i "/" part[3], size, $(i + 1)
-}' "$out/log" | grep -E '/(read|norm) [0-9]+ [0-9]' > "$out/speeds.txt"
+# raced MEGABYTES: one process in which all peers take turns
+raced() { "$program" --runs 9 --sizes "$1" ${filtered:+--filter "$filtered"}; }
+
+filtered=${3:-}
+for _ in 1 2 3 4 5; do raced 1; done > "$out/log"
+raced 10 >> "$out/log"
+# A line has the case, its size, and the names and speeds of the two peers and of the port.
+awk '$1 ~ /.(read|norm)$/ && NF == 8 {
+    print $1, $2 < 5 ? 1 : 10, $8 / ($4 + 0 > $6 + 0 ? $4 : $6), $3, $4, $5, $6, $7, $8
+}' "$out/log" | sort -k 1,1 -k 2,2n -k 3,3n | awk '
+    function middle(   word, part, i) {
+        if (!many) return
+        split(line[int((many + 1) / 2)], word, " ")
+        split(word[1], part, "/")
+        for (i = 4; i < 9; i += 2)
+            print part[1] "/" part[2] "/" word[i] "/" part[3], word[2], word[i + 1]
+        many = 0
+    }
+    $1 " " $2 != name { middle() }
+    { name = $1 " " $2; line[++many] = $0 }
+    END { middle() }' > "$out/speeds.txt"
 
 sh "$here/tables.sh" "$out/counts.txt" "$out/speeds.txt" "$out/peaks.txt" | tee "$out/tables.md"
 sh "$here/picture.sh" "$out/counts.txt" "$out/speeds.txt" > "$out/speed.svg"
