@@ -16,7 +16,7 @@ fn begins(rt: &impl Abort, became: Result<String, AllocError>, expected: &str) {
 }
 
 /// Each source has the fault that stands after it.
-fn are_told(rt: &impl Abort, alloc: Global, rows: &str) {
+fn are_reported(rt: &impl Abort, alloc: Global, rows: &str) {
     for row in rows.split("\n----\n") {
         let (above, expected) = row.split_once("\n=> ").unwrap_or((row, "a fault"));
         begins(rt, outcome_above(alloc, above), expected);
@@ -25,27 +25,27 @@ fn are_told(rt: &impl Abort, alloc: Global, rows: &str) {
 
 #[test]
 fn items_are_structs_and_enums(rt: HostRuntime) {
-    are_told(&rt, rt.alloc(), ITEMS);
+    are_reported(&rt, rt.alloc(), ITEMS);
 }
 
 #[test]
 fn types_are_known(rt: HostRuntime) {
-    are_told(&rt, rt.alloc(), TYPES);
+    are_reported(&rt, rt.alloc(), TYPES);
 }
 
 #[test]
 fn attributes_stand_where_they_have_a_meaning(rt: HostRuntime) {
-    are_told(&rt, rt.alloc(), ATTRIBUTES);
+    are_reported(&rt, rt.alloc(), ATTRIBUTES);
 }
 
 #[test]
 fn a_default_is_a_value_of_its_field(rt: HostRuntime) {
-    are_told(&rt, rt.alloc(), DEFAULTS);
+    are_reported(&rt, rt.alloc(), DEFAULTS);
 }
 
 #[test]
 fn a_skipped_field_has_a_default(rt: HostRuntime) {
-    are_told(&rt, rt.alloc(), SKIPPED);
+    are_reported(&rt, rt.alloc(), SKIPPED);
 }
 
 const MARKERS: &[(&str, &str)] = &[
