@@ -43,15 +43,15 @@ fn append_each(texts: &[String], output: &mut Vec<u8>) -> Result<(), AllocError>
     Ok(())
 }
 
-/// Appends texts block by block, into room that is made for all of them. On error, `output` is
-/// unchanged.
+/// Appends texts block by block, once the capacity is there for all of them. On error, `output`
+/// is unchanged.
 fn append_blocks(texts: &[String], output: &mut Vec<u8>) -> Result<(), AllocError>
     ensures ok { OnOk result
         (output.new.items ≡ output.old.items ++ flat_map string_codec.canonical.written texts.now) }
     ensures err { OnErr result (output.new.items ≡ output.old.items) }
 {
     let start = output.len();
-    output.reserve(room_for(texts))?;
+    output.reserve(capacity_for(texts))?;
     let mut bytes = [0; BLOCK];
     let mut rest = texts;
     while !rest.is_empty() {
@@ -61,13 +61,13 @@ fn append_blocks(texts: &[String], output: &mut Vec<u8>) -> Result<(), AllocErro
     Ok(())
 }
 
-/// How many bytes the texts take. It is for making room alone, so it may wrap.
-fn room_for(texts: &[String]) -> usize {
-    let mut room = texts.len().wrapping_mul(LENGTH);
+/// How many bytes the texts take. It is for the capacity alone, so it may wrap.
+fn capacity_for(texts: &[String]) -> usize {
+    let mut capacity = texts.len().wrapping_mul(LENGTH);
     for text in texts {
-        room = room.wrapping_add(text.len());
+        capacity = capacity.wrapping_add(text.len());
     }
-    room
+    capacity
 }
 
 /// Appends the texts that fit into a block together, or the first alone where it is longer, and

@@ -2,12 +2,16 @@
 #![tactic(auto)]
 
 #[cfg(test)]
-mod default_tests;
+mod default_faults;
 #[cfg(test)]
-mod error_tests;
+mod fault_tests;
+#[cfg(test)]
+mod faults;
 #[cfg(test)]
 mod form_tests;
 #[cfg(test)]
+mod forms;
+#[cfg(test)]
 mod mutation_tests;
 #[cfg(test)]
-mod testing;
+mod outcome;

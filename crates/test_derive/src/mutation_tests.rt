@@ -1,7 +1,9 @@
 //! Mutated copies of sources: for each there is an answer, and what is written is its own answer.
 
+use crate::outcome::MODULE;
 use derive_text::{DeriveError, derive};
 use std::alloc::{AllocError, Global};
+use std::process::Abort;
 
 /// A source with each form that the generator reads.
 const SOURCE: &str = "//! Shapes.
@@ -67,8 +69,8 @@ fn mutated(alloc: Global, at: usize, further: usize, put: &str) -> Result<String
 
 /// Whether a source has an answer: what is written is its own answer, and an error stands in it.
 fn has_answer(alloc: Global, source: &str) -> Result<bool, AllocError> {
-    match derive(alloc, "app.specs.declared.shapes", source) {
-        Ok(text) => match derive(alloc, "app.specs.declared.shapes", text.as_str()) {
+    match derive(alloc, MODULE, source) {
+        Ok(text) => match derive(alloc, MODULE, text.as_str()) {
             Ok(again) => Ok(again.as_str() == text.as_str()),
             Err(_error) => Ok(false),
         },
@@ -89,30 +91,29 @@ fn have_answers(alloc: Global, put: &str) -> Result<bool, AllocError> {
     Ok(count > 500)
 }
 
+/// Each mutated copy with each of these in place of a character has an answer.
+fn all_have_answers(rt: &impl Abort, alloc: Global, puts: &[&str]) {
+    for put in puts {
+        assert!(rt; have_answers(alloc, put) == Ok(true), "{put}");
+    }
+}
+
 #[test]
 fn copies_without_a_character_have_answers(rt: HostRuntime) {
-    for put in ["", "\n"] {
-        assert!(&rt; have_answers(rt.alloc(), put) == Ok(true), "{put}");
-    }
+    all_have_answers(&rt, rt.alloc(), &["", "\n"]);
 }
 
 #[test]
 fn copies_with_a_quote_have_answers(rt: HostRuntime) {
-    for put in ["\"", "'", "\\"] {
-        assert!(&rt; have_answers(rt.alloc(), put) == Ok(true), "{put}");
-    }
+    all_have_answers(&rt, rt.alloc(), &["\"", "'", "\\"]);
 }
 
 #[test]
 fn copies_with_a_bracket_have_answers(rt: HostRuntime) {
-    for put in ["<", "}", "("] {
-        assert!(&rt; have_answers(rt.alloc(), put) == Ok(true), "{put}");
-    }
+    all_have_answers(&rt, rt.alloc(), &["<", "}", "("]);
 }
 
 #[test]
 fn copies_with_a_comment_have_answers(rt: HostRuntime) {
-    for put in ["/", "*", "// nanoserde: "] {
-        assert!(&rt; have_answers(rt.alloc(), put) == Ok(true), "{put}");
-    }
+    all_have_answers(&rt, rt.alloc(), &["/", "*", "// nanoserde: "]);
 }

@@ -49,17 +49,22 @@ fn parts_are_read(alloc: Global) -> Result<bool, DeBinErr> {
     Ok(array == [2, 1] && number == -2 && text.as_str() == "aé" && offset == 8)
 }
 
-/// Whether four bytes are read as chunks, as bytes, and as the numbers of a run and of items.
-fn runs_are_read(alloc: Global) -> Result<bool, DeBinErr> {
-    let (mut one, mut two, mut three, mut four) = (1, 1, 1, 1);
+/// Whether four bytes are read as chunks, and as bytes.
+fn slices_are_read() -> Result<bool, DeBinErr> {
+    let (mut one, mut two) = (1, 1);
     let chunks = read_chunks::<2>(2, &mut one, BYTES)?;
     let bytes = read_bytes(4, &mut two, BYTES)?;
-    let run = read_run::<i16, 2>(alloc, 2, &mut three, BYTES)?;
-    let items = i16::de_bin_items(alloc, 2, &mut four, BYTES)?;
     let are_bytes = chunks == [[2u8, 1], [254, 255]].as_slice()
         && bytes == [2u8, 1, 254, 255].as_slice();
-    let are_numbers = run.as_slice() == NUMBERS && items.as_slice() == NUMBERS;
-    Ok(are_bytes && are_numbers && one == 5 && two == 5 && three == 5 && four == 5)
+    Ok(are_bytes && one == 5 && two == 5)
+}
+
+/// Whether four bytes are read as the numbers of a run, and of items.
+fn runs_are_read(alloc: Global) -> Result<bool, DeBinErr> {
+    let (mut one, mut two) = (1, 1);
+    let run = read_run::<i16, 2>(alloc, 2, &mut one, BYTES)?;
+    let items = i16::de_bin_items(alloc, 2, &mut two, BYTES)?;
+    Ok(run.as_slice() == NUMBERS && items.as_slice() == NUMBERS && one == 5 && two == 5)
 }
 
 /// Whether items of a type that has no reader of many at once are read.
@@ -83,6 +88,7 @@ fn bytes_are_appended_and_read(rt: HostRuntime) {
     let alloc = rt.alloc();
     is_so(&rt, are_appended(alloc), "appended");
     holds(&rt, parts_are_read(alloc).unwrap_or(false), "parts");
+    holds(&rt, slices_are_read().unwrap_or(false), "slices");
     holds(&rt, runs_are_read(alloc).unwrap_or(false), "runs");
     holds(&rt, items_are_read(alloc).unwrap_or(false), "items");
     holds(&rt, are_back(alloc).unwrap_or(false), "back");
@@ -150,12 +156,7 @@ fn bytes_are_rejected(rt: HostRuntime) {
     let expected = "Bin deserialize error at:8 wanted:3 bytes but max size is 10, \
         Bin deserialize error at:8 wanted:3 bytes but max size is 10, TooShort";
     let error = too_short(8, 3, &[0; 10]);
-    is_made(
-        &rt,
-        shown(rt.alloc(), &error),
-        expected,
-        "an error in words",
-    );
+    is_made(&rt, shown(rt.alloc(), &error), expected);
 }
 
 #[test]

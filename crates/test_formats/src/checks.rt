@@ -10,28 +10,18 @@ pub(crate) fn holds(rt: &impl Abort, is_so: bool, call: &str) {
     assert!(rt; is_so, "at {call}");
 }
 
-/// What is reported of a call is what is expected.
-pub(crate) fn is_reported(rt: &impl Abort, reported: &str, expected: &str, call: &str) {
-    assert!(rt; reported == expected, "at {call}: {reported}");
-}
-
 /// What a call that takes memory answers is so.
 pub(crate) fn is_so(rt: &impl Abort, asked: Result<bool, AllocError>, call: &str) {
     match asked {
         Ok(is_so) => holds(rt, is_so, call),
-        Err(_rejected) => is_reported(rt, "no memory", "memory", call),
+        Err(_rejected) => holds(rt, false, "no memory"),
     }
 }
 
 /// The text was made, and is the expected one.
-pub(crate) fn is_made(
-    rt: &impl Abort,
-    made: Result<String, AllocError>,
-    expected: &str,
-    call: &str,
-) {
+pub(crate) fn is_made(rt: &impl Abort, made: Result<String, AllocError>, expected: &str) {
     match made {
-        Ok(made) => is_reported(rt, made.as_str(), expected, call),
-        Err(_rejected) => is_reported(rt, "no memory", expected, call),
+        Ok(made) => assert!(rt; made.as_str() == expected, "{made}"),
+        Err(_rejected) => holds(rt, false, "no memory"),
     }
 }

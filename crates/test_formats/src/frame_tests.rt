@@ -27,6 +27,14 @@ fn are_written(alloc: Global) -> Result<bool, AllocError> {
     Ok(faults == (None, None) && output.taken.as_slice() == TWO)
 }
 
+/// How many calls of that writer there are, and how many bytes it takes.
+fn counts(fails_at: usize, reported: Option<ErrorKind>) -> (usize, usize) {
+    match reported {
+        None => (7, 12),
+        Some(_kind) => (fails_at, fails_at.saturating_sub(1).saturating_mul(2)),
+    }
+}
+
 /// Whether a message over a writer that takes two bytes a call, and fails so at one of its calls,
 /// is written up to that call, which is the last, and the fault is of this kind; or, where none
 /// is reported, is written whole in seven calls.
@@ -38,10 +46,7 @@ fn is_written_up_to(
 ) -> Result<bool, AllocError> {
     let mut output = Sink::new(alloc, 2, fails_at, kind)?;
     let is_reported = fault_of(alloc, 7, &mut output) == reported;
-    let (calls, taken) = match reported {
-        None => (7, 12),
-        Some(_kind) => (fails_at, fails_at.saturating_sub(1).saturating_mul(2)),
-    };
+    let (calls, taken) = counts(fails_at, reported);
     let are_counted = output.calls == calls && output.taken.len() == taken;
     Ok(is_reported && are_counted && TWO.starts_with(output.taken.as_slice()))
 }
@@ -53,19 +58,32 @@ const FAILURES: &[(Option<ErrorKind>, Option<ErrorKind>)] = &[
     (Some(ErrorKind::Interrupted), None),
 ];
 
+/// Whether a message is written up to each call at which the writer fails so.
+fn is_written_up_to_each(
+    alloc: Global,
+    kind: Option<ErrorKind>,
+    reported: Option<ErrorKind>,
+) -> Result<bool, AllocError> {
+    for fails_at in 1..=6 {
+        if !is_written_up_to(alloc, fails_at, kind, reported)? {
+            return Ok(false);
+        }
+    }
+    Ok(true)
+}
+
 #[test]
 fn messages_are_written(rt: HostRuntime) {
     let alloc = rt.alloc();
     is_so(&rt, are_written(alloc), "two");
     for (kind, reported) in FAILURES {
-        for fails_at in 1..=6 {
-            is_so(
-                &rt,
-                is_written_up_to(alloc, fails_at, *kind, *reported),
-                "a failure",
-            );
-        }
+        let is_written = is_written_up_to_each(alloc, *kind, *reported);
+        is_so(&rt, is_written, "a failure");
     }
+}
+
+#[test]
+fn frame_laws(_rt: HostRuntime) {
     laws::what_was_put_is_taken(&7u32);
     laws::frames_give_their_messages(&[7u32, 8]);
     laws::puts_append_frames();
@@ -159,23 +177,24 @@ fn failed_read_loses_nothing(alloc: Global, fails_at: usize) -> Result<bool, All
     Ok(given.messages.as_slice() == [7u32, 264].as_slice() && given.faults == 1)
 }
 
+/// Whether a row is taken so in chunks of each size, however many bytes the reader gives a call.
+fn is_taken_in_each(alloc: Global, row: Row) -> Result<bool, AllocError> {
+    for chunk in 0..14 {
+        let is_taken = is_taken(alloc, row, 1, chunk)?
+            && is_taken(alloc, row, 5, chunk)?
+            && is_taken(alloc, row, 100, chunk)?;
+        if !is_taken {
+            return Ok(false);
+        }
+    }
+    Ok(true)
+}
+
 #[test]
 fn streams_are_taken_in_chunks(rt: HostRuntime) {
     for row in ROWS {
-        for chunk in 0..14 {
-            for most in [1, 5, 100] {
-                is_so(&rt, is_taken(rt.alloc(), *row, most, chunk), row.2);
-            }
-        }
+        is_so(&rt, is_taken_in_each(rt.alloc(), *row), row.2);
     }
-    for fails_at in 1..=6 {
-        is_so(
-            &rt,
-            failed_read_loses_nothing(rt.alloc(), fails_at),
-            "a failure",
-        );
-    }
-    holds(&rt, bad_frame_unchanged(rt.alloc()).unwrap_or(false), "bad");
 }
 
 /// Whether a frame that holds no `u32` is reported as bad, and then taken as a `u8`.
@@ -188,4 +207,13 @@ fn bad_frame_unchanged(alloc: Global) -> Result<bool, Fault> {
         return Ok(false);
     };
     Ok(messages.next::<u8>(alloc)? == Some(7))
+}
+
+#[test]
+fn streams_fail(rt: HostRuntime) {
+    let alloc = rt.alloc();
+    for fails_at in 1..=6 {
+        is_so(&rt, failed_read_loses_nothing(alloc, fails_at), "a failure");
+    }
+    holds(&rt, bad_frame_unchanged(alloc).unwrap_or(false), "bad");
 }

@@ -1,7 +1,7 @@
 //! Tables of TOML texts: what is found in them, their equality, what is nested deep, and the
 //! laws.
 
-use crate::checks::{holds, is_made, is_reported};
+use crate::checks::{holds, is_made};
 use nano_toml::{Toml, TomlErr, TomlParser, TomlTok, laws};
 use std::alloc::{AllocError, Global};
 use std::collections::HashMap;
@@ -14,7 +14,9 @@ fn is_none_and_one(tables: &Vec<HashMap<String, Toml>>) -> bool {
 
 /// Whether these are the number 1 and a `nan` without a sign.
 fn is_one_and_nan(values: &Vec<Toml>) -> bool {
-    values.len() == 2 && values[0] == Toml::Num(1) && values[1] == Toml::Nan(false)
+    values.len() == 2
+        && matches!(&values[0], Toml::Num(1))
+        && matches!(&values[1], Toml::Nan(false))
 }
 
 /// Whether the second of tables has one key.
@@ -44,13 +46,18 @@ fn is_found(alloc: Global, value: &Toml) -> Result<bool, AllocError> {
     }
 }
 
+/// Whether a text that was taken out is the expected one.
+fn is_text(text: String, expected: &str) -> bool {
+    text.as_str() == expected
+}
+
 /// Whether what is taken out of a value is what stands in the text, by its kind. From a number or
 /// a truth nothing is taken out.
 fn is_taken_out(value: Toml) -> bool {
     match &value {
-        Toml::Str(_) => value.into_str().as_str() == "x",
-        Toml::Dec(_) => value.into_dec().as_str() == "-1.50",
-        Toml::Date(_) => value.into_date().as_str() == "1979-05-27",
+        Toml::Str(_) => is_text(value.into_str(), "x"),
+        Toml::Dec(_) => is_text(value.into_dec(), "-1.50"),
+        Toml::Date(_) => is_text(value.into_date(), "1979-05-27"),
         Toml::SimpleArray(_) => is_one_and_nan(&value.into_simple_arr()),
         Toml::Array(_) => is_none_and_one(&value.into_arr()),
         _ => true,
@@ -61,12 +68,23 @@ fn is_taken_out(value: Toml) -> bool {
 const KINDS: &str =
     "n = 5 s = \"x\" b = true f = -1.50 d = 1979-05-27 l = [1, nan] [[t]] [[t]] k = 1";
 
-/// Each value of a text is found, and taken out.
+/// Each value of a table is found, and taken out.
 fn are_found(rt: &impl Abort, alloc: Global, table: HashMap<String, Toml>) {
-    holds(rt, table.len() == 7, "keys");
     for (key, value) in table {
         holds(rt, is_found(alloc, &value) == Ok(true), key.as_str());
         holds(rt, is_taken_out(value), key.as_str());
+    }
+}
+
+#[test]
+fn toml_values(rt: HostRuntime) {
+    let alloc = rt.alloc();
+    match TomlParser::parse(alloc, KINDS) {
+        Ok(table) => {
+            holds(&rt, table.len() == 7, KINDS);
+            are_found(&rt, alloc, table);
+        }
+        Err(_error) => holds(&rt, false, KINDS),
     }
 }
 
@@ -76,37 +94,43 @@ fn shown(alloc: Global, error: &TomlErr) -> Result<String, AllocError> {
     format!(in alloc; "{error}; {copy:?}")
 }
 
-#[test]
-fn toml_values_and_errors(rt: HostRuntime) {
-    let alloc = rt.alloc();
-    let _parser = TomlParser::default();
-    match TomlParser::parse(alloc, KINDS) {
-        Ok(table) => are_found(&rt, alloc, table),
-        Err(_error) => is_reported(&rt, "an error", "a table", KINDS),
+/// The error of a text, as it is shown.
+fn shown_of(alloc: Global, text: &str) -> Result<String, AllocError> {
+    match TomlParser::parse(alloc, text) {
+        Ok(_table) => String::from_str(alloc, "a table"),
+        Err(error) => shown(alloc, &error),
     }
-    let expected = "Toml error: Cannot parse toml tokenizer , line:1 col:6; \
-        Toml error: Cannot parse toml tokenizer , line:1 col:6";
-    match TomlParser::parse(alloc, "a = @") {
-        Ok(_table) => is_reported(&rt, "a table", expected, "@"),
-        Err(error) => is_made(&rt, shown(alloc, &error), expected, "@"),
-    }
-    let last = TomlErr {
+}
+
+/// An error without a message, in the last line.
+fn last_error(alloc: Global) -> TomlErr {
+    TomlErr {
         msg: String::new(alloc),
         line: usize::MAX,
         col: 0,
         memory: true,
-    };
+    }
+}
+
+#[test]
+fn toml_errors(rt: HostRuntime) {
+    let alloc = rt.alloc();
+    let _parser = TomlParser::default();
+    let expected = "Toml error: Cannot parse toml tokenizer , line:1 col:6; \
+        Toml error: Cannot parse toml tokenizer , line:1 col:6";
+    is_made(&rt, shown_of(alloc, "a = @"), expected);
     let expected = "Toml error: , line:18446744073709551615 col:1; \
         Toml error: , line:18446744073709551615 col:1";
-    is_made(&rt, shown(alloc, &last), expected, "the last line");
+    is_made(&rt, shown(alloc, &last_error(alloc)), expected);
     let is_one = TomlTok::U64(1) == TomlTok::U64(1) && TomlTok::U64(1) != TomlTok::I64(1);
     holds(&rt, is_one && TomlTok::Comma != TomlTok::Equals, "tokens");
 }
 
 /// The table of a text, as a value.
 fn table_of(alloc: Global, text: &str) -> Option<Toml> {
-    let table = TomlParser::parse(alloc, text).ok()?;
-    Some(Toml::Array(vec![in alloc; table].ok()?))
+    let mut tables = Vec::new(alloc);
+    tables.push(TomlParser::parse(alloc, text).ok()?).ok()?;
+    Some(Toml::Array(tables))
 }
 
 /// Whether two texts give the same table.
@@ -132,16 +156,17 @@ const PAIRS: &[(&str, &str, bool)] = &[
     ("a = 1979-05-27", "a = \"1979-05-27\"", false),
 ];
 
+#[test]
+fn toml_equality(rt: HostRuntime) {
+    for (one, other, expected) in PAIRS {
+        holds(&rt, same(rt.alloc(), one, other) == Some(*expected), one);
+    }
+}
+
 /// A list of so many levels.
 fn brackets(alloc: Global, open: &str, depth: usize, close: &str) -> Result<String, AllocError> {
-    let mut text = String::from_str(alloc, "a = ")?;
-    for _ in 0..depth {
-        text.push_str(open)?;
-    }
-    for _ in 0..depth {
-        text.push_str(close)?;
-    }
-    Ok(text)
+    let (opened, closed) = (open.repeat(alloc, depth)?, close.repeat(alloc, depth)?);
+    format!(in alloc; "a = {opened}{closed}")
 }
 
 /// The table of a list of so many levels.
@@ -164,17 +189,29 @@ const DEEP: &[(&str, &str)] = &[("[", ""), ("[", "]"), ("[1,", "1]"), ("[[],", "
 const COMPARED: &[(&str, &str)] = &[("[", ""), ("[", "]"), ("[[],1,", "]")];
 
 #[test]
-fn toml_equality_and_laws(rt: HostRuntime) {
-    let alloc = rt.alloc();
-    for (one, other, expected) in PAIRS {
-        holds(&rt, same(alloc, one, other) == Some(*expected), one);
-    }
+fn toml_is_nested(rt: HostRuntime) {
     for (open, close) in DEEP {
-        holds(&rt, nested(alloc, open, 100_000, close).is_some(), open);
+        holds(
+            &rt,
+            nested(rt.alloc(), open, 100_000, close).is_some(),
+            open,
+        );
     }
+}
+
+#[test]
+fn toml_is_compared(rt: HostRuntime) {
     for (open, close) in COMPARED {
-        holds(&rt, is_compared(alloc, open, close) == Some(true), open);
+        holds(
+            &rt,
+            is_compared(rt.alloc(), open, close) == Some(true),
+            open,
+        );
     }
+}
+
+#[test]
+fn toml_laws(_rt: HostRuntime) {
     laws::eq_is_reflexive();
     laws::eq_is_symmetric();
     laws::eq_is_transitive();

@@ -1,33 +1,28 @@
 //! The defaults of types, made through their bound. The tables of `conformance_run` have those of
 //! fields.
 
-use crate::type_checks::holds;
+use crate::type_checks::is_so;
 use nano_schema::{DefaultOf, TypeDefault};
 use nano_value::Value;
 use std::alloc::{AllocError, Global};
-use std::test::Fail;
 
-/// A default, made through its bound.
-fn default_of<T: Value, D: DefaultOf<T>>(alloc: Global) -> Result<T, AllocError> {
-    D::default(alloc)
+/// Whether a default, made through its bound, is this value.
+fn is_default<T: Value + PartialEq + Drop, D: DefaultOf<T>>(
+    alloc: Global,
+    expected: &T,
+) -> Result<bool, AllocError> {
+    Ok(D::default(alloc)? == *expected)
 }
 
 #[test]
-fn types_have_defaults(rt: HostRuntime) -> Result<(), Fail> {
+fn types_have_defaults(rt: HostRuntime) {
     let alloc = rt.alloc();
-    holds(
-        &rt,
-        default_of::<u128, TypeDefault>(alloc)? == 0,
-        "a number",
-    );
-    holds(
-        &rt,
-        !default_of::<bool, TypeDefault>(alloc)?,
-        "a truth value",
-    );
-    let text = default_of::<String, TypeDefault>(alloc)?;
-    holds(&rt, text.is_empty(), "a text");
-    let option = default_of::<Option<String>, TypeDefault>(alloc)?;
-    holds(&rt, option.is_none(), "an option");
-    Ok(())
+    let number = is_default::<u128, TypeDefault>(alloc, &0);
+    is_so(&rt, number, "a number");
+    let truth = is_default::<bool, TypeDefault>(alloc, &false);
+    is_so(&rt, truth, "a truth value");
+    let text = is_default::<String, TypeDefault>(alloc, &String::new(alloc));
+    is_so(&rt, text, "a text");
+    let option = is_default::<Option<String>, TypeDefault>(alloc, &None);
+    is_so(&rt, option, "an option");
 }

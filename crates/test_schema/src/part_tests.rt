@@ -4,7 +4,7 @@
 
 ghost use Rattle.std.specs.Prelude.{codes};
 
-use crate::type_checks::{holds, is_made, is_reported};
+use crate::type_checks::{holds, is_made, is_so};
 use nano_schema::Label;
 use nano_schema_json::{
     ReadContent as JsonContent, read_fields as read_json, write_fields as write_json,
@@ -87,11 +87,11 @@ fn is_in_bytes(alloc: Global) -> Result<bool, DeBinErr> {
     Ok(value == 7 && offset == 5 && cut.is_err())
 }
 
-/// The field as bytes, after a byte.
-fn bin_field(alloc: Global) -> Result<Vec<u8>, AllocError> {
+/// Whether the field is written as bytes, after a byte.
+fn is_written_in_bytes(alloc: Global) -> Result<bool, AllocError> {
     let mut output = vec![in alloc; 9u8]?;
     <Field as BinRefs>::write(&&7, alloc, &mut output)?;
-    Ok(output)
+    Ok(output.as_slice() == [9u8, 7, 0, 0, 0].as_slice())
 }
 
 #[test]
@@ -100,14 +100,7 @@ fn parts_and_bytes(rt: HostRuntime) {
     holds(&rt, is_alone(), "a variant");
     holds(&rt, stand_alone(), "variants");
     holds(&rt, is_in_bytes(rt.alloc()).unwrap_or(false), "bytes");
-    match bin_field(rt.alloc()) {
-        Ok(bytes) => holds(
-            &rt,
-            bytes.as_slice() == [9u8, 7, 0, 0, 0].as_slice(),
-            "code",
-        ),
-        Err(_rejected) => holds(&rt, false, "no memory"),
-    }
+    is_so(&rt, is_written_in_bytes(rt.alloc()), "code");
     <Field as BinFields>::discard(7);
     <Field as JsonFields>::discard(Some(7));
     <Field as JsonFields>::discard_values(7);
@@ -149,11 +142,11 @@ fn ron_variants(alloc: Global) -> Result<String, AllocError> {
 #[test]
 fn fields_are_written(rt: HostRuntime) {
     let alloc = rt.alloc();
-    is_made(&rt, json_field(alloc), "\"value\":7{\"value\":7}", "JSON");
+    is_made(&rt, json_field(alloc), "\"value\":7{\"value\":7}");
     let expected = "    value:7,\n(\n    value:7,\n)";
-    is_made(&rt, ron_field(alloc), expected, "RON");
+    is_made(&rt, ron_field(alloc), expected);
     let expected = "AB(1, true)C(\n        value:2,\n    )";
-    is_made(&rt, ron_variants(alloc), expected, "variants");
+    is_made(&rt, ron_variants(alloc), expected);
 }
 
 /// The value of the field that a JSON text begins with.
@@ -234,6 +227,17 @@ fn is_json_error(read: JsonResult<i32>, msg: &str) -> bool {
     }
 }
 
+#[test]
+fn json_fields_are_read(rt: HostRuntime) {
+    let alloc = rt.alloc();
+    let value = json_value(alloc, "\"value\":7}").ok();
+    holds(&rt, value == Some(7), "a field");
+    let is_missing = is_json_error(json_value(alloc, "\"z\":7}"), "Key not found value");
+    holds(&rt, is_missing, "z");
+    let value = json_struct(alloc, "{\"z\":1,\"value\":7}").ok();
+    holds(&rt, value == Some(7), "{}");
+}
+
 /// Whether a RON text is rejected with this message.
 fn is_ron_error<T: Drop>(read: RonResult<T>, msg: &str) -> bool {
     match read {
@@ -242,44 +246,27 @@ fn is_ron_error<T: Drop>(read: RonResult<T>, msg: &str) -> bool {
     }
 }
 
-#[test]
-fn fields_are_read(rt: HostRuntime) {
-    let alloc = rt.alloc();
-    let missing = "Key not found value";
-    holds(
-        &rt,
-        json_value(alloc, "\"value\":7}").ok() == Some(7),
-        "JSON",
-    );
-    holds(
-        &rt,
-        is_json_error(json_value(alloc, "\"z\":7}"), missing),
-        "z",
-    );
-    holds(
-        &rt,
-        json_struct(alloc, "{\"z\":1,\"value\":7}").ok() == Some(7),
-        "{}",
-    );
-    holds(&rt, ron_value(alloc, "value:7)").ok() == Some(7), "RON");
-    holds(&rt, is_ron_error(ron_value(alloc, "z:7)"), missing), "z");
-    holds(&rt, ron_struct(alloc, "(value:7)").ok() == Some(7), "()");
-    holds(&rt, is_name(ron_name(alloc, "B (1"), "B"), "B");
-    let expected = "Unexpected token Str expected Identifier ";
-    holds(
-        &rt,
-        is_ron_error(ron_name(alloc, "\"B\"(1"), expected),
-        "\"B\"",
-    );
-    let mut state = DeRonState::new(alloc);
-    let error = unknown_variant(alloc, &mut state, "D");
-    is_reported(&rt, error.msg.as_str(), "Enum not defined D", "D");
-}
-
 /// Whether a name is read.
 fn is_name(read: RonResult<String>, name: &str) -> bool {
     match read {
         Ok(found) => found.as_str() == name,
         Err(_error) => false,
     }
+}
+
+#[test]
+fn ron_fields_are_read(rt: HostRuntime) {
+    let alloc = rt.alloc();
+    let value = ron_value(alloc, "value:7)").ok();
+    holds(&rt, value == Some(7), "a field");
+    let is_missing = is_ron_error(ron_value(alloc, "z:7)"), "Key not found value");
+    holds(&rt, is_missing, "z");
+    let value = ron_struct(alloc, "(value:7)").ok();
+    holds(&rt, value == Some(7), "()");
+    holds(&rt, is_name(ron_name(alloc, "B (1"), "B"), "B");
+    let expected = "Unexpected token Str expected Identifier ";
+    let is_rejected = is_ron_error(ron_name(alloc, "\"B\"(1"), expected);
+    holds(&rt, is_rejected, "\"B\"");
+    let error = unknown_variant(alloc, &mut DeRonState::new(alloc), "D");
+    holds(&rt, error.msg.as_str() == "Enum not defined D", "D");
 }

@@ -5,7 +5,7 @@ use Rattle.nano_bytes.specs.LittleEndian.{little_endian}
 use Rattle.nano_bytes.specs.LittleEndianLaws.{length-little_endian}
 use Rattle.nano_bin.proofs.text_lists.put_text.Goals as goal
 
--- what two writes, one behind the other, leave up to their end
+-- what two writes, one after the other, leave up to their end
 two_writes : (a m e k n : ℕ) (xs ys zs : List ℕ) → m ≡ a + length ys → k ≡ length ys → m ≤ length xs → e ≡ m + length zs → take e (put_mid m n (put_mid a k xs ys) zs) ≡ take a xs ++ (ys ++ zs)
 two_writes a m e k n xs ys zs first width inside second =
     let fits : a ≤ length xs = omega arith in

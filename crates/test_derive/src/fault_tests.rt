@@ -1,0 +1,119 @@
+//! Sources at fault, and what is said of each.
+
+use crate::default_faults::{DEFAULTS, SKIPPED};
+use crate::faults::{ATTRIBUTES, ITEMS, TYPES};
+use crate::outcome::{MODULE, outcome, outcome_above};
+use derive_text::{DeriveError, derive, module_of};
+use std::alloc::{AllocError, Global};
+use std::process::Abort;
+
+/// What became of a source begins with what was expected.
+fn begins(rt: &impl Abort, became: Result<String, AllocError>, expected: &str) {
+    match became {
+        Ok(found) => assert!(rt; found.as_str().starts_with(expected), "{found}"),
+        Err(_failed) => assert!(rt; false, "no memory"),
+    }
+}
+
+/// Each source has the fault that stands after it.
+fn are_reported(rt: &impl Abort, alloc: Global, rows: &str) {
+    for row in rows.split("\n----\n") {
+        let (above, expected) = row.split_once("\n=> ").unwrap_or((row, "a fault"));
+        begins(rt, outcome_above(alloc, above), expected);
+    }
+}
+
+#[test]
+fn items_are_structs_and_enums(rt: HostRuntime) {
+    are_reported(&rt, rt.alloc(), ITEMS);
+}
+
+#[test]
+fn types_are_known(rt: HostRuntime) {
+    are_reported(&rt, rt.alloc(), TYPES);
+}
+
+#[test]
+fn attributes_stand_where_they_have_a_meaning(rt: HostRuntime) {
+    are_reported(&rt, rt.alloc(), ATTRIBUTES);
+}
+
+#[test]
+fn a_default_is_a_value_of_its_field(rt: HostRuntime) {
+    are_reported(&rt, rt.alloc(), DEFAULTS);
+}
+
+#[test]
+fn a_skipped_field_has_a_default(rt: HostRuntime) {
+    are_reported(&rt, rt.alloc(), SKIPPED);
+}
+
+const MARKERS: &[(&str, &str)] = &[
+    (
+        "struct A {\n    a: u8,\n}\n",
+        "4:1: no line is `// ---- written by nano_derive`",
+    ),
+    ("// ---- written by nano_derive, twice\n", "1:1: the marker"),
+    ("  // ---- written by nano_derive\n", "1:3: the marker"),
+    (
+        "// ---- written by nano_derive\nx\n// ---- written by nano_derive\n",
+        "3:1: the marker stands a second time",
+    ),
+];
+
+#[test]
+fn a_marker_stands_once_and_alone(rt: HostRuntime) {
+    for (source, expected) in MARKERS {
+        begins(&rt, outcome(rt.alloc(), source), expected);
+    }
+}
+
+/// Whether this is shown of a source's fault.
+fn is_shown(alloc: Global, source: &str, expected: &str) -> Option<bool> {
+    match derive(alloc, MODULE, source) {
+        Err(DeriveError::Source(fault)) => {
+            let mut output = Vec::new(alloc);
+            fault.show(&mut output, "a.rt", source).ok()?;
+            Some(output.as_slice() == expected.as_bytes())
+        }
+        _ => None,
+    }
+}
+
+#[test]
+fn a_fault_is_shown_with_its_line_and_a_caret(rt: HostRuntime) {
+    let source = "struct A {\n\ta: Strng,\n}\n// ---- written by nano_derive\n";
+    let expected = "a.rt:2:5: `Strng` is no type that is known: none above has this name, \
+        and no `use` brings it in\n\ta: Strng,\n\t   ^\n";
+    assert!(&rt;
+        is_shown(rt.alloc(), source, expected) == Some(true),
+        "{source}"
+    );
+}
+
+/// The module of a path, or `none`.
+fn module(alloc: Global, path: &str) -> Result<String, AllocError> {
+    match module_of(alloc, path)? {
+        Some(module) => Ok(module),
+        None => String::from_str(alloc, "none"),
+    }
+}
+
+const PATHS: &[(&str, &str)] = &[
+    ("/a/crates/app/src/lib.rt", "app.specs.declared"),
+    ("/a/crates/app/src/a/b.rt.txt", "app.specs.declared.a.b"),
+    ("app/src/main.rt", "app.specs.declared"),
+    ("/a/src.rt", "none"),
+];
+
+/// Whether a path has this module.
+fn is_module(alloc: Global, path: &str, expected: &str) -> Result<bool, AllocError> {
+    Ok(module(alloc, path)?.as_str() == expected)
+}
+
+#[test]
+fn a_path_tells_the_module(rt: HostRuntime) {
+    for (path, expected) in PATHS {
+        assert!(&rt; is_module(rt.alloc(), path, expected) == Ok(true), "{path}");
+    }
+}

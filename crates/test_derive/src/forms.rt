@@ -1,0 +1,146 @@
+//! Sources, and after each, parted by `=>`, lines that are written of it. A line of hyphens parts
+//! them.
+
+/// A struct of parts is a tuple.
+pub(crate) const PARTS: &str = r#"// nanoserde: bin json ron
+struct A(u8, u16);
+=>
+type AValues = (u8, u16);
+
+type AFields = nano_schema::Tupled<AValues>;
+=>
+    ghost view = { λ x. (x.0, x.1) };
+=>
+        let (first, second) = values;
+        A(first, second)
+=>
+        (&self.0, &self.1)
+=>
+        nano_schema_bin::write_record_bin::<Self, AFields>(self, alloc, output)
+=>
+            nano_schema_json::Part { of: &self.1 },
+        );
+=>
+        nano_schema_ron::SerRon::ser_ron(&parts, alloc, d, s)
+=>
+        nano_schema_ron::read_parts_ron::<Self, AValues>(alloc, state, input)
+"#;
+
+/// A generic struct agrees as its parameters do.
+pub(crate) const GENERIC: &str = r#"// nanoserde: bin
+struct A<T> {
+    a: T,
+    b: Option<T>,
+}
+=>
+    type Values = (T, Option<T>);
+=>
+    ghost agrees = { seen_agrees (pair_agrees T.agrees (option_agrees T.agrees))
+=>
+    ghost is_decodable = { (both_are_read T.is_decodable T.is_decodable) };
+----
+// nanoserde: bin
+struct A<T>(T);
+=>
+    ghost agrees = { seen_agrees T.agrees (λ x. x.0) };
+----
+// nanoserde: json
+struct A<T>(T, u8);
+=>
+type AValues<T> = (T, u8);
+"#;
+
+/// A default stands in the row of its field.
+pub(crate) const DEFAULTED: &str = r#"// nanoserde: json
+struct A {
+    // nanoserde: default
+    a: Option<u8>,
+}
+=>
+type AFields = nano_schema::Defaulted<AA, Option<u8>, nano_schema::TypeDefault>;
+----
+use b::C;
+// nanoserde: ron
+struct A {
+    // nanoserde: default = "C"
+    a: u8,
+}
+=>
+type AFields = nano_schema::Defaulted<AA, u8, C>;
+----
+// nanoserde: json
+struct A {
+    // nanoserde: default = "-5"
+    a: i8,
+}
+=>
+    ghost missing = { number (neg_ℤ (pos 5)) };
+=>
+        Ok(-5)
+=>
+impl nano_schema_json::JsonDefaultOf<i8> for AADefault {
+----
+// nanoserde: json
+enum A {
+    B {
+        // nanoserde: default = "b"
+        a: String,
+    },
+}
+=>
+    ghost missing = { text (codes "b") };
+=>
+        String::from_str(alloc, "b")
+=>
+type ABParts = nano_schema::Defaulted<ABA, String, ABADefault>;
+"#;
+
+/// A skipped field is in no row.
+pub(crate) const SKIPPED: &str = r#"// nanoserde: json
+struct A {
+    a: u8,
+    // nanoserde: skip
+    b: u8,
+    // nanoserde: skip, default = "7"
+    c: u8,
+}
+=>
+    ghost view = { λ x. x.a };
+=>
+            a,
+            b: std::default::Default::default(),
+            c: 7,
+=>
+        &self.a
+----
+// nanoserde: json
+enum A {
+    B {
+        // nanoserde: skip
+        a: u8,
+        b: u8,
+    },
+}
+=>
+      | B v0 v1 ↦ v1
+=>
+            Self::B { a: _, b } => {
+=>
+            a: std::default::Default::default(),
+"#;
+
+/// A struct without bytes brings in what it cites.
+pub(crate) const CITING: &str = r#"// nanoserde: json
+struct A {
+    a: u8,
+}
+=>
+ghost use Rattle.std.specs.Prelude.{codes, refl};
+----
+// nanoserde: ron
+struct A {
+    a: u8,
+}
+=>
+ghost use Rattle.std.specs.Prelude.{codes, refl};
+"#;
