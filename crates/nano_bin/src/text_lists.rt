@@ -129,6 +129,7 @@ fn put_text(text: &[u8], place: usize, bytes: &mut [u8; BLOCK]) -> usize
 
 /// Appends the length and the bytes of a text. On error, it truncates `output` back to its first
 /// `start` bytes.
+#[inline(always)]
 fn append_text(text: &[u8], output: &mut Vec<u8>, start: usize) -> Result<(), AllocError>
     requires { start ≤ length output.old.items }
     ensures ok { OnOk result (output.new.items ≡ output.old.items ++ written_text text.now) }
