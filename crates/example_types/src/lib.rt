@@ -1,10 +1,11 @@
 //! Examples: user-defined types in bytes, in JSON and in RON. Each file is one that a user
 //! copies.
 //!
-//! `Server`, `Event`, `Signal` and `Query` are described once by a schema, and `nano_derive` wrote each
-//! format from it; so are `Site`, `Clock`, `Notice` and `Tagged`, which have attributes, and the last has type
-//! parameters, and `Point` and `Entry`, whose parts have no names. `Limits` and `Tags` are encoded as their one field. `Command` implements bytes and
-//! `Message` implements JSON by hand, without a schema.
+//! `Server`, `Event`, `Signal` and `Query` are described once by a schema, and `nano_derive` wrote
+//! each format from it. So are `Site`, `Clock`, `Notice` and `Tagged`, which have attributes, and
+//! the last has type parameters, and `Point` and `Entry`, whose parts have no names. `Limits` and
+//! `Tags` are encoded as their one field. `Command` implements bytes and `Message` implements JSON
+//! by hand, without a schema.
 #![tactic(auto)]
 
 mod clock;

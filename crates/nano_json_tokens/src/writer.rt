@@ -23,6 +23,7 @@ impl SerJsonState {
     }
 
     /// Writes the name of a field, between quotes and as it is, and a colon.
+    #[inline(always)]
     pub fn field(&mut self, d: usize, field: &str) -> Result<(), AllocError>
         ensures ok { OnOk result
             (Writes self.old self.new (codes "\"" ++ (field.now ++ codes "\":"))) }
@@ -32,7 +33,8 @@ impl SerJsonState {
         self.out.reserve(field.len() + 3)?;
         self.out.push('"')?;
         self.out.push_str(field)?;
-        self.out.push_str("\":")
+        self.out.push('"')?;
+        self.out.push(':')
     }
 
     /// Writes a label, between quotes and as it is.
