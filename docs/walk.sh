@@ -23,8 +23,8 @@ cp "$walk/stdin" stdin
 
 # The impls, the program and its test.
 sh "$top/derive" src/settings.rt
-rt try < stdin > printed
-diff "$walk/stdout" printed
+rt try < stdin > stdout
+diff "$walk/stdout" stdout
 rt try --test
 [ -z "$(sh "$top/derive" --check src/settings.rt)" ]
 

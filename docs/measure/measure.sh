@@ -77,8 +77,13 @@ while read -r name; do
     esac
 done < "$out/names"
 
-# raced MEGABYTES: one process in which all peers take turns
-raced() { "$program" --runs 9 --sizes "$1" ${filtered:+--filter "$filtered"}; }
+# raced MEGABYTES: one process in which all peers take turns. The C library keeps memory that is
+# freed, so that no run pays for pages that the one before gave back to the kernel.
+raced() {
+    MALLOC_TRIM_THRESHOLD_=1000000000 MALLOC_MMAP_THRESHOLD_=1000000000 \
+        MALLOC_TOP_PAD_=100000000 \
+        "$program" --runs 9 --sizes "$1" ${filtered:+--filter "$filtered"}
+}
 
 filtered=${3:-}
 for _ in 1 2 3 4 5; do raced 1; done > "$out/log"
