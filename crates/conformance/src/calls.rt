@@ -1,34 +1,34 @@
-//! What comes of a case's input: a value of a type, a call in a state, or the words of a program.
+//! The outcome of a case's input: a value of a type, a call in a state, or the words of a program.
 
-use crate::came::Came;
 use crate::dates::date_at;
 use crate::format::Format;
-use crate::types::came_of_type;
+use crate::outcome::Outcome;
+use crate::types::outcome_of_type;
 use crate::words::run_words;
 use crate::writer::{json_call, ron_call};
 use crate::{json_state, ron_state};
 use std::alloc::{AllocError, Global};
 use std::str;
 
-/// What comes of an input of this type, or of this call, in this format.
-pub fn came_of(
+/// The outcome of an input of this type, or of this call, in this format.
+pub fn outcome_of(
     alloc: Global,
     format: Format,
     kind: &str,
     input: &[u8],
-) -> Result<Came, AllocError> {
+) -> Result<Outcome, AllocError> {
     match format {
         Format::Run => run_words(alloc, kind, input),
         Format::TomlDate => called(alloc, format, kind, input),
         _ if kind.starts_with('.') => called(alloc, format, kind, input),
-        _ => came_of_type(alloc, format, kind, input),
+        _ => outcome_of_type(alloc, format, kind, input),
     }
 }
 
 /// What a call of this name answers.
-fn called(alloc: Global, format: Format, call: &str, input: &[u8]) -> Result<Came, AllocError> {
+fn called(alloc: Global, format: Format, call: &str, input: &[u8]) -> Result<Outcome, AllocError> {
     let Ok(text) = str::from_utf8(input) else {
-        return Ok(Came::Unknown);
+        return Ok(Outcome::Unknown);
     };
     match format {
         Format::JsonState => json_state::call_at(alloc, call, text),
@@ -36,6 +36,6 @@ fn called(alloc: Global, format: Format, call: &str, input: &[u8]) -> Result<Cam
         Format::JsonWrite => json_call(alloc, call, text),
         Format::RonWrite => ron_call(alloc, call, text),
         Format::TomlDate => date_at(alloc, call, text),
-        _ => Ok(Came::Unknown),
+        _ => Ok(Outcome::Unknown),
     }
 }

@@ -1,10 +1,10 @@
 //! A case, and what differs where it is run.
 
-use crate::calls::came_of;
-use crate::came::Came;
+use crate::calls::outcome_of;
 use crate::fields::unescape;
 use crate::format::Format;
 use crate::names::is_named;
+use crate::outcome::Outcome;
 use crate::questions::ask_further;
 use std::alloc::{AllocError, Global};
 
@@ -34,8 +34,8 @@ pub struct Difference {
     pub question: &'static str,
     /// What was wanted.
     pub wanted: String,
-    /// What came.
-    pub came: String,
+    /// What the case gave.
+    pub got: String,
 }
 
 impl Difference {
@@ -44,12 +44,12 @@ impl Difference {
         alloc: Global,
         question: &'static str,
         wanted: &str,
-        came: &Came,
+        outcome: &Outcome,
     ) -> Result<Difference, AllocError> {
         Ok(Difference {
             question,
             wanted: String::from_str(alloc, wanted)?,
-            came: reported(alloc, came.verdict(), came.answer(alloc)?.as_str())?,
+            got: reported(alloc, outcome.verdict(), outcome.answer(alloc)?.as_str())?,
         })
     }
 }
@@ -84,32 +84,32 @@ impl<'a> Case<'a> {
         }))
     }
 
-    /// What comes of the case's input.
-    pub fn run(&self, alloc: Global) -> Result<Came, AllocError> {
-        came_of(alloc, self.format, self.kind, &self.input)
+    /// The outcome of the case's input.
+    pub fn run(&self, alloc: Global) -> Result<Outcome, AllocError> {
+        outcome_of(alloc, self.format, self.kind, &self.input)
     }
 
     /// What differs: the answer, and where it is accepted what else is asked of it.
     pub fn differences(&self, alloc: Global) -> Result<Vec<Difference>, AllocError> {
-        let came = self.run(alloc)?;
+        let outcome = self.run(alloc)?;
         let mut found = Vec::new(alloc);
-        if !self.is_wanted(alloc, &came)? {
+        if !self.is_wanted(alloc, &outcome)? {
             let wanted = reported(alloc, self.verdict, self.answer)?;
-            found.push(Difference::new(alloc, "answer", wanted.as_str(), &came)?)?;
+            found.push(Difference::new(alloc, "answer", wanted.as_str(), &outcome)?)?;
         }
-        if !is_named(self.rust_crate, self.names, &came) {
-            found.push(Difference::new(alloc, "the name", self.names, &came)?)?;
+        if !is_named(self.rust_crate, self.names, &outcome) {
+            found.push(Difference::new(alloc, "the name", self.names, &outcome)?)?;
         }
-        ask_further(alloc, self, &came, &mut found)?;
+        ask_further(alloc, self, &outcome, &mut found)?;
         Ok(found)
     }
 
     /// Whether this is the wanted answer.
-    fn is_wanted(&self, alloc: Global, came: &Came) -> Result<bool, AllocError> {
+    fn is_wanted(&self, alloc: Global, outcome: &Outcome) -> Result<bool, AllocError> {
         if self.verdict == "rejected" {
-            return Ok(came.verdict() == "error");
+            return Ok(outcome.verdict() == "error");
         }
-        let answer = came.answer(alloc)?;
-        Ok(came.verdict() == self.verdict && answer.as_str() == self.answer)
+        let answer = outcome.answer(alloc)?;
+        Ok(outcome.verdict() == self.verdict && answer.as_str() == self.answer)
     }
 }

@@ -1,29 +1,29 @@
 //! The date of a key in a TOML text.
 
-use crate::came::Came;
+use crate::outcome::Outcome;
 use nanoserde::{Toml, TomlParser};
 use std::alloc::{AllocError, Global};
 
 /// The date that stands at the key, or the error of the text or of its clone.
-pub(crate) fn date_at(alloc: Global, key: &str, text: &str) -> Result<Came, AllocError> {
+pub(crate) fn date_at(alloc: Global, key: &str, text: &str) -> Result<Outcome, AllocError> {
     match TomlParser::parse(alloc, text) {
         Ok(table) => match table.get(key) {
             Some(value) => date_of(alloc, value),
-            None => Ok(Came::Unknown),
+            None => Ok(Outcome::Unknown),
         },
         Err(error) if error.memory && error.msg.is_empty() => Err(AllocError),
         Err(error) => {
             let again = error.clone(alloc)?;
             let reported = format!(in alloc; "{again}")?;
-            Ok(Came::Error(reported.into_bytes()))
+            Ok(Outcome::Error(reported.into_bytes()))
         }
     }
 }
 
 /// The date, where the value is one.
-fn date_of(alloc: Global, value: &Toml) -> Result<Came, AllocError> {
+fn date_of(alloc: Global, value: &Toml) -> Result<Outcome, AllocError> {
     match value {
-        Toml::Date(_) => Ok(Came::Text(value.date(alloc)?.into_bytes())),
-        _ => Ok(Came::Unknown),
+        Toml::Date(_) => Ok(Outcome::Text(value.date(alloc)?.into_bytes())),
+        _ => Ok(Outcome::Unknown),
     }
 }

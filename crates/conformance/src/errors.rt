@@ -1,6 +1,6 @@
 //! Errors as answers, and out of memory, which is none.
 
-use crate::came::Came;
+use crate::outcome::Outcome;
 use nanoserde::{DeBinErr, DeBinKind, DeJsonErr, DeRonErr};
 use std::alloc::{AllocError, Global};
 
@@ -10,9 +10,9 @@ pub(crate) fn code(
     alloc: Global,
     read: Result<Vec<u8>, DeBinErr>,
     moved: usize,
-) -> Result<Came, AllocError> {
+) -> Result<Outcome, AllocError> {
     match read {
-        Ok(bytes) => Ok(Came::Code(bytes)),
+        Ok(bytes) => Ok(Outcome::Code(bytes)),
         Err(error) => {
             let DeBinErr { o, l, s, kind } = error;
             if moved != 0 {
@@ -27,9 +27,9 @@ pub(crate) fn code(
 }
 
 /// A text, or the text of the error.
-pub(crate) fn json(alloc: Global, read: Result<String, DeJsonErr>) -> Result<Came, AllocError> {
+pub(crate) fn json(alloc: Global, read: Result<String, DeJsonErr>) -> Result<Outcome, AllocError> {
     match read {
-        Ok(text) => Ok(Came::Text(text.into_bytes())),
+        Ok(text) => Ok(Outcome::Text(text.into_bytes())),
         Err(error) => json_error(alloc, &error),
     }
 }
@@ -38,37 +38,40 @@ pub(crate) fn json(alloc: Global, read: Result<String, DeJsonErr>) -> Result<Cam
 pub(crate) fn json_code(
     alloc: Global,
     read: Result<Vec<u8>, DeJsonErr>,
-) -> Result<Came, AllocError> {
+) -> Result<Outcome, AllocError> {
     match read {
-        Ok(bytes) => Ok(Came::Code(bytes)),
+        Ok(bytes) => Ok(Outcome::Code(bytes)),
         Err(error) => json_error(alloc, &error),
     }
 }
 
 /// The text of the error.
-fn json_error(alloc: Global, error: &DeJsonErr) -> Result<Came, AllocError> {
+fn json_error(alloc: Global, error: &DeJsonErr) -> Result<Outcome, AllocError> {
     let shown = format!(in alloc; "{error}")?;
     error_of(alloc, error.memory, error.msg.is_empty(), shown)
 }
 
 /// A text, or the text of the error.
-pub(crate) fn ron(alloc: Global, read: Result<String, DeRonErr>) -> Result<Came, AllocError> {
+pub(crate) fn ron(alloc: Global, read: Result<String, DeRonErr>) -> Result<Outcome, AllocError> {
     match read {
-        Ok(text) => Ok(Came::Text(text.into_bytes())),
+        Ok(text) => Ok(Outcome::Text(text.into_bytes())),
         Err(error) => ron_error(alloc, &error),
     }
 }
 
 /// The bytes of a RON text's value, or the text of the error.
-pub(crate) fn ron_code(alloc: Global, read: Result<Vec<u8>, DeRonErr>) -> Result<Came, AllocError> {
+pub(crate) fn ron_code(
+    alloc: Global,
+    read: Result<Vec<u8>, DeRonErr>,
+) -> Result<Outcome, AllocError> {
     match read {
-        Ok(bytes) => Ok(Came::Code(bytes)),
+        Ok(bytes) => Ok(Outcome::Code(bytes)),
         Err(error) => ron_error(alloc, &error),
     }
 }
 
 /// The text of the error.
-fn ron_error(alloc: Global, error: &DeRonErr) -> Result<Came, AllocError> {
+fn ron_error(alloc: Global, error: &DeRonErr) -> Result<Outcome, AllocError> {
     let shown = format!(in alloc; "{error}")?;
     error_of(alloc, error.memory, error.msg.is_empty(), shown)
 }
@@ -79,15 +82,15 @@ fn error_of(
     memory: bool,
     is_silent: bool,
     shown: String,
-) -> Result<Came, AllocError> {
+) -> Result<Outcome, AllocError> {
     match (memory, is_silent) {
         (true, true) => Err(AllocError),
         (true, false) => text_of(format!(in alloc; "out of memory with a message: {shown}")),
-        (false, _) => Ok(Came::Error(shown.into_bytes())),
+        (false, _) => Ok(Outcome::Error(shown.into_bytes())),
     }
 }
 
 /// The error of this text.
-fn text_of(text: Result<String, AllocError>) -> Result<Came, AllocError> {
-    Ok(Came::Error(text?.into_bytes()))
+fn text_of(text: Result<String, AllocError>) -> Result<Outcome, AllocError> {
+    Ok(Outcome::Error(text?.into_bytes()))
 }

@@ -1,35 +1,26 @@
 //! What is asked of an accepted input beside its answer, with no line of data.
 
-use crate::calls::came_of;
-use crate::came::Came;
+use crate::calls::outcome_of;
 use crate::case::{Case, Difference};
+use crate::counterpart::counterpart;
 use crate::format::Format;
-use crate::twins::twin;
+use crate::outcome::Outcome;
 use std::alloc::{AllocError, Global};
 
 /// Asks what each accepted input is to answer, and adds what differs.
 pub(crate) fn ask_further(
     alloc: Global,
     case: &Case<'_>,
-    came: &Came,
+    outcome: &Outcome,
     found: &mut Vec<Difference>,
 ) -> Result<(), AllocError> {
-    if let Some(other) = twin(case.kind) {
-        let same = came_of(alloc, case.format, other, &case.input)?;
-        differ(
-            alloc,
-            "the same entries in the other order",
-            came,
-            &same,
-            found,
-        )?;
-    }
+    ask_counterpart(alloc, case, outcome, found)?;
     let Some(whole) = case.format.whole() else {
         return Ok(());
     };
-    match came {
-        Came::Code(code) => ask_code(alloc, case.kind, code, found),
-        Came::Text(text) => {
+    match outcome {
+        Outcome::Code(code) => ask_code(alloc, case.kind, code, found),
+        Outcome::Text(text) => {
             ask_text(alloc, case.kind, whole, text, found)?;
             ask_input(alloc, case, whole, found)?;
             ask_bytes(alloc, case, whole, found)
@@ -38,17 +29,40 @@ pub(crate) fn ask_further(
     }
 }
 
+/// A hashed and an ordered set or map answer alike. A type without a counterpart in the table of
+/// types is passed over.
+fn ask_counterpart(
+    alloc: Global,
+    case: &Case<'_>,
+    outcome: &Outcome,
+    found: &mut Vec<Difference>,
+) -> Result<(), AllocError> {
+    let Some(other) = counterpart(alloc, case.kind)? else {
+        return Ok(());
+    };
+    match outcome_of(alloc, case.format, other.as_str(), &case.input)? {
+        Outcome::Unknown => Ok(()),
+        same => differ(
+            alloc,
+            "the same entries in the other order",
+            outcome,
+            &same,
+            found,
+        ),
+    }
+}
+
 /// The two are the same.
 fn differ(
     alloc: Global,
     question: &'static str,
-    wanted: &Came,
-    came: &Came,
+    wanted: &Outcome,
+    outcome: &Outcome,
     found: &mut Vec<Difference>,
 ) -> Result<(), AllocError> {
-    if *wanted != *came {
+    if *wanted != *outcome {
         let answer = wanted.answer(alloc)?;
-        found.push(Difference::new(alloc, question, answer.as_str(), came)?)?;
+        found.push(Difference::new(alloc, question, answer.as_str(), outcome)?)?;
     }
     Ok(())
 }
@@ -61,10 +75,10 @@ fn ask_code(
     code: &[u8],
     found: &mut Vec<Difference>,
 ) -> Result<(), AllocError> {
-    let wanted = Came::Code(Vec::from_slice(alloc, code)?);
-    let again = came_of(alloc, Format::Bin, kind, code)?;
+    let wanted = Outcome::Code(Vec::from_slice(alloc, code)?);
+    let again = outcome_of(alloc, Format::Bin, kind, code)?;
     differ(alloc, "the written code, read", &wanted, &again, found)?;
-    let again = came_of(alloc, Format::BinWhole, kind, code)?;
+    let again = outcome_of(alloc, Format::BinWhole, kind, code)?;
     differ(
         alloc,
         "the written code, read whole",
@@ -73,7 +87,7 @@ fn ask_code(
         found,
     )?;
     for end in 0..code.len() {
-        let cut = came_of(alloc, Format::Bin, kind, &code[..end])?;
+        let cut = outcome_of(alloc, Format::Bin, kind, &code[..end])?;
         if !is_too_short(&cut) {
             found.push(Difference::new(alloc, "a prefix of the code", "TooShort", &cut)?)?;
         }
@@ -82,9 +96,9 @@ fn ask_code(
 }
 
 /// Whether the bytes were reported to be too short.
-fn is_too_short(came: &Came) -> bool {
-    match came {
-        Came::Error(text) => text.starts_with(b"TooShort o "),
+fn is_too_short(outcome: &Outcome) -> bool {
+    match outcome {
+        Outcome::Error(text) => text.starts_with(b"TooShort o "),
         _ => false,
     }
 }
@@ -98,10 +112,10 @@ fn ask_text(
     text: &[u8],
     found: &mut Vec<Difference>,
 ) -> Result<(), AllocError> {
-    let wanted = Came::Text(Vec::from_slice(alloc, text)?);
-    let again = came_of(alloc, whole.prefix(), kind, text)?;
+    let wanted = Outcome::Text(Vec::from_slice(alloc, text)?);
+    let again = outcome_of(alloc, whole.prefix(), kind, text)?;
     differ(alloc, "the written text, read", &wanted, &again, found)?;
-    let again = came_of(alloc, whole, kind, text)?;
+    let again = outcome_of(alloc, whole, kind, text)?;
     differ(
         alloc,
         "the written text, read whole",
@@ -124,8 +138,8 @@ fn ask_input(
     if whole == Format::RonWhole && text.contains(&b'/') {
         return Ok(());
     }
-    match came_of(alloc, whole, case.kind, &case.input)? {
-        Came::Text(_) => ask_prefixes(alloc, case.kind, whole, text, found),
+    match outcome_of(alloc, whole, case.kind, &case.input)? {
+        Outcome::Text(_) => ask_prefixes(alloc, case.kind, whole, text, found),
         _ => Ok(()),
     }
 }
@@ -177,9 +191,9 @@ fn rejected(
     input: &[u8],
     found: &mut Vec<Difference>,
 ) -> Result<(), AllocError> {
-    let came = came_of(alloc, format, kind, input)?;
-    if came.verdict() != "error" {
-        found.push(Difference::new(alloc, question, "an error", &came)?)?;
+    let outcome = outcome_of(alloc, format, kind, input)?;
+    if outcome.verdict() != "error" {
+        found.push(Difference::new(alloc, question, "an error", &outcome)?)?;
     }
     Ok(())
 }
@@ -191,11 +205,11 @@ fn ask_bytes(
     whole: Format,
     found: &mut Vec<Difference>,
 ) -> Result<(), AllocError> {
-    match came_of(alloc, whole.as_bytes(), case.kind, &case.input)? {
-        Came::Code(code) => ask_code(alloc, case.kind, &code, found),
-        Came::Unknown => Ok(()),
-        came => {
-            found.push(Difference::new(alloc, "the text's bytes", "is", &came)?)?;
+    match outcome_of(alloc, whole.as_bytes(), case.kind, &case.input)? {
+        Outcome::Code(code) => ask_code(alloc, case.kind, &code, found),
+        Outcome::Unknown => Ok(()),
+        outcome => {
+            found.push(Difference::new(alloc, "the text's bytes", "is", &outcome)?)?;
             Ok(())
         }
     }

@@ -1,8 +1,8 @@
-//! What comes of an input as a value of one type, through the bounds of its formats.
+//! The outcome of an input as a value of one type, through the bounds of its formats.
 
-use crate::came::Came;
 use crate::errors::{code, json, json_code, ron, ron_code};
 use crate::format::Format;
+use crate::outcome::Outcome;
 use crate::{json_state, ron_state};
 use nanoserde::{
     BothBin, BothJson, BothRon, DeBinErr, DeBinKind, DeJsonErr, DeJsonState, DeRonErr, DeRonState,
@@ -11,12 +11,12 @@ use nanoserde::{
 use std::alloc::{AllocError, Global};
 use std::str;
 
-/// What comes of an input in a format, of a type that has all three.
+/// The outcome of an input in a format, of a type that has all three.
 pub(crate) fn of_type<T: BothBin + BothJson + BothRon>(
     alloc: Global,
     format: Format,
     input: &[u8],
-) -> Result<Came, AllocError> {
+) -> Result<Outcome, AllocError> {
     match format {
         Format::Bin | Format::BinWhole | Format::BinAt => of_bytes::<T>(alloc, format, input),
         Format::JsonWrite => match T::deserialize_bin(alloc, input) {
@@ -28,26 +28,26 @@ pub(crate) fn of_type<T: BothBin + BothJson + BothRon>(
             Err(error) => code(alloc, Err(error), 0),
         },
         Format::BinJson => match T::deserialize_bin(alloc, input) {
-            Ok(value) => Ok(Came::Text(value.serialize_json(alloc)?.into_bytes())),
+            Ok(value) => Ok(Outcome::Text(value.serialize_json(alloc)?.into_bytes())),
             Err(error) => code(alloc, Err(error), 0),
         },
         Format::BinRon => match T::deserialize_bin(alloc, input) {
-            Ok(value) => Ok(Came::Text(value.serialize_ron(alloc)?.into_bytes())),
+            Ok(value) => Ok(Outcome::Text(value.serialize_ron(alloc)?.into_bytes())),
             Err(error) => code(alloc, Err(error), 0),
         },
         _ => match str::from_utf8(input) {
             Ok(text) => of_text::<T>(alloc, format, text),
-            Err(_) => Ok(Came::Error(Vec::from_slice(alloc, b"not UTF-8")?)),
+            Err(_) => Ok(Outcome::Error(Vec::from_slice(alloc, b"not UTF-8")?)),
         },
     }
 }
 
-/// What comes of bytes.
+/// The outcome of bytes.
 pub(crate) fn of_bytes<T: BothBin>(
     alloc: Global,
     format: Format,
     input: &[u8],
-) -> Result<Came, AllocError> {
+) -> Result<Outcome, AllocError> {
     match format {
         Format::Bin => {
             let mut offset = 0;
@@ -59,30 +59,30 @@ pub(crate) fn of_bytes<T: BothBin>(
         Format::BinWhole => code(alloc, whole_bin::<T>(alloc, input), 0),
         Format::BinAt => match split_offset(input) {
             Some((offset, bytes)) => bin_at::<T>(alloc, offset, bytes),
-            None => Ok(Came::Unknown),
+            None => Ok(Outcome::Unknown),
         },
-        _ => Ok(Came::Unknown),
+        _ => Ok(Outcome::Unknown),
     }
 }
 
-/// What comes of a text of a type that has JSON alone.
+/// The outcome of a text of a type that has JSON alone.
 pub(crate) fn of_json<T: BothJson>(
     alloc: Global,
     format: Format,
     input: &[u8],
-) -> Result<Came, AllocError> {
+) -> Result<Outcome, AllocError> {
     match str::from_utf8(input) {
         Ok(text) => of_json_text::<T>(alloc, format, text),
-        Err(_) => Ok(Came::Error(Vec::from_slice(alloc, b"not UTF-8")?)),
+        Err(_) => Ok(Outcome::Error(Vec::from_slice(alloc, b"not UTF-8")?)),
     }
 }
 
-/// What comes of a text.
+/// The outcome of a text.
 fn of_text<T: BothBin + BothJson + BothRon>(
     alloc: Global,
     format: Format,
     text: &str,
-) -> Result<Came, AllocError> {
+) -> Result<Outcome, AllocError> {
     match format {
         Format::JsonBin => json_code(alloc, json_to_bin::<T>(alloc, text)),
         Format::RonState => ron_state::read_at::<T>(alloc, text),
@@ -94,29 +94,29 @@ fn of_text<T: BothBin + BothJson + BothRon>(
     }
 }
 
-/// What comes of a JSON text, in JSON.
+/// The outcome of a JSON text, in JSON.
 fn of_json_text<T: BothJson>(
     alloc: Global,
     format: Format,
     text: &str,
-) -> Result<Came, AllocError> {
+) -> Result<Outcome, AllocError> {
     match format {
         Format::JsonState => json_state::read_at::<T>(alloc, text),
         Format::Json => json(alloc, normal_json::<T>(alloc, text)),
         Format::JsonWhole => json(alloc, whole_json::<T>(alloc, text)),
         Format::JsonAgain => json(alloc, again_json::<T>(alloc, text)),
-        _ => Ok(Came::Unknown),
+        _ => Ok(Outcome::Unknown),
     }
 }
 
 /// The code of the value that stands at an offset, and the offset after it.
-fn bin_at<T: BothBin>(alloc: Global, start: usize, bytes: &[u8]) -> Result<Came, AllocError> {
+fn bin_at<T: BothBin>(alloc: Global, start: usize, bytes: &[u8]) -> Result<Outcome, AllocError> {
     let mut offset = start;
     match T::de_bin(alloc, &mut offset, bytes) {
         Ok(value) => {
-            let answer = Came::Code(value.serialize_bin(alloc)?).answer(alloc)?;
+            let answer = Outcome::Code(value.serialize_bin(alloc)?).answer(alloc)?;
             let reported = format!(in alloc; "{answer} -> {offset}")?;
-            Ok(Came::Text(reported.into_bytes()))
+            Ok(Outcome::Text(reported.into_bytes()))
         }
         Err(error) => code(alloc, Err(error), start.abs_diff(offset)),
     }
@@ -132,21 +132,21 @@ fn split_offset(input: &[u8]) -> Option<(usize, &[u8])> {
 }
 
 /// A value written as JSON at the greatest level.
-fn deep_json<T: BothJson>(alloc: Global, value: &T) -> Result<Came, AllocError> {
+fn deep_json<T: BothJson>(alloc: Global, value: &T) -> Result<Outcome, AllocError> {
     let mut state = SerJsonState {
         out: String::new(alloc),
     };
     value.ser_json(alloc, usize::MAX, &mut state)?;
-    Ok(Came::Text(state.out.into_bytes()))
+    Ok(Outcome::Text(state.out.into_bytes()))
 }
 
 /// A value written as RON at the greatest level.
-fn deep_ron<T: BothRon>(alloc: Global, value: &T) -> Result<Came, AllocError> {
+fn deep_ron<T: BothRon>(alloc: Global, value: &T) -> Result<Outcome, AllocError> {
     let mut state = SerRonState {
         out: String::new(alloc),
     };
     value.ser_ron(alloc, usize::MAX, &mut state)?;
-    Ok(Came::Text(state.out.into_bytes()))
+    Ok(Outcome::Text(state.out.into_bytes()))
 }
 
 /// The code of the value that the bytes are.
@@ -177,7 +177,7 @@ fn whole_json<T: BothJson>(alloc: Global, text: &str) -> Result<String, DeJsonEr
     }
 }
 
-/// The normal form of what is read second, whatever came of the first reading.
+/// The normal form of what is read second, whatever the first reading gave.
 fn again_json<T: BothJson>(alloc: Global, text: &str) -> Result<String, DeJsonErr> {
     let mut input = text.chars();
     let mut state = DeJsonState::new(alloc);
@@ -200,7 +200,7 @@ fn whole_ron<T: BothRon>(alloc: Global, text: &str) -> Result<String, DeRonErr> 
     }
 }
 
-/// The normal form of what is read second, whatever came of the first reading.
+/// The normal form of what is read second, whatever the first reading gave.
 fn again_ron<T: BothRon>(alloc: Global, text: &str) -> Result<String, DeRonErr> {
     let mut input = text.chars();
     let mut state = DeRonState::new(alloc);

@@ -1,6 +1,6 @@
 //! Calls of a state of RON's reader: what is answered, and the state afterwards.
 
-use crate::came::Came;
+use crate::outcome::Outcome;
 use crate::start::{Left, OUT_OF_MEMORY, Start, character, reported, start_of};
 use nanoserde::{BothRon, DeRonErr, DeRonState, DeRonTok};
 use std::alloc::{AllocError, Global};
@@ -8,32 +8,32 @@ use std::fmt::Display;
 use std::str::Chars;
 
 /// What is read as a value of a type in a state, and the state afterwards.
-pub(crate) fn read_at<T: BothRon>(alloc: Global, text: &str) -> Result<Came, AllocError> {
+pub(crate) fn read_at<T: BothRon>(alloc: Global, text: &str) -> Result<Outcome, AllocError> {
     let Some(start) = start_of(text) else {
-        return Ok(Came::Unknown);
+        return Ok(Outcome::Unknown);
     };
     let mut input = start.text.chars();
     match set_up(alloc, &start, &mut input)? {
-        None => Ok(Came::Unknown),
+        None => Ok(Outcome::Unknown),
         Some(mut state) => {
             let mut answer = match T::de_ron(alloc, &mut state, &mut input) {
                 Ok(value) => value.serialize_ron(alloc)?,
                 Err(error) => of_error(alloc, &error)?,
             };
             append_state(&mut answer, &state, &input)?;
-            Ok(Came::Text(answer.into_bytes()))
+            Ok(Outcome::Text(answer.into_bytes()))
         }
     }
 }
 
 /// What calls answer in a state, one after the other, and the state after each.
-pub(crate) fn call_at(alloc: Global, calls: &str, text: &str) -> Result<Came, AllocError> {
+pub(crate) fn call_at(alloc: Global, calls: &str, text: &str) -> Result<Outcome, AllocError> {
     let Some(start) = start_of(text) else {
-        return Ok(Came::Unknown);
+        return Ok(Outcome::Unknown);
     };
     let mut input = start.text.chars();
     match set_up(alloc, &start, &mut input)? {
-        None => Ok(Came::Unknown),
+        None => Ok(Outcome::Unknown),
         Some(mut state) => answers_of(alloc, &mut state, &mut input, calls),
     }
 }
@@ -44,11 +44,11 @@ fn answers_of(
     state: &mut DeRonState,
     input: &mut Chars<'_>,
     calls: &str,
-) -> Result<Came, AllocError> {
+) -> Result<Outcome, AllocError> {
     let mut answers = String::new(alloc);
     for call in calls.split(' ') {
         let Some(answer) = taken(alloc, state, input, call)? else {
-            return Ok(Came::Unknown);
+            return Ok(Outcome::Unknown);
         };
         if !answers.is_empty() {
             answers.push_str(" | ")?;
@@ -59,7 +59,7 @@ fn answers_of(
             break;
         }
     }
-    Ok(Came::Text(answers.into_bytes()))
+    Ok(Outcome::Text(answers.into_bytes()))
 }
 
 /// The state that is described, whose first character is taken from the input.

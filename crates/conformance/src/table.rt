@@ -21,8 +21,8 @@ pub fn differences_of(
             for difference in &found {
                 let question = difference.question;
                 let wanted = difference.wanted.as_str();
-                let came = difference.came.as_str();
-                write!(report, "  {question}: wanted {wanted}, came {came}\n")?;
+                let got = difference.got.as_str();
+                write!(report, "  {question}: wanted {wanted}, got {got}\n")?;
             }
             Ok(Some(found.len()))
         }

@@ -2,8 +2,8 @@
 //! parameters, so that a concrete type is named once: each call at a concrete type takes long to
 //! prove. Arrays are named whole, since an array of a type parameter has no known size.
 
-use crate::came::Came;
 use crate::format::Format;
+use crate::outcome::Outcome;
 use crate::reads::{of_bytes, of_type};
 use crate::user_types::of_user_type;
 use nanoserde::records::Holder;
@@ -40,13 +40,13 @@ fn shape_and_name(kind: &str) -> Option<(Shape<'_>, &str)> {
     Some(((before, after), name))
 }
 
-/// What comes of an input of this type, in bytes or in a text.
-pub(crate) fn came_of_type(
+/// The outcome of an input of this type, in bytes or in a text.
+pub(crate) fn outcome_of_type(
     alloc: Global,
     format: Format,
     kind: &str,
     input: &[u8],
-) -> Result<Came, AllocError> {
+) -> Result<Outcome, AllocError> {
     match kind {
         "u128" => of_bytes::<u128>(alloc, format, input),
         "i128" => of_bytes::<i128>(alloc, format, input),
@@ -59,7 +59,7 @@ pub(crate) fn came_of_type(
         "Holder<[u64; 100]>" => of_held::<[u64; 100]>(alloc, format, HELD, input),
         _ => match shape_and_name(kind) {
             Some((shape, name)) => of_name(alloc, format, (shape, name), input),
-            None => Ok(Came::Unknown),
+            None => Ok(Outcome::Unknown),
         },
     }
 }
@@ -70,7 +70,7 @@ fn of_name(
     format: Format,
     (shape, name): (Shape<'_>, &str),
     input: &[u8],
-) -> Result<Came, AllocError> {
+) -> Result<Outcome, AllocError> {
     match name {
         "u8" => of_byte::<u8>(alloc, format, shape, input),
         "i32" => of_key::<i32>(alloc, format, shape, input),
@@ -87,7 +87,7 @@ fn of_number(
     format: Format,
     (shape, name): (Shape<'_>, &str),
     input: &[u8],
-) -> Result<Came, AllocError> {
+) -> Result<Outcome, AllocError> {
     match name {
         "u16" => of_one::<u16>(alloc, format, shape, input),
         "u32" => of_one::<u32>(alloc, format, shape, input),
@@ -108,12 +108,12 @@ fn of_one<T: BothBin + BothJson + BothRon>(
     format: Format,
     shape: Shape<'_>,
     input: &[u8],
-) -> Result<Came, AllocError> {
+) -> Result<Outcome, AllocError> {
     match shape {
         ("", "") | ("(", ")") => of_type::<T>(alloc, format, input),
         ("Option<", ">") | ("Option<(", ")>") => of_type::<Option<T>>(alloc, format, input),
         ("Vec<", ">") | ("Vec<(", ")>") => of_type::<Vec<T>>(alloc, format, input),
-        _ => Ok(Came::Unknown),
+        _ => Ok(Outcome::Unknown),
     }
 }
 
@@ -123,7 +123,7 @@ fn of_short<T: BothBin + BothJson + BothRon + OrderedKey + Hash>(
     format: Format,
     shape: Shape<'_>,
     input: &[u8],
-) -> Result<Came, AllocError> {
+) -> Result<Outcome, AllocError> {
     match shape {
         (before, ", String>") => of_map::<T, String>(alloc, format, before, input),
         _ => of_one::<T>(alloc, format, shape, input),
@@ -136,7 +136,7 @@ fn of_long<T: BothBin + BothJson + BothRon + OrderedKey + Hash>(
     format: Format,
     shape: Shape<'_>,
     input: &[u8],
-) -> Result<Came, AllocError> {
+) -> Result<Outcome, AllocError> {
     match shape {
         ("HashMap<", ", u8>") => of_type::<HashMap<T, u8>>(alloc, format, input),
         ("BTreeMap<", ", u8>") => of_type::<BTreeMap<T, u8>>(alloc, format, input),
@@ -150,7 +150,7 @@ pub(crate) fn of_held<T: BothBin + BothJson + BothRon>(
     format: Format,
     shape: Shape<'_>,
     input: &[u8],
-) -> Result<Came, AllocError> {
+) -> Result<Outcome, AllocError> {
     match shape {
         ("", "") => of_type::<T>(alloc, format, input),
         ("Holder<", ">") => of_type::<Holder<T>>(alloc, format, input),
@@ -158,7 +158,7 @@ pub(crate) fn of_held<T: BothBin + BothJson + BothRon>(
             alloc, format, input,
         ),
         ("Vec<Option<Holder<", ">>>") => of_type::<Vec<Option<Holder<T>>>>(alloc, format, input),
-        _ => Ok(Came::Unknown),
+        _ => Ok(Outcome::Unknown),
     }
 }
 
@@ -168,7 +168,7 @@ fn of_lists<T: BothBin + BothJson + BothRon + OrderedKey + Hash>(
     format: Format,
     shape: Shape<'_>,
     input: &[u8],
-) -> Result<Came, AllocError> {
+) -> Result<Outcome, AllocError> {
     of_held::<Lists<T>>(alloc, format, shape, input)
 }
 
@@ -178,7 +178,7 @@ fn of_key<T: BothBin + BothJson + BothRon + OrderedKey + Hash>(
     format: Format,
     shape: Shape<'_>,
     input: &[u8],
-) -> Result<Came, AllocError> {
+) -> Result<Outcome, AllocError> {
     match shape {
         ("HashSet<", ">") => of_type::<HashSet<T>>(alloc, format, input),
         ("BTreeSet<", ">") => of_type::<BTreeSet<T>>(alloc, format, input),
@@ -192,7 +192,7 @@ fn of_map<K, V>(
     format: Format,
     before: &str,
     input: &[u8],
-) -> Result<Came, AllocError>
+) -> Result<Outcome, AllocError>
 where
     K: BothBin + BothJson + BothRon + OrderedKey + Hash,
     V: BothBin + BothJson + BothRon,
@@ -202,7 +202,7 @@ where
         "BTreeMap<" => of_type::<BTreeMap<K, V>>(alloc, format, input),
         "Vec<HashMap<" => of_type::<Vec<HashMap<K, V>>>(alloc, format, input),
         "Holder<HashMap<" => of_type::<Holder<HashMap<K, V>>>(alloc, format, input),
-        _ => Ok(Came::Unknown),
+        _ => Ok(Outcome::Unknown),
     }
 }
 
@@ -212,7 +212,7 @@ fn of_names<T: BothBin + BothJson + BothRon + OrderedKey + Hash>(
     format: Format,
     shape: Shape<'_>,
     input: &[u8],
-) -> Result<Came, AllocError> {
+) -> Result<Outcome, AllocError> {
     match shape {
         (before, ", i32>" | ", i32>>") => of_map::<T, i32>(alloc, format, before, input),
         (before, ", String>") => of_map::<T, T>(alloc, format, before, input),
@@ -229,7 +229,7 @@ fn of_container<T: BothBin + BothJson + BothRon + OrderedKey + Hash>(
     format: Format,
     shape: Shape<'_>,
     input: &[u8],
-) -> Result<Came, AllocError> {
+) -> Result<Outcome, AllocError> {
     match shape {
         ("Box<", ">") => of_type::<Box<T>>(alloc, format, input),
         ("LinkedList<", ">") => of_type::<LinkedList<T>>(alloc, format, input),
@@ -243,7 +243,7 @@ fn of_byte<T: BothBin + BothJson + BothRon + OrderedKey + Hash>(
     format: Format,
     shape: Shape<'_>,
     input: &[u8],
-) -> Result<Came, AllocError> {
+) -> Result<Outcome, AllocError> {
     match shape {
         (before, ", u8>" | ", u8>>") => of_map::<T, T>(alloc, format, before, input),
         (before, ", bool>") => of_map::<T, bool>(alloc, format, before, input),
@@ -260,13 +260,13 @@ fn of_tuple<T: BothBin + BothJson + BothRon>(
     format: Format,
     after: &str,
     input: &[u8],
-) -> Result<Came, AllocError> {
+) -> Result<Outcome, AllocError> {
     match after {
         ", u8)" => of_type::<(T, T)>(alloc, format, input),
         ", String)" => of_type::<(T, String)>(alloc, format, input),
         ", bool, i16)" => of_type::<(T, bool, i16)>(alloc, format, input),
         ", bool, i16, String)" => of_type::<(T, bool, i16, String)>(alloc, format, input),
-        _ => Ok(Came::Unknown),
+        _ => Ok(Outcome::Unknown),
     }
 }
 
@@ -276,7 +276,7 @@ fn of_nested<T: BothBin + BothJson + BothRon + OrderedKey + Hash>(
     format: Format,
     before: &str,
     input: &[u8],
-) -> Result<Came, AllocError> {
+) -> Result<Outcome, AllocError> {
     match before {
         "Option<Option<" => of_type::<Option<Option<T>>>(alloc, format, input),
         "Vec<Option<" => of_type::<Vec<Option<T>>>(alloc, format, input),
@@ -285,6 +285,6 @@ fn of_nested<T: BothBin + BothJson + BothRon + OrderedKey + Hash>(
         "Vec<BTreeSet<" => of_type::<Vec<BTreeSet<T>>>(alloc, format, input),
         "HashSet<Option<" => of_type::<HashSet<Option<T>>>(alloc, format, input),
         "BTreeSet<Option<" => of_type::<BTreeSet<Option<T>>>(alloc, format, input),
-        _ => Ok(Came::Unknown),
+        _ => Ok(Outcome::Unknown),
     }
 }

@@ -1,7 +1,7 @@
 //! The user-defined types that a case can name: those of `nanoserde::records`, and of the examples.
 
-use crate::came::Came;
 use crate::format::Format;
+use crate::outcome::Outcome;
 use crate::reads::{of_bytes, of_json, of_type};
 use crate::types::{Shape, of_held};
 use example_types::{
@@ -16,7 +16,7 @@ pub(crate) fn of_user_type(
     format: Format,
     (shape, name): (Shape<'_>, &str),
     input: &[u8],
-) -> Result<Came, AllocError> {
+) -> Result<Outcome, AllocError> {
     match name {
         "Test" => of_held::<Test>(alloc, format, shape, input),
         "Plain" => of_held::<Plain>(alloc, format, shape, input),
@@ -32,7 +32,7 @@ fn of_example(
     format: Format,
     (shape, name): (Shape<'_>, &str),
     input: &[u8],
-) -> Result<Came, AllocError> {
+) -> Result<Outcome, AllocError> {
     match (name, shape) {
         ("Server", _) => of_held::<Server>(alloc, format, shape, input),
         ("Event", _) => of_held::<Event>(alloc, format, shape, input),
@@ -40,7 +40,7 @@ fn of_example(
         ("Message", ("", "")) => of_json::<Message>(alloc, format, input),
         ("Command", ("", "")) => of_bytes::<Command>(alloc, format, input),
         (_, ("", "")) => of_attributed(alloc, format, name, input),
-        _ => Ok(Came::Unknown),
+        _ => Ok(Outcome::Unknown),
     }
 }
 
@@ -50,7 +50,7 @@ fn of_attributed(
     format: Format,
     name: &str,
     input: &[u8],
-) -> Result<Came, AllocError> {
+) -> Result<Outcome, AllocError> {
     match name {
         "Site" => of_type::<Site>(alloc, format, input),
         "Clock" => of_type::<Clock>(alloc, format, input),
@@ -58,6 +58,6 @@ fn of_attributed(
         "Tagged" => of_type::<Tagged<i32, String>>(alloc, format, input),
         "Point" => of_type::<Point>(alloc, format, input),
         "Entry" => of_type::<Entry>(alloc, format, input),
-        _ => Ok(Came::Unknown),
+        _ => Ok(Outcome::Unknown),
     }
 }

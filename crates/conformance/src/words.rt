@@ -1,7 +1,7 @@
 //! What the words of `nano_show` answer.
 
-use crate::came::Came;
 use crate::fields::unescape;
+use crate::outcome::Outcome;
 use nano_show_answers::{ShowFault, ending, run};
 use std::alloc::{AllocError, Global};
 
@@ -10,17 +10,17 @@ const CAPACITY: usize = 65_536;
 
 /// What the words print for the input, or how they end. A space parts words, `%20` is one in a
 /// word, and `%_` stands for the empty word.
-pub(crate) fn run_words(alloc: Global, line: &str, input: &[u8]) -> Result<Came, AllocError> {
+pub(crate) fn run_words(alloc: Global, line: &str, input: &[u8]) -> Result<Outcome, AllocError> {
     let words = words_of(alloc, line)?;
     let mut rest = input;
     let mut output = Vec::with_capacity(alloc, CAPACITY)?;
     match run(alloc, &words, &mut rest, &mut output) {
-        Ok(()) => Ok(Came::Text(output)),
+        Ok(()) => Ok(Outcome::Text(output)),
         Err(ShowFault::Memory) => Err(AllocError),
         Err(fault) => {
             let (status, text) = ending(&fault);
             let reported = format!(in alloc; "{status}: {text}")?;
-            Ok(Came::Error(reported.into_bytes()))
+            Ok(Outcome::Error(reported.into_bytes()))
         }
     }
 }

@@ -1,12 +1,12 @@
 //! Calls of a writer's state, and the text afterwards.
 
-use crate::came::Came;
+use crate::outcome::Outcome;
 use crate::start::OUT_OF_MEMORY;
 use nanoserde::{SerJsonState, SerRonState};
 use std::alloc::{AllocError, Global};
 
 /// What a call leaves of a JSON text.
-pub(crate) fn json_call(alloc: Global, call: &str, text: &str) -> Result<Came, AllocError> {
+pub(crate) fn json_call(alloc: Global, call: &str, text: &str) -> Result<Outcome, AllocError> {
     let mut state = SerJsonState {
         out: String::from_str(alloc, text)?,
     };
@@ -17,13 +17,13 @@ pub(crate) fn json_call(alloc: Global, call: &str, text: &str) -> Result<Came, A
         ".conl" => state.conl(),
         ".st_pre" => state.st_pre(),
         ".st_post_1" => state.st_post(1),
-        _ => return Ok(Came::Unknown),
+        _ => return Ok(Outcome::Unknown),
     };
     left(alloc, written, state.out.as_str())
 }
 
 /// What a call leaves of a RON text.
-pub(crate) fn ron_call(alloc: Global, call: &str, text: &str) -> Result<Came, AllocError> {
+pub(crate) fn ron_call(alloc: Global, call: &str, text: &str) -> Result<Outcome, AllocError> {
     let mut state = SerRonState {
         out: String::from_str(alloc, text)?,
     };
@@ -34,17 +34,17 @@ pub(crate) fn ron_call(alloc: Global, call: &str, text: &str) -> Result<Came, Al
         ".st_pre" => state.st_pre(),
         ".st_post_0" => state.st_post(0),
         ".st_post_1" => state.st_post(1),
-        _ => return Ok(Came::Unknown),
+        _ => return Ok(Outcome::Unknown),
     };
     left(alloc, written, state.out.as_str())
 }
 
 /// The answer, and the text after it.
-fn left(alloc: Global, written: Result<(), AllocError>, text: &str) -> Result<Came, AllocError> {
+fn left(alloc: Global, written: Result<(), AllocError>, text: &str) -> Result<Outcome, AllocError> {
     let answer = match written {
         Ok(()) => "ok",
         Err(_) => OUT_OF_MEMORY,
     };
     let reported = format!(in alloc; "{answer} -> {text}")?;
-    Ok(Came::Text(reported.into_bytes()))
+    Ok(Outcome::Text(reported.into_bytes()))
 }

@@ -1,7 +1,7 @@
 //! Runs tables of cases over the library's formats, and prints each case that differs.
 //!
 //! `conformance_run` runs its own tables, `conformance_run tables FILE..` these, and
-//! `conformance_run one LINE` prints what comes of the case of a table's line.
+//! `conformance_run one LINE` prints the outcome of the case of a table's line.
 #![tactic(auto)]
 
 use conformance::{Case, differences_of, write_out};
@@ -84,22 +84,22 @@ fn run_files(rt: &HostRuntime, names: &[String]) -> io::Result<bool> {
     Ok(is_right)
 }
 
-/// What comes of the case of a line, in one text.
-fn came_of_line(alloc: Global, line: &str) -> Result<String, AllocError> {
+/// The outcome of the case of a line, in one text.
+fn outcome_of_line(alloc: Global, line: &str) -> Result<String, AllocError> {
     let line = write_out(alloc, line)?;
     match Case::of_line(alloc, line.as_str())? {
         Some(case) => {
-            let came = case.run(alloc)?;
-            let (verdict, answer) = (came.verdict(), came.answer(alloc)?);
+            let outcome = case.run(alloc)?;
+            let (verdict, answer) = (outcome.verdict(), outcome.answer(alloc)?);
             format!(in alloc; "{verdict} {answer}")
         }
         None => String::from_str(alloc, "no case"),
     }
 }
 
-/// Prints what comes of one case.
+/// Prints the outcome of one case.
 fn run_one(rt: &HostRuntime, line: &str) -> io::Result<bool> {
-    match came_of_line(rt.alloc(), line) {
+    match outcome_of_line(rt.alloc(), line) {
         Ok(text) => rt.println(text)?,
         Err(_) => rt.println("out of memory")?,
     }

@@ -10,6 +10,7 @@ pub mod FirstErrors
 pub mod PrefixLemmas
 pub mod GapCut
 pub mod Gaps
+pub mod IntegerCut
 pub mod LexemeCut
 pub mod LexemeHalts
 pub mod RemainingPrefixes
@@ -28,6 +29,7 @@ pub mod RunPrefixes
 pub mod Signs
 pub mod Spans
 pub mod StatementLemmas
+pub mod StatementLists
 pub mod StopLemmas
 pub mod StringCut
 pub mod StringHalts

@@ -6,7 +6,7 @@ use Rattle.nano_toml.specs.PrefixesLaws.{statement_prefix}
 use Rattle.nano_toml.specs.RemainingText.{remaining}
 use Rattle.nano_toml.specs.Reading.{statement_view, IsNext}
 use Rattle.nano_toml.specs.declared.statements.Statement.{Statement as Read}
-use Rattle.nano_toml.proofs.BuildLemmas.{IsLawful-from}
+use Rattle.nano_toml.proofs.StatementLists.{IsLawful-from}
 use Rattle.nano_toml.proofs.FirstErrors.{ReadTokens-start, ReadTokens-next, first_error, header_error}
 use Rattle.nano_toml.proofs.ReadLemmas.{ReadSoFar-start, ReadSoFar-next, ReadSoFar-end, ReadSoFar-nothing, ReadSoFar-unlawful}
 use Rattle.nano_toml.proofs.parser.read_table.Goals as goal

@@ -3,7 +3,8 @@ use Rattle.nano_toml.specs.Built.{key_of}
 use Rattle.nano_toml.specs.Reading.{name_view}
 use Rattle.nano_toml.specs.Statements.{scope}
 use Rattle.nano_toml.specs.View.{table_view}
-use Rattle.nano_toml.proofs.BuildLemmas.{Stands-scope, NoneNamed-scope, plain_push, scope_of-scope}
+use Rattle.nano_toml.proofs.BuildLemmas.{Stands-scope, NoneNamed-scope}
+use Rattle.nano_toml.proofs.StatementLists.{plain_push, scope_of-scope}
 use Rattle.nano_toml.proofs.table.Builder.add.Goals as goal
 
 pub returns-in_ok-push_str-in-Scope-clause-built : goal.returns-in_ok-push_str-in-Scope-clause-built

@@ -3,7 +3,8 @@ use Rattle.nano_toml.specs.Built.{Puts, key_of}
 use Rattle.nano_toml.specs.Statements.{pair}
 use Rattle.nano_toml.specs.StatementTable.{scope_of, full_key}
 use Rattle.nano_toml.specs.View.{view, table_view}
-use Rattle.nano_toml.proofs.BuildLemmas.{NoneNamed-pair, plain_push, scope_of-pair}
+use Rattle.nano_toml.proofs.BuildLemmas.{NoneNamed-pair}
+use Rattle.nano_toml.proofs.StatementLists.{plain_push, scope_of-pair}
 use Rattle.nano_toml.proofs.BuilderSteps.{Stands-in_element, Stands-in_root}
 use Rattle.nano_toml.proofs.TableChanges.{OnOk-map}
 use Rattle.nano_toml.proofs.table.Builder.add_pair.Goals as goal

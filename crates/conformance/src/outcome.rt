@@ -1,11 +1,11 @@
-//! What comes of an input.
+//! The outcome of an input.
 
 use crate::fields::{escape, push_digits};
 use std::alloc::{AllocError, Global};
 
-/// What comes of an input. Out of memory is no such answer, but an `AllocError`.
+/// The outcome of an input. Out of memory is no such answer, but an `AllocError`.
 #[derive(PartialEq, Debug, Drop)]
-pub enum Came {
+pub enum Outcome {
     /// A text: the normal form of the value, or what the words print.
     Text(Vec<u8>),
     /// The bytes of the value.
@@ -16,22 +16,22 @@ pub enum Came {
     Unknown,
 }
 
-impl Came {
+impl Outcome {
     /// The verdict as a table has it.
     pub fn verdict(&self) -> &'static str {
         match self {
-            Came::Text(_) | Came::Code(_) => "is",
-            Came::Error(_) => "error",
-            Came::Unknown => "unknown",
+            Outcome::Text(_) | Outcome::Code(_) => "is",
+            Outcome::Error(_) => "error",
+            Outcome::Unknown => "unknown",
         }
     }
 
     /// The answer as a table has it: bytes in pairs of digits, a text with its escapes.
     pub fn answer(&self, alloc: Global) -> Result<String, AllocError> {
         match self {
-            Came::Text(text) | Came::Error(text) => escape(alloc, text),
-            Came::Code(bytes) => pairs(alloc, bytes),
-            Came::Unknown => Ok(String::new(alloc)),
+            Outcome::Text(text) | Outcome::Error(text) => escape(alloc, text),
+            Outcome::Code(bytes) => pairs(alloc, bytes),
+            Outcome::Unknown => Ok(String::new(alloc)),
         }
     }
 }
