@@ -5,7 +5,7 @@ use crate::outcome::Outcome;
 use crate::reads::{of_bytes, of_json, of_type};
 use crate::types::{Shape, of_held};
 use example_types::{
-    Clock, Command, Entry, Event, Message, Notice, Point, Server, Signal, Site, Tagged,
+    Clock, Command, Entry, Event, Message, Notice, Point, Reply, Server, Signal, Site, Tagged,
 };
 use nanoserde::records::{Choice, Item, Plain, Test};
 use std::alloc::{AllocError, Global};
@@ -56,6 +56,7 @@ fn of_attributed(
         "Clock" => of_type::<Clock>(alloc, format, input),
         "Notice" => of_type::<Notice>(alloc, format, input),
         "Tagged" => of_type::<Tagged<i32, String>>(alloc, format, input),
+        "Reply" => of_type::<Reply<i32, String>>(alloc, format, input),
         "Point" => of_type::<Point>(alloc, format, input),
         "Entry" => of_type::<Entry>(alloc, format, input),
         _ => Ok(Outcome::Unknown),

@@ -15,6 +15,7 @@ mod labels;
 mod layout;
 mod making;
 mod names;
+mod parameters;
 mod records;
 mod rows;
 mod seen;
@@ -40,8 +41,6 @@ use tuples::append_tuple;
 
 const NO_TYPE: &str = "no struct or enum above the marker has a line `// nanoserde: bin json ron`, \
     which says in which formats it is read and written";
-
-const GENERIC_ENUM: &str = "is a generic enum: only a struct has type parameters";
 
 /// The impls of each struct and enum for which a format is named.
 pub(crate) fn impls<'a>(
@@ -77,9 +76,6 @@ fn append_impls<'a>(
             [part] => append_transparent(sheet, &target, *part)?,
             _ => append_tuple(sheet, &target, parts)?,
         },
-        Shape::Variants(_) if !target.parameters.is_empty() => {
-            return Err(target.name.fault(GENERIC_ENUM));
-        }
         Shape::Variants(variants) => append_choice(sheet, &target, variants)?,
     }
     Ok(())

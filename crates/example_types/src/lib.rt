@@ -2,10 +2,10 @@
 //! copies.
 //!
 //! `Server`, `Event`, `Signal` and `Query` are described once by a schema, and `nano_derive` wrote
-//! each format from it. So are `Site`, `Clock`, `Notice` and `Tagged`, which have attributes, and
-//! the last has type parameters, and `Point` and `Entry`, whose parts have no names. `Limits` and
-//! `Tags` are encoded as their one field. `Command` implements bytes and `Message` implements JSON
-//! by hand, without a schema.
+//! each format from it. So are `Site`, `Clock` and `Notice`, which have attributes, `Tagged` and
+//! `Reply`, which have type parameters, and `Point` and `Entry`, whose parts have no names. `Limits`
+//! and `Tags` are encoded as their one field. `Command` implements bytes and `Message` implements
+//! JSON by hand, without a schema.
 #![tactic(auto)]
 
 mod clock;
@@ -17,6 +17,7 @@ mod message;
 mod notice;
 mod point;
 mod query;
+mod reply;
 mod server;
 mod signal;
 mod site;
@@ -32,6 +33,7 @@ pub use message::Message;
 pub use notice::Notice;
 pub use point::Point;
 pub use query::Query;
+pub use reply::Reply;
 pub use server::Server;
 pub use signal::Signal;
 pub use site::Site;

@@ -3,3 +3,4 @@ pub use Rattle.nano_value.specs.AgreesLaws.{agreed, seen_agrees, pair_agrees}
 pub use Rattle.nano_value.specs.AgreesLaws.{option_agrees, list_agrees}
 pub use Rattle.nano_value.specs.Meaning.{whole, number, truth, text}
 pub use Rattle.nano_value.specs.Sums.{LegalVariant}
+pub use Rattle.nano_schema.specs.ChoicesLaws.{last_agrees, next_agrees, choice_agrees}

@@ -13,25 +13,25 @@ ghost use Rattle.nano_schema_json.specs.VariantsLaws.{json_variants};
 
 use crate::choices::{JsonChoiceRefs, JsonChoices};
 use crate::variants::read_variant_name;
-use nano_json::{DeJsonErr, DeJsonState, SerJsonState};
+use nano_json::{DeJsonErr, DeJsonState, JsonCodec, SerJsonState};
 use nano_schema::{Choice, ChoiceParts};
 use std::alloc::{AllocError, Global};
 use std::str::Chars;
 
-/// Reads a user-defined enum: the name of a variant alone, or between curly brackets a name, a
-/// colon and the content. The token after it is pending then, which may be the end. A name that
-/// no variant has is rejected with `Enum not defined {name}`, once the token after it, or after
-/// its colon, is taken.
+/// Reads a user-defined enum, where the variants mean what its codec says: the name of a variant
+/// alone, or between curly brackets a name, a colon and the content. The token after it is pending
+/// then, which may be the end. A name that no variant has is rejected with `Enum not defined
+/// {name}`, once the token after it, or after its colon, is taken.
 ///
 /// An error other than out of memory says that no variant is encoded there, with one more token
 /// or the end after it. Every error leaves the state at the end of the text.
-pub fn read_choice_json<E: Choice, V: JsonChoices<Values = E::Values>>(
+pub fn read_choice_json<E: Choice + JsonCodec, V: JsonChoices<Values = E::Values>>(
     alloc: Global,
     state: &mut DeJsonState,
     input: &mut Chars<'_>,
 ) -> Result<E, DeJsonErr>
-    ensures decodes { Decodes (EncodesVariant json_variants V.codec.encodes)
-        (λ value. V.means 0 (E.view value))
+    ensures decodes { SeesAs (λ value. V.means 0 (E.view value)) E.json.canonical.means
+        → Decodes (EncodesVariant json_variants V.codec.encodes) E.means
         (at state.old input.old) (at state.new input.new) result }
     ensures rejected { Rejects (EncodesVariant json_variants V.codec.encodes)
         (at state.old input.old) result }

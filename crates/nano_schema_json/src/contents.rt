@@ -153,7 +153,7 @@ impl<T: DeJson> ReadContent for OnePart<T> {
 
     ghost content = { content_as (single_codec T.json) };
 
-    ghost means = { T.means };
+    ghost means = { T.json.canonical.means };
 
     fn stands_alone() -> bool {
         false

@@ -22,7 +22,7 @@ impl<P: DeJson> ReadContent for Tupled<P> {
 
     ghost content = { content_as P.json };
 
-    ghost means = { P.means };
+    ghost means = { P.json.canonical.means };
 
     fn stands_alone() -> bool {
         false

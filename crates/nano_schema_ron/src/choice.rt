@@ -13,24 +13,25 @@ ghost use Rattle.nano_schema_ron.specs.VariantsLaws.{ron_variants};
 
 use crate::choices::{RonChoiceRefs, RonChoices};
 use crate::variants::read_variant_name;
-use nano_ron::{DeRonErr, DeRonState, SerRonState};
+use nano_ron::{DeRonErr, DeRonState, RonCodec, SerRonState};
 use nano_schema::{Choice, ChoiceParts};
 use std::alloc::{AllocError, Global};
 use std::str::Chars;
 
-/// Reads a user-defined enum: the name of a variant, and directly after it the content if it
-/// has one. The token after it is pending then, which may be the end. A name that no variant
-/// has is rejected with `Enum not defined {name}`, once the token after it is taken.
+/// Reads a user-defined enum, where the variants mean what its codec says: the name of a variant,
+/// and directly after it the content if it has one. The token after it is pending then, which may
+/// be the end. A name that no variant has is rejected with `Enum not defined {name}`, once the token
+/// after it is taken.
 ///
 /// An error other than out of memory says that no variant is encoded there, with one more token
 /// or the end after it. Every error leaves the state at the end of the text.
-pub fn read_choice_ron<E: Choice, V: RonChoices<Values = E::Values>>(
+pub fn read_choice_ron<E: Choice + RonCodec, V: RonChoices<Values = E::Values>>(
     alloc: Global,
     state: &mut DeRonState,
     input: &mut Chars<'_>,
 ) -> Result<E, DeRonErr>
-    ensures decodes { Decodes (EncodesVariant ron_variants V.codec.encodes)
-        (λ value. V.means 0 (E.view value))
+    ensures decodes { SeesAs (λ value. V.means 0 (E.view value)) E.ron.canonical.means
+        → Decodes (EncodesVariant ron_variants V.codec.encodes) E.means
         (at state.old input.old) (at state.new input.new) result }
     ensures rejected { Rejects (EncodesVariant ron_variants V.codec.encodes)
         (at state.old input.old) result }

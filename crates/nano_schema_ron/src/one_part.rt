@@ -31,7 +31,7 @@ impl<T: DeRon> ReadContent for OnePart<T> {
 
     ghost content = { content_as (single_codec T.ron) (λ x d. refl) };
 
-    ghost means = { T.means };
+    ghost means = { T.ron.canonical.means };
 
     fn stands_alone() -> bool {
         false

@@ -14,7 +14,7 @@ use crate::contents::{ReadContent, RonContent, WriteContent};
 use crate::part::Part;
 use crate::variant_writer::write_variant;
 use nano_ron::{DeRon, DeRonErr, DeRonState, RonCodec, SerRon, SerRonState};
-use nano_schema::{Tupled, Value};
+use nano_schema::Tupled;
 use std::alloc::{AllocError, Global};
 use std::str::Chars;
 
@@ -49,7 +49,7 @@ impl<A: DeRon, B: DeRon> ReadContent for Tupled<(A, B)> {
 
     ghost content = { content_as (pair_codec A.ron B.ron) (λ x d. refl) };
 
-    ghost means = { ⟦<(A, B) as Value>⟧.means };
+    ghost means = { ⟦<(A, B) as RonCodec>⟧.ron.canonical.means };
 
     fn stands_alone() -> bool {
         false
@@ -98,7 +98,7 @@ impl<A: DeRon, B: DeRon, C: DeRon> ReadContent for Tupled<(A, B, C)> {
 
     ghost content = { content_as (triple_codec A.ron B.ron C.ron) (λ x d. refl) };
 
-    ghost means = { ⟦<(A, B, C) as Value>⟧.means };
+    ghost means = { ⟦<(A, B, C) as RonCodec>⟧.ron.canonical.means };
 
     fn stands_alone() -> bool {
         false
@@ -151,7 +151,7 @@ impl<A: DeRon, B: DeRon, C: DeRon, D: DeRon> ReadContent for Tupled<(A, B, C, D)
 
     ghost content = { content_as (quadruple_codec A.ron B.ron C.ron D.ron) (λ x d. refl) };
 
-    ghost means = { ⟦<(A, B, C, D) as Value>⟧.means };
+    ghost means = { ⟦<(A, B, C, D) as RonCodec>⟧.ron.canonical.means };
 
     fn stands_alone() -> bool {
         false

@@ -55,13 +55,7 @@ struct A(u8, u16, u32, u64, u8);
 => 1:1: this has no end
 ----
 struct A(u8);
-=> 2:1: no struct or enum above the marker has a line
-----
-// nanoserde: bin
-enum A<T> {
-    B(T),
-}
-=> 2:6: `A` is a generic enum"#;
+=> 2:1: no struct or enum above the marker has a line"#;
 
 /// A field has a type that is not known here, or that has no format.
 pub(crate) const TYPES: &str = r#"struct A<'a> {

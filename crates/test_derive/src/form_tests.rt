@@ -1,6 +1,6 @@
 //! What is written of each form of a struct.
 
-use crate::forms::{CITING, DEFAULTED, GENERIC, PARTS, SKIPPED};
+use crate::forms::{CITING, DEFAULTED, GENERIC, LARGE, PARTS, SKIPPED};
 use crate::outcome::outcome_above;
 use std::alloc::{AllocError, Global};
 use std::process::Abort;
@@ -33,6 +33,7 @@ fn forms_are_written(rt: HostRuntime) {
     let alloc = rt.alloc();
     are_written(&rt, alloc, PARTS);
     are_written(&rt, alloc, GENERIC);
+    are_written(&rt, alloc, LARGE);
     are_written(&rt, alloc, DEFAULTED);
     are_written(&rt, alloc, SKIPPED);
     are_written(&rt, alloc, CITING);

@@ -26,7 +26,7 @@ type AFields = nano_schema::Tupled<AValues>;
         nano_schema_ron::read_parts_ron::<Self, AValues>(alloc, state, input)
 "#;
 
-/// A generic struct agrees as its parameters do.
+/// A generic type agrees as its parameters do, and names those alone that it has.
 pub(crate) const GENERIC: &str = r#"// nanoserde: bin
 struct A<T> {
     a: T,
@@ -48,6 +48,52 @@ struct A<T>(T);
 struct A<T>(T, u8);
 =>
 type AValues<T> = (T, u8);
+----
+// nanoserde: bin
+enum A<T, U> {
+    B(T, U),
+    C(U, T),
+    D(U),
+    E,
+}
+=>
+type ABParts<T, U> = (T, U);
+=>
+type ADParts<U> = U;
+=>
+type AVariants4 = nano_schema::Variant<AE, nano_schema::Alone>;
+=>
+type AValues3<U> = nano_schema::Either<U, AValues4>;
+=>
+type ARefs3<'a, U> = nano_schema::Either<&'a U, ARefs4<'a>>;
+=>
+    type Refs = ARefs<'a, T, U>;
+=>
+    ghost is_decodable = { (both_are_read (both_are_read T.is_decodable U.is_decodable)
+----
+// nanoserde: json
+struct A<T, U, V>(T, U, V);
+=>
+impl<
+    T: nano_schema_json::JsonCodec,
+    U: nano_schema_json::JsonCodec,
+    V: nano_schema_json::JsonCodec,
+> nano_schema_json::JsonCodec for A<T, U, V> {
+"#;
+
+/// A ghost pair that is too long for a line has a line for each of its two.
+pub(crate) const LARGE: &str = r#"// nanoserde: bin
+struct A {
+    the_first_of_them_all: u8,
+    the_second_of_them_all: u8,
+    the_third_of_them_all: u8,
+    the_fourth_of_them_all: u8,
+}
+=>
+    ghost view = { λ x. (
+      (x.the_first_of_them_all, x.the_second_of_them_all),
+      (x.the_third_of_them_all, x.the_fourth_of_them_all),
+    ) };
 "#;
 
 /// A default stands in the row of its field.

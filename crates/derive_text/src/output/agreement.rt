@@ -1,14 +1,15 @@
-//! That the codec of a struct is of what its values mean. A type parameter's codec says so of its
-//! values, and the codec of a generic struct says it by those of its parameters.
+//! That the codec of a type is of what its values mean. A type parameter's codec says so of its
+//! values, and the codec of a generic type says it by those of its parameters.
 
+use crate::output::parameters::{content_types, encoded_types, parameter_in};
 use crate::output::rows::ghost_pairs;
 use crate::output::tuples::{PLACES, named};
 use crate::output::types::{argument_of, type_text};
 use derive_source::Fault;
-use derive_syntax::{Definition, Field, Shape, Token, Type};
+use derive_syntax::{Content, Definition, Shape, Token, Type, Variant};
 use std::alloc::{AllocError, Global};
 
-/// The ghost terms of a struct or an enum for its codecs.
+/// The ghost terms of a type for its codecs.
 #[derive(Drop)]
 pub(crate) struct Agreement {
     /// That a codec is of what the values mean.
@@ -25,29 +26,19 @@ pub(crate) fn agreement_of<'a>(
     definition: &Definition<'a>,
     full: &str,
 ) -> Result<Agreement, Fault> {
-    match &definition.shape {
-        Shape::Fields(fields) if !definition.parameters.is_empty() => {
-            of_fields(alloc, definition, &encoded_types(alloc, fields)?, full)
-        }
-        Shape::Parts(parts) if !definition.parameters.is_empty() => {
-            of_parts(alloc, definition, parts)
-        }
-        _ => Ok(Agreement {
+    if definition.parameters.is_empty() {
+        return Ok(Agreement {
             agrees: String::from_str(alloc, "agreed")?,
             decodable: String::from_str(alloc, "refl")?,
-        }),
+        });
     }
-}
-
-/// The types of the fields that are read and written.
-fn encoded_types<'a>(alloc: Global, fields: &[Field<'a>]) -> Result<Vec<Type<'a>>, AllocError> {
-    let mut types = Vec::new(alloc);
-    for field in fields {
-        if field.attributes.skip.is_none() {
-            types.push(field.of)?;
+    match &definition.shape {
+        Shape::Fields(fields) => {
+            of_fields(alloc, definition, &encoded_types(alloc, fields)?, full)
         }
+        Shape::Parts(parts) => of_parts(alloc, definition, parts),
+        Shape::Variants(variants) => of_variants(alloc, definition, variants, full),
     }
-    Ok(types)
 }
 
 /// The terms of a struct with fields of these types.
@@ -80,6 +71,62 @@ fn of_parts<'a>(
         agrees: format!(in alloc; "seen_agrees {pairs} (λ x. {view})")?,
         decodable: in_turn(alloc, &decode, "both_are_read ", " ")?,
     })
+}
+
+/// The terms of an enum of these variants.
+fn of_variants<'a>(
+    alloc: Global,
+    definition: &Definition<'a>,
+    variants: &[Variant<'a>],
+    full: &str,
+) -> Result<Agreement, Fault> {
+    let mut agree = String::new(alloc);
+    let mut decode = String::from_str(alloc, "refl")?;
+    for variant in variants.iter().rev() {
+        let content = of_content(alloc, &definition.parameters, &variant.content)?;
+        let (first, read) = (content.agrees.as_str(), content.decodable.as_str());
+        agree = if agree.is_empty() {
+            format!(in alloc; "(last_agrees {first})")?
+        } else {
+            format!(in alloc; "(next_agrees {first} {agree})")?
+        };
+        decode = format!(in alloc; "(both_are_read {read} {decode})")?;
+    }
+    Ok(Agreement {
+        agrees: format!(in alloc; "choice_agrees {agree} ⟦<{full} as nano_schema::Choice>⟧.view")?,
+        decodable: decode,
+    })
+}
+
+/// The terms of what a variant holds.
+fn of_content<'a>(
+    alloc: Global,
+    parameters: &[Token<'a>],
+    content: &Content<'a>,
+) -> Result<Agreement, Fault> {
+    let types = content_types(alloc, content)?;
+    let agree = all_agree(alloc, parameters, &types)?;
+    let decode = all_decodable(alloc, parameters, &types)?;
+    if types.is_empty() {
+        return Ok(Agreement {
+            agrees: agreed_of(alloc, "()")?,
+            decodable: String::from_str(alloc, "refl")?,
+        });
+    }
+    match content {
+        Content::Parts(parts) if parts.len() > 1 => {
+            let pairs = in_turn(alloc, &agree, "pair_agrees ", " ")?;
+            let view = in_turn(alloc, &named(alloc, "x.", &PLACES, parts.len())?, "", ", ")?;
+            Ok(Agreement {
+                agrees: format!(in alloc; "(seen_agrees {pairs} (λ x. {view}))")?,
+                decodable: in_turn(alloc, &decode, "both_are_read ", " ")?,
+            })
+        }
+        _ => Ok(Agreement {
+            agrees: ghost_pairs(alloc, &agree, "pair_agrees ", " ")?,
+            decodable: ghost_pairs(alloc, &decode, "both_are_read ", " ")?,
+        }),
+    }
 }
 
 /// The texts as pairs of a ghost term, each text before the pair of the later ones.
@@ -155,7 +202,11 @@ fn agrees<'a>(alloc: Global, parameters: &[Token<'a>], of: Type<'a>) -> Result<S
 
 /// That the codec of a type without parameters is of what its values mean.
 fn known<'a>(alloc: Global, of: Type<'a>) -> Result<String, AllocError> {
-    let text = type_text(alloc, of)?;
+    agreed_of(alloc, type_text(alloc, of)?.as_str())
+}
+
+/// That the codec of the type of this text is of what its values mean.
+fn agreed_of(alloc: Global, text: &str) -> Result<String, AllocError> {
     format!(in alloc;
         "(agreed {{means = ⟦<{text} as nano_schema::Value>⟧.means}} \
         {{legal = ⟦<{text} as nano_schema::Value>⟧.legal}})"
@@ -172,16 +223,4 @@ fn decodable<'a>(
         Some(parameter) => format!(in alloc; "{}.is_decodable", parameter.text),
         None => String::from_str(alloc, "refl"),
     }
-}
-
-/// The first of the parameters that stands in a type.
-fn parameter_in<'a>(parameters: &[Token<'a>], of: Type<'a>) -> Option<Token<'a>> {
-    for token in of.0 {
-        for parameter in parameters {
-            if parameter.text == token.text {
-                return Some(*token);
-            }
-        }
-    }
-    None
 }

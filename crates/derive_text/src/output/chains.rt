@@ -1,26 +1,29 @@
 //! The types of an enum's variants, and of their content: each of the first variant and the rest.
 
 use crate::output::fields::{field_texts, row_fields};
-use crate::output::layout::Items;
-use crate::output::rows::{Leaf, append_row, paired};
+use crate::output::layout::{Brackets, Items, Piece, list};
+use crate::output::parameters::{bounds, content_types, parameters_in};
+use crate::output::rows::{Leaf, paired};
 use crate::output::sheet::Sheet;
 use crate::output::target::Target;
 use crate::output::tuples::part_types;
 use crate::output::variants::tuple_of;
-use derive_syntax::{Content, Variant};
+use derive_syntax::{Content, Token, Type, Variant};
 use std::alloc::{AllocError, Global};
 
 /// A chain of types: of the first variant and the rest.
 #[derive(Clone, Copy)]
 struct Chain<'a> {
-    /// The name of the type of all variants.
-    name: &'a str,
-    /// The parameter of each of these types, or nothing.
-    parameter: &'a str,
+    /// The type of all variants: its name, with its parameters.
+    full: &'a str,
+    /// What stands before the parameters of each of these types: a lifetime, or nothing.
+    before: &'static str,
     /// What opens the list of a first and a rest.
     open: &'static str,
     /// What closes it.
     close: &'static str,
+    /// What its two items are.
+    items: Items,
 }
 
 /// Appends the types, the last variant's first. Each variant has a schema.
@@ -28,58 +31,114 @@ pub(crate) fn append_chains<'a>(
     sheet: &mut Sheet,
     target: &Target<'a>,
     variants: &[Variant<'a>],
-    schemas: &[String],
+    schemas: &[Leaf],
 ) -> Result<(), AllocError> {
+    let named = named_by(sheet.alloc, &target.parameters, variants)?;
     let row = Chain {
-        name: target.row.as_str(),
-        parameter: "",
+        full: target.row.as_str(),
+        before: "",
         open: "(",
         close: ")",
+        items: Items::Types,
     };
-    append_chain(sheet, row, schemas)?;
+    append_chain(sheet, row, &named, schemas)?;
     let values = Chain {
-        name: target.values.as_str(),
-        parameter: "",
+        full: target.values.as_str(),
+        before: "",
         open: "nano_schema::Either<",
         close: ">",
+        items: Items::Patterns,
     };
     let held = held_types(sheet.alloc, variants, "$TYPE")?;
-    append_chain(sheet, values, &held)?;
+    append_chain(sheet, values, &named, &held)?;
     let refs = Chain {
-        name: target.refs.as_str(),
-        parameter: "<'a>",
+        full: target.refs.as_str(),
+        before: "<'a",
         open: "nano_schema::Either<",
         close: ">",
+        items: Items::Patterns,
     };
     let held = held_types(sheet.alloc, variants, "&'a $TYPE")?;
-    append_chain(sheet, refs, &held)
+    append_chain(sheet, refs, &named, &held)
 }
 
-/// Appends a chain of types.
-fn append_chain(sheet: &mut Sheet, chain: Chain<'_>, firsts: &[String]) -> Result<(), AllocError> {
-    let mut later: Option<String> = None;
-    for (i, first) in firsts.iter().enumerate().rev() {
-        let full = link_name(sheet, chain, i)?;
-        let mut leaf = Leaf::of(sheet.alloc, first.clone()?)?;
-        if let Some(rest) = later {
-            leaf.texts.push(rest)?;
-            (leaf.open, leaf.close) = (chain.open, chain.close);
+/// For each variant the parameters that it and those after it name.
+fn named_by<'a>(
+    alloc: Global,
+    parameters: &[Token<'a>],
+    variants: &[Variant<'a>],
+) -> Result<Vec<Vec<Token<'a>>>, AllocError> {
+    let mut types: Vec<Type<'a>> = Vec::new(alloc);
+    let mut named = Vec::new(alloc);
+    for variant in variants.iter().rev() {
+        for of in &content_types(alloc, &variant.content)? {
+            types.push(*of)?;
         }
-        append_row(sheet, full.as_str(), &[leaf])?;
+        named.push(parameters_in(alloc, parameters, &types)?)?;
+    }
+    named.reverse();
+    Ok(named)
+}
+
+/// Appends a chain of types, each with the parameters that it names.
+fn append_chain<'a>(
+    sheet: &mut Sheet,
+    chain: Chain<'_>,
+    named: &[Vec<Token<'a>>],
+    firsts: &[Leaf],
+) -> Result<(), AllocError> {
+    let mut later: Option<String> = None;
+    for (i, (first, parameters)) in firsts.iter().zip(named).enumerate().rev() {
+        let full = link_name(sheet, chain, i, parameters)?;
+        let before = full.len().saturating_add("type  = ".len());
+        let of = match later {
+            Some(rest) => link(sheet.alloc, chain, first, rest.as_str(), before)?,
+            None => first.piece(sheet.alloc, 0, before)?,
+        };
+        sheet.alias(full.as_str(), of.laid.as_str())?;
         later = Some(full);
     }
     Ok(())
 }
 
-/// The name of the type of the variants from this one on.
-fn link_name(sheet: &mut Sheet, chain: Chain<'_>, i: usize) -> Result<String, AllocError> {
-    let (alloc, parameter) = (sheet.alloc, chain.parameter);
+/// A first and the rest, after so many columns of the line.
+fn link(
+    alloc: Global,
+    chain: Chain<'_>,
+    first: &Leaf,
+    rest: &str,
+    before: usize,
+) -> Result<Piece, AllocError> {
+    let brackets = Brackets {
+        open: chain.open,
+        close: chain.close,
+        items: chain.items,
+        indent: 0,
+        before,
+        after: 1,
+    };
+    list(
+        alloc,
+        brackets,
+        &[first.piece(alloc, 4, 4)?, Piece::of(alloc, rest)?],
+    )
+}
+
+/// The name of the type of the variants from this one on, with the parameters that they name.
+fn link_name<'a>(
+    sheet: &mut Sheet,
+    chain: Chain<'_>,
+    i: usize,
+    parameters: &[Token<'a>],
+) -> Result<String, AllocError> {
+    let alloc = sheet.alloc;
     if i == 0 {
-        return format!(in alloc; "{}{parameter}", chain.name);
+        return String::from_str(alloc, chain.full);
     }
-    let wanted = format!(in alloc; "{}{}", chain.name, i.saturating_add(1))?;
+    let (name, _arguments) = chain.full.split_once('<').unwrap_or((chain.full, ""));
+    let wanted = format!(in alloc; "{name}{}", i.saturating_add(1))?;
     let mut name = sheet.names.take(alloc, wanted.as_str())?;
-    name.push_str(parameter)?;
+    name.push_str(bounds(alloc, chain.before, parameters, "")?.as_str())?;
     Ok(name)
 }
 
@@ -88,10 +147,11 @@ fn held_types<'a>(
     alloc: Global,
     variants: &[Variant<'a>],
     template: &str,
-) -> Result<Vec<String>, AllocError> {
+) -> Result<Vec<Leaf>, AllocError> {
     let mut types = Vec::new(alloc);
     for variant in variants {
-        types.push(held_type(alloc, &variant.content, template)?)?;
+        let held = held_type(alloc, &variant.content, template)?;
+        types.push(Leaf::of(alloc, held)?)?;
     }
     Ok(types)
 }

@@ -8,7 +8,8 @@ use crate::output::labels::append_label;
 use crate::output::layout::Items;
 use crate::output::making::making;
 use crate::output::names::in_type_name;
-use crate::output::rows::append_row;
+use crate::output::parameters::{bounds, content_types, parameters_in};
+use crate::output::rows::{Leaf, append_row};
 use crate::output::sheet::Sheet;
 use crate::output::target::Target;
 use crate::output::tuples::part_types;
@@ -38,12 +39,19 @@ fn append_variant<'a>(
     sheet: &mut Sheet,
     target: &Target<'a>,
     variant: &Variant<'a>,
-) -> Result<String, AllocError> {
+) -> Result<Leaf, AllocError> {
     let label = label_of(sheet, target.name.text, variant.name.text)?;
     let name = encoded_name(variant.name, variant.attributes).quoted();
     append_label(sheet, label.as_str(), name)?;
     let content = append_content(sheet, target, variant)?;
-    format!(in sheet.alloc; "nano_schema::Variant<{label}, {content}>")
+    let mut texts = Vec::new(sheet.alloc);
+    texts.push(label)?;
+    texts.push(content)?;
+    Ok(Leaf {
+        open: "nano_schema::Variant<",
+        texts,
+        close: ">",
+    })
 }
 
 /// Appends the type of what a variant holds, and returns its schema.
@@ -61,7 +69,10 @@ fn append_content<'a>(
         Content::Parts(_) => "Tupled",
         Content::Fields(_) => "Named",
     };
-    let held = label_of(sheet, owner.as_str(), "Parts")?;
+    let types = content_types(alloc, &variant.content)?;
+    let parameters = parameters_in(alloc, &target.parameters, &types)?;
+    let mut held = label_of(sheet, owner.as_str(), "Parts")?;
+    held.push_str(bounds(alloc, "", &parameters, "")?.as_str())?;
     match &variant.content {
         Content::Nothing => {}
         Content::Parts(parts) => append_parts(sheet, held.as_str(), parts)?,
@@ -83,7 +94,7 @@ fn append_parts<'a>(sheet: &mut Sheet, held: &str, parts: &[Type<'a>]) -> Result
 }
 
 const VIEW: &str = "
-impl nano_schema::Choice for $FULL {
+impl$BOUNDS nano_schema::Choice for $FULL {
 $IMPORTS
     type Values = $VALUES;
 
@@ -107,7 +118,7 @@ fn append_view<'a>(
     let imports = variant_imports(sheet.alloc, target, variants)?;
     let cases = cases(sheet.alloc, variants)?;
     let making = making(sheet.alloc, variants)?;
-    let mut holes = target.holes(sheet.alloc)?;
+    let mut holes = target.bounded_holes(sheet.alloc)?;
     holes.put("IMPORTS", imports.as_str())?;
     holes.put("CASES", cases.as_str())?;
     holes.put("MAKING", making.as_str())?;
@@ -117,8 +128,8 @@ fn append_view<'a>(
 const EITHER: &str =
     "ghost use Rattle.nano_schema.specs.declared.choices.Either.TheVariants.{First, Later};";
 
-const REFERENCES: &str = "impl<'a> nano_schema::ChoiceParts<'a> for $FULL {
-    type Refs = $REFS<'a>;
+const REFERENCES: &str = "impl$LIFETIME nano_schema::ChoiceParts<'a> for $FULL {
+    type Refs = $REFS;
 
     ghost values = { ⟦<$ROW as nano_schema::BorrowedChoices<'a>>⟧.values };
 
@@ -128,7 +139,7 @@ $ARMS        }
     }
 }
 
-impl nano_schema::Value for $FULL {
+impl$BOUNDS nano_schema::Value for $FULL {
     ghost means = { λ x. ⟦<$ROW as nano_schema::Choices>⟧.means 0 \
         (⟦<$FULL as nano_schema::Choice>⟧.view x) };
 
@@ -152,7 +163,7 @@ fn append_references<'a>(
         _ => "        use nano_schema::Either;\n\n",
     };
     sheet.import("ghost use Rattle.nano_schema.specs.UserTypes.{LegalVariant};")?;
-    let mut holes = target.holes(sheet.alloc)?;
+    let mut holes = target.bounded_holes(sheet.alloc)?;
     holes.put("EITHER", either)?;
     holes.put("ARMS", arms.as_str())?;
     sheet.write(REFERENCES, &holes)

@@ -96,7 +96,7 @@ fn import_cited(sheet: &mut Sheet, term: &str) -> Result<(), AllocError> {
 }
 
 /// The names that the terms of a definition may cite, and the lines that bring them in.
-const CITED: [(&str, &str); 7] = [
+const CITED: [(&str, &str); 10] = [
     (
         "agreed",
         "ghost use Rattle.nano_schema.specs.UserTypes.{agreed};",
@@ -116,6 +116,18 @@ const CITED: [(&str, &str); 7] = [
     (
         "list_agrees",
         "ghost use Rattle.nano_schema.specs.UserTypes.{list_agrees};",
+    ),
+    (
+        "last_agrees",
+        "ghost use Rattle.nano_schema.specs.UserTypes.{last_agrees};",
+    ),
+    (
+        "next_agrees",
+        "ghost use Rattle.nano_schema.specs.UserTypes.{next_agrees};",
+    ),
+    (
+        "choice_agrees",
+        "ghost use Rattle.nano_schema.specs.UserTypes.{choice_agrees};",
     ),
     ("refl", "ghost use Rattle.std.specs.Prelude.{refl};"),
     (

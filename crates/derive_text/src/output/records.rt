@@ -5,7 +5,7 @@ use crate::output::defaults::made_field;
 use crate::output::fields::{append_labels, field_texts, row_fields};
 use crate::output::forms::RECORD;
 use crate::output::layout::{Brackets, Items, Piece, list};
-use crate::output::rows::{append_row, ghost_pairs, paired};
+use crate::output::rows::{append_row, laid_pairs, paired};
 use crate::output::seen::{Seen, append_seen};
 use crate::output::sheet::Sheet;
 use crate::output::target::Target;
@@ -35,7 +35,7 @@ fn seen<'a>(
     Ok(Seen {
         types: laid(alloc, in_row, "$TYPE", Items::Types, (4, 18))?,
         refs: laid(alloc, in_row, "&'a $TYPE", Items::Types, (4, 16))?,
-        view: ghost_pairs(alloc, &field_texts(alloc, in_row, "x.$NAME")?, "", ", ")?,
+        view: laid_pairs(alloc, &field_texts(alloc, in_row, "x.$NAME")?, 4, (24, 3))?,
         pattern: laid(alloc, in_row, "$NAME", Items::Patterns, (8, 12))?,
         made: made(alloc, target, fields)?.laid,
         borrowed: laid(alloc, in_row, "&self.$NAME", Items::Values, (8, 7))?,

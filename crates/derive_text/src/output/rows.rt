@@ -1,6 +1,6 @@
 //! Rows of fields, nested in pairs so that the way to none of them is long.
 
-use crate::output::layout::{Brackets, Items, Piece, list};
+use crate::output::layout::{Brackets, COLUMNS, Items, Piece, list, start_line, width};
 use crate::output::sheet::Sheet;
 use std::alloc::{AllocError, Global};
 
@@ -28,7 +28,12 @@ impl Leaf {
     }
 
     /// It as it stands on a line that is indented so far, after so many columns of it.
-    fn piece(&self, alloc: Global, indent: usize, before: usize) -> Result<Piece, AllocError> {
+    pub(crate) fn piece(
+        &self,
+        alloc: Global,
+        indent: usize,
+        before: usize,
+    ) -> Result<Piece, AllocError> {
         let mut pieces = Vec::new(alloc);
         for text in &self.texts {
             pieces.push(Piece::of(alloc, text.as_str())?)?;
@@ -126,4 +131,30 @@ pub(crate) fn ghost_pairs(
     let first = ghost_pairs(alloc, first, before, between)?;
     let second = ghost_pairs(alloc, second, before, between)?;
     format!(in alloc; "({before}{first}{between}{second})")
+}
+
+/// The texts as nested pairs of a ghost term, after so many columns of a line that is indented so far
+/// and before some more. A pair that does not fit has a line for each of its two.
+pub(crate) fn laid_pairs(
+    alloc: Global,
+    texts: &[String],
+    indent: usize,
+    (before, after): (usize, usize),
+) -> Result<String, AllocError> {
+    let flat = ghost_pairs(alloc, texts, "", ", ")?;
+    let used = before.saturating_add(width(flat.as_str()));
+    if texts.len() < 2 || used.saturating_add(after) <= COLUMNS {
+        return Ok(flat);
+    }
+    let (first, second) = texts.split_at(texts.len() / 2);
+    let inner = indent.saturating_add(2);
+    let mut text = String::from_str(alloc, "(")?;
+    for half in [first, second] {
+        start_line(&mut text, inner)?;
+        text.push_str(laid_pairs(alloc, half, inner, (inner, 1))?.as_str())?;
+        text.push(',')?;
+    }
+    start_line(&mut text, indent)?;
+    text.push(')')?;
+    Ok(text)
 }

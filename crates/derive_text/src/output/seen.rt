@@ -61,11 +61,7 @@ pub(crate) fn append_seen<'a>(
     target: &Target<'a>,
     seen: &Seen,
 ) -> Result<(), AllocError> {
-    let bounds = target.bounds(sheet.alloc, ": nano_schema::Value")?;
-    let lifetime = target.borrowed_bounds(sheet.alloc, ": nano_schema::Value + 'a")?;
-    let mut holes = target.holes(sheet.alloc)?;
-    holes.put("BOUNDS", bounds.as_str())?;
-    holes.put("LIFETIME", lifetime.as_str())?;
+    let mut holes = target.bounded_holes(sheet.alloc)?;
     holes.put("FIELDS", seen.types.as_str())?;
     holes.put("PARTS", seen.refs.as_str())?;
     holes.put("VIEW", seen.view.as_str())?;

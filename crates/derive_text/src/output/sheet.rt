@@ -91,7 +91,7 @@ impl Sheet {
         if width(line) <= COLUMNS {
             self.text.push_str(line)?;
         } else if line.starts_with("impl") {
-            self.broken(line, " for ", "\n    for ")?;
+            self.head(line)?;
         } else if line.starts_with("    ghost ") && line.ends_with(" };") && !line.contains('"') {
             self.member(line)?;
         } else {
@@ -100,16 +100,28 @@ impl Sheet {
         self.text.push('\n')
     }
 
-    /// Appends a line with something else in the place of the first of its parts that is this one.
-    fn broken(&mut self, line: &str, part: &str, put: &str) -> Result<(), AllocError> {
-        let (before, after) = line.split_once(part).unwrap_or((line, ""));
-        self.text.push_str(before)?;
-        self.text.push_str(put)?;
-        self.text.push_str(after)
+    /// Appends the head of an impl in two lines, or with a line for each of its parameters.
+    fn head(&mut self, line: &str) -> Result<(), AllocError> {
+        let (start, of) = line.split_once(" for ").unwrap_or((line, ""));
+        if width(start) <= COLUMNS {
+            self.text.push_str(start)?;
+            self.text.push_str("\n    for ")?;
+            return self.text.push_str(of);
+        }
+        let (parameters, rest) = line.split_once("> ").unwrap_or((line, ""));
+        let parameters = parameters.strip_prefix("impl<").unwrap_or(parameters);
+        self.text.push_str("impl<\n")?;
+        for parameter in parameters.split(", ") {
+            self.text.push_str("    ")?;
+            self.text.push_str(parameter)?;
+            self.text.push_str(",\n")?;
+        }
+        self.text.push_str("> ")?;
+        self.text.push_str(rest)
     }
 
     /// Appends a ghost member, in lines of as many columns as there are. A line ends at a space,
-    /// but at none between `⟦` and `⟧`.
+    /// but at none after a comma, nor between `⟦` and `⟧`.
     fn member(&mut self, line: &str) -> Result<(), AllocError> {
         let (start, term) = line.split_once(" = { ").unwrap_or((line, ""));
         self.text.push_str(start)?;
@@ -172,7 +184,7 @@ fn append_import(output: &mut String, import: &Import) -> Result<(), AllocError>
     output.push_str("};\n")
 }
 
-/// Whether no `⟦` is open in a part of a term.
+/// Whether a line may end after a part of a term: no `⟦` is open, and no item of a tuple follows.
 fn is_closed(part: &str) -> bool {
-    part.matches('⟦').count() == part.matches('⟧').count()
+    part.matches('⟦').count() == part.matches('⟧').count() && !part.ends_with(',')
 }

@@ -1,6 +1,7 @@
 //! The type whose impls are written.
 
 use crate::output::agreement::{Agreement, agreement_of};
+use crate::output::parameters::bounds;
 use crate::output::sheet::Sheet;
 use crate::output::template::Holes;
 use derive_source::Fault;
@@ -17,7 +18,7 @@ pub(crate) struct Target<'a> {
     /// The name of the type of the values of its fields or of the content of its variants, with
     /// its parameters.
     pub(crate) values: String,
-    /// The name of the type of references to that content.
+    /// The name of the type of references to that content, with a lifetime and its parameters.
     pub(crate) refs: String,
     /// The module that declares it, as ghost names say it.
     pub(crate) module: &'a str,
@@ -41,6 +42,7 @@ impl<'a> Target<'a> {
         let name = definition.name.text;
         let arguments = bounds(sheet.alloc, "", &definition.parameters, "")?;
         let full = format!(in sheet.alloc; "{name}{arguments}")?;
+        let borrowed = bounds(sheet.alloc, "<'a", &definition.parameters, "")?;
         let end = match definition.shape {
             Shape::Variants(_) => "Variants",
             _ => "Fields",
@@ -48,7 +50,7 @@ impl<'a> Target<'a> {
         Ok(Target {
             row: type_name(sheet, name, end, arguments.as_str())?,
             values: type_name(sheet, name, "Values", arguments.as_str())?,
-            refs: type_name(sheet, name, "Refs", "")?,
+            refs: type_name(sheet, name, "Refs", borrowed.as_str())?,
             agreement: agreement_of(sheet.alloc, definition, full.as_str())?,
             parameters: definition.parameters.clone()?,
             full,
@@ -66,6 +68,16 @@ impl<'a> Target<'a> {
         holes.put("ROW", self.row.as_str())?;
         holes.put("VALUES", self.values.as_str())?;
         holes.put("REFS", self.refs.as_str())?;
+        Ok(holes)
+    }
+
+    /// The holes that its names and its parameters stand in, each of which is a `Value`.
+    pub(crate) fn bounded_holes(&self, alloc: Global) -> Result<Holes, AllocError> {
+        let mut holes = self.holes(alloc)?;
+        let bounds = self.bounds(alloc, ": nano_schema::Value")?;
+        holes.put("BOUNDS", bounds.as_str())?;
+        let borrowed = self.borrowed_bounds(alloc, ": nano_schema::Value + 'a")?;
+        holes.put("LIFETIME", borrowed.as_str())?;
         Ok(holes)
     }
 
@@ -90,25 +102,5 @@ fn type_name(
     let wanted = format!(in sheet.alloc; "{name}{end}")?;
     let mut text = sheet.names.take(sheet.alloc, wanted.as_str())?;
     text.push_str(arguments)?;
-    Ok(text)
-}
-
-/// Parameters with a bound each, in angle brackets with what stands before them, if there is
-/// anything.
-fn bounds<'a>(
-    alloc: Global,
-    before: &str,
-    parameters: &[Token<'a>],
-    bound: &str,
-) -> Result<String, AllocError> {
-    let mut text = String::from_str(alloc, before)?;
-    for parameter in parameters {
-        text.push_str(if text.is_empty() { "<" } else { ", " })?;
-        text.push_str(parameter.text)?;
-        text.push_str(bound)?;
-    }
-    if !text.is_empty() {
-        text.push('>')?;
-    }
     Ok(text)
 }

@@ -1,4 +1,4 @@
-use Rattle.std.proofs.Common.{ℕ, List, subst}
+use Rattle.std.proofs.Common.{ℕ, List, subst, sym}
 use Rattle.std.proofs.lemmas.Result.{err_from_is_err_and}
 use Rattle.nano_json.specs.State.{at}
 use Rattle.nano_schema_json.proofs.VariantReaders.{name_rejected}
@@ -16,13 +16,13 @@ returns-in_err-name-clause-rejected g c =
     rw (p.1, p.2) (λ known. none (error.0 known), error.1)
 
 pub returns-in-Ok-clause-decodes : goal.returns-in-Ok-clause-decodes
-returns-in-Ok-clause-decodes g c =
+returns-in-Ok-clause-decodes g c = λ same.
     let vs = g.V.JsonChoices.codec.encodes in
     let start = at c.args.state.now c.args.input.now in
     let mid = at c.read_variant_name.new.state c.read_variant_name.new.input in
     let end = at c.read.new.state c.read.new.input in
     let read = c.in-Ok.ensures.decodes 0 in
-    rw c.make.ensures (choice_reads vs c.in_ok-name.name start mid end _ c.in_ok-name.ensures.taken read)
+    rw (sym g.met.E.JsonCodec.agrees.means_is, sym (same c.make.result), c.make.ensures) (choice_reads vs c.in_ok-name.name start mid end _ c.in_ok-name.ensures.taken read)
 
 pub returns-clause-rejected : goal.returns-clause-rejected
 returns-clause-rejected g c =

@@ -1,4 +1,4 @@
-use Rattle.std.proofs.Common.{ℕ, List, string_bytes, ap, subst, ◌∙◌}
+use Rattle.std.proofs.Common.{ℕ, List, string_bytes, ap, subst, sym, ◌∙◌}
 use Rattle.std.proofs.lemmas.Result.{err_from_is_err_and}
 use Rattle.nano_ron.specs.State.{at}
 use Rattle.nano_schema_ron.proofs.VariantReaders.{name_rejected}
@@ -18,7 +18,7 @@ returns-in_err-name-clause-rejected g c =
     rw (p.1, p.2) (λ known. none (error.0 known), error.1)
 
 pub returns-in-Ok-clause-decodes : goal.returns-in-Ok-clause-decodes
-returns-in-Ok-clause-decodes g c =
+returns-in-Ok-clause-decodes g c = λ same.
     let vs = g.V.RonChoices.codec.encodes in
     let start = at c.args.state.now c.args.input.now in
     let mid = at c.read_variant_name.new.state c.read_variant_name.new.input in
@@ -26,7 +26,7 @@ returns-in-Ok-clause-decodes g c =
     let name = string_bytes c.in_ok-name.name in
     let fits = c.in-Ok.ensures.decodes 0 in
     let read = rw c.as_str-2.ensures.value at fits in
-    rw c.make.ensures (choice_reads vs name start mid c.in_ok-name.ensures.taken c.stands_alone-alone.result end _ read)
+    rw (sym g.met.E.RonCodec.agrees.means_is, sym (same c.make.result), c.make.ensures) (choice_reads vs name start mid c.in_ok-name.ensures.taken c.stands_alone-alone.result end _ read)
 
 pub returns-clause-rejected : goal.returns-clause-rejected
 returns-clause-rejected g c =

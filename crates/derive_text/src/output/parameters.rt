@@ -1,0 +1,87 @@
+//! The type parameters that types name.
+
+use derive_syntax::{Content, Field, Token, Type};
+use std::alloc::{AllocError, Global};
+
+/// The first of the parameters that stands in a type.
+pub(crate) fn parameter_in<'a>(parameters: &[Token<'a>], of: Type<'a>) -> Option<Token<'a>> {
+    for token in of.0 {
+        for parameter in parameters {
+            if parameter.text == token.text {
+                return Some(*token);
+            }
+        }
+    }
+    None
+}
+
+/// Those of the parameters that stand in one of the types, in their order.
+pub(crate) fn parameters_in<'a>(
+    alloc: Global,
+    parameters: &[Token<'a>],
+    types: &[Type<'a>],
+) -> Result<Vec<Token<'a>>, AllocError> {
+    let mut found = Vec::new(alloc);
+    for parameter in parameters {
+        if is_named(*parameter, types) {
+            found.push(*parameter)?;
+        }
+    }
+    Ok(found)
+}
+
+/// Whether a parameter stands in one of the types.
+fn is_named<'a>(parameter: Token<'a>, types: &[Type<'a>]) -> bool {
+    for of in types {
+        if parameter_in(&[parameter], *of).is_some() {
+            return true;
+        }
+    }
+    false
+}
+
+/// The types of the fields that are read and written.
+pub(crate) fn encoded_types<'a>(
+    alloc: Global,
+    fields: &[Field<'a>],
+) -> Result<Vec<Type<'a>>, AllocError> {
+    let mut types = Vec::new(alloc);
+    for field in fields {
+        if field.attributes.skip.is_none() {
+            types.push(field.of)?;
+        }
+    }
+    Ok(types)
+}
+
+/// The types of what a variant holds, as far as it is read and written.
+pub(crate) fn content_types<'a>(
+    alloc: Global,
+    content: &Content<'a>,
+) -> Result<Vec<Type<'a>>, AllocError> {
+    match content {
+        Content::Nothing => Ok(Vec::new(alloc)),
+        Content::Parts(parts) => parts.clone(),
+        Content::Fields(fields) => encoded_types(alloc, fields),
+    }
+}
+
+/// Parameters with a bound each, in angle brackets with what stands before them, if there is
+/// anything.
+pub(crate) fn bounds<'a>(
+    alloc: Global,
+    before: &str,
+    parameters: &[Token<'a>],
+    bound: &str,
+) -> Result<String, AllocError> {
+    let mut text = String::from_str(alloc, before)?;
+    for parameter in parameters {
+        text.push_str(if text.is_empty() { "<" } else { ", " })?;
+        text.push_str(parameter.text)?;
+        text.push_str(bound)?;
+    }
+    if !text.is_empty() {
+        text.push('>')?;
+    }
+    Ok(text)
+}

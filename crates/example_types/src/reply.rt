@@ -1,0 +1,334 @@
+//! A generic enum of two parameters, with a variant of each shape.
+
+// nanoserde: bin json ron
+/// What becomes of a request.
+#[derive(PartialEq, Debug, Drop)]
+pub enum Reply<A, B> {
+    /// It waits.
+    Pending,
+    /// What was asked for.
+    Found(A),
+    /// Why it failed, and after how many tries.
+    Failed(B, u32),
+    /// A part of what was asked for.
+    Listed {
+        /// The part.
+        items: Vec<A>,
+        /// Where to go on, unless it is the last part.
+        // nanoserde: rename = "from"
+        next: Option<B>,
+    },
+}
+
+// ---- written by nano_derive
+
+ghost use Rattle.std.specs.Prelude.{codes, refl};
+ghost use Rattle.nano_schema.specs.declared.choices.Either.TheVariants.{First, Later};
+ghost use Rattle.nano_schema.specs.UserTypes.{LegalVariant, agreed, seen_agrees, pair_agrees};
+ghost use Rattle.nano_schema.specs.UserTypes.{option_agrees, list_agrees, last_agrees, next_agrees};
+ghost use Rattle.nano_schema.specs.UserTypes.{choice_agrees};
+ghost use Rattle.nano_schema_bin.specs.Choice.{bin_choice};
+ghost use Rattle.nano_schema_bin.specs.Record.{both_are_read};
+ghost use Rattle.nano_schema_json.specs.Choice.{json_choice};
+ghost use Rattle.nano_schema_ron.specs.Choice.{ron_choice};
+
+struct ReplyPending {}
+
+impl nano_schema::Label for ReplyPending {
+    ghost label = { codes "Pending" };
+
+    fn text() -> &'static str {
+        "Pending"
+    }
+}
+
+struct ReplyFound {}
+
+impl nano_schema::Label for ReplyFound {
+    ghost label = { codes "Found" };
+
+    fn text() -> &'static str {
+        "Found"
+    }
+}
+
+type ReplyFoundParts<A> = A;
+
+struct ReplyFailed {}
+
+impl nano_schema::Label for ReplyFailed {
+    ghost label = { codes "Failed" };
+
+    fn text() -> &'static str {
+        "Failed"
+    }
+}
+
+type ReplyFailedParts<B> = (B, u32);
+
+struct ReplyListed {}
+
+impl nano_schema::Label for ReplyListed {
+    ghost label = { codes "Listed" };
+
+    fn text() -> &'static str {
+        "Listed"
+    }
+}
+
+struct ReplyListedItems {}
+
+impl nano_schema::Label for ReplyListedItems {
+    ghost label = { codes "items" };
+
+    fn text() -> &'static str {
+        "items"
+    }
+}
+
+struct ReplyListedNext {}
+
+impl nano_schema::Label for ReplyListedNext {
+    ghost label = { codes "from" };
+
+    fn text() -> &'static str {
+        "from"
+    }
+}
+
+type ReplyListedParts<A, B> = (
+    nano_schema::Required<ReplyListedItems, Vec<A>>,
+    nano_schema::Optional<ReplyListedNext, B>,
+);
+
+type ReplyVariants4<A, B> = nano_schema::Variant<
+    ReplyListed,
+    nano_schema::Named<ReplyListedParts<A, B>>,
+>;
+
+type ReplyVariants3<A, B> = (
+    nano_schema::Variant<ReplyFailed, nano_schema::Tupled<ReplyFailedParts<B>>>,
+    ReplyVariants4<A, B>,
+);
+
+type ReplyVariants2<A, B> = (
+    nano_schema::Variant<ReplyFound, nano_schema::OnePart<ReplyFoundParts<A>>>,
+    ReplyVariants3<A, B>,
+);
+
+type ReplyVariants<A, B> = (
+    nano_schema::Variant<ReplyPending, nano_schema::Alone>,
+    ReplyVariants2<A, B>,
+);
+
+type ReplyValues4<A, B> = (Vec<A>, Option<B>);
+
+type ReplyValues3<A, B> = nano_schema::Either<(B, u32), ReplyValues4<A, B>>;
+
+type ReplyValues2<A, B> = nano_schema::Either<A, ReplyValues3<A, B>>;
+
+type ReplyValues<A, B> = nano_schema::Either<(), ReplyValues2<A, B>>;
+
+type ReplyRefs4<'a, A, B> = (&'a Vec<A>, &'a Option<B>);
+
+type ReplyRefs3<'a, A, B> = nano_schema::Either<(&'a B, &'a u32), ReplyRefs4<'a, A, B>>;
+
+type ReplyRefs2<'a, A, B> = nano_schema::Either<&'a A, ReplyRefs3<'a, A, B>>;
+
+type ReplyRefs<'a, A, B> = nano_schema::Either<(), ReplyRefs2<'a, A, B>>;
+
+impl<A: nano_schema::Value, B: nano_schema::Value> nano_schema::Choice for Reply<A, B> {
+    ghost use Rattle.example_types.specs.declared.reply.Reply.TheVariants.{Pending, Found, Failed};
+    ghost use Rattle.example_types.specs.declared.reply.Reply.TheVariants.{Listed};
+
+    type Values = ReplyValues<A, B>;
+
+    ghost view = { λ x. elim x [
+      | Pending ↦ First tt
+      | Found v0 ↦ Later (First v0)
+      | Failed v0 v1 ↦ Later (Later (First (v0, v1)))
+      | Listed v0 v1 ↦ Later (Later (Later (v0, v1)))
+    ] };
+
+    fn make(values: Self::Values) -> Self {
+        let later = match values {
+            nano_schema::Either::First(values) => {
+                let () = values;
+                return Self::Pending;
+            }
+            nano_schema::Either::Later(later) => later,
+        };
+        let later = match later {
+            nano_schema::Either::First(values) => {
+                let first = values;
+                return Self::Found(first);
+            }
+            nano_schema::Either::Later(later) => later,
+        };
+        let later = match later {
+            nano_schema::Either::First(values) => {
+                let (first, second) = values;
+                return Self::Failed(first, second);
+            }
+            nano_schema::Either::Later(later) => later,
+        };
+        let (items, next) = later;
+        Self::Listed { items, next }
+    }
+}
+
+impl<'a, A: nano_schema::Value + 'a, B: nano_schema::Value + 'a> nano_schema::ChoiceParts<'a>
+    for Reply<A, B> {
+    type Refs = ReplyRefs<'a, A, B>;
+
+    ghost values = { ⟦<ReplyVariants<A, B> as nano_schema::BorrowedChoices<'a>>⟧.values };
+
+    fn as_refs(&'a self) -> Self::Refs {
+        use nano_schema::Either;
+
+        match self {
+            Self::Pending => {
+                let refs = ();
+                Either::First(refs)
+            }
+            Self::Found(first) => {
+                let refs = first;
+                Either::Later(Either::First(refs))
+            }
+            Self::Failed(first, second) => {
+                let refs = (first, second);
+                Either::Later(Either::Later(Either::First(refs)))
+            }
+            Self::Listed { items, next } => {
+                let refs = (items, next);
+                Either::Later(Either::Later(Either::Later(refs)))
+            }
+        }
+    }
+}
+
+impl<A: nano_schema::Value, B: nano_schema::Value> nano_schema::Value for Reply<A, B> {
+    ghost means = { λ x. ⟦<ReplyVariants<A, B> as nano_schema::Choices>⟧.means 0
+        (⟦<Reply<A, B> as nano_schema::Choice>⟧.view x) };
+
+    ghost legal = { LegalVariant ⟦<ReplyVariants<A, B> as nano_schema::Choices>⟧.legals };
+
+    fn known(&self) {
+        nano_schema::known_variant::<Self, ReplyVariants<A, B>>(self);
+    }
+}
+
+// ---- bytes
+
+impl<A: nano_schema_bin::BinCodec, B: nano_schema_bin::BinCodec> nano_schema_bin::BinCodec
+    for Reply<A, B> {
+    ghost bin = { bin_choice ⟦<Reply<A, B> as nano_schema::Choice>⟧.view
+        ⟦<ReplyVariants<A, B> as nano_schema_bin::BinShapes>⟧.chosen refl };
+
+    ghost agrees = { choice_agrees (next_agrees (agreed {means =
+        ⟦<() as nano_schema::Value>⟧.means} {legal = ⟦<() as nano_schema::Value>⟧.legal})
+        (next_agrees A.agrees (next_agrees (seen_agrees (pair_agrees B.agrees (agreed {means =
+        ⟦<u32 as nano_schema::Value>⟧.means} {legal = ⟦<u32 as nano_schema::Value>⟧.legal})) (λ
+        x. (x.0, x.1))) (last_agrees (pair_agrees (seen_agrees (list_agrees A.agrees) (λ x.
+        x.items)) (option_agrees B.agrees)))))) ⟦<Reply<A, B> as nano_schema::Choice>⟧.view };
+}
+
+impl<A: nano_schema_bin::SerBin, B: nano_schema_bin::SerBin> nano_schema_bin::SerBin
+    for Reply<A, B> {
+    fn ser_bin(
+        &self,
+        alloc: std::alloc::Global,
+        output: &mut Vec<u8>,
+    ) -> Result<(), std::alloc::AllocError> {
+        nano_schema_bin::write_choice_bin::<Self, ReplyVariants<A, B>>(self, alloc, output)
+    }
+}
+
+impl<A: nano_schema_bin::DeBin, B: nano_schema_bin::DeBin> nano_schema_bin::DeBin for Reply<A, B> {
+    ghost is_decodable = { (both_are_read refl (both_are_read A.is_decodable (both_are_read
+        (both_are_read B.is_decodable refl) (both_are_read (both_are_read A.is_decodable
+        B.is_decodable) refl)))) };
+
+    fn de_bin(
+        alloc: std::alloc::Global,
+        offset: &mut usize,
+        bytes: &[u8],
+    ) -> Result<Self, nano_schema_bin::DeBinErr> {
+        nano_schema_bin::read_choice_bin::<Self, ReplyVariants<A, B>>(alloc, offset, bytes)
+    }
+}
+
+// ---- JSON
+
+impl<A: nano_schema_json::JsonCodec, B: nano_schema_json::JsonCodec> nano_schema_json::JsonCodec
+    for Reply<A, B> {
+    ghost json = { json_choice ⟦<Reply<A, B> as nano_schema::Choice>⟧.view
+        ⟦<ReplyVariants<A, B> as nano_schema_json::JsonShapes>⟧.codec refl refl refl };
+
+    ghost agrees = { choice_agrees (next_agrees (agreed {means =
+        ⟦<() as nano_schema::Value>⟧.means} {legal = ⟦<() as nano_schema::Value>⟧.legal})
+        (next_agrees A.agrees (next_agrees (seen_agrees (pair_agrees B.agrees (agreed {means =
+        ⟦<u32 as nano_schema::Value>⟧.means} {legal = ⟦<u32 as nano_schema::Value>⟧.legal})) (λ
+        x. (x.0, x.1))) (last_agrees (pair_agrees (seen_agrees (list_agrees A.agrees) (λ x.
+        x.items)) (option_agrees B.agrees)))))) ⟦<Reply<A, B> as nano_schema::Choice>⟧.view };
+}
+
+impl<A: nano_schema_json::SerJson, B: nano_schema_json::SerJson> nano_schema_json::SerJson
+    for Reply<A, B> {
+    fn ser_json(
+        &self,
+        alloc: std::alloc::Global,
+        d: usize,
+        s: &mut nano_schema_json::SerJsonState,
+    ) -> Result<(), std::alloc::AllocError> {
+        nano_schema_json::write_choice_json::<Self, ReplyVariants<A, B>>(self, alloc, d, s)
+    }
+}
+
+impl<A: nano_schema_json::DeJson, B: nano_schema_json::DeJson> nano_schema_json::DeJson
+    for Reply<A, B> {
+    fn de_json(
+        alloc: std::alloc::Global,
+        state: &mut nano_schema_json::DeJsonState,
+        input: &mut std::str::Chars<'_>,
+    ) -> nano_schema_json::JsonResult<Self> {
+        nano_schema_json::read_choice_json::<Self, ReplyVariants<A, B>>(alloc, state, input)
+    }
+}
+
+// ---- RON
+
+impl<A: nano_schema_ron::RonCodec, B: nano_schema_ron::RonCodec> nano_schema_ron::RonCodec
+    for Reply<A, B> {
+    ghost ron = { ron_choice ⟦<Reply<A, B> as nano_schema::Choice>⟧.view
+        ⟦<ReplyVariants<A, B> as nano_schema_ron::RonShapes>⟧.codec refl refl refl };
+
+    ghost agrees = { choice_agrees (next_agrees (agreed {means =
+        ⟦<() as nano_schema::Value>⟧.means} {legal = ⟦<() as nano_schema::Value>⟧.legal})
+        (next_agrees A.agrees (next_agrees (seen_agrees (pair_agrees B.agrees (agreed {means =
+        ⟦<u32 as nano_schema::Value>⟧.means} {legal = ⟦<u32 as nano_schema::Value>⟧.legal})) (λ
+        x. (x.0, x.1))) (last_agrees (pair_agrees (seen_agrees (list_agrees A.agrees) (λ x.
+        x.items)) (option_agrees B.agrees)))))) ⟦<Reply<A, B> as nano_schema::Choice>⟧.view };
+}
+
+impl<A: nano_schema_ron::SerRon, B: nano_schema_ron::SerRon> nano_schema_ron::SerRon
+    for Reply<A, B> {
+    fn ser_ron(
+        &self,
+        alloc: std::alloc::Global,
+        d: usize,
+        s: &mut nano_schema_ron::SerRonState,
+    ) -> Result<(), std::alloc::AllocError> {
+        nano_schema_ron::write_choice_ron::<Self, ReplyVariants<A, B>>(self, alloc, d, s)
+    }
+}
+
+impl<A: nano_schema_ron::DeRon, B: nano_schema_ron::DeRon> nano_schema_ron::DeRon for Reply<A, B> {
+    fn de_ron(
+        alloc: std::alloc::Global,
+        state: &mut nano_schema_ron::DeRonState,
+        input: &mut std::str::Chars<'_>,
+    ) -> nano_schema_ron::RonResult<Self> {
+        nano_schema_ron::read_choice_ron::<Self, ReplyVariants<A, B>>(alloc, state, input)
+    }
+}
