@@ -148,10 +148,17 @@ pub(crate) fn laid_pairs(
     }
     let (first, second) = texts.split_at(texts.len() / 2);
     let inner = indent.saturating_add(2);
+    let first = laid_pairs(alloc, first, inner, (inner, 1))?;
+    let second = laid_pairs(alloc, second, inner, (inner, 1))?;
+    in_lines(alloc, &[first, second], indent)
+}
+
+/// A tuple of a ghost term with a line for each item, on a line that is indented so far.
+fn in_lines(alloc: Global, items: &[String], indent: usize) -> Result<String, AllocError> {
     let mut text = String::from_str(alloc, "(")?;
-    for half in [first, second] {
-        start_line(&mut text, inner)?;
-        text.push_str(laid_pairs(alloc, half, inner, (inner, 1))?.as_str())?;
+    for item in items {
+        start_line(&mut text, indent.saturating_add(2))?;
+        text.push_str(item.as_str())?;
         text.push(',')?;
     }
     start_line(&mut text, indent)?;
