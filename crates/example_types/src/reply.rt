@@ -1,11 +1,9 @@
-//! A generic enum of two parameters, with a variant of each shape.
+//! A generic enum of two parameters: a variant of one part, of two, and of named fields.
 
 // nanoserde: bin json ron
 /// What becomes of a request.
 #[derive(PartialEq, Debug, Drop)]
 pub enum Reply<A, B> {
-    /// It waits.
-    Pending,
     /// What was asked for.
     Found(A),
     /// Why it failed, and after how many tries.
@@ -15,7 +13,6 @@ pub enum Reply<A, B> {
         /// The part.
         items: Vec<A>,
         /// Where to go on, unless it is the last part.
-        // nanoserde: rename = "from"
         next: Option<B>,
     },
 }
@@ -31,16 +28,6 @@ ghost use Rattle.nano_schema_bin.specs.Choice.{bin_choice};
 ghost use Rattle.nano_schema_bin.specs.Record.{both_are_read};
 ghost use Rattle.nano_schema_json.specs.Choice.{json_choice};
 ghost use Rattle.nano_schema_ron.specs.Choice.{ron_choice};
-
-struct ReplyPending {}
-
-impl nano_schema::Label for ReplyPending {
-    ghost label = { codes "Pending" };
-
-    fn text() -> &'static str {
-        "Pending"
-    }
-}
 
 struct ReplyFound {}
 
@@ -89,10 +76,10 @@ impl nano_schema::Label for ReplyListedItems {
 struct ReplyListedNext {}
 
 impl nano_schema::Label for ReplyListedNext {
-    ghost label = { codes "from" };
+    ghost label = { codes "next" };
 
     fn text() -> &'static str {
-        "from"
+        "next"
     }
 }
 
@@ -101,64 +88,46 @@ type ReplyListedParts<A, B> = (
     nano_schema::Optional<ReplyListedNext, B>,
 );
 
-type ReplyVariants4<A, B> = nano_schema::Variant<
+type ReplyVariants3<A, B> = nano_schema::Variant<
     ReplyListed,
     nano_schema::Named<ReplyListedParts<A, B>>,
 >;
 
-type ReplyVariants3<A, B> = (
-    nano_schema::Variant<ReplyFailed, nano_schema::Tupled<ReplyFailedParts<B>>>,
-    ReplyVariants4<A, B>,
-);
-
 type ReplyVariants2<A, B> = (
-    nano_schema::Variant<ReplyFound, nano_schema::OnePart<ReplyFoundParts<A>>>,
+    nano_schema::Variant<ReplyFailed, nano_schema::Tupled<ReplyFailedParts<B>>>,
     ReplyVariants3<A, B>,
 );
 
 type ReplyVariants<A, B> = (
-    nano_schema::Variant<ReplyPending, nano_schema::Alone>,
+    nano_schema::Variant<ReplyFound, nano_schema::OnePart<ReplyFoundParts<A>>>,
     ReplyVariants2<A, B>,
 );
 
-type ReplyValues4<A, B> = (Vec<A>, Option<B>);
+type ReplyValues3<A, B> = (Vec<A>, Option<B>);
 
-type ReplyValues3<A, B> = nano_schema::Either<(B, u32), ReplyValues4<A, B>>;
+type ReplyValues2<A, B> = nano_schema::Either<(B, u32), ReplyValues3<A, B>>;
 
-type ReplyValues2<A, B> = nano_schema::Either<A, ReplyValues3<A, B>>;
+type ReplyValues<A, B> = nano_schema::Either<A, ReplyValues2<A, B>>;
 
-type ReplyValues<A, B> = nano_schema::Either<(), ReplyValues2<A, B>>;
+type ReplyRefs3<'a, A, B> = (&'a Vec<A>, &'a Option<B>);
 
-type ReplyRefs4<'a, A, B> = (&'a Vec<A>, &'a Option<B>);
+type ReplyRefs2<'a, A, B> = nano_schema::Either<(&'a B, &'a u32), ReplyRefs3<'a, A, B>>;
 
-type ReplyRefs3<'a, A, B> = nano_schema::Either<(&'a B, &'a u32), ReplyRefs4<'a, A, B>>;
-
-type ReplyRefs2<'a, A, B> = nano_schema::Either<&'a A, ReplyRefs3<'a, A, B>>;
-
-type ReplyRefs<'a, A, B> = nano_schema::Either<(), ReplyRefs2<'a, A, B>>;
+type ReplyRefs<'a, A, B> = nano_schema::Either<&'a A, ReplyRefs2<'a, A, B>>;
 
 impl<A: nano_schema::Value, B: nano_schema::Value> nano_schema::Choice for Reply<A, B> {
-    ghost use Rattle.example_types.specs.declared.reply.Reply.TheVariants.{Pending, Found, Failed};
-    ghost use Rattle.example_types.specs.declared.reply.Reply.TheVariants.{Listed};
+    ghost use Rattle.example_types.specs.declared.reply.Reply.TheVariants.{Found, Failed, Listed};
 
     type Values = ReplyValues<A, B>;
 
     ghost view = { λ x. elim x [
-      | Pending ↦ First tt
-      | Found v0 ↦ Later (First v0)
-      | Failed v0 v1 ↦ Later (Later (First (v0, v1)))
-      | Listed v0 v1 ↦ Later (Later (Later (v0, v1)))
+      | Found v0 ↦ First v0
+      | Failed v0 v1 ↦ Later (First (v0, v1))
+      | Listed v0 v1 ↦ Later (Later (v0, v1))
     ] };
 
     fn make(values: Self::Values) -> Self {
         let later = match values {
-            nano_schema::Either::First(values) => {
-                let () = values;
-                return Self::Pending;
-            }
-            nano_schema::Either::Later(later) => later,
-        };
-        let later = match later {
             nano_schema::Either::First(values) => {
                 let first = values;
                 return Self::Found(first);
@@ -187,21 +156,17 @@ impl<'a, A: nano_schema::Value + 'a, B: nano_schema::Value + 'a> nano_schema::Ch
         use nano_schema::Either;
 
         match self {
-            Self::Pending => {
-                let refs = ();
-                Either::First(refs)
-            }
             Self::Found(first) => {
                 let refs = first;
-                Either::Later(Either::First(refs))
+                Either::First(refs)
             }
             Self::Failed(first, second) => {
                 let refs = (first, second);
-                Either::Later(Either::Later(Either::First(refs)))
+                Either::Later(Either::First(refs))
             }
             Self::Listed { items, next } => {
                 let refs = (items, next);
-                Either::Later(Either::Later(Either::Later(refs)))
+                Either::Later(Either::Later(refs))
             }
         }
     }
@@ -225,12 +190,11 @@ impl<A: nano_schema_bin::BinCodec, B: nano_schema_bin::BinCodec> nano_schema_bin
     ghost bin = { bin_choice ⟦<Reply<A, B> as nano_schema::Choice>⟧.view
         ⟦<ReplyVariants<A, B> as nano_schema_bin::BinShapes>⟧.chosen refl };
 
-    ghost agrees = { choice_agrees (next_agrees (agreed {means =
-        ⟦<() as nano_schema::Value>⟧.means} {legal = ⟦<() as nano_schema::Value>⟧.legal})
-        (next_agrees A.agrees (next_agrees (seen_agrees (pair_agrees B.agrees (agreed {means =
-        ⟦<u32 as nano_schema::Value>⟧.means} {legal = ⟦<u32 as nano_schema::Value>⟧.legal})) (λ
-        x. (x.0, x.1))) (last_agrees (pair_agrees (seen_agrees (list_agrees A.agrees) (λ x.
-        x.items)) (option_agrees B.agrees)))))) ⟦<Reply<A, B> as nano_schema::Choice>⟧.view };
+    ghost agrees = { choice_agrees (next_agrees A.agrees (next_agrees (seen_agrees (pair_agrees
+        B.agrees (agreed {means = ⟦<u32 as nano_schema::Value>⟧.means} {legal =
+        ⟦<u32 as nano_schema::Value>⟧.legal})) (λ x. (x.0, x.1))) (last_agrees (pair_agrees
+        (seen_agrees (list_agrees A.agrees) (λ x. x.items)) (option_agrees B.agrees)))))
+        ⟦<Reply<A, B> as nano_schema::Choice>⟧.view };
 }
 
 impl<A: nano_schema_bin::SerBin, B: nano_schema_bin::SerBin> nano_schema_bin::SerBin
@@ -245,9 +209,8 @@ impl<A: nano_schema_bin::SerBin, B: nano_schema_bin::SerBin> nano_schema_bin::Se
 }
 
 impl<A: nano_schema_bin::DeBin, B: nano_schema_bin::DeBin> nano_schema_bin::DeBin for Reply<A, B> {
-    ghost is_decodable = { (both_are_read refl (both_are_read A.is_decodable (both_are_read
-        (both_are_read B.is_decodable refl) (both_are_read (both_are_read A.is_decodable
-        B.is_decodable) refl)))) };
+    ghost is_decodable = { (both_are_read A.is_decodable (both_are_read (both_are_read
+        B.is_decodable refl) (both_are_read (both_are_read A.is_decodable B.is_decodable) refl))) };
 
     fn de_bin(
         alloc: std::alloc::Global,
@@ -265,12 +228,11 @@ impl<A: nano_schema_json::JsonCodec, B: nano_schema_json::JsonCodec> nano_schema
     ghost json = { json_choice ⟦<Reply<A, B> as nano_schema::Choice>⟧.view
         ⟦<ReplyVariants<A, B> as nano_schema_json::JsonShapes>⟧.codec refl refl refl };
 
-    ghost agrees = { choice_agrees (next_agrees (agreed {means =
-        ⟦<() as nano_schema::Value>⟧.means} {legal = ⟦<() as nano_schema::Value>⟧.legal})
-        (next_agrees A.agrees (next_agrees (seen_agrees (pair_agrees B.agrees (agreed {means =
-        ⟦<u32 as nano_schema::Value>⟧.means} {legal = ⟦<u32 as nano_schema::Value>⟧.legal})) (λ
-        x. (x.0, x.1))) (last_agrees (pair_agrees (seen_agrees (list_agrees A.agrees) (λ x.
-        x.items)) (option_agrees B.agrees)))))) ⟦<Reply<A, B> as nano_schema::Choice>⟧.view };
+    ghost agrees = { choice_agrees (next_agrees A.agrees (next_agrees (seen_agrees (pair_agrees
+        B.agrees (agreed {means = ⟦<u32 as nano_schema::Value>⟧.means} {legal =
+        ⟦<u32 as nano_schema::Value>⟧.legal})) (λ x. (x.0, x.1))) (last_agrees (pair_agrees
+        (seen_agrees (list_agrees A.agrees) (λ x. x.items)) (option_agrees B.agrees)))))
+        ⟦<Reply<A, B> as nano_schema::Choice>⟧.view };
 }
 
 impl<A: nano_schema_json::SerJson, B: nano_schema_json::SerJson> nano_schema_json::SerJson
@@ -303,12 +265,11 @@ impl<A: nano_schema_ron::RonCodec, B: nano_schema_ron::RonCodec> nano_schema_ron
     ghost ron = { ron_choice ⟦<Reply<A, B> as nano_schema::Choice>⟧.view
         ⟦<ReplyVariants<A, B> as nano_schema_ron::RonShapes>⟧.codec refl refl refl };
 
-    ghost agrees = { choice_agrees (next_agrees (agreed {means =
-        ⟦<() as nano_schema::Value>⟧.means} {legal = ⟦<() as nano_schema::Value>⟧.legal})
-        (next_agrees A.agrees (next_agrees (seen_agrees (pair_agrees B.agrees (agreed {means =
-        ⟦<u32 as nano_schema::Value>⟧.means} {legal = ⟦<u32 as nano_schema::Value>⟧.legal})) (λ
-        x. (x.0, x.1))) (last_agrees (pair_agrees (seen_agrees (list_agrees A.agrees) (λ x.
-        x.items)) (option_agrees B.agrees)))))) ⟦<Reply<A, B> as nano_schema::Choice>⟧.view };
+    ghost agrees = { choice_agrees (next_agrees A.agrees (next_agrees (seen_agrees (pair_agrees
+        B.agrees (agreed {means = ⟦<u32 as nano_schema::Value>⟧.means} {legal =
+        ⟦<u32 as nano_schema::Value>⟧.legal})) (λ x. (x.0, x.1))) (last_agrees (pair_agrees
+        (seen_agrees (list_agrees A.agrees) (λ x. x.items)) (option_agrees B.agrees)))))
+        ⟦<Reply<A, B> as nano_schema::Choice>⟧.view };
 }
 
 impl<A: nano_schema_ron::SerRon, B: nano_schema_ron::SerRon> nano_schema_ron::SerRon
