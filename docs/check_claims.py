@@ -26,7 +26,8 @@ KNOWN = set(
     "missing-field non-exhaustive-match unsatisfied-bound malloc nanoserde-derive no_std alloc Send Sync Read Write Result Rc Arc RefCell Cell Cow Default From Into TryFrom Iterator main".split()
 )
 # Files of another place, and the two that stand for all of their kind.
-FILES = {"build.sh", "main.rs", "src/settings.rt", "X.antt", "XLaws.antt", "specs/X.antt", "specs/XLaws.antt"}
+FILES = {"build.sh", "main.rs", "src/settings.rt", "X.antt", "XLaws.antt", "specs/X.antt", "specs/XLaws.antt",
+         "proofs/XLaws.antt", "specs/XCodecs.antt", "specs/XImpls.antt"}
 
 
 def known_names():

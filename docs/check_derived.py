@@ -1,15 +1,15 @@
 #!/usr/bin/env python3
-"""Compares the files that nano_derive wrote with the copies that the gate has it check.
+"""Compares the files that derive_files wrote with the copies that the gate has it check.
 
-crates/nano_derive/data/CRATE/src/FILE.txt is a copy of crates/CRATE/src/FILE. Without arguments, prints
+crates/derive_files/data/CRATE/src/FILE.txt is a copy of crates/CRATE/src/FILE. Without arguments, prints
 each copy that differs or that is missing, and fails; with --copy, makes the copies anew."""
 import os
 import sys
 
-MARKER = "// ---- written by nano_derive\n"
+MARKER = "// ---- written by derive_files\n"
 CRATES = os.path.join(os.path.dirname(os.path.abspath(__file__)), "..", "crates")
-DATA = os.path.join(CRATES, "nano_derive", "data")
-OTHERS = ("derive_source", "derive_syntax", "derive_text", "nano_derive", "test_derive")
+DATA = os.path.join(CRATES, "derive_files", "data")
+OTHERS = ("derive_syntax", "derive_text", "derive_files", "test_derive")
 
 
 def text_of(path):
@@ -42,10 +42,10 @@ def main():
                 file.write(text)
         elif not os.path.exists(copy) or text_of(copy) != text:
             faults += 1
-            print(f"crates/nano_derive/data/{name}.txt is no copy of crates/{name}")
-        if name + ".txt" not in text_of(os.path.join(CRATES, "nano_derive", "args")).split("\n"):
+            print(f"crates/derive_files/data/{name}.txt is no copy of crates/{name}")
+        if name + ".txt" not in text_of(os.path.join(CRATES, "derive_files", "args")).split("\n"):
             faults += 1
-            print(f"crates/nano_derive/args does not name {name}.txt")
+            print(f"crates/derive_files/args does not name {name}.txt")
     print(f"{faults} faults")
     return faults != 0
 

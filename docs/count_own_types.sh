@@ -3,7 +3,7 @@
 # what each format adds, code and ghost lines apart. Blank lines and comments are not counted. The
 # lines of the specs of an enum, definitions and laws, are its proof.
 # Usage, at the top of the repository: sh docs/count_own_types.sh [FILE..]
-[ $# -gt 0 ] || set -- crates/example_types/src/server.rt crates/example_types/src/event.rt
+[ $# -gt 0 ] || set -- crates/test_types/src/server.rt crates/test_types/src/event.rt
 for file in "$@"; do
     echo "$file"
     awk '

@@ -1,7 +1,7 @@
 #!/usr/bin/env python3
 """Lists the public functions and methods of the libraries that no test file calls by name.
 
-The libraries are the crates of crates.txt above its tests. A test file is one of a crate of tests
+The libraries are the crates of crates.txt above its tests, but for the generator. A test file is one of a crate of tests
 or of `conformance`, whose calls the tables of cases make. It counts where its crate stands on the
 function's, straight or through others; so do the files of an example that the crate stands on,
 since its tests run them. A call counts by its name alone, whatever its type. Usage, at
@@ -25,7 +25,8 @@ def crates():
             head, _, uses = line.partition(":")
             crate = head.split()[0]
             below[crate] = uses.split()
-            if is_library and pathlib.Path("crates", crate, "src/lib.rt").exists():
+            is_generator = crate.startswith("derive_")
+            if is_library and not is_generator and pathlib.Path("crates", crate, "src/lib.rt").exists():
                 libraries.append(crate)
     return below, libraries
 

@@ -13,8 +13,8 @@ mkdir "$1"
 cd "$1"
 
 # The folder of a program over JSON and RON.
-sh "$top/vendor" . nano_schema_json nano_schema_ron > crates.txt
-echo 'server: anyhow nano_schema nano_schema_json nano_schema_ron' >> crates.txt
+sh "$top/vendor" . nano_json_schema nano_ron_schema > crates.txt
+echo 'server: anyhow nano_schema nano_json_schema nano_ron_schema' >> crates.txt
 mkdir -p crates/server/src
 cd crates/server
 cp "$walk/settings.rt.txt" src/settings.rt

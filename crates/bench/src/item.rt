@@ -2,15 +2,15 @@
 //! (`item_ron`).
 
 ghost use Rattle.std.specs.Prelude.{codes, refl};
-ghost use Rattle.nano_value.specs.AgreesLaws.{agreed};
+ghost use Rattle.nano_meaning.proofs.AgreesLaws.{agreed};
 ghost use Rattle.nano_bin.specs.Codec.{codec_as as seen_as};
 ghost use Rattle.nano_json.specs.Codec.{codec_as};
-ghost use Rattle.nano_schema_json.specs.FieldsLaws.{must, may, also, ascii_names, fields_codec};
+ghost use Rattle.nano_json_schema.specs.FieldCodecs.{required_field, optional_field, fields_pair, ascii_names, fields_codec};
 
 use nano_bin::{BinCodec, DeBin, DeBinErr, SerBin, append_part};
 use nano_json::{DeJson, DeJsonErr, DeJsonState, JsonCodec, SerJson, SerJsonState};
+use nano_json_schema::{read_fields, write_fields};
 use nano_schema::{Label, Optional, Required};
-use nano_schema_json::{read_fields, write_fields};
 use nano_value::Value;
 use std::alloc::{AllocError, Global};
 use std::str::Chars;
@@ -54,7 +54,7 @@ impl Value for Item {
 
     ghost legal = { ⟦<(i32, Option<String>) as Value>⟧.legal };
 
-    #[tactic(auto, using(nano_value::specs::LegalLaws::pair_is_legal))]
+    #[tactic(auto, using(nano_meaning::proofs::LegalLaws::pair_is_legal))]
     fn known(&self) {
         self.value.known();
         self.note.known();
@@ -87,8 +87,8 @@ impl DeBin for Item {
 
 impl JsonCodec for Item {
     ghost json = { codec_as (λ item. (item.value, item.note)) (fields_codec
-        (also (must (codes "value") ⟦<i32 as JsonCodec>⟧.json)
-        (may (codes "note") ⟦<String as JsonCodec>⟧.json))
+        (fields_pair (required_field (codes "value") ⟦<i32 as JsonCodec>⟧.json)
+        (optional_field (codes "note") ⟦<String as JsonCodec>⟧.json))
         (ascii_names refl) refl) };
 
     ghost agrees = { agreed };

@@ -1,21 +1,21 @@
 //! The record in RON: named fields between parentheses.
 
 ghost use Rattle.std.specs.Prelude.{codes, refl};
-ghost use Rattle.nano_value.specs.AgreesLaws.{agreed};
+ghost use Rattle.nano_meaning.proofs.AgreesLaws.{agreed};
 ghost use Rattle.nano_ron.specs.Codec.{codec_as};
-ghost use Rattle.nano_schema_ron.specs.FieldsLaws.{must, may, also, word_names};
-ghost use Rattle.nano_schema_ron.specs.Fields.{fields_codec};
+ghost use Rattle.nano_ron_schema.specs.FieldCodecs.{required_field, optional_field, fields_pair, word_names};
+ghost use Rattle.nano_ron_schema.specs.Fields.{fields_codec};
 
 use crate::item::{Item, ItemFields};
 use nano_ron::{DeRon, DeRonErr, DeRonState, RonCodec, SerRon, SerRonState};
-use nano_schema_ron::{read_fields, write_fields};
+use nano_ron_schema::{read_fields, write_fields};
 use std::alloc::{AllocError, Global};
 use std::str::Chars;
 
 impl RonCodec for Item {
     ghost ron = { codec_as (λ item. (item.value, item.note)) (fields_codec
-        (also (must (codes "value") ⟦<i32 as RonCodec>⟧.ron)
-        (may (codes "note") ⟦<String as RonCodec>⟧.ron))
+        (fields_pair (required_field (codes "value") ⟦<i32 as RonCodec>⟧.ron)
+        (optional_field (codes "note") ⟦<String as RonCodec>⟧.ron))
         (word_names refl) refl) };
 
     ghost agrees = { agreed };

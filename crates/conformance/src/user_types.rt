@@ -4,11 +4,11 @@ use crate::format::Format;
 use crate::outcome::Outcome;
 use crate::reads::{of_bytes, of_json, of_type};
 use crate::types::{Shape, of_held};
-use example_types::{
-    Clock, Command, Entry, Event, Message, Notice, Point, Reply, Server, Signal, Site, Tagged,
-};
 use nanoserde::records::{Choice, Item, Plain, Test};
 use std::alloc::{AllocError, Global};
+use test_types::{
+    Clock, Command, Entry, Event, Message, Notice, Point, Reply, Server, Signal, Site, Tagged,
+};
 
 /// A user-defined type.
 pub(crate) fn of_user_type(

@@ -5,10 +5,10 @@ mod definitions;
 mod known;
 mod names;
 
+use crate::fault::Fault;
 use crate::syntax::Source;
 pub use defaults::{Missing, missing_value};
 use definitions::check_definition;
-use derive_source::Fault;
 use names::check_distinct;
 pub use names::encoded_name;
 use std::alloc::Global;

@@ -1,16 +1,26 @@
-//! What stands above the marker of a file of Rattle, as far as the generator of impls reads it: its
-//! tokens, structs, enums and attributes.
+//! A file of Rattle with a marker, below which impls are written: the structs, enums and attributes
+//! above it, as far as the generator of impls reads them, and what is wrong there, with line and
+//! column.
 #![tactic(auto)]
 
 mod check;
+mod derived;
+mod error;
+mod fault;
+mod marker;
 mod module;
 mod parse;
+mod place;
 mod scan;
 mod state;
 mod syntax;
 mod token;
 
 pub use check::{Missing, check_source, encoded_name, missing_value};
+pub use derived::{Writer, derive_by};
+pub use error::{DeriveError, SourceFault};
+pub use fault::{Fault, Subject};
+pub use marker::MARKER;
 pub use module::module_of;
 pub use parse::source_of;
 pub use scan::tokens_of;

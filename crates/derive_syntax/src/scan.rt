@@ -1,9 +1,9 @@
 //! Cuts a source into tokens. Comments are left out, but for those that begin `// nanoserde:`,
 //! whose words are cut as the source is.
 
+use crate::fault::Fault;
 use crate::state::State;
 use crate::token::{Token, TokenKind};
-use derive_source::Fault;
 use std::alloc::Global;
 
 const ATTRIBUTE: &str = "// nanoserde:";

@@ -1,6 +1,6 @@
 //! Tokens of the part of Rust that the generator reads.
 
-use derive_source::{Fault, Subject};
+use crate::fault::{Fault, Subject};
 
 /// What a token is.
 #[derive(Clone, Copy, PartialEq)]

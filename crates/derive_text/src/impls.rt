@@ -1,12 +1,11 @@
 //! From a source to the source with the impls of its structs and enums.
 
 ghost use Rattle.std.specs.Prelude.{IfOk, IfErr, string_bytes};
-ghost use Rattle.derive_source.specs.Below.{IsDerived};
-ghost use Rattle.derive_source.specs.Errors.{IsErrorIn};
+ghost use Rattle.derive_syntax.specs.Below.{IsDerived};
+ghost use Rattle.derive_syntax.specs.Errors.{IsErrorIn};
 
 use crate::output::impls;
-use derive_source::{DeriveError, Fault, Writer, derive_by};
-use derive_syntax::{check_source, source_of, tokens_of};
+use derive_syntax::{DeriveError, Fault, Writer, check_source, derive_by, source_of, tokens_of};
 use std::alloc::Global;
 
 /// Writes the impls of structs and enums.

@@ -5,6 +5,5 @@
 mod impls;
 mod output;
 
-pub use derive_source::{DeriveError, MARKER, SourceFault};
-pub use derive_syntax::module_of;
+pub use derive_syntax::{DeriveError, MARKER, SourceFault, module_of};
 pub use impls::derive;

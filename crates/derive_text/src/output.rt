@@ -29,8 +29,7 @@ mod variants;
 mod views;
 
 use choices::append_choice;
-use derive_source::Fault;
-use derive_syntax::{Definition, Shape, Source};
+use derive_syntax::{Definition, Fault, Shape, Source};
 use names::Names;
 use records::append_record;
 use sheet::Sheet;

@@ -9,7 +9,7 @@ mod message;
 
 use anyhow::{Context, Result, bail};
 use message::Message;
-use nano_frames::{Messages, put};
+use nano_bin_frames::{Messages, put};
 use std::alloc::{AllocError, Global};
 use std::collections::HashMap;
 use std::env;

@@ -19,12 +19,12 @@ pub enum Message {
     },
 }
 
-// ---- written by nano_derive
+// ---- written by derive_files
 
 ghost use Rattle.std.specs.Prelude.{codes, refl};
 ghost use Rattle.nano_schema.specs.declared.choices.Either.TheVariants.{First, Later};
 ghost use Rattle.nano_schema.specs.UserTypes.{LegalVariant, agreed};
-ghost use Rattle.nano_schema_bin.specs.Choice.{bin_choice};
+ghost use Rattle.nano_bin_schema.specs.Enums.{bin_choice};
 
 struct MessageLeave {}
 
@@ -107,7 +107,7 @@ type MessageRefs2<'a> = nano_schema::Either<(&'a u32, &'a Vec<i16>), MessageRefs
 
 type MessageRefs<'a> = nano_schema::Either<(), MessageRefs2<'a>>;
 
-impl nano_schema::Choice for Message {
+impl nano_schema::EnumSchema for Message {
     ghost use Rattle.example_messages.specs.declared.message.Message.TheVariants.{Leave, Move, Say};
 
     type Values = MessageValues;
@@ -138,7 +138,7 @@ impl nano_schema::Choice for Message {
     }
 }
 
-impl<'a> nano_schema::ChoiceParts<'a> for Message {
+impl<'a> nano_schema::VariantRefs<'a> for Message {
     type Refs = MessageRefs<'a>;
 
     ghost values = { ⟦<MessageVariants as nano_schema::BorrowedChoices<'a>>⟧.values };
@@ -165,7 +165,7 @@ impl<'a> nano_schema::ChoiceParts<'a> for Message {
 
 impl nano_schema::Value for Message {
     ghost means = { λ x. ⟦<MessageVariants as nano_schema::Choices>⟧.means 0
-        (⟦<Message as nano_schema::Choice>⟧.view x) };
+        (⟦<Message as nano_schema::EnumSchema>⟧.view x) };
 
     ghost legal = { LegalVariant ⟦<MessageVariants as nano_schema::Choices>⟧.legals };
 
@@ -176,31 +176,31 @@ impl nano_schema::Value for Message {
 
 // ---- bytes
 
-impl nano_schema_bin::BinCodec for Message {
-    ghost bin = { bin_choice ⟦<Message as nano_schema::Choice>⟧.view
-        ⟦<MessageVariants as nano_schema_bin::BinShapes>⟧.chosen refl };
+impl nano_bin_schema::BinCodec for Message {
+    ghost bin = { bin_choice ⟦<Message as nano_schema::EnumSchema>⟧.view
+        ⟦<MessageVariants as nano_bin_schema::BinShapes>⟧.chosen refl };
 
     ghost agrees = { agreed };
 }
 
-impl nano_schema_bin::SerBin for Message {
+impl nano_bin_schema::SerBin for Message {
     fn ser_bin(
         &self,
         alloc: std::alloc::Global,
         output: &mut Vec<u8>,
     ) -> Result<(), std::alloc::AllocError> {
-        nano_schema_bin::write_choice_bin::<Self, MessageVariants>(self, alloc, output)
+        nano_bin_schema::write_choice_bin::<Self, MessageVariants>(self, alloc, output)
     }
 }
 
-impl nano_schema_bin::DeBin for Message {
+impl nano_bin_schema::DeBin for Message {
     ghost is_decodable = { refl };
 
     fn de_bin(
         alloc: std::alloc::Global,
         offset: &mut usize,
         bytes: &[u8],
-    ) -> Result<Self, nano_schema_bin::DeBinErr> {
-        nano_schema_bin::read_choice_bin::<Self, MessageVariants>(alloc, offset, bytes)
+    ) -> Result<Self, nano_bin_schema::DeBinErr> {
+        nano_bin_schema::read_choice_bin::<Self, MessageVariants>(alloc, offset, bytes)
     }
 }

@@ -14,12 +14,12 @@ pub struct State {
     pub player: Option<String>,
 }
 
-// ---- written by nano_derive
+// ---- written by derive_files
 
 ghost use Rattle.std.specs.Prelude.{codes, refl};
-ghost use Rattle.nano_schema_json.specs.Record.{json_of};
+ghost use Rattle.nano_json_schema.specs.Structs.{json_of};
 ghost use Rattle.nano_schema.specs.UserTypes.{agreed};
-ghost use Rattle.nano_schema_ron.specs.Record.{ron_of};
+ghost use Rattle.nano_ron_schema.specs.Structs.{ron_of};
 
 struct StateCoins {}
 
@@ -59,7 +59,7 @@ type StateFields = (
     ),
 );
 
-impl nano_schema::Record for State {
+impl nano_schema::StructSchema for State {
     type Values = (u32, (HashMap<String, u64>, Option<String>));
 
     ghost view = { λ x. (x.coins, (x.times, x.player)) };
@@ -74,7 +74,7 @@ impl nano_schema::Record for State {
     }
 }
 
-impl<'a> nano_schema::Parts<'a> for State {
+impl<'a> nano_schema::FieldRefs<'a> for State {
     type Refs = (&'a u32, (&'a HashMap<String, u64>, &'a Option<String>));
 
     ghost values = { ⟦<StateFields as nano_schema::Borrowed<'a>>⟧.values };
@@ -86,7 +86,7 @@ impl<'a> nano_schema::Parts<'a> for State {
 
 impl nano_schema::Value for State {
     ghost means = { λ x. ⟦<StateFields as nano_schema::Shape>⟧.means
-        (⟦<State as nano_schema::Record>⟧.view x) };
+        (⟦<State as nano_schema::StructSchema>⟧.view x) };
 
     ghost legal = { ⟦<StateFields as nano_schema::Shape>⟧.legal };
 
@@ -97,60 +97,60 @@ impl nano_schema::Value for State {
 
 // ---- JSON
 
-impl nano_schema_json::JsonCodec for State {
-    ghost json = { json_of ⟦<State as nano_schema::Record>⟧.view
-        ⟦<StateFields as nano_schema_json::JsonShape>⟧.codec refl };
+impl nano_json_schema::JsonCodec for State {
+    ghost json = { json_of ⟦<State as nano_schema::StructSchema>⟧.view
+        ⟦<StateFields as nano_json_schema::JsonShape>⟧.codec refl };
 
     ghost agrees = { agreed };
 }
 
-impl nano_schema_json::SerJson for State {
+impl nano_json_schema::SerJson for State {
     fn ser_json(
         &self,
         alloc: std::alloc::Global,
         d: usize,
-        s: &mut nano_schema_json::SerJsonState,
+        s: &mut nano_json_schema::SerJsonState,
     ) -> Result<(), std::alloc::AllocError> {
-        nano_schema_json::write_record_json::<Self, StateFields>(self, alloc, d, s)
+        nano_json_schema::write_record_json::<Self, StateFields>(self, alloc, d, s)
     }
 }
 
-impl nano_schema_json::DeJson for State {
+impl nano_json_schema::DeJson for State {
     fn de_json(
         alloc: std::alloc::Global,
-        state: &mut nano_schema_json::DeJsonState,
+        state: &mut nano_json_schema::DeJsonState,
         input: &mut std::str::Chars<'_>,
-    ) -> nano_schema_json::JsonResult<Self> {
-        nano_schema_json::read_record_json::<Self, StateFields>(alloc, state, input)
+    ) -> nano_json_schema::JsonResult<Self> {
+        nano_json_schema::read_record_json::<Self, StateFields>(alloc, state, input)
     }
 }
 
 // ---- RON
 
-impl nano_schema_ron::RonCodec for State {
-    ghost ron = { ron_of ⟦<State as nano_schema::Record>⟧.view
-        ⟦<StateFields as nano_schema_ron::RonShape>⟧.codec refl };
+impl nano_ron_schema::RonCodec for State {
+    ghost ron = { ron_of ⟦<State as nano_schema::StructSchema>⟧.view
+        ⟦<StateFields as nano_ron_schema::RonShape>⟧.codec refl };
 
     ghost agrees = { agreed };
 }
 
-impl nano_schema_ron::SerRon for State {
+impl nano_ron_schema::SerRon for State {
     fn ser_ron(
         &self,
         alloc: std::alloc::Global,
         d: usize,
-        s: &mut nano_schema_ron::SerRonState,
+        s: &mut nano_ron_schema::SerRonState,
     ) -> Result<(), std::alloc::AllocError> {
-        nano_schema_ron::write_record_ron::<Self, StateFields>(self, alloc, d, s)
+        nano_ron_schema::write_record_ron::<Self, StateFields>(self, alloc, d, s)
     }
 }
 
-impl nano_schema_ron::DeRon for State {
+impl nano_ron_schema::DeRon for State {
     fn de_ron(
         alloc: std::alloc::Global,
-        state: &mut nano_schema_ron::DeRonState,
+        state: &mut nano_ron_schema::DeRonState,
         input: &mut std::str::Chars<'_>,
-    ) -> nano_schema_ron::RonResult<Self> {
-        nano_schema_ron::read_record_ron::<Self, StateFields>(alloc, state, input)
+    ) -> nano_ron_schema::RonResult<Self> {
+        nano_ron_schema::read_record_ron::<Self, StateFields>(alloc, state, input)
     }
 }

@@ -3,9 +3,9 @@ use Rattle.std.specs.Prelude.{◌≡◌, ℕ, List}
 use Rattle.nano_value.specs.Meaning.{Meaning}
 use Rattle.nano_json.specs.Codec.{Codec as JsonCodec}
 use Rattle.nano_ron.specs.Codec.{Codec as RonCodec}
-use Rattle.example_text_forms.specs.declared.form.Form.{Form}
-use Rattle.example_text_forms.specs.declared.form.Form.TheVariants.{Json, Ron}
-use Rattle.example_text_forms.specs.Forms.{IsWhole, written}
+use Rattle.nano_text_forms.specs.declared.form.Form.{Form}
+use Rattle.nano_text_forms.specs.declared.form.Form.TheVariants.{Json, Ron}
+use Rattle.nano_text_forms.specs.Forms.{IsWhole, written}
 use Rattle.example_server.specs.declared.settings.Settings.{Settings}
 
 -- the form that a text has not

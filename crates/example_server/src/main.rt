@@ -7,17 +7,17 @@
 #![tactic(auto)]
 
 ghost use Rattle.std.specs.Prelude.{◌≡◌, IfOk, IfErr, string_bytes};
-ghost use Rattle.example_text_forms.specs.Forms.{IsWhole, NotOfMemory};
+ghost use Rattle.nano_text_forms.specs.Forms.{IsWhole, NotOfMemory};
 ghost use Rattle.example_server.specs.Converted.{Converts, other_form};
 
 mod mode;
 mod settings;
 
 use anyhow::{Context, Result, bail};
-use example_text_forms::{Form, Rejection};
+use nano_json_schema::JsonCodec;
+use nano_ron_schema::RonCodec;
 use nano_schema::Value;
-use nano_schema_json::JsonCodec;
-use nano_schema_ron::RonCodec;
+use nano_text_forms::{Form, Rejection};
 use settings::Settings;
 use std::alloc::{AllocError, Global};
 use std::process::ExitCode;

@@ -17,13 +17,13 @@ pub enum Mode {
     },
 }
 
-// ---- written by nano_derive
+// ---- written by derive_files
 
 ghost use Rattle.std.specs.Prelude.{codes, refl};
 ghost use Rattle.nano_schema.specs.declared.choices.Either.TheVariants.{First, Later};
 ghost use Rattle.nano_schema.specs.UserTypes.{LegalVariant, agreed};
-ghost use Rattle.nano_schema_json.specs.Choice.{json_choice};
-ghost use Rattle.nano_schema_ron.specs.Choice.{ron_choice};
+ghost use Rattle.nano_json_schema.specs.Enums.{json_choice};
+ghost use Rattle.nano_ron_schema.specs.Enums.{ron_choice};
 
 struct ModeOff {}
 
@@ -106,7 +106,7 @@ type ModeRefs2<'a> = nano_schema::Either<&'a u32, ModeRefs3<'a>>;
 
 type ModeRefs<'a> = nano_schema::Either<(), ModeRefs2<'a>>;
 
-impl nano_schema::Choice for Mode {
+impl nano_schema::EnumSchema for Mode {
     ghost use Rattle.example_server.specs.declared.mode.Mode.TheVariants.{Off, Fixed, Range};
 
     type Values = ModeValues;
@@ -137,7 +137,7 @@ impl nano_schema::Choice for Mode {
     }
 }
 
-impl<'a> nano_schema::ChoiceParts<'a> for Mode {
+impl<'a> nano_schema::VariantRefs<'a> for Mode {
     type Refs = ModeRefs<'a>;
 
     ghost values = { ⟦<ModeVariants as nano_schema::BorrowedChoices<'a>>⟧.values };
@@ -164,7 +164,7 @@ impl<'a> nano_schema::ChoiceParts<'a> for Mode {
 
 impl nano_schema::Value for Mode {
     ghost means = { λ x. ⟦<ModeVariants as nano_schema::Choices>⟧.means 0
-        (⟦<Mode as nano_schema::Choice>⟧.view x) };
+        (⟦<Mode as nano_schema::EnumSchema>⟧.view x) };
 
     ghost legal = { LegalVariant ⟦<ModeVariants as nano_schema::Choices>⟧.legals };
 
@@ -175,60 +175,60 @@ impl nano_schema::Value for Mode {
 
 // ---- JSON
 
-impl nano_schema_json::JsonCodec for Mode {
-    ghost json = { json_choice ⟦<Mode as nano_schema::Choice>⟧.view
-        ⟦<ModeVariants as nano_schema_json::JsonShapes>⟧.codec refl refl refl };
+impl nano_json_schema::JsonCodec for Mode {
+    ghost json = { json_choice ⟦<Mode as nano_schema::EnumSchema>⟧.view
+        ⟦<ModeVariants as nano_json_schema::JsonShapes>⟧.codec refl refl refl };
 
     ghost agrees = { agreed };
 }
 
-impl nano_schema_json::SerJson for Mode {
+impl nano_json_schema::SerJson for Mode {
     fn ser_json(
         &self,
         alloc: std::alloc::Global,
         d: usize,
-        s: &mut nano_schema_json::SerJsonState,
+        s: &mut nano_json_schema::SerJsonState,
     ) -> Result<(), std::alloc::AllocError> {
-        nano_schema_json::write_choice_json::<Self, ModeVariants>(self, alloc, d, s)
+        nano_json_schema::write_choice_json::<Self, ModeVariants>(self, alloc, d, s)
     }
 }
 
-impl nano_schema_json::DeJson for Mode {
+impl nano_json_schema::DeJson for Mode {
     fn de_json(
         alloc: std::alloc::Global,
-        state: &mut nano_schema_json::DeJsonState,
+        state: &mut nano_json_schema::DeJsonState,
         input: &mut std::str::Chars<'_>,
-    ) -> nano_schema_json::JsonResult<Self> {
-        nano_schema_json::read_choice_json::<Self, ModeVariants>(alloc, state, input)
+    ) -> nano_json_schema::JsonResult<Self> {
+        nano_json_schema::read_choice_json::<Self, ModeVariants>(alloc, state, input)
     }
 }
 
 // ---- RON
 
-impl nano_schema_ron::RonCodec for Mode {
-    ghost ron = { ron_choice ⟦<Mode as nano_schema::Choice>⟧.view
-        ⟦<ModeVariants as nano_schema_ron::RonShapes>⟧.codec refl refl refl };
+impl nano_ron_schema::RonCodec for Mode {
+    ghost ron = { ron_choice ⟦<Mode as nano_schema::EnumSchema>⟧.view
+        ⟦<ModeVariants as nano_ron_schema::RonShapes>⟧.codec refl refl refl };
 
     ghost agrees = { agreed };
 }
 
-impl nano_schema_ron::SerRon for Mode {
+impl nano_ron_schema::SerRon for Mode {
     fn ser_ron(
         &self,
         alloc: std::alloc::Global,
         d: usize,
-        s: &mut nano_schema_ron::SerRonState,
+        s: &mut nano_ron_schema::SerRonState,
     ) -> Result<(), std::alloc::AllocError> {
-        nano_schema_ron::write_choice_ron::<Self, ModeVariants>(self, alloc, d, s)
+        nano_ron_schema::write_choice_ron::<Self, ModeVariants>(self, alloc, d, s)
     }
 }
 
-impl nano_schema_ron::DeRon for Mode {
+impl nano_ron_schema::DeRon for Mode {
     fn de_ron(
         alloc: std::alloc::Global,
-        state: &mut nano_schema_ron::DeRonState,
+        state: &mut nano_ron_schema::DeRonState,
         input: &mut std::str::Chars<'_>,
-    ) -> nano_schema_ron::RonResult<Self> {
-        nano_schema_ron::read_choice_ron::<Self, ModeVariants>(alloc, state, input)
+    ) -> nano_ron_schema::RonResult<Self> {
+        nano_ron_schema::read_choice_ron::<Self, ModeVariants>(alloc, state, input)
     }
 }

@@ -25,12 +25,12 @@ pub struct Settings {
     pub mode: Mode,
 }
 
-// ---- written by nano_derive
+// ---- written by derive_files
 
 ghost use Rattle.std.specs.Prelude.{codes, refl};
 ghost use Rattle.nano_schema.specs.UserTypes.{whole, agreed};
-ghost use Rattle.nano_schema_json.specs.Record.{json_of};
-ghost use Rattle.nano_schema_ron.specs.Record.{ron_of};
+ghost use Rattle.nano_json_schema.specs.Structs.{json_of};
+ghost use Rattle.nano_ron_schema.specs.Structs.{ron_of};
 
 struct SettingsName {}
 
@@ -73,11 +73,11 @@ impl nano_schema::DefaultOf<u16> for SettingsWorkersDefault {
     }
 }
 
-impl nano_schema_json::JsonDefaultOf<u16> for SettingsWorkersDefault {
+impl nano_json_schema::JsonDefaultOf<u16> for SettingsWorkersDefault {
     ghost is_sound = { λ x e. tt };
 }
 
-impl nano_schema_ron::RonDefaultOf<u16> for SettingsWorkersDefault {
+impl nano_ron_schema::RonDefaultOf<u16> for SettingsWorkersDefault {
     ghost is_sound = { λ x e. tt };
 }
 
@@ -141,7 +141,7 @@ type SettingsFields = (
     ),
 );
 
-impl nano_schema::Record for Settings {
+impl nano_schema::StructSchema for Settings {
     type Values = (
         (String, (u16, u16)),
         ((bool, Vec<String>), (Option<String>, Mode)),
@@ -163,7 +163,7 @@ impl nano_schema::Record for Settings {
     }
 }
 
-impl<'a> nano_schema::Parts<'a> for Settings {
+impl<'a> nano_schema::FieldRefs<'a> for Settings {
     type Refs = (
         (&'a String, (&'a u16, &'a u16)),
         ((&'a bool, &'a Vec<String>), (&'a Option<String>, &'a Mode)),
@@ -181,7 +181,7 @@ impl<'a> nano_schema::Parts<'a> for Settings {
 
 impl nano_schema::Value for Settings {
     ghost means = { λ x. ⟦<SettingsFields as nano_schema::Shape>⟧.means
-        (⟦<Settings as nano_schema::Record>⟧.view x) };
+        (⟦<Settings as nano_schema::StructSchema>⟧.view x) };
 
     ghost legal = { ⟦<SettingsFields as nano_schema::Shape>⟧.legal };
 
@@ -192,60 +192,60 @@ impl nano_schema::Value for Settings {
 
 // ---- JSON
 
-impl nano_schema_json::JsonCodec for Settings {
-    ghost json = { json_of ⟦<Settings as nano_schema::Record>⟧.view
-        ⟦<SettingsFields as nano_schema_json::JsonShape>⟧.codec refl };
+impl nano_json_schema::JsonCodec for Settings {
+    ghost json = { json_of ⟦<Settings as nano_schema::StructSchema>⟧.view
+        ⟦<SettingsFields as nano_json_schema::JsonShape>⟧.codec refl };
 
     ghost agrees = { agreed };
 }
 
-impl nano_schema_json::SerJson for Settings {
+impl nano_json_schema::SerJson for Settings {
     fn ser_json(
         &self,
         alloc: std::alloc::Global,
         d: usize,
-        s: &mut nano_schema_json::SerJsonState,
+        s: &mut nano_json_schema::SerJsonState,
     ) -> Result<(), std::alloc::AllocError> {
-        nano_schema_json::write_record_json::<Self, SettingsFields>(self, alloc, d, s)
+        nano_json_schema::write_record_json::<Self, SettingsFields>(self, alloc, d, s)
     }
 }
 
-impl nano_schema_json::DeJson for Settings {
+impl nano_json_schema::DeJson for Settings {
     fn de_json(
         alloc: std::alloc::Global,
-        state: &mut nano_schema_json::DeJsonState,
+        state: &mut nano_json_schema::DeJsonState,
         input: &mut std::str::Chars<'_>,
-    ) -> nano_schema_json::JsonResult<Self> {
-        nano_schema_json::read_record_json::<Self, SettingsFields>(alloc, state, input)
+    ) -> nano_json_schema::JsonResult<Self> {
+        nano_json_schema::read_record_json::<Self, SettingsFields>(alloc, state, input)
     }
 }
 
 // ---- RON
 
-impl nano_schema_ron::RonCodec for Settings {
-    ghost ron = { ron_of ⟦<Settings as nano_schema::Record>⟧.view
-        ⟦<SettingsFields as nano_schema_ron::RonShape>⟧.codec refl };
+impl nano_ron_schema::RonCodec for Settings {
+    ghost ron = { ron_of ⟦<Settings as nano_schema::StructSchema>⟧.view
+        ⟦<SettingsFields as nano_ron_schema::RonShape>⟧.codec refl };
 
     ghost agrees = { agreed };
 }
 
-impl nano_schema_ron::SerRon for Settings {
+impl nano_ron_schema::SerRon for Settings {
     fn ser_ron(
         &self,
         alloc: std::alloc::Global,
         d: usize,
-        s: &mut nano_schema_ron::SerRonState,
+        s: &mut nano_ron_schema::SerRonState,
     ) -> Result<(), std::alloc::AllocError> {
-        nano_schema_ron::write_record_ron::<Self, SettingsFields>(self, alloc, d, s)
+        nano_ron_schema::write_record_ron::<Self, SettingsFields>(self, alloc, d, s)
     }
 }
 
-impl nano_schema_ron::DeRon for Settings {
+impl nano_ron_schema::DeRon for Settings {
     fn de_ron(
         alloc: std::alloc::Global,
-        state: &mut nano_schema_ron::DeRonState,
+        state: &mut nano_ron_schema::DeRonState,
         input: &mut std::str::Chars<'_>,
-    ) -> nano_schema_ron::RonResult<Self> {
-        nano_schema_ron::read_record_ron::<Self, SettingsFields>(alloc, state, input)
+    ) -> nano_ron_schema::RonResult<Self> {
+        nano_ron_schema::read_record_ron::<Self, SettingsFields>(alloc, state, input)
     }
 }

@@ -40,8 +40,8 @@ fn number(value: Option<&Toml>, default: u32) -> Option<u32>
     }
 }
 
-/// The truth value that a value is, or the default where there is no value. `None` says that it is
-/// no truth value.
+/// The boolean that a value is, or the default where there is no value. `None` says that it is
+/// no boolean.
 fn flag(value: Option<&Toml>, default: bool) -> Option<bool>
     ensures { value.entry ≡ None → result ≡ Some default }
 {

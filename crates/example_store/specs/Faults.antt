@@ -1,7 +1,7 @@
 -- Faults of the stream and of memory, and those of the bytes.
 use Rattle.std.specs.Prelude.{◌≡◌, Result, IfErr}
 use Rattle.std.specs.declared.io.Error.{Error}
-use Rattle.nano_bytes.specs.declared.error.DeBinErr.{DeBinErr}
+use Rattle.nano_bin_bytes.specs.declared.error.DeBinErr.{DeBinErr}
 use Rattle.example_store.specs.declared.rows.Fault.{Fault}
 use Rattle.example_store.specs.declared.rows.Fault.TheVariants.{Refused, Stream}
 

@@ -1,4 +1,4 @@
-pub mod MapReaders
+pub mod Collecting
 pub mod Readers
 pub mod RoundTrip
 pub mod SameBytes

@@ -1,25 +1,23 @@
 -- What the readers of containers answer, from what the readers of their parts answer.
-use Rattle.std.proofs.Common.{◌≡◌, ◌≢◌, Result, Ok, Err, IfOk, ℕ, ◌+◌, ◌<◌, refl, List, [], ◌∷◌, ◌++◌, length, drop, Option, Some, None, sym, ◌∙◌, subst, ap, arith, append_assoc, length-append, true, false}
+use Rattle.std.proofs.Common.{◌≡◌, ◌≢◌, ℕ, ◌+◌, ◌<◌, refl, List, [], ◌∷◌, ◌++◌, length, drop, Option, Some, None, sym, ◌∙◌, subst, ap, arith, append_assoc, length-append}
 use Rattle.std.proofs.lemmas.List.{append-nil}
 use Rattle.nano_value.specs.Meaning.{Meaning, nothing, truth, whole}
-use Rattle.nano_value.specs.MeaningLaws.{whole_injective}
+use Rattle.nano_meaning.proofs.MeaningLaws.{whole_injective}
 use Rattle.nano_value.specs.Legal.{IsImage}
-use Rattle.nano_bin.specs.Encoding.{IsEncoding}
-use Rattle.nano_bin.specs.EncodingLaws.{same_prefixes, same_heads}
-use Rattle.nano_bytes.specs.Reading.{DecodesToNothing, Decodes}
-use Rattle.nano_bytes.specs.LittleEndian.{EncodesNumber}
-use Rattle.nano_bin.specs.Bools.{EncodesUnit, EncodesTruth}
-use Rattle.nano_bin.specs.BoolsLaws.{truth_byte}
-use Rattle.nano_bin.specs.NumbersLaws.{EncodesUnsigned, number_encoding}
-use Rattle.nano_bin.specs.Tuples.{EncodesPair}
-use Rattle.nano_bin.specs.Options.{EncodesOption}
-use Rattle.nano_bin.specs.Lists.{EncodesItems, EncodesCount, EncodesList}
-use Rattle.nano_bin.specs.Texts.{EncodesText, IsTextOf}
-
--- what two facts of success show together
-pub both_ok : {T E : Type 0} {P Q R : T → Type 0} (r : Result T E) → ((x : T) → P x → Q x → R x) → IfOk r P → IfOk r Q → IfOk r R
-both_ok (Ok x) f p q = f x p q
-both_ok (Err e) f p q = tt
+use Rattle.nano_bin_bytes.specs.Encoding.{IsEncoding}
+use Rattle.nano_bin_bytes.proofs.EncodingLaws.{same_prefixes, same_heads}
+use Rattle.nano_bin_bytes.specs.declared.error.DeBinErr.{DeBinErr}
+use Rattle.nano_bin_bytes.specs.Reading.{DecodesToNothing, Decodes}
+use Rattle.nano_bin_bytes.specs.Rejections.{ReadsNoneWhereShort}
+use Rattle.nano_bin_bytes.specs.LittleEndian.{EncodesNumber}
+use Rattle.nano_bin_bytes.specs.Bools.{EncodesUnit, EncodesTruth, EncodesBool}
+use Rattle.nano_bin_bytes.proofs.BoolsLaws.{truth_byte}
+use Rattle.nano_bin_bytes.specs.Numbers.{EncodesUnsigned}
+use Rattle.nano_bin_bytes.proofs.NumbersLaws.{number_encoding}
+use Rattle.nano_bin_bytes.specs.Tuples.{EncodesPair}
+use Rattle.nano_bin_bytes.specs.Options.{EncodesOption}
+use Rattle.nano_bin_bytes.specs.Lists.{EncodesItems, EncodesCount, EncodesList}
+use Rattle.nano_bin_bytes.specs.Texts.{EncodesText, IsTextOf}
 
 -- ---- one reader after another
 
@@ -68,15 +66,16 @@ unsigned_reads k bytes start end n r = record { prefix = r.prefix; whole = r.who
 pub unsigned_rejected : (k : ℕ) (bytes : List ℕ) → DecodesToNothing (EncodesUnsigned k) bytes → DecodesToNothing (EncodesNumber k) bytes
 unsigned_rejected k bytes none n f = none (whole n) (record { prefix = f.prefix; rest = f.rest; whole = f.whole; is_encoded = record { part = n; has = f.is_encoded; is = refl } })
 
--- where there is no byte, there is no truth value
-pub truth_rejected : (bytes : List ℕ) → DecodesToNothing (EncodesUnsigned 1) bytes → DecodesToNothing (λ a. IsImage truth (EncodesTruth a)) bytes
+-- where there is no byte, there is no boolean
+truth_rejected : (bytes : List ℕ) → DecodesToNothing (EncodesUnsigned 1) bytes → DecodesToNothing EncodesBool bytes
 truth_rejected bytes none = image_rejected EncodesTruth truth bytes (first_rejected (EncodesNumber 1) EncodesTruth bytes (unsigned_rejected 1 bytes none) (λ a z s. let p = truth_byte a z s in (a, [], p.0, sym (append-nil a), p.1)))
 
-pub false_reads : (bytes : List ℕ) (start end : ℕ) → Decodes (EncodesUnsigned 1) bytes start (whole 0) end → Decodes (λ a. IsImage truth (EncodesTruth a)) bytes start (truth false) end
-false_reads bytes start end r = image_reads truth bytes start end false (as_reads EncodesTruth bytes start end 0 false (unsigned_reads 1 bytes start end 0 r) (λ a h. h))
+module _ {bytes : List ℕ} {start end place wanted : ℕ} {error : DeBinErr} where
+  pub count_unread : ReadsNoneWhereShort (EncodesUnsigned 8) bytes start end place wanted error → ReadsNoneWhereShort (EncodesNumber 8) bytes start end place wanted error
+  count_unread r = record { none = unsigned_rejected 8 (drop start bytes) r.none; short = r.short; unchanged = r.unchanged }
 
-pub true_reads : (bytes : List ℕ) (start end b : ℕ) → b ≢ 0 → Decodes (EncodesUnsigned 1) bytes start (whole b) end → Decodes (λ a. IsImage truth (EncodesTruth a)) bytes start (truth true) end
-true_reads bytes start end b other r = image_reads truth bytes start end true (as_reads EncodesTruth bytes start end b true (unsigned_reads 1 bytes start end b r) (λ a h. (b, other, h)))
+  pub truth_unread : ReadsNoneWhereShort (EncodesUnsigned 1) bytes start end place wanted error → ReadsNoneWhereShort EncodesBool bytes start end place wanted error
+  truth_unread r = record { none = truth_rejected (drop start bytes) r.none; short = r.short; unchanged = r.unchanged }
 
 -- ---- pairs
 

@@ -1,14 +1,16 @@
 -- What is read where a code stands.
-use Rattle.std.proofs.Common.{◌≡◌, ◌≢◌, ℕ, ◌+◌, List, ◌++◌, length, drop, sym, ◌∙◌, subst, ap, append_assoc, refl}
+use Rattle.std.proofs.Common.{◌≡◌, ◌≢◌, ℕ, ◌+◌, List, ◌++◌, length, drop, sym, ◌∙◌, subst, ap, append_assoc, refl, Result, Ok, Err, IfErr}
 use Rattle.std.proofs.lemmas.List.{drop-drop}
 use Rattle.std.proofs.Math.Seq.{drop-append_seam}
-use Rattle.nano_bytes.specs.declared.error.DeBinKind.{DeBinKind}
-use Rattle.nano_bytes.specs.declared.error.DeBinKind.TheVariants.{TooShort, NotUtf8, TooLong, Memory, Own}
-use Rattle.nano_bytes.specs.declared.error.DeBinKind.TheVariants.{TrailingBytes}
-use Rattle.nano_bin.specs.Encoding.{IsEncoding}
-use Rattle.nano_bin.specs.EncodingLaws.{same_prefixes}
-use Rattle.nano_bytes.specs.Reading.{DecodesToNothing, Decodes}
-use Rattle.nano_bin.specs.Promises.{StandsAt}
+use Rattle.nano_bin_bytes.specs.declared.error.DeBinErr.{DeBinErr}
+use Rattle.nano_bin_bytes.specs.declared.error.DeBinKind.{DeBinKind}
+use Rattle.nano_bin_bytes.specs.declared.error.DeBinKind.TheVariants.{TooShort, NotUtf8, TooLong, Memory, Own}
+use Rattle.nano_bin_bytes.specs.declared.error.DeBinKind.TheVariants.{TrailingBytes}
+use Rattle.nano_bin_bytes.specs.Encoding.{IsEncoding}
+use Rattle.nano_bin_bytes.proofs.EncodingLaws.{same_prefixes}
+use Rattle.nano_bin_bytes.specs.Reading.{DecodesToNothing, Decodes}
+use Rattle.nano_bin_bytes.specs.Rejections.{ReadsNone}
+use Rattle.nano_bin_bytes.specs.Promises.{StandsAt, FailsForMemory}
 
 module _ {A : Type 0} {P : A → Type 0} {S : List ℕ → A → Type 0} (s : IsEncoding P S) where
   -- the value that the bytes encode is read, and the offset is set after its encoding
@@ -47,3 +49,11 @@ for_memory TooLong h = absurd (h (λ e. cc))
 for_memory Memory h = refl
 for_memory Own h = absurd (h (λ e. cc))
 for_memory TrailingBytes h = absurd (h (λ e. cc))
+
+-- where the code encodes a value, a reader that rejects is out of memory
+pub fails_for_memory : {T A : Type 0} (S : List ℕ → A → Type 0) (code bytes : List ℕ) (start end : ℕ) (r : Result T DeBinErr)
+    → IfErr r (ReadsNone S bytes start end)
+    → (StandsAt code bytes start → DecodesToNothing S (drop start bytes) → ⊥)
+    → IfErr r (FailsForMemory code bytes start end)
+fails_for_memory S code bytes start end (Ok x) h fits = tt
+fails_for_memory S code bytes start end (Err x) h fits = record { memory = λ at. for_memory x.kind (λ other. fits at (h.rejects other)); unchanged = h.unchanged }

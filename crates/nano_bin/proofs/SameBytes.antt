@@ -5,14 +5,14 @@ use Rattle.std.proofs.Common.{◌≡◌, Bool, true, false, cond, List, map, sym
 use Rattle.nano_value.specs.Meaning.{Meaning}
 use Rattle.nano_value.specs.Tables.{table_of, table_means}
 use Rattle.nano_value.specs.Sets.{marked, item_set, set_means}
-use Rattle.nano_value.specs.SetsLaws.{set_means-injective}
+use Rattle.nano_meaning.proofs.SetsLaws.{set_means-injective}
 use Rattle.nano_value.specs.OrderedSets.{ordered_means, unordered}
-use Rattle.nano_value.specs.OrderedSetsLaws.{no_list_is_unordered}
+use Rattle.nano_meaning.proofs.OrderedSetsLaws.{no_list_is_unordered}
 use Rattle.nano_value.specs.MeaningOrder.{MeaningOrder}
 use Rattle.nano_value.specs.Agrees.{Agrees}
-use Rattle.nano_bin.specs.Codec.{Codec}
-use Rattle.nano_bin.specs.MapsLaws.{map_codec}
-use Rattle.nano_bin.specs.SetsLaws.{set_codec}
+use Rattle.nano_bin_bytes.specs.Codec.{Codec}
+use Rattle.nano_bin.specs.MapCodecs.{map_codec}
+use Rattle.nano_bin.specs.SetCodecs.{set_codec}
 
 module _ {K : Type 0} {means : K → Meaning} {legal : Meaning → Type 0} (o : MeaningOrder) (k : Codec K) (t : Agrees means legal k.canonical.means k.encoding.legal) where
   -- entries of the same table

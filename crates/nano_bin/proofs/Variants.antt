@@ -2,12 +2,11 @@
 use Rattle.std.proofs.Common.{ℕ, refl, List, drop, subst}
 use Rattle.nano_value.specs.Meaning.{Meaning, whole}
 use Rattle.nano_value.specs.Sums.{tagged}
-use Rattle.nano_bytes.specs.Reading.{Decodes, DecodesToNothing}
-use Rattle.nano_bytes.specs.LittleEndian.{EncodesNumber}
-use Rattle.nano_bin.specs.NumbersLaws.{number_encoding}
-use Rattle.nano_bin.specs.NumbersLaws.{EncodesUnsigned}
-use Rattle.nano_bin.specs.Variants.{Variants, Variant, EncodesVariant, encoding_at, variant_means}
-use Rattle.nano_bin.specs.VariantsLaws.{variants_of}
+use Rattle.nano_bin_bytes.specs.Reading.{Decodes, DecodesToNothing}
+use Rattle.nano_bin_bytes.specs.LittleEndian.{EncodesNumber}
+use Rattle.nano_bin_bytes.proofs.NumbersLaws.{number_encoding}
+use Rattle.nano_bin_bytes.specs.Numbers.{EncodesUnsigned}
+use Rattle.nano_bin_bytes.specs.Variants.{Variants, Variant, EncodesVariant, EncodesEnum, encoding_at, variant_means}
 use Rattle.nano_bin.proofs.Readers.{then_reads, then_rejected, first_rejected, image_reads, image_rejected, unsigned_reads, unsigned_rejected}
 
 module _ (vs : Variants) (bytes : List ℕ) where
@@ -16,7 +15,7 @@ module _ (vs : Variants) (bytes : List ℕ) where
       (start mid end tag : ℕ) (content : Meaning)
       → Decodes (EncodesUnsigned 2) bytes start (whole tag) mid
       → Decodes (encoding_at vs tag).encodes bytes mid content end
-      → Decodes (variants_of vs).encodes bytes start (tagged tag content) end
+      → Decodes (EncodesEnum vs) bytes start (tagged tag content) end
   variant_reads start mid end tag content r j =
       let v : Variant = record { tag = tag; content = content } in
       image_reads variant_means bytes start end v
@@ -28,7 +27,7 @@ module _ (vs : Variants) (bytes : List ℕ) where
       (start mid tag : ℕ)
       → Decodes (EncodesUnsigned 2) bytes start (whole tag) mid
       → DecodesToNothing (encoding_at vs tag).encodes (drop mid bytes)
-      → DecodesToNothing (variants_of vs).encodes (drop start bytes)
+      → DecodesToNothing (EncodesEnum vs) (drop start bytes)
   content_rejected start mid tag r none =
       image_rejected (EncodesVariant vs) variant_means (drop start bytes)
       (then_rejected (encoding_at vs tag).encodes (EncodesVariant vs) (number_encoding 2) bytes start mid tag (unsigned_reads 2 bytes start mid tag r) none
@@ -47,7 +46,7 @@ module _ (vs : Variants) (bytes : List ℕ) where
   pub tag_rejected :
       (start : ℕ)
       → DecodesToNothing (EncodesUnsigned 2) (drop start bytes)
-      → DecodesToNothing (variants_of vs).encodes (drop start bytes)
+      → DecodesToNothing (EncodesEnum vs) (drop start bytes)
   tag_rejected start none =
       image_rejected (EncodesVariant vs) variant_means (drop start bytes)
       (first_rejected (EncodesNumber 2) (EncodesVariant vs) (drop start bytes) (unsigned_rejected 2 (drop start bytes) none)

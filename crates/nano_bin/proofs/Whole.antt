@@ -1,13 +1,13 @@
 -- What the reader of a whole input knows from what a reader at an offset answers.
 use Rattle.std.proofs.Common.{◌≡◌, ◌≢◌, ℕ, ◌<◌, List, [], ◌++◌, length, drop, sym, ◌∙◌, ap, arith}
 use Rattle.std.proofs.lemmas.List.{append-nil}
-use Rattle.nano_bytes.specs.declared.error.DeBinErr.{DeBinErr}
-use Rattle.nano_bytes.specs.declared.error.DeBinKind.TheVariants.{Memory, TrailingBytes}
-use Rattle.nano_bytes.specs.Errors.{rejection, kind_within, own_error}
-use Rattle.nano_bytes.specs.Reading.{DecodesTo, Decodes}
-use Rattle.nano_bin.specs.Encoding.{IsEncoding}
-use Rattle.nano_bin.specs.EncodingLaws.{same_prefixes}
-use Rattle.nano_bin.specs.Whole.{ReportsTrailing}
+use Rattle.nano_bin_bytes.specs.declared.error.DeBinErr.{DeBinErr}
+use Rattle.nano_bin_bytes.specs.declared.error.DeBinKind.TheVariants.{Memory, TrailingBytes}
+use Rattle.nano_bin_bytes.specs.Errors.{rejection, kind_within, own_error}
+use Rattle.nano_bin_bytes.specs.Reading.{DecodesTo, Decodes}
+use Rattle.nano_bin_bytes.specs.Encoding.{IsEncoding}
+use Rattle.nano_bin_bytes.proofs.EncodingLaws.{same_prefixes}
+use Rattle.nano_bin_bytes.specs.Whole.{ReportsTrailing}
 
 -- a value that all of the bytes encode decodes from them
 pub whole_decodes : {A : Type 0} (S : List ℕ → A → Type 0) (bytes : List ℕ) (x : A) → S bytes x → DecodesTo S bytes x

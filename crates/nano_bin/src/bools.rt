@@ -1,18 +1,19 @@
-//! Truth values: a byte, 0 or any other. The unit: no byte.
+//! Booleans: a byte, 0 or any other. The unit: no byte.
 
-ghost use Rattle.std.specs.Prelude.{◌≡◌, drop, refl, IfOk, IfErr, OnErr, IsOk};
+ghost use Rattle.std.specs.Prelude.{◌≡◌, refl, IfOk, IfErr, IsOk};
 ghost use Rattle.nano_value.specs.Meaning.{nothing, truth};
-ghost use Rattle.nano_value.specs.AgreesLaws.{agreed};
-ghost use Rattle.nano_bytes.specs.Reading.{Decodes, DecodesToNothing};
-ghost use Rattle.nano_bin.specs.BoolsLaws.{truths, units, truth_codec, unit_codec};
-ghost use Rattle.nano_bytes.specs.Errors.{IsTooShort};
+ghost use Rattle.nano_meaning.proofs.AgreesLaws.{agreed};
+ghost use Rattle.nano_bin_bytes.specs.Reading.{Decodes};
+ghost use Rattle.nano_bin_bytes.specs.Rejections.{ReadsNoneWhereShort};
+ghost use Rattle.nano_bin_bytes.specs.Bools.{EncodesBool, EncodesUnit};
+ghost use Rattle.nano_bin.specs.BoolCodecs.{boolean_codec, unit_codec};
 
 use crate::traits::{BinCodec, DeBin, SerBin};
-use nano_bytes::DeBinErr;
+use nano_bin_bytes::DeBinErr;
 use std::alloc::{AllocError, Global};
 
 impl BinCodec for bool {
-    ghost bin = { truth_codec };
+    ghost bin = { boolean_codec };
 
     ghost agrees = { agreed };
 }
@@ -30,10 +31,9 @@ impl DeBin for bool {
     /// Allocates nothing, and returns an error exactly if no byte is left.
     fn de_bin(alloc: Global, offset: &mut usize, bytes: &[u8]) -> Result<bool, DeBinErr>
         ensures ok { IfOk result (λ value.
-            Decodes truths.encodes bytes.now offset.old (truth value) offset.new) }
-        ensures err { IfErr result (λ e. DecodesToNothing truths.encodes (drop offset.old bytes.now)) }
-        ensures short { IfErr result (IsTooShort bytes.now offset.old 1) }
-        ensures unchanged { OnErr result (offset.new ≡ offset.old) }
+            Decodes EncodesBool bytes.now offset.old (truth value) offset.new) }
+        ensures err { IfErr result
+            (ReadsNoneWhereShort EncodesBool bytes.now offset.old offset.new offset.old 1) }
     {
         Ok(u8::de_bin(alloc, offset, bytes)? != 0)
     }
@@ -61,9 +61,8 @@ impl DeBin for () {
 
     /// Reads no byte, allocates nothing, and never returns an error.
     fn de_bin(alloc: Global, offset: &mut usize, bytes: &[u8]) -> Result<(), DeBinErr>
-        ensures ok { IsOk result }
-        ensures read { Decodes units.encodes bytes.now offset.old nothing offset.new }
-        ensures same { offset.new ≡ offset.old }
+        ensures ok { IsOk result × offset.new ≡ offset.old }
+        ensures read { Decodes EncodesUnit bytes.now offset.old nothing offset.new }
     {
         // No byte is read.
         Ok(())

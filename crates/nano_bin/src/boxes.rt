@@ -1,10 +1,10 @@
 //! Boxes: the content.
 
-ghost use Rattle.nano_value.specs.AgreesLaws.{seen_agrees};
-ghost use Rattle.nano_bin.specs.Codec.{codec_as};
+ghost use Rattle.nano_meaning.proofs.AgreesLaws.{seen_agrees};
+ghost use Rattle.nano_bin_bytes.specs.Codec.{codec_as};
 
 use crate::traits::{BinCodec, DeBin, SerBin};
-use nano_bytes::{DeBinErr, no_memory};
+use nano_bin_bytes::{DeBinErr, no_memory};
 use std::alloc::{AllocError, Global};
 
 impl<T: BinCodec> BinCodec for Box<T> {

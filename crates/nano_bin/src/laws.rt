@@ -2,17 +2,18 @@
 //!
 //! A caller in generic code that needs one of these facts calls the function; none of them does
 //! anything else.
-ghost use Rattle.std.specs.Prelude.{◌≡◌, ◌≢◌, ◌+◌, ◌++◌, ◌↔◌, ℕ, List, [], length, drop, IfOk};
-ghost use Rattle.std.specs.Prelude.{IfErr, OnErr};
+ghost use Rattle.std.specs.Prelude.{◌≡◌, ◌+◌, ◌++◌, ◌↔◌, ℕ, List, IfOk};
+ghost use Rattle.std.specs.Prelude.{IfErr};
 ghost use Rattle.nano_value.specs.Meaning.{Meaning};
-ghost use Rattle.nano_bytes.specs.declared.error.DeBinKind.{DeBinKind};
-ghost use Rattle.nano_bytes.specs.Reading.{DecodesTo};
+ghost use Rattle.nano_bin_bytes.specs.declared.error.DeBinKind.{DeBinKind};
+ghost use Rattle.nano_bin_bytes.specs.Reading.{DecodesTo};
 ghost use Rattle.nano_value.specs.Tables.{table_of};
-ghost use Rattle.nano_bin.specs.MapsLaws.{map_codec};
-ghost use Rattle.nano_bin.specs.Promises.{StandsAt, OneValue, NoneBeginsAnother};
+ghost use Rattle.nano_bin_bytes.specs.Maps.{written_entries};
+ghost use Rattle.nano_bin_bytes.specs.Promises.{StandsAt, ReadsBack, ReadsBothBack};
+ghost use Rattle.nano_bin_bytes.specs.Promises.{FailsForMemory, OneValue, NoneBeginsAnother};
 
 use crate::traits::{BinCodec, BothBin, DeBin, SerBin};
-use nano_bytes::DeBinErr;
+use nano_bin_bytes::DeBinErr;
 use nano_value::{Key, Value};
 use std::alloc::Global;
 use std::collections::{BTreeMap, BTreeSet, HashMap, HashSet};
@@ -26,16 +27,12 @@ pub fn read_back<T: BothBin>(
     offset: &mut usize,
     bytes: &[u8],
 ) -> Result<T, DeBinErr>
-    ensures same { IfOk result (λ read.
+    ensures ok { IfOk result (λ read.
         StandsAt (T.bin.canonical.written written.now) bytes.now offset.old
-        → T.means read ≡ T.means written.now) }
-    ensures moved { IfOk result (λ read.
-        StandsAt (T.bin.canonical.written written.now) bytes.now offset.old
-        → offset.new ≡ offset.old + length (T.bin.canonical.written written.now)) }
-    ensures memory { IfErr result (λ e.
-        StandsAt (T.bin.canonical.written written.now) bytes.now offset.old
-        → e.kind ≡ DeBinKind.Memory) }
-    ensures unchanged { OnErr result (offset.new ≡ offset.old) }
+        → ReadsBack (T.bin.canonical.written written.now) offset.old offset.new
+        (T.means written.now) (T.means read)) }
+    ensures err { IfErr result (FailsForMemory (T.bin.canonical.written written.now)
+        bytes.now offset.old offset.new) }
 {
     written.known();
     T::de_bin(alloc, offset, bytes)
@@ -61,24 +58,15 @@ pub fn read_both_back<A: BothBin, B: BothBin>(
     offset: &mut usize,
     bytes: &[u8],
 ) -> Result<(A, B), DeBinErr>
-    ensures first { IfOk result (λ read.
+    ensures ok { IfOk result (λ read.
         StandsAt (A.bin.canonical.written first.now ++ B.bin.canonical.written second.now)
         bytes.now offset.old
-        → A.means read.0 ≡ A.means first.now) }
-    ensures second { IfOk result (λ read.
-        StandsAt (A.bin.canonical.written first.now ++ B.bin.canonical.written second.now)
-        bytes.now offset.old
-        → B.means read.1 ≡ B.means second.now) }
-    ensures moved { IfOk result (λ read.
-        StandsAt (A.bin.canonical.written first.now ++ B.bin.canonical.written second.now)
-        bytes.now offset.old
-        → offset.new ≡ offset.old
-        + length (A.bin.canonical.written first.now ++ B.bin.canonical.written second.now)) }
-    ensures memory { IfErr result (λ e.
-        StandsAt (A.bin.canonical.written first.now ++ B.bin.canonical.written second.now)
-        bytes.now offset.old
-        → e.kind ≡ DeBinKind.Memory) }
-    ensures unchanged { OnErr result (offset.new ≡ offset.old) }
+        → ReadsBothBack (A.bin.canonical.written first.now ++ B.bin.canonical.written second.now)
+        offset.old offset.new
+        (A.means first.now) (B.means second.now) (A.means read.0) (B.means read.1)) }
+    ensures err { IfErr result (FailsForMemory
+        (A.bin.canonical.written first.now ++ B.bin.canonical.written second.now)
+        bytes.now offset.old offset.new) }
 {
     let mut at = *offset;
     let one = read_back(alloc, first, &mut at, bytes)?;
@@ -129,8 +117,8 @@ pub fn at_most_one_decodes<T: DeBin>()
 pub fn same_entries_same_bytes<K: BinCodec + Key, V: BinCodec>()
     ensures { (entries others : List (K × V)) →
         table_of K.means V.means entries ≡ table_of K.means V.means others →
-        (map_codec K.order K.bin V.bin).canonical.written entries
-        ≡ (map_codec K.order K.bin V.bin).canonical.written others }
+        written_entries K.order K.bin.canonical V.bin.canonical entries
+        ≡ written_entries K.order K.bin.canonical V.bin.canonical others }
 {}
 
 /// A hashed and an ordered set of the same items are written as the same bytes. The same bytes

@@ -3,7 +3,7 @@
 //!
 //! A value is written by [`SerBin`] and read by [`DeBin`]; a type that has both is [`BothBin`], and
 //! what it writes is read back at any offset, whatever bytes follow. The errors are those of
-//! `nano_bytes`, passed on.
+//! `nano_bin_bytes`, passed on.
 #![tactic(auto)]
 
 mod append;
@@ -24,5 +24,5 @@ mod tuples;
 mod unsigned;
 
 pub use append::append_part;
-pub use nano_bytes::{DeBinErr, DeBinKind};
+pub use nano_bin_bytes::{DeBinErr, DeBinKind};
 pub use traits::{BinCodec, BothBin, DeBin, SerBin};

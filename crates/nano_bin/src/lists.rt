@@ -1,18 +1,20 @@
 //! Vectors and linked lists: the count, and the items. Slices and arrays: the items, and no count.
 
-ghost use Rattle.std.specs.Prelude.{◌≡◌, ◌≤◌, ◌++◌, map, take, drop, length, IfOk, IfErr, OnOk};
+ghost use Rattle.std.specs.Prelude.{◌≡◌, ◌≤◌, ◌++◌, take, length, IfOk, IfErr, OnOk};
 ghost use Rattle.std.specs.Prelude.{OnErr};
 ghost use Rattle.std.specs.List.{flat_map};
-ghost use Rattle.nano_value.specs.AgreesLaws.{list_agrees, array_agrees, seen_agrees};
-ghost use Rattle.nano_bytes.specs.Reading.{Decodes, Rejects};
-ghost use Rattle.nano_bin.specs.Codec.{codec_as};
-ghost use Rattle.nano_bin.specs.Lists.{EncodesCount};
-ghost use Rattle.nano_bin.specs.ListsLaws.{list_codec, array_codec, slice_codec};
+ghost use Rattle.nano_meaning.proofs.AgreesLaws.{list_agrees, array_agrees, seen_agrees};
+ghost use Rattle.nano_bin_bytes.specs.Reading.{Decodes};
+ghost use Rattle.nano_bin_bytes.specs.Rejections.{ReadsNone};
+ghost use Rattle.nano_bin_bytes.specs.Codec.{codec_as};
+ghost use Rattle.nano_bin_bytes.specs.Lists.{EncodesAll};
+ghost use Rattle.nano_bin.specs.ListCodecs.{list_codec, array_codec, slice_codec};
 
 use crate::append::{append_count, append_part};
 use crate::read::read_count;
 use crate::traits::{BinCodec, DeBin, SerBin};
-use nano_bytes::{DeBinErr, no_memory};
+use nano_bin_bytes::{DeBinErr, no_memory};
+use nano_value::Collect;
 use std::alloc::{AllocError, Global};
 use std::collections::LinkedList;
 
@@ -61,6 +63,31 @@ impl<T: DeBin> DeBin for Vec<T> {
     }
 }
 
+/// Reads a count, and as many items, one after the other, into a collection.
+pub(crate) fn read_items<T: DeBin, C: Collect<T>>(
+    alloc: Global,
+    offset: &mut usize,
+    bytes: &[u8],
+) -> Result<C, DeBinErr>
+    ensures ok { IfOk result (λ items.
+        Decodes (EncodesAll C.whole T.bin.encoding.encodes) bytes.now offset.old
+        (C.means items) offset.new) }
+    ensures err { IfErr result (ReadsNone (EncodesAll C.whole T.bin.encoding.encodes)
+        bytes.now offset.old offset.new) }
+{
+    let mut at = *offset;
+    let count = read_count(alloc, &mut at, bytes)?;
+    let mut items = C::empty(alloc);
+    for _ in 0..count {
+        let item = T::de_bin(alloc, &mut at, bytes)?;
+        let Ok(()) = items.put(item) else {
+            return Err(no_memory(at, bytes));
+        };
+    }
+    *offset = at;
+    Ok(items)
+}
+
 impl<T: BinCodec> BinCodec for LinkedList<T> {
     ghost bin = { list_codec T.bin };
 
@@ -98,38 +125,8 @@ impl<T: DeBin> DeBin for LinkedList<T> {
     ghost is_decodable = { T.is_decodable };
 
     fn de_bin(alloc: Global, offset: &mut usize, bytes: &[u8]) -> Result<LinkedList<T>, DeBinErr> {
-        let mut at = *offset;
-        let count = read_count(alloc, &mut at, bytes)?;
-        let items = read_linked_list(alloc, count, &mut at, bytes)?;
-        *offset = at;
-        Ok(items)
+        read_items::<T, LinkedList<T>>(alloc, offset, bytes)
     }
-}
-
-/// Reads this many items, one after the other, into a linked list.
-fn read_linked_list<T: DeBin>(
-    alloc: Global,
-    count: usize,
-    offset: &mut usize,
-    bytes: &[u8],
-) -> Result<LinkedList<T>, DeBinErr>
-    ensures ok { IfOk result (λ items.
-        Decodes (EncodesCount count T.bin.encoding.encodes) bytes.now offset.old
-        (map T.means items) offset.new) }
-    ensures err { IfErr result
-        (Rejects (EncodesCount count T.bin.encoding.encodes) (drop offset.old bytes.now)) }
-    ensures unchanged { OnErr result (offset.new ≡ offset.old) }
-{
-    let mut at = *offset;
-    let mut items = LinkedList::new(alloc);
-    for _ in 0..count {
-        let item = T::de_bin(alloc, &mut at, bytes)?;
-        if items.push_back(item).is_err() {
-            return Err(no_memory(at, bytes));
-        }
-    }
-    *offset = at;
-    Ok(items)
 }
 
 impl<T: BinCodec> BinCodec for &[T] {

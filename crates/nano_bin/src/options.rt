@@ -1,11 +1,11 @@
 //! Options: any byte but 1; or the byte 1 and the item.
 
-ghost use Rattle.nano_value.specs.AgreesLaws.{option_agrees};
-ghost use Rattle.nano_bin.specs.OptionsLaws.{option_codec};
+ghost use Rattle.nano_meaning.proofs.AgreesLaws.{option_agrees};
+ghost use Rattle.nano_bin.specs.OptionCodecs.{option_codec};
 
 use crate::append::append_part;
 use crate::traits::{BinCodec, DeBin, SerBin};
-use nano_bytes::DeBinErr;
+use nano_bin_bytes::DeBinErr;
 use std::alloc::{AllocError, Global};
 
 impl<T: BinCodec> BinCodec for Option<T> {

@@ -1,24 +1,19 @@
 //! Ordered maps: the count, and keys with their values, in the order of the keys. A hashed map of
 //! the same entries is written alike.
 
-ghost use Rattle.std.specs.Prelude.{◌≡◌, ◌≤◌, ◌++◌, take, drop, length, IfOk, IfErr, OnOk, OnErr};
-ghost use Rattle.std.specs.BTreeMap.{IsOrdered};
+ghost use Rattle.std.specs.Prelude.{◌≡◌, ◌≤◌, ◌++◌, take, length, OnOk, OnErr};
 ghost use Rattle.std.specs.List.{flat_map};
 ghost use Rattle.nano_value.specs.Ascending.{ascending};
-ghost use Rattle.nano_value.specs.Tables.{table_of};
-ghost use Rattle.nano_value.specs.AgreesLaws.{ordered_map_agrees, seen_agrees};
-ghost use Rattle.nano_bytes.specs.Items.{EncodesCount};
-ghost use Rattle.nano_bytes.specs.Reading.{Rejects};
-ghost use Rattle.nano_bin.specs.Codec.{codec_as};
-ghost use Rattle.nano_bin.specs.CodecLaws.{both_are_read};
-ghost use Rattle.nano_bin.specs.Maps.{DecodesTable};
-ghost use Rattle.nano_bin.specs.OrderedMapsLaws.{ordered_map_codec};
-ghost use Rattle.nano_bin.specs.Tuples.{EncodesPair, written_pair};
+ghost use Rattle.nano_meaning.proofs.AgreesLaws.{ordered_map_agrees, seen_agrees};
+ghost use Rattle.nano_bin_bytes.specs.Codec.{codec_as};
+ghost use Rattle.nano_bin_bytes.proofs.CodecLaws.{both_are_read};
+ghost use Rattle.nano_bin.specs.OrderedMapCodecs.{ordered_map_codec};
+ghost use Rattle.nano_bin_bytes.specs.Tuples.{written_pair};
 
 use crate::append::{append_count, append_part};
-use crate::read::read_count;
+use crate::maps::read_entries;
 use crate::traits::{BinCodec, DeBin, SerBin};
-use nano_bytes::{DeBinErr, no_memory};
+use nano_bin_bytes::DeBinErr;
 use nano_value::{Key, OrderedKey};
 use std::alloc::{AllocError, Global};
 use std::collections::BTreeMap;
@@ -64,39 +59,6 @@ impl<K: DeBin + Key + Ord, V: DeBin> DeBin for BTreeMap<K, V> {
     ghost is_decodable = { both_are_read K.is_decodable V.is_decodable };
 
     fn de_bin(alloc: Global, offset: &mut usize, bytes: &[u8]) -> Result<BTreeMap<K, V>, DeBinErr> {
-        let mut at = *offset;
-        let count = read_count(alloc, &mut at, bytes)?;
-        let entries = read_btree_map(alloc, count, &mut at, bytes)?;
-        *offset = at;
-        Ok(entries)
+        read_entries::<K, V, BTreeMap<K, V>>(alloc, offset, bytes)
     }
-}
-
-/// Reads this many keys with their values, one after the other, into a map. A key that comes
-/// again takes its last value.
-fn read_btree_map<K: DeBin + Key + Ord, V: DeBin>(
-    alloc: Global,
-    count: usize,
-    offset: &mut usize,
-    bytes: &[u8],
-) -> Result<BTreeMap<K, V>, DeBinErr>
-    ensures ok { IfOk result (λ entries.
-        DecodesTable K.bin.encoding.encodes V.bin.encoding.encodes count bytes.now offset.old
-        (table_of K.means V.means entries.entries) offset.new) }
-    ensures ordered { IfOk result (IsOrdered K.cmp) }
-    ensures err { IfErr result
-        (Rejects (EncodesCount count (EncodesPair K.bin.encoding.encodes V.bin.encoding.encodes))
-        (drop offset.old bytes.now)) }
-    ensures unchanged { OnErr result (offset.new ≡ offset.old) }
-{
-    let mut at = *offset;
-    let mut entries = BTreeMap::new(alloc);
-    for _ in 0..count {
-        let (key, value) = <(K, V)>::de_bin(alloc, &mut at, bytes)?;
-        if entries.insert(key, value).is_err() {
-            return Err(no_memory(at, bytes));
-        }
-    }
-    *offset = at;
-    Ok(entries)
 }

@@ -1,23 +1,17 @@
 //! Sets, hashed and ordered: the count, and the items in order.
 
-ghost use Rattle.std.specs.Prelude.{◌≡◌, ◌≤◌, ◌++◌, map, take, drop, length, IfOk, IfErr, OnOk};
-ghost use Rattle.std.specs.Prelude.{OnErr};
+ghost use Rattle.std.specs.Prelude.{◌≡◌, ◌≤◌, ◌++◌, map, take, length, OnOk, OnErr};
 ghost use Rattle.std.specs.List.{flat_map};
 ghost use Rattle.std.specs.Map.Iter.{deref};
-ghost use Rattle.std.specs.BTreeSet.{IsOrdered};
-ghost use Rattle.nano_value.specs.Sets.{item_set};
 ghost use Rattle.nano_value.specs.InOrder.{ascending_items};
-ghost use Rattle.nano_value.specs.AgreesLaws.{set_agrees, ordered_agrees, seen_agrees};
-ghost use Rattle.nano_bytes.specs.Reading.{Rejects};
-ghost use Rattle.nano_bin.specs.Codec.{codec_as};
-ghost use Rattle.nano_bytes.specs.Items.{EncodesCount};
-ghost use Rattle.nano_bin.specs.Sets.{DecodesSet};
-ghost use Rattle.nano_bin.specs.SetsLaws.{set_codec, ordered_codec};
+ghost use Rattle.nano_meaning.proofs.AgreesLaws.{set_agrees, ordered_agrees, seen_agrees};
+ghost use Rattle.nano_bin_bytes.specs.Codec.{codec_as};
+ghost use Rattle.nano_bin.specs.SetCodecs.{set_codec, ordered_codec};
 
 use crate::append::{append_count, append_part};
-use crate::read::read_count;
+use crate::lists::read_items;
 use crate::traits::{BinCodec, DeBin, SerBin};
-use nano_bytes::{DeBinErr, no_memory};
+use nano_bin_bytes::DeBinErr;
 use nano_value::{Key, OrderedKey, items_in_order};
 use std::alloc::{AllocError, Global};
 use std::collections::{BTreeSet, HashSet};
@@ -62,38 +56,8 @@ impl<T: DeBin + Key + Hash> DeBin for HashSet<T> {
     ghost is_decodable = { T.is_decodable };
 
     fn de_bin(alloc: Global, offset: &mut usize, bytes: &[u8]) -> Result<HashSet<T>, DeBinErr> {
-        let mut at = *offset;
-        let count = read_count(alloc, &mut at, bytes)?;
-        let items = read_hash_set(alloc, count, &mut at, bytes)?;
-        *offset = at;
-        Ok(items)
+        read_items::<T, HashSet<T>>(alloc, offset, bytes)
     }
-}
-
-/// Reads this many items, one after the other, into a set.
-fn read_hash_set<T: DeBin + Key + Hash>(
-    alloc: Global,
-    count: usize,
-    offset: &mut usize,
-    bytes: &[u8],
-) -> Result<HashSet<T>, DeBinErr>
-    ensures ok { IfOk result (λ items.
-        DecodesSet T.bin.encoding.encodes count bytes.now offset.old
-        (item_set T.means items.keys) offset.new) }
-    ensures err { IfErr result
-        (Rejects (EncodesCount count T.bin.encoding.encodes) (drop offset.old bytes.now)) }
-    ensures unchanged { OnErr result (offset.new ≡ offset.old) }
-{
-    let mut at = *offset;
-    let mut items = HashSet::new(alloc);
-    for _ in 0..count {
-        let item = T::de_bin(alloc, &mut at, bytes)?;
-        if items.insert(item).is_err() {
-            return Err(no_memory(at, bytes));
-        }
-    }
-    *offset = at;
-    Ok(items)
 }
 
 impl<T: BinCodec + Key + Ord> BinCodec for BTreeSet<T> {
@@ -134,37 +98,6 @@ impl<T: DeBin + Key + Ord> DeBin for BTreeSet<T> {
     ghost is_decodable = { T.is_decodable };
 
     fn de_bin(alloc: Global, offset: &mut usize, bytes: &[u8]) -> Result<BTreeSet<T>, DeBinErr> {
-        let mut at = *offset;
-        let count = read_count(alloc, &mut at, bytes)?;
-        let items = read_btree_set(alloc, count, &mut at, bytes)?;
-        *offset = at;
-        Ok(items)
+        read_items::<T, BTreeSet<T>>(alloc, offset, bytes)
     }
-}
-
-/// Reads this many items, one after the other, into a set.
-fn read_btree_set<T: DeBin + Key + Ord>(
-    alloc: Global,
-    count: usize,
-    offset: &mut usize,
-    bytes: &[u8],
-) -> Result<BTreeSet<T>, DeBinErr>
-    ensures ok { IfOk result (λ items.
-        DecodesSet T.bin.encoding.encodes count bytes.now offset.old
-        (item_set T.means items.keys) offset.new) }
-    ensures ordered { IfOk result (IsOrdered T.cmp) }
-    ensures err { IfErr result
-        (Rejects (EncodesCount count T.bin.encoding.encodes) (drop offset.old bytes.now)) }
-    ensures unchanged { OnErr result (offset.new ≡ offset.old) }
-{
-    let mut at = *offset;
-    let mut items = BTreeSet::new(alloc);
-    for _ in 0..count {
-        let item = T::de_bin(alloc, &mut at, bytes)?;
-        if items.insert(item).is_err() {
-            return Err(no_memory(at, bytes));
-        }
-    }
-    *offset = at;
-    Ok(items)
 }

@@ -1,16 +1,18 @@
 //! Signed integers: two's complement, the lowest byte first.
 
-ghost use Rattle.std.specs.Prelude.{◌≡◌, drop, refl, IfOk, IfErr, OnErr};
+ghost use Rattle.std.specs.Prelude.{refl, IfOk, IfErr};
 ghost use Rattle.std.specs.Int.{w8, w16, w32, w64, w128};
 ghost use Rattle.nano_value.specs.Meaning.{number};
-ghost use Rattle.nano_value.specs.AgreesLaws.{agreed};
-ghost use Rattle.nano_bytes.specs.Reading.{Decodes, DecodesToNothing};
-ghost use Rattle.nano_bin.specs.NumbersLaws.{EncodesSigned, signed_codec, bits_fit_8, bits_fit_16};
-ghost use Rattle.nano_bin.specs.NumbersLaws.{bits_fit_32, bits_fit_64, bits_fit_128};
-ghost use Rattle.nano_bytes.specs.Errors.{IsTooShort};
+ghost use Rattle.nano_meaning.proofs.AgreesLaws.{agreed};
+ghost use Rattle.nano_bin_bytes.specs.Reading.{Decodes};
+ghost use Rattle.nano_bin_bytes.specs.Rejections.{ReadsNoneWhereShort};
+ghost use Rattle.nano_bin_bytes.specs.Numbers.{EncodesSigned};
+ghost use Rattle.nano_bin.specs.NumberCodecs.{signed_codec};
+ghost use Rattle.nano_bin_bytes.proofs.NumbersLaws.{bits_fit_8, bits_fit_16};
+ghost use Rattle.nano_bin_bytes.proofs.NumbersLaws.{bits_fit_32, bits_fit_64, bits_fit_128};
 
 use crate::traits::{BinCodec, DeBin, SerBin};
-use nano_bytes::{DeBinErr, append_number, append_run, read_number, read_run};
+use nano_bin_bytes::{DeBinErr, append_number, append_run, read_number, read_run};
 use std::alloc::{AllocError, Global};
 
 impl BinCodec for i8 {
@@ -36,10 +38,8 @@ impl DeBin for i8 {
     fn de_bin(alloc: Global, offset: &mut usize, bytes: &[u8]) -> Result<i8, DeBinErr>
         ensures ok { IfOk result (λ value.
             Decodes (EncodesSigned w8 1) bytes.now offset.old (number value) offset.new) }
-        ensures err { IfErr result (λ e.
-            DecodesToNothing (EncodesSigned w8 1) (drop offset.old bytes.now)) }
-        ensures short { IfErr result (IsTooShort bytes.now offset.old 1) }
-        ensures unchanged { OnErr result (offset.new ≡ offset.old) }
+        ensures err { IfErr result
+            (ReadsNoneWhereShort (EncodesSigned w8 1) bytes.now offset.old offset.new offset.old 1) }
     {
         read_number::<i8, 1>(offset, bytes)
     }
@@ -77,10 +77,8 @@ impl DeBin for i16 {
     fn de_bin(alloc: Global, offset: &mut usize, bytes: &[u8]) -> Result<i16, DeBinErr>
         ensures ok { IfOk result (λ value.
             Decodes (EncodesSigned w16 2) bytes.now offset.old (number value) offset.new) }
-        ensures err { IfErr result (λ e.
-            DecodesToNothing (EncodesSigned w16 2) (drop offset.old bytes.now)) }
-        ensures short { IfErr result (IsTooShort bytes.now offset.old 2) }
-        ensures unchanged { OnErr result (offset.new ≡ offset.old) }
+        ensures err { IfErr result
+            (ReadsNoneWhereShort (EncodesSigned w16 2) bytes.now offset.old offset.new offset.old 2) }
     {
         read_number::<i16, 2>(offset, bytes)
     }
@@ -118,10 +116,8 @@ impl DeBin for i32 {
     fn de_bin(alloc: Global, offset: &mut usize, bytes: &[u8]) -> Result<i32, DeBinErr>
         ensures ok { IfOk result (λ value.
             Decodes (EncodesSigned w32 4) bytes.now offset.old (number value) offset.new) }
-        ensures err { IfErr result (λ e.
-            DecodesToNothing (EncodesSigned w32 4) (drop offset.old bytes.now)) }
-        ensures short { IfErr result (IsTooShort bytes.now offset.old 4) }
-        ensures unchanged { OnErr result (offset.new ≡ offset.old) }
+        ensures err { IfErr result
+            (ReadsNoneWhereShort (EncodesSigned w32 4) bytes.now offset.old offset.new offset.old 4) }
     {
         read_number::<i32, 4>(offset, bytes)
     }
@@ -159,10 +155,8 @@ impl DeBin for i64 {
     fn de_bin(alloc: Global, offset: &mut usize, bytes: &[u8]) -> Result<i64, DeBinErr>
         ensures ok { IfOk result (λ value.
             Decodes (EncodesSigned w64 8) bytes.now offset.old (number value) offset.new) }
-        ensures err { IfErr result (λ e.
-            DecodesToNothing (EncodesSigned w64 8) (drop offset.old bytes.now)) }
-        ensures short { IfErr result (IsTooShort bytes.now offset.old 8) }
-        ensures unchanged { OnErr result (offset.new ≡ offset.old) }
+        ensures err { IfErr result
+            (ReadsNoneWhereShort (EncodesSigned w64 8) bytes.now offset.old offset.new offset.old 8) }
     {
         read_number::<i64, 8>(offset, bytes)
     }
@@ -204,10 +198,8 @@ impl DeBin for i128 {
     fn de_bin(alloc: Global, offset: &mut usize, bytes: &[u8]) -> Result<i128, DeBinErr>
         ensures ok { IfOk result (λ value.
             Decodes (EncodesSigned w128 16) bytes.now offset.old (number value) offset.new) }
-        ensures err { IfErr result (λ e.
-            DecodesToNothing (EncodesSigned w128 16) (drop offset.old bytes.now)) }
-        ensures short { IfErr result (IsTooShort bytes.now offset.old 16) }
-        ensures unchanged { OnErr result (offset.new ≡ offset.old) }
+        ensures err { IfErr result
+            (ReadsNoneWhereShort (EncodesSigned w128 16) bytes.now offset.old offset.new offset.old 16) }
     {
         read_number::<i128, 16>(offset, bytes)
     }

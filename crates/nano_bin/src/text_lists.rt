@@ -1,13 +1,13 @@
 //! Many texts at a time: short ones are gathered and appended at once, so that most of them cost no
 //! test of the capacity.
 
-ghost use Rattle.std.specs.Prelude.{◌≡◌, ◌+◌, ◌≤◌, ◌<◌, ◌++◌, take, length, string_bytes, IfOk};
+ghost use Rattle.std.specs.Prelude.{◌≡◌, ◌+◌, ◌≤◌, ◌<◌, ◌++◌, take, length, IfOk};
 ghost use Rattle.std.specs.Prelude.{OnOk, OnErr};
 ghost use Rattle.std.specs.List.{flat_map};
-ghost use Rattle.nano_bin.specs.Texts.{written_text};
-ghost use Rattle.nano_bin.specs.TextsLaws.{string_codec};
+ghost use Rattle.nano_bin_bytes.specs.Texts.{written_text, written_string};
+ghost use Rattle.nano_bin.specs.TextBlocks.{AppendsSome, Gathers, PutsText};
 
-use nano_bytes::{FixedWidth, append_bytes_after};
+use nano_bin_bytes::{FixedWidth, append_bytes_after};
 use std::alloc::AllocError;
 
 /// So many bytes are gathered before they are appended.
@@ -20,7 +20,7 @@ const LENGTH: usize = 8;
 /// Appends texts, one after the other. On error, `output` is unchanged.
 pub(crate) fn append_texts(texts: &[String], output: &mut Vec<u8>) -> Result<(), AllocError>
     ensures ok { OnOk result
-        (output.new.items ≡ output.old.items ++ flat_map string_codec.canonical.written texts.now) }
+        (output.new.items ≡ output.old.items ++ flat_map written_string texts.now) }
     ensures err { OnErr result (output.new.items ≡ output.old.items) }
 {
     if texts.len() < MANY {
@@ -33,7 +33,7 @@ pub(crate) fn append_texts(texts: &[String], output: &mut Vec<u8>) -> Result<(),
 /// Appends each text by itself. On error, `output` is unchanged.
 fn append_each(texts: &[String], output: &mut Vec<u8>) -> Result<(), AllocError>
     ensures ok { OnOk result
-        (output.new.items ≡ output.old.items ++ flat_map string_codec.canonical.written texts.now) }
+        (output.new.items ≡ output.old.items ++ flat_map written_string texts.now) }
     ensures err { OnErr result (output.new.items ≡ output.old.items) }
 {
     let start = output.len();
@@ -47,7 +47,7 @@ fn append_each(texts: &[String], output: &mut Vec<u8>) -> Result<(), AllocError>
 /// is unchanged.
 fn append_blocks(texts: &[String], output: &mut Vec<u8>) -> Result<(), AllocError>
     ensures ok { OnOk result
-        (output.new.items ≡ output.old.items ++ flat_map string_codec.canonical.written texts.now) }
+        (output.new.items ≡ output.old.items ++ flat_map written_string texts.now) }
     ensures err { OnErr result (output.new.items ≡ output.old.items) }
 {
     let start = output.len();
@@ -78,12 +78,8 @@ fn append_some(
     output: &mut Vec<u8>,
     start: usize,
 ) -> Result<usize, AllocError>
-    requires any { 0 < length texts.now }
-    requires within { start ≤ length output.old.items }
-    ensures some { IfOk result (λ count. 0 < count) }
-    ensures within { IfOk result (λ count. count ≤ length texts.now) }
-    ensures ok { IfOk result (λ count. output.new.items ≡ output.old.items
-        ++ flat_map string_codec.canonical.written (take count texts.now)) }
+    requires { 0 < length texts.now × start ≤ length output.old.items }
+    ensures ok { IfOk result (AppendsSome texts.now output.old.items output.new.items) }
     ensures err { OnErr result (output.new.items ≡ take start output.old.items) }
 {
     let (count, end) = gather(texts, bytes);
@@ -98,10 +94,7 @@ fn append_some(
 /// Puts texts from the first on into a block, as many as fit. Returns how many, and the place
 /// after them.
 fn gather(texts: &[String], bytes: &mut [u8; BLOCK]) -> (usize, usize)
-    ensures within { result.0 ≤ length texts.now }
-    ensures end { result.1 ≤ BLOCK }
-    ensures gathered { take result.1 bytes.new
-        ≡ flat_map string_codec.canonical.written (take result.0 texts.now) }
+    ensures { Gathers BLOCK texts.now result.0 bytes.new result.1 }
 {
     let mut place = 0;
     for (count, text) in texts.iter().enumerate() {
@@ -117,8 +110,7 @@ fn gather(texts: &[String], bytes: &mut [u8; BLOCK]) -> (usize, usize)
 #[inline(always)]
 fn put_text(text: &[u8], place: usize, bytes: &mut [u8; BLOCK]) -> usize
     requires { place + 8 + length text.now ≤ BLOCK }
-    ensures end { result ≡ place + 8 + length text.now }
-    ensures put { take result bytes.new ≡ take place bytes.old ++ written_text text.now }
+    ensures { PutsText text.now place bytes.old bytes.new result }
 {
     let start = place + LENGTH;
     let end = start + text.len();

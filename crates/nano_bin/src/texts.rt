@@ -2,19 +2,19 @@
 //! Reader and writer are inlined, so a value that is read passes through no result with space
 //! for an error.
 
-ghost use Rattle.std.specs.Prelude.{◌≡◌, ◌≢◌, drop, refl, string_bytes, IfOk, IfErr, OnErr};
+ghost use Rattle.std.specs.Prelude.{refl, string_bytes, IfOk, IfErr};
 ghost use Rattle.nano_value.specs.Meaning.{text};
-ghost use Rattle.nano_value.specs.AgreesLaws.{agreed};
-ghost use Rattle.nano_bytes.specs.declared.error.DeBinKind.{DeBinKind};
-ghost use Rattle.nano_bytes.specs.Reading.{Decodes, Rejects};
-ghost use Rattle.nano_bin.specs.TextsLaws.{texts, string_codec};
-ghost use Rattle.nano_bytes.specs.Errors.{IsTextRejection};
+ghost use Rattle.nano_meaning.proofs.AgreesLaws.{agreed};
+ghost use Rattle.nano_bin_bytes.specs.Reading.{Decodes};
+ghost use Rattle.nano_bin_bytes.specs.Rejections.{ReadsNoString};
+ghost use Rattle.nano_bin_bytes.specs.Texts.{EncodesString};
+ghost use Rattle.nano_bin.specs.TextCodecs.{string_codec};
 
 use crate::append::append_count;
 use crate::read::read_count;
 use crate::text_lists::append_texts;
 use crate::traits::{BinCodec, DeBin, SerBin};
-use nano_bytes::{DeBinErr, append_bytes_after, read_utf8};
+use nano_bin_bytes::{DeBinErr, append_bytes_after, read_utf8};
 use std::alloc::{AllocError, Global};
 
 impl BinCodec for String {
@@ -47,11 +47,8 @@ impl DeBin for String {
     #[inline(always)]
     fn de_bin(alloc: Global, offset: &mut usize, bytes: &[u8]) -> Result<String, DeBinErr>
         ensures ok { IfOk result (λ value.
-            Decodes texts.encodes bytes.now offset.old (text (string_bytes value)) offset.new) }
-        ensures err { IfErr result (Rejects texts.encodes (drop offset.old bytes.now)) }
-        ensures when { IfErr result (λ e.
-            e.kind ≢ DeBinKind.Memory → IsTextRejection bytes.now offset.old e) }
-        ensures unchanged { OnErr result (offset.new ≡ offset.old) }
+            Decodes EncodesString bytes.now offset.old (text (string_bytes value)) offset.new) }
+        ensures err { IfErr result (ReadsNoString bytes.now offset.old offset.new) }
     {
         let mut at = *offset;
         let count = read_count(alloc, &mut at, bytes)?;

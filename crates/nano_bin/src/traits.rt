@@ -1,13 +1,13 @@
 //! The format of a type, its writer and its reader.
 
-use nano_bytes::{DeBinErr, as_value_error, no_memory, trailing_bytes};
+use nano_bin_bytes::{DeBinErr, as_value_error, no_memory, trailing_bytes};
 use nano_value::Value;
 use std::alloc::{AllocError, Global};
 
-/// A value that stands as bytes. A type that is only written has a format too.
+/// A type that has an encoding as bytes. A type that is only written has one too.
 pub trait BinCodec: Value {
     ghost use Rattle.nano_value.specs.Agrees.{Agrees};
-    ghost use Rattle.nano_bin.specs.Codec.{Codec};
+    ghost use Rattle.nano_bin_bytes.specs.Codec.{Codec};
 
     /// The canonical encoding of each value, and which bytes encode which meaning.
     ghost bin: { Codec Self };
@@ -81,10 +81,11 @@ pub trait SerBin: BinCodec {
 
 /// A value that can be read from bytes.
 pub trait DeBin: BinCodec + Drop {
-    ghost use Rattle.std.specs.Prelude.{◌≡◌, true, map, drop, IfOk, IfErr, OnErr};
-    ghost use Rattle.nano_bytes.specs.Reading.{DecodesTo, Decodes, Rejects};
-    ghost use Rattle.nano_bytes.specs.Items.{EncodesCount};
-    ghost use Rattle.nano_bin.specs.Whole.{RejectsWhole, IsOfTrailing, NamesTrailing};
+    ghost use Rattle.std.specs.Prelude.{◌≡◌, true, map, IfOk, IfErr};
+    ghost use Rattle.nano_bin_bytes.specs.Reading.{DecodesTo, Decodes, Rejects};
+    ghost use Rattle.nano_bin_bytes.specs.Rejections.{ReadsNone};
+    ghost use Rattle.nano_bin_bytes.specs.Items.{EncodesCount};
+    ghost use Rattle.nano_bin_bytes.specs.Whole.{RejectsWhole, IsOfTrailing, NamesTrailing};
 
     /// Reads the value that a prefix of the bytes from `offset` on encodes, and sets `offset`
     /// after that prefix.
@@ -105,8 +106,8 @@ pub trait DeBin: BinCodec + Drop {
     fn de_bin(alloc: Global, offset: &mut usize, bytes: &[u8]) -> Result<Self, DeBinErr>
         ensures ok { IfOk result (λ value.
             Decodes Self.bin.encoding.encodes bytes.now offset.old (Self.means value) offset.new) }
-        ensures err { IfErr result (Rejects Self.bin.encoding.encodes (drop offset.old bytes.now)) }
-        ensures unchanged { OnErr result (offset.new ≡ offset.old) };
+        ensures err { IfErr result
+            (ReadsNone Self.bin.encoding.encodes bytes.now offset.old offset.new) };
 
     /// Reads the value that a prefix of `d` encodes. More bytes may follow it.
     ///
@@ -178,9 +179,8 @@ pub trait DeBin: BinCodec + Drop {
         ensures ok { IfOk result (λ items.
             Decodes (EncodesCount count Self.bin.encoding.encodes) bytes.now offset.old
             (map Self.means items.items) offset.new) }
-        ensures err { IfErr result
-            (Rejects (EncodesCount count Self.bin.encoding.encodes) (drop offset.old bytes.now)) }
-        ensures unchanged { OnErr result (offset.new ≡ offset.old) }
+        ensures err { IfErr result (ReadsNone (EncodesCount count Self.bin.encoding.encodes)
+            bytes.now offset.old offset.new) }
     {
         let mut at = *offset;
         let mut items = Vec::new(alloc);

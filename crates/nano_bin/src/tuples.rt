@@ -1,14 +1,14 @@
 //! Tuples: one part after the other. A longer tuple is its first part and the tuple of the
 //! others.
 
-ghost use Rattle.nano_value.specs.AgreesLaws.{pair_agrees, seen_agrees};
-ghost use Rattle.nano_bin.specs.Codec.{codec_as};
-ghost use Rattle.nano_bin.specs.CodecLaws.{both_are_read};
-ghost use Rattle.nano_bin.specs.TuplesLaws.{pair_codec};
+ghost use Rattle.nano_meaning.proofs.AgreesLaws.{pair_agrees, seen_agrees};
+ghost use Rattle.nano_bin_bytes.specs.Codec.{codec_as};
+ghost use Rattle.nano_bin_bytes.proofs.CodecLaws.{both_are_read};
+ghost use Rattle.nano_bin.specs.TupleCodecs.{pair_codec};
 
 use crate::append::append_part;
 use crate::traits::{BinCodec, DeBin, SerBin};
-use nano_bytes::DeBinErr;
+use nano_bin_bytes::DeBinErr;
 use std::alloc::{AllocError, Global};
 
 impl<A: BinCodec, B: BinCodec> BinCodec for (A, B) {

@@ -1,14 +1,15 @@
 //! Unsigned integers: the lowest byte first.
 
-ghost use Rattle.std.specs.Prelude.{◌≡◌, drop, refl, IfOk, IfErr, OnErr};
+ghost use Rattle.std.specs.Prelude.{refl, IfOk, IfErr};
 ghost use Rattle.nano_value.specs.Meaning.{whole};
-ghost use Rattle.nano_value.specs.AgreesLaws.{agreed};
-ghost use Rattle.nano_bytes.specs.Reading.{Decodes, DecodesToNothing};
-ghost use Rattle.nano_bin.specs.NumbersLaws.{EncodesUnsigned, unsigned_codec};
-ghost use Rattle.nano_bytes.specs.Errors.{IsTooShort};
+ghost use Rattle.nano_meaning.proofs.AgreesLaws.{agreed};
+ghost use Rattle.nano_bin_bytes.specs.Reading.{Decodes};
+ghost use Rattle.nano_bin_bytes.specs.Rejections.{ReadsNoneWhereShort};
+ghost use Rattle.nano_bin_bytes.specs.Numbers.{EncodesUnsigned};
+ghost use Rattle.nano_bin.specs.NumberCodecs.{unsigned_codec};
 
 use crate::traits::{BinCodec, DeBin, SerBin};
-use nano_bytes::{
+use nano_bin_bytes::{
     DeBinErr, append_bytes, append_number, append_run, no_memory, read_bytes, read_number, read_run,
 };
 use std::alloc::{AllocError, Global};
@@ -20,7 +21,7 @@ impl BinCodec for u8 {
 }
 
 impl SerBin for u8 {
-    #[tactic(auto, using(nano_bytes::specs::LittleEndianLaws::little_byte))]
+    #[tactic(auto, using(nano_bin_bytes::proofs::LittleEndianLaws::little_byte))]
     fn ser_bin(&self, alloc: Global, output: &mut Vec<u8>) -> Result<(), AllocError> {
         match output.push(*self) {
             Ok(()) => Ok(()),
@@ -40,10 +41,8 @@ impl DeBin for u8 {
     fn de_bin(alloc: Global, offset: &mut usize, bytes: &[u8]) -> Result<u8, DeBinErr>
         ensures ok { IfOk result (λ value.
             Decodes (EncodesUnsigned 1) bytes.now offset.old (whole value) offset.new) }
-        ensures err { IfErr result (λ e.
-            DecodesToNothing (EncodesUnsigned 1) (drop offset.old bytes.now)) }
-        ensures short { IfErr result (IsTooShort bytes.now offset.old 1) }
-        ensures unchanged { OnErr result (offset.new ≡ offset.old) }
+        ensures err { IfErr result
+            (ReadsNoneWhereShort (EncodesUnsigned 1) bytes.now offset.old offset.new offset.old 1) }
     {
         read_number::<u8, 1>(offset, bytes)
     }
@@ -87,10 +86,8 @@ impl DeBin for u16 {
     fn de_bin(alloc: Global, offset: &mut usize, bytes: &[u8]) -> Result<u16, DeBinErr>
         ensures ok { IfOk result (λ value.
             Decodes (EncodesUnsigned 2) bytes.now offset.old (whole value) offset.new) }
-        ensures err { IfErr result (λ e.
-            DecodesToNothing (EncodesUnsigned 2) (drop offset.old bytes.now)) }
-        ensures short { IfErr result (IsTooShort bytes.now offset.old 2) }
-        ensures unchanged { OnErr result (offset.new ≡ offset.old) }
+        ensures err { IfErr result
+            (ReadsNoneWhereShort (EncodesUnsigned 2) bytes.now offset.old offset.new offset.old 2) }
     {
         read_number::<u16, 2>(offset, bytes)
     }
@@ -128,10 +125,8 @@ impl DeBin for u32 {
     fn de_bin(alloc: Global, offset: &mut usize, bytes: &[u8]) -> Result<u32, DeBinErr>
         ensures ok { IfOk result (λ value.
             Decodes (EncodesUnsigned 4) bytes.now offset.old (whole value) offset.new) }
-        ensures err { IfErr result (λ e.
-            DecodesToNothing (EncodesUnsigned 4) (drop offset.old bytes.now)) }
-        ensures short { IfErr result (IsTooShort bytes.now offset.old 4) }
-        ensures unchanged { OnErr result (offset.new ≡ offset.old) }
+        ensures err { IfErr result
+            (ReadsNoneWhereShort (EncodesUnsigned 4) bytes.now offset.old offset.new offset.old 4) }
     {
         read_number::<u32, 4>(offset, bytes)
     }
@@ -169,10 +164,8 @@ impl DeBin for u64 {
     fn de_bin(alloc: Global, offset: &mut usize, bytes: &[u8]) -> Result<u64, DeBinErr>
         ensures ok { IfOk result (λ value.
             Decodes (EncodesUnsigned 8) bytes.now offset.old (whole value) offset.new) }
-        ensures err { IfErr result (λ e.
-            DecodesToNothing (EncodesUnsigned 8) (drop offset.old bytes.now)) }
-        ensures short { IfErr result (IsTooShort bytes.now offset.old 8) }
-        ensures unchanged { OnErr result (offset.new ≡ offset.old) }
+        ensures err { IfErr result
+            (ReadsNoneWhereShort (EncodesUnsigned 8) bytes.now offset.old offset.new offset.old 8) }
     {
         read_number::<u64, 8>(offset, bytes)
     }
@@ -214,10 +207,8 @@ impl DeBin for usize {
     fn de_bin(alloc: Global, offset: &mut usize, bytes: &[u8]) -> Result<usize, DeBinErr>
         ensures ok { IfOk result (λ value.
             Decodes (EncodesUnsigned 8) bytes.now offset.old (whole value) offset.new) }
-        ensures err { IfErr result (λ e.
-            DecodesToNothing (EncodesUnsigned 8) (drop offset.old bytes.now)) }
-        ensures short { IfErr result (IsTooShort bytes.now offset.old 8) }
-        ensures unchanged { OnErr result (offset.new ≡ offset.old) }
+        ensures err { IfErr result
+            (ReadsNoneWhereShort (EncodesUnsigned 8) bytes.now offset.old offset.new offset.old 8) }
     {
         read_number::<usize, 8>(offset, bytes)
     }
@@ -259,10 +250,8 @@ impl DeBin for u128 {
     fn de_bin(alloc: Global, offset: &mut usize, bytes: &[u8]) -> Result<u128, DeBinErr>
         ensures ok { IfOk result (λ value.
             Decodes (EncodesUnsigned 16) bytes.now offset.old (whole value) offset.new) }
-        ensures err { IfErr result (λ e.
-            DecodesToNothing (EncodesUnsigned 16) (drop offset.old bytes.now)) }
-        ensures short { IfErr result (IsTooShort bytes.now offset.old 16) }
-        ensures unchanged { OnErr result (offset.new ≡ offset.old) }
+        ensures err { IfErr result
+            (ReadsNoneWhereShort (EncodesUnsigned 16) bytes.now offset.old offset.new offset.old 16) }
     {
         read_number::<u128, 16>(offset, bytes)
     }

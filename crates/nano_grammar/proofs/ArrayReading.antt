@@ -1,6 +1,6 @@
 -- What the reader of an array knows: so many items, and then the closing bracket.
 use Rattle.std.proofs.Common.{◌≡◌, ◌≢◌, ℕ, ◌<◌, List, [], ◌∷◌, ◌++◌, length, length-append, subst, ◌∙◌, arith}
-use Rattle.nano_grammar.specs.CutLaws.{CutLaws}
+use Rattle.nano_grammar.proofs.CutLaws.{CutLaws}
 use Rattle.nano_grammar.specs.Cutting.{Cutting}
 use Rattle.nano_grammar.specs.Items.{ListPunctuation, EncodedItems}
 use Rattle.nano_grammar.specs.Lists.{EncodesCount}

@@ -3,7 +3,7 @@ use Rattle.std.specs.List.{flat_map}
 use Rattle.std.proofs.Common.{◌≡◌, ◌≢◌, ◌⊎◌, inl, inr, List, [], ◌∷◌, ◌++◌, refl, ap, sym, ◌∙◌}
 use Rattle.std.proofs.Common.{subst, append_assoc}
 use Rattle.nano_grammar.specs.Items.{ListPunctuation, EncodedItems, EncodedList}
-use Rattle.nano_grammar.specs.ItemsLaws.{EncodedAfter}
+use Rattle.nano_grammar.proofs.ItemsLaws.{EncodedAfter}
 use Rattle.nano_grammar.specs.Promises.{joined, EncodeEach, JoinedList, ListsAreJoined}
 
 module _ {T V : Type 0} (punctuation : ListPunctuation T) (encodes : List T → V → Type 0) where

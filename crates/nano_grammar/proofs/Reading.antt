@@ -3,11 +3,11 @@ use Rattle.std.proofs.Common.{◌≡◌, ◌≢◌, ℕ, ◌<◌, ◌⊎◌, inl
 use Rattle.std.proofs.Common.{refl, ap, sym, ◌∙◌, subst}
 use Rattle.nano_value.specs.Legal.{IsImage}
 use Rattle.nano_value.specs.Meaning.{Meaning, usize_bound}
-use Rattle.nano_grammar.specs.CutLaws.{CutLaws}
+use Rattle.nano_grammar.proofs.CutLaws.{CutLaws}
 use Rattle.nano_grammar.specs.Cutting.{Cutting}
 use Rattle.nano_grammar.specs.Items.{ListPunctuation, StartsOtherwise, EncodedList}
 use Rattle.nano_grammar.specs.Lists.{EncodesList, EncodesCount}
-use Rattle.nano_grammar.specs.ListsLaws.{between_one, between_apart}
+use Rattle.nano_grammar.proofs.ListsLaws.{between_one, between_apart}
 use Rattle.nano_grammar.specs.Options.{EncodesOption}
 use Rattle.nano_grammar.specs.Scalars.{EncodesOne}
 use Rattle.nano_grammar.specs.Encoding.{Grammar, BeginsValue, IsEncoding, AreBrackets}
@@ -46,12 +46,6 @@ module _ {T : Type 0} (c : Cutting T) where
   pub token_taken : (t : T) (start following : At T) → t ≡ start.token
       → c.cut start.text following.token following.text → Leaves c.cut (t ∷ []) start following
   token_taken t start following e h = (e, (following, h, refl))
-
-  -- where no token can be cut after the pending one, nothing is taken
-  pub uncut : (t : T) (ts : List T) (start end : At T)
-      → ((next : At T) → c.cut start.text next.token next.text → ⊥)
-      → Leaves c.cut (t ∷ ts) start end → ⊥
-  uncut t ts start end none h = none h.1.0 h.1.1
 
   module _ {A : Type 0} (carries : T → A → Type 0) (P : A → Type 0) where
     pub one_spans : (start following : At T) (x : A) → carries start.token x → P x

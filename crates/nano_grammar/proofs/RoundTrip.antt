@@ -5,12 +5,12 @@ use Rattle.std.proofs.Math.Utf8.{scalar, scalars}
 use Rattle.std.proofs.lemmas.Bool.{false≢true, and_parts}
 use Rattle.std.proofs.lemmas.Str.{chars-encodes}
 use Rattle.nano_text.specs.Place.{before_nul, remaining_text}
-use Rattle.nano_grammar.specs.CutLaws.{CutLaws}
+use Rattle.nano_grammar.proofs.CutLaws.{CutLaws}
 use Rattle.nano_grammar.specs.Cutting.{Cutting, IsValueText}
 use Rattle.nano_grammar.specs.Encoding.{Grammar, IsEncoding}
 use Rattle.nano_grammar.specs.Textual.{AllTextual}
 use Rattle.nano_grammar.specs.Tokens.{At, Cuts, DecodesTo, TextDecodesTo}
-use Rattle.nano_grammar.specs.TokensLaws.{cuts_fit}
+use Rattle.nano_grammar.proofs.TokensLaws.{cuts_fit}
 use Rattle.nano_grammar.proofs.Tokens.{same_at, same_end}
 
 -- characters that a text may hold are scalar values, and none is NUL

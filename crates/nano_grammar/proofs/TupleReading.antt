@@ -1,13 +1,13 @@
 -- What readers of tuples know after each part, and where one is rejected.
 use Rattle.std.proofs.Common.{◌≡◌, ◌≢◌, List, [], ◌∷◌, inl, inr, sym, ◌∙◌, subst}
 use Rattle.nano_value.specs.Meaning.{Meaning, paired}
-use Rattle.nano_grammar.specs.CutLaws.{CutLaws}
+use Rattle.nano_grammar.proofs.CutLaws.{CutLaws}
 use Rattle.nano_grammar.specs.Cutting.{Cutting}
 use Rattle.nano_grammar.specs.Items.{ListPunctuation}
-use Rattle.nano_grammar.specs.PairsLaws.{and_then}
+use Rattle.nano_grammar.proofs.PairsLaws.{and_then}
 use Rattle.nano_grammar.specs.Encoding.{Grammar, BeginsValue, Encoding, AreBrackets}
 use Rattle.nano_grammar.specs.Tokens.{At, Leaves, Spans, DecodesToNothing}
-use Rattle.nano_grammar.specs.TuplesLaws.{last_part, tuple_of}
+use Rattle.nano_grammar.proofs.TuplesLaws.{last_part, tuple_of}
 use Rattle.nano_grammar.proofs.PartReading.{pair_found, first_rejected, punctuator_rejected, second_rejected}
 use Rattle.nano_grammar.proofs.PartReading.{after_found, token_rejected, after_rejected, last_found}
 use Rattle.nano_grammar.proofs.PartReading.{last_rejected, last_comma_rejected, last_close_rejected}

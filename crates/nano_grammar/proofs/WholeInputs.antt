@@ -9,7 +9,7 @@ use Rattle.std.proofs.lemmas.List.{take-append-drop}
 use Rattle.std.proofs.lemmas.Str.{chars-encodes, chars-append, chars_past_char, chars_from_encodes, len_utf8_bounds}
 use Rattle.std.proofs.lemmas.Str.{IsCharBoundary-before_ascii, IsUtf8-take, IsUtf8-drop}
 use Rattle.nano_text.specs.Place.{remaining_text}
-use Rattle.nano_grammar.specs.CutLaws.{CutLaws}
+use Rattle.nano_grammar.proofs.CutLaws.{CutLaws}
 use Rattle.nano_grammar.specs.Cutting.{Cutting, IsValueText}
 use Rattle.nano_grammar.specs.Encoding.{Grammar, IsEncoding}
 use Rattle.nano_grammar.specs.Textual.{AllTextual, is_textual}

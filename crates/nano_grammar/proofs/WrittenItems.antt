@@ -9,9 +9,9 @@ use Rattle.std.proofs.Math.Seq.{drop-cons}
 use Rattle.std.proofs.lemmas.Str.{encodes-append}
 use Rattle.nano_grammar.specs.Items.{ListPunctuation}
 use Rattle.nano_grammar.specs.Layouts.{Gaps, after_item, items_laid_out, laid_out}
-use Rattle.nano_grammar.specs.LayoutsLaws.{laid_out_same}
+use Rattle.nano_grammar.proofs.LayoutsLaws.{laid_out_same}
 use Rattle.nano_grammar.specs.Layouts.{item_in_list, closed}
-use Rattle.nano_grammar.specs.LayoutsLaws.{left_in_list, ended_item}
+use Rattle.nano_grammar.proofs.LayoutsLaws.{left_in_list, ended_item}
 
 module _ {A S : Type 0} (gaps : Gaps S) (punctuation : ListPunctuation S) (f : A → List S) where
   -- an item comes in the list before what is left

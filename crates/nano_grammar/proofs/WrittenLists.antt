@@ -10,14 +10,14 @@ use Rattle.std.proofs.Common.{get_or, length, sym, ◌∙◌, ap, append_assoc, 
 use Rattle.std.proofs.Common.{encode_utf8, encode_utf8_all}
 use Rattle.std.proofs.Math.Seq.{drop-cons}
 use Rattle.std.proofs.lemmas.Str.{encodes-append}
-use Rattle.nano_value.specs.AscendingLaws.{ascending-sorted}
+use Rattle.nano_meaning.proofs.AscendingLaws.{ascending-sorted}
 use Rattle.nano_value.specs.InOrder.{ascending_items}
-use Rattle.nano_value.specs.OrderedSetsLaws.{sorted_marked}
+use Rattle.nano_meaning.proofs.OrderedSetsLaws.{sorted_marked}
 use Rattle.nano_value.specs.Sets.{marked}
-use Rattle.nano_value.specs.SetsLaws.{keys_of-marked}
+use Rattle.nano_meaning.proofs.SetsLaws.{keys_of-marked}
 use Rattle.nano_grammar.specs.Items.{ListPunctuation}
 use Rattle.nano_grammar.specs.Layouts.{Gaps, items_laid_out, laid_out, closed}
-use Rattle.nano_grammar.specs.LayoutsLaws.{ended_item, left_in_list}
+use Rattle.nano_grammar.proofs.LayoutsLaws.{ended_item, left_in_list}
 use Rattle.nano_grammar.proofs.WrittenItems.{WritesSoFar, items_are_ended, write_start, write_end}
 
 -- one text after another

@@ -2,7 +2,8 @@
 -- two and optionally one after the last.
 use Rattle.std.specs.Prelude.{◌≡◌, ◌<◌, ℕ, List, length}
 use Rattle.std.specs.List.{AllByRecursion}
-use Rattle.nano_value.specs.Meaning.{usize_bound}
+use Rattle.nano_value.specs.Legal.{IsImage}
+use Rattle.nano_value.specs.Meaning.{Meaning, usize_bound}
 use Rattle.nano_grammar.specs.Cutting.{Cutting}
 use Rattle.nano_grammar.specs.Codec.{Codec}
 use Rattle.nano_grammar.specs.Items.{ListPunctuation, EncodedList}
@@ -15,6 +16,11 @@ pub record EncodesList {T A : Type 0} (punctuation : ListPunctuation T) (S : Lis
     (ts : List T) (xs : List A) : Type 0 where
   pub count : length xs < usize_bound
   pub items : EncodedList punctuation S ts xs
+
+-- a collection of items, by what they come to
+abbrev pub EncodesAll : {T A : Type 0} → ListPunctuation T → (List A → Meaning)
+    → (List T → A → Type 0) → List T → Meaning → Type 0
+EncodesAll punctuation whole S ts = IsImage whole (EncodesList punctuation S ts)
 
 -- so many items
 pub record EncodesCount {T A : Type 0} (punctuation : ListPunctuation T) (count : ℕ)

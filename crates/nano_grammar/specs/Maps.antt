@@ -7,7 +7,7 @@ use Rattle.nano_value.specs.Ascending.{ascending}
 use Rattle.nano_value.specs.Legal.{IsImage}
 use Rattle.nano_value.specs.Meaning.{Meaning}
 use Rattle.nano_value.specs.MeaningOrder.{MeaningOrder, by_meaning}
-use Rattle.nano_value.specs.Tables.{table_means, last_values}
+use Rattle.nano_value.specs.Tables.{map_means}
 use Rattle.nano_grammar.specs.Cutting.{Cutting}
 use Rattle.nano_grammar.specs.Codec.{Codec}
 use Rattle.nano_grammar.specs.Items.{ListPunctuation, EncodedPair}
@@ -20,10 +20,6 @@ use Rattle.nano_grammar.specs.Canonical.{Canonical, ListStyle, PairStyle}
 abbrev pub EncodesEntry : {T : Type 0} → T → (List T → Meaning → Type 0)
     → (List T → Meaning → Type 0) → List T → Meaning × Meaning → Type 0
 EncodesEntry punctuator S R = EncodedPair punctuator S R
-
--- the map of a list of pairs: of each key the last value
-abbrev pub map_means : List (Meaning × Meaning) → Meaning
-map_means pairs = table_means (last_values pairs)
 
 module _ {T : Type 0} (punctuation : ListPunctuation T) (punctuator : T)
     (S R : List T → Meaning → Type 0) where

@@ -1,4 +1,4 @@
--- Values of one token: numbers, truth values, texts.
+-- Values of one token: numbers, booleans, texts.
 use Rattle.std.specs.Prelude.{◌≡◌, ◌≢◌, ℕ, List, [], ◌∷◌}
 use Rattle.std.proofs.Common.{ap}
 use Rattle.nano_value.specs.Meaning.{Meaning}

@@ -5,18 +5,13 @@ use Rattle.nano_value.specs.InOrder.{ascending_items}
 use Rattle.nano_value.specs.Legal.{IsImage}
 use Rattle.nano_value.specs.Meaning.{Meaning}
 use Rattle.nano_value.specs.MeaningOrder.{MeaningOrder, by_meaning}
-use Rattle.nano_value.specs.Sets.{marked, set_means}
-use Rattle.nano_value.specs.Tables.{last_values}
+use Rattle.nano_value.specs.Sets.{items_mean}
 use Rattle.nano_grammar.specs.Cutting.{Cutting}
 use Rattle.nano_grammar.specs.Codec.{Codec}
 use Rattle.nano_grammar.specs.Items.{ListPunctuation}
 use Rattle.nano_grammar.specs.Lists.{EncodesList, AllSound, list_text, list_tokens}
 use Rattle.nano_grammar.specs.Encoding.{Grammar, AreBrackets}
 use Rattle.nano_grammar.specs.Canonical.{Canonical, ListStyle}
-
--- the set of a list of items
-abbrev pub items_mean : List Meaning → Meaning
-items_mean items = set_means (last_values (marked items))
 
 -- a list of the items: each counts once
 abbrev pub EncodesSet : {T : Type 0} → ListPunctuation T → (List T → Meaning → Type 0) → List T

@@ -1,19 +1,28 @@
 -- What the readers of JSON know of its tokens.
 use Rattle.std.specs.declared.str.Chars.{Chars}
 use Rattle.std.specs.Str.Iter.{chars_rest}
-use Rattle.std.proofs.Common.{◌≡◌, ◌≢◌, ◌<◌, ◌≤◌, ◌^◌, Bool, true, false, cond, [], length, refl, ap, sym, subst, ◌∙◌, arith}
+use Rattle.nano_text.specs.Place.{held, tail, before_nul, remaining, Passes}
+use Rattle.nano_text.proofs.PlaceInTextLaws.{stands_in}
+use Rattle.nano_grammar.proofs.TextCalls.{Begun}
+use Rattle.nano_json_tokens.specs.Outcomes.{position}
+use Rattle.std.proofs.Common.{ℕ, List, chars, ◌≡◌, ◌≢◌, ◌<◌, ◌≤◌, ◌^◌, Bool, true, false, cond, [], length, List, refl, ap, sym, subst, ◌∙◌, arith}
 use Rattle.nano_text.proofs.RemainingText.{remaining_fewer}
 use Rattle.nano_value.specs.Meaning.{Meaning, usize_bound}
 use Rattle.nano_value.specs.Agrees.{Agrees}
-use Rattle.nano_grammar.specs.CutLaws.{CutLaws}
+use Rattle.nano_value.specs.Legal.{BothOfPair}
+use Rattle.nano_grammar.specs.Encoding.{IsEncoding}
+use Rattle.nano_grammar.specs.Maps.{EncodesEntry}
+use Rattle.nano_grammar.proofs.MapsLaws.{entry_encoding}
+use Rattle.nano_grammar.proofs.CutLaws.{CutLaws}
 use Rattle.nano_grammar.proofs.TokensLeft.{tokens_left}
 use Rattle.nano_json_tokens.specs.Cut.{Cut, nothing}
 use Rattle.nano_json_tokens.specs.Json.{MayBegin, json_grammar}
-use Rattle.nano_json_tokens.specs.JsonLaws.{json}
+use Rattle.nano_json_tokens.specs.Brackets.{curlies}
+use Rattle.nano_json_tokens.proofs.JsonLaws.{json, curly_brackets}
 use Rattle.nano_json_tokens.specs.Punctuation.{is_null, is_block_close, is_curly_close}
 use Rattle.nano_json_tokens.specs.Scan.{is_end}
-use Rattle.nano_json_tokens.specs.State.{at}
-use Rattle.nano_json_tokens.specs.Token.{Token, null, curly_close, block_close, end}
+use Rattle.nano_json_tokens.specs.State.{at, place_of}
+use Rattle.nano_json_tokens.specs.Token.{Token, null, colon, curly_close, block_close, end}
 use Rattle.nano_json_tokens.specs.declared.state.DeJsonState.{DeJsonState}
 use Rattle.nano_json_tokens.proofs.Cuts.{cut_one_way}
 use Rattle.nano_json_tokens.proofs.Shorter.{cut_takes}
@@ -47,6 +56,12 @@ pub few_left : (s : DeJsonState) (i : Chars) → length (chars_rest i) < 2 ^ 63
 unfolding tokens_left
 few_left s i few = omega (arith, few, remaining_fewer s.cur i, zero_or_one (is_end (at s i).token))
 
+-- of an entry
+abbrev pub entry_laws : {P Q : Meaning → Type 0} {S R : List Token → Meaning → Type 0}
+    → IsEncoding json_grammar P S → IsEncoding json_grammar Q R
+    → IsEncoding json_grammar (BothOfPair P Q) (EncodesEntry colon S R)
+entry_laws s t = entry_encoding json_grammar curlies curly_brackets colon s t
+
 -- ---- what the tests of the pending token say
 
 pub is_the_null : (t : Token) → is_null t ≡ true → t ≡ null
@@ -78,3 +93,14 @@ pub legal_there : {A : Type 0} {means : A → Meaning} {legal : Meaning → Type
     → f.encoding.legal (f.canonical.means x)
 legal_there {means = means} f t x h =
     subst f.encoding.legal (λ i. sym t.means_is i x) (t.allows (means x) h)
+
+-- ---- texts
+
+-- a fresh state that took one character is at the first one of the text
+pub begun : (fresh first : DeJsonState) (i j : Chars) (bytes : List ℕ) → chars_rest i ≡ bytes → fresh.line ≡ 0
+    → fresh.col ≡ 0 → Passes (place_of fresh) (held i) (place_of first) (held j) → held j ≡ tail (held i)
+    → remaining first.cur j ≡ before_nul (held i) → Begun bytes (position first j)
+begun fresh first i j bytes same line col passes left rest = record {
+  text = rest ∙ ap (λ (b : List ℕ). before_nul (chars b)) same;
+  stands = λ end e h made. stands_in (ap chars same) line col passes left rest h made.1 made.2;
+}

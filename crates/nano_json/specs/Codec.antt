@@ -1,6 +1,6 @@
 -- How the values of a type are written as JSON and which tokens encode them, together.
 use Rattle.nano_grammar.specs.Codec.{Codec as CodecOf, codec_as as as_seen}
-use Rattle.nano_json_tokens.specs.JsonLaws.{json}
+use Rattle.nano_json_tokens.proofs.JsonLaws.{json}
 use Rattle.nano_json_tokens.specs.Json.{json_grammar}
 
 -- what is written of a sound value is read back as what it means

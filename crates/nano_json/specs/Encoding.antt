@@ -1,9 +1,8 @@
 -- Which tokens of JSON encode the values of a type.
-use Rattle.std.specs.Prelude.{ℕ, List}
+use Rattle.std.specs.Prelude.{List}
 use Rattle.nano_grammar.specs.Encoding.{BeginsValue as Begins, Encoding as EncodingOf}
 use Rattle.nano_grammar.specs.Encoding.{StartsWith as Starts}
 use Rattle.nano_grammar.specs.Tokens.{At, DecodesToNothing as Nothing}
-use Rattle.nano_grammar.specs.Tokens.{TextDecodesToNothing as NothingText}
 use Rattle.nano_json_tokens.specs.Cut.{Cut}
 use Rattle.nano_json_tokens.specs.Json.{json_grammar}
 use Rattle.nano_json_tokens.specs.Token.{Token}
@@ -23,7 +22,3 @@ StartsWith t ts = Starts t ts
 -- no encoding of a value stands here, with one more token or the end after it
 abbrev pub DecodesToNothing : {V : Type 0} → (List Token → V → Type 0) → At Token → Type 0
 DecodesToNothing encodes start = Nothing Cut encodes start
-
--- no encoding of a value begins the text, with one more token or the end after it
-abbrev pub TextDecodesToNothing : {V : Type 0} → (List Token → V → Type 0) → List ℕ → Type 0
-TextDecodesToNothing encodes text = NothingText Cut encodes text

@@ -1,9 +1,10 @@
--- Maps: keys with their values between curly brackets. Of each key the last value counts. They are
+-- Maps: keys with their values between braces. Of each key the last value counts. They are
 -- written in the order of their keys.
 use Rattle.std.specs.Prelude.{ℕ, List, []}
 use Rattle.nano_value.specs.Meaning.{Meaning}
 use Rattle.nano_grammar.specs.Layouts.{with_punctuator}
-use Rattle.nano_grammar.specs.Maps.{EncodesEntry as EncodesEntryOf, EncodesMap as EncodesMapIn}
+use Rattle.nano_grammar.specs.Lists.{EncodesAll as EncodesAllIn}
+use Rattle.nano_grammar.specs.Maps.{EncodesEntry as EncodesEntryOf}
 use Rattle.nano_json_tokens.specs.Brackets.{curlies, curly_punctuation}
 use Rattle.nano_json_tokens.specs.Token.{Token, colon}
 use Rattle.nano_json.specs.Lists.{written_items}
@@ -13,9 +14,11 @@ abbrev pub EncodesEntry : (List Token → Meaning → Type 0) → (List Token �
     → List Token → Meaning × Meaning → Type 0
 EncodesEntry S R = EncodesEntryOf colon S R
 
-abbrev pub EncodesMap : (List Token → Meaning → Type 0) → (List Token → Meaning → Type 0)
-    → List Token → Meaning → Type 0
-EncodesMap S R = EncodesMapIn curlies colon S R
+-- a collection of entries between braces, by what they come to
+abbrev pub EncodesAllEntries : (List (Meaning × Meaning) → Meaning)
+    → (List Token → Meaning → Type 0) → (List Token → Meaning → Type 0) → List Token → Meaning
+    → Type 0
+EncodesAllEntries whole S R = EncodesAllIn curlies whole (EncodesEntry S R)
 
 -- a key, a colon and its value, as they are written
 abbrev pub written_entry : {K V : Type 0} → (K → List ℕ) → (V → List ℕ) → K × V → List ℕ

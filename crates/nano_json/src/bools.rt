@@ -1,14 +1,11 @@
-//! Truth values and the unit: one word each.
+//! Booleans and the unit: one word each.
 //! The readers are inlined, so a value that is read passes through no result with space for an
 //! error.
 
-ghost use Rattle.std.specs.Prelude.{IfErr};
 ghost use Rattle.nano_value.specs.Meaning.{truth, nothing};
-ghost use Rattle.nano_value.specs.AgreesLaws.{agreed};
-ghost use Rattle.nano_json.specs.BoolsLaws.{truths, units, truth_codec, unit_codec};
-ghost use Rattle.nano_json.specs.Readers.{Decodes, Rejects};
-ghost use Rattle.nano_json.specs.Outcomes.{Counts, IsPlacedAt};
-ghost use Rattle.nano_json.specs.State.{at};
+ghost use Rattle.nano_meaning.proofs.AgreesLaws.{agreed};
+ghost use Rattle.nano_json.specs.BoolCodecs.{booleans, units, boolean_codec, unit_codec};
+ghost use Rattle.nano_json.specs.Outcomes.{position, Reads};
 
 use crate::traits::{DeJson, JsonCodec, SerJson};
 use nano_json_tokens::{DeJsonErr, DeJsonState, SerJsonState, end_on_error};
@@ -16,7 +13,7 @@ use std::alloc::{AllocError, Global};
 use std::str::Chars;
 
 impl JsonCodec for bool {
-    ghost json = { truth_codec };
+    ghost json = { boolean_codec };
 
     ghost agrees = { agreed };
 }
@@ -37,11 +34,8 @@ fn read_bool(
     state: &mut DeJsonState,
     input: &mut Chars<'_>,
 ) -> Result<bool, DeJsonErr>
-    ensures decodes { Decodes truths.encodes truth
-        (at state.old input.old) (at state.new input.new) result }
-    ensures rejected { Rejects truths.encodes (at state.old input.old) result }
-    ensures place { Counts state.old input.old state.new input.new }
-    ensures made { IfErr result (IsPlacedAt state.new) }
+    ensures { Reads booleans.encodes truth
+        (position state.old input.old) (position state.new input.new) result }
 {
     let value = state.as_bool(alloc)?;
     state.next_tok(alloc, input)?;
@@ -75,11 +69,8 @@ impl SerJson for () {
 /// Reads `null`. On error, the state may be anywhere.
 #[inline(always)]
 fn read_unit(alloc: Global, state: &mut DeJsonState, input: &mut Chars<'_>) -> Result<(), DeJsonErr>
-    ensures decodes { Decodes units.encodes (λ _. nothing)
-        (at state.old input.old) (at state.new input.new) result }
-    ensures rejected { Rejects units.encodes (at state.old input.old) result }
-    ensures place { Counts state.old input.old state.new input.new }
-    ensures made { IfErr result (IsPlacedAt state.new) }
+    ensures { Reads units.encodes (λ _. nothing)
+        (position state.old input.old) (position state.new input.new) result }
 {
     if state.is_null() {
         return state.next_tok(alloc, input);

@@ -1,11 +1,8 @@
 //! Boxes: each is encoded as its content.
 
-ghost use Rattle.std.specs.Prelude.{IfErr};
-ghost use Rattle.nano_value.specs.AgreesLaws.{seen_agrees};
+ghost use Rattle.nano_meaning.proofs.AgreesLaws.{seen_agrees};
 ghost use Rattle.nano_json.specs.Codec.{codec_as};
-ghost use Rattle.nano_json.specs.Readers.{Decodes, Rejects};
-ghost use Rattle.nano_json.specs.Outcomes.{Counts, IsPlacedAt};
-ghost use Rattle.nano_json.specs.State.{at};
+ghost use Rattle.nano_json.specs.Outcomes.{position, Reads};
 
 use crate::traits::{DeJson, JsonCodec, SerJson};
 use nano_json_tokens::{DeJsonErr, DeJsonState, SerJsonState, end_on_error};
@@ -30,11 +27,8 @@ fn read_box<T: DeJson>(
     state: &mut DeJsonState,
     input: &mut Chars<'_>,
 ) -> Result<Box<T>, DeJsonErr>
-    ensures decodes { Decodes T.json.encoding.encodes (λ x. T.means x.value)
-        (at state.old input.old) (at state.new input.new) result }
-    ensures rejected { Rejects T.json.encoding.encodes (at state.old input.old) result }
-    ensures place { Counts state.old input.old state.new input.new }
-    ensures made { IfErr result (IsPlacedAt state.new) }
+    ensures { Reads T.json.encoding.encodes (λ x. T.means x.value)
+        (position state.old input.old) (position state.new input.new) result }
 {
     let value = T::de_json(alloc, state, input)?;
     match Box::new(alloc, value) {

@@ -1,20 +1,19 @@
 //! Lists: items between square brackets. Vectors, linked lists, slices and arrays.
 
-ghost use Rattle.std.specs.Prelude.{◌≡◌, IfOk, OnOk, OnErr, map, length, IfErr};
+ghost use Rattle.std.specs.Prelude.{◌≡◌, IfOk, OnOk, OnErr, map, length};
 ghost use Rattle.nano_value.specs.Meaning.{listed};
-ghost use Rattle.nano_value.specs.AgreesLaws.{seen_agrees, list_agrees, array_agrees};
+ghost use Rattle.nano_meaning.proofs.AgreesLaws.{seen_agrees, list_agrees, array_agrees};
 ghost use Rattle.nano_json.specs.Codec.{codec_as};
 ghost use Rattle.nano_text.specs.Outcomes.{Appends, AppendsPart};
-ghost use Rattle.nano_json.specs.Readers.{Decodes, Rejects};
-ghost use Rattle.nano_json.specs.ListsLaws.{list_of, array_of, list_codec};
-ghost use Rattle.nano_json.specs.Lists.{in_list, written_list};
-ghost use Rattle.nano_json.specs.ListsLaws.{array_codec};
-ghost use Rattle.nano_json.specs.Outcomes.{Counts, IsPlacedAt};
-ghost use Rattle.nano_json.specs.State.{at};
+ghost use Rattle.nano_json.specs.ListCodecs.{array_of, list_codec};
+ghost use Rattle.nano_json.specs.Lists.{in_list, written_list, EncodesAll};
+ghost use Rattle.nano_json.specs.ListCodecs.{array_codec};
+ghost use Rattle.nano_json.specs.Outcomes.{position, Reads};
 
 use crate::traits::{DeJson, JsonCodec, SerJson};
-use nano_json_tokens::{DeJsonErr, DeJsonState, SerJsonState, end_on_error};
+use nano_json_tokens::{DeJsonErr, DeJsonState, SerJsonState, bytes_left, end_on_error};
 use nano_text::rollback_on_error;
+use nano_value::Collect;
 use std::alloc::{AllocError, Global};
 use std::collections::LinkedList;
 use std::str::Chars;
@@ -25,30 +24,27 @@ impl<T: JsonCodec> JsonCodec for Vec<T> {
     ghost agrees = { seen_agrees (list_agrees T.agrees) (λ x. x.items) };
 }
 
-/// Reads items between square brackets. On error, the state may be anywhere.
-fn read_vec<T: DeJson>(
+/// Reads items between square brackets into a collection. On error, the state may be anywhere.
+pub(crate) fn read_list<T: DeJson, C: Collect<T>>(
     alloc: Global,
     state: &mut DeJsonState,
     input: &mut Chars<'_>,
-) -> Result<Vec<T>, DeJsonErr>
-    ensures decodes { Decodes (list_of T.json.encoding).encodes
-        (λ items. listed (map T.means items.items))
-        (at state.old input.old) (at state.new input.new) result }
-    ensures rejected { Rejects (list_of T.json.encoding).encodes (at state.old input.old) result }
-    ensures place { Counts state.old input.old state.new input.new }
-    ensures made { IfErr result (IsPlacedAt state.new) }
+) -> Result<C, DeJsonErr>
+    ensures { Reads (EncodesAll C.whole T.json.encoding.encodes) C.means
+        (position state.old input.old) (position state.new input.new) result }
 {
-    let mut items = Vec::new(alloc);
+    // A text has fewer than 2^63 bytes, so a `usize` counts its items.
+    let _capacity = bytes_left(input);
+    let mut items = C::empty(alloc);
     state.block_open(alloc, input)?;
     'items: while !state.is_block_close() {
         let item = T::de_json(alloc, state, input)?;
-        if items.push(item).is_err() {
+        let Ok(()) = items.put(item) else {
             return Err(state.err_memory(alloc));
-        }
+        };
         state.eat_comma_block(alloc, input)?;
     }
     state.block_close(alloc, input)?;
-    let _count = items.len();
     Ok(items)
 }
 
@@ -58,7 +54,7 @@ impl<T: DeJson> DeJson for Vec<T> {
         state: &mut DeJsonState,
         input: &mut Chars<'_>,
     ) -> Result<Vec<T>, DeJsonErr> {
-        let read = read_vec(alloc, state, input);
+        let read = read_list::<T, Vec<T>>(alloc, state, input);
         end_on_error(state, read)
     }
 }
@@ -116,39 +112,13 @@ impl<T: JsonCodec> JsonCodec for LinkedList<T> {
     ghost agrees = { list_agrees T.agrees };
 }
 
-/// Reads items between square brackets. On error, the state may be anywhere.
-fn read_linked_list<T: DeJson>(
-    alloc: Global,
-    state: &mut DeJsonState,
-    input: &mut Chars<'_>,
-) -> Result<LinkedList<T>, DeJsonErr>
-    ensures decodes { Decodes (list_of T.json.encoding).encodes (λ items. listed (map T.means items))
-        (at state.old input.old) (at state.new input.new) result }
-    ensures rejected { Rejects (list_of T.json.encoding).encodes (at state.old input.old) result }
-    ensures place { Counts state.old input.old state.new input.new }
-    ensures made { IfErr result (IsPlacedAt state.new) }
-{
-    let mut items = LinkedList::new(alloc);
-    state.block_open(alloc, input)?;
-    'items: while !state.is_block_close() {
-        let item = T::de_json(alloc, state, input)?;
-        if items.push_back(item).is_err() {
-            return Err(state.err_memory(alloc));
-        }
-        state.eat_comma_block(alloc, input)?;
-    }
-    state.block_close(alloc, input)?;
-    let _count = items.len();
-    Ok(items)
-}
-
 impl<T: DeJson> DeJson for LinkedList<T> {
     fn de_json(
         alloc: Global,
         state: &mut DeJsonState,
         input: &mut Chars<'_>,
     ) -> Result<LinkedList<T>, DeJsonErr> {
-        let read = read_linked_list(alloc, state, input);
+        let read = read_list::<T, LinkedList<T>>(alloc, state, input);
         end_on_error(state, read)
     }
 }
@@ -209,14 +179,10 @@ fn read_items<T: DeJson>(
     input: &mut Chars<'_>,
     count: usize,
 ) -> Result<Vec<T>, DeJsonErr>
-    ensures decodes { Decodes (array_of count T.json.encoding).encodes
+    ensures reads { Reads (array_of count T.json.encoding).encodes
         (λ items. listed (map T.means items.items))
-        (at state.old input.old) (at state.new input.new) result }
+        (position state.old input.old) (position state.new input.new) result }
     ensures count { IfOk result (λ items. length items.items ≡ count) }
-    ensures rejected { Rejects (array_of count T.json.encoding).encodes
-        (at state.old input.old) result }
-    ensures place { Counts state.old input.old state.new input.new }
-    ensures made { IfErr result (IsPlacedAt state.new) }
 {
     let mut items = Vec::new(alloc);
     state.block_open(alloc, input)?;
@@ -237,11 +203,8 @@ fn read_array<T: DeJson, const N: usize>(
     state: &mut DeJsonState,
     input: &mut Chars<'_>,
 ) -> Result<[T; N], DeJsonErr>
-    ensures decodes { Decodes (array_of N T.json.encoding).encodes (λ items. listed (map T.means items))
-        (at state.old input.old) (at state.new input.new) result }
-    ensures rejected { Rejects (array_of N T.json.encoding).encodes (at state.old input.old) result }
-    ensures place { Counts state.old input.old state.new input.new }
-    ensures made { IfErr result (IsPlacedAt state.new) }
+    ensures { Reads (array_of N T.json.encoding).encodes (λ items. listed (map T.means items))
+        (position state.old input.old) (position state.new input.new) result }
 {
     let items = read_items(alloc, state, input, N)?;
     match <[T; N]>::try_from(items) {

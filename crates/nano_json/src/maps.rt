@@ -1,24 +1,21 @@
-//! Maps: keys with their values between curly brackets. They are written in the order of the keys.
+//! Maps: keys with their values between braces. They are written in the order of the keys.
 
 ghost use Rattle.std.specs.Map.Iter.{deref_pair};
-ghost use Rattle.std.specs.Prelude.{OnOk, OnErr, map, IfErr};
+ghost use Rattle.std.specs.Prelude.{OnOk, OnErr, map};
 ghost use Rattle.nano_value.specs.Meaning.{pair_map};
-ghost use Rattle.nano_value.specs.Tables.{table_of, table_means};
-ghost use Rattle.nano_value.specs.AgreesLaws.{seen_agrees, map_agrees};
+ghost use Rattle.nano_meaning.proofs.AgreesLaws.{seen_agrees, map_agrees};
 ghost use Rattle.nano_json.specs.Codec.{codec_as};
 ghost use Rattle.nano_json.specs.Lists.{in_list};
-ghost use Rattle.nano_json.specs.Maps.{EncodesEntry, EncodesMap, written_entry, written_entries};
-ghost use Rattle.nano_json.specs.MapsLaws.{map_codec};
+ghost use Rattle.nano_json.specs.Maps.{EncodesAllEntries, EncodesEntry, written_entry, written_entries};
+ghost use Rattle.nano_json.specs.MapCodecs.{map_codec};
 ghost use Rattle.nano_text.specs.Outcomes.{Appends, AppendsPart};
-ghost use Rattle.nano_json.specs.Readers.{Decodes, Rejects};
-ghost use Rattle.nano_json.specs.Outcomes.{Counts, IsPlacedAt};
-ghost use Rattle.nano_json.specs.State.{at};
+ghost use Rattle.nano_json.specs.Outcomes.{position, Reads};
 
 use crate::lists::append_item;
 use crate::traits::{DeJson, JsonCodec, SerJson};
 use nano_json_tokens::{DeJsonErr, DeJsonState, SerJsonState, bytes_left, end_on_error};
 use nano_text::rollback_on_error;
-use nano_value::{Key, OrderedKey, entries_by_rank};
+use nano_value::{CollectEntries, Key, OrderedKey, entries_by_rank};
 use std::alloc::{AllocError, Global};
 use std::collections::HashMap;
 use std::hash::Hash;
@@ -30,30 +27,26 @@ impl<K: JsonCodec + Key + Hash, V: JsonCodec> JsonCodec for HashMap<K, V> {
     ghost agrees = { seen_agrees (map_agrees K.agrees V.agrees) (λ x. x.entries) };
 }
 
-/// Reads keys with their values between curly brackets into a map. A key that comes again takes
-/// its last value. On error, the state may be anywhere.
-fn read_hash_map<K: DeJson + Key + Hash, V: DeJson>(
+/// Reads keys with their values between braces into a collection. On error, the state may
+/// be anywhere.
+pub(crate) fn read_entries<K: DeJson, V: DeJson, C: CollectEntries<K, V>>(
     alloc: Global,
     state: &mut DeJsonState,
     input: &mut Chars<'_>,
-) -> Result<HashMap<K, V>, DeJsonErr>
-    ensures decodes { Decodes (EncodesMap K.json.encoding.encodes V.json.encoding.encodes)
-        (λ entries. table_means (table_of K.means V.means entries.entries))
-        (at state.old input.old) (at state.new input.new) result }
-    ensures rejected { Rejects (EncodesMap K.json.encoding.encodes V.json.encoding.encodes)
-        (at state.old input.old) result }
-    ensures place { Counts state.old input.old state.new input.new }
-    ensures made { IfErr result (IsPlacedAt state.new) }
+) -> Result<C, DeJsonErr>
+    ensures { Reads
+        (EncodesAllEntries C.whole K.json.encoding.encodes V.json.encoding.encodes) C.means
+        (position state.old input.old) (position state.new input.new) result }
 {
     // A text has fewer than 2^63 bytes, so a `usize` counts its entries.
     let _capacity = bytes_left(input);
-    let mut entries = HashMap::new(alloc);
+    let mut entries = C::empty(alloc);
     state.curly_open(alloc, input)?;
     'entries: while !state.is_curly_close() {
-        let (key, value) = read_entry(alloc, state, input)?;
-        if entries.insert(key, value).is_err() {
+        let (key, value) = read_entry::<K, V>(alloc, state, input)?;
+        let Ok(()) = entries.put(key, value) else {
             return Err(state.err_memory(alloc));
-        }
+        };
         state.eat_comma_curly(alloc, input)?;
     }
     state.curly_close(alloc, input)?;
@@ -66,12 +59,9 @@ pub(crate) fn read_entry<K: DeJson, V: DeJson>(
     state: &mut DeJsonState,
     input: &mut Chars<'_>,
 ) -> Result<(K, V), DeJsonErr>
-    ensures decodes { Decodes (EncodesEntry K.json.encoding.encodes V.json.encoding.encodes)
-        (pair_map K.means V.means) (at state.old input.old) (at state.new input.new) result }
-    ensures rejected { Rejects (EncodesEntry K.json.encoding.encodes V.json.encoding.encodes)
-        (at state.old input.old) result }
-    ensures place { Counts state.old input.old state.new input.new }
-    ensures made { IfErr result (IsPlacedAt state.new) }
+    ensures { Reads (EncodesEntry K.json.encoding.encodes V.json.encoding.encodes)
+        (pair_map K.means V.means)
+        (position state.old input.old) (position state.new input.new) result }
 {
     let key = K::de_json(alloc, state, input)?;
     state.colon(alloc, input)?;
@@ -85,7 +75,7 @@ impl<K: DeJson + Key + Hash, V: DeJson> DeJson for HashMap<K, V> {
         state: &mut DeJsonState,
         input: &mut Chars<'_>,
     ) -> Result<HashMap<K, V>, DeJsonErr> {
-        let read = read_hash_map(alloc, state, input);
+        let read = read_entries::<K, V, HashMap<K, V>>(alloc, state, input);
         end_on_error(state, read)
     }
 }
@@ -109,7 +99,7 @@ pub(crate) fn append_entry<K: SerJson, V: SerJson>(
     value.ser_json(alloc, d, s)
 }
 
-/// Appends entries between curly brackets. If allocation fails, the text written so far
+/// Appends entries between braces. If allocation fails, the text written so far
 /// remains.
 fn append_hash_map<K: SerJson, V: SerJson>(
     alloc: Global,

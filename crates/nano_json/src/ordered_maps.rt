@@ -1,20 +1,16 @@
-//! Ordered maps: keys with their values between curly brackets. A hashed map of the same entries is
+//! Ordered maps: keys with their values between braces. A hashed map of the same entries is
 //! written alike.
 
-ghost use Rattle.std.specs.Prelude.{OnOk, OnErr, IfErr};
-ghost use Rattle.nano_value.specs.OrderedMaps.{ordered_map_means};
-ghost use Rattle.nano_value.specs.AgreesLaws.{seen_agrees, ordered_map_agrees};
+ghost use Rattle.std.specs.Prelude.{OnOk, OnErr};
+ghost use Rattle.nano_meaning.proofs.AgreesLaws.{seen_agrees, ordered_map_agrees};
 ghost use Rattle.nano_json.specs.Codec.{codec_as};
-ghost use Rattle.nano_json.specs.Maps.{EncodesMap, written_entries};
-ghost use Rattle.nano_json.specs.MapsLaws.{ordered_map_codec};
+ghost use Rattle.nano_json.specs.Maps.{written_entries};
+ghost use Rattle.nano_json.specs.MapCodecs.{ordered_map_codec};
 ghost use Rattle.nano_text.specs.Outcomes.{Appends, AppendsPart};
-ghost use Rattle.nano_json.specs.Readers.{Decodes, Rejects};
-ghost use Rattle.nano_json.specs.Outcomes.{Counts, IsPlacedAt};
-ghost use Rattle.nano_json.specs.State.{at};
 
-use crate::maps::{append_entry, read_entry};
+use crate::maps::{append_entry, read_entries};
 use crate::traits::{DeJson, JsonCodec, SerJson};
-use nano_json_tokens::{DeJsonErr, DeJsonState, SerJsonState, bytes_left, end_on_error};
+use nano_json_tokens::{DeJsonErr, DeJsonState, SerJsonState, end_on_error};
 use nano_text::rollback_on_error;
 use nano_value::{Key, OrderedKey};
 use std::alloc::{AllocError, Global};
@@ -27,48 +23,18 @@ impl<K: JsonCodec + Key + Ord, V: JsonCodec> JsonCodec for BTreeMap<K, V> {
     ghost agrees = { seen_agrees (ordered_map_agrees K.agrees V.agrees K.cmp) (λ x. x.entries) };
 }
 
-/// Reads keys with their values between curly brackets into a map. A key that comes again takes
-/// its last value. On error, the state may be anywhere.
-fn read_btree_map<K: DeJson + Key + Ord, V: DeJson>(
-    alloc: Global,
-    state: &mut DeJsonState,
-    input: &mut Chars<'_>,
-) -> Result<BTreeMap<K, V>, DeJsonErr>
-    ensures decodes { Decodes (EncodesMap K.json.encoding.encodes V.json.encoding.encodes)
-        (λ entries. ordered_map_means K.cmp K.means V.means entries.entries)
-        (at state.old input.old) (at state.new input.new) result }
-    ensures rejected { Rejects (EncodesMap K.json.encoding.encodes V.json.encoding.encodes)
-        (at state.old input.old) result }
-    ensures place { Counts state.old input.old state.new input.new }
-    ensures made { IfErr result (IsPlacedAt state.new) }
-{
-    // A text has fewer than 2^63 bytes, so a `usize` counts its entries.
-    let _capacity = bytes_left(input);
-    let mut entries = BTreeMap::new(alloc);
-    state.curly_open(alloc, input)?;
-    'entries: while !state.is_curly_close() {
-        let (key, value) = read_entry(alloc, state, input)?;
-        if entries.insert(key, value).is_err() {
-            return Err(state.err_memory(alloc));
-        }
-        state.eat_comma_curly(alloc, input)?;
-    }
-    state.curly_close(alloc, input)?;
-    Ok(entries)
-}
-
 impl<K: DeJson + Key + Ord, V: DeJson> DeJson for BTreeMap<K, V> {
     fn de_json(
         alloc: Global,
         state: &mut DeJsonState,
         input: &mut Chars<'_>,
     ) -> Result<BTreeMap<K, V>, DeJsonErr> {
-        let read = read_btree_map(alloc, state, input);
+        let read = read_entries::<K, V, BTreeMap<K, V>>(alloc, state, input);
         end_on_error(state, read)
     }
 }
 
-/// Appends entries between curly brackets. If allocation fails, the text written so far
+/// Appends entries between braces. If allocation fails, the text written so far
 /// remains.
 fn append_btree_map<K: SerJson + Ord, V: SerJson>(
     alloc: Global,

@@ -1,22 +1,16 @@
 //! Sets: items between square brackets, read in any order. They are written in order.
 
 ghost use Rattle.std.specs.Map.Iter.{deref};
-ghost use Rattle.std.specs.Prelude.{OnOk, OnErr, map, IfErr};
-ghost use Rattle.nano_value.specs.OrderedSets.{ordered_means};
-ghost use Rattle.nano_value.specs.Sets.{item_set, set_means};
-ghost use Rattle.nano_value.specs.AgreesLaws.{seen_agrees, set_agrees, ordered_agrees};
+ghost use Rattle.std.specs.Prelude.{OnOk, OnErr, map};
+ghost use Rattle.nano_meaning.proofs.AgreesLaws.{seen_agrees, set_agrees, ordered_agrees};
 ghost use Rattle.nano_json.specs.Codec.{codec_as};
 ghost use Rattle.nano_json.specs.Lists.{written_list};
 ghost use Rattle.nano_text.specs.Outcomes.{Appends, AppendsPart};
-ghost use Rattle.nano_json.specs.Readers.{Decodes, Rejects};
-ghost use Rattle.nano_json.specs.Sets.{EncodesSet};
-ghost use Rattle.nano_json.specs.SetsLaws.{set_codec, ordered_codec};
-ghost use Rattle.nano_json.specs.Outcomes.{Counts, IsPlacedAt};
-ghost use Rattle.nano_json.specs.State.{at};
+ghost use Rattle.nano_json.specs.SetCodecs.{set_codec, ordered_codec};
 
-use crate::lists::append_item;
+use crate::lists::{append_item, read_list};
 use crate::traits::{DeJson, JsonCodec, SerJson};
-use nano_json_tokens::{DeJsonErr, DeJsonState, SerJsonState, bytes_left, end_on_error};
+use nano_json_tokens::{DeJsonErr, DeJsonState, SerJsonState, end_on_error};
 use nano_text::rollback_on_error;
 use nano_value::{Key, OrderedKey, items_in_order};
 use std::alloc::{AllocError, Global};
@@ -30,41 +24,13 @@ impl<T: JsonCodec + Key + Hash> JsonCodec for HashSet<T> {
     ghost agrees = { seen_agrees (set_agrees T.agrees) (λ x. x.keys) };
 }
 
-/// Reads items between square brackets into a set. On error, the state may be anywhere.
-fn read_hash_set<T: DeJson + Key + Hash>(
-    alloc: Global,
-    state: &mut DeJsonState,
-    input: &mut Chars<'_>,
-) -> Result<HashSet<T>, DeJsonErr>
-    ensures decodes { Decodes (EncodesSet T.json.encoding.encodes)
-        (λ items. set_means (item_set T.means items.keys))
-        (at state.old input.old) (at state.new input.new) result }
-    ensures rejected { Rejects (EncodesSet T.json.encoding.encodes) (at state.old input.old) result }
-    ensures place { Counts state.old input.old state.new input.new }
-    ensures made { IfErr result (IsPlacedAt state.new) }
-{
-    // A text has fewer than 2^63 bytes, so a `usize` counts its items.
-    let _capacity = bytes_left(input);
-    let mut items = HashSet::new(alloc);
-    state.block_open(alloc, input)?;
-    'items: while !state.is_block_close() {
-        let item = T::de_json(alloc, state, input)?;
-        let Ok(_added) = items.insert(item) else {
-            return Err(state.err_memory(alloc));
-        };
-        state.eat_comma_block(alloc, input)?;
-    }
-    state.block_close(alloc, input)?;
-    Ok(items)
-}
-
 impl<T: DeJson + Key + Hash> DeJson for HashSet<T> {
     fn de_json(
         alloc: Global,
         state: &mut DeJsonState,
         input: &mut Chars<'_>,
     ) -> Result<HashSet<T>, DeJsonErr> {
-        let read = read_hash_set(alloc, state, input);
+        let read = read_list::<T, HashSet<T>>(alloc, state, input);
         end_on_error(state, read)
     }
 }
@@ -104,41 +70,13 @@ impl<T: JsonCodec + Key + Ord> JsonCodec for BTreeSet<T> {
     ghost agrees = { seen_agrees (ordered_agrees T.agrees T.cmp) (λ x. x.keys) };
 }
 
-/// Reads items between square brackets into a set. On error, the state may be anywhere.
-fn read_btree_set<T: DeJson + Key + Ord>(
-    alloc: Global,
-    state: &mut DeJsonState,
-    input: &mut Chars<'_>,
-) -> Result<BTreeSet<T>, DeJsonErr>
-    ensures decodes { Decodes (EncodesSet T.json.encoding.encodes)
-        (λ items. ordered_means T.cmp T.means items.keys)
-        (at state.old input.old) (at state.new input.new) result }
-    ensures rejected { Rejects (EncodesSet T.json.encoding.encodes) (at state.old input.old) result }
-    ensures place { Counts state.old input.old state.new input.new }
-    ensures made { IfErr result (IsPlacedAt state.new) }
-{
-    // A text has fewer than 2^63 bytes, so a `usize` counts its items.
-    let _capacity = bytes_left(input);
-    let mut items = BTreeSet::new(alloc);
-    state.block_open(alloc, input)?;
-    'items: while !state.is_block_close() {
-        let item = T::de_json(alloc, state, input)?;
-        let Ok(_added) = items.insert(item) else {
-            return Err(state.err_memory(alloc));
-        };
-        state.eat_comma_block(alloc, input)?;
-    }
-    state.block_close(alloc, input)?;
-    Ok(items)
-}
-
 impl<T: DeJson + Key + Ord> DeJson for BTreeSet<T> {
     fn de_json(
         alloc: Global,
         state: &mut DeJsonState,
         input: &mut Chars<'_>,
     ) -> Result<BTreeSet<T>, DeJsonErr> {
-        let read = read_btree_set(alloc, state, input);
+        let read = read_list::<T, BTreeSet<T>>(alloc, state, input);
         end_on_error(state, read)
     }
 }

@@ -2,14 +2,12 @@
 //! The readers are inlined, so a value that is read passes through no result with space for an
 //! error.
 
-ghost use Rattle.std.specs.Prelude.{string_bytes, IfErr};
+ghost use Rattle.std.specs.Prelude.{string_bytes};
 ghost use Rattle.nano_value.specs.Meaning.{text};
-ghost use Rattle.nano_value.specs.AgreesLaws.{agreed};
+ghost use Rattle.nano_meaning.proofs.AgreesLaws.{agreed};
 ghost use Rattle.nano_json.specs.Codec.{codec_as};
-ghost use Rattle.nano_json.specs.Readers.{Decodes, Rejects};
-ghost use Rattle.nano_json.specs.TextsLaws.{texts, text_codec};
-ghost use Rattle.nano_json.specs.Outcomes.{Counts, IsPlacedAt};
-ghost use Rattle.nano_json.specs.State.{at};
+ghost use Rattle.nano_json.specs.TextCodecs.{texts, text_codec};
+ghost use Rattle.nano_json.specs.Outcomes.{position, Reads};
 
 use crate::traits::{DeJson, JsonCodec, SerJson};
 use nano_json_tokens::{DeJsonErr, DeJsonState, SerJsonState, append_string, end_on_error};
@@ -35,11 +33,8 @@ fn read_string(
     state: &mut DeJsonState,
     input: &mut Chars<'_>,
 ) -> Result<String, DeJsonErr>
-    ensures decodes { Decodes texts.encodes (λ x. text (string_bytes x))
-        (at state.old input.old) (at state.new input.new) result }
-    ensures rejected { Rejects texts.encodes (at state.old input.old) result }
-    ensures place { Counts state.old input.old state.new input.new }
-    ensures made { IfErr result (IsPlacedAt state.new) }
+    ensures { Reads texts.encodes (λ x. text (string_bytes x))
+        (position state.old input.old) (position state.new input.new) result }
 {
     let text = state.as_string(alloc)?;
     state.next_tok(alloc, input)?;

@@ -5,7 +5,7 @@ use nano_value::Value;
 use std::alloc::{AllocError, Global};
 use std::str::Chars;
 
-/// A value with a place in JSON. A type that is only written has one too.
+/// A type that has a JSON codec. A type that is only written has one too.
 pub trait JsonCodec: Value {
     ghost use Rattle.nano_value.specs.Agrees.{Agrees};
     ghost use Rattle.nano_json.specs.Codec.{Codec};
@@ -68,12 +68,8 @@ pub trait SerJson: JsonCodec {
 
 /// A value that can be read from JSON.
 pub trait DeJson: JsonCodec + Drop {
-    ghost use Rattle.std.specs.Prelude.{◌≡◌, OnErr, IfErr};
-    ghost use Rattle.nano_text.specs.Place.{remaining_text};
-    ghost use Rattle.nano_json.specs.Outcomes.{Counts, IsPlacedAt};
-    ghost use Rattle.nano_json.specs.Readers.{Decodes, Rejects, DecodesText, RejectsText};
-    ghost use Rattle.nano_json.specs.Readers.{DecodesWhole, RejectsWhole, NamesTheEnd, PointsInto};
-    ghost use Rattle.nano_json.specs.State.{at, ended};
+    ghost use Rattle.nano_json.specs.Outcomes.{position, ReadsOrEnds};
+    ghost use Rattle.nano_json.specs.Readers.{ReadsText, ReadsWhole};
 
     /// Reads the value that the tokens from the pending one on encode. The token after the
     /// value is pending then, which may be the end.
@@ -94,12 +90,8 @@ pub trait DeJson: JsonCodec + Drop {
         state: &mut DeJsonState,
         input: &mut Chars<'_>,
     ) -> Result<Self, DeJsonErr>
-        ensures decodes { Decodes Self.json.encoding.encodes Self.means
-            (at state.old input.old) (at state.new input.new) result }
-        ensures rejected { Rejects Self.json.encoding.encodes (at state.old input.old) result }
-        ensures ended { OnErr result (at state.new input.new ≡ ended) }
-        ensures place { Counts state.old input.old state.new input.new }
-        ensures made { IfErr result (IsPlacedAt state.new) };
+        ensures { ReadsOrEnds Self.json.encoding.encodes Self.means
+            (position state.old input.old) (position state.new input.new) result };
 
     /// Reads the value that begins the text, which ends before its first NUL. More may follow:
     /// of that, one token is read.
@@ -117,9 +109,7 @@ pub trait DeJson: JsonCodec + Drop {
     /// }
     /// ```
     final fn deserialize_json(alloc: Global, input: &str) -> Result<Self, DeJsonErr>
-        ensures decodes { DecodesText Self.json.encoding.encodes Self.means (remaining_text input.now) result }
-        ensures rejected { RejectsText Self.json.encoding.encodes (remaining_text input.now) result }
-        ensures place { PointsInto input.now result }
+        ensures { ReadsText Self.json.encoding.encodes Self.means input.now result }
     {
         let mut state = DeJsonState::new(alloc);
         let mut chars = input.chars();
@@ -147,10 +137,7 @@ pub trait DeJson: JsonCodec + Drop {
     /// }
     /// ```
     final fn deserialize_json_whole(alloc: Global, input: &str) -> Result<Self, DeJsonErr>
-        ensures decodes { DecodesWhole Self.json.encoding.encodes Self.means input.now result }
-        ensures rejected { RejectsWhole Self.json.encoding.encodes input.now result }
-        ensures trailing { NamesTheEnd Self.json.encoding.encodes input.now result }
-        ensures place { PointsInto input.now result }
+        ensures { ReadsWhole Self.json.encoding.encodes Self.means input.now result }
     {
         let mut state = DeJsonState::new(alloc);
         let mut characters = input.chars();

@@ -1,15 +1,13 @@
 //! Tuples: two, three or four parts between square brackets. On an error the private functions leave
 //! the state anywhere and the text that they wrote; the impls put that right.
 
-ghost use Rattle.std.specs.Prelude.{◌++◌, ◌∷◌, [], OnOk, OnErr, IfErr};
+ghost use Rattle.std.specs.Prelude.{◌++◌, ◌∷◌, [], OnOk, OnErr};
 ghost use Rattle.nano_value.specs.Meaning.{paired};
-ghost use Rattle.nano_value.specs.AgreesLaws.{seen_agrees, pair_agrees};
+ghost use Rattle.nano_meaning.proofs.AgreesLaws.{seen_agrees, pair_agrees};
 ghost use Rattle.nano_text.specs.Outcomes.{Appends, AppendsPart};
-ghost use Rattle.nano_json.specs.Readers.{Decodes, Rejects};
-ghost use Rattle.nano_json.specs.Outcomes.{Counts, IsPlacedAt};
-ghost use Rattle.nano_json.specs.State.{at};
-ghost use Rattle.nano_json.specs.TuplesLaws.{last_codec, two_parts, three_parts, four_parts};
-ghost use Rattle.nano_json.specs.TuplesLaws.{pair_codec, triple_codec, quadruple_codec};
+ghost use Rattle.nano_json.specs.Outcomes.{position, Reads};
+ghost use Rattle.nano_json.specs.TupleCodecs.{last_codec, two_parts, three_parts, four_parts};
+ghost use Rattle.nano_json.specs.TupleCodecs.{pair_codec, triple_codec, quadruple_codec};
 
 use crate::traits::{DeJson, JsonCodec, SerJson};
 use nano_json_tokens::{DeJsonErr, DeJsonState, SerJsonState, end_on_error};
@@ -23,12 +21,8 @@ fn read_last<T: DeJson>(
     state: &mut DeJsonState,
     input: &mut Chars<'_>,
 ) -> Result<T, DeJsonErr>
-    ensures decodes { Decodes (last_codec T.json).encoding.encodes T.means
-        (at state.old input.old) (at state.new input.new) result }
-    ensures rejected { Rejects (last_codec T.json).encoding.encodes
-        (at state.old input.old) result }
-    ensures place { Counts state.old input.old state.new input.new }
-    ensures made { IfErr result (IsPlacedAt state.new) }
+    ensures { Reads (last_codec T.json).encoding.encodes T.means
+        (position state.old input.old) (position state.new input.new) result }
 {
     let last = T::de_json(alloc, state, input)?;
     state.eat_comma_block(alloc, input)?;
@@ -42,13 +36,9 @@ fn read_two<A: DeJson, B: DeJson>(
     state: &mut DeJsonState,
     input: &mut Chars<'_>,
 ) -> Result<(A, B), DeJsonErr>
-    ensures decodes { Decodes (two_parts A.json B.json).encoding.encodes
+    ensures { Reads (two_parts A.json B.json).encoding.encodes
         (λ x. paired (A.means x.0, B.means x.1))
-        (at state.old input.old) (at state.new input.new) result }
-    ensures rejected { Rejects (two_parts A.json B.json).encoding.encodes
-        (at state.old input.old) result }
-    ensures place { Counts state.old input.old state.new input.new }
-    ensures made { IfErr result (IsPlacedAt state.new) }
+        (position state.old input.old) (position state.new input.new) result }
 {
     let first = A::de_json(alloc, state, input)?;
     state.eat_comma_block(alloc, input)?;
@@ -62,13 +52,9 @@ fn read_three<A: DeJson, B: DeJson, C: DeJson>(
     state: &mut DeJsonState,
     input: &mut Chars<'_>,
 ) -> Result<(A, B, C), DeJsonErr>
-    ensures decodes { Decodes (three_parts A.json B.json C.json).encoding.encodes
+    ensures { Reads (three_parts A.json B.json C.json).encoding.encodes
         (λ x. paired (A.means x.0, paired (B.means x.1, C.means x.2)))
-        (at state.old input.old) (at state.new input.new) result }
-    ensures rejected { Rejects (three_parts A.json B.json C.json).encoding.encodes
-        (at state.old input.old) result }
-    ensures place { Counts state.old input.old state.new input.new }
-    ensures made { IfErr result (IsPlacedAt state.new) }
+        (position state.old input.old) (position state.new input.new) result }
 {
     let first = A::de_json(alloc, state, input)?;
     state.eat_comma_block(alloc, input)?;
@@ -82,13 +68,9 @@ fn read_four<A: DeJson, B: DeJson, C: DeJson, D: DeJson>(
     state: &mut DeJsonState,
     input: &mut Chars<'_>,
 ) -> Result<(A, B, C, D), DeJsonErr>
-    ensures decodes { Decodes (four_parts A.json B.json C.json D.json).encoding.encodes
+    ensures { Reads (four_parts A.json B.json C.json D.json).encoding.encodes
         (λ x. paired (A.means x.0, paired (B.means x.1, paired (C.means x.2, D.means x.3))))
-        (at state.old input.old) (at state.new input.new) result }
-    ensures rejected { Rejects (four_parts A.json B.json C.json D.json).encoding.encodes
-        (at state.old input.old) result }
-    ensures place { Counts state.old input.old state.new input.new }
-    ensures made { IfErr result (IsPlacedAt state.new) }
+        (position state.old input.old) (position state.new input.new) result }
 {
     let first = A::de_json(alloc, state, input)?;
     state.eat_comma_block(alloc, input)?;
@@ -148,13 +130,9 @@ fn read_pair<A: DeJson, B: DeJson>(
     state: &mut DeJsonState,
     input: &mut Chars<'_>,
 ) -> Result<(A, B), DeJsonErr>
-    ensures decodes { Decodes (pair_codec A.json B.json).encoding.encodes
+    ensures { Reads (pair_codec A.json B.json).encoding.encodes
         (λ x. paired (A.means x.0, B.means x.1))
-        (at state.old input.old) (at state.new input.new) result }
-    ensures rejected { Rejects (pair_codec A.json B.json).encoding.encodes
-        (at state.old input.old) result }
-    ensures place { Counts state.old input.old state.new input.new }
-    ensures made { IfErr result (IsPlacedAt state.new) }
+        (position state.old input.old) (position state.new input.new) result }
 {
     state.block_open(alloc, input)?;
     read_two(alloc, state, input)
@@ -209,13 +187,9 @@ fn read_triple<A: DeJson, B: DeJson, C: DeJson>(
     state: &mut DeJsonState,
     input: &mut Chars<'_>,
 ) -> Result<(A, B, C), DeJsonErr>
-    ensures decodes { Decodes (triple_codec A.json B.json C.json).encoding.encodes
+    ensures { Reads (triple_codec A.json B.json C.json).encoding.encodes
         (λ x. paired (A.means x.0, paired (B.means x.1, C.means x.2)))
-        (at state.old input.old) (at state.new input.new) result }
-    ensures rejected { Rejects (triple_codec A.json B.json C.json).encoding.encodes
-        (at state.old input.old) result }
-    ensures place { Counts state.old input.old state.new input.new }
-    ensures made { IfErr result (IsPlacedAt state.new) }
+        (position state.old input.old) (position state.new input.new) result }
 {
     state.block_open(alloc, input)?;
     read_three(alloc, state, input)
@@ -271,13 +245,9 @@ fn read_quadruple<A: DeJson, B: DeJson, C: DeJson, D: DeJson>(
     state: &mut DeJsonState,
     input: &mut Chars<'_>,
 ) -> Result<(A, B, C, D), DeJsonErr>
-    ensures decodes { Decodes (quadruple_codec A.json B.json C.json D.json).encoding.encodes
+    ensures { Reads (quadruple_codec A.json B.json C.json D.json).encoding.encodes
         (λ x. paired (A.means x.0, paired (B.means x.1, paired (C.means x.2, D.means x.3))))
-        (at state.old input.old) (at state.new input.new) result }
-    ensures rejected { Rejects (quadruple_codec A.json B.json C.json D.json).encoding.encodes
-        (at state.old input.old) result }
-    ensures place { Counts state.old input.old state.new input.new }
-    ensures made { IfErr result (IsPlacedAt state.new) }
+        (position state.old input.old) (position state.new input.new) result }
 {
     state.block_open(alloc, input)?;
     read_four(alloc, state, input)

@@ -3,9 +3,9 @@ use Rattle.std.proofs.Common.{◌≡◌, ◌≢◌, ℕ, ◌+◌, ◌<◌, ◌�
 use Rattle.std.specs.List.{AllByRecursion}
 use Rattle.nano_grammar.proofs.Tokens.{leaves_append, meets}
 use Rattle.nano_grammar.specs.Tokens.{At, Leaves}
-use Rattle.nano_json_tokens.specs.Token.{Token, str, u64, i64, f64, bool, null, curly_open, curly_close, block_open, block_close, end}
+use Rattle.nano_json_tokens.specs.Token.{Token, str, u64, i64, f64, bool, null, curly_open, block_open, end}
 use Rattle.nano_json_tokens.specs.Cut.{Cut}
-use Rattle.nano_json_tokens.specs.Scan.{is_scalar, is_opening, is_closing, is_end}
+use Rattle.nano_json_tokens.specs.Scan.{is_scalar, is_opening, is_end}
 use Rattle.nano_json_tokens.specs.Skipped.{SkippedField, BeginsField, IsBracketed, IsScalar, opens, closes, opens_in, closes_in}
 use Rattle.nano_json_tokens.proofs.Cuts.{cut_one_way}
 use Rattle.nano_json_tokens.proofs.Shorter.{left, left_token, cut_shorter}
@@ -59,26 +59,8 @@ opens_opening curly_open e = refl
 opens_opening block_open e = refl
 opens_opening _ e = cc e
 
-pub not_opening : (t : Token) → is_opening t ≡ false → opens t ≡ 0
-not_opening curly_open e = cc e
-not_opening block_open e = cc e
-not_opening _ e = refl
-
 pub opening_one : (t : Token) → is_opening t ≡ true → opens t ≡ 1
 opening_one t e = (opening_opens t e).0
-
-pub opening_none_closes : (t : Token) → is_opening t ≡ true → closes t ≡ 0
-opening_none_closes t e = (opening_opens t e).1
-
-pub closing_one : (t : Token) → is_closing t ≡ true → closes t ≡ 1
-closing_one curly_close e = refl
-closing_one block_close e = refl
-closing_one _ e = cc e
-
-pub not_closing : (t : Token) → is_closing t ≡ false → closes t ≡ 0
-not_closing curly_close e = cc e
-not_closing block_close e = cc e
-not_closing _ e = refl
 
 opens_at_most_one : (t : Token) → opens t ≤ 1
 opens_at_most_one curly_open = omega arith

@@ -1,5 +1,5 @@
 -- If allocation failed, the buffer had no capacity for the text of the token.
-use Rattle.std.proofs.Common.{◌≡◌, ◌≢◌, ℕ, ◌<◌, ◌≤◌, List, true, false, arith, rules, length, encode_utf8, refl, ap, subst, codes, string_capacity, encode_utf8_all}
+use Rattle.std.proofs.Common.{◌≡◌, ◌≢◌, ℕ, ◌<◌, ◌≤◌, List, true, false, arith, rules, length, encode_utf8, refl, ap, subst, codes, string_bytes, string_capacity, encode_utf8_all}
 use Rattle.std.specs.declared.str.Chars.{Chars}
 use Rattle.std.proofs.lemmas.Bool.Decides.{nat_tests}
 use Rattle.std.proofs.lemmas.Str.{encode_ascii}
@@ -12,7 +12,8 @@ use Rattle.nano_text.proofs.Numbers.{IsNumber-unique}
 use Rattle.nano_text.proofs.RemainingText.{remaining_more}
 use Rattle.nano_json_tokens.specs.Cut.{is_word, IsWord, IsRunOf, IsQuoted}
 use Rattle.nano_json_tokens.specs.Outcomes.{Outgrows, NothingCut, NoCapacity}
-use Rattle.nano_json_tokens.specs.Token.{Token, str, u64, i64, f64, bool, null}
+use Rattle.nano_json_tokens.specs.Token.{Token, str, u64, i64, f64, bool, null, IsLiteral}
+use Rattle.nano_json_tokens.specs.State.{pending, KeepsOtherBuffers}
 use Rattle.nano_json_tokens.specs.declared.state.DeJsonState.{DeJsonState}
 use Rattle.nano_json_tokens.specs.declared.scan.Rejection.{Rejection}
 use Rattle.nano_json_tokens.specs.declared.scan.Rejection.TheVariants.{Memory}
@@ -66,3 +67,17 @@ pub by_rejection : (r : Rejection) (s : DeJsonState) (text : List ℕ) → (r �
     → (r ≡ Memory → NoCapacity s text) → NoCapacity s text
 by_rejection Memory s text none capacity = capacity refl
 by_rejection _ s text none capacity = λ t rest cut. absurd (none (λ e. cc e) t rest cut)
+
+pub word_literal : (t : Token) (text rest : List ℕ) → IsWord t text rest → IsLiteral t
+word_literal (bool b) text rest h = tt
+word_literal null text rest h = tt
+word_literal _ text rest h = absurd h
+
+-- a word changes no buffer but its own
+pub word_keeps : (old new : DeJsonState) (text rest : List ℕ) → new.strbuf ≡ old.strbuf → new.numbuf ≡ old.numbuf
+    → IsWord (pending new) text rest → KeepsOtherBuffers old new
+word_keeps old new text rest strbuf numbuf word = record {
+  strbuf = λ _. ap (λ s. string_bytes s) strbuf;
+  numbuf = λ _. ap (λ s. string_bytes s) numbuf;
+  identbuf = λ other. absurd (other (word_literal (pending new) text rest word));
+}

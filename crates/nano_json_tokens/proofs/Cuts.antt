@@ -15,7 +15,7 @@ use Rattle.nano_json_tokens.specs.Token.{Token, str, u64, i64, f64, bool, null, 
 use Rattle.nano_json_tokens.specs.Cut.{is_space, is_word, BeginsWithWord, IsPunctuator, IsWord, IsRunOf, IsQuoted, IsEnd, IsLexeme, punctuator, word, number, quoted, nothing, Cut}
 use Rattle.nano_json_tokens.specs.Scan.{punctuator_of, word_token}
 use Rattle.nano_json_tokens.proofs.LexemeKinds.{punctuator_kind, word_kind, number_kind, quoted_kind, end_kind, only_punctuator, only_word, only_number, only_quoted, only_end, lexeme_no_space}
-use Rattle.nano_grammar.specs.OptionsLaws.{some_injective}
+use Rattle.nano_grammar.proofs.OptionsLaws.{some_injective}
 
 pick : {A : Type 0} (b : Bool) (x y z : A) → cond b x y ≡ z → ((b ≡ true) × (x ≡ z)) ⊎ ((b ≡ false) × (y ≡ z))
 pick true x y z e = inl (refl, e)

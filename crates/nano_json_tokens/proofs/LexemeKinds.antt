@@ -1,5 +1,5 @@
 -- What the first character of a text says of the lexeme that the text begins with.
-use Rattle.std.proofs.Common.{◌≡◌, ℕ, List, [], ◌∷◌, inl, inr, Bool, true, false, cond, refl, ap, sym, ◌∙◌, Some, None, is_some, arith, nat_eq, ◌≤◌, eqb-true, ne_eqb}
+use Rattle.std.proofs.Common.{◌≡◌, ℕ, List, [], ◌∷◌, inl, inr, Bool, true, false, cond, refl, ap, sym, ◌∙◌, None, is_some, arith, nat_eq, ◌≤◌, eqb-true, ne_eqb}
 use Rattle.std.specs.Char.{is_ascii_digit}
 use Rattle.std.specs.declared.str.Chars.{Chars}
 use Rattle.std.proofs.lemmas.Bool.{or_cases}
@@ -35,10 +35,6 @@ kind_remaining cur i = elim (nat_eq cur 0) as (λ (b : Bool). nat_eq cur 0 ≡ b
   | false ↦ λ e. refl
 ] refl
 
-pub kind_punctuator : (c : ℕ) (t : Token) → punctuator_of c ≡ Some t → kind_of c ≡ a_punctuator
-unfolding kind_of
-kind_punctuator c t e = rw e refl
-
 digit_no_punctuator : (c : ℕ) → 48 ≤ c → c ≤ 57 → punctuator_of c ≡ None
 digit_no_punctuator c l h = rw (ne_eqb c 58 (λ e. omega arith), ne_eqb c 44 (λ e. omega arith), ne_eqb c 91 (λ e. omega arith), ne_eqb c 93 (λ e. omega arith), ne_eqb c 123 (λ e. omega arith), ne_eqb c 125 (λ e. omega arith)) refl
 
@@ -60,10 +56,6 @@ kind_string = refl
 pub kind_word : (c : ℕ) → punctuator_of c ≡ None → starts_number c ≡ false → nat_eq c 34 ≡ false → is_word c ≡ true → kind_of c ≡ a_word
 unfolding kind_of
 kind_word c m n q w = rw (m, n, q, w) refl
-
-pub kind_end : kind_of 0 ≡ the_end
-unfolding kind_of
-kind_end = refl
 
 pub kind_none : (c : ℕ) → punctuator_of c ≡ None → starts_number c ≡ false → nat_eq c 34 ≡ false → is_word c ≡ false → nat_eq c 0 ≡ false → kind_of c ≡ no_token
 unfolding kind_of

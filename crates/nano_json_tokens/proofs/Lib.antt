@@ -1,7 +1,12 @@
-pub mod Reporting
 pub mod LexemeKinds
 pub mod Cuts
 pub mod NamesAhead
 pub mod Capacity
 pub mod Shorter
 pub mod BracketCounts
+pub mod Calling
+pub mod Scanning
+pub mod CutAgainLaws
+pub mod JsonLaws
+pub mod ScalarsLaws
+pub mod WrittenTextLaws

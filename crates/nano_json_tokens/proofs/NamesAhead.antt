@@ -2,7 +2,7 @@
 use Rattle.std.proofs.Common.{◌≡◌, ℕ, List, [], ◌∷◌, encode_utf8_all, chars, length, refl, ap, sym, ◌∙◌, subst, arith}
 use Rattle.std.specs.Str.Iter.{chars_rest}
 use Rattle.std.specs.declared.str.Chars.{Chars}
-use Rattle.nano_text.specs.Place.{before_nul, remaining, Advances}
+use Rattle.nano_text.specs.Place.{before_nul, remaining, Moves}
 use Rattle.nano_text.specs.declared.place.Place.{Place}
 use Rattle.nano_text.specs.Prefix.{following}
 use Rattle.nano_text.specs.String.{IsString, IsPlainString}
@@ -19,8 +19,8 @@ pub same_remaining : (cur : ℕ) (i j : Chars) → chars_rest i ≡ chars_rest j
 unfolding remaining
 same_remaining cur i j e = ap (λ (bytes : List ℕ). before_nul (cur ∷ chars bytes)) e
 
-pub advances_from : (p q : Place) (i j k : Chars) → chars_rest i ≡ chars_rest j → Advances p i q k → Advances p j q k
-advances_from p q i j k e h = record {
+pub moves_from : (p q : Place) (i j k : Chars) → chars_rest i ≡ chars_rest j → Moves p i q k → Moves p j q k
+moves_from p q i j k e h = record {
   passes = record {
     taken = h.passes.taken;
     split = sym (ap chars e) ∙ h.passes.split;
@@ -28,6 +28,7 @@ advances_from p q i j k e h = record {
     col = h.passes.col;
   };
   within = omega (arith, h.within, ap length (same_remaining p.cur i j e));
+  exact = omega (arith, h.exact, ap (λ (bytes : List ℕ). length (chars bytes)) e, ap length (same_remaining p.cur i j e));
 }
 
 -- the name is cut after white space, and then the colon

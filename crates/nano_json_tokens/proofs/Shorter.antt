@@ -1,7 +1,7 @@
 -- Each token that is taken leaves less, so what takes tokens ends, and their count has a bound.
-use Rattle.std.proofs.Common.{◌≡◌, ◌≢◌, ℕ, ◌+◌, ◌<◌, ◌≤◌, List, [], ◌∷◌, ◌++◌, refl, ap, sym, subst, length, length-append, arith, cond, true, false}
+use Rattle.std.proofs.Common.{◌≡◌, ◌≢◌, ℕ, ◌+◌, ◌<◌, ◌≤◌, List, ◌∷◌, ◌++◌, refl, ap, sym, subst, length, length-append, arith, cond, true, false}
 use Rattle.nano_text.proofs.Numbers.{IsNumber-shorter}
-use Rattle.nano_grammar.specs.Tokens.{At, Leaves}
+use Rattle.nano_grammar.specs.Tokens.{At}
 use Rattle.nano_text.specs.declared.number.Number.TheVariants.{U64, I64, Dec}
 use Rattle.nano_json_tokens.specs.Token.{Token, str, u64, i64, f64, bool, null, colon, curly_open, curly_close, block_open, block_close, comma, end}
 use Rattle.nano_json_tokens.specs.Cut.{Cut, IsPunctuator, IsWord, IsRunOf, IsQuoted, IsEnd, IsLexeme, punctuator, word, number, quoted, nothing}
@@ -60,10 +60,6 @@ pub cut_shorter : (s m : At Token) → Cut s.text m.token m.text → left m ≤ 
 unfolding left
 cut_shorter s m h = cut_takes s.text m.token m.text h
 
-pub left_more : (s : At Token) → length s.text ≤ left s
-unfolding left
-left_more s = omega arith
-
 pub not_end : (t : Token) → t ≢ end → is_end t ≡ false
 not_end end h = absurd (h refl)
 not_end _ h = refl
@@ -75,7 +71,3 @@ left_token s h = rw (not_end s.token h) refl
 
 pub token_shorter : (s m : At Token) → s.token ≢ end → Cut s.text m.token m.text → left m < left s
 token_shorter s m more c = omega (arith, cut_shorter s m c, left_token s more)
-
-pub leaves_shorter : (ts : List Token) (s e : At Token) → Leaves Cut ts s e → left e ≤ left s
-leaves_shorter [] s e h = omega (arith, ap left h)
-leaves_shorter (t ∷ ts) s e h = omega (arith, leaves_shorter ts h.1.0 e h.1.2, cut_shorter s h.1.0 h.1.1, left_more s)

@@ -8,7 +8,7 @@ use Rattle.nano_json_tokens.specs.Token.{block_close}
 abbrev pub blocks : ListPunctuation Token
 blocks = record { opening = block_open; closing = block_close; comma = comma }
 
--- curly brackets
+-- braces
 abbrev pub curlies : ListPunctuation Token
 curlies = record { opening = curly_open; closing = curly_close; comma = comma }
 

@@ -5,13 +5,12 @@ pub mod Skipped
 pub mod Messages
 pub mod Outcomes
 pub mod Scan
+pub mod Names
+pub mod Input
+pub mod SkippedOutcomes
 pub mod Promises
 pub mod Punctuation
 pub mod Brackets
 pub mod Written
-pub mod WrittenLaws
-pub mod CutAgainLaws
-pub mod WrittenTextLaws
+pub mod WrittenImpls
 pub mod Json
-pub mod JsonLaws
-pub mod ScalarsLaws

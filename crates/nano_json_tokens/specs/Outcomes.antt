@@ -1,24 +1,32 @@
 -- What the calls of a reader's state and of a writer's come to.
-use Rattle.std.specs.Prelude.{◌≡◌, ◌≢◌, ◌<◌, true, false, ℕ, List, [], ◌++◌, length, codes, Result}
-use Rattle.std.specs.Prelude.{IsOk, IfOk, String, string_bytes, string_capacity}
+use Rattle.std.specs.Prelude.{◌≡◌, ◌≢◌, ◌⊎◌, ◌≤◌, ◌<◌, ◌≤ℤ◌, ◌<ℤ◌, ℕ, ℤ, Bool, true, false, Some}
+use Rattle.std.specs.Prelude.{List, [], ◌∷◌, ◌++◌, length, codes, decimal, Result, IsOk, IfOk}
+use Rattle.std.specs.Prelude.{MatchResult, String, string_bytes, string_capacity}
 use Rattle.std.specs.declared.str.Chars.{Chars}
-use Rattle.nano_text.specs.Place.{remaining, Advances}
-use Rattle.nano_text.specs.declared.place.Place.{Place}
+use Rattle.nano_text.specs.Place.{remaining, Moves}
 use Rattle.nano_grammar.specs.Tokens.{At, Leaves}
+use Rattle.nano_grammar.specs.Outcomes.{Report, Position, IsMadeAt as MadeAt, Fails, Stops, RejectsToken}
+use Rattle.nano_grammar.specs.Outcomes.{TookNext, Took, TookComma, NothingCut as NothingCutBy}
+use Rattle.nano_grammar.specs.Outcomes.{Reads as ReadsBy, ReadsOrEnds as ReadsOrEndsBy}
 use Rattle.nano_json_tokens.specs.declared.error.DeJsonErr.{DeJsonErr}
 use Rattle.nano_json_tokens.specs.declared.state.DeJsonState.{DeJsonState}
+use Rattle.nano_json_tokens.specs.declared.token.DeJsonTok.TheVariants.{Eof}
 use Rattle.nano_json_tokens.specs.declared.writer.SerJsonState.{SerJsonState}
-use Rattle.nano_json_tokens.specs.Token.{Token, str, f64, bool, null, colon}
+use Rattle.nano_json_tokens.specs.Messages.{out_of_range, below_range, above_range}
+use Rattle.nano_json_tokens.specs.Token.{Token, str, u64, f64, bool, null, colon, comma, integer_of}
+use Rattle.nano_json_tokens.specs.Token.{IsStr}
 use Rattle.nano_json_tokens.specs.Cut.{Cut}
-use Rattle.nano_json_tokens.specs.State.{at, pending, place_of, KeepsOtherBuffers}
+use Rattle.nano_json_tokens.specs.State.{at, ended, pending, place_of, KeepsOtherBuffers}
+
+-- ---- errors
+
+-- what an error says
+abbrev pub report : DeJsonErr → Report
+report e = record { memory = e.memory; message = string_bytes e.msg; line = e.line; col = e.col }
 
 -- the error is at the state's position; an out of memory error has no message
 abbrev pub IsMadeAt : DeJsonState → DeJsonErr → Type 0
-IsMadeAt s e = (e.memory ≡ true → string_bytes e.msg ≡ []) × (e.line ≡ s.line) × (e.col ≡ s.col)
-
--- the error has the line and the column of the state
-abbrev pub IsPlacedAt : DeJsonState → DeJsonErr → Type 0
-IsPlacedAt s e = (e.line ≡ s.line) × (e.col ≡ s.col)
+IsMadeAt s e = MadeAt (place_of s) (report e)
 
 -- unless it is out of memory, the error reports the fact
 abbrev pub Reports : DeJsonState → Type 0 → DeJsonErr → Type 0
@@ -32,9 +40,25 @@ Says s text e = Reports s (string_bytes e.msg ≡ text) e
 abbrev pub SaysIt : {Y E : Type 0} → DeJsonState → Result (String Y) E → DeJsonErr → Type 0
 SaysIt s msg e = Reports s (IsOk msg × IfOk msg (λ m. string_bytes e.msg ≡ string_bytes m)) e
 
+-- ---- where a state is
+
+-- the pending token with the remaining text, line and column, and what the input still holds
+abbrev pub position : DeJsonState → Chars → Position Token
+position s i = record { at = at s i; place = place_of s; input = i }
+
+-- nothing is changed
+abbrev pub Keeps : DeJsonState → Chars → DeJsonState → Chars → Type 0
+Keeps old before new after = (new ≡ old) × (after ≡ before)
+
+-- line and column count exactly the characters between
+abbrev pub Moved : DeJsonState → Chars → DeJsonState → Chars → Type 0
+Moved old before new after = Moves (place_of old) before (place_of new) after
+
+-- ---- what is not there
+
 -- no token is cut from the text
 abbrev pub NothingCut : List ℕ → Type 0
-NothingCut text = (t : Token) (rest : List ℕ) → Cut text t rest → ⊥
+NothingCut text = NothingCutBy Cut text
 
 -- the pending token and those after it are these, and the next one is pending then
 abbrev pub Takes : List Token → DeJsonState → Chars → DeJsonState → Chars → Type 0
@@ -43,25 +67,6 @@ Takes ts old before new after = Leaves Cut ts (at old before) (at new after)
 -- these tokens, with one more or the end after them, do not stand here
 abbrev pub NoneHere : List Token → DeJsonState → Chars → Type 0
 NoneHere ts s i = (after : At Token) → Leaves Cut ts (at s i) after → ⊥
-
--- nothing is changed
-abbrev pub Keeps : DeJsonState → Chars → DeJsonState → Chars → Type 0
-Keeps old before new after = (new ≡ old) × (after ≡ before)
-
--- the token after the pending one is not a colon: it was taken, and is pending
-abbrev pub FindsOther : DeJsonState → Chars → DeJsonState → Chars → Type 0
-FindsOther old before new after = (pending new ≢ colon)
-    × Cut (remaining old.cur before) (pending new) (remaining new.cur after)
-    × KeepsOtherBuffers old new
-
--- line and column count each character that was taken, and all of them are of the text
-abbrev pub Counts : DeJsonState → Chars → DeJsonState → Chars → Type 0
-Counts old before new after = Advances (place_of old) before (place_of new) after
-
--- what line and column counted of a text before, they count still
-abbrev pub StillCounts : DeJsonState → DeJsonState → Type 0
-StillCounts old new = (start : Place) (before after : Chars)
-    → Advances start before (place_of old) after → Advances start before (place_of new) after
 
 -- the token's text goes to a buffer that has no capacity for it yet
 abbrev pub Outgrows : DeJsonState → Token → Type 0
@@ -80,6 +85,131 @@ NoCapacity s text = (t : Token) (rest : List ℕ) → Cut text t rest → Outgro
 abbrev pub NoCapacityForOther : DeJsonState → List ℕ → Type 0
 NoCapacityForOther s text =
     (t : Token) (rest : List ℕ) → Cut text t rest → t ≢ colon → Outgrows s t
+
+-- ---- calls that take tokens
+
+module _ (old : DeJsonState) (before : Chars) (new : DeJsonState) (after : Chars) where
+  -- the next token is taken; or none can be, and the state is at the end of the text
+  abbrev pub TakesNext : {A : Type 0} → Result A DeJsonErr → Type 0
+  TakesNext result = MatchResult result
+      (λ _. TookNext Cut (KeepsOtherBuffers old new) (position old before) (position new after))
+      (λ e. Stops ended (NothingCut (remaining old.cur before))
+      (NoCapacity old (remaining old.cur before)) (position old before) (position new after)
+      (report e))
+
+  -- these tokens are taken
+  abbrev pub Taken : List Token → Type 0
+  Taken = Took Cut (KeepsOtherBuffers old new) (position old before) (position new after)
+
+  -- the pending token is not the wanted one; or it is, and no token can be taken after it
+  abbrev pub NotTaken : Type 0 → Type 0 → DeJsonErr → Type 0
+  NotTaken wanted fact e = RejectsToken ended wanted fact (NoCapacity old (remaining old.cur before))
+      (Keeps old before new after) (position old before) (position new after) (report e)
+
+  -- the token is taken
+  abbrev pub TakesOne : {A : Type 0} → Token → Result A DeJsonErr → Type 0
+  TakesOne t result = MatchResult result (λ _. Taken (t ∷ []))
+      (NotTaken (pending old ≡ t) (NoneHere (t ∷ []) old before))
+
+  -- a string is taken
+  abbrev pub TakesString : {A : Type 0} → Result A DeJsonErr → Type 0
+  TakesString result = MatchResult result (λ _. (bytes : List ℕ) × Taken (str bytes ∷ []))
+      (NotTaken (IsStr (pending old)) ((bytes : List ℕ) → NoneHere (str bytes ∷ []) old before))
+
+  -- a comma is taken, or the closing bracket is pending, which is never an error
+  abbrev pub TakesComma : {A : Type 0} → Token → Result A DeJsonErr → Type 0
+  TakesComma closing result = MatchResult result
+      (λ _. TookComma Cut (KeepsOtherBuffers old new) (position old before) (position new after)
+      comma closing (Keeps old before new after))
+      (λ e. (pending old ≢ closing) × NotTaken (pending old ≡ comma)
+      ((pending old ≢ closing) × NoneHere (comma ∷ []) old before) e)
+
+  -- the token after the pending one is not a colon: it was taken, and is pending
+  abbrev pub FindsOther : Type 0
+  FindsOther = (pending new ≢ colon)
+      × Cut (remaining old.cur before) (pending new) (remaining new.cur after)
+      × KeepsOtherBuffers old new
+
+  -- no colon comes after the pending token
+  pub record NoColon (e : DeJsonErr) : Type 0 where
+    pub fails : Fails (NoneHere (pending old ∷ (colon ∷ [])) old before) (position old before)
+        (position new after) (report e)
+    pub other : e.memory ≡ false → (next : At Token)
+        → Cut (remaining old.cur before) next.token next.text → next.token ≢ colon
+        → at new after ≡ next
+    pub left : FindsOther
+        ⊎ ((at new after ≡ ended) × NoCapacityForOther old (remaining old.cur before))
+
+  abbrev pub TakesColon : {A : Type 0} → Result A DeJsonErr → Type 0
+  TakesColon result = MatchResult result (λ _. Taken (pending old ∷ (colon ∷ []))) NoColon
+
+-- ---- calls that look at the pending token
+
+-- it is no such value
+pub record Lacks (s : DeJsonState) (fact : Type 0) (e : DeJsonErr) : Type 0 where
+  pub lacks : fact
+  pub made : IsMadeAt s e
+
+abbrev pub GivesTruth : DeJsonState → Result Bool DeJsonErr → Type 0
+GivesTruth s result = MatchResult result (λ value. pending s ≡ bool value)
+    (Lacks s ((value : Bool) → pending s ≢ bool value))
+
+-- it is no such number; a greater one is named
+pub record LacksUnsigned (s : DeJsonState) (max : ℕ) (e : DeJsonErr) : Type 0 where
+  pub lacks : (value : ℕ) → pending s ≡ u64 value → value ≤ max → ⊥
+  pub above : e.memory ≡ false → (value : ℕ) → pending s ≡ u64 value
+      → string_bytes e.msg ≡ out_of_range (decimal value) (codes ">") (decimal max)
+  pub made : IsMadeAt s e
+
+abbrev pub GivesUnsigned : DeJsonState → ℕ → Result ℕ DeJsonErr → Type 0
+GivesUnsigned s max result = MatchResult result
+    (λ value. (pending s ≡ u64 value) × (value ≤ max)) (LacksUnsigned s max)
+
+-- it is no such number; a smaller one is named, and else a greater one
+pub record LacksSigned (s : DeJsonState) (min max : ℤ) (e : DeJsonErr) : Type 0 where
+  pub lacks : (value : ℤ) → integer_of (pending s) ≡ Some value → min ≤ℤ value → value ≤ℤ max → ⊥
+  pub below : e.memory ≡ false → (value : ℤ) → integer_of (pending s) ≡ Some value → value <ℤ min
+      → string_bytes e.msg ≡ below_range value min
+  pub above : e.memory ≡ false → (value : ℤ) → integer_of (pending s) ≡ Some value → min ≤ℤ value
+      → string_bytes e.msg ≡ above_range value max
+  pub made : IsMadeAt s e
+
+abbrev pub GivesSigned : DeJsonState → ℤ → ℤ → Result ℤ DeJsonErr → Type 0
+GivesSigned s min max result = MatchResult result
+    (λ value. (integer_of (pending s) ≡ Some value) × (min ≤ℤ value) × (value ≤ℤ max))
+    (LacksSigned s min max)
+
+-- its text was taken out of the buffer, and all else is the same
+pub record TookText (old new : DeJsonState) (text : List ℕ) : Type 0 where
+  pub is : pending old ≡ str text
+  pub emptied : string_bytes new.strbuf ≡ []
+  pub others : new ≡ record old { strbuf = new.strbuf }
+
+-- it is no string
+pub record LacksText (old new : DeJsonState) (e : DeJsonErr) : Type 0 where
+  pub lacks : IsStr (pending old) → ⊥
+  pub unchanged : new ≡ old
+  pub made : IsMadeAt old e
+
+-- ---- values
+
+-- a call reads a value by what it means; an error leaves the state anywhere
+abbrev pub Reads : {V A : Type 0} → (List Token → V → Type 0) → (A → V) → Position Token
+    → Position Token → Result A DeJsonErr → Type 0
+Reads encodes means start end result = ReadsBy Cut encodes start end report means result
+
+-- the same, and an error leaves the state at the end of the text
+abbrev pub ReadsOrEnds : {V A : Type 0} → (List Token → V → Type 0) → (A → V) → Position Token
+    → Position Token → Result A DeJsonErr → Type 0
+ReadsOrEnds encodes means start end result =
+    ReadsOrEndsBy Cut encodes start end report means ended result
+
+-- what was read is handed on: the state is unchanged, or at the end of the text where nothing was
+-- read
+pub record EndsOnError {A : Type 0} (old new : DeJsonState) (read result : Result A DeJsonErr)
+    : Type 0 where
+  pub same : result ≡ read
+  pub state : MatchResult read (λ _. new ≡ old) (λ _. new ≡ record old { tok = Eof; cur = 0 })
 
 -- ---- writers
 

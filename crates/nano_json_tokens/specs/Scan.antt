@@ -1,31 +1,74 @@
 -- The code's own tests of characters and tokens, for the contracts of private functions.
-use Rattle.std.specs.Prelude.{ℕ, ◌==◌, Bool, true, false, List, codes, Option, Some, None, bytes_eq}
-use Rattle.std.specs.Prelude.{if◌then◌else◌}
+use Rattle.std.specs.Prelude.{◌≡◌, ◌≢◌, ◌==◌, ◌<◌, ℕ, Bool, true, false, List, length, codes}
+use Rattle.std.specs.Prelude.{Option, Some, None, bytes_eq, if◌then◌else◌, Result, MatchResult}
+use Rattle.std.specs.Prelude.{string_capacity}
+use Rattle.std.specs.declared.str.Chars.{Chars}
+use Rattle.nano_text.specs.Place.{remaining}
+use Rattle.nano_text.specs.Prefix.{prefix, following}
+use Rattle.nano_grammar.specs.Outcomes.{NothingCut, TookNext}
+use Rattle.nano_json_tokens.specs.declared.scan.Rejection.{Rejection}
+use Rattle.nano_json_tokens.specs.declared.scan.Rejection.TheVariants.{Memory}
 use Rattle.nano_json_tokens.specs.declared.state.DeJsonState.{DeJsonState}
-use Rattle.nano_json_tokens.specs.Cut.{IsLexeme, IsRunOf, IsQuoted}
-use Rattle.nano_json_tokens.specs.Outcomes.{Outgrows}
+use Rattle.nano_json_tokens.specs.Cut.{is_space, is_word}
+use Rattle.nano_json_tokens.specs.Outcomes.{Outgrows, Moved, position}
+use Rattle.nano_json_tokens.specs.State.{KeepsOtherBuffers}
 use Rattle.nano_json_tokens.specs.Token.{Token, str, u64, i64, f64, bool, null, colon, curly_open}
 use Rattle.nano_json_tokens.specs.Token.{curly_close, block_open, block_close, comma, end}
 
--- no lexeme, no number run and no string that is a token stands here
-abbrev pub NoneLexeme : List ℕ → Type 0
-NoneLexeme text = (t : Token) (rest : List ℕ) → IsLexeme t text rest → ⊥
+-- the token that a word is
+abbrev pub word_token : List ℕ → Option Token
+word_token w =
+    if bytes_eq w (codes "true") then Some (bool true)
+    else if bytes_eq w (codes "false") then Some (bool false)
+    else if bytes_eq w (codes "null") then Some null
+    else None
 
-abbrev pub NoneRunOf : List ℕ → Type 0
-NoneRunOf text = (t : Token) (rest : List ℕ) → IsRunOf t text rest → ⊥
+module _ (shape : List ℕ → Token → List ℕ → Type 0) (old : DeJsonState) (before : Chars)
+    (new : DeJsonState) (after : Chars) where
+  -- no token of this shape stands here, or if one does, it outgrows its buffer
+  pub record NotScanned (r : Rejection) : Type 0 where
+    pub rejected : r ≢ Memory → NothingCut shape (remaining old.cur before)
+    pub capacity : r ≡ Memory → (t : Token) (rest : List ℕ) → shape (remaining old.cur before) t rest
+        → Outgrows old t
+    pub place : Moved old before new after
 
-abbrev pub NoneQuoted : List ℕ → Type 0
-NoneQuoted text = (t : Token) (rest : List ℕ) → IsQuoted t text rest → ⊥
+  -- a token of this shape is taken
+  abbrev pub Scans : {A : Type 0} → Result A Rejection → Type 0
+  Scans result = MatchResult result
+      (λ _. TookNext shape (KeepsOtherBuffers old new) (position old before) (position new after))
+      NotScanned
 
--- if a lexeme, a number run or a string that is a token stands here, it outgrows its buffer
-abbrev pub NoCapacityForLexeme : DeJsonState → List ℕ → Type 0
-NoCapacityForLexeme s text = (t : Token) (rest : List ℕ) → IsLexeme t text rest → Outgrows s t
+module _ (old : DeJsonState) (before : Chars) (new : DeJsonState) (after : Chars) where
+  -- white space was passed, and nothing else changed
+  pub record PassedSpace : Type 0 where
+    pub rest : remaining new.cur after ≡ following is_space (remaining old.cur before)
+    pub place : Moved old before new after
+    pub tok : new.tok ≡ old.tok
+    pub strbuf : new.strbuf ≡ old.strbuf
+    pub numbuf : new.numbuf ≡ old.numbuf
+    pub identbuf : new.identbuf ≡ old.identbuf
 
-abbrev pub NoCapacityForRun : DeJsonState → List ℕ → Type 0
-NoCapacityForRun s text = (t : Token) (rest : List ℕ) → IsRunOf t text rest → Outgrows s t
+  -- a word was passed
+  pub record PassedWord : Type 0 where
+    pub rest : remaining new.cur after ≡ following is_word (remaining old.cur before)
+    pub place : Moved old before new after
 
-abbrev pub NoCapacityForQuoted : DeJsonState → List ℕ → Type 0
-NoCapacityForQuoted s text = (t : Token) (rest : List ℕ) → IsQuoted t text rest → Outgrows s t
+  -- and it has this property
+  pub record FoundWord (fact : Type 0) : Type 0 where
+    pub word : fact
+    pub passed : PassedWord
+
+  -- the buffer had no capacity for the word
+  pub record NoCapacityForWord : Type 0 where
+    pub full : string_capacity old.identbuf < length (prefix is_word (remaining old.cur before))
+    pub place : Moved old before new after
+
+  -- the word is no token, or the buffer had no capacity for it
+  pub record NotWord (r : Rejection) : Type 0 where
+    pub rejected : r ≢ Memory → word_token (prefix is_word (remaining old.cur before)) ≡ None
+    pub capacity : r ≡ Memory
+        → string_capacity old.identbuf < length (prefix is_word (remaining old.cur before))
+    pub place : Moved old before new after
 
 -- the punctuator that a character is
 abbrev pub punctuator_of : ℕ → Option Token
@@ -36,14 +79,6 @@ punctuator_of c =
     else if c == 93 then Some block_close
     else if c == 123 then Some curly_open
     else if c == 125 then Some curly_close
-    else None
-
--- the token that a word is
-abbrev pub word_token : List ℕ → Option Token
-word_token w =
-    if bytes_eq w (codes "true") then Some (bool true)
-    else if bytes_eq w (codes "false") then Some (bool false)
-    else if bytes_eq w (codes "null") then Some null
     else None
 
 abbrev pub is_scalar : Token → Bool

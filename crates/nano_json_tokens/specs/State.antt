@@ -55,3 +55,19 @@ pub record KeepsOtherBuffers (old new : DeJsonState) : Type 0 where
   pub strbuf : ¬ IsStr (pending new) → string_bytes new.strbuf ≡ string_bytes old.strbuf
   pub numbuf : ¬ IsNumeric (pending new) → string_bytes new.numbuf ≡ string_bytes old.numbuf
   pub identbuf : ¬ IsLiteral (pending new) → string_bytes new.identbuf ≡ string_bytes old.identbuf
+
+-- no buffer has changed
+pub record KeepsBuffers (old new : DeJsonState) : Type 0 where
+  pub strbuf : new.strbuf ≡ old.strbuf
+  pub numbuf : new.numbuf ≡ old.numbuf
+  pub identbuf : new.identbuf ≡ old.identbuf
+
+-- a state before the first character
+pub record IsFresh (s : DeJsonState) : Type 0 where
+  pub cur : s.cur ≡ 0
+  pub tok : s.tok ≡ Bof
+  pub strbuf : string_bytes s.strbuf ≡ []
+  pub numbuf : string_bytes s.numbuf ≡ []
+  pub identbuf : string_bytes s.identbuf ≡ []
+  pub line : s.line ≡ 0
+  pub col : s.col ≡ 0

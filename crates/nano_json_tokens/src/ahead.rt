@@ -1,12 +1,10 @@
 //! What mostly stands next, which is taken with no call: a punctuator after a value, and the first
 //! token of a value.
 
-ghost use Rattle.std.specs.Prelude.{◌≡◌, ◌≢◌, ℕ, List, OnOk, IfErr, IfSome, Some, true, false};
-ghost use Rattle.nano_text.specs.Place.{remaining};
+ghost use Rattle.std.specs.Prelude.{◌≡◌, ℕ, List, IfSome, Some, true, false};
 ghost use Rattle.nano_json_tokens.specs.Cut.{is_space, Cut};
-ghost use Rattle.nano_json_tokens.specs.Outcomes.{NothingCut, NoCapacity, Counts};
-ghost use Rattle.nano_json_tokens.specs.Scan.{punctuator_of};
-ghost use Rattle.nano_json_tokens.specs.State.{token_of, pending, KeepsOtherBuffers};
+ghost use Rattle.nano_json_tokens.specs.Scan.{punctuator_of, Scans};
+ghost use Rattle.nano_json_tokens.specs.State.{token_of};
 
 use crate::scan::Rejection;
 use crate::state::DeJsonState;
@@ -17,19 +15,12 @@ impl DeJsonState {
     /// Takes the next token. An error leaves the pending token, and the place where the error
     /// was found.
     ///
-    /// A comma, a colon or a closing curly bracket directly follows most values and names. It
+    /// A comma, a colon or a closing brace directly follows most values and names. It
     /// is taken here, inlined, and what makes errors is inlined in the callers too. A separate
     /// function takes any other token, so no error is written where a token is taken.
     #[inline(always)]
     pub(crate) fn scan_after_value(&mut self, i: &mut Chars<'_>) -> Result<(), Rejection>
-        ensures taken { OnOk result
-            (Cut (remaining self.old.cur i.old) (pending self.new) (remaining self.new.cur i.new)) }
-        ensures buffers { OnOk result (KeepsOtherBuffers self.old self.new) }
-        ensures place { Counts self.old i.old self.new i.new }
-        ensures rejected { IfErr result (λ r. r ≢ Rejection.Memory
-            → NothingCut (remaining self.old.cur i.old)) }
-        ensures capacity { IfErr result (λ r. r ≡ Rejection.Memory
-            → NoCapacity self.old (remaining self.old.cur i.old)) }
+        ensures { Scans Cut self.old i.old self.new i.new result }
     {
         if let Some(tok) = separator(self.cur) {
             self.next(i);
@@ -46,14 +37,7 @@ impl DeJsonState {
     /// Its first token is taken here, inlined. A separate function takes any other token.
     #[inline(always)]
     pub(crate) fn scan_value(&mut self, i: &mut Chars<'_>) -> Result<(), Rejection>
-        ensures taken { OnOk result
-            (Cut (remaining self.old.cur i.old) (pending self.new) (remaining self.new.cur i.new)) }
-        ensures buffers { OnOk result (KeepsOtherBuffers self.old self.new) }
-        ensures place { Counts self.old i.old self.new i.new }
-        ensures rejected { IfErr result (λ r. r ≢ Rejection.Memory
-            → NothingCut (remaining self.old.cur i.old)) }
-        ensures capacity { IfErr result (λ r. r ≡ Rejection.Memory
-            → NoCapacity self.old (remaining self.old.cur i.old)) }
+        ensures { Scans Cut self.old i.old self.new i.new result }
     {
         if starts_value(self.cur) {
             return self.take_lexeme(i);

@@ -1,10 +1,7 @@
 //! What a reader of a whole input needs: the end after the value, and the errors of the value.
 
-ghost use Rattle.std.specs.Prelude.{◌≡◌, ◌≢◌, ◌⊎◌, IfErr, OnOk, OnErr, string_bytes};
-ghost use Rattle.nano_json_tokens.specs.Outcomes.{Says};
-ghost use Rattle.nano_json_tokens.specs.State.{pending};
-ghost use Rattle.nano_json_tokens.specs.Token.{end};
-ghost use Rattle.nano_grammar.specs.Whole.{HoldsNul, end_message};
+ghost use Rattle.std.specs.Prelude.{MatchResult};
+ghost use Rattle.nano_json_tokens.specs.Input.{IsWholeInput, GoesOn, IsValueError};
 
 use crate::error::DeJsonErr;
 use crate::state::DeJsonState;
@@ -15,10 +12,8 @@ use std::alloc::Global;
 /// Returns an error with the message `Cannot parse end ` if a token other than the end is
 /// pending, or a NUL stands anywhere in the input.
 pub fn expect_end(alloc: Global, state: &DeJsonState, input: &str) -> Result<(), DeJsonErr>
-    ensures ends { OnOk result (pending state.now ≡ end) }
-    ensures no_nul { OnOk result (HoldsNul input.now → ⊥) }
-    ensures goes_on { OnErr result ((pending state.now ≢ end) ⊎ HoldsNul input.now) }
-    ensures says { IfErr result (Says state.now end_message) }
+    ensures { MatchResult result
+        (λ _. IsWholeInput state.now input.now) (GoesOn state.now input.now) }
 {
     let ended = match state.tok {
         DeJsonTok::Eof => !holds_nul(input),
@@ -37,11 +32,7 @@ pub fn expect_end(alloc: Global, state: &DeJsonState, input: &str) -> Result<(),
 #[cold]
 #[inline(never)]
 pub fn as_value_error(mut error: DeJsonErr) -> DeJsonErr
-    ensures memory { result.memory ≡ error.memory }
-    ensures apart { string_bytes result.msg ≢ end_message }
-    ensures unchanged { string_bytes error.msg ≢ end_message
-        → string_bytes result.msg ≡ string_bytes error.msg }
-    ensures place { (result.line ≡ error.line) × (result.col ≡ error.col) }
+    ensures { IsValueError error result }
 {
     strip_end_message(&mut error.msg);
     error

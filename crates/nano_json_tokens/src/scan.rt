@@ -1,15 +1,11 @@
 //! How a reader's state takes the next token: white space, and one lexeme.
 
-ghost use Rattle.std.specs.Prelude.{◌≡◌, ◌≢◌, ℕ, List, OnOk, IfErr, None, false};
+ghost use Rattle.std.specs.Prelude.{◌≡◌, ◌≢◌, ℕ, List, None, false};
 ghost use Rattle.std.specs.Option.{option_map};
-ghost use Rattle.nano_text.specs.Prefix.{following};
-ghost use Rattle.nano_text.specs.Place.{remaining};
 ghost use Rattle.nano_json_tokens.specs.Cut.{is_space, starts_number, Cut, IsLexeme, IsRunOf};
 ghost use Rattle.nano_json_tokens.specs.Cut.{IsQuoted};
-ghost use Rattle.nano_json_tokens.specs.Outcomes.{NothingCut, NoCapacity, Counts};
-ghost use Rattle.nano_json_tokens.specs.Scan.{punctuator_of, NoneLexeme, NoneRunOf, NoneQuoted};
-ghost use Rattle.nano_json_tokens.specs.Scan.{NoCapacityForLexeme, NoCapacityForRun, NoCapacityForQuoted};
-ghost use Rattle.nano_json_tokens.specs.State.{token_of, pending, KeepsOtherBuffers};
+ghost use Rattle.nano_json_tokens.specs.Scan.{punctuator_of, Scans, PassedSpace};
+ghost use Rattle.nano_json_tokens.specs.State.{token_of};
 
 use crate::state::DeJsonState;
 use crate::token::DeJsonTok;
@@ -40,14 +36,7 @@ impl DeJsonState {
     /// the error was found.
     #[inline(never)]
     pub(crate) fn scan_token(&mut self, i: &mut Chars<'_>) -> Result<(), Rejection>
-        ensures taken { OnOk result
-            (Cut (remaining self.old.cur i.old) (pending self.new) (remaining self.new.cur i.new)) }
-        ensures buffers { OnOk result (KeepsOtherBuffers self.old self.new) }
-        ensures place { Counts self.old i.old self.new i.new }
-        ensures rejected { IfErr result (λ r. r ≢ Rejection.Memory
-            → NothingCut (remaining self.old.cur i.old)) }
-        ensures capacity { IfErr result (λ r. r ≡ Rejection.Memory
-            → NoCapacity self.old (remaining self.old.cur i.old)) }
+        ensures { Scans Cut self.old i.old self.new i.new result }
     {
         self.skip_space(i);
         self.take_lexeme(i)
@@ -56,12 +45,7 @@ impl DeJsonState {
     /// Passes over white space, of which most texts have none here.
     #[inline(always)]
     pub(crate) fn skip_space(&mut self, i: &mut Chars<'_>)
-        ensures remaining { remaining self.new.cur i.new ≡ following is_space (remaining self.old.cur i.old) }
-        ensures place { Counts self.old i.old self.new i.new }
-        ensures tok { self.new.tok ≡ self.old.tok }
-        ensures strbuf { self.new.strbuf ≡ self.old.strbuf }
-        ensures numbuf { self.new.numbuf ≡ self.old.numbuf }
-        ensures identbuf { self.new.identbuf ≡ self.old.identbuf }
+        ensures { PassedSpace self.old i.old self.new i.new }
     {
         if is_space(self.cur) {
             self.skip_spaces(i);
@@ -71,12 +55,7 @@ impl DeJsonState {
     /// Passes over white space, character by character.
     #[inline(never)]
     fn skip_spaces(&mut self, i: &mut Chars<'_>)
-        ensures remaining { remaining self.new.cur i.new ≡ following is_space (remaining self.old.cur i.old) }
-        ensures place { Counts self.old i.old self.new i.new }
-        ensures tok { self.new.tok ≡ self.old.tok }
-        ensures strbuf { self.new.strbuf ≡ self.old.strbuf }
-        ensures numbuf { self.new.numbuf ≡ self.old.numbuf }
-        ensures identbuf { self.new.identbuf ≡ self.old.identbuf }
+        ensures { PassedSpace self.old i.old self.new i.new }
     {
         'space: while is_space(self.cur) {
             self.next(i);
@@ -87,14 +66,8 @@ impl DeJsonState {
     /// string or a punctuator; it may be another.
     #[inline(always)]
     pub(crate) fn take_lexeme(&mut self, i: &mut Chars<'_>) -> Result<(), Rejection>
-        ensures taken { OnOk result
-            (IsLexeme (pending self.new) (remaining self.old.cur i.old) (remaining self.new.cur i.new)) }
-        ensures buffers { OnOk result (KeepsOtherBuffers self.old self.new) }
-        ensures place { Counts self.old i.old self.new i.new }
-        ensures rejected { IfErr result (λ r. r ≢ Rejection.Memory
-            → NoneLexeme (remaining self.old.cur i.old)) }
-        ensures capacity { IfErr result (λ r. r ≡ Rejection.Memory
-            → NoCapacityForLexeme self.old (remaining self.old.cur i.old)) }
+        ensures { Scans (λ text token rest. IsLexeme token text rest)
+            self.old i.old self.new i.new result }
     {
         if starts_number(self.cur) {
             return self.take_number(i);
@@ -116,14 +89,8 @@ impl DeJsonState {
         requires no_number { starts_number self.old.cur ≡ false }
         requires no_string { self.old.cur ≢ 34 }
         requires no_punctuator { punctuator_of self.old.cur ≡ None }
-        ensures taken { OnOk result
-            (IsLexeme (pending self.new) (remaining self.old.cur i.old) (remaining self.new.cur i.new)) }
-        ensures buffers { OnOk result (KeepsOtherBuffers self.old self.new) }
-        ensures place { Counts self.old i.old self.new i.new }
-        ensures rejected { IfErr result (λ r. r ≢ Rejection.Memory
-            → NoneLexeme (remaining self.old.cur i.old)) }
-        ensures capacity { IfErr result (λ r. r ≡ Rejection.Memory
-            → NoCapacityForLexeme self.old (remaining self.old.cur i.old)) }
+        ensures { Scans (λ text token rest. IsLexeme token text rest)
+            self.old i.old self.new i.new result }
     {
         if is_word(self.cur) {
             return self.take_word(i);
@@ -138,14 +105,8 @@ impl DeJsonState {
     /// Takes the number that begins here.
     #[inline(always)]
     fn take_number(&mut self, i: &mut Chars<'_>) -> Result<(), Rejection>
-        ensures taken { OnOk result
-            (IsRunOf (pending self.new) (remaining self.old.cur i.old) (remaining self.new.cur i.new)) }
-        ensures buffers { OnOk result (KeepsOtherBuffers self.old self.new) }
-        ensures place { Counts self.old i.old self.new i.new }
-        ensures rejected { IfErr result (λ r. r ≢ Rejection.Memory
-            → NoneRunOf (remaining self.old.cur i.old)) }
-        ensures capacity { IfErr result (λ r. r ≡ Rejection.Memory
-            → NoCapacityForRun self.old (remaining self.old.cur i.old)) }
+        ensures { Scans (λ text token rest. IsRunOf token text rest)
+            self.old i.old self.new i.new result }
     {
         let mut place = self.place();
         let read = read_number(&mut place, i, &mut self.numbuf);
@@ -169,14 +130,8 @@ impl DeJsonState {
     /// Takes the string that begins here.
     #[inline(never)]
     fn take_string(&mut self, i: &mut Chars<'_>) -> Result<(), Rejection>
-        ensures taken { OnOk result
-            (IsQuoted (pending self.new) (remaining self.old.cur i.old) (remaining self.new.cur i.new)) }
-        ensures buffers { OnOk result (KeepsOtherBuffers self.old self.new) }
-        ensures place { Counts self.old i.old self.new i.new }
-        ensures rejected { IfErr result (λ r. r ≢ Rejection.Memory
-            → NoneQuoted (remaining self.old.cur i.old)) }
-        ensures capacity { IfErr result (λ r. r ≡ Rejection.Memory
-            → NoCapacityForQuoted self.old (remaining self.old.cur i.old)) }
+        ensures { Scans (λ text token rest. IsQuoted token text rest)
+            self.old i.old self.new i.new result }
     {
         let mut place = self.place();
         let read = read_string(&mut place, i, &mut self.strbuf);

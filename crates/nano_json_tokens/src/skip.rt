@@ -1,14 +1,10 @@
 //! Fields that are passed over.
 
-ghost use Rattle.std.specs.Prelude.{◌≡◌, ◌≢◌, ◌+◌, ◌<◌, ◌^◌, ℕ, List, true, OnOk, OnErr, IfErr};
-ghost use Rattle.nano_text.specs.Place.{remaining};
-ghost use Rattle.nano_json_tokens.specs.Outcomes.{Reports, Takes, NoneHere, Keeps, Counts};
-ghost use Rattle.nano_json_tokens.specs.Outcomes.{NoCapacity};
-ghost use Rattle.nano_json_tokens.specs.Scan.{is_scalar};
+ghost use Rattle.std.specs.Prelude.{◌≡◌, ◌+◌, ◌<◌, ◌^◌, true};
 ghost use Rattle.nano_json_tokens.specs.Scan.{is_opening};
-ghost use Rattle.nano_json_tokens.specs.Skipped.{SkippedField, BeginsField, IsBracketed, opens, closes};
-ghost use Rattle.nano_json_tokens.specs.State.{at, ended, pending, KeepsOtherBuffers};
-ghost use Rattle.nano_json_tokens.specs.Token.{Token};
+ghost use Rattle.nano_json_tokens.specs.SkippedOutcomes.{TakesField, SkipsBrackets};
+ghost use Rattle.nano_json_tokens.specs.Skipped.{opens, closes};
+ghost use Rattle.nano_json_tokens.specs.State.{pending};
 
 use crate::error::DeJsonErr;
 use crate::scan::Rejection;
@@ -20,24 +16,13 @@ use std::str::Chars;
 impl DeJsonState {
     /// Takes a skipped field and the token after it. A skipped field is one token `Str`, `U64`,
     /// `I64`, `F64`, `Bool` or `Null`, or all tokens from an opening bracket to the one that
-    /// closes it, square and curly brackets counted together.
+    /// closes it, square and braces counted together.
     ///
     /// If another token is pending, it is rejected, and the token and its text are unchanged.
     /// Once the field has begun, an error leaves the state at the end of the text. What the buffers
     /// hold after brackets is not said: they may have been used for the tokens between them.
     pub fn whole_field(&mut self, alloc: Global, i: &mut Chars<'_>) -> Result<(), DeJsonErr>
-        ensures taken { OnOk result ((field : List Token)
-            × SkippedField field × Takes field self.old i.old self.new i.new) }
-        ensures place { Counts self.old i.old self.new i.new }
-        ensures rejected { IfErr result (Reports self.new
-            ((field : List Token) → SkippedField field → NoneHere field self.old i.old)) }
-        ensures unchanged { ¬ BeginsField (pending self.old)
-            → OnErr result (Keeps self.old i.old self.new i.new) }
-        ensures ended { BeginsField (pending self.old) → OnErr result (at self.new i.new ≡ ended) }
-        ensures buffers { is_scalar (pending self.old) ≡ true
-            → OnOk result (KeepsOtherBuffers self.old self.new) }
-        ensures capacity { is_scalar (pending self.old) ≡ true
-            → OnErr result (NoCapacity self.old (remaining self.old.cur i.old)) }
+        ensures { TakesField self.old i.old self.new i.new result }
     {
         if self.is_scalar() {
             return self.next_tok(alloc, i);
@@ -55,11 +40,7 @@ impl DeJsonState {
     /// it.
     fn skip_brackets(&mut self, i: &mut Chars<'_>) -> Result<(), Rejection>
         requires { is_opening (pending self.old) ≡ true }
-        ensures taken { OnOk result ((field : List Token)
-            × IsBracketed field × Takes field self.old i.old self.new i.new) }
-        ensures place { Counts self.old i.old self.new i.new }
-        ensures rejected { IfErr result (λ r. r ≢ Rejection.Memory
-            → (field : List Token) → IsBracketed field → NoneHere field self.old i.old) }
+        ensures { SkipsBrackets self.old i.old self.new i.new result }
     {
         // A text has fewer than 2^63 bytes, so no count of its brackets can wrap.
         let _capacity = bytes_left(i);

@@ -1,11 +1,10 @@
 //! The state of a reader, and its steps: a character, a token, and the end.
 
-ghost use Rattle.std.specs.Prelude.{◌≡◌, ◌≢◌, [], ◌∷◌, false, OnOk, OnErr, IfErr, string_bytes};
+ghost use Rattle.std.specs.Prelude.{◌≡◌, ◌≢◌, [], ◌∷◌, string_bytes};
 ghost use Rattle.std.specs.declared.str.Chars.{Chars};
 ghost use Rattle.nano_text.specs.Place.{held, tail, remaining, before_nul, place_after, Passes};
-ghost use Rattle.nano_json_tokens.specs.Cut.{Cut};
-ghost use Rattle.nano_json_tokens.specs.Outcomes.{IsMadeAt, Reports, NothingCut, NoCapacity, Counts};
-ghost use Rattle.nano_json_tokens.specs.State.{at, ended, pending, place_of, KeepsOtherBuffers};
+ghost use Rattle.nano_json_tokens.specs.Outcomes.{IsMadeAt, Reports, Moved, TakesNext};
+ghost use Rattle.nano_json_tokens.specs.State.{at, ended, place_of, IsFresh};
 
 use crate::error::DeJsonErr;
 use crate::scan::Rejection;
@@ -39,13 +38,7 @@ pub struct DeJsonState {
 impl DeJsonState {
     /// A state before the first character. It takes no memory.
     pub fn new(alloc: Global) -> Self
-        ensures cur { result.cur ≡ 0 }
-        ensures tok { result.tok ≡ DeJsonTok.Bof }
-        ensures strbuf { string_bytes result.strbuf ≡ [] }
-        ensures numbuf { string_bytes result.numbuf ≡ [] }
-        ensures identbuf { string_bytes result.identbuf ≡ [] }
-        ensures line { result.line ≡ 0 }
-        ensures col { result.col ≡ 0 }
+        ensures { IsFresh result }
     {
         DeJsonState {
             cur: '\0',
@@ -65,7 +58,7 @@ impl DeJsonState {
         ensures place { place_of self.new ≡ place_after (place_of self.old) (held i.old) }
         ensures held { held i.new ≡ tail (held i.old) }
         ensures passes { Passes (place_of self.old) (held i.old) (place_of self.new) (held i.new) }
-        ensures counts { self.old.cur ≢ 0 → Counts self.old i.old self.new i.new }
+        ensures counts { self.old.cur ≢ 0 → Moved self.old i.old self.new i.new }
         ensures rest { remaining self.new.cur i.new ≡ before_nul (held i.old) }
         ensures taken { self.old.cur ≢ 0
             → remaining self.old.cur i.old ≡ self.old.cur ∷ remaining self.new.cur i.new }
@@ -89,13 +82,7 @@ impl DeJsonState {
     /// the characters that were taken, up to where the fault was found.
     #[inline(always)]
     pub fn next_tok(&mut self, alloc: Global, i: &mut Chars<'_>) -> Result<(), DeJsonErr>
-        ensures taken { OnOk result
-            (Cut (remaining self.old.cur i.old) (pending self.new) (remaining self.new.cur i.new)) }
-        ensures buffers { OnOk result (KeepsOtherBuffers self.old self.new) }
-        ensures place { Counts self.old i.old self.new i.new }
-        ensures rejected { IfErr result (Reports self.new (NothingCut (remaining self.old.cur i.old))) }
-        ensures capacity { OnErr result (NoCapacity self.old (remaining self.old.cur i.old)) }
-        ensures ended { OnErr result (at self.new i.new ≡ ended) }
+        ensures { TakesNext self.old i.old self.new i.new result }
     {
         match self.scan_after_value(i) {
             Ok(()) => Ok(()),
@@ -110,13 +97,7 @@ impl DeJsonState {
         alloc: Global,
         i: &mut Chars<'_>,
     ) -> Result<(), DeJsonErr>
-        ensures taken { OnOk result
-            (Cut (remaining self.old.cur i.old) (pending self.new) (remaining self.new.cur i.new)) }
-        ensures buffers { OnOk result (KeepsOtherBuffers self.old self.new) }
-        ensures place { Counts self.old i.old self.new i.new }
-        ensures rejected { IfErr result (Reports self.new (NothingCut (remaining self.old.cur i.old))) }
-        ensures capacity { OnErr result (NoCapacity self.old (remaining self.old.cur i.old)) }
-        ensures ended { OnErr result (at self.new i.new ≡ ended) }
+        ensures { TakesNext self.old i.old self.new i.new result }
     {
         match self.scan_value(i) {
             Ok(()) => Ok(()),
@@ -132,13 +113,7 @@ impl DeJsonState {
         alloc: Global,
         i: &mut Chars<'_>,
     ) -> Result<(), DeJsonErr>
-        ensures taken { OnOk result
-            (Cut (remaining self.old.cur i.old) (pending self.new) (remaining self.new.cur i.new)) }
-        ensures buffers { OnOk result (KeepsOtherBuffers self.old self.new) }
-        ensures place { Counts self.old i.old self.new i.new }
-        ensures rejected { IfErr result (Reports self.new (NothingCut (remaining self.old.cur i.old))) }
-        ensures capacity { OnErr result (NoCapacity self.old (remaining self.old.cur i.old)) }
-        ensures ended { OnErr result (at self.new i.new ≡ ended) }
+        ensures { TakesNext self.old i.old self.new i.new result }
     {
         match self.scan_token(i) {
             Ok(()) => Ok(()),
@@ -161,7 +136,6 @@ impl DeJsonState {
     #[cold]
     #[inline(never)]
     pub(crate) fn reject(&mut self, alloc: Global, rejection: Rejection) -> DeJsonErr
-        ensures ended { (i : Chars) → at self.new i ≡ ended }
         ensures unchanged { self.new ≡ record self.old { tok = DeJsonTok.Eof; cur = 0 } }
         ensures made { Reports self.new (rejection ≢ Rejection.Memory) result }
     {

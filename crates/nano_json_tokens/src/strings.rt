@@ -22,7 +22,7 @@ impl Escaping for JsonText {
     ghost use Rattle.std.proofs.lemmas.Bool.Decides.{nat_tests};
     ghost use Rattle.nano_text.specs.String.{piece_text};
     ghost use Rattle.nano_json_tokens.specs.Written.{stands_as_itself, written_piece};
-    ghost use Rattle.nano_json_tokens.specs.WrittenLaws.{written_as_itself};
+    ghost use Rattle.nano_json_tokens.specs.WrittenImpls.{written_as_itself};
 
     ghost stands = { stands_as_itself };
 

@@ -1,20 +1,29 @@
 -- What the readers of RON know of its tokens.
 use Rattle.std.specs.declared.str.Chars.{Chars}
 use Rattle.std.specs.Str.Iter.{chars_rest}
-use Rattle.std.proofs.Common.{◌≡◌, ◌≢◌, ◌<◌, ◌≤◌, ◌^◌, Bool, true, false, cond, [], length, codes, inl, refl, ap, sym, subst, ◌∙◌, arith}
+use Rattle.std.proofs.Common.{chars, ℕ, ◌≡◌, ◌≢◌, ◌<◌, ◌≤◌, ◌^◌, Bool, true, false, cond, [], length, List, codes, inl, refl, ap, sym, subst, ◌∙◌, arith}
 use Rattle.std.proofs.lemmas.Slice.Eq.{bytes_eq-Decides}
+use Rattle.nano_text.specs.Place.{held, tail, before_nul, remaining, Passes}
+use Rattle.nano_text.proofs.PlaceInTextLaws.{stands_in}
 use Rattle.nano_text.proofs.RemainingText.{remaining_fewer}
+use Rattle.nano_grammar.proofs.TextCalls.{Begun}
 use Rattle.nano_value.specs.Meaning.{Meaning, usize_bound}
 use Rattle.nano_value.specs.Agrees.{Agrees}
-use Rattle.nano_grammar.specs.CutLaws.{CutLaws}
+use Rattle.nano_value.specs.Legal.{BothOfPair}
+use Rattle.nano_grammar.specs.Encoding.{IsEncoding}
+use Rattle.nano_grammar.specs.Maps.{EncodesEntry}
+use Rattle.nano_grammar.proofs.MapsLaws.{entry_encoding}
+use Rattle.nano_grammar.proofs.CutLaws.{CutLaws}
 use Rattle.nano_grammar.proofs.TokensLeft.{tokens_left}
 use Rattle.nano_ron_tokens.specs.Cut.{Cut, nothing}
 use Rattle.nano_ron_tokens.specs.Ron.{MayBegin, none, ron_grammar}
-use Rattle.nano_ron_tokens.specs.RonLaws.{ron, no_gap}
+use Rattle.nano_ron_tokens.specs.Brackets.{curlies}
+use Rattle.nano_ron_tokens.proofs.RonLaws.{ron, no_gap, curly_brackets}
 use Rattle.nano_ron_tokens.specs.Punctuation.{is_none, is_block_close, is_curly_close}
-use Rattle.nano_ron_tokens.specs.PunctuationLaws.{is_end}
-use Rattle.nano_ron_tokens.specs.State.{at}
-use Rattle.nano_ron_tokens.specs.Token.{Token, ident, curly_close, block_close, end}
+use Rattle.nano_ron_tokens.proofs.PunctuationLaws.{is_end}
+use Rattle.nano_ron_tokens.specs.Outcomes.{position}
+use Rattle.nano_ron_tokens.specs.State.{at, place_of}
+use Rattle.nano_ron_tokens.specs.Token.{Token, ident, colon, curly_close, block_close, end}
 use Rattle.nano_ron_tokens.specs.declared.state.DeRonState.{DeRonState}
 use Rattle.nano_ron_tokens.proofs.Cuts.{cut_one_way}
 use Rattle.nano_ron_tokens.proofs.Shorter.{cut_takes}
@@ -48,6 +57,12 @@ pub few_left : (s : DeRonState) (i : Chars) → length (chars_rest i) < 2 ^ 63
 unfolding tokens_left
 few_left s i few = omega (arith, few, remaining_fewer s.cur i, zero_or_one (is_end (at s i).token))
 
+-- of an entry
+abbrev pub entry_laws : {P Q : Meaning → Type 0} {S R : List Token → Meaning → Type 0}
+    → IsEncoding ron_grammar P S → IsEncoding ron_grammar Q R
+    → IsEncoding ron_grammar (BothOfPair P Q) (EncodesEntry colon S R)
+entry_laws s t = entry_encoding ron_grammar curlies curly_brackets colon s t
+
 -- ---- what the tests of the pending token say
 
 pub is_the_none : (t : Token) → is_none t ≡ true → t ≡ none
@@ -70,6 +85,17 @@ curly_is _ e = cc e
 
 pub not_curly : (t : Token) → is_curly_close t ≡ false → t ≢ curly_close
 not_curly t e is = let x = sym e ∙ ap is_curly_close is in cc x
+
+-- ---- texts
+
+-- a fresh state that took one character is at the first one of the text
+pub begun : (fresh first : DeRonState) (i j : Chars) (bytes : List ℕ) → chars_rest i ≡ bytes → fresh.line ≡ 0
+    → fresh.col ≡ 0 → Passes (place_of fresh) (held i) (place_of first) (held j) → held j ≡ tail (held i)
+    → remaining first.cur j ≡ before_nul (held i) → Begun bytes (position first j)
+begun fresh first i j bytes same line col passes left rest = record {
+  text = rest ∙ ap (λ (b : List ℕ). before_nul (chars b)) same;
+  stands = λ end e h made. stands_in (ap chars same) line col passes left rest h made.1 made.2;
+}
 
 -- ---- what is written
 

@@ -1,6 +1,6 @@
 -- How the values of a type are written as RON and which tokens encode them, together.
 use Rattle.nano_grammar.specs.Codec.{Codec as CodecOf, codec_as as as_seen}
-use Rattle.nano_ron_tokens.specs.RonLaws.{ron}
+use Rattle.nano_ron_tokens.proofs.RonLaws.{ron}
 use Rattle.nano_ron_tokens.specs.Ron.{ron_grammar}
 
 -- what is written of a sound value is read back as what it means

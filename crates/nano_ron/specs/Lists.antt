@@ -5,12 +5,14 @@
 -- comma.
 use Rattle.std.specs.Prelude.{ℕ, Bool, List, [], ◌∷◌, ◌++◌}
 use Rattle.nano_text.specs.Place.{saturating_next}
+use Rattle.nano_value.specs.Meaning.{Meaning}
 use Rattle.nano_grammar.specs.Layouts.{item_in_list}
-use Rattle.nano_grammar.specs.Lists.{list_text}
+use Rattle.nano_grammar.specs.Lists.{list_text, EncodesAll as EncodesAllIn}
 use Rattle.nano_grammar.specs.Canonical.{ListStyle}
-use Rattle.nano_ron_tokens.specs.Brackets.{block_punctuation, paren_punctuation}
-use Rattle.nano_ron_tokens.specs.RonLaws.{ron}
+use Rattle.nano_ron_tokens.specs.Brackets.{blocks, block_punctuation, paren_punctuation}
+use Rattle.nano_ron_tokens.proofs.RonLaws.{ron}
 use Rattle.nano_ron_tokens.specs.Styles.{indents, spaces}
+use Rattle.nano_ron_tokens.specs.Token.{Token}
 use Rattle.nano_ron_tokens.specs.Written.{indent}
 use Rattle.nano_text.specs.Characters.{line_feed}
 
@@ -29,3 +31,8 @@ after_space first text = item_in_list spaces paren_punctuation first text
 -- items between brackets, as they are written at a level
 abbrev pub written_in : ListStyle ron → {A : Type 0} → ℕ → (A → List ℕ) → List A → List ℕ
 written_in style d W xs = list_text style d W xs
+
+-- a collection of items between square brackets, by what they come to
+abbrev pub EncodesAll : (List Meaning → Meaning) → (List Token → Meaning → Type 0) → List Token
+    → Meaning → Type 0
+EncodesAll whole S = EncodesAllIn blocks whole S

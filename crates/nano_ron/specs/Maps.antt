@@ -1,12 +1,13 @@
--- Maps: keys with their values between curly brackets. For each key the last value counts.
+-- Maps: keys with their values between braces. For each key the last value counts.
 -- They are written in the order of their keys, each on a line of its own, with a comma after
 -- the last.
 use Rattle.std.specs.Prelude.{ℕ, List, []}
 use Rattle.nano_value.specs.Meaning.{Meaning}
 use Rattle.nano_grammar.specs.Layouts.{with_punctuator}
-use Rattle.nano_grammar.specs.Maps.{EncodesEntry as EncodesEntryOf, EncodesMap as EncodesMapIn}
+use Rattle.nano_grammar.specs.Lists.{EncodesAll as EncodesAllIn}
+use Rattle.nano_grammar.specs.Maps.{EncodesEntry as EncodesEntryOf}
 use Rattle.nano_ron_tokens.specs.Brackets.{curlies}
-use Rattle.nano_ron_tokens.specs.StylesLaws.{curly_style}
+use Rattle.nano_ron_tokens.proofs.StylesLaws.{curly_style}
 use Rattle.nano_ron_tokens.specs.Token.{Token, colon}
 use Rattle.nano_ron.specs.Lists.{written_in}
 
@@ -15,15 +16,17 @@ abbrev pub EncodesEntry : (List Token → Meaning → Type 0) → (List Token �
     → List Token → Meaning × Meaning → Type 0
 EncodesEntry S R = EncodesEntryOf colon S R
 
-abbrev pub EncodesMap : (List Token → Meaning → Type 0) → (List Token → Meaning → Type 0)
-    → List Token → Meaning → Type 0
-EncodesMap S R = EncodesMapIn curlies colon S R
+-- a collection of entries between braces, by what they come to
+abbrev pub EncodesAllEntries : (List (Meaning × Meaning) → Meaning)
+    → (List Token → Meaning → Type 0) → (List Token → Meaning → Type 0) → List Token → Meaning
+    → Type 0
+EncodesAllEntries whole S R = EncodesAllIn curlies whole (EncodesEntry S R)
 
 -- a key, a colon and its value, as they are written
 abbrev pub written_entry : {K V : Type 0} → (K → List ℕ) → (V → List ℕ) → K × V → List ℕ
 written_entry A B = with_punctuator 58 [] A B
 
--- entries between curly brackets, as they are written at a level
+-- entries between braces, as they are written at a level
 abbrev pub written_entries : {K V : Type 0} → ℕ → (K → List ℕ) → (V → List ℕ) → List (K × V)
     → List ℕ
 written_entries d A B es = written_in curly_style d (written_entry A B) es

@@ -6,8 +6,8 @@ use Rattle.nano_value.specs.Sets.{item_set}
 use Rattle.nano_value.specs.Tables.{table_of}
 use Rattle.nano_value.specs.Meaning.{Meaning}
 use Rattle.nano_ron.specs.Codec.{Codec}
-use Rattle.nano_ron.specs.MapsLaws.{map_codec}
-use Rattle.nano_ron.specs.SetsLaws.{set_codec}
+use Rattle.nano_ron.specs.MapCodecs.{map_codec}
+use Rattle.nano_ron.specs.SetCodecs.{set_codec}
 
 -- entries that make the same table, by what they mean, are written as the same text
 abbrev pub EntriesDecideText : {K V : Type 0} → (K → Meaning) → (V → Meaning) → MeaningOrder

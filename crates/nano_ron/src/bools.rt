@@ -1,14 +1,11 @@
-//! Truth values, and the unit, which is `()`.
+//! Booleans, and the unit, which is `()`.
 //! Their readers are inlined: a value read then passes through no result with space for an
 //! error.
 
-ghost use Rattle.std.specs.Prelude.{IfErr};
 ghost use Rattle.nano_value.specs.Meaning.{truth, nothing};
-ghost use Rattle.nano_value.specs.AgreesLaws.{agreed};
-ghost use Rattle.nano_ron.specs.BoolsLaws.{truths, units, truth_codec, unit_codec};
-ghost use Rattle.nano_ron.specs.Readers.{Decodes, Rejects};
-ghost use Rattle.nano_ron.specs.Outcomes.{Counts, IsPlacedAt};
-ghost use Rattle.nano_ron.specs.State.{at};
+ghost use Rattle.nano_meaning.proofs.AgreesLaws.{agreed};
+ghost use Rattle.nano_ron.specs.BoolCodecs.{booleans, units, boolean_codec, unit_codec};
+ghost use Rattle.nano_ron.specs.Outcomes.{position, Reads};
 
 use crate::traits::{DeRon, RonCodec, SerRon};
 use nano_ron_tokens::{DeRonErr, DeRonState, SerRonState, end_on_error};
@@ -16,7 +13,7 @@ use std::alloc::{AllocError, Global};
 use std::str::Chars;
 
 impl RonCodec for bool {
-    ghost ron = { truth_codec };
+    ghost ron = { boolean_codec };
 
     ghost agrees = { agreed };
 }
@@ -34,11 +31,8 @@ impl SerRon for bool {
 /// true. On an error, the position of the state is unspecified.
 #[inline(always)]
 fn read_bool(alloc: Global, state: &mut DeRonState, input: &mut Chars<'_>) -> Result<bool, DeRonErr>
-    ensures decodes { Decodes truths.encodes truth
-        (at state.old input.old) (at state.new input.new) result }
-    ensures rejected { Rejects truths.encodes (at state.old input.old) result }
-    ensures place { Counts state.old input.old state.new input.new }
-    ensures made { IfErr result (IsPlacedAt state.new) }
+    ensures { Reads booleans.encodes truth
+        (position state.old input.old) (position state.new input.new) result }
 {
     let value = state.as_bool(alloc)?;
     state.next_tok(alloc, input)?;
@@ -72,11 +66,8 @@ impl SerRon for () {
 /// Reads `()`. On an error, the position of the state is unspecified.
 #[inline(always)]
 fn read_unit(alloc: Global, state: &mut DeRonState, input: &mut Chars<'_>) -> Result<(), DeRonErr>
-    ensures decodes { Decodes units.encodes (λ _. nothing)
-        (at state.old input.old) (at state.new input.new) result }
-    ensures rejected { Rejects units.encodes (at state.old input.old) result }
-    ensures place { Counts state.old input.old state.new input.new }
-    ensures made { IfErr result (IsPlacedAt state.new) }
+    ensures { Reads units.encodes (λ _. nothing)
+        (position state.old input.old) (position state.new input.new) result }
 {
     state.paren_open(alloc, input)?;
     state.paren_close(alloc, input)

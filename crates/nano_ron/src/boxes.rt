@@ -1,11 +1,8 @@
 //! Boxes: each is encoded as its content.
 
-ghost use Rattle.std.specs.Prelude.{IfErr};
-ghost use Rattle.nano_value.specs.AgreesLaws.{seen_agrees};
+ghost use Rattle.nano_meaning.proofs.AgreesLaws.{seen_agrees};
 ghost use Rattle.nano_ron.specs.Codec.{codec_as};
-ghost use Rattle.nano_ron.specs.Readers.{Decodes, Rejects};
-ghost use Rattle.nano_ron.specs.Outcomes.{Counts, IsPlacedAt};
-ghost use Rattle.nano_ron.specs.State.{at};
+ghost use Rattle.nano_ron.specs.Outcomes.{position, Reads};
 
 use crate::traits::{DeRon, RonCodec, SerRon};
 use nano_ron_tokens::{DeRonErr, DeRonState, SerRonState, end_on_error};
@@ -30,11 +27,8 @@ fn read_box<T: DeRon>(
     state: &mut DeRonState,
     input: &mut Chars<'_>,
 ) -> Result<Box<T>, DeRonErr>
-    ensures decodes { Decodes T.ron.encoding.encodes (λ x. T.means x.value)
-        (at state.old input.old) (at state.new input.new) result }
-    ensures rejected { Rejects T.ron.encoding.encodes (at state.old input.old) result }
-    ensures place { Counts state.old input.old state.new input.new }
-    ensures made { IfErr result (IsPlacedAt state.new) }
+    ensures { Reads T.ron.encoding.encodes (λ x. T.means x.value)
+        (position state.old input.old) (position state.new input.new) result }
 {
     let value = T::de_ron(alloc, state, input)?;
     match Box::new(alloc, value) {

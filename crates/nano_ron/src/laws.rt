@@ -1,6 +1,6 @@
 //! Laws of the definitions that the contracts cite: each function but those that read a value back
 //! does nothing, and its contract is the law.
-ghost use Rattle.std.specs.Prelude.{◌≡◌, ◌↔◌, ◌++◌, ℕ, List, true, IfOk, IfErr};
+ghost use Rattle.std.specs.Prelude.{◌≡◌, ◌↔◌, ◌++◌, ℕ, List, true, MatchResult};
 ghost use Rattle.nano_value.specs.Meaning.{Meaning};
 ghost use Rattle.nano_value.specs.Sets.{item_set};
 ghost use Rattle.nano_value.specs.Tables.{table_of};
@@ -97,9 +97,9 @@ pub fn none_stands_alone<T: RonCodec>(value: &T)
 /// Writes a value and reads it again. A sound value is read back as one that means the same,
 /// and the only error is out of memory.
 pub fn read_back<T: BothRon>(alloc: Global, written: &T) -> Result<T, DeRonErr>
-    ensures same { IfOk result (λ read.
-        T.ron.sound written.now → T.means read ≡ T.means written.now) }
-    ensures memory { IfErr result (λ e. T.ron.sound written.now → e.memory ≡ true) }
+    ensures { MatchResult result
+        (λ read. T.ron.sound written.now → T.means read ≡ T.means written.now)
+        (λ e. T.ron.sound written.now → e.memory ≡ true) }
 {
     written.known();
     written_tokens_encode_a_sound_value(written);
@@ -112,9 +112,9 @@ pub fn read_back<T: BothRon>(alloc: Global, written: &T) -> Result<T, DeRonErr>
 /// Writes a value and reads it again as a whole input. A sound value is read back as one that
 /// means the same, and the only error is out of memory.
 pub fn read_back_whole<T: BothRon>(alloc: Global, written: &T) -> Result<T, DeRonErr>
-    ensures same { IfOk result (λ read.
-        T.ron.sound written.now → T.means read ≡ T.means written.now) }
-    ensures memory { IfErr result (λ e. T.ron.sound written.now → e.memory ≡ true) }
+    ensures { MatchResult result
+        (λ read. T.ron.sound written.now → T.means read ≡ T.means written.now)
+        (λ e. T.ron.sound written.now → e.memory ≡ true) }
 {
     written.known();
     written_tokens_encode_a_sound_value(written);
@@ -126,7 +126,7 @@ pub fn read_back_whole<T: BothRon>(alloc: Global, written: &T) -> Result<T, DeRo
 
 /// A hashed and an ordered set of the same items are written as the same text at each level. The
 /// same tokens encode both, so each reads what the other wrote.
-pub fn sets_of_the_same_items_are_written_alike<T: RonCodec + Key + Ord + Hash>(
+pub fn equal_sets_equal_text<T: RonCodec + Key + Ord + Hash>(
     hashed: &HashSet<T>,
     ordered: &BTreeSet<T>,
 )
@@ -150,7 +150,7 @@ pub fn the_entries_decide_the_text<K: RonCodec + Key, V: RonCodec>()
 
 /// A hashed and an ordered map of the same entries are written as the same text at each level,
 /// and the same tokens encode both, so that each reads what the other wrote.
-pub fn maps_of_the_same_entries_are_written_alike<K: RonCodec + Key + Ord + Hash, V: RonCodec>(
+pub fn equal_maps_equal_text<K: RonCodec + Key + Ord + Hash, V: RonCodec>(
     hashed: &HashMap<K, V>,
     ordered: &BTreeMap<K, V>,
 )

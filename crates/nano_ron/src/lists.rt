@@ -1,22 +1,19 @@
 //! Lists between square brackets: vectors and linked lists.
 
-ghost use Rattle.std.specs.Prelude.{OnOk, OnErr, map, IfErr};
+ghost use Rattle.std.specs.Prelude.{OnOk, OnErr};
 ghost use Rattle.nano_text.specs.Place.{saturating_next};
-ghost use Rattle.nano_value.specs.Meaning.{listed};
-ghost use Rattle.nano_value.specs.AgreesLaws.{seen_agrees, list_agrees};
+ghost use Rattle.nano_meaning.proofs.AgreesLaws.{seen_agrees, list_agrees};
 ghost use Rattle.nano_ron.specs.Codec.{codec_as};
 ghost use Rattle.nano_text.specs.Outcomes.{Appends, AppendsPart};
-ghost use Rattle.nano_ron.specs.Readers.{Decodes, Rejects};
-ghost use Rattle.nano_ron.specs.ListsLaws.{list_of};
-ghost use Rattle.nano_ron.specs.Lists.{on_a_line, after_indent, written_in};
-ghost use Rattle.nano_ron.specs.ListsLaws.{vector_codec, linked_codec};
-ghost use Rattle.nano_ron.specs.StylesLaws.{line_style, indent_style};
-ghost use Rattle.nano_ron.specs.Outcomes.{Counts, IsPlacedAt};
-ghost use Rattle.nano_ron.specs.State.{at};
+ghost use Rattle.nano_ron.specs.Lists.{on_a_line, after_indent, written_in, EncodesAll};
+ghost use Rattle.nano_ron.specs.ListCodecs.{vector_codec, linked_codec};
+ghost use Rattle.nano_ron_tokens.proofs.StylesLaws.{line_style, indent_style};
+ghost use Rattle.nano_ron.specs.Outcomes.{position, Reads};
 
 use crate::traits::{DeRon, RonCodec, SerRon};
 use nano_ron_tokens::{DeRonErr, DeRonState, SerRonState, append_comma, end_on_error};
-use nano_text::rollback_on_error;
+use nano_text::{bytes_left, rollback_on_error};
+use nano_value::Collect;
 use std::alloc::{AllocError, Global};
 use std::collections::LinkedList;
 use std::str::Chars;
@@ -27,30 +24,28 @@ impl<T: RonCodec> RonCodec for Vec<T> {
     ghost agrees = { seen_agrees (list_agrees T.agrees) (λ x. x.items) };
 }
 
-/// Reads items between square brackets. On an error, the position of the state is unspecified.
-fn read_vec<T: DeRon>(
+/// Reads items between square brackets into a collection. On an error, the position of the state is
+/// unspecified.
+pub(crate) fn read_list<T: DeRon, C: Collect<T>>(
     alloc: Global,
     state: &mut DeRonState,
     input: &mut Chars<'_>,
-) -> Result<Vec<T>, DeRonErr>
-    ensures decodes { Decodes (list_of T.ron.encoding).encodes
-        (λ items. listed (map T.means items.items))
-        (at state.old input.old) (at state.new input.new) result }
-    ensures rejected { Rejects (list_of T.ron.encoding).encodes (at state.old input.old) result }
-    ensures place { Counts state.old input.old state.new input.new }
-    ensures made { IfErr result (IsPlacedAt state.new) }
+) -> Result<C, DeRonErr>
+    ensures { Reads (EncodesAll C.whole T.ron.encoding.encodes) C.means
+        (position state.old input.old) (position state.new input.new) result }
 {
-    let mut items = Vec::new(alloc);
+    // A text has fewer than 2^63 bytes, so a `usize` counts its items.
+    let _capacity = bytes_left(input);
+    let mut items = C::empty(alloc);
     state.block_open(alloc, input)?;
     'items: while !state.is_block_close() {
         let item = T::de_ron(alloc, state, input)?;
-        if items.push(item).is_err() {
+        let Ok(()) = items.put(item) else {
             return Err(state.err_memory(alloc));
-        }
+        };
         state.eat_comma_block(alloc, input)?;
     }
     state.block_close(alloc, input)?;
-    let _count = items.len();
     Ok(items)
 }
 
@@ -60,7 +55,7 @@ impl<T: DeRon> DeRon for Vec<T> {
         state: &mut DeRonState,
         input: &mut Chars<'_>,
     ) -> Result<Vec<T>, DeRonErr> {
-        let read = read_vec(alloc, state, input);
+        let read = read_list::<T, Vec<T>>(alloc, state, input);
         end_on_error(state, read)
     }
 }
@@ -117,39 +112,13 @@ impl<T: RonCodec> RonCodec for LinkedList<T> {
     ghost agrees = { list_agrees T.agrees };
 }
 
-/// Reads items between square brackets. On an error, the position of the state is unspecified.
-fn read_linked_list<T: DeRon>(
-    alloc: Global,
-    state: &mut DeRonState,
-    input: &mut Chars<'_>,
-) -> Result<LinkedList<T>, DeRonErr>
-    ensures decodes { Decodes (list_of T.ron.encoding).encodes (λ items. listed (map T.means items))
-        (at state.old input.old) (at state.new input.new) result }
-    ensures rejected { Rejects (list_of T.ron.encoding).encodes (at state.old input.old) result }
-    ensures place { Counts state.old input.old state.new input.new }
-    ensures made { IfErr result (IsPlacedAt state.new) }
-{
-    let mut items = LinkedList::new(alloc);
-    state.block_open(alloc, input)?;
-    'items: while !state.is_block_close() {
-        let item = T::de_ron(alloc, state, input)?;
-        if items.push_back(item).is_err() {
-            return Err(state.err_memory(alloc));
-        }
-        state.eat_comma_block(alloc, input)?;
-    }
-    state.block_close(alloc, input)?;
-    let _count = items.len();
-    Ok(items)
-}
-
 impl<T: DeRon> DeRon for LinkedList<T> {
     fn de_ron(
         alloc: Global,
         state: &mut DeRonState,
         input: &mut Chars<'_>,
     ) -> Result<LinkedList<T>, DeRonErr> {
-        let read = read_linked_list(alloc, state, input);
+        let read = read_list::<T, LinkedList<T>>(alloc, state, input);
         end_on_error(state, read)
     }
 }

@@ -1,25 +1,23 @@
-//! Maps: keys with their values between curly brackets. They are written in the order of the keys,
+//! Maps: keys with their values between braces. They are written in the order of the keys,
 //! each entry on a line of its own.
 
 ghost use Rattle.std.specs.Map.Iter.{deref_pair};
-ghost use Rattle.std.specs.Prelude.{OnOk, OnErr, map, IfErr};
+ghost use Rattle.std.specs.Prelude.{OnOk, OnErr, map};
 ghost use Rattle.nano_value.specs.Meaning.{pair_map};
-ghost use Rattle.nano_value.specs.Tables.{table_of, table_means};
-ghost use Rattle.nano_value.specs.AgreesLaws.{seen_agrees, map_agrees};
+ghost use Rattle.nano_meaning.proofs.AgreesLaws.{seen_agrees, map_agrees};
 ghost use Rattle.nano_ron.specs.Codec.{codec_as};
 ghost use Rattle.nano_ron.specs.Lists.{on_a_line};
-ghost use Rattle.nano_ron.specs.Maps.{EncodesEntry, EncodesMap, written_entry, written_entries};
-ghost use Rattle.nano_ron.specs.MapsLaws.{map_codec};
+ghost use Rattle.nano_ron.specs.Maps.{EncodesAllEntries, EncodesEntry, written_entry};
+ghost use Rattle.nano_ron.specs.Maps.{written_entries};
+ghost use Rattle.nano_ron.specs.MapCodecs.{map_codec};
 ghost use Rattle.nano_text.specs.Place.{saturating_next};
 ghost use Rattle.nano_text.specs.Outcomes.{Appends, AppendsPart};
-ghost use Rattle.nano_ron.specs.Readers.{Decodes, Rejects};
-ghost use Rattle.nano_ron.specs.Outcomes.{Counts, IsPlacedAt};
-ghost use Rattle.nano_ron.specs.State.{at};
+ghost use Rattle.nano_ron.specs.Outcomes.{position, Reads};
 
 use crate::traits::{DeRon, RonCodec, SerRon};
 use nano_ron_tokens::{DeRonErr, DeRonState, SerRonState, end_on_error};
 use nano_text::{bytes_left, rollback_on_error};
-use nano_value::{Key, OrderedKey, entries_by_rank};
+use nano_value::{CollectEntries, Key, OrderedKey, entries_by_rank};
 use std::alloc::{AllocError, Global};
 use std::collections::HashMap;
 use std::hash::Hash;
@@ -31,30 +29,26 @@ impl<K: RonCodec + Key + Hash, V: RonCodec> RonCodec for HashMap<K, V> {
     ghost agrees = { seen_agrees (map_agrees K.agrees V.agrees) (λ x. x.entries) };
 }
 
-/// Reads keys with their values between curly brackets into a map. A repeated key takes its
-/// last value. On an error, the position of the state is unspecified.
-fn read_hash_map<K: DeRon + Key + Hash, V: DeRon>(
+/// Reads keys with their values between braces into a collection. On an error, the position
+/// of the state is unspecified.
+pub(crate) fn read_entries<K: DeRon, V: DeRon, C: CollectEntries<K, V>>(
     alloc: Global,
     state: &mut DeRonState,
     input: &mut Chars<'_>,
-) -> Result<HashMap<K, V>, DeRonErr>
-    ensures decodes { Decodes (EncodesMap K.ron.encoding.encodes V.ron.encoding.encodes)
-        (λ entries. table_means (table_of K.means V.means entries.entries))
-        (at state.old input.old) (at state.new input.new) result }
-    ensures rejected { Rejects (EncodesMap K.ron.encoding.encodes V.ron.encoding.encodes)
-        (at state.old input.old) result }
-    ensures place { Counts state.old input.old state.new input.new }
-    ensures made { IfErr result (IsPlacedAt state.new) }
+) -> Result<C, DeRonErr>
+    ensures { Reads
+        (EncodesAllEntries C.whole K.ron.encoding.encodes V.ron.encoding.encodes) C.means
+        (position state.old input.old) (position state.new input.new) result }
 {
     // A text has fewer than 2^63 bytes, so a `usize` counts its entries.
     let _capacity = bytes_left(input);
-    let mut entries = HashMap::new(alloc);
+    let mut entries = C::empty(alloc);
     state.curly_open(alloc, input)?;
     'entries: while !state.is_curly_close() {
-        let (key, value) = read_entry(alloc, state, input)?;
-        if entries.insert(key, value).is_err() {
+        let (key, value) = read_entry::<K, V>(alloc, state, input)?;
+        let Ok(()) = entries.put(key, value) else {
             return Err(state.err_memory(alloc));
-        }
+        };
         state.eat_comma_curly(alloc, input)?;
     }
     state.curly_close(alloc, input)?;
@@ -67,12 +61,9 @@ pub(crate) fn read_entry<K: DeRon, V: DeRon>(
     state: &mut DeRonState,
     input: &mut Chars<'_>,
 ) -> Result<(K, V), DeRonErr>
-    ensures decodes { Decodes (EncodesEntry K.ron.encoding.encodes V.ron.encoding.encodes)
-        (pair_map K.means V.means) (at state.old input.old) (at state.new input.new) result }
-    ensures rejected { Rejects (EncodesEntry K.ron.encoding.encodes V.ron.encoding.encodes)
-        (at state.old input.old) result }
-    ensures place { Counts state.old input.old state.new input.new }
-    ensures made { IfErr result (IsPlacedAt state.new) }
+    ensures { Reads (EncodesEntry K.ron.encoding.encodes V.ron.encoding.encodes)
+        (pair_map K.means V.means)
+        (position state.old input.old) (position state.new input.new) result }
 {
     let key = K::de_ron(alloc, state, input)?;
     state.colon(alloc, input)?;
@@ -86,7 +77,7 @@ impl<K: DeRon + Key + Hash, V: DeRon> DeRon for HashMap<K, V> {
         state: &mut DeRonState,
         input: &mut Chars<'_>,
     ) -> Result<HashMap<K, V>, DeRonErr> {
-        let read = read_hash_map(alloc, state, input);
+        let read = read_entries::<K, V, HashMap<K, V>>(alloc, state, input);
         end_on_error(state, read)
     }
 }
@@ -112,7 +103,7 @@ pub(crate) fn append_entry<K: SerRon, V: SerRon>(
     s.conl()
 }
 
-/// Appends entries between curly brackets, each on a line of its own. If an allocation fails,
+/// Appends entries between braces, each on a line of its own. If an allocation fails,
 /// what was written so far remains.
 fn append_hash_map<K: SerRon, V: SerRon>(
     alloc: Global,

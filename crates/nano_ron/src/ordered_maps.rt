@@ -1,22 +1,18 @@
-//! Ordered maps: keys with their values between curly brackets, each entry on a line of its own. A
+//! Ordered maps: keys with their values between braces, each entry on a line of its own. A
 //! hashed map of the same entries is written alike.
 
-ghost use Rattle.std.specs.Prelude.{OnOk, OnErr, IfErr};
-ghost use Rattle.nano_value.specs.OrderedMaps.{ordered_map_means};
-ghost use Rattle.nano_value.specs.AgreesLaws.{seen_agrees, ordered_map_agrees};
+ghost use Rattle.std.specs.Prelude.{OnOk, OnErr};
+ghost use Rattle.nano_meaning.proofs.AgreesLaws.{seen_agrees, ordered_map_agrees};
 ghost use Rattle.nano_ron.specs.Codec.{codec_as};
-ghost use Rattle.nano_ron.specs.Maps.{EncodesMap, written_entries};
-ghost use Rattle.nano_ron.specs.MapsLaws.{ordered_map_codec};
+ghost use Rattle.nano_ron.specs.Maps.{written_entries};
+ghost use Rattle.nano_ron.specs.MapCodecs.{ordered_map_codec};
 ghost use Rattle.nano_text.specs.Place.{saturating_next};
 ghost use Rattle.nano_text.specs.Outcomes.{Appends, AppendsPart};
-ghost use Rattle.nano_ron.specs.Readers.{Decodes, Rejects};
-ghost use Rattle.nano_ron.specs.Outcomes.{Counts, IsPlacedAt};
-ghost use Rattle.nano_ron.specs.State.{at};
 
-use crate::maps::{append_entry, read_entry};
+use crate::maps::{append_entry, read_entries};
 use crate::traits::{DeRon, RonCodec, SerRon};
 use nano_ron_tokens::{DeRonErr, DeRonState, SerRonState, end_on_error};
-use nano_text::{bytes_left, rollback_on_error};
+use nano_text::rollback_on_error;
 use nano_value::{Key, OrderedKey};
 use std::alloc::{AllocError, Global};
 use std::collections::BTreeMap;
@@ -28,48 +24,18 @@ impl<K: RonCodec + Key + Ord, V: RonCodec> RonCodec for BTreeMap<K, V> {
     ghost agrees = { seen_agrees (ordered_map_agrees K.agrees V.agrees K.cmp) (λ x. x.entries) };
 }
 
-/// Reads keys with their values between curly brackets into a map. A repeated key takes its
-/// last value. On an error, the position of the state is unspecified.
-fn read_btree_map<K: DeRon + Key + Ord, V: DeRon>(
-    alloc: Global,
-    state: &mut DeRonState,
-    input: &mut Chars<'_>,
-) -> Result<BTreeMap<K, V>, DeRonErr>
-    ensures decodes { Decodes (EncodesMap K.ron.encoding.encodes V.ron.encoding.encodes)
-        (λ entries. ordered_map_means K.cmp K.means V.means entries.entries)
-        (at state.old input.old) (at state.new input.new) result }
-    ensures rejected { Rejects (EncodesMap K.ron.encoding.encodes V.ron.encoding.encodes)
-        (at state.old input.old) result }
-    ensures place { Counts state.old input.old state.new input.new }
-    ensures made { IfErr result (IsPlacedAt state.new) }
-{
-    // A text has fewer than 2^63 bytes, so a `usize` counts its entries.
-    let _capacity = bytes_left(input);
-    let mut entries = BTreeMap::new(alloc);
-    state.curly_open(alloc, input)?;
-    'entries: while !state.is_curly_close() {
-        let (key, value) = read_entry(alloc, state, input)?;
-        if entries.insert(key, value).is_err() {
-            return Err(state.err_memory(alloc));
-        }
-        state.eat_comma_curly(alloc, input)?;
-    }
-    state.curly_close(alloc, input)?;
-    Ok(entries)
-}
-
 impl<K: DeRon + Key + Ord, V: DeRon> DeRon for BTreeMap<K, V> {
     fn de_ron(
         alloc: Global,
         state: &mut DeRonState,
         input: &mut Chars<'_>,
     ) -> Result<BTreeMap<K, V>, DeRonErr> {
-        let read = read_btree_map(alloc, state, input);
+        let read = read_entries::<K, V, BTreeMap<K, V>>(alloc, state, input);
         end_on_error(state, read)
     }
 }
 
-/// Appends entries between curly brackets, each on a line of its own. If an allocation fails,
+/// Appends entries between braces, each on a line of its own. If an allocation fails,
 /// what was written so far remains.
 fn append_btree_map<K: SerRon + Ord, V: SerRon>(
     alloc: Global,

@@ -1,12 +1,10 @@
 //! The parts of a tuple: the last one with the closing bracket, and each other with the comma
 //! after it.
 
-ghost use Rattle.std.specs.Prelude.{◌++◌, ◌∷◌, [], OnOk, OnErr, IfErr};
+ghost use Rattle.std.specs.Prelude.{◌++◌, ◌∷◌, [], OnOk, OnErr};
 ghost use Rattle.nano_text.specs.Outcomes.{Appends, AppendsPart};
-ghost use Rattle.nano_ron.specs.Readers.{Decodes, Rejects};
-ghost use Rattle.nano_ron.specs.Outcomes.{Counts, IsPlacedAt};
-ghost use Rattle.nano_ron.specs.State.{at};
-ghost use Rattle.nano_ron.specs.TuplesLaws.{last_codec};
+ghost use Rattle.nano_ron.specs.Outcomes.{position, Reads};
+ghost use Rattle.nano_ron.specs.TupleCodecs.{last_codec};
 
 use crate::traits::{DeRon, SerRon};
 use nano_ron_tokens::{DeRonErr, DeRonState, SerRonState};
@@ -20,12 +18,8 @@ pub(crate) fn read_last<T: DeRon>(
     state: &mut DeRonState,
     input: &mut Chars<'_>,
 ) -> Result<T, DeRonErr>
-    ensures decodes { Decodes (last_codec T.ron).encoding.encodes T.means
-        (at state.old input.old) (at state.new input.new) result }
-    ensures rejected { Rejects (last_codec T.ron).encoding.encodes
-        (at state.old input.old) result }
-    ensures place { Counts state.old input.old state.new input.new }
-    ensures made { IfErr result (IsPlacedAt state.new) }
+    ensures { Reads (last_codec T.ron).encoding.encodes T.means
+        (position state.old input.old) (position state.new input.new) result }
 {
     let last = T::de_ron(alloc, state, input)?;
     state.eat_comma_paren(alloc, input)?;

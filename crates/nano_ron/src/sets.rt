@@ -2,25 +2,19 @@
 //! after an indent.
 
 ghost use Rattle.std.specs.Map.Iter.{deref};
-ghost use Rattle.std.specs.Prelude.{OnOk, OnErr, map, IfErr};
-ghost use Rattle.nano_value.specs.OrderedSets.{ordered_means};
-ghost use Rattle.nano_value.specs.Sets.{item_set, set_means};
-ghost use Rattle.nano_value.specs.AgreesLaws.{seen_agrees, set_agrees, ordered_agrees};
+ghost use Rattle.std.specs.Prelude.{OnOk, OnErr, map};
+ghost use Rattle.nano_meaning.proofs.AgreesLaws.{seen_agrees, set_agrees, ordered_agrees};
 ghost use Rattle.nano_ron.specs.Codec.{codec_as};
 ghost use Rattle.nano_ron.specs.Lists.{written_in};
-ghost use Rattle.nano_ron.specs.StylesLaws.{indent_style};
+ghost use Rattle.nano_ron_tokens.proofs.StylesLaws.{indent_style};
 ghost use Rattle.nano_text.specs.Place.{saturating_next};
 ghost use Rattle.nano_text.specs.Outcomes.{Appends, AppendsPart};
-ghost use Rattle.nano_ron.specs.Readers.{Decodes, Rejects};
-ghost use Rattle.nano_ron.specs.Sets.{EncodesSet};
-ghost use Rattle.nano_ron.specs.SetsLaws.{set_codec, ordered_codec};
-ghost use Rattle.nano_ron.specs.Outcomes.{Counts, IsPlacedAt};
-ghost use Rattle.nano_ron.specs.State.{at};
+ghost use Rattle.nano_ron.specs.SetCodecs.{set_codec, ordered_codec};
 
-use crate::lists::append_indented;
+use crate::lists::{append_indented, read_list};
 use crate::traits::{DeRon, RonCodec, SerRon};
 use nano_ron_tokens::{DeRonErr, DeRonState, SerRonState, end_on_error};
-use nano_text::{bytes_left, rollback_on_error};
+use nano_text::rollback_on_error;
 use nano_value::{Key, OrderedKey, items_in_order};
 use std::alloc::{AllocError, Global};
 use std::collections::{BTreeSet, HashSet};
@@ -33,42 +27,13 @@ impl<T: RonCodec + Key + Hash> RonCodec for HashSet<T> {
     ghost agrees = { seen_agrees (set_agrees T.agrees) (λ x. x.keys) };
 }
 
-/// Reads items between square brackets into a set. On an error, the position of the state is
-/// unspecified.
-fn read_hash_set<T: DeRon + Key + Hash>(
-    alloc: Global,
-    state: &mut DeRonState,
-    input: &mut Chars<'_>,
-) -> Result<HashSet<T>, DeRonErr>
-    ensures decodes { Decodes (EncodesSet T.ron.encoding.encodes)
-        (λ items. set_means (item_set T.means items.keys))
-        (at state.old input.old) (at state.new input.new) result }
-    ensures rejected { Rejects (EncodesSet T.ron.encoding.encodes) (at state.old input.old) result }
-    ensures place { Counts state.old input.old state.new input.new }
-    ensures made { IfErr result (IsPlacedAt state.new) }
-{
-    // A text has fewer than 2^63 bytes, so a `usize` counts its items.
-    let _capacity = bytes_left(input);
-    let mut items = HashSet::new(alloc);
-    state.block_open(alloc, input)?;
-    'items: while !state.is_block_close() {
-        let item = T::de_ron(alloc, state, input)?;
-        let Ok(_added) = items.insert(item) else {
-            return Err(state.err_memory(alloc));
-        };
-        state.eat_comma_block(alloc, input)?;
-    }
-    state.block_close(alloc, input)?;
-    Ok(items)
-}
-
 impl<T: DeRon + Key + Hash> DeRon for HashSet<T> {
     fn de_ron(
         alloc: Global,
         state: &mut DeRonState,
         input: &mut Chars<'_>,
     ) -> Result<HashSet<T>, DeRonErr> {
-        let read = read_hash_set(alloc, state, input);
+        let read = read_list::<T, HashSet<T>>(alloc, state, input);
         end_on_error(state, read)
     }
 }
@@ -109,42 +74,13 @@ impl<T: RonCodec + Key + Ord> RonCodec for BTreeSet<T> {
     ghost agrees = { seen_agrees (ordered_agrees T.agrees T.cmp) (λ x. x.keys) };
 }
 
-/// Reads items between square brackets into a set. On an error, the position of the state is
-/// unspecified.
-fn read_btree_set<T: DeRon + Key + Ord>(
-    alloc: Global,
-    state: &mut DeRonState,
-    input: &mut Chars<'_>,
-) -> Result<BTreeSet<T>, DeRonErr>
-    ensures decodes { Decodes (EncodesSet T.ron.encoding.encodes)
-        (λ items. ordered_means T.cmp T.means items.keys)
-        (at state.old input.old) (at state.new input.new) result }
-    ensures rejected { Rejects (EncodesSet T.ron.encoding.encodes) (at state.old input.old) result }
-    ensures place { Counts state.old input.old state.new input.new }
-    ensures made { IfErr result (IsPlacedAt state.new) }
-{
-    // A text has fewer than 2^63 bytes, so a `usize` counts its items.
-    let _capacity = bytes_left(input);
-    let mut items = BTreeSet::new(alloc);
-    state.block_open(alloc, input)?;
-    'items: while !state.is_block_close() {
-        let item = T::de_ron(alloc, state, input)?;
-        let Ok(_added) = items.insert(item) else {
-            return Err(state.err_memory(alloc));
-        };
-        state.eat_comma_block(alloc, input)?;
-    }
-    state.block_close(alloc, input)?;
-    Ok(items)
-}
-
 impl<T: DeRon + Key + Ord> DeRon for BTreeSet<T> {
     fn de_ron(
         alloc: Global,
         state: &mut DeRonState,
         input: &mut Chars<'_>,
     ) -> Result<BTreeSet<T>, DeRonErr> {
-        let read = read_btree_set(alloc, state, input);
+        let read = read_list::<T, BTreeSet<T>>(alloc, state, input);
         end_on_error(state, read)
     }
 }

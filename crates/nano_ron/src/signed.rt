@@ -2,15 +2,12 @@
 //! Their readers are inlined: a value read then passes through no result with space for an
 //! error.
 
-ghost use Rattle.std.specs.Prelude.{IfErr};
 ghost use Rattle.std.specs.Int.{w8, w16, w32, w64};
 ghost use Rattle.nano_value.specs.Meaning.{number};
-ghost use Rattle.nano_value.specs.AgreesLaws.{agreed};
-ghost use Rattle.nano_ron.specs.NumbersLaws.{IsRangeOf, signed, signed_codec, within_8, within_16};
-ghost use Rattle.nano_ron.specs.NumbersLaws.{within_32, within_64};
-ghost use Rattle.nano_ron.specs.Readers.{Decodes, Rejects};
-ghost use Rattle.nano_ron.specs.Outcomes.{Counts, IsPlacedAt};
-ghost use Rattle.nano_ron.specs.State.{at};
+ghost use Rattle.nano_meaning.proofs.AgreesLaws.{agreed};
+ghost use Rattle.nano_ron.specs.NumberCodecs.{IsRangeOf, signed, signed_codec, within_8, within_16};
+ghost use Rattle.nano_ron.specs.NumberCodecs.{within_32, within_64};
+ghost use Rattle.nano_ron.specs.Outcomes.{position, Reads};
 
 use crate::traits::{DeRon, RonCodec, SerRon};
 use nano_ron_tokens::{DeRonErr, DeRonState, SerRonState, end_on_error};
@@ -45,11 +42,8 @@ fn read_signed<T: Signed>(
     max: i64,
 ) -> Result<T, DeRonErr>
     requires { IsRangeOf T.width min max }
-    ensures decodes { Decodes (signed T.width).encodes (λ x. number (T.value x))
-        (at state.old input.old) (at state.new input.new) result }
-    ensures rejected { Rejects (signed T.width).encodes (at state.old input.old) result }
-    ensures place { Counts state.old input.old state.new input.new }
-    ensures made { IfErr result (IsPlacedAt state.new) }
+    ensures { Reads (signed T.width).encodes (λ x. number (T.value x))
+        (position state.old input.old) (position state.new input.new) result }
 {
     let number = state.i64_range(alloc, min, max)?;
     state.next_tok(alloc, input)?;

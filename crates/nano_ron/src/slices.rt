@@ -1,18 +1,16 @@
 //! Lists between parentheses: slices and arrays.
 
-ghost use Rattle.std.specs.Prelude.{◌≡◌, IfOk, OnOk, OnErr, map, length, IfErr};
+ghost use Rattle.std.specs.Prelude.{◌≡◌, IfOk, OnOk, OnErr, map, length};
 ghost use Rattle.nano_text.specs.Place.{saturating_next};
 ghost use Rattle.nano_value.specs.Meaning.{listed};
-ghost use Rattle.nano_value.specs.AgreesLaws.{seen_agrees, list_agrees, array_agrees};
+ghost use Rattle.nano_meaning.proofs.AgreesLaws.{seen_agrees, list_agrees, array_agrees};
 ghost use Rattle.nano_ron.specs.Codec.{codec_as};
 ghost use Rattle.nano_text.specs.Outcomes.{Appends, AppendsPart};
-ghost use Rattle.nano_ron.specs.Readers.{Decodes, Rejects};
-ghost use Rattle.nano_ron.specs.ListsLaws.{array_of, slice_codec};
+ghost use Rattle.nano_ron.specs.ListCodecs.{array_of, slice_codec};
 ghost use Rattle.nano_ron.specs.Lists.{after_space, written_in};
-ghost use Rattle.nano_ron.specs.ListsLaws.{array_codec};
-ghost use Rattle.nano_ron.specs.StylesLaws.{paren_style};
-ghost use Rattle.nano_ron.specs.Outcomes.{Counts, IsPlacedAt};
-ghost use Rattle.nano_ron.specs.State.{at};
+ghost use Rattle.nano_ron.specs.ListCodecs.{array_codec};
+ghost use Rattle.nano_ron_tokens.proofs.StylesLaws.{paren_style};
+ghost use Rattle.nano_ron.specs.Outcomes.{position, Reads};
 
 use crate::traits::{DeRon, RonCodec, SerRon};
 use nano_ron_tokens::{DeRonErr, DeRonState, SerRonState, end_on_error};
@@ -88,14 +86,10 @@ fn read_items<T: DeRon>(
     input: &mut Chars<'_>,
     count: usize,
 ) -> Result<Vec<T>, DeRonErr>
-    ensures decodes { Decodes (array_of count T.ron.encoding).encodes
+    ensures reads { Reads (array_of count T.ron.encoding).encodes
         (λ items. listed (map T.means items.items))
-        (at state.old input.old) (at state.new input.new) result }
+        (position state.old input.old) (position state.new input.new) result }
     ensures count { IfOk result (λ items. length items.items ≡ count) }
-    ensures rejected { Rejects (array_of count T.ron.encoding).encodes
-        (at state.old input.old) result }
-    ensures place { Counts state.old input.old state.new input.new }
-    ensures made { IfErr result (IsPlacedAt state.new) }
 {
     let mut items = Vec::new(alloc);
     state.paren_open(alloc, input)?;
@@ -116,11 +110,8 @@ fn read_array<T: DeRon, const N: usize>(
     state: &mut DeRonState,
     input: &mut Chars<'_>,
 ) -> Result<[T; N], DeRonErr>
-    ensures decodes { Decodes (array_of N T.ron.encoding).encodes (λ items. listed (map T.means items))
-        (at state.old input.old) (at state.new input.new) result }
-    ensures rejected { Rejects (array_of N T.ron.encoding).encodes (at state.old input.old) result }
-    ensures place { Counts state.old input.old state.new input.new }
-    ensures made { IfErr result (IsPlacedAt state.new) }
+    ensures { Reads (array_of N T.ron.encoding).encodes (λ items. listed (map T.means items))
+        (position state.old input.old) (position state.new input.new) result }
 {
     let items = read_items(alloc, state, input, N)?;
     match <[T; N]>::try_from(items) {

@@ -5,7 +5,7 @@ use nano_value::Value;
 use std::alloc::{AllocError, Global};
 use std::str::Chars;
 
-/// A value with a place in RON. A type that is only written has one too.
+/// A type that has a RON codec. A type that is only written has one too.
 pub trait RonCodec: Value {
     ghost use Rattle.nano_value.specs.Agrees.{Agrees};
     ghost use Rattle.nano_ron.specs.Codec.{Codec};
@@ -68,12 +68,8 @@ pub trait SerRon: RonCodec {
 
 /// A value that can be read from RON.
 pub trait DeRon: RonCodec + Drop {
-    ghost use Rattle.std.specs.Prelude.{◌≡◌, OnErr, IfErr};
-    ghost use Rattle.nano_text.specs.Place.{remaining_text};
-    ghost use Rattle.nano_ron.specs.Outcomes.{Counts, IsPlacedAt};
-    ghost use Rattle.nano_ron.specs.Readers.{Decodes, Rejects, DecodesText, RejectsText};
-    ghost use Rattle.nano_ron.specs.Readers.{DecodesWhole, RejectsWhole, NamesTheEnd, PointsInto};
-    ghost use Rattle.nano_ron.specs.State.{at, ended};
+    ghost use Rattle.nano_ron.specs.Outcomes.{position, ReadsOrEnds};
+    ghost use Rattle.nano_ron.specs.Readers.{ReadsText, ReadsWhole};
 
     /// Reads the value that the tokens from the pending one on encode. The token after the
     /// value is pending then, which may be the end.
@@ -94,12 +90,8 @@ pub trait DeRon: RonCodec + Drop {
         state: &mut DeRonState,
         input: &mut Chars<'_>,
     ) -> Result<Self, DeRonErr>
-        ensures decodes { Decodes Self.ron.encoding.encodes Self.means
-            (at state.old input.old) (at state.new input.new) result }
-        ensures rejected { Rejects Self.ron.encoding.encodes (at state.old input.old) result }
-        ensures ended { OnErr result (at state.new input.new ≡ ended) }
-        ensures place { Counts state.old input.old state.new input.new }
-        ensures made { IfErr result (IsPlacedAt state.new) };
+        ensures { ReadsOrEnds Self.ron.encoding.encodes Self.means
+            (position state.old input.old) (position state.new input.new) result };
 
     /// Reads the value that begins the text, which ends before its first NUL. More may follow:
     /// of that, one token is read.
@@ -115,9 +107,7 @@ pub trait DeRon: RonCodec + Drop {
     /// let point = <(i32, Option<bool>)>::deserialize_ron(alloc, "(-1, None) // a point")?;
     /// ```
     final fn deserialize_ron(alloc: Global, input: &str) -> Result<Self, DeRonErr>
-        ensures decodes { DecodesText Self.ron.encoding.encodes Self.means (remaining_text input.now) result }
-        ensures rejected { RejectsText Self.ron.encoding.encodes (remaining_text input.now) result }
-        ensures place { PointsInto input.now result }
+        ensures { ReadsText Self.ron.encoding.encodes Self.means input.now result }
     {
         let mut state = DeRonState::new(alloc);
         let mut chars = input.chars();
@@ -145,10 +135,7 @@ pub trait DeRon: RonCodec + Drop {
     /// }
     /// ```
     final fn deserialize_ron_whole(alloc: Global, input: &str) -> Result<Self, DeRonErr>
-        ensures decodes { DecodesWhole Self.ron.encoding.encodes Self.means input.now result }
-        ensures rejected { RejectsWhole Self.ron.encoding.encodes input.now result }
-        ensures trailing { NamesTheEnd Self.ron.encoding.encodes input.now result }
-        ensures place { PointsInto input.now result }
+        ensures { ReadsWhole Self.ron.encoding.encodes Self.means input.now result }
     {
         let mut state = DeRonState::new(alloc);
         let mut characters = input.chars();

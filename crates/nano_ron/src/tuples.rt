@@ -1,15 +1,13 @@
 //! Tuples: two, three or four parts between parentheses. On an error the private functions leave
 //! the state anywhere and the text that they wrote; the impls put that right.
 
-ghost use Rattle.std.specs.Prelude.{OnOk, OnErr, IfErr};
+ghost use Rattle.std.specs.Prelude.{OnOk, OnErr};
 ghost use Rattle.nano_value.specs.Meaning.{paired};
-ghost use Rattle.nano_value.specs.AgreesLaws.{seen_agrees, pair_agrees};
+ghost use Rattle.nano_meaning.proofs.AgreesLaws.{seen_agrees, pair_agrees};
 ghost use Rattle.nano_text.specs.Outcomes.{Appends, AppendsPart};
-ghost use Rattle.nano_ron.specs.Readers.{Decodes, Rejects};
-ghost use Rattle.nano_ron.specs.Outcomes.{Counts, IsPlacedAt};
-ghost use Rattle.nano_ron.specs.State.{at};
-ghost use Rattle.nano_ron.specs.TuplesLaws.{two_parts, three_parts, four_parts};
-ghost use Rattle.nano_ron.specs.TuplesLaws.{pair_codec, triple_codec, quadruple_codec};
+ghost use Rattle.nano_ron.specs.Outcomes.{position, Reads};
+ghost use Rattle.nano_ron.specs.TupleCodecs.{two_parts, three_parts, four_parts};
+ghost use Rattle.nano_ron.specs.TupleCodecs.{pair_codec, triple_codec, quadruple_codec};
 
 use crate::parts::{append_last, append_part, read_last};
 use crate::traits::{DeRon, RonCodec, SerRon};
@@ -25,13 +23,9 @@ fn read_two<A: DeRon, B: DeRon>(
     state: &mut DeRonState,
     input: &mut Chars<'_>,
 ) -> Result<(A, B), DeRonErr>
-    ensures decodes { Decodes (two_parts A.ron B.ron).encoding.encodes
+    ensures { Reads (two_parts A.ron B.ron).encoding.encodes
         (λ x. paired (A.means x.0, B.means x.1))
-        (at state.old input.old) (at state.new input.new) result }
-    ensures rejected { Rejects (two_parts A.ron B.ron).encoding.encodes
-        (at state.old input.old) result }
-    ensures place { Counts state.old input.old state.new input.new }
-    ensures made { IfErr result (IsPlacedAt state.new) }
+        (position state.old input.old) (position state.new input.new) result }
 {
     let first = A::de_ron(alloc, state, input)?;
     state.eat_comma_paren(alloc, input)?;
@@ -46,13 +40,9 @@ fn read_three<A: DeRon, B: DeRon, C: DeRon>(
     state: &mut DeRonState,
     input: &mut Chars<'_>,
 ) -> Result<(A, B, C), DeRonErr>
-    ensures decodes { Decodes (three_parts A.ron B.ron C.ron).encoding.encodes
+    ensures { Reads (three_parts A.ron B.ron C.ron).encoding.encodes
         (λ x. paired (A.means x.0, paired (B.means x.1, C.means x.2)))
-        (at state.old input.old) (at state.new input.new) result }
-    ensures rejected { Rejects (three_parts A.ron B.ron C.ron).encoding.encodes
-        (at state.old input.old) result }
-    ensures place { Counts state.old input.old state.new input.new }
-    ensures made { IfErr result (IsPlacedAt state.new) }
+        (position state.old input.old) (position state.new input.new) result }
 {
     let first = A::de_ron(alloc, state, input)?;
     state.eat_comma_paren(alloc, input)?;
@@ -67,13 +57,9 @@ fn read_four<A: DeRon, B: DeRon, C: DeRon, D: DeRon>(
     state: &mut DeRonState,
     input: &mut Chars<'_>,
 ) -> Result<(A, B, C, D), DeRonErr>
-    ensures decodes { Decodes (four_parts A.ron B.ron C.ron D.ron).encoding.encodes
+    ensures { Reads (four_parts A.ron B.ron C.ron D.ron).encoding.encodes
         (λ x. paired (A.means x.0, paired (B.means x.1, paired (C.means x.2, D.means x.3))))
-        (at state.old input.old) (at state.new input.new) result }
-    ensures rejected { Rejects (four_parts A.ron B.ron C.ron D.ron).encoding.encodes
-        (at state.old input.old) result }
-    ensures place { Counts state.old input.old state.new input.new }
-    ensures made { IfErr result (IsPlacedAt state.new) }
+        (position state.old input.old) (position state.new input.new) result }
 {
     let first = A::de_ron(alloc, state, input)?;
     state.eat_comma_paren(alloc, input)?;
@@ -117,13 +103,9 @@ fn read_pair<A: DeRon, B: DeRon>(
     state: &mut DeRonState,
     input: &mut Chars<'_>,
 ) -> Result<(A, B), DeRonErr>
-    ensures decodes { Decodes (pair_codec A.ron B.ron).encoding.encodes
+    ensures { Reads (pair_codec A.ron B.ron).encoding.encodes
         (λ x. paired (A.means x.0, B.means x.1))
-        (at state.old input.old) (at state.new input.new) result }
-    ensures rejected { Rejects (pair_codec A.ron B.ron).encoding.encodes
-        (at state.old input.old) result }
-    ensures place { Counts state.old input.old state.new input.new }
-    ensures made { IfErr result (IsPlacedAt state.new) }
+        (position state.old input.old) (position state.new input.new) result }
 {
     state.paren_open(alloc, input)?;
     read_two(alloc, state, input)
@@ -178,13 +160,9 @@ fn read_triple<A: DeRon, B: DeRon, C: DeRon>(
     state: &mut DeRonState,
     input: &mut Chars<'_>,
 ) -> Result<(A, B, C), DeRonErr>
-    ensures decodes { Decodes (triple_codec A.ron B.ron C.ron).encoding.encodes
+    ensures { Reads (triple_codec A.ron B.ron C.ron).encoding.encodes
         (λ x. paired (A.means x.0, paired (B.means x.1, C.means x.2)))
-        (at state.old input.old) (at state.new input.new) result }
-    ensures rejected { Rejects (triple_codec A.ron B.ron C.ron).encoding.encodes
-        (at state.old input.old) result }
-    ensures place { Counts state.old input.old state.new input.new }
-    ensures made { IfErr result (IsPlacedAt state.new) }
+        (position state.old input.old) (position state.new input.new) result }
 {
     state.paren_open(alloc, input)?;
     read_three(alloc, state, input)
@@ -240,13 +218,9 @@ fn read_quadruple<A: DeRon, B: DeRon, C: DeRon, D: DeRon>(
     state: &mut DeRonState,
     input: &mut Chars<'_>,
 ) -> Result<(A, B, C, D), DeRonErr>
-    ensures decodes { Decodes (quadruple_codec A.ron B.ron C.ron D.ron).encoding.encodes
+    ensures { Reads (quadruple_codec A.ron B.ron C.ron D.ron).encoding.encodes
         (λ x. paired (A.means x.0, paired (B.means x.1, paired (C.means x.2, D.means x.3))))
-        (at state.old input.old) (at state.new input.new) result }
-    ensures rejected { Rejects (quadruple_codec A.ron B.ron C.ron D.ron).encoding.encodes
-        (at state.old input.old) result }
-    ensures place { Counts state.old input.old state.new input.new }
-    ensures made { IfErr result (IsPlacedAt state.new) }
+        (position state.old input.old) (position state.new input.new) result }
 {
     state.paren_open(alloc, input)?;
     read_four(alloc, state, input)

@@ -2,14 +2,12 @@
 //! Their readers are inlined: a value read then passes through no result with space for an
 //! error.
 
-ghost use Rattle.std.specs.Prelude.{◌≡◌, ◌+◌, ◌^◌, IfErr};
+ghost use Rattle.std.specs.Prelude.{◌≡◌, ◌+◌, ◌^◌};
 ghost use Rattle.nano_value.specs.Meaning.{whole};
-ghost use Rattle.nano_value.specs.AgreesLaws.{agreed};
-ghost use Rattle.nano_ron.specs.Readers.{Decodes, Rejects};
-ghost use Rattle.nano_ron.specs.Outcomes.{Counts, IsPlacedAt};
-ghost use Rattle.nano_ron.specs.State.{at};
-ghost use Rattle.nano_ron.specs.NumbersLaws.{unsigned, unsigned_codec, below_8, below_16, below_32};
-ghost use Rattle.nano_ron.specs.NumbersLaws.{below_64};
+ghost use Rattle.nano_meaning.proofs.AgreesLaws.{agreed};
+ghost use Rattle.nano_ron.specs.Outcomes.{position, Reads};
+ghost use Rattle.nano_ron.specs.NumberCodecs.{unsigned, unsigned_codec, below_8, below_16, below_32};
+ghost use Rattle.nano_ron.specs.NumberCodecs.{below_64};
 
 use crate::traits::{DeRon, RonCodec, SerRon};
 use nano_ron_tokens::{DeRonErr, DeRonState, SerRonState, end_on_error};
@@ -42,11 +40,8 @@ fn read_unsigned<T: Unsigned>(
     max: u64,
 ) -> Result<T, DeRonErr>
     requires { 2 ^ T.bits ≡ max + 1 }
-    ensures decodes { Decodes (unsigned T.bits).encodes (λ x. whole (T.value x))
-        (at state.old input.old) (at state.new input.new) result }
-    ensures rejected { Rejects (unsigned T.bits).encodes (at state.old input.old) result }
-    ensures place { Counts state.old input.old state.new input.new }
-    ensures made { IfErr result (IsPlacedAt state.new) }
+    ensures { Reads (unsigned T.bits).encodes (λ x. whole (T.value x))
+        (position state.old input.old) (position state.new input.new) result }
 {
     let number = state.u64_range(alloc, max)?;
     state.next_tok(alloc, input)?;

@@ -5,10 +5,11 @@ use Rattle.std.proofs.lemmas.List.{take_at}
 use Rattle.std.proofs.lemmas.Str.{IsUtf8-take}
 use Rattle.std.specs.Str.Iter.{chars_rest}
 use Rattle.std.specs.declared.str.Chars.{Chars}
-use Rattle.nano_text.specs.Prefix.{prefix, following}
+use Rattle.nano_text.specs.Prefix.{prefix, following, first_is}
 use Rattle.nano_text.specs.declared.place.Place.{Place}
 use Rattle.nano_text.specs.Place.{held, remaining, before_nul, passed, Passes, is_line_feed, begins_character}
-use Rattle.nano_text.proofs.RemainingText.{remaining_more}
+use Rattle.nano_text.proofs.Prefixes.{prefix_split}
+use Rattle.nano_text.proofs.RemainingText.{remaining_more, first_is-remaining}
 use Rattle.nano_text.proofs.Passing.{count_first, begins_ascii, passed_line_unchanged, passed_col}
 use Rattle.nano_text.proofs.TakenPrefix.{remaining_after, passes_prefix}
 use Rattle.nano_text.proofs.Utf8Prefixes.{CutAfterPrefix, cut_narrow, prefix-append-following}
@@ -101,3 +102,8 @@ pub space_fewer : (cur : ℕ) (i : Chars) (rest : List ℕ) → is_space cur ≡
     → length rest < length (remaining cur i)
 space_fewer cur i rest h is =
     omega (arith, ap length is, after_fewer is_blank (before_nul (held i)), ap length (remaining_more cur i (no_nul cur h)))
+
+-- no white space stands after white space
+pub no_space : (cur : ℕ) (i : Chars) (text : List ℕ) → remaining cur i ≡ following is_space text → is_space cur ≡ false
+no_space cur i text is =
+    sym (first_is-remaining is_space cur i refl) ∙ (ap (first_is is_space) is ∙ (prefix_split is_space text).2)

@@ -1,5 +1,5 @@
 -- Where an allocation failed, the buffer had no capacity for the text of the token.
-use Rattle.std.proofs.Common.{◌≡◌, ◌≢◌, ℕ, ◌<◌, List, true, false, arith, rules, length, refl, ap, subst, codes, string_capacity, encode_utf8_all}
+use Rattle.std.proofs.Common.{◌≡◌, ◌≢◌, ℕ, ◌<◌, List, true, false, arith, rules, length, refl, ap, subst, codes, string_bytes, string_capacity, encode_utf8_all}
 use Rattle.nano_text.specs.Prefix.{prefix}
 use Rattle.nano_text.specs.Number.{IsNumber}
 use Rattle.nano_text.specs.String.{IsString}
@@ -7,7 +7,8 @@ use Rattle.nano_text.specs.declared.number.Number.TheVariants.{U64, I64, Dec}
 use Rattle.nano_text.proofs.Numbers.{IsNumber-unique}
 use Rattle.nano_ron_tokens.specs.Cut.{is_word, IsWord, IsRunOf, IsQuoted}
 use Rattle.nano_ron_tokens.specs.Outcomes.{Outgrows, NothingCut, NoCapacity}
-use Rattle.nano_ron_tokens.specs.Token.{Token, ident, str, u64, i64, f64, bool}
+use Rattle.nano_ron_tokens.specs.Token.{Token, ident, str, u64, i64, f64, bool, IsLiteral}
+use Rattle.nano_ron_tokens.specs.State.{pending, KeepsOtherBuffers}
 use Rattle.nano_ron_tokens.specs.declared.state.DeRonState.{DeRonState}
 use Rattle.nano_ron_tokens.specs.declared.scan.Rejection.{Rejection}
 use Rattle.nano_ron_tokens.specs.declared.scan.Rejection.TheVariants.{Memory}
@@ -52,3 +53,17 @@ pub by_rejection : (r : Rejection) (s : DeRonState) (text : List ℕ) → (r ≢
     → (r ≡ Memory → NoCapacity s text) → NoCapacity s text
 by_rejection Memory s text none capacity = capacity refl
 by_rejection _ s text none capacity = λ t rest cut. absurd (none (λ e. cc e) t rest cut)
+
+word_literal : (t : Token) (text rest : List ℕ) → IsWord t text rest → IsLiteral t
+word_literal (bool b) text rest h = tt
+word_literal (ident name) text rest h = tt
+word_literal _ text rest h = absurd h
+
+-- a word changes no buffer but its own
+pub word_keeps : (old new : DeRonState) (text rest : List ℕ) → new.strbuf ≡ old.strbuf → new.numbuf ≡ old.numbuf
+    → IsWord (pending new) text rest → KeepsOtherBuffers old new
+word_keeps old new text rest strbuf numbuf word = record {
+  strbuf = λ _. ap (λ s. string_bytes s) strbuf;
+  numbuf = λ _. ap (λ s. string_bytes s) numbuf;
+  identbuf = λ other. absurd (other (word_literal (pending new) text rest word));
+}

@@ -2,7 +2,7 @@
 use Rattle.std.proofs.Common.{◌≡◌, ◌≢◌, ℕ, ◌<◌, ◌≤◌, ◌==◌, Bool, true, false, cond, List, [], ◌∷◌, ◌++◌, refl, sym, ◌∙◌, subst, ap, inl, inr, append_assoc, length, length-append, arith}
 use Rattle.nano_text.specs.Prefix.{first_is, following}
 use Rattle.nano_ron_tokens.specs.Gaps.{is_space, IsOneLine, HoldsNoEnd, Skip, space, line, block, IsSkip, skip_text, IsUnended}
-use Rattle.nano_ron_tokens.specs.RonLaws.{no_gap}
+use Rattle.nano_ron_tokens.proofs.RonLaws.{no_gap}
 use Rattle.nano_ron_tokens.specs.Scan.{IsStop, AfterLine, AfterBlock, AfterComment, BeginsNoComment, AfterGap}
 use Rattle.nano_ron_tokens.proofs.Skipping.{slash_is_no_space, line_is, block_is}
 

@@ -12,13 +12,13 @@ use Rattle.nano_text.specs.Prefix.{first_is, prefix, following}
 use Rattle.nano_text.specs.Number.{IsNumber}
 use Rattle.nano_text.specs.String.{IsString}
 use Rattle.nano_grammar.specs.Tokens.{IsOneWay}
-use Rattle.nano_ron_tokens.specs.Token.{Token, IsLiteral, ident, str, u64, i64, f64, bool, character, colon, curly_open, curly_close, paren_open, paren_close, block_open, block_close, comma, end}
+use Rattle.nano_ron_tokens.specs.Token.{Token, ident, str, u64, i64, f64, bool, character, colon, curly_open, curly_close, paren_open, paren_close, block_open, block_close, comma, end}
 use Rattle.nano_ron_tokens.specs.Cut.{is_word, starts_word, BeginsWithWord, IsPunctuator, IsWord, IsRunOf, IsQuoted, IsCharacter, IsEnd, IsLexeme, punctuator, word, number, quoted, single, nothing, Cut}
 use Rattle.nano_ron_tokens.specs.Gaps.{IsGap, IsUnended}
 use Rattle.nano_ron_tokens.specs.Scan.{punctuator_of, word_token}
 use Rattle.nano_ron_tokens.proofs.LexemeKinds.{punctuator_kind, word_kind, number_kind, quoted_kind, single_kind, end_kind, unended_kind, only_punctuator, only_word, only_number, only_quoted, only_single, only_end, lexeme_stops}
 use Rattle.nano_ron_tokens.proofs.Skipping.{skips_one_way}
-use Rattle.nano_grammar.specs.OptionsLaws.{some_injective}
+use Rattle.nano_grammar.proofs.OptionsLaws.{some_injective}
 
 pick : {A : Type 0} (b : Bool) (x y z : A) → cond b x y ≡ z → ((b ≡ true) × (x ≡ z)) ⊎ ((b ≡ false) × (y ≡ z))
 pick true x y z e = inl (refl, e)
@@ -124,13 +124,6 @@ word_lexeme text starts =
         )
       ] refl
     ] refl
-
--- which is a truth value or a name
-pub word_literal : (w : List ℕ) → IsLiteral (word_token w)
-word_literal w = elim (bytes_eq w (codes "true")) as (λ (b : Bool). IsLiteral (cond b (bool true) (cond (bytes_eq w (codes "false")) (bool false) (ident w)))) [
-  | true ↦ tt
-  | false ↦ elim (bytes_eq w (codes "false")) as (λ (b : Bool). IsLiteral (cond b (bool false) (ident w))) [ true ↦ tt | false ↦ tt ]
-]
 
 pub word_itself : (w text rest : List ℕ) → AllByRecursion (λ c. is_word c ≡ true) w → BeginsWithWord w text rest
     → prefix is_word text ≡ w

@@ -1,5 +1,5 @@
 -- What the first character of a text says of the lexeme that the text begins with.
-use Rattle.std.proofs.Common.{◌≡◌, ◌≢◌, ℕ, List, [], ◌∷◌, ◌++◌, inl, inr, Bool, true, false, cond, refl, ap, sym, ◌∙◌, Some, None, is_some, arith, nat_eq, ◌==◌, ◌≤◌, eqb-true, ne_eqb, subst}
+use Rattle.std.proofs.Common.{◌≡◌, ◌≢◌, ℕ, List, [], ◌∷◌, ◌++◌, inl, inr, Bool, true, false, cond, refl, ap, sym, ◌∙◌, None, is_some, arith, nat_eq, ◌==◌, ◌≤◌, eqb-true, ne_eqb, subst}
 use Rattle.std.specs.Char.{is_ascii_digit}
 use Rattle.std.specs.declared.str.Chars.{Chars}
 use Rattle.std.proofs.lemmas.Bool.{or_cases}
@@ -38,10 +38,6 @@ kind_remaining cur i = elim (nat_eq cur 0) as (λ (b : Bool). nat_eq cur 0 ≡ b
   | true ↦ λ e. sym (ap kind_of (eqb-true cur 0 e))
   | false ↦ λ e. refl
 ] refl
-
-pub kind_punctuator : (c : ℕ) (t : Token) → punctuator_of c ≡ Some t → kind_of c ≡ a_punctuator
-unfolding kind_of
-kind_punctuator c t e = rw e refl
 
 digit_no_punctuator : (c : ℕ) → 48 ≤ c → c ≤ 57 → punctuator_of c ≡ None
 digit_no_punctuator c l h = rw (ne_eqb c 58 (λ e. omega arith), ne_eqb c 44 (λ e. omega arith), ne_eqb c 91 (λ e. omega arith), ne_eqb c 93 (λ e. omega arith), ne_eqb c 40 (λ e. omega arith), ne_eqb c 41 (λ e. omega arith), ne_eqb c 123 (λ e. omega arith), ne_eqb c 125 (λ e. omega arith)) refl
@@ -83,10 +79,6 @@ kind_word c h =
     let e39 : c == 39 ≡ false = grind (arith, nat_tests) in
     let number : starts_number c ≡ false = grind (arith, nat_tests) in
     rw (e58, e44, e91, e93, e40, e41, e123, e125, number, e34, e39, h) refl
-
-pub kind_end : kind_of 0 ≡ the_end
-unfolding kind_of
-kind_end = refl
 
 pub kind_slash : kind_of 47 ≡ the_end
 unfolding kind_of

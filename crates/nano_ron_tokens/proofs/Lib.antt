@@ -1,5 +1,4 @@
-pub mod Reporting
-pub mod Unchanged
+pub mod Passing
 pub mod Skipping
 pub mod Blanks
 pub mod Comments
@@ -10,3 +9,12 @@ pub mod WordRuns
 pub mod Capacity
 pub mod Indents
 pub mod Shorter
+pub mod Calling
+pub mod Scanning
+pub mod CutAgainLaws
+pub mod PunctuationLaws
+pub mod RonLaws
+pub mod ScalarsLaws
+pub mod StylesLaws
+pub mod WrittenLaws
+pub mod WrittenTextLaws

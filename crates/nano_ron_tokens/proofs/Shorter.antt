@@ -5,7 +5,7 @@ use Rattle.nano_text.specs.Prefix.{first_is}
 use Rattle.nano_text.specs.declared.number.Number.TheVariants.{U64, I64, Dec}
 use Rattle.nano_ron_tokens.specs.Token.{Token, ident, str, u64, i64, f64, bool, character, colon, curly_open, curly_close, paren_open, paren_close, block_open, block_close, comma, end}
 use Rattle.nano_ron_tokens.specs.Cut.{Cut, starts_word, IsPunctuator, IsWord, IsRunOf, IsQuoted, IsCharacter, IsEnd, IsLexeme, punctuator, word, number, quoted, single, nothing}
-use Rattle.nano_ron_tokens.specs.PunctuationLaws.{is_end}
+use Rattle.nano_ron_tokens.proofs.PunctuationLaws.{is_end}
 
 -- at most as much is left as before, with the token
 abbrev LeavesLess : Token → List ℕ → List ℕ → Type 0

@@ -2,7 +2,7 @@
 use Rattle.std.proofs.Common.{◌≡◌, ◌≢◌, ◌⊎◌, ℕ, true, false, List, [], ◌∷◌, ◌++◌, codes, refl, sym, ◌∙◌, subst, ap, inl, inr, append_assoc, arith}
 use Rattle.std.specs.List.{AllByRecursion, flat_map}
 use Rattle.std.proofs.lemmas.Bool.Decides.{nat_tests}
-use Rattle.nano_text.specs.EachLaws.{all_split}
+use Rattle.nano_text.proofs.EachLaws.{all_split}
 use Rattle.nano_text.specs.Prefix.{first_is}
 use Rattle.nano_ron_tokens.specs.Gaps.{is_space, IsOneLine, HoldsNoEnd, Skip, space, line, block, IsSkip, skip_text, IsGap, IsUnended}
 use Rattle.nano_ron_tokens.specs.Scan.{starts_gap, IsStop}

@@ -40,7 +40,7 @@ IsPunctuator _ text rest = ⊥
 abbrev pub BeginsWithWord : List ℕ → List ℕ → List ℕ → Type 0
 BeginsWithWord word text rest = (text ≡ word ++ rest) × (first_is is_word rest ≡ false)
 
--- a word that is no truth value
+-- a word that is no boolean
 pub record IsName (name : List ℕ) : Type 0 where
   pub starts : first_is starts_word name ≡ true
   pub goes_on : AllByRecursion (λ c. is_word c ≡ true) name

@@ -5,16 +5,10 @@ pub mod State
 pub mod Messages
 pub mod Outcomes
 pub mod Scan
+pub mod Input
 pub mod Promises
 pub mod Punctuation
-pub mod PunctuationLaws
 pub mod Brackets
 pub mod Written
-pub mod WrittenLaws
 pub mod Ron
-pub mod RonLaws
 pub mod Styles
-pub mod StylesLaws
-pub mod CutAgainLaws
-pub mod WrittenTextLaws
-pub mod ScalarsLaws

@@ -1,37 +1,69 @@
 -- The code's own tests of characters and tokens, and what its private functions pass over.
-use Rattle.std.specs.Prelude.{◌≡◌, ◌⊎◌, ℕ, ◌==◌, ◌||◌, Bool, List, [], ◌∷◌, ◌++◌, codes, Option}
-use Rattle.std.specs.Prelude.{Some, None, bytes_eq, true, false, if◌then◌else◌}
+use Rattle.std.specs.Prelude.{◌≡◌, ◌≢◌, ◌⊎◌, ◌==◌, ◌<◌, ◌||◌, ℕ, Bool, true, false, List, [], ◌∷◌}
+use Rattle.std.specs.Prelude.{◌++◌, length, codes, Option, Some, None, bytes_eq, if◌then◌else◌}
+use Rattle.std.specs.Prelude.{Result, MatchResult, string_capacity}
+use Rattle.std.specs.declared.str.Chars.{Chars}
+use Rattle.nano_text.specs.Characters.{line_feed}
+use Rattle.nano_text.specs.Place.{remaining}
+use Rattle.nano_text.specs.Prefix.{prefix, following, first_is}
+use Rattle.nano_grammar.specs.Outcomes.{NothingCut, TookNext}
+use Rattle.nano_ron_tokens.specs.declared.scan.Rejection.{Rejection}
+use Rattle.nano_ron_tokens.specs.declared.scan.Rejection.TheVariants.{Memory}
 use Rattle.nano_ron_tokens.specs.declared.state.DeRonState.{DeRonState}
-use Rattle.nano_ron_tokens.specs.Cut.{IsLexeme, IsRunOf, IsQuoted, IsCharacter}
+use Rattle.nano_ron_tokens.specs.Cut.{Cut, is_word}
 use Rattle.nano_ron_tokens.specs.Gaps.{Skip, IsSkip, skip_text, IsGap, IsUnended, IsOneLine}
 use Rattle.nano_ron_tokens.specs.Gaps.{HoldsNoEnd, is_space}
-use Rattle.nano_ron_tokens.specs.Outcomes.{Outgrows}
+use Rattle.nano_ron_tokens.specs.Outcomes.{Outgrows, Moved, position}
+use Rattle.nano_ron_tokens.specs.State.{KeepsOtherBuffers}
 use Rattle.nano_ron_tokens.specs.Token.{Token, ident, bool, colon, curly_open, curly_close}
 use Rattle.nano_ron_tokens.specs.Token.{block_open, block_close, comma, paren_open, paren_close}
-use Rattle.nano_text.specs.Characters.{line_feed}
 
--- no lexeme, no number run, no string and no character that is a token stands here
-abbrev pub NoneLexeme : List ℕ → Type 0
-NoneLexeme text = (t : Token) (rest : List ℕ) → IsLexeme t text rest → ⊥
+-- the token that a word is
+abbrev pub word_token : List ℕ → Token
+word_token w =
+    if bytes_eq w (codes "true") then bool true
+    else if bytes_eq w (codes "false") then bool false
+    else ident w
 
-abbrev pub NoneRunOf : List ℕ → Type 0
-NoneRunOf text = (t : Token) (rest : List ℕ) → IsRunOf t text rest → ⊥
+module _ (shape : List ℕ → Token → List ℕ → Type 0) (old : DeRonState) (before : Chars)
+    (new : DeRonState) (after : Chars) where
+  -- no token of this shape stands here, or if one does, it outgrows its buffer
+  pub record NotScanned (r : Rejection) : Type 0 where
+    pub rejected : r ≢ Memory → NothingCut shape (remaining old.cur before)
+    pub capacity : r ≡ Memory → (t : Token) (rest : List ℕ)
+        → shape (remaining old.cur before) t rest → Outgrows old t
+    pub place : Moved old before new after
 
-abbrev pub NoneQuoted : List ℕ → Type 0
-NoneQuoted text = (t : Token) (rest : List ℕ) → IsQuoted t text rest → ⊥
+  -- a token of this shape is taken
+  abbrev pub Scans : {A : Type 0} → Result A Rejection → Type 0
+  Scans result = MatchResult result
+      (λ _. TookNext shape (KeepsOtherBuffers old new) (position old before) (position new after))
+      NotScanned
 
-abbrev pub NoneCharacter : List ℕ → Type 0
-NoneCharacter text = (t : Token) (rest : List ℕ) → IsCharacter t text rest → ⊥
+module _ (old : DeRonState) (before : Chars) (new : DeRonState) (after : Chars) where
+  -- line and column count exactly what was passed over; the pending token and the buffers are what
+  -- they were
+  pub record Passed : Type 0 where
+    pub place : Moved old before new after
+    pub tok : new.tok ≡ old.tok
+    pub strbuf : new.strbuf ≡ old.strbuf
+    pub numbuf : new.numbuf ≡ old.numbuf
+    pub identbuf : new.identbuf ≡ old.identbuf
 
--- if a lexeme, a number run or a string that is a token stands here, it outgrows its buffer
-abbrev pub NoCapacityForLexeme : DeRonState → List ℕ → Type 0
-NoCapacityForLexeme s text = (t : Token) (rest : List ℕ) → IsLexeme t text rest → Outgrows s t
+  -- a word was passed
+  pub record PassedWord : Type 0 where
+    pub rest : remaining new.cur after ≡ following is_word (remaining old.cur before)
+    pub place : Moved old before new after
 
-abbrev pub NoCapacityForRun : DeRonState → List ℕ → Type 0
-NoCapacityForRun s text = (t : Token) (rest : List ℕ) → IsRunOf t text rest → Outgrows s t
+  -- and it has this property
+  pub record FoundWord (fact : Type 0) : Type 0 where
+    pub word : fact
+    pub passed : PassedWord
 
-abbrev pub NoCapacityForQuoted : DeRonState → List ℕ → Type 0
-NoCapacityForQuoted s text = (t : Token) (rest : List ℕ) → IsQuoted t text rest → Outgrows s t
+  -- the buffer had no capacity for the word
+  pub record NoCapacityForWord : Type 0 where
+    pub full : string_capacity old.identbuf < length (prefix is_word (remaining old.cur before))
+    pub place : Moved old before new after
 
 -- the punctuator that a character is
 abbrev pub punctuator_of : ℕ → Option Token
@@ -45,13 +77,6 @@ punctuator_of c =
     else if c == 123 then Some curly_open
     else if c == 125 then Some curly_close
     else None
-
--- the token that a word is
-abbrev pub word_token : List ℕ → Token
-word_token w =
-    if bytes_eq w (codes "true") then bool true
-    else if bytes_eq w (codes "false") then bool false
-    else ident w
 
 -- ---- what is passed over
 
@@ -93,3 +118,14 @@ pub record AfterGap (text rest : List ℕ) : Type 0 where
   pub split : text ≡ gap ++ body
   pub skipped : IsGap gap
   pub left : (body ≡ rest) ⊎ (IsUnended body × (rest ≡ []))
+
+-- a comment is passed over, or none begins here
+abbrev pub SkipsComment : List ℕ → List ℕ → Bool → Type 0
+SkipsComment text rest true = AfterComment text rest
+SkipsComment text rest false = BeginsNoComment text
+
+-- white space and comments are passed over, and no more follow; or a `/` begins no comment, and so
+-- nothing is cut
+abbrev pub SkipsGaps : List ℕ → List ℕ → Bool → Type 0
+SkipsGaps text rest true = AfterGap text rest × (first_is starts_gap rest ≡ false)
+SkipsGaps text rest false = NothingCut Cut text

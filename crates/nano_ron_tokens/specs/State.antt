@@ -58,3 +58,13 @@ pub record KeepsOtherBuffers (old new : DeRonState) : Type 0 where
   pub strbuf : ¬ IsStr (pending new) → string_bytes new.strbuf ≡ string_bytes old.strbuf
   pub numbuf : ¬ IsNumeric (pending new) → string_bytes new.numbuf ≡ string_bytes old.numbuf
   pub identbuf : ¬ IsLiteral (pending new) → string_bytes new.identbuf ≡ string_bytes old.identbuf
+
+-- a state before the first character
+pub record IsFresh (s : DeRonState) : Type 0 where
+  pub cur : s.cur ≡ 0
+  pub tok : s.tok ≡ Bof
+  pub strbuf : string_bytes s.strbuf ≡ []
+  pub numbuf : string_bytes s.numbuf ≡ []
+  pub identbuf : string_bytes s.identbuf ≡ []
+  pub line : s.line ≡ 0
+  pub col : s.col ≡ 0

@@ -2,7 +2,7 @@
 use Rattle.std.specs.Prelude.{ℕ, ℤ, pos, Bool, ◌==◌, not, List, Option, Some, None}
 
 pub data Token : Type 0 where
-  -- a word of any meaning but a truth value, with its characters
+  -- a word of any meaning but a boolean, with its characters
   ident : List ℕ → Token
   -- a string, with its characters
   str : List ℕ → Token
@@ -32,7 +32,7 @@ integer_of (u64 n) = Some (pos n)
 integer_of (i64 z) = Some z
 integer_of _ = None
 
--- the truth value that a token stands for, if it does: a whole number without a minus sign stands
+-- the boolean that a token stands for, if it does: a whole number without a minus sign stands
 -- for false where it is 0, and else for true
 abbrev pub truth_of : Token → Option Bool
 truth_of (bool b) = Some b

@@ -1,12 +1,11 @@
 //! How a reader's state passes over what stands between tokens: white space and comments.
 
-ghost use Rattle.std.specs.Prelude.{◌≡◌, ◌≢◌, true, false, length};
-ghost use Rattle.nano_text.specs.Prefix.{prefix, following, first_is};
+ghost use Rattle.std.specs.Prelude.{◌≡◌, ◌≢◌, length};
+ghost use Rattle.nano_text.specs.Prefix.{prefix, following};
 ghost use Rattle.nano_text.specs.Place.{held, remaining, before_nul};
 ghost use Rattle.nano_ron_tokens.specs.Gaps.{is_space};
-ghost use Rattle.nano_ron_tokens.specs.Outcomes.{NothingCut, Counts, KeepsToken};
-ghost use Rattle.nano_ron_tokens.specs.Scan.{is_blank, starts_gap, AfterLine, AfterBlock};
-ghost use Rattle.nano_ron_tokens.specs.Scan.{AfterComment, BeginsNoComment, AfterGap};
+ghost use Rattle.nano_ron_tokens.specs.Scan.{is_blank, AfterLine, AfterBlock, Passed, SkipsComment};
+ghost use Rattle.nano_ron_tokens.specs.Scan.{SkipsGaps};
 
 use crate::state::DeRonState;
 use std::str::Chars;
@@ -16,12 +15,9 @@ impl DeRonState {
     /// comment; if not, it is after the first that does not.
     #[inline]
     pub(crate) fn skip_gaps(&mut self, i: &mut Chars<'_>) -> bool
-        ensures skipped { result ≡ true
-            → AfterGap (remaining self.old.cur i.old) (remaining self.new.cur i.new) }
-        ensures stops { result ≡ true → first_is starts_gap (remaining self.new.cur i.new) ≡ false }
-        ensures rejected { result ≡ false → NothingCut (remaining self.old.cur i.old) }
-        ensures place { Counts self.old i.old self.new i.new }
-        ensures unchanged { KeepsToken self.old self.new }
+        ensures skipped { SkipsGaps (remaining self.old.cur i.old)
+            (remaining self.new.cur i.new) result }
+        ensures passed { Passed self.old i.old self.new i.new }
     {
         self.skip_space(i);
         'comments: while self.cur == '/' {
@@ -36,10 +32,9 @@ impl DeRonState {
     /// Passes over white space.
     #[inline]
     fn skip_space(&mut self, i: &mut Chars<'_>)
-        ensures remaining { remaining self.new.cur i.new ≡ following is_space (remaining self.old.cur i.old) }
-        ensures stops { is_space self.new.cur ≡ false }
-        ensures place { Counts self.old i.old self.new i.new }
-        ensures unchanged { KeepsToken self.old self.new }
+        ensures remaining { remaining self.new.cur i.new
+            ≡ following is_space (remaining self.old.cur i.old) }
+        ensures passed { Passed self.old i.old self.new i.new }
     {
         'space: while is_space(self.cur) {
             self.skip_blanks(i);
@@ -52,9 +47,9 @@ impl DeRonState {
     /// of indents, and are counted at once: each is one byte and one column.
     #[inline]
     fn skip_blanks(&mut self, i: &mut Chars<'_>)
-        ensures remaining { remaining self.new.cur i.new ≡ following is_blank (before_nul (held i.old)) }
-        ensures place { self.old.cur ≢ 0 → Counts self.old i.old self.new i.new }
-        ensures unchanged { KeepsToken self.old self.new }
+        ensures remaining { remaining self.new.cur i.new
+            ≡ following is_blank (before_nul (held i.old)) }
+        ensures passed { self.old.cur ≢ 0 → Passed self.old i.old self.new i.new }
     {
         let text = i.as_str();
         let len = blanks_len(text.as_bytes());
@@ -67,11 +62,9 @@ impl DeRonState {
     #[inline(never)]
     fn skip_comment(&mut self, i: &mut Chars<'_>) -> bool
         requires { self.old.cur ≡ 47 }
-        ensures skipped { result ≡ true
-            → AfterComment (remaining self.old.cur i.old) (remaining self.new.cur i.new) }
-        ensures rejected { result ≡ false → BeginsNoComment (remaining self.old.cur i.old) }
-        ensures place { Counts self.old i.old self.new i.new }
-        ensures unchanged { KeepsToken self.old self.new }
+        ensures skipped { SkipsComment (remaining self.old.cur i.old)
+            (remaining self.new.cur i.new) result }
+        ensures passed { Passed self.old i.old self.new i.new }
     {
         self.next(i);
         if self.cur == '/' {
@@ -90,8 +83,7 @@ impl DeRonState {
     /// Passes over the line and its line feed, or what is left where it has none.
     fn skip_line(&mut self, i: &mut Chars<'_>)
         ensures skipped { AfterLine (remaining self.old.cur i.old) (remaining self.new.cur i.new) }
-        ensures place { Counts self.old i.old self.new i.new }
-        ensures unchanged { KeepsToken self.old self.new }
+        ensures passed { Passed self.old i.old self.new i.new }
     {
         'line: while self.cur != '\0' {
             let ends = self.cur == '\n';
@@ -106,8 +98,7 @@ impl DeRonState {
     /// there is none.
     fn skip_block(&mut self, i: &mut Chars<'_>)
         ensures skipped { AfterBlock (remaining self.old.cur i.old) (remaining self.new.cur i.new) }
-        ensures place { Counts self.old i.old self.new i.new }
-        ensures unchanged { KeepsToken self.old self.new }
+        ensures passed { Passed self.old i.old self.new i.new }
     {
         'block: while self.cur != '\0' {
             let star = self.cur == '*';

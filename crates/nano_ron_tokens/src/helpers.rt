@@ -1,15 +1,8 @@
 //! The calls of a reader's state that take the pending token.
 
-ghost use Rattle.std.specs.Prelude.{◌≡◌, ◌≢◌, ◌⊎◌, ℕ, List, [], ◌∷◌, false, OnOk, IsOk, OnErr};
-ghost use Rattle.std.specs.Prelude.{IfErr};
-ghost use Rattle.nano_text.specs.Place.{remaining};
-ghost use Rattle.nano_grammar.specs.Tokens.{At};
-ghost use Rattle.nano_ron_tokens.specs.Cut.{Cut};
-ghost use Rattle.nano_ron_tokens.specs.Outcomes.{Reports, Takes, NoneHere, Keeps, FindsOther};
-ghost use Rattle.nano_ron_tokens.specs.Outcomes.{NoCapacity, NoCapacityForOther, Counts};
-ghost use Rattle.nano_ron_tokens.specs.State.{at, ended, pending, KeepsOtherBuffers};
-ghost use Rattle.nano_ron_tokens.specs.Token.{Token, ident, colon, comma, block_open, block_close};
-ghost use Rattle.nano_ron_tokens.specs.Token.{curly_open, curly_close, paren_open, paren_close, IsIdent};
+ghost use Rattle.nano_ron_tokens.specs.Outcomes.{TakesOne, TakesIdent, TakesComma, TakesColon};
+ghost use Rattle.nano_ron_tokens.specs.Token.{colon, block_open, block_close, curly_open};
+ghost use Rattle.nano_ron_tokens.specs.Token.{curly_close, paren_open, paren_close};
 
 use crate::error::DeRonErr;
 use crate::state::DeRonState;
@@ -24,16 +17,7 @@ impl DeRonState {
     /// Takes the next token where a colon is pending.
     #[inline]
     pub fn colon(&mut self, alloc: Global, i: &mut Chars<'_>) -> Result<(), DeRonErr>
-        ensures taken { OnOk result (Takes (colon ∷ []) self.old i.old self.new i.new) }
-        ensures buffers { OnOk result (KeepsOtherBuffers self.old self.new) }
-        ensures place { Counts self.old i.old self.new i.new }
-        ensures rejected { IfErr result
-            (Reports self.new (NoneHere (colon ∷ []) self.old i.old)) }
-        ensures unchanged { pending self.old ≢ colon
-            → OnErr result (Keeps self.old i.old self.new i.new) }
-        ensures ended { pending self.old ≡ colon → OnErr result (at self.new i.new ≡ ended) }
-        ensures capacity { pending self.old ≡ colon
-            → OnErr result (NoCapacity self.old (remaining self.old.cur i.old)) }
+        ensures { TakesOne self.old i.old self.new i.new colon result }
     {
         match self.tok {
             DeRonTok::Colon => self.scan_value_token(alloc, i),
@@ -43,17 +27,7 @@ impl DeRonState {
 
     /// Takes the next token where a word is pending.
     pub fn ident(&mut self, alloc: Global, i: &mut Chars<'_>) -> Result<(), DeRonErr>
-        ensures taken { OnOk result ((name : List ℕ)
-            × Takes (ident name ∷ []) self.old i.old self.new i.new) }
-        ensures buffers { OnOk result (KeepsOtherBuffers self.old self.new) }
-        ensures place { Counts self.old i.old self.new i.new }
-        ensures rejected { IfErr result (Reports self.new
-            ((name : List ℕ) → NoneHere (ident name ∷ []) self.old i.old)) }
-        ensures unchanged { ¬ IsIdent (pending self.old)
-            → OnErr result (Keeps self.old i.old self.new i.new) }
-        ensures ended { IsIdent (pending self.old) → OnErr result (at self.new i.new ≡ ended) }
-        ensures capacity { IsIdent (pending self.old)
-            → OnErr result (NoCapacity self.old (remaining self.old.cur i.old)) }
+        ensures { TakesIdent self.old i.old self.new i.new result }
     {
         match self.tok {
             DeRonTok::Ident => self.next_tok(alloc, i),
@@ -64,16 +38,7 @@ impl DeRonState {
     /// Takes the next token where `[` is pending.
     #[inline]
     pub fn block_open(&mut self, alloc: Global, i: &mut Chars<'_>) -> Result<(), DeRonErr>
-        ensures taken { OnOk result (Takes (block_open ∷ []) self.old i.old self.new i.new) }
-        ensures buffers { OnOk result (KeepsOtherBuffers self.old self.new) }
-        ensures place { Counts self.old i.old self.new i.new }
-        ensures rejected { IfErr result
-            (Reports self.new (NoneHere (block_open ∷ []) self.old i.old)) }
-        ensures unchanged { pending self.old ≢ block_open
-            → OnErr result (Keeps self.old i.old self.new i.new) }
-        ensures ended { pending self.old ≡ block_open → OnErr result (at self.new i.new ≡ ended) }
-        ensures capacity { pending self.old ≡ block_open
-            → OnErr result (NoCapacity self.old (remaining self.old.cur i.old)) }
+        ensures { TakesOne self.old i.old self.new i.new block_open result }
     {
         match self.tok {
             DeRonTok::BlockOpen => self.scan_value_token(alloc, i),
@@ -84,16 +49,7 @@ impl DeRonState {
     /// Takes the next token where `]` is pending.
     #[inline]
     pub fn block_close(&mut self, alloc: Global, i: &mut Chars<'_>) -> Result<(), DeRonErr>
-        ensures taken { OnOk result (Takes (block_close ∷ []) self.old i.old self.new i.new) }
-        ensures buffers { OnOk result (KeepsOtherBuffers self.old self.new) }
-        ensures place { Counts self.old i.old self.new i.new }
-        ensures rejected { IfErr result
-            (Reports self.new (NoneHere (block_close ∷ []) self.old i.old)) }
-        ensures unchanged { pending self.old ≢ block_close
-            → OnErr result (Keeps self.old i.old self.new i.new) }
-        ensures ended { pending self.old ≡ block_close → OnErr result (at self.new i.new ≡ ended) }
-        ensures capacity { pending self.old ≡ block_close
-            → OnErr result (NoCapacity self.old (remaining self.old.cur i.old)) }
+        ensures { TakesOne self.old i.old self.new i.new block_close result }
     {
         match self.tok {
             DeRonTok::BlockClose => self.next_tok(alloc, i),
@@ -104,16 +60,7 @@ impl DeRonState {
     /// Takes the next token where `{` is pending.
     #[inline]
     pub fn curly_open(&mut self, alloc: Global, i: &mut Chars<'_>) -> Result<(), DeRonErr>
-        ensures taken { OnOk result (Takes (curly_open ∷ []) self.old i.old self.new i.new) }
-        ensures buffers { OnOk result (KeepsOtherBuffers self.old self.new) }
-        ensures place { Counts self.old i.old self.new i.new }
-        ensures rejected { IfErr result
-            (Reports self.new (NoneHere (curly_open ∷ []) self.old i.old)) }
-        ensures unchanged { pending self.old ≢ curly_open
-            → OnErr result (Keeps self.old i.old self.new i.new) }
-        ensures ended { pending self.old ≡ curly_open → OnErr result (at self.new i.new ≡ ended) }
-        ensures capacity { pending self.old ≡ curly_open
-            → OnErr result (NoCapacity self.old (remaining self.old.cur i.old)) }
+        ensures { TakesOne self.old i.old self.new i.new curly_open result }
     {
         match self.tok {
             DeRonTok::CurlyOpen => self.scan_value_token(alloc, i),
@@ -124,16 +71,7 @@ impl DeRonState {
     /// Takes the next token where `}` is pending.
     #[inline]
     pub fn curly_close(&mut self, alloc: Global, i: &mut Chars<'_>) -> Result<(), DeRonErr>
-        ensures taken { OnOk result (Takes (curly_close ∷ []) self.old i.old self.new i.new) }
-        ensures buffers { OnOk result (KeepsOtherBuffers self.old self.new) }
-        ensures place { Counts self.old i.old self.new i.new }
-        ensures rejected { IfErr result
-            (Reports self.new (NoneHere (curly_close ∷ []) self.old i.old)) }
-        ensures unchanged { pending self.old ≢ curly_close
-            → OnErr result (Keeps self.old i.old self.new i.new) }
-        ensures ended { pending self.old ≡ curly_close → OnErr result (at self.new i.new ≡ ended) }
-        ensures capacity { pending self.old ≡ curly_close
-            → OnErr result (NoCapacity self.old (remaining self.old.cur i.old)) }
+        ensures { TakesOne self.old i.old self.new i.new curly_close result }
     {
         match self.tok {
             DeRonTok::CurlyClose => self.next_tok(alloc, i),
@@ -144,16 +82,7 @@ impl DeRonState {
     /// Takes the next token where `(` is pending.
     #[inline]
     pub fn paren_open(&mut self, alloc: Global, i: &mut Chars<'_>) -> Result<(), DeRonErr>
-        ensures taken { OnOk result (Takes (paren_open ∷ []) self.old i.old self.new i.new) }
-        ensures buffers { OnOk result (KeepsOtherBuffers self.old self.new) }
-        ensures place { Counts self.old i.old self.new i.new }
-        ensures rejected { IfErr result
-            (Reports self.new (NoneHere (paren_open ∷ []) self.old i.old)) }
-        ensures unchanged { pending self.old ≢ paren_open
-            → OnErr result (Keeps self.old i.old self.new i.new) }
-        ensures ended { pending self.old ≡ paren_open → OnErr result (at self.new i.new ≡ ended) }
-        ensures capacity { pending self.old ≡ paren_open
-            → OnErr result (NoCapacity self.old (remaining self.old.cur i.old)) }
+        ensures { TakesOne self.old i.old self.new i.new paren_open result }
     {
         match self.tok {
             DeRonTok::ParenOpen => self.scan_value_token(alloc, i),
@@ -164,16 +93,7 @@ impl DeRonState {
     /// Takes the next token where `)` is pending.
     #[inline]
     pub fn paren_close(&mut self, alloc: Global, i: &mut Chars<'_>) -> Result<(), DeRonErr>
-        ensures taken { OnOk result (Takes (paren_close ∷ []) self.old i.old self.new i.new) }
-        ensures buffers { OnOk result (KeepsOtherBuffers self.old self.new) }
-        ensures place { Counts self.old i.old self.new i.new }
-        ensures rejected { IfErr result
-            (Reports self.new (NoneHere (paren_close ∷ []) self.old i.old)) }
-        ensures unchanged { pending self.old ≢ paren_close
-            → OnErr result (Keeps self.old i.old self.new i.new) }
-        ensures ended { pending self.old ≡ paren_close → OnErr result (at self.new i.new ≡ ended) }
-        ensures capacity { pending self.old ≡ paren_close
-            → OnErr result (NoCapacity self.old (remaining self.old.cur i.old)) }
+        ensures { TakesOne self.old i.old self.new i.new paren_close result }
     {
         match self.tok {
             DeRonTok::ParenClose => self.next_tok(alloc, i),
@@ -184,17 +104,7 @@ impl DeRonState {
     /// Takes the next token where a comma is pending, and nothing where `]` is.
     #[inline]
     pub fn eat_comma_block(&mut self, alloc: Global, i: &mut Chars<'_>) -> Result<(), DeRonErr>
-        ensures taken { OnOk result (Takes (comma ∷ []) self.old i.old self.new i.new
-            ⊎ ((pending self.old ≡ block_close) × (at self.new i.new ≡ at self.old i.old))) }
-        ensures buffers { OnOk result (KeepsOtherBuffers self.old self.new) }
-        ensures place { Counts self.old i.old self.new i.new }
-        ensures rejected { IfErr result (Reports self.new
-            ((pending self.old ≢ block_close) × NoneHere (comma ∷ []) self.old i.old)) }
-        ensures closed { pending self.old ≡ block_close → IsOk result }
-        ensures unchanged { pending self.old ≢ comma → Keeps self.old i.old self.new i.new }
-        ensures ended { pending self.old ≡ comma → OnErr result (at self.new i.new ≡ ended) }
-        ensures capacity { pending self.old ≡ comma
-            → OnErr result (NoCapacity self.old (remaining self.old.cur i.old)) }
+        ensures { TakesComma self.old i.old self.new i.new block_close result }
     {
         match self.tok {
             DeRonTok::Comma => self.scan_value_token(alloc, i),
@@ -206,17 +116,7 @@ impl DeRonState {
     /// Takes the next token where a comma is pending, and nothing where `}` is.
     #[inline]
     pub fn eat_comma_curly(&mut self, alloc: Global, i: &mut Chars<'_>) -> Result<(), DeRonErr>
-        ensures taken { OnOk result (Takes (comma ∷ []) self.old i.old self.new i.new
-            ⊎ ((pending self.old ≡ curly_close) × (at self.new i.new ≡ at self.old i.old))) }
-        ensures buffers { OnOk result (KeepsOtherBuffers self.old self.new) }
-        ensures place { Counts self.old i.old self.new i.new }
-        ensures rejected { IfErr result (Reports self.new
-            ((pending self.old ≢ curly_close) × NoneHere (comma ∷ []) self.old i.old)) }
-        ensures closed { pending self.old ≡ curly_close → IsOk result }
-        ensures unchanged { pending self.old ≢ comma → Keeps self.old i.old self.new i.new }
-        ensures ended { pending self.old ≡ comma → OnErr result (at self.new i.new ≡ ended) }
-        ensures capacity { pending self.old ≡ comma
-            → OnErr result (NoCapacity self.old (remaining self.old.cur i.old)) }
+        ensures { TakesComma self.old i.old self.new i.new curly_close result }
     {
         match self.tok {
             DeRonTok::Comma => self.scan_value_token(alloc, i),
@@ -228,17 +128,7 @@ impl DeRonState {
     /// Takes the next token where a comma is pending, and nothing where `)` is.
     #[inline]
     pub fn eat_comma_paren(&mut self, alloc: Global, i: &mut Chars<'_>) -> Result<(), DeRonErr>
-        ensures taken { OnOk result (Takes (comma ∷ []) self.old i.old self.new i.new
-            ⊎ ((pending self.old ≡ paren_close) × (at self.new i.new ≡ at self.old i.old))) }
-        ensures buffers { OnOk result (KeepsOtherBuffers self.old self.new) }
-        ensures place { Counts self.old i.old self.new i.new }
-        ensures rejected { IfErr result (Reports self.new
-            ((pending self.old ≢ paren_close) × NoneHere (comma ∷ []) self.old i.old)) }
-        ensures closed { pending self.old ≡ paren_close → IsOk result }
-        ensures unchanged { pending self.old ≢ comma → Keeps self.old i.old self.new i.new }
-        ensures ended { pending self.old ≡ comma → OnErr result (at self.new i.new ≡ ended) }
-        ensures capacity { pending self.old ≡ comma
-            → OnErr result (NoCapacity self.old (remaining self.old.cur i.old)) }
+        ensures { TakesComma self.old i.old self.new i.new paren_close result }
     {
         match self.tok {
             DeRonTok::Comma => self.scan_value_token(alloc, i),
@@ -253,17 +143,7 @@ impl DeRonState {
     /// also if there is no memory for the message. Any other error leaves the state at the end
     /// of the text.
     pub fn next_colon(&mut self, alloc: Global, i: &mut Chars<'_>) -> Result<(), DeRonErr>
-        ensures taken { OnOk result
-            (Takes (pending self.old ∷ (colon ∷ [])) self.old i.old self.new i.new) }
-        ensures buffers { OnOk result (KeepsOtherBuffers self.old self.new) }
-        ensures place { Counts self.old i.old self.new i.new }
-        ensures rejected { IfErr result (Reports self.new
-            (NoneHere (pending self.old ∷ (colon ∷ [])) self.old i.old)) }
-        ensures other { IfErr result (λ e. e.memory ≡ false → (next : At Token)
-            → Cut (remaining self.old.cur i.old) next.token next.text → next.token ≢ colon
-            → at self.new i.new ≡ next) }
-        ensures left { OnErr result (FindsOther self.old i.old self.new i.new
-            ⊎ ((at self.new i.new ≡ ended) × NoCapacityForOther self.old (remaining self.old.cur i.old))) }
+        ensures { TakesColon self.old i.old self.new i.new result }
     {
         self.next_tok(alloc, i)?;
         self.colon(alloc, i)

@@ -1,15 +1,14 @@
 //! How a reader's state takes the next token: a gap, and one lexeme.
 
-ghost use Rattle.std.specs.Prelude.{◌≡◌, ◌≢◌, ℕ, List, OnOk, IfErr, IfSome, Some, false};
+ghost use Rattle.std.specs.Prelude.{◌≡◌, ℕ, List, MatchResult, IfSome, Some, false};
 ghost use Rattle.std.specs.Option.{option_map};
 ghost use Rattle.nano_text.specs.Prefix.{first_is};
 ghost use Rattle.nano_text.specs.Place.{remaining};
+ghost use Rattle.nano_grammar.specs.Outcomes.{NothingCut};
 ghost use Rattle.nano_ron_tokens.specs.Cut.{starts_number, Cut, IsLexeme, IsRunOf, IsQuoted};
 ghost use Rattle.nano_ron_tokens.specs.Cut.{IsCharacter};
-ghost use Rattle.nano_ron_tokens.specs.Outcomes.{NothingCut, NoCapacity, Counts};
-ghost use Rattle.nano_ron_tokens.specs.Scan.{starts_gap, punctuator_of, NoneLexeme, NoneRunOf, NoneQuoted};
-ghost use Rattle.nano_ron_tokens.specs.Scan.{NoneCharacter, NoCapacityForLexeme, NoCapacityForRun};
-ghost use Rattle.nano_ron_tokens.specs.Scan.{NoCapacityForQuoted};
+ghost use Rattle.nano_ron_tokens.specs.Outcomes.{Moved};
+ghost use Rattle.nano_ron_tokens.specs.Scan.{starts_gap, punctuator_of, Scans};
 ghost use Rattle.nano_ron_tokens.specs.State.{token_of, pending, KeepsOtherBuffers};
 
 use crate::state::DeRonState;
@@ -46,14 +45,7 @@ impl DeRonState {
     /// is taken.
     #[inline(always)]
     pub(crate) fn scan_after_value(&mut self, i: &mut Chars<'_>) -> Result<(), Rejection>
-        ensures taken { OnOk result
-            (Cut (remaining self.old.cur i.old) (pending self.new) (remaining self.new.cur i.new)) }
-        ensures buffers { OnOk result (KeepsOtherBuffers self.old self.new) }
-        ensures place { Counts self.old i.old self.new i.new }
-        ensures rejected { IfErr result (λ r. r ≢ Rejection.Memory
-            → NothingCut (remaining self.old.cur i.old)) }
-        ensures capacity { IfErr result (λ r. r ≡ Rejection.Memory
-            → NoCapacity self.old (remaining self.old.cur i.old)) }
+        ensures { Scans Cut self.old i.old self.new i.new result }
     {
         if let Some(tok) = separator(self.cur) {
             self.next(i);
@@ -66,14 +58,7 @@ impl DeRonState {
     /// Takes the next token, whatever it is.
     #[inline(never)]
     pub(crate) fn scan_token(&mut self, i: &mut Chars<'_>) -> Result<(), Rejection>
-        ensures taken { OnOk result
-            (Cut (remaining self.old.cur i.old) (pending self.new) (remaining self.new.cur i.new)) }
-        ensures buffers { OnOk result (KeepsOtherBuffers self.old self.new) }
-        ensures place { Counts self.old i.old self.new i.new }
-        ensures rejected { IfErr result (λ r. r ≢ Rejection.Memory
-            → NothingCut (remaining self.old.cur i.old)) }
-        ensures capacity { IfErr result (λ r. r ≡ Rejection.Memory
-            → NoCapacity self.old (remaining self.old.cur i.old)) }
+        ensures { Scans Cut self.old i.old self.new i.new result }
     {
         if !self.skip_gaps(i) {
             return Err(Rejection::Comment);
@@ -84,14 +69,8 @@ impl DeRonState {
     /// Takes the token that begins here, where no gap stands.
     fn take_lexeme(&mut self, i: &mut Chars<'_>) -> Result<(), Rejection>
         requires { first_is starts_gap (remaining self.old.cur i.old) ≡ false }
-        ensures taken { OnOk result
-            (IsLexeme (pending self.new) (remaining self.old.cur i.old) (remaining self.new.cur i.new)) }
-        ensures buffers { OnOk result (KeepsOtherBuffers self.old self.new) }
-        ensures place { Counts self.old i.old self.new i.new }
-        ensures rejected { IfErr result (λ r. r ≢ Rejection.Memory
-            → NoneLexeme (remaining self.old.cur i.old)) }
-        ensures capacity { IfErr result (λ r. r ≡ Rejection.Memory
-            → NoCapacityForLexeme self.old (remaining self.old.cur i.old)) }
+        ensures { Scans (λ text token rest. IsLexeme token text rest)
+            self.old i.old self.new i.new result }
     {
         if let Some(tok) = punctuator(self.cur) {
             self.next(i);
@@ -119,14 +98,8 @@ impl DeRonState {
 
     /// Takes the number that begins here.
     fn take_number(&mut self, i: &mut Chars<'_>) -> Result<(), Rejection>
-        ensures taken { OnOk result
-            (IsRunOf (pending self.new) (remaining self.old.cur i.old) (remaining self.new.cur i.new)) }
-        ensures buffers { OnOk result (KeepsOtherBuffers self.old self.new) }
-        ensures place { Counts self.old i.old self.new i.new }
-        ensures rejected { IfErr result (λ r. r ≢ Rejection.Memory
-            → NoneRunOf (remaining self.old.cur i.old)) }
-        ensures capacity { IfErr result (λ r. r ≡ Rejection.Memory
-            → NoCapacityForRun self.old (remaining self.old.cur i.old)) }
+        ensures { Scans (λ text token rest. IsRunOf token text rest)
+            self.old i.old self.new i.new result }
     {
         let mut place = self.place();
         let read = read_number(&mut place, i, &mut self.numbuf);
@@ -149,14 +122,8 @@ impl DeRonState {
 
     /// Takes the string that begins here.
     fn take_string(&mut self, i: &mut Chars<'_>) -> Result<(), Rejection>
-        ensures taken { OnOk result
-            (IsQuoted (pending self.new) (remaining self.old.cur i.old) (remaining self.new.cur i.new)) }
-        ensures buffers { OnOk result (KeepsOtherBuffers self.old self.new) }
-        ensures place { Counts self.old i.old self.new i.new }
-        ensures rejected { IfErr result (λ r. r ≢ Rejection.Memory
-            → NoneQuoted (remaining self.old.cur i.old)) }
-        ensures capacity { IfErr result (λ r. r ≡ Rejection.Memory
-            → NoCapacityForQuoted self.old (remaining self.old.cur i.old)) }
+        ensures { Scans (λ text token rest. IsQuoted token text rest)
+            self.old i.old self.new i.new result }
     {
         let mut place = self.place();
         let read = read_string(&mut place, i, &mut self.strbuf);
@@ -176,12 +143,13 @@ impl DeRonState {
     /// Takes the character between apostrophes that begins here.
     fn take_character(&mut self, i: &mut Chars<'_>) -> Result<(), Rejection>
         requires { self.old.cur ≡ 39 }
-        ensures taken { OnOk result
-            (IsCharacter (pending self.new) (remaining self.old.cur i.old) (remaining self.new.cur i.new)) }
-        ensures buffers { OnOk result (KeepsOtherBuffers self.old self.new) }
-        ensures place { Counts self.old i.old self.new i.new }
-        ensures rejected { IfErr result (λ r. NoneCharacter (remaining self.old.cur i.old)) }
-        ensures character { IfErr result (λ r. r ≡ Rejection.Character) }
+        ensures taken { MatchResult result
+            (λ _. IsCharacter (pending self.new) (remaining self.old.cur i.old)
+            (remaining self.new.cur i.new) × KeepsOtherBuffers self.old self.new)
+            (λ r. (r ≡ Rejection.Character)
+            × NothingCut (λ text token rest. IsCharacter token text rest)
+            (remaining self.old.cur i.old)) }
+        ensures place { Moved self.old i.old self.new i.new }
     {
         self.next(i);
         if self.cur == '\\' {

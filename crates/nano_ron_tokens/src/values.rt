@@ -1,11 +1,10 @@
 //! The calls of a reader's state that give the value of the pending token.
 
-ghost use Rattle.std.specs.Prelude.{◌≡◌, ◌≤◌, ℕ, ℤ, ◌≤ℤ◌, ◌<ℤ◌, Bool, [], false, OnOk, IfOk, IsOk};
-ghost use Rattle.std.specs.Prelude.{OnErr, IfErr, IsSome, ◌↔◌, Some, string_bytes, codes, decimal};
-ghost use Rattle.nano_ron_tokens.specs.Messages.{out_of_range, below_range, above_range};
-ghost use Rattle.nano_ron_tokens.specs.Outcomes.{IsMadeAt};
+ghost use Rattle.std.specs.Prelude.{◌≡◌, [], IsSome, ◌↔◌, MatchResult, string_bytes};
+ghost use Rattle.nano_ron_tokens.specs.Outcomes.{GivesTruth, GivesUnsigned, GivesSigned};
+ghost use Rattle.nano_ron_tokens.specs.Outcomes.{TookText, LacksText};
 ghost use Rattle.nano_ron_tokens.specs.State.{pending};
-ghost use Rattle.nano_ron_tokens.specs.Token.{str, u64, integer_of, truth_of, IsStr, IsIdent};
+ghost use Rattle.nano_ron_tokens.specs.Token.{integer_of, IsIdent};
 
 use crate::error::DeRonErr;
 use crate::state::DeRonState;
@@ -30,12 +29,7 @@ impl DeRonState {
     ///
     /// A greater one is rejected with `Value out of range {value}>{max} `.
     pub fn u64_range(&self, alloc: Global, max: u64) -> Result<u64, DeRonErr>
-        ensures ok { IfOk result (λ value. (pending self.now ≡ u64 value) × (value ≤ max)) }
-        ensures succeeds { (value : ℕ) → pending self.now ≡ u64 value → value ≤ max → IsOk result }
-        ensures above { IfErr result (λ e. e.memory ≡ false → (value : ℕ)
-            → pending self.now ≡ u64 value
-            → string_bytes e.msg ≡ out_of_range (decimal value) (codes ">") (decimal max)) }
-        ensures made { IfErr result (IsMadeAt self.now) }
+        ensures { GivesUnsigned self.now max result }
     {
         match self.tok {
             DeRonTok::U64(value) => {
@@ -53,17 +47,7 @@ impl DeRonState {
     /// A smaller one is rejected with `Value out of range {value}<{min} `, and else a greater
     /// one with `Value out of range {value}>{max} `.
     pub fn i64_range(&self, alloc: Global, min: i64, max: i64) -> Result<i64, DeRonErr>
-        ensures ok { IfOk result (λ value. (integer_of (pending self.now) ≡ Some value)
-            × (min ≤ℤ value) × (value ≤ℤ max)) }
-        ensures succeeds { (value : ℤ) → integer_of (pending self.now) ≡ Some value
-            → min ≤ℤ value → value ≤ℤ max → IsOk result }
-        ensures below { IfErr result (λ e. e.memory ≡ false → (value : ℤ)
-            → integer_of (pending self.now) ≡ Some value → value <ℤ min
-            → string_bytes e.msg ≡ below_range value min) }
-        ensures above { IfErr result (λ e. e.memory ≡ false → (value : ℤ)
-            → integer_of (pending self.now) ≡ Some value → min ≤ℤ value
-            → string_bytes e.msg ≡ above_range value max) }
-        ensures made { IfErr result (IsMadeAt self.now) }
+        ensures { GivesSigned self.now min max result }
     {
         let Some(value) = self.integer() else {
             return Err(self.err_token(alloc, "signed integer"));
@@ -78,13 +62,10 @@ impl DeRonState {
         Ok(value as i64)
     }
 
-    /// The pending truth value. A whole number without a minus sign stands for one too: 0 for
+    /// The pending boolean. A whole number without a minus sign stands for one too: 0 for
     /// false, any other for true.
     pub fn as_bool(&self, alloc: Global) -> Result<bool, DeRonErr>
-        ensures ok { IfOk result (λ value. truth_of (pending self.now) ≡ Some value) }
-        ensures succeeds { (value : Bool) → truth_of (pending self.now) ≡ Some value
-            → IsOk result }
-        ensures made { IfErr result (IsMadeAt self.now) }
+        ensures { GivesTruth self.now result }
     {
         match self.tok {
             DeRonTok::Bool(value) => Ok(value),
@@ -100,12 +81,8 @@ impl DeRonState {
     /// allocation for the copy fails, the text itself is returned, and `strbuf` has no
     /// capacity. So the call never runs out of that memory.
     pub fn as_string(&mut self, alloc: Global) -> Result<String, DeRonErr>
-        ensures ok { IfOk result (λ text. pending self.old ≡ str (string_bytes text)) }
-        ensures emptied { OnOk result ((string_bytes self.new.strbuf ≡ [])
-            × (self.new ≡ record self.old { strbuf = self.new.strbuf })) }
-        ensures succeeds { IsStr (pending self.old) → IsOk result }
-        ensures unchanged { OnErr result (self.new ≡ self.old) }
-        ensures made { IfErr result (IsMadeAt self.old) }
+        ensures { MatchResult result
+            (λ text. TookText self.old self.new (string_bytes text)) (LacksText self.old self.new) }
     {
         match self.tok {
             DeRonTok::Str => Ok(self.take_text(alloc)),

@@ -1,12 +1,10 @@
 //! How a reader's state takes a word.
 
-ghost use Rattle.std.specs.Prelude.{◌≡◌, ◌<◌, OnOk, OnErr, IfErr, true, length, string_bytes};
-ghost use Rattle.std.specs.Prelude.{string_capacity};
-ghost use Rattle.nano_text.specs.Prefix.{prefix, following};
+ghost use Rattle.std.specs.Prelude.{◌≡◌, MatchResult, true, length, string_bytes};
+ghost use Rattle.nano_text.specs.Prefix.{prefix};
 ghost use Rattle.nano_text.specs.Place.{remaining};
 ghost use Rattle.nano_ron_tokens.specs.Cut.{is_word, starts_word};
-ghost use Rattle.nano_ron_tokens.specs.Outcomes.{Counts};
-ghost use Rattle.nano_ron_tokens.specs.Scan.{word_token};
+ghost use Rattle.nano_ron_tokens.specs.Scan.{word_token, FoundWord, NoCapacityForWord};
 ghost use Rattle.nano_ron_tokens.specs.State.{pending};
 
 use crate::scan::Rejection;
@@ -19,15 +17,11 @@ impl DeRonState {
     /// Takes the word that begins here.
     pub(crate) fn take_word(&mut self, i: &mut Chars<'_>) -> Result<(), Rejection>
         requires { starts_word self.old.cur ≡ true }
-        ensures taken { OnOk result (
-            (pending self.new ≡ word_token (prefix is_word (remaining self.old.cur i.old)))
-            × (remaining self.new.cur i.new ≡ following is_word (remaining self.old.cur i.old))) }
-        ensures place { Counts self.old i.old self.new i.new }
-        ensures strbuf { self.new.strbuf ≡ self.old.strbuf }
-        ensures numbuf { self.new.numbuf ≡ self.old.numbuf }
-        ensures rejected { IfErr result (λ r. (r ≡ Rejection.Memory)
-            × (string_capacity self.old.identbuf
-            < length (prefix is_word (remaining self.old.cur i.old)))) }
+        ensures word { MatchResult result
+            (λ _. FoundWord self.old i.old self.new i.new
+            (pending self.new ≡ word_token (prefix is_word (remaining self.old.cur i.old))))
+            (λ r. (r ≡ Rejection.Memory) × NoCapacityForWord self.old i.old self.new i.new) }
+        ensures others { (self.new.strbuf ≡ self.old.strbuf) × (self.new.numbuf ≡ self.old.numbuf) }
     {
         if self.gather_word(i).is_err() {
             return Err(Rejection::Memory);
@@ -51,15 +45,11 @@ impl DeRonState {
     /// appended at once.
     fn gather_word(&mut self, i: &mut Chars<'_>) -> Result<(), AllocError>
         requires { starts_word self.old.cur ≡ true }
-        ensures remaining { OnOk result
-            (remaining self.new.cur i.new ≡ following is_word (remaining self.old.cur i.old)) }
-        ensures place { Counts self.old i.old self.new i.new }
-        ensures gathered { OnOk result
-            (string_bytes self.new.identbuf ≡ prefix is_word (remaining self.old.cur i.old)) }
-        ensures strbuf { self.new.strbuf ≡ self.old.strbuf }
-        ensures numbuf { self.new.numbuf ≡ self.old.numbuf }
-        ensures full { OnErr result (string_capacity self.old.identbuf
-            < length (prefix is_word (remaining self.old.cur i.old))) }
+        ensures word { MatchResult result
+            (λ _. FoundWord self.old i.old self.new i.new
+            (string_bytes self.new.identbuf ≡ prefix is_word (remaining self.old.cur i.old)))
+            (λ _. NoCapacityForWord self.old i.old self.new i.new) }
+        ensures others { (self.new.strbuf ≡ self.old.strbuf) × (self.new.numbuf ≡ self.old.numbuf) }
     {
         self.identbuf.clear();
         self.identbuf.push(self.cur)?;

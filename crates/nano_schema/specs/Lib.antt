@@ -1,4 +1,4 @@
 pub mod UserTypes
 pub mod Views
 pub mod Choices
-pub mod ChoicesLaws
+pub mod ChoicesImpls

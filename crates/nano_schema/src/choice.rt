@@ -7,7 +7,7 @@ ghost use Rattle.nano_schema.specs.Views.{SeesAs};
 use crate::choices::BorrowedChoices;
 
 /// A user-defined enum, as the content of the variant that it is.
-pub trait Choice {
+pub trait EnumSchema {
     /// The content of a variant, nested as the variants are.
     type Values;
 
@@ -20,7 +20,7 @@ pub trait Choice {
 }
 
 /// A user-defined enum that is seen by references to the content of its variant.
-pub trait ChoiceParts<'a>: Choice {
+pub trait VariantRefs<'a>: EnumSchema {
     /// The references, nested as the variants are.
     type Refs: Drop;
 
@@ -37,10 +37,10 @@ pub trait ChoiceParts<'a>: Choice {
 /// variants.
 pub fn known_variant<
     'a,
-    E: ChoiceParts<'a>,
+    E: VariantRefs<'a>,
     V: BorrowedChoices<'a, Refs = E::Refs, Values = E::Values>,
 >(value: &'a E)
-    requires { SeesAs V.values E.ChoiceParts.values }
+    requires { SeesAs V.values E.VariantRefs.values }
     ensures { LegalVariant V.legals (V.means 0 (E.view value.now)) }
 {
     let refs = value.as_refs();

@@ -32,7 +32,7 @@ pub trait Choices {
     /// The content of one of them.
     type Values;
 
-    /// What the content of one of them means, where the first of them has this place.
+    /// What the content of one of them means, with variant indices counted from here.
     ghost means: { ℕ → Self.Values → Meaning };
 
     /// What is legal for the content of each.
@@ -50,7 +50,7 @@ pub trait BorrowedChoices<'a> {
     /// What they refer to.
     ghost values: { Self.Refs → Self.Values };
 
-    /// What the content of one of them means, where the first of them has this place.
+    /// What the content of one of them means, with variant indices counted from here.
     ghost means: { ℕ → Self.Values → Meaning };
 
     /// What is legal for the content of each.
@@ -80,7 +80,7 @@ impl<'a, N, S: Borrowed<'a>> BorrowedChoices<'a> for Variant<N, S> {
 
     ghost legals = { sum S.legal no_variants };
 
-    #[tactic(auto, using(crate::specs::ChoicesLaws::last_is_legal))]
+    #[tactic(auto, using(crate::specs::ChoicesImpls::last_is_legal))]
     fn known(refs: &S::Refs) {
         S::known(refs);
     }
@@ -105,7 +105,7 @@ impl<'a, N, S: Borrowed<'a>, C: BorrowedChoices<'a>> BorrowedChoices<'a> for (Va
 
     ghost legals = { sum S.legal C.legals };
 
-    #[tactic(auto, using(crate::specs::ChoicesLaws::first_is_legal, crate::specs::ChoicesLaws::later_is_legal))]
+    #[tactic(auto, using(crate::specs::ChoicesImpls::first_is_legal, crate::specs::ChoicesImpls::later_is_legal))]
     fn known(refs: &Either<S::Refs, C::Refs>) {
         match refs {
             Either::First(first) => S::known(first),

@@ -121,7 +121,7 @@ impl<'a, A: Value + 'a, B: Value + 'a> Borrowed<'a> for Tupled<(A, B)> {
 
     ghost legal = { ⟦<(A, B) as Value>⟧.legal };
 
-    #[tactic(auto, using(nano_value::specs::LegalLaws::pair_is_legal))]
+    #[tactic(auto, using(nano_meaning::proofs::LegalLaws::pair_is_legal))]
     fn known(refs: &(&'a A, &'a B)) {
         refs.0.known();
         refs.1.known();
@@ -139,7 +139,7 @@ impl<'a, A: Value + 'a, B: Value + 'a, C: Value + 'a> Borrowed<'a> for Tupled<(A
 
     ghost legal = { ⟦<(A, B, C) as Value>⟧.legal };
 
-    #[tactic(auto, using(nano_value::specs::LegalLaws::pair_is_legal))]
+    #[tactic(auto, using(nano_meaning::proofs::LegalLaws::pair_is_legal))]
     fn known(refs: &(&'a A, &'a B, &'a C)) {
         refs.0.known();
         refs.1.known();
@@ -159,7 +159,7 @@ impl<'a, A: Value + 'a, B: Value + 'a, C: Value + 'a, D: Value + 'a> Borrowed<'a
 
     ghost legal = { ⟦<(A, B, C, D) as Value>⟧.legal };
 
-    #[tactic(auto, using(nano_value::specs::LegalLaws::pair_is_legal))]
+    #[tactic(auto, using(nano_meaning::proofs::LegalLaws::pair_is_legal))]
     fn known(refs: &(&'a A, &'a B, &'a C, &'a D)) {
         refs.0.known();
         refs.1.known();

@@ -163,7 +163,7 @@ impl<'a, A: Borrowed<'a>, B: Borrowed<'a>> Borrowed<'a> for (A, B) {
 
     ghost legal = { LegalPair A.legal B.legal };
 
-    #[tactic(auto, using(nano_value::specs::LegalLaws::pair_is_legal))]
+    #[tactic(auto, using(nano_meaning::proofs::LegalLaws::pair_is_legal))]
     fn known(refs: &(A::Refs, B::Refs)) {
         A::known(&refs.0);
         B::known(&refs.1);

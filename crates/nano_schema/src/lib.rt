@@ -15,11 +15,11 @@ mod fields;
 mod labels;
 mod record;
 
-pub use choice::{Choice, ChoiceParts, known_variant};
+pub use choice::{EnumSchema, VariantRefs, known_variant};
 pub use choices::{BorrowedChoices, Choices, Either, Variant};
 pub use contents::{Alone, Named, OnePart, Tupled};
 pub use defaults::{DefaultOf, TypeDefault};
 pub use fields::{Borrowed, Defaulted, Optional, Required, Shape};
 pub use labels::Label;
 pub use nano_value::Value;
-pub use record::{Parts, Record, known_record};
+pub use record::{FieldRefs, StructSchema, known_record};

@@ -6,7 +6,7 @@ ghost use Rattle.nano_schema.specs.Views.{SeesAs};
 use crate::fields::Borrowed;
 
 /// A user-defined struct, as the values of its fields.
-pub trait Record {
+pub trait StructSchema {
     /// The values, nested as the fields are.
     type Values;
 
@@ -19,7 +19,7 @@ pub trait Record {
 }
 
 /// A user-defined struct that is seen by references to its fields.
-pub trait Parts<'a>: Record {
+pub trait FieldRefs<'a>: StructSchema {
     /// The references, nested as the fields are.
     type Refs: Drop;
 
@@ -33,10 +33,10 @@ pub trait Parts<'a>: Record {
 
 /// Does nothing. Its contract says that what the values of the fields mean is legal, where the
 /// fields are those that the struct is seen by.
-pub fn known_record<'a, R: Parts<'a>, F: Borrowed<'a, Refs = R::Refs, Values = R::Values>>(
+pub fn known_record<'a, R: FieldRefs<'a>, F: Borrowed<'a, Refs = R::Refs, Values = R::Values>>(
     value: &'a R,
 )
-    ensures { SeesAs F.values R.Parts.values → F.legal (F.means (R.view value.now)) }
+    ensures { SeesAs F.values R.FieldRefs.values → F.legal (F.means (R.view value.now)) }
 {
     let refs = value.as_refs();
     F::known(&refs);

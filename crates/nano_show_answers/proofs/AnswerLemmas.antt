@@ -4,11 +4,11 @@ use Rattle.std.proofs.Common.{take-append-drop, Option, Some, None, IfSome, unwr
 use Rattle.std.specs.Io.KnownBytes.{Appends, Keeps}
 use Rattle.std.proofs.KnownBytes.{Appends-trans, Appends-kept}
 use Rattle.nano_show_answers.specs.Requests.{Request, code_of_u16s, code_of_text, normal_of_input}
-use Rattle.nano_show_answers.specs.Requests.{listing_of_input, AskFor}
+use Rattle.nano_show_answers.specs.Requests.{listing_of_input}
 use Rattle.nano_show_answers.proofs.WordLemmas.{one_request}
 use Rattle.nano_json.proofs.Json.{json_laws}
 use Rattle.nano_ron.proofs.Ron.{ron_laws}
-use Rattle.nano_bin.specs.CodecLaws.{writes_same}
+use Rattle.nano_bin_bytes.proofs.CodecLaws.{writes_same}
 use Rattle.nano_json.specs.Token.{end as json_end}
 use Rattle.nano_ron.specs.Token.{end as ron_end}
 use Rattle.nano_grammar.proofs.WholeInputs.{one_whole}
@@ -32,7 +32,7 @@ use Rattle.nano_show_answers.specs.Listing.{listing}
 use Rattle.nano_toml.specs.RemainingText.{remaining_text}
 use Rattle.nano_toml.proofs.OneTable.{encodes_one_table}
 use Rattle.nano_show_answers.specs.Answer.{AnswersInput, Answers, IsListing, IsTextLine, IsBytesLine}
-use Rattle.nano_show_answers.specs.Answer.{IsNormalLine, IsAnswerTo, HasNoAnswerTo, IsAnswer, HasNoAnswer}
+use Rattle.nano_show_answers.specs.Answer.{IsNormalLine, IsAnswerTo}
 use Rattle.nano_show_answers.specs.Answer.{WritesUpTo, OneAnswer, AnswerOrRejection}
 
 module _ (a b c : Option (List ℕ)) (bytes rest : List ℕ) (so_far : WritesUpTo rest a b bytes) where
@@ -94,17 +94,6 @@ pub line_at_kind : (types : Kind → Shown) (form : Form) (input : List ℕ) (ki
     → AnswersInput (IsNormalLine form (types kind)) input result
 line_at_kind types form input kind is e result h =
     subst (λ k. AnswersInput (IsNormalLine form (types k)) input result) (sym e) h
-
-module _ {types : Kind → Shown} (words : List (List ℕ)) (known : Option (List ℕ))
-    (request : Request) (asked : AskFor words request) where
-  -- what answers what the words ask for is their answer
-  pub asked_answer : (answer : List ℕ) → IsAnswerTo types request known answer
-      → IsAnswer types words known answer
-  asked_answer answer is = record { request = request; asked = asked; is = is }
-
-  -- and where nothing answers that, they have none
-  pub asked_nothing : HasNoAnswerTo types request known → HasNoAnswer types words known
-  asked_nothing is = record { request = request; asked = asked; is = is }
 
 -- ---- laws
 

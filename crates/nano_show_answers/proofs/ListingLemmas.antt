@@ -1,21 +1,19 @@
 -- What is listed is some text, and what is still to be listed of lists in lists.
-use Rattle.std.proofs.Common.{◌≡◌, ℕ, zero, suc, ◌+◌, ◌<◌, ◌≤◌, ◌/◌, ◌%◌, ◌==◌, cond, List, [], ◌∷◌}
+use Rattle.std.proofs.Common.{◌≡◌, ℕ, zero, suc, ◌+◌, ◌<◌, ◌/◌, ◌%◌, ◌==◌, cond, List, [], ◌∷◌}
 use Rattle.std.proofs.Common.{◌++◌, length, length-append, append-nil, append_assoc, subst, codes}
 use Rattle.std.proofs.Common.{Bool, true, false, String, string_bytes, Global, Vec, vec_len, rules}
-use Rattle.std.proofs.Common.{ℤ, refl, ap, sym, ◌∙◌, arith, pos, negsuc, Some, None, take, get_or}
+use Rattle.std.proofs.Common.{ℤ, refl, ap, sym, ◌∙◌, arith, pos, negsuc, take, get_or}
 use Rattle.std.proofs.Common.{chars, encode_utf8_all}
 use Rattle.std.proofs.lemmas.List.{take_all, take_more}
-use Rattle.std.specs.Fmt.{decimal, signed_decimal, digits_onto, digit_glyph}
+use Rattle.std.specs.Fmt.{decimal, digits_onto, digit_glyph}
 use Rattle.nano_toml.specs.Data.{Data, text, boolean, number, nan, infinity, date, tables, values}
 use Rattle.nano_toml.specs.Data as value
-use Rattle.nano_toml.specs.Data.{Tables}
-use Rattle.nano_toml.specs.Kinds.{as_tables}
 use Rattle.nano_toml.specs.View.{view, values_view, tables_view}
 use Rattle.nano_toml.proofs.TableViews.{Map}
 use Rattle.nano_toml.specs.declared.value.Toml.{Toml, the_lemmas, Str, Bool as Truth, Num, Dec, Nan}
 use Rattle.nano_toml.specs.declared.value.Toml.{Inf, Date}
 use Rattle.nano_json_tokens.specs.Written.{written_characters, written_truth}
-use Rattle.nano_show_answers.specs.Listing.{count, elements_lines, lines_after, listed, more_listed}
+use Rattle.nano_show_answers.specs.Listing.{count, listed, more_listed}
 use Rattle.nano_show_answers.specs.Listing.{quoted}
 use Rattle.nano_show_answers.specs.OpenLists.{before_next, closed_list, closed_lists}
 use Rattle.nano_show_answers.specs.declared.listed.OpenList.{OpenList}
@@ -49,7 +47,7 @@ quote_first : (t : List ℕ) → quoted t
 unfolding lib.Utf8.encode
 quote_first t = refl
 
--- a truth value is ASCII
+-- a boolean is ASCII
 pub written_truth-ascii : (b : Bool) → encode_utf8_all (written_truth b) ≡ written_truth b
 unfolding lib.Utf8.encode
 written_truth-ascii true = refl
@@ -100,30 +98,6 @@ count_of_tables (m ∷ ms) = omega (arith, count_of_tables ms)
 pub table_count : (array : Vec Map Global) (len : ℕ) → len ≡ vec_len array
     → len ≡ count (tables_view array.items)
 table_count array len is = omega (arith, is, array.ok.0, count_of_tables array.items)
-
--- the lines after a key's are those of its elements, and none where it has none
-pub lines_of_elements : (key : List ℕ) (d : Data) (ts : Tables) → as_tables d ≡ Some ts
-    → lines_after key d ≡ elements_lines key 0 ts
-lines_of_elements key (tables ts) us e = let h : ts ≡ us = cc in ap (elements_lines key 0) h
-lines_of_elements key (text t) us e = absurd (cc)
-lines_of_elements key (boolean b) us e = absurd (cc)
-lines_of_elements key (number n) us e = absurd (cc)
-lines_of_elements key (value.decimal t) us e = absurd (cc)
-lines_of_elements key (nan b) us e = absurd (cc)
-lines_of_elements key (infinity b) us e = absurd (cc)
-lines_of_elements key (date t) us e = absurd (cc)
-lines_of_elements key (values vs) us e = absurd (cc)
-
-pub no_lines : (key : List ℕ) (d : Data) → as_tables d ≡ None → lines_after key d ≡ []
-no_lines key (tables ts) e = absurd (cc)
-no_lines key (text t) e = refl
-no_lines key (boolean b) e = refl
-no_lines key (number n) e = refl
-no_lines key (value.decimal t) e = refl
-no_lines key (nan b) e = refl
-no_lines key (infinity b) e = refl
-no_lines key (date t) e = refl
-no_lines key (values vs) e = refl
 
 module _ (v : Toml) (d : Data) (means : view v ≡ d) (old new : List ℕ)
     (listed_after : new ≡ old ++ listed d) where

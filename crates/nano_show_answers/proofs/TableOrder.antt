@@ -1,6 +1,6 @@
 -- The table that a map means is the chain of its entries in the order of their keys.
-use Rattle.std.proofs.Common.{◌≡◌, ℕ, List, [], ◌∷◌, ◌++◌, cond, Bool, true, false, Option, Some}
-use Rattle.std.proofs.Common.{None, option_map, String, Global, string_bytes, bytes_eq, Ordering}
+use Rattle.std.proofs.Common.{◌≡◌, ℕ, List, [], ◌∷◌, cond, Bool, true, false, Option, Some}
+use Rattle.std.proofs.Common.{None, String, Global, string_bytes, bytes_eq}
 use Rattle.std.proofs.Common.{Less, Equal, Greater, refl, sym, ap, ◌∙◌, map, Vec, Bor, Result, Ok}
 use Rattle.std.proofs.Common.{Err, IfOk}
 use Rattle.std.specs.List.{AllByRecursion, IsDistinct}
@@ -17,7 +17,7 @@ use Rattle.std.proofs.lemmas.Map.Keys.{IsDistinct-head, IsDistinct-tail}
 use Rattle.std.proofs.lemmas.Slice.Eq.{bytes_eq-Decides}
 use Rattle.nano_value.specs.Ascending.{ascending}
 use Rattle.nano_value.specs.Tables.{insert_all}
-use Rattle.nano_value.specs.TablesLaws.{no_entries}
+use Rattle.nano_meaning.proofs.TablesLaws.{no_entries}
 use Rattle.nano_toml.specs.Data.{Data, Table, no_pairs, more_pairs, put, at}
 use Rattle.nano_toml.specs.View.{view, table_view}
 use Rattle.nano_toml.specs.declared.value.Toml.{Toml}

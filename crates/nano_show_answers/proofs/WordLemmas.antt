@@ -1,16 +1,15 @@
 -- The words of a command line, one by one.
-use Rattle.std.proofs.Common.{◌≡◌, ◌≢◌, ℕ, ◌<◌, List, [], ◌∷◌, cond, length, get_or, map, codes}
-use Rattle.std.proofs.Common.{refl, sym, ap, subst, ◌∙◌, arith, Option, Some, None, true, false}
+use Rattle.std.proofs.Common.{◌≡◌, ℕ, ◌<◌, List, [], ◌∷◌, cond, length, get_or, map, codes}
+use Rattle.std.proofs.Common.{refl, sym, ap, ◌∙◌, arith, Option, Some, None, true, false}
 use Rattle.std.proofs.Common.{String, string_bytes, option_to_list}
-use Rattle.std.specs.List.{All, slice_index}
+use Rattle.std.specs.List.{slice_index}
 use Rattle.std.specs.Option.{SomeIff, is_some, IsSome}
 use Rattle.std.specs.Str.Parse.{digits_value}
 use Rattle.std.proofs.Math.ListN.{length-map}
 use Rattle.std.proofs.lemmas.List.{get_or-map}
 use Rattle.std.specs.Prelude.{bytes_eq}
 use Rattle.nano_show_answers.specs.Requests.{texts, Request, code_of_u16s, code_of_text, normal_of_input}
-use Rattle.nano_show_answers.specs.Requests.{listing_of_input, form_name, kind_name, IsU16, AskFor}
-use Rattle.nano_show_answers.specs.Requests.{AskForNothing}
+use Rattle.nano_show_answers.specs.Requests.{listing_of_input, form_name, kind_name, AskFor}
 use Rattle.nano_show_answers.specs.declared.words.Form.{Form}
 use Rattle.nano_show_answers.specs.declared.words.Form.TheVariants.{Json, Ron, Bin}
 use Rattle.nano_show_answers.specs.declared.words.Form.TheVariants.{JsonWhole, RonWhole, BinWhole}
@@ -74,77 +73,6 @@ two_are_not_one : (words : List (List ℕ)) (first second : List ℕ) → words 
     → words ≡ codes "toml" ∷ [] → ⊥
 two_are_not_one words first second are e =
     let lengths : 2 ≡ 1 = ap length (sym are ∙ e) in omega (arith, lengths)
-
-module _ (words : List (List ℕ))
-    (no_code : (rest : List (List ℕ)) → words ≢ codes "code" ∷ rest) where
-  -- after no `code`, no format with a type, and no `toml`
-  pub nothing_else : ((form : Form) (kind : Kind) → words ≢ form_name form ∷ kind_name kind ∷ [])
-      → words ≢ codes "toml" ∷ [] → AskForNothing words
-  nothing_else other toml (code_of_u16s numbers) asked =
-      no_code (codes "u16s" ∷ asked.numerals) asked.are
-  nothing_else other toml (code_of_text text) asked =
-      no_code (codes "text" ∷ option_to_list text) asked
-  nothing_else other toml (normal_of_input form kind) asked = other form kind asked
-  nothing_else other toml listing_of_input asked = toml asked
-
-  -- neither one word nor two
-  pub not_one_or_two : length words ≢ 1 → length words ≢ 2 → AskForNothing words
-  not_one_or_two one two = nothing_else (λ form kind e. two (ap length e)) (λ e. one (ap length e))
-
-  -- one word that is not `toml`
-  pub no_toml : (word : List ℕ) → words ≡ word ∷ [] → word ≢ codes "toml" → AskForNothing words
-  no_toml word are other =
-      nothing_else (λ form kind e. let lengths : 1 ≡ 2 = ap length (sym are ∙ e) in
-      omega (arith, lengths)) (λ e. other (head (sym are ∙ e)))
-
-  module _ (first second : List ℕ) (are : words ≡ first ∷ second ∷ []) where
-    -- the first is no format
-    pub no_form : ((form : Form) → first ≢ form_name form) → AskForNothing words
-    no_form other =
-        nothing_else (λ form kind e. other form (head (sym are ∙ e)))
-        (two_are_not_one words first second are)
-
-    -- the second is no type
-    pub no_kind : ((kind : Kind) → second ≢ kind_name kind) → AskForNothing words
-    no_kind other =
-        nothing_else (λ form kind e. other kind (head (tail (sym are ∙ e))))
-        (two_are_not_one words first second are)
-
--- after `code`
-module _ (rest : List (List ℕ)) where
-  -- neither `u16s` nor `text`
-  pub no_other_code : ((more : List (List ℕ)) → rest ≢ codes "u16s" ∷ more)
-      → ((more : List (List ℕ)) → rest ≢ codes "text" ∷ more) → AskForNothing (codes "code" ∷ rest)
-  no_other_code no_u16s no_text (code_of_u16s numbers) asked =
-      no_u16s asked.numerals (tail asked.are)
-  no_other_code no_u16s no_text (code_of_text text) asked =
-      no_text (option_to_list text) (tail asked)
-  no_other_code no_u16s no_text (normal_of_input form kind) asked =
-      code_is_no_form form (head asked)
-  no_other_code no_u16s no_text listing_of_input asked = code_is_not_toml (head asked)
-
-  -- a word after `code u16s` is no numeral
-  pub no_other_numbers : (numerals : List (List ℕ)) → rest ≡ codes "u16s" ∷ numerals
-      → (All IsU16 numerals → ⊥) → AskForNothing (codes "code" ∷ rest)
-  no_other_numbers numerals u16s wrong (code_of_u16s numbers) asked =
-      wrong (subst (All IsU16) (tail (sym (tail asked.are) ∙ u16s)) asked.each)
-  no_other_numbers numerals u16s wrong (code_of_text text) asked =
-      u16s_is_not_text (head (sym u16s ∙ tail asked))
-  no_other_numbers numerals u16s wrong (normal_of_input form kind) asked =
-      code_is_no_form form (head asked)
-  no_other_numbers numerals u16s wrong listing_of_input asked = code_is_not_toml (head asked)
-
-  -- more than one word after `code text`
-  pub no_more_text : (more : List (List ℕ)) → rest ≡ codes "text" ∷ more → 1 < length more
-      → AskForNothing (codes "code" ∷ rest)
-  no_more_text more text long (code_of_u16s numbers) asked =
-      u16s_is_not_text (head (sym (tail asked.are) ∙ text))
-  no_more_text more text long (code_of_text None) asked =
-      omega (arith, ap length (tail (sym text ∙ tail asked)))
-  no_more_text more text long (code_of_text (Some word)) asked =
-      omega (arith, ap length (tail (sym text ∙ tail asked)))
-  no_more_text more text long (normal_of_input form kind) asked = code_is_no_form form (head asked)
-  no_more_text more text long listing_of_input asked = code_is_not_toml (head asked)
 
 -- ---- the words ask for one thing
 

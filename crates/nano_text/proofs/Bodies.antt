@@ -10,8 +10,8 @@ use Rattle.std.specs.Str.Iter.{chars_rest}
 use Rattle.std.specs.declared.str.Chars.{Chars}
 use Rattle.nano_text.specs.declared.place.Place.{Place}
 use Rattle.nano_text.specs.Prefix.{prefix, following}
-use Rattle.nano_text.specs.Place.{before_nul, held, remaining, tail, text_at, begins_character, is_line_feed, Passes, Advances}
-use Rattle.nano_text.specs.PlaceLaws.{passes_append, passes_none, advances_none, advances_by, tail_shorter}
+use Rattle.nano_text.specs.Place.{before_nul, held, remaining, tail, text_at, begins_character, is_line_feed, Passes, Moves}
+use Rattle.nano_text.proofs.PlaceLaws.{passes_append, passes_none, moves_none, tail_len}
 use Rattle.nano_text.specs.String.{IsString, escaped, escaped_char, is_plain, is_plain_in_line}
 use Rattle.nano_text.proofs.RemainingText.{remaining_more}
 use Rattle.nano_text.proofs.Passing.{begins_ascii, count_first, passed_line_unchanged, passed_col}
@@ -97,12 +97,12 @@ pub record IsReadTo (before : List ℕ) (p q : Place) (written rest : List ℕ) 
   pub read : HasRead (before_nul before) written (before_nul (chars rest))
   pub place : Passes p before q (chars rest)
   -- all that was taken is of the text
-  pub within : length before + length (before_nul (chars rest)) ≤ length (before_nul before) + length (chars rest)
+  pub within : length before + length (before_nul (chars rest)) ≡ length (before_nul before) + length (chars rest)
   pub small : q.col < 2 ^ 64
 
 -- where place and iterator are what they were, nothing is taken
-pub unmoved : (p q : Place) (i j : Chars) → q ≡ p → j ≡ i → Advances p i q j
-unmoved p q i j place input = rw (place, input) (advances_none p i)
+pub unmoved : (p q : Place) (i j : Chars) → q ≡ p → j ≡ i → Moves p i q j
+unmoved p q i j place input = rw (place, input) (moves_none p i)
 
 pub nothing_yet : (i : Chars) (p : Place) (written rest : List ℕ) → IsUtf8 rest → rest ≡ chars_rest i → written ≡ [] → p.col < 2 ^ 64
     → IsReadTo (held i) p p written rest
@@ -201,24 +201,25 @@ passes_quote before p q r written rest bytes after left h same is left_is line c
 pub advances_quote : (i j k : Chars) (p q s : Place) (written rest bytes after : List ℕ) → IsReadTo (held i) p q written rest
     → p.cur ≡ 34 → bytes ≡ rest → bytes ≡ 34 ∷ after → chars_rest j ≡ drop 1 rest
     → held k ≡ tail (held j) → text_at s k ≡ before_nul (held j)
-    → Passes p (held i) s (held k) → Advances p i s k
+    → Passes p (held i) s (held k) → Moves p i s k
 advances_quote i j k p q s written rest bytes after h quote same is left next_is text_is passes =
     let here : rest ≡ 34 ∷ after = sym same ∙ is in
     let all : chars rest ≡ 34 ∷ held j =
     chars_after rest after 34 h.utf8 here (omega arith)
     ∙ ap (λ (l : List ℕ). 34 ∷ chars l) (sym (left ∙ ap (drop 1) here)) in
     let remaining : before_nul (chars rest) ≡ 34 ∷ before_nul (held j) = ap before_nul all in
-    advances_by p s i k passes
-    (omega (
-      arith,
-      h.within,
-      ap length all,
-      ap length remaining,
-      ap length next_is,
-      ap length text_is,
-      tail_shorter (held j),
-      ap length (remaining_more p.cur i (λ z. omega (arith, z, quote))),
-    ))
+    let whole = ap length all in
+    let texts = ap length remaining in
+    let last = ap length next_is in
+    let ends = ap length text_is in
+    let one = tail_len (held j) in
+    let more = ap length (remaining_more p.cur i (λ z. omega (arith, z, quote))) in
+    let taken : length (chars rest) ≤ length (held i) = omega (arith, ap length h.place.split, length-append h.place.taken (chars rest)) in
+    record {
+      passes = passes;
+      within = omega (arith, h.within, whole, texts, ends, more, taken);
+      exact = omega (arith, h.within, whole, texts, last, ends, one, more, taken);
+    }
 
 -- ---- an escape of one character
 

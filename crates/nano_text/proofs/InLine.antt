@@ -9,7 +9,7 @@ use Rattle.std.proofs.lemmas.List.Elements.{AllWithin-more}
 use Rattle.std.proofs.lemmas.Nat.{le_or_l, le_or_r}
 use Rattle.std.proofs.lemmas.Str.{encode_ascii, encodes-chars}
 use Rattle.nano_text.specs.declared.place.Place.{Place}
-use Rattle.nano_text.specs.EachLaws.{all_split}
+use Rattle.nano_text.proofs.EachLaws.{all_split}
 use Rattle.nano_text.specs.Prefix.{prefix}
 use Rattle.nano_text.specs.Place.{IsInLine, begins_character, is_line_feed, passed}
 use Rattle.nano_text.proofs.Passing.{wide, count_first, begins_ascii, passed_line_unchanged, passed_col}

@@ -19,3 +19,7 @@ pub mod Bodies
 pub mod WholeNumbers
 pub mod WrittenRuns
 pub mod PlainStrings
+pub mod EachLaws
+pub mod PlaceInTextLaws
+pub mod PlaceLaws
+pub mod RollbackLaws

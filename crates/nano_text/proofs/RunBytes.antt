@@ -19,7 +19,7 @@ use Rattle.nano_text.specs.ScanLaws.{run_at}
 use Rattle.nano_text.proofs.RemainingText.{remaining-first, remaining-tail, remaining_fewer}
 use Rattle.nano_text.proofs.Numbers.{decimal_length, decimal_yes, number_at}
 use Rattle.nano_text.proofs.Runs.{run_split, run_is_run}
-use Rattle.nano_text.specs.EachLaws.{all_append}
+use Rattle.nano_text.proofs.EachLaws.{all_append}
 use Rattle.nano_text.proofs.DigitValues.{digit_ascii}
 
 -- ---- a run is ASCII

@@ -8,7 +8,7 @@ use Rattle.nano_text.specs.Prefix.{prefix, following}
 use Rattle.nano_text.specs.String.{Piece, plain, escaped, scalar, pair, unit_text, unit_value, piece_text, piece_char, is_plain, IsPiece, IsString}
 use Rattle.nano_text.proofs.Escapes.{same_unit}
 use Rattle.nano_text.proofs.Utf8Prefixes.{prefix-append-following}
-use Rattle.nano_text.specs.EachLaws.{all_append}
+use Rattle.nano_text.proofs.EachLaws.{all_append}
 
 head_same : (c d : ℕ) (xs ys : List ℕ) → c ∷ xs ≡ d ∷ ys → c ≡ d
 head_same c d xs ys e = cc e

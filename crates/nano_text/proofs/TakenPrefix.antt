@@ -12,8 +12,8 @@ use Rattle.std.specs.Str.Iter.{chars_rest}
 use Rattle.std.specs.declared.str.Chars.{Chars}
 use Rattle.nano_text.specs.Prefix.{prefix, following}
 use Rattle.nano_text.specs.declared.place.Place.{Place}
-use Rattle.nano_text.specs.Place.{held, remaining, text_at, tail, before_nul, passed, IsInLine, Passes, Advances}
-use Rattle.nano_text.specs.PlaceLaws.{passes_append, advances_by, tail_shorter}
+use Rattle.nano_text.specs.Place.{held, remaining, text_at, tail, before_nul, passed, IsInLine, Passes, Moves}
+use Rattle.nano_text.proofs.PlaceLaws.{passes_append, tail_len}
 use Rattle.nano_text.specs.String.{is_plain}
 use Rattle.nano_text.proofs.InLine.{in_line_line, in_line_col, prefix_in_line}
 use Rattle.nano_text.proofs.RemainingText.{remaining_more, not_nul}
@@ -99,27 +99,28 @@ module _ (test : ℕ → Bool) (stops : test 0 ≡ false) (cut : (bytes : List �
   pub advances_over : (p r : Place) (n : ℕ) (before mid after : Chars) (text : List ℕ) → p.cur ≢ 0 → IsUtf8 text
       → text ≡ chars_rest before → n ≡ length (prefix test text) → chars_rest mid ≡ drop n text
       → held after ≡ tail (held mid) → text_at r after ≡ before_nul (held mid)
-      → Passes p (held before) r (held after) → Advances p before r after
+      → Passes p (held before) r (held after) → Moves p before r after
   advances_over p r n before mid after text some utf8 is count left after_is remaining_is passes =
       let rest_is : chars_rest mid ≡ following test text = left ∙ (ap (λ (k : ℕ). drop k text) count ∙ drop_prefix text) in
       let mid_is : held mid ≡ following test (held before) = ap chars rest_is ∙ ((cut text utf8).after_is ∙ ap (λ (bs : List ℕ). following test (chars bs)) is) in
       let text_is : text_at r after ≡ following test (before_nul (held before)) =
       remaining_is ∙ (ap before_nul mid_is ∙ sym (following-before_nul test stops (held before))) in
       let run = prefix test (held before) in
-      advances_by p r before after passes
-      (omega (
-        arith,
-        ap length (prefix-append-following test (held before)),
-        length-append run (following test (held before)),
-        ap length mid_is,
-        ap length (prefix-append-following test (before_nul (held before))),
-        length-append (prefix test (before_nul (held before))) (following test (before_nul (held before))),
-        ap length (prefix-before_nul test stops (held before)),
-        ap length text_is,
-        ap length (remaining_more p.cur before some),
-        ap length after_is,
-        tail_shorter (held mid),
-      ))
+      let all = ap length (prefix-append-following test (held before)) in
+      let parts = length-append run (following test (held before)) in
+      let mids = ap length mid_is in
+      let texts = ap length (prefix-append-following test (before_nul (held before))) in
+      let text_parts = length-append (prefix test (before_nul (held before))) (following test (before_nul (held before))) in
+      let runs = ap length (prefix-before_nul test stops (held before)) in
+      let ends = ap length text_is in
+      let more = ap length (remaining_more p.cur before some) in
+      let last = ap length after_is in
+      let one = tail_len (held mid) in
+      record {
+        passes = passes;
+        within = omega (arith, texts, text_parts, ends, more);
+        exact = omega (arith, all, parts, mids, texts, text_parts, runs, ends, more, last, one);
+      }
 
 -- characters that stand for themselves in a string, which all beyond ASCII do
 plain_wide : (n : ℕ) → 128 ≤ n → is_plain n ≡ true

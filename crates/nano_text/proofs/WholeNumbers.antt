@@ -13,11 +13,10 @@ use Rattle.std.specs.declared.str.Chars.{Chars}
 use Rattle.nano_text.specs.declared.number.Number.{Number}
 use Rattle.nano_text.specs.declared.number.Number.TheVariants.{U64, I64}
 use Rattle.nano_text.specs.declared.place.Place.{Place}
-use Rattle.nano_text.specs.EachLaws.{all_append}
+use Rattle.nano_text.proofs.EachLaws.{all_append}
 use Rattle.nano_text.specs.Prefix.{first_is, prefix, following}
 use Rattle.nano_text.specs.Number.{Run, IsNumber, continues, run_text}
-use Rattle.nano_text.specs.Place.{held, remaining, text_at, before_nul, IsInLine, Passes, Advances}
-use Rattle.nano_text.specs.PlaceLaws.{advances_by}
+use Rattle.nano_text.specs.Place.{held, remaining, text_at, before_nul, IsInLine, Passes, Moves}
 use Rattle.nano_text.proofs.DigitValues.{digits-chars}
 use Rattle.nano_text.proofs.InLine.{in_line_line, in_line_col}
 use Rattle.nano_text.proofs.RemainingText.{remaining_more}
@@ -38,9 +37,6 @@ module _ (text : List ℕ) (len next : ℕ) (utf8 : IsUtf8 text) (count : len �
   after_digits =
       sym (ap (λ (n : ℕ). drop n text) count ∙ drop_prefix is_ascii_digit refl digits_cut text)
       ∙ (drop-cons text len 0 within ∙ rw (add-one, is) refl)
-
-  one_byte : following is_ascii_digit text ≡ (next ∷ []) ++ drop (len + 1) text
-  one_byte = after_digits
 
   utf8_after : IsUtf8 (drop (len + 1) text)
   utf8_after =
@@ -94,24 +90,25 @@ module _ (text : List ℕ) (len next : ℕ) (utf8 : IsUtf8 text) (count : len �
   -- and all of it is of the text, if that begins at the current character
   pub advances_number : (p q : Place) (before after : Chars) → text ≡ chars_rest before → chars_rest after ≡ drop (len + 1) text
       → p.cur ≢ 0 → text_at q after ≡ before_nul (following is_ascii_digit (held before))
-      → Passes p (held before) q (held after) → Advances p before q after
+      → Passes p (held before) q (held after) → Moves p before q after
   advances_number p q before after same left some rest_is passes =
       let all = held before in
       let rest : following is_ascii_digit all ≡ next ∷ held after =
       ap (λ (bs : List ℕ). following is_ascii_digit (chars bs)) (sym same) ∙ (chars_after ∙ ap (λ (bs : List ℕ). next ∷ chars bs) (sym left)) in
-      advances_by p q before after passes
-      (omega (
-        arith,
-        ap length (prefix-append-following is_ascii_digit all),
-        length-append (prefix is_ascii_digit all) (following is_ascii_digit all),
-        ap length rest,
-        ap length (prefix-append-following is_ascii_digit (before_nul all)),
-        length-append (prefix is_ascii_digit (before_nul all)) (following is_ascii_digit (before_nul all)),
-        ap length (prefix-before_nul is_ascii_digit refl all),
-        ap length (following-before_nul is_ascii_digit refl all),
-        ap length rest_is,
-        ap length (remaining_more p.cur before some),
-      ))
+      let whole = ap length (prefix-append-following is_ascii_digit all) in
+      let parts = length-append (prefix is_ascii_digit all) (following is_ascii_digit all) in
+      let left_len = ap length rest in
+      let texts = ap length (prefix-append-following is_ascii_digit (before_nul all)) in
+      let text_parts = length-append (prefix is_ascii_digit (before_nul all)) (following is_ascii_digit (before_nul all)) in
+      let runs = ap length (prefix-before_nul is_ascii_digit refl all) in
+      let ends = ap length (following-before_nul is_ascii_digit refl all) in
+      let last = ap length rest_is in
+      let more = ap length (remaining_more p.cur before some) in
+      record {
+        passes = passes;
+        within = omega (arith, texts, text_parts, ends, last, more);
+        exact = omega (arith, whole, parts, left_len, texts, text_parts, runs, ends, last, more);
+      }
 
 -- ---- what was taken is a number
 

@@ -1,16 +1,12 @@
 pub mod Characters
 pub mod Digits
-pub mod EachLaws
 pub mod Prefix
-pub mod RollbackLaws
 pub mod Promises
 pub mod Lanes
 pub mod Number
 pub mod Outcomes
 pub mod Place
-pub mod PlaceLaws
 pub mod PlaceInText
-pub mod PlaceInTextLaws
 pub mod Scan
 pub mod ScanLaws
 pub mod String

@@ -3,11 +3,11 @@ use Rattle.std.specs.Prelude.{◌≡◌, ◌++◌, ◌<◌, ◌^◌, ℕ, List, 
 use Rattle.std.specs.Prelude.{encode_utf8_all}
 use Rattle.std.specs.declared.str.Chars.{Chars}
 use Rattle.nano_text.specs.declared.place.Place.{Place}
-use Rattle.nano_text.specs.Place.{Advances}
+use Rattle.nano_text.specs.Place.{Moves}
 
--- line and column count each character that was taken, and all of them are of the text
+-- line and column count exactly the characters that remain no more
 abbrev pub Counts : Place → Chars → Place → Chars → Type 0
-Counts = Advances
+Counts = Moves
 
 -- the number, where 64 bits hold it
 abbrev pub IsWord : Option ℕ → ℕ → Type 0

@@ -64,6 +64,15 @@ pub record Advances (old : Place) (before : Chars) (new : Place) (after : Chars)
   pub passes : Passes old (held before) new (held after)
   pub within : length passes.taken + length (text_at new after) ≤ length (text_at old before)
 
+-- a reader went on, and did not give up: line and column count each character that was taken, and
+-- these are as many as remain no more. The current character is taken already, so at the end the
+-- last one is the NUL that ends the text, or there is none
+pub record Moves (old : Place) (before : Chars) (new : Place) (after : Chars) : Type 0 where
+  pub passes : Passes old (held before) new (held after)
+  pub within : length (text_at new after) ≤ length (text_at old before)
+  pub exact : length (held after)
+      ≡ length (held before) - (length (text_at old before) - length (text_at new after))
+
 -- ---- the bytes of a run that is taken at once
 
 -- the byte of a line feed, which is its character

@@ -1,5 +1,5 @@
 //! Whole numbers of few digits, which nearly all numbers are: their digits are looked at in one
-//! loop, and taken at once. What is odd is left to the run (`run`), with nothing taken.
+//! loop, and taken at once. Anything else falls back to `run`; no input is consumed.
 
 ghost use Rattle.std.specs.Prelude.{◌≡◌, ◌≢◌, ◌<◌, ◌≤◌, ◌^◌, true, false, IfSome};
 ghost use Rattle.std.specs.Prelude.{length, get_or, pos, neg_ℤ};
@@ -14,7 +14,7 @@ ghost use Rattle.nano_text.specs.Place.{held, before_nul, text_at};
 use crate::place::Place;
 use std::str::Chars;
 
-/// No number of so many digits, and one before them, is too large for 64 bits.
+/// Up to this many digits after a first one cannot overflow a `u64`.
 const MOST: usize = 18;
 
 /// Digits that follow, and the character after them.

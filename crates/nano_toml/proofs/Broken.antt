@@ -9,16 +9,15 @@ use Rattle.nano_toml.specs.Characters.{IsByteTest, starts_word, starts_number, i
 use Rattle.nano_toml.specs.Cut.{punctuator_token}
 use Rattle.nano_toml.specs.FirstError.{IsMalformed}
 use Rattle.nano_toml.specs.Remaining.{number_remaining}
-use Rattle.nano_toml.specs.RemainingLaws.{lexeme_remaining}
+use Rattle.nano_toml.proofs.LexemeHalts.{lexeme_remaining, malformed}
 use Rattle.nano_toml.specs.Scan.{after_one_quote, number_at, after_gaps}
-use Rattle.nano_toml.specs.ScanLaws.{lexeme_at, next_after_gaps}
+use Rattle.nano_toml.proofs.Scans.{lexeme_at, next_after_gaps}
 use Rattle.nano_toml.specs.Span.{begins}
 use Rattle.nano_toml.specs.Stops.{Breaks}
 use Rattle.nano_toml.specs.Taken.{a_token}
 use Rattle.nano_toml.proofs.ByteTests.{number_test, quote_test, some_test}
 use Rattle.nano_toml.proofs.CutLaws.{scanned_nothing}
 use Rattle.nano_toml.proofs.LexemeCut.{at_quote, number_lexeme, string_taken}
-use Rattle.nano_toml.proofs.LexemeHalts.{malformed}
 use Rattle.nano_toml.proofs.NextSteps.{no_punctuator_step}
 
 is_broken : (e : Fault) (text remaining : List ℕ) → (lexeme : Lexeme) × (e ≡ Malformed lexeme) → IsMalformed text remaining → Breaks e text remaining

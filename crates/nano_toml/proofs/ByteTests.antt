@@ -82,7 +82,3 @@ close_test = (refl, λ n h. other n 93 h (omega arith))
 
 pub equals_test : IsByteTest (λ c. c == 61)
 equals_test = (refl, λ n h. other n 61 h (omega arith))
-
--- a byte that is none of the ends of a plain run
-pub plain_byte : (b : ℕ) → b ≢ 34 → b ≢ 92 → b ≢ 0 → is_plain b ≡ true
-plain_byte b q s z = rw (ne_eqb b 34 q, ne_eqb b 92 s, ne_eqb b 0 z) refl

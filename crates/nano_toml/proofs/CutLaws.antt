@@ -5,7 +5,7 @@ use Rattle.nano_toml.specs.Taken.{Next, a_token, the_end, Took}
 use Rattle.nano_toml.specs.Skipped.{last_comment_text, IsLastComment}
 use Rattle.nano_toml.specs.Cut.{Cut, CutEnd, CutsNothing, IsCutInOneWay}
 use Rattle.nano_toml.specs.Scan.{Taken, taken, after_gaps}
-use Rattle.nano_toml.specs.ScanLaws.{lexeme_at, next_after_gaps, next_at}
+use Rattle.nano_toml.proofs.Scans.{lexeme_at, next_after_gaps, next_at}
 use Rattle.nano_toml.proofs.Gaps.{gaps_stop}
 use Rattle.nano_toml.proofs.GapCut.{gaps_scanned, last_comment_scanned, Skips, to_rest, to_end, skips}
 use Rattle.nano_toml.proofs.LexemeCut.{lexeme_scanned, scanned_lexeme, lexeme_no_gap}

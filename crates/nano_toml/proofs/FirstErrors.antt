@@ -4,8 +4,7 @@ use Rattle.std.proofs.lemmas.List.{nil_from_length, take_min}
 use Rattle.nano_toml.specs.Cut.{Cut, CutEnd, Lexeme, a_punctuator, a_word, a_string, a_number}
 use Rattle.nano_toml.specs.ErrorText.{Reports}
 use Rattle.nano_toml.specs.FirstError.{AreClosedStatements, CanBeginStatement, IsRejected, lexeme, token, end, IsFirstError, in_tokens, in_header, IsErrorAt}
-use Rattle.nano_toml.specs.Prefixes.{closed, is_open, nothing, Begins, Parses}
-use Rattle.nano_toml.specs.PrefixesLaws.{statement_prefix}
+use Rattle.nano_toml.specs.Prefixes.{closed, is_open, nothing, Begins, Parses, statement_prefix}
 use Rattle.nano_toml.specs.RemainingText.{before_nul, remaining_text, taken_count, taken}
 use Rattle.nano_toml.specs.Number.{sign_text, body_text}
 use Rattle.nano_toml.specs.Place.{line_of, column_of}

@@ -9,7 +9,7 @@ use Rattle.nano_toml.specs.Word.{word_token}
 use Rattle.nano_toml.specs.Quoted.{IsString, empty, short, triple}
 use Rattle.nano_toml.specs.Cut.{punctuator_token, Lexeme, a_punctuator, a_word, a_string, a_number}
 use Rattle.nano_toml.specs.Scan.{Taken, taken, Content, after_one_quote, number_at}
-use Rattle.nano_toml.specs.ScanLaws.{lexeme_at}
+use Rattle.nano_toml.proofs.Scans.{lexeme_at}
 use Rattle.nano_toml.proofs.WordCut.{word_scanned, scanned_word, at_word}
 use Rattle.nano_toml.proofs.StringCut.{string_scanned, scanned_string}
 use Rattle.nano_toml.proofs.NumberCut.{number_scanned, scanned_number, same_taken}

@@ -1,12 +1,12 @@
 -- Where the tokenizer stops in a text that begins with no lexeme.
-use Rattle.std.proofs.Common.{◌≡◌, ℕ, List, [], ◌∷◌, ◌++◌, Bool, true, false, Option, Some, None, refl, ap, sym, ◌∙◌, subst, append_assoc, append-nil, inl, inr}
+use Rattle.std.proofs.Common.{◌≡◌, ℕ, List, [], ◌∷◌, ◌++◌, Bool, true, false, Option, Some, None, refl, ap, sym, ◌∙◌, subst, append_assoc, append-nil, inl, inr, if◌then◌else◌}
 use Rattle.std.proofs.lemmas.Bool.Decides.{eqb_tells}
 use Rattle.nano_toml.specs.Characters.{is_quote, starts_word, starts_number}
 use Rattle.nano_toml.specs.Cut.{Lexeme, CutsNothing, punctuator_token}
 use Rattle.nano_toml.specs.FirstError.{CanBeginLexeme, IsMalformed}
-use Rattle.nano_toml.specs.RemainingLaws.{lexeme_remaining}
+use Rattle.nano_toml.specs.Remaining.{number_remaining}
 use Rattle.nano_toml.specs.Scan.{taken, Content, after_one_quote, after_gaps}
-use Rattle.nano_toml.specs.ScanLaws.{lexeme_at}
+use Rattle.nano_toml.proofs.Scans.{lexeme_at}
 use Rattle.nano_toml.specs.Skipped.{begins_gap, gaps_text}
 use Rattle.nano_toml.specs.Span.{begins}
 use Rattle.nano_toml.specs.Taken.{Next, a_token}
@@ -14,9 +14,17 @@ use Rattle.nano_toml.specs.Token.{Token, string, comma}
 use Rattle.nano_toml.proofs.Gaps.{after_no_gap}
 use Rattle.nano_toml.proofs.GapCut.{Skips, to_rest, to_end, skips}
 use Rattle.nano_toml.proofs.LexemeCut.{at_number, at_quote, at_other, number_lexeme, string_taken, punctuator_taken, lexeme_scanned, scanned_lexeme}
-use Rattle.nano_toml.proofs.NumberHalts.{number_halts}
+use Rattle.nano_toml.proofs.NumberHalts.{number_halts, first_unchanged}
 use Rattle.nano_toml.proofs.StringHalts.{string_completes}
 use Rattle.nano_toml.proofs.WordCut.{at_word}
+
+-- a string that is none goes up to the end of the text
+abbrev pub lexeme_remaining : List ℕ → List ℕ
+lexeme_remaining [] = []
+lexeme_remaining (c ∷ cs) =
+    if starts_number c then number_remaining (c ∷ cs)
+    else if is_quote c then []
+    else (c ∷ cs)
 
 -- the scan of a lexeme stops before what remains
 pub record LexemeHalts (text remaining : List ℕ) : Type 0 where
@@ -26,10 +34,6 @@ pub record LexemeHalts (text remaining : List ℕ) : Type 0 where
   pub next : Next
   pub whole : lexeme_at (prefix ++ more) ≡ Some (record { next = next; rest = [] })
   pub breaks : (c : ℕ) (cs after : List ℕ) → remaining ≡ c ∷ cs → lexeme_at (prefix ++ c ∷ after) ≡ None
-
-first_unchanged : (p : ℕ → Bool) (prefix more : List ℕ) → begins p prefix ≡ true → begins p (prefix ++ more) ≡ true
-first_unchanged p [] more h = cc h
-first_unchanged p (c ∷ cs) more h = h
 
 no_string : (content : Option Content) → string_taken content ≡ None → content ≡ None
 no_string None h = refl

@@ -1,4 +1,5 @@
 pub mod ArrayViews
+pub mod Scans
 pub mod SeparatorCut
 pub mod Broken
 pub mod BuildLemmas

@@ -5,7 +5,7 @@ use Rattle.nano_toml.specs.Cut.{Cut, Lexeme, a_punctuator, a_word, a_string, a_n
 use Rattle.nano_toml.specs.Number.{Body, is_nan, is_infinity, is_decimal, is_date, is_integer, body_token, is_minus}
 use Rattle.nano_toml.specs.Reading.{scalar_at}
 use Rattle.nano_toml.specs.Scan.{Taken, after_gaps}
-use Rattle.nano_toml.specs.ScanLaws.{next_after_gaps}
+use Rattle.nano_toml.proofs.Scans.{next_after_gaps}
 use Rattle.nano_toml.specs.Span.{begins}
 use Rattle.nano_toml.specs.Taken.{Next, a_token, token_of, Took}
 use Rattle.nano_toml.specs.Token.{ident, comma, open_bracket, close_bracket, equals}

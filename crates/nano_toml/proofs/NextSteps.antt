@@ -10,7 +10,7 @@ use Rattle.nano_toml.specs.Taken.{Next, a_token, token_of, Took}
 use Rattle.nano_toml.specs.Word.{word_token}
 use Rattle.nano_toml.specs.Cut.{punctuator_token, CutsNothing}
 use Rattle.nano_toml.specs.Scan.{Taken, after_one_quote, number_at}
-use Rattle.nano_toml.specs.ScanLaws.{next_after_gaps, next_at}
+use Rattle.nano_toml.proofs.Scans.{next_after_gaps, next_at}
 use Rattle.nano_toml.proofs.ByteTests.{start_test, number_test, quote_test, comma_test, open_test, close_test, equals_test, some_test}
 use Rattle.nano_toml.proofs.WordCut.{at_word}
 use Rattle.nano_toml.proofs.LexemeCut.{at_number, at_quote, at_other, string_taken, punctuator_taken}

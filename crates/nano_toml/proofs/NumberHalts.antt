@@ -1,12 +1,12 @@
 -- Where the scan of a number stops that is none: what was taken can be gone on with to a number,
 -- and with the next character it can't.
-use Rattle.std.proofs.Common.{◌≡◌, ℕ, List, [], ◌∷◌, ◌++◌, Bool, true, false, cond, ◌==◌, ◌||◌, Option, Some, None, option_map, refl, ap, sym, ◌∙◌, subst, append_assoc, append-nil, arith, inl, inr}
+use Rattle.std.proofs.Common.{◌≡◌, ℕ, List, [], ◌∷◌, ◌++◌, Bool, true, false, cond, ◌==◌, ◌||◌, Option, Some, None, option_map, refl, ap, sym, ◌∙◌, subst, append_assoc, append-nil, arith, inl, inr, codes}
 use Rattle.std.proofs.Math.Bool.{or-true}
 use Rattle.std.proofs.lemmas.Bool.Decides.{eqb_tells, nat_tests}
 use Rattle.nano_toml.specs.Characters.{is_sign, is_digit, starts_number, is_in_digits, Each}
 use Rattle.nano_toml.specs.Number.{digits, value, unchanged_sign}
 use Rattle.nano_toml.specs.Remaining.{point_remaining, word_remaining, unsigned_remaining, number_remaining}
-use Rattle.nano_toml.specs.Scan.{Taken, taken, any_digit, fitting, integer_from, integer_at, decimal_at, after_digits, number_from, after_word, word_at, n_a_n, i_n_f, after_sign, number_at}
+use Rattle.nano_toml.specs.Scan.{Taken, taken, any_digit, fitting, integer_from, integer_at, decimal_at, after_digits, number_from, after_word, word_at, after_sign, number_at}
 use Rattle.nano_toml.specs.Span.{begins, prefix, following}
 use Rattle.nano_toml.specs.Taken.{Next, a_token}
 use Rattle.nano_toml.specs.Token.{Token, nan, infinity, decimal}
@@ -29,7 +29,7 @@ same_first : (p : ℕ → Bool) (prefix after cs : List ℕ) (c : ℕ) → begin
 same_first p [] after cs c = refl
 same_first p (d ∷ ds) after cs c = refl
 
-first_unchanged : (p : ℕ → Bool) (prefix more : List ℕ) → begins p prefix ≡ true → begins p (prefix ++ more) ≡ true
+pub first_unchanged : (p : ℕ → Bool) (prefix more : List ℕ) → begins p prefix ≡ true → begins p (prefix ++ more) ≡ true
 first_unchanged p [] more h = cc h
 first_unchanged p (c ∷ cs) more h = h
 
@@ -230,9 +230,9 @@ run_stops minus text run (c ∷ cs) is b n i h =
 
 unsigned_halts : (minus : Bool) (text : List ℕ) → after_sign minus text ≡ None → Halts (after_sign minus) text (unsigned_remaining text)
 unsigned_halts minus text h = elim (begins (λ c. c == 110) text) as (λ (b : Bool). begins (λ c. c == 110) text ≡ b → Halts (after_sign minus) text (unsigned_remaining text)) [
-  | true ↦ λ n. rw n (word_stops minus (nan minus) n_a_n text (λ t p q. rw p refl) n (not_both 110 105 text refl n) (letter_first 110 text refl n) (rw n at h))
-  | false ↦ λ n. rw n (elim (begins (λ c. c == 105) text) as (λ (b : Bool). begins (λ c. c == 105) text ≡ b → Halts (after_sign minus) text (cond b (word_remaining i_n_f text) (point_remaining (following is_in_digits text)))) [
-    | true ↦ λ i. word_stops minus (infinity minus) i_n_f text (λ t p q. rw (p, q) refl) n i (letter_first 105 text refl i) (rw (n, i) at h)
+  | true ↦ λ n. rw n (word_stops minus (nan minus) (codes "nan") text (λ t p q. rw p refl) n (not_both 110 105 text refl n) (letter_first 110 text refl n) (rw n at h))
+  | false ↦ λ n. rw n (elim (begins (λ c. c == 105) text) as (λ (b : Bool). begins (λ c. c == 105) text ≡ b → Halts (after_sign minus) text (cond b (word_remaining (codes "inf") text) (point_remaining (following is_in_digits text)))) [
+    | true ↦ λ i. word_stops minus (infinity minus) (codes "inf") text (λ t p q. rw (p, q) refl) n i (letter_first 105 text refl i) (rw (n, i) at h)
     | false ↦ λ i. run_stops minus text (prefix is_in_digits text) (following is_in_digits text) refl refl n i (rw (n, i) at h)
   ] refl)
 ] refl

@@ -2,8 +2,7 @@
 use Rattle.std.proofs.Common.{◌≡◌, ℕ, List, [], ◌∷◌, ◌++◌, false, sym, refl, ap, ◌∙◌, subst, append_assoc, append-nil, inl}
 use Rattle.nano_toml.specs.Cut.{Cut, Lexeme, Tokens}
 use Rattle.nano_toml.specs.FirstError.{CanBeginLexeme, IsMalformed, CanBeginStatements, CanBeginStatement, IsRejected, lexeme, token, end, AreClosedStatements, IsFirstError, in_tokens, in_header, HasOneFirstError}
-use Rattle.nano_toml.specs.Prefixes.{closed, Begins}
-use Rattle.nano_toml.specs.PrefixesLaws.{statement_prefix}
+use Rattle.nano_toml.specs.Prefixes.{closed, Begins, statement_prefix}
 use Rattle.nano_toml.specs.Scan.{after_gaps}
 use Rattle.nano_toml.specs.Statements.{Statement, scope, element, pair, IsClosed, IsStatement, AreStatements}
 use Rattle.nano_toml.specs.StatementTable.{IsLawful, EncodesNoTable, last_value, until_element, pairs}

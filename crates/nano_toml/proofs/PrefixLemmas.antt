@@ -3,8 +3,7 @@
 use Rattle.std.proofs.Common.{◌≡◌, pos, List, [], ◌∷◌, ◌++◌, Some, sym, refl, ap, ◌∙◌, subst, inl, inr, append_assoc, append-nil}
 use Rattle.nano_toml.specs.Data.{Data, Values, no_values, more_values}
 use Rattle.nano_toml.specs.Data as value
-use Rattle.nano_toml.specs.Prefixes.{Prefix, closed, is_open, nothing, push_value, close_all}
-use Rattle.nano_toml.specs.PrefixesLaws.{array_prefix, value_prefix}
+use Rattle.nano_toml.specs.Prefixes.{Prefix, closed, is_open, nothing, push_value, close_all, array_prefix, value_prefix}
 use Rattle.nano_toml.specs.Statements.{scalar_of, Commas, IsClosed, AreClosed, IsOpen, AreOpen}
 use Rattle.nano_toml.specs.Token.{Token, ident, string, unsigned, signed, decimal, boolean, nan, infinity, date, equals, open_bracket, close_bracket, comma}
 
@@ -226,25 +225,6 @@ IsPrefix-step us t nothing ts k = tt
 
 closed_array : (us ts : List Token) (here : Values) → InArrays us [] here → IsPrefix us (closed (value.values here) ts) (close_bracket ∷ ts)
 closed_array us ts here (inside, a, e) = (close_bracket ∷ [], refl, (inside, a, ap (λ ws. ws ++ close_bracket ∷ []) e))
-
-scalar_closed : (t : Token) (d : Data) → scalar_of t ≡ Some d → IsClosed (t ∷ []) d
-scalar_closed t (value.text s) e = (t, e, refl)
-scalar_closed t (value.boolean b) e = (t, e, refl)
-scalar_closed t (value.number n) e = (t, e, refl)
-scalar_closed t (value.decimal s) e = (t, e, refl)
-scalar_closed t (value.nan b) e = (t, e, refl)
-scalar_closed t (value.infinity b) e = (t, e, refl)
-scalar_closed t (value.date s) e = (t, e, refl)
-scalar_closed t (value.tables ts) e = (t, e, refl)
-scalar_closed (string s) (value.values vs) e = absurd (cc)
-scalar_closed (unsigned n) (value.values vs) e = absurd (cc)
-scalar_closed (signed n) (value.values vs) e = absurd (cc)
-scalar_closed (decimal s) (value.values vs) e = absurd (cc)
-scalar_closed (boolean b) (value.values vs) e = absurd (cc)
-scalar_closed (nan b) (value.values vs) e = absurd (cc)
-scalar_closed (infinity b) (value.values vs) e = absurd (cc)
-scalar_closed (date s) (value.values vs) e = absurd (cc)
-scalar_closed _ (value.values vs) e = absurd (cc)
 
 array_prefix_found : (ts us : List Token) (outer : List Values) (here : Values) → InArrays us outer here → IsPrefix us (array_prefix outer here ts) ts
 array_prefix_found [] us outer here a = subst (λ (ws : List Token). IsOpen ws (close_all outer here)) (sym (append-nil us)) (close_all-open us outer here (InArrays-open us outer here a))

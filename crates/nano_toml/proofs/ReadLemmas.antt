@@ -1,10 +1,9 @@
 -- Reading on from one token to the next.
-use Rattle.std.proofs.Common.{◌≡◌, ℕ, ◌<◌, ◌≤◌, List, [], ◌∷◌, ◌++◌, length, Some, None, sym, refl, ap, ◌∙◌, subst, arith, append_assoc, append-nil, inl, inr}
+use Rattle.std.proofs.Common.{◌≡◌, ℕ, ◌≤◌, List, [], ◌∷◌, ◌++◌, length, Some, None, sym, refl, ap, ◌∙◌, subst, arith, append_assoc, append-nil, inl, inr}
 use Rattle.nano_toml.specs.Built.{IsPlain}
 use Rattle.nano_toml.specs.Cut.{Cut, CutEnd, CutsNothing, Tokens}
 use Rattle.nano_toml.specs.Data.{Data, Values}
-use Rattle.nano_toml.specs.Prefixes.{Prefix, closed, is_open, nothing, push_value, Begins, Parses, ParsesNothing, ClosesNothing}
-use Rattle.nano_toml.specs.PrefixesLaws.{array_prefix, value_prefix, pair_of, statement_prefix, closing}
+use Rattle.nano_toml.specs.Prefixes.{Prefix, closed, is_open, nothing, push_value, Begins, Parses, ParsesNothing, ClosesNothing, array_prefix, value_prefix, pair_of, statement_prefix, closing}
 use Rattle.nano_toml.specs.Reading.{scalar_at, IsNext, EncodesNothing}
 use Rattle.nano_toml.specs.Statements.{Statement, pair, Encodes, AreStatements}
 use Rattle.nano_toml.specs.StatementTable.{IsLawful, EncodesNoTable}
@@ -120,18 +119,9 @@ not_at_end text rest (a_token t) h k e = (cut_in_one_way text).1 t rest k e
 not_at_end text rest the_end h k e = h refl
 not_at_end text rest nothing_yet h k e = k
 
-Took-shorter : (text rest : List ℕ) (n : Next) → (n ≡ the_end → ⊥) → Took text n rest → length rest < length text
-Took-shorter text rest (a_token t) h k = Cut-shorter text t rest k
-Took-shorter text rest the_end h k = absurd (h refl)
-Took-shorter text rest nothing_yet h k = absurd k
-
 no_end : (t : TomlTok) → (t ≡ tok.Eof → ⊥) → token_of t ≡ the_end → ⊥
 no_end tok.Eof h e = h refl
 no_end _ h e = cc
-
--- a token but the end is shorter
-pub token_shorter : (text rest : List ℕ) (t : TomlTok) → (t ≡ tok.Eof → ⊥) → Took text (token_of t) rest → length rest < length text
-token_shorter text rest t h k = Took-shorter text rest (token_of t) (no_end t h) k
 
 pub token_not_at_end : (text rest : List ℕ) (t : TomlTok) → (t ≡ tok.Eof → ⊥) → Took text (token_of t) rest → CutEnd text → ⊥
 token_not_at_end text rest t h k e = not_at_end text rest (token_of t) (no_end t h) k e
@@ -166,18 +156,7 @@ ParsesNothing-closing f text none [] k = refl
 ParsesNothing-closing f text none (t ∷ ts) k =
     not_close f t ts (λ e. none k.0 (subst (λ (u : Token). Cut text u k.0) e k.1))
 
-pub ClosesNothing-took : (text rest : List ℕ) (n : Next) → Took text n rest → (n ≡ a_token close_bracket → ⊥) → ClosesNothing text
-ClosesNothing-took text rest (a_token t) k none other c = none (ap a_token ((cut_in_one_way text).0 t close_bracket rest other k c).0)
-ClosesNothing-took text rest the_end k none other c = (cut_in_one_way text).1 close_bracket other c k.0
-ClosesNothing-took text rest nothing_yet k none other c = k
-
-pub ClosesNothing-cut : (text : List ℕ) → CutsNothing text → ClosesNothing text
-ClosesNothing-cut text n rest c = n.0 close_bracket rest c
-
 -- ---- pairs
-
-pair_of-closed : (name : List ℕ) (prefix : Prefix Data) (d : Data) (more : List Token) → prefix ≡ closed d more → pair_of name prefix ≡ closed (pair name d) more
-pair_of-closed name prefix d more e = ap (pair_of name) e
 
 pub Parses-pair : (name text rest : List ℕ) (d : Data) → Parses value_prefix text d rest → Parses (λ ts. pair_of name (value_prefix ts)) text (pair name d) rest
 Parses-pair name text rest d (inl (ts, b, e)) = inl (ts, b, λ more. ap (pair_of name) (e more))

@@ -4,7 +4,7 @@ use Rattle.nano_toml.specs.Characters.{starts_word, starts_number, is_quote}
 use Rattle.nano_toml.specs.Cut.{Cut, Lexeme, a_punctuator, a_word, a_string, a_number, punctuator_token}
 use Rattle.nano_toml.specs.Number.{Body, is_nan, is_infinity, is_decimal, is_date, is_integer, body_token, is_minus}
 use Rattle.nano_toml.specs.Scan.{tail, after_gaps}
-use Rattle.nano_toml.specs.ScanLaws.{next_after_gaps}
+use Rattle.nano_toml.proofs.Scans.{next_after_gaps}
 use Rattle.nano_toml.specs.Span.{begins}
 use Rattle.nano_toml.specs.Taken.{a_token, token_of, Took}
 use Rattle.nano_toml.specs.Token.{Token, nan, infinity, boolean, ident, comma, open_bracket, close_bracket, equals}

@@ -2,8 +2,7 @@
 use Rattle.std.proofs.Common.{◌≡◌, ℕ, Some, List, [], ◌∷◌, ◌++◌, sym, refl, ap, ◌∙◌, subst, inl, inr, ◌⊎◌, append-nil}
 use Rattle.nano_toml.specs.Built.{IsPlain}
 use Rattle.nano_toml.specs.Data.{Data, Tables, tables}
-use Rattle.nano_toml.specs.Prefixes.{Prefix, closed, is_open, nothing}
-use Rattle.nano_toml.specs.PrefixesLaws.{value_prefix, pair_of, pair_prefix, scope_prefix, element_prefix, header_prefix, statement_prefix}
+use Rattle.nano_toml.specs.Prefixes.{Prefix, closed, is_open, nothing, value_prefix, pair_of, pair_prefix, scope_prefix, element_prefix, header_prefix, statement_prefix}
 use Rattle.nano_toml.specs.Statements.{scalar_of, IsClosed, IsOpen, Statement, scope, element, pair, IsName, IsStatement, AreStatements}
 use Rattle.nano_toml.specs.Token.{Token, ident, string, unsigned, signed, decimal, boolean, nan, infinity, date, equals, open_bracket, close_bracket}
 use Rattle.nano_toml.proofs.PrefixLemmas.{value_prefix-closed, value_prefix-open, value_prefix_found, IsPrefix}

@@ -2,11 +2,9 @@
 use Rattle.std.proofs.Common.{◌≡◌, ◌≢◌, ℕ, List, [], ◌∷◌, ◌++◌, sym, refl, ap, ◌∙◌, subst, append_assoc, true}
 use Rattle.nano_toml.specs.Cut.{Cut}
 use Rattle.nano_toml.specs.Data.{Values, values}
-use Rattle.nano_toml.specs.Prefixes.{Prefix, closed, nothing, push_value, ClosesNothing, ParsesNothing}
-use Rattle.nano_toml.specs.PrefixesLaws.{array_prefix, value_prefix, pair_of, pair_prefix, scope_prefix, element_prefix, header_prefix, statement_prefix, closing}
+use Rattle.nano_toml.specs.Prefixes.{Prefix, closed, nothing, push_value, ClosesNothing, ParsesNothing, array_prefix, value_prefix, pair_of, pair_prefix, element_prefix, header_prefix, statement_prefix, closing, close_prefix}
 use Rattle.nano_toml.specs.Statements.{pair}
 use Rattle.nano_toml.specs.Stops.{Fails, StandsNext, Breaks, Rejects, CanFind, Stops}
-use Rattle.nano_toml.specs.StopsLaws.{close_prefix}
 use Rattle.nano_toml.specs.Taken.{Next, a_token, the_end, nothing_yet, token_of, Took}
 use Rattle.nano_toml.specs.Token.{Token, ident, string, boolean, equals, close_bracket, open_bracket}
 use Rattle.nano_toml.specs.declared.fault.Fault.{Fault}
@@ -25,9 +23,6 @@ can_find_value = (boolean true, [], _, refl)
 
 pub can_find_pair : (name : List ℕ) → CanFind (pair_prefix name)
 can_find_pair name = (equals, boolean true ∷ [], _, refl)
-
-pub can_find_scope : (name : List ℕ) → CanFind (scope_prefix name)
-can_find_scope name = (close_bracket, [], _, refl)
 
 pub can_find_element : CanFind element_prefix
 can_find_element = (ident [], close_bracket ∷ close_bracket ∷ [], _, refl)

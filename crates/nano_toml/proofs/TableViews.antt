@@ -216,13 +216,6 @@ length-from_values_view (x ∷ xs) [] e = absurd (cc)
 length-from_values_view (x ∷ xs) (y ∷ ys) e =
     let t : values_view xs ≡ values_view ys = cc in ap suc (length-from_values_view xs ys t)
 
-pub place-from_values_view : (xs ys : List Toml) → values_view xs ≡ values_view ys → (k : ℕ) (d : Toml) → view (get_or xs k d) ≡ view (get_or ys k d)
-place-from_values_view [] [] e k d = refl
-place-from_values_view [] (y ∷ ys) e k d = absurd (cc)
-place-from_values_view (x ∷ xs) [] e k d = absurd (cc)
-place-from_values_view (x ∷ xs) (y ∷ ys) e zero d = cc
-place-from_values_view (x ∷ xs) (y ∷ ys) e (suc k) d = let t : values_view xs ≡ values_view ys = cc in place-from_values_view xs ys t k d
-
 abbrev pub Map : Type 0
 Map = HashMap (String Global) Toml (BuildHasherDefault FoldHasher)
 
@@ -241,13 +234,6 @@ length-from_tables_view [] (y ∷ ys) e = absurd (cc)
 length-from_tables_view (x ∷ xs) [] e = absurd (cc)
 length-from_tables_view (x ∷ xs) (y ∷ ys) e =
     let t : tables_view xs ≡ tables_view ys = cc in ap suc (length-from_tables_view xs ys t)
-
-pub place-from_tables_view : (xs ys : List Map) → tables_view xs ≡ tables_view ys → (k : ℕ) (d : Map) → table_view (get_or xs k d).entries ≡ table_view (get_or ys k d).entries
-place-from_tables_view [] [] e k d = refl
-place-from_tables_view [] (y ∷ ys) e k d = absurd (cc)
-place-from_tables_view (x ∷ xs) [] e k d = absurd (cc)
-place-from_tables_view (x ∷ xs) (y ∷ ys) e zero d = cc
-place-from_tables_view (x ∷ xs) (y ∷ ys) e (suc k) d = let t : tables_view xs ≡ tables_view ys = cc in place-from_tables_view xs ys t k d
 
 pub value_here : (xs ys : List Toml) (k : ℕ) (d e : Toml) → values_view xs ≡ values_view ys → k < length xs → view (get_or xs k d) ≡ view (get_or ys k e)
 value_here [] ys k d e h l = absurd (omega arith)

@@ -1,23 +1,12 @@
 -- Where a token may not stand.
-use Rattle.std.proofs.Common.{◌≡◌, ℕ, List, String, Global, None, refl}
+use Rattle.std.proofs.Common.{◌≡◌, List, String, Global, None, refl}
 use Rattle.nano_toml.specs.Data.{Values}
-use Rattle.nano_toml.specs.PrefixesLaws.{array_prefix, value_prefix, pair_prefix, element_prefix, header_prefix, statement_prefix}
+use Rattle.nano_toml.specs.Prefixes.{array_prefix, value_prefix, element_prefix, header_prefix, statement_prefix}
 use Rattle.nano_toml.specs.Reading.{scalar_at}
 use Rattle.nano_toml.specs.Stops.{Fails}
-use Rattle.nano_toml.specs.Taken.{a_token, token_of}
-use Rattle.nano_toml.specs.Token.{close_bracket}
+use Rattle.nano_toml.specs.Taken.{token_of}
 use Rattle.nano_toml.specs.declared.token.TomlTok.{TomlTok}
 use Rattle.nano_toml.specs.declared.token.TomlTok.TheVariants as tok
-
-pub no_close : (t : TomlTok) → (t ≡ tok.BlockClose → ⊥) → token_of t ≡ a_token close_bracket → ⊥
-no_close tok.BlockClose h e = h refl
-no_close _ h e = cc
-
-pub no_pair : (name : List ℕ) (t : TomlTok) → (t ≡ tok.Equals → ⊥) → Fails (pair_prefix name) (token_of t)
-no_pair name tok.Equals h = absurd (h refl)
-no_pair name tok.Eof h = refl
-no_pair name tok.Bof h = tt
-no_pair name _ h = λ more. refl
 
 pub no_element : (t : TomlTok) → ((key : String Global) → t ≡ tok.Ident key → ⊥) → Fails element_prefix (token_of t)
 no_element (tok.Ident key) h = absurd (h key refl)

@@ -1,9 +1,13 @@
 -- The value of digits, built as they are taken.
-use Rattle.std.proofs.Common.{◌≡◌, ℕ, ◌+◌, ◌-◌, ◌*◌, ◌^◌, ◌≤◌, nat_lt, List, [], ◌∷◌, Bool, true, false, cond, Some, None, refl, sym, ◌∙◌, arith}
+use Rattle.std.proofs.Common.{◌≡◌, ℕ, ◌+◌, ◌-◌, ◌*◌, ◌^◌, ◌≤◌, nat_lt, List, [], ◌∷◌, Bool, true, false, cond, Option, Some, None, refl, sym, ◌∙◌, arith}
 use Rattle.std.proofs.lemmas.Bool.Decides.{nat_tests}
 use Rattle.nano_toml.specs.Number.{value_from}
 use Rattle.nano_toml.specs.Scan.{fitting, more_value}
-use Rattle.nano_toml.specs.ScanLaws.{value_at}
+
+-- the value with more digits
+abbrev pub value_at : Option ℕ → List ℕ → Option ℕ
+value_at size [] = size
+value_at size (c ∷ cs) = value_at (more_value size c) cs
 
 -- a value that is too large remains too large
 value_none : (ds : List ℕ) → value_at None ds ≡ None

@@ -5,7 +5,7 @@ use Rattle.nano_toml.specs.Characters.{starts_word, is_in_word, Each}
 use Rattle.nano_toml.specs.Span.{begins, prefix, following}
 use Rattle.nano_toml.specs.Word.{IsWord, word_token}
 use Rattle.nano_toml.specs.Cut.{Lexeme, a_word}
-use Rattle.nano_toml.specs.ScanLaws.{lexeme_at}
+use Rattle.nano_toml.proofs.Scans.{lexeme_at}
 use Rattle.nano_toml.specs.Scan.{taken}
 use Rattle.nano_toml.proofs.Spans.{prefix_again, after_again, span_split, after_stops, prefix_passes}
 

@@ -8,7 +8,7 @@ abbrev pub as_text : Data → Option (List ℕ)
 as_text (text s) = Some s
 as_text _ = None
 
--- a truth value itself
+-- a boolean itself
 abbrev pub as_boolean : Data → Option Bool
 as_boolean (boolean b) = Some b
 as_boolean _ = None

@@ -1,8 +1,8 @@
 -- What remains of a text that begins with no lexeme where the tokenizer stops in it, as a function
 -- of the text. Contracts of private functions alone name it.
-use Rattle.std.specs.Prelude.{ℕ, ◌==◌, List, [], ◌∷◌, if◌then◌else◌}
+use Rattle.std.specs.Prelude.{ℕ, ◌==◌, List, [], ◌∷◌, if◌then◌else◌, codes}
 use Rattle.nano_toml.specs.Characters.{is_sign, is_in_digits}
-use Rattle.nano_toml.specs.Scan.{tail, n_a_n, i_n_f}
+use Rattle.nano_toml.specs.Scan.{tail}
 use Rattle.nano_toml.specs.Span.{following, begins}
 
 -- after a point and the digits after it, if there is a point
@@ -19,8 +19,8 @@ word_remaining (w ∷ ws) (c ∷ cs) = if c == w then word_remaining ws cs else 
 -- in a number without its sign
 abbrev pub unsigned_remaining : List ℕ → List ℕ
 unsigned_remaining text =
-    if begins (λ c. c == 110) text then word_remaining n_a_n text
-    else if begins (λ c. c == 105) text then word_remaining i_n_f text
+    if begins (λ c. c == 110) text then word_remaining (codes "nan") text
+    else if begins (λ c. c == 105) text then word_remaining (codes "inf") text
     else point_remaining (following is_in_digits text)
 
 -- in a number

@@ -2,7 +2,7 @@
 -- functions name it; lemmas prove that it agrees with the cut.
 use Rattle.std.specs.Prelude.{ℕ, ◌+◌, ◌-◌, ◌*◌, ◌^◌, ◌==◌, ◌||◌, nat_lt, nat_le, pos, neg_ℤ, Bool}
 use Rattle.std.specs.Prelude.{true, false, List, [], ◌∷◌, ◌++◌, length, encode_utf8, Option, Some}
-use Rattle.std.specs.Prelude.{None, option_map, if◌then◌else◌}
+use Rattle.std.specs.Prelude.{None, option_map, if◌then◌else◌, codes}
 use Rattle.nano_toml.specs.Characters.{is_space, is_line_feed, is_quote, is_digit, is_sign}
 use Rattle.nano_toml.specs.Characters.{is_in_digits, is_in_date}
 use Rattle.nano_toml.specs.Span.{prefix, following, begins}
@@ -137,17 +137,11 @@ abbrev pub word_at : Token → List ℕ → List ℕ → Option Taken
 word_at token word text =
     option_map (λ rest. record { next = a_token token; rest = rest }) (after_word word text)
 
-abbrev pub n_a_n : List ℕ
-n_a_n = 110 ∷ (97 ∷ (110 ∷ []))
-
-abbrev pub i_n_f : List ℕ
-i_n_f = 105 ∷ (110 ∷ (102 ∷ []))
-
 -- after a sign, if there is one
 abbrev pub after_sign : Bool → List ℕ → Option Taken
 after_sign minus text =
-    if begins (λ c. c == 110) text then word_at (nan minus) n_a_n text
-    else if begins (λ c. c == 105) text then word_at (infinity minus) i_n_f text
+    if begins (λ c. c == 110) text then word_at (nan minus) (codes "nan") text
+    else if begins (λ c. c == 105) text then word_at (infinity minus) (codes "inf") text
     else number_from minus text
 
 abbrev pub number_at : List ℕ → Option Taken

@@ -1,18 +1,52 @@
 //! Reads values: scalars and arrays.
 
-ghost use Rattle.std.specs.Prelude.{[]};
+ghost use Rattle.std.specs.Prelude.{◌≡◌, [], IfOk, IfErr, Some, None};
 ghost use Rattle.nano_toml.specs.Data.{no_values};
-ghost use Rattle.nano_toml.specs.Prefixes.{ParsesNothing};
-ghost use Rattle.nano_toml.specs.PrefixesLaws.{array_prefix, value_prefix};
+ghost use Rattle.nano_toml.specs.Prefixes.{ParsesNothing, close_all, array_prefix, value_prefix};
 ghost use Rattle.nano_toml.specs.RemainingText.{remaining};
 ghost use Rattle.nano_toml.specs.Outcomes.{OnFault, ParsesValue};
+ghost use Rattle.nano_toml.specs.Reading.{scalar_at, arrays_view};
 ghost use Rattle.nano_toml.specs.Stops.{StopsAt};
+ghost use Rattle.nano_toml.specs.Taken.{token_of};
+ghost use Rattle.nano_toml.specs.View.{view, values_view};
 
 use crate::fault::Fault;
-use crate::statements::{Reader, close_all, scalar};
+use crate::statements::Reader;
 use crate::token::TomlTok;
 use crate::value::Toml;
+use std::alloc::AllocFailed;
 use std::mem;
+
+// The value that is one token, or the token again.
+fn scalar(tok: TomlTok) -> Result<Toml, TomlTok>
+    ensures found { IfOk result (λ value. scalar_at (token_of tok) ≡ Some (view value)) }
+    ensures rejected { IfErr result (λ _. scalar_at (token_of tok) ≡ None) }
+    ensures same { IfErr result (λ again. again ≡ tok) }
+{
+    match tok {
+        TomlTok::Str(text) => Ok(Toml::Str(text)),
+        TomlTok::U64(number) => Ok(Toml::Num(i128::from(number))),
+        TomlTok::I64(number) => Ok(Toml::Num(i128::from(number))),
+        TomlTok::F64(text) => Ok(Toml::Dec(text)),
+        TomlTok::Bool(value) => Ok(Toml::Bool(value)),
+        TomlTok::Nan(minus) => Ok(Toml::Nan(minus)),
+        TomlTok::Inf(minus) => Ok(Toml::Inf(minus)),
+        TomlTok::Date(text) => Ok(Toml::Date(text)),
+        tok => Err(tok),
+    }
+}
+
+// Closes the arrays around an array, the innermost first.
+fn close_all(mut outer: Vec<Vec<Toml>>, mut here: Vec<Toml>) -> Result<Toml, AllocFailed<Toml>>
+    ensures { IfOk result
+        (λ value. view value ≡ close_all (arrays_view outer.items []) (values_view here.items)) }
+{
+    'arrays: while let Some(mut around) = outer.pop() {
+        around.push(Toml::SimpleArray(here))?;
+        here = around;
+    }
+    Ok(Toml::SimpleArray(here))
+}
 
 impl<'a> Reader<'a> {
     // The rest of an array after its bracket. The arrays that are still open stand in a vector, so

@@ -23,7 +23,7 @@ pub struct TomlErr {
     pub line: usize,
     /// How many characters of its line stand before the place.
     pub col: usize,
-    /// Whether memory was wanted, which says nothing of the text.
+    /// Whether memory ran out, which says nothing of the text.
     pub memory: bool,
 }
 

@@ -1,4 +1,4 @@
-//! Reads TOML: a small dialect, whose values are texts, truth values, whole numbers, decimals,
+//! Reads TOML: a small dialect, whose values are texts, booleans, whole numbers, decimals,
 //! dates and arrays of these, and tables in arrays.
 #![tactic(auto)]
 

@@ -1,10 +1,10 @@
 //! The numbers that words name: `nan` and `inf`.
 
-ghost use Rattle.std.specs.Prelude.{◌≡◌, ◌≢◌, None};
+ghost use Rattle.std.specs.Prelude.{◌≡◌, ◌≢◌, None, codes};
 ghost use Rattle.nano_toml.specs.RemainingText.{remaining};
 ghost use Rattle.nano_toml.specs.Outcomes.{OnFault, FaultIs, Takes, ReportsLexeme};
 ghost use Rattle.nano_toml.specs.Remaining.{word_remaining};
-ghost use Rattle.nano_toml.specs.Scan.{n_a_n, i_n_f, word_at};
+ghost use Rattle.nano_toml.specs.Scan.{word_at};
 ghost use Rattle.nano_toml.specs.Token.{nan, infinity};
 
 use crate::fault::{Fault, Lexeme};
@@ -14,10 +14,13 @@ use crate::token::TomlTok;
 impl<'a> Cursor<'a> {
     /// Reads `nan`.
     pub(crate) fn read_nan(&mut self, minus: bool) -> Result<TomlTok, Fault>
-        ensures found { Takes result (word_at (nan minus) n_a_n (remaining self.old)) (remaining self.new) }
-        ensures rejected { OnFault result (word_at (nan minus) n_a_n (remaining self.old) ≡ None) }
+        ensures found { Takes result
+            (word_at (nan minus) (codes "nan") (remaining self.old)) (remaining self.new) }
+        ensures rejected { OnFault result
+            (word_at (nan minus) (codes "nan") (remaining self.old) ≡ None) }
         ensures reported { FaultIs result (Fault.Malformed Lexeme.Nan) }
-        ensures remaining { OnFault result (remaining self.new ≡ word_remaining n_a_n (remaining self.old)) }
+        ensures remaining { OnFault result
+            (remaining self.new ≡ word_remaining (codes "nan") (remaining self.old)) }
     {
         if self.take(b'n') && self.take(b'a') && self.take(b'n') {
             Ok(TomlTok::Nan(minus))
@@ -29,10 +32,12 @@ impl<'a> Cursor<'a> {
     /// Reads `inf`.
     pub(crate) fn read_infinity(&mut self, minus: bool) -> Result<TomlTok, Fault>
         ensures found { Takes result
-            (word_at (infinity minus) i_n_f (remaining self.old)) (remaining self.new) }
-        ensures rejected { OnFault result (word_at (infinity minus) i_n_f (remaining self.old) ≡ None) }
+            (word_at (infinity minus) (codes "inf") (remaining self.old)) (remaining self.new) }
+        ensures rejected { OnFault result
+            (word_at (infinity minus) (codes "inf") (remaining self.old) ≡ None) }
         ensures reported { ReportsLexeme result }
-        ensures remaining { OnFault result (remaining self.new ≡ word_remaining i_n_f (remaining self.old)) }
+        ensures remaining { OnFault result
+            (remaining self.new ≡ word_remaining (codes "inf") (remaining self.old)) }
     {
         if !self.take(b'i') || !self.take(b'n') {
             Err(Fault::Malformed(Lexeme::Nan))

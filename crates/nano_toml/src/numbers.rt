@@ -174,7 +174,8 @@ impl<'a> Cursor<'a> {
     fn read_sign(&mut self) -> bool
         ensures minus { result ≡ begins (λ c. c == 45) (remaining self.old) }
         ensures rest { remaining self.new
-            ≡ (if begins is_sign (remaining self.old) then tail (remaining self.old) else remaining self.old) }
+            ≡ (if begins is_sign (remaining self.old)
+            then tail (remaining self.old) else remaining self.old) }
     {
         let first = self.first();
         let minus = first == b'-';
@@ -270,7 +271,8 @@ impl<'a> Cursor<'a> {
         ensures found { Takes result (number_at (remaining self.old)) (remaining self.new) }
         ensures rejected { OnFault result (number_at (remaining self.old) ≡ None) }
         ensures reported { ReportsLexeme result }
-        ensures remaining { OnFault result (remaining self.new ≡ number_remaining (remaining self.old)) }
+        ensures remaining { OnFault result
+            (remaining self.new ≡ number_remaining (remaining self.old)) }
     {
         let minus = self.read_sign();
         let first = self.first();

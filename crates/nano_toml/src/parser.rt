@@ -18,12 +18,9 @@ use crate::value::Toml;
 use std::alloc::{AllocError, Global};
 use std::collections::HashMap;
 
-/// A parser for TOML texts.
+/// A parser for TOML texts, which are read by [`TomlParser::parse`].
 #[derive(Default, Drop)]
-pub struct TomlParser {
-    // where it stands in the text
-    place: Place,
-}
+pub struct TomlParser;
 
 // The table that a text encodes.
 fn read_table(reader: &mut Reader) -> Result<Table, Fault>
@@ -60,7 +57,8 @@ fn message(alloc: Global, fault: Fault) -> Result<String, AllocError>
     }
 }
 
-// The error of a fault that was found where the reader of the text stands.
+// The error of a fault that was found where the reader of the text stands. If the allocation of its
+// message fails, the error is out of memory.
 fn error_at(input: &str, reader: &Reader, fault: Fault) -> TomlErr
     ensures line { result.line ≡ line_of (taken input.now (remaining reader.now.cursor)) }
     ensures col { result.col ≡ column_of (taken input.now (remaining reader.now.cursor)) }
@@ -68,30 +66,19 @@ fn error_at(input: &str, reader: &Reader, fault: Fault) -> TomlErr
     ensures empty { result.memory ≡ true → string_bytes result.msg ≡ [] }
 {
     let place = Place::following(input, reader.cursor.taken(input));
-    TomlParser { place }.error(reader.alloc, fault)
+    let (msg, memory) = match message(reader.alloc, fault) {
+        Ok(msg) => (msg, false),
+        Err(_) => (String::new(reader.alloc), true),
+    };
+    TomlErr {
+        msg,
+        line: place.line,
+        col: place.col,
+        memory,
+    }
 }
 
 impl TomlParser {
-    // The error of a fault that was found here. If the allocation of its message fails, the
-    // error is out of memory.
-    fn error(self, alloc: Global, fault: Fault) -> TomlErr
-        ensures line { result.line ≡ self.place.line }
-        ensures col { result.col ≡ self.place.col }
-        ensures reported { result.memory ≡ false → Reports fault (string_bytes result.msg) }
-        ensures empty { result.memory ≡ true → string_bytes result.msg ≡ [] }
-    {
-        let (msg, memory) = match message(alloc, fault) {
-            Ok(msg) => (msg, false),
-            Err(_) => (String::new(alloc), true),
-        };
-        TomlErr {
-            msg,
-            line: self.place.line,
-            col: self.place.col,
-            memory,
-        }
-    }
-
     /// The table that a text encodes.
     ///
     /// It is answered exactly where the text, before its first NUL, is a list of lawful statements:
@@ -106,7 +93,7 @@ impl TomlParser {
     /// # Errors
     ///
     /// The error says why there is no table, and where that was found; or, with `memory`, that
-    /// memory was wanted. Where it is of the text, it is the first one, and its place is after all
+    /// memory ran out. Where it is of the text, it is the first one, and its place is after all
     /// that was taken and the one character that stands next: after a token that can't stand
     /// there, after what can begin a lexeme that goes on wrong, or after a header `[[key]]` on a
     /// key that a pair gave. The text ends at its first NUL, which is the character that stands

@@ -4,7 +4,7 @@ ghost use Rattle.std.specs.Prelude.{◌≡◌, chars, take};
 ghost use Rattle.nano_toml.specs.Place.{line_of, column_of};
 
 /// A place in a text.
-#[derive(Clone, Copy, Default)]
+#[derive(Clone, Copy)]
 pub(crate) struct Place {
     /// How many line feeds stand before it.
     pub(crate) line: usize,

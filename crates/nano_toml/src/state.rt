@@ -36,7 +36,8 @@ fn is_space(c: u8) -> bool
 
 /// The token of one character, if it is one.
 fn punctuator(c: u8) -> Option<TomlTok>
-    ensures { option_map (λ t. token_of t) result ≡ option_map (λ t. a_token t) (punctuator_token c) }
+    ensures { option_map (λ t. token_of t) result
+        ≡ option_map (λ t. a_token t) (punctuator_token c) }
 {
     match c {
         b',' => Some(TomlTok::Comma),
@@ -101,6 +102,7 @@ impl<'a> Cursor<'a> {
         ensures { result ≡ length (remaining self.now) }
     {
         let mut ahead = self.again();
+        // the proof takes from this call that the rest is UTF-8
         let _held = ahead.rest.as_str();
         ahead.take_while(is_remaining).chars().count()
     }
@@ -122,7 +124,8 @@ impl<'a> Cursor<'a> {
         requires some { wanted ≢ 0 }
         requires ascii { wanted < 128 }
         ensures found { result ≡ begins (λ c. c == wanted) (remaining self.old) }
-        ensures rest { remaining self.new ≡ (if result then tail (remaining self.old) else remaining self.old) }
+        ensures rest { remaining self.new
+            ≡ (if result then tail (remaining self.old) else remaining self.old) }
     {
         let found = self.first() == wanted;
         if found {
@@ -176,9 +179,11 @@ impl<'a> Cursor<'a> {
 
     /// Cuts one token, or the end of the text.
     pub(crate) fn next_tok(&mut self, alloc: Global) -> Result<TomlTok, Fault>
-        ensures cut { IfOk result (λ t. Took (remaining self.old) (token_of t) (remaining self.new)) }
+        ensures cut { IfOk result
+            (λ t. Took (remaining self.old) (token_of t) (remaining self.new)) }
         ensures rejected { OnFault result (CutsNothing (remaining self.old)) }
-        ensures broken { IfErr result (λ e. e ≢ Memory → Breaks e (remaining self.old) (remaining self.new)) }
+        ensures broken { IfErr result
+            (λ e. e ≢ Memory → Breaks e (remaining self.old) (remaining self.new)) }
     {
         self.skip();
         let first = self.first();

@@ -1,28 +1,25 @@
-//! Reads values and statements, token by token.
+//! Reads statements, token by token.
 
-ghost use Rattle.std.specs.Prelude.{◌≡◌, ◌≢◌, ◌<◌, [], IfOk, IfErr, IfSome, OnOk};
-ghost use Rattle.std.specs.Prelude.{option_map, Some, None, length};
+ghost use Rattle.std.specs.Prelude.{◌≡◌, ◌≢◌, ◌<◌, IfOk, IfErr, IfSome, OnOk};
+ghost use Rattle.std.specs.Prelude.{option_map, length};
 ghost use Rattle.nano_toml.specs.Built.{IsPlain};
 ghost use Rattle.nano_toml.specs.Cut.{Cut, CutsNothing};
-ghost use Rattle.nano_toml.specs.Prefixes.{Parses, ParsesNothing, ClosesNothing, close_all};
-ghost use Rattle.nano_toml.specs.PrefixesLaws.{pair_prefix, scope_prefix, element_prefix};
-ghost use Rattle.nano_toml.specs.PrefixesLaws.{header_prefix, statement_prefix};
+ghost use Rattle.nano_toml.specs.Prefixes.{Parses, ParsesNothing, ClosesNothing, close_prefix};
+ghost use Rattle.nano_toml.specs.Prefixes.{pair_prefix, scope_prefix, element_prefix};
+ghost use Rattle.nano_toml.specs.Prefixes.{header_prefix, statement_prefix};
 ghost use Rattle.nano_toml.specs.RemainingText.{remaining, remaining_text};
 ghost use Rattle.nano_toml.specs.Outcomes.{OnFault, ParsesStatement};
-ghost use Rattle.nano_toml.specs.Reading.{name_view, statement_view, scalar_at, arrays_view};
-ghost use Rattle.nano_toml.specs.Reading.{IsNext, EncodesNothing};
+ghost use Rattle.nano_toml.specs.Reading.{name_view, statement_view, IsNext, EncodesNothing};
 ghost use Rattle.nano_toml.specs.Stops.{Breaks, Rejects, StandsNext, StopsAt};
-ghost use Rattle.nano_toml.specs.StopsLaws.{close_prefix};
 ghost use Rattle.nano_toml.specs.Taken.{token_of, Took};
 ghost use Rattle.nano_toml.specs.Token.{close_bracket};
 ghost use Rattle.nano_toml.specs.declared.fault.Fault.TheVariants.{Memory};
-ghost use Rattle.nano_toml.specs.View.{view, values_view};
 
 use crate::fault::Fault;
 use crate::state::Cursor;
 use crate::token::TomlTok;
 use crate::value::Toml;
-use std::alloc::{AllocFailed, Global};
+use std::alloc::Global;
 
 /// A name of a text.
 #[derive(Drop)]
@@ -61,40 +58,6 @@ pub(crate) enum Statement<'a> {
 pub(crate) struct Reader<'a> {
     pub(crate) alloc: Global,
     pub(crate) cursor: Cursor<'a>,
-}
-
-// The value that is one token, or the token again.
-pub(crate) fn scalar(tok: TomlTok) -> Result<Toml, TomlTok>
-    ensures found { IfOk result (λ value. scalar_at (token_of tok) ≡ Some (view value)) }
-    ensures rejected { IfErr result (λ _. scalar_at (token_of tok) ≡ None) }
-    ensures same { IfErr result (λ again. again ≡ tok) }
-{
-    match tok {
-        TomlTok::Str(text) => Ok(Toml::Str(text)),
-        TomlTok::U64(number) => Ok(Toml::Num(i128::from(number))),
-        TomlTok::I64(number) => Ok(Toml::Num(i128::from(number))),
-        TomlTok::F64(text) => Ok(Toml::Dec(text)),
-        TomlTok::Bool(value) => Ok(Toml::Bool(value)),
-        TomlTok::Nan(minus) => Ok(Toml::Nan(minus)),
-        TomlTok::Inf(minus) => Ok(Toml::Inf(minus)),
-        TomlTok::Date(text) => Ok(Toml::Date(text)),
-        tok => Err(tok),
-    }
-}
-
-// Closes the arrays around an array, the innermost first.
-pub(crate) fn close_all(
-    mut outer: Vec<Vec<Toml>>,
-    mut here: Vec<Toml>,
-) -> Result<Toml, AllocFailed<Toml>>
-    ensures { IfOk result
-        (λ value. view value ≡ close_all (arrays_view outer.items []) (values_view here.items)) }
-{
-    'arrays: while let Some(mut around) = outer.pop() {
-        around.push(Toml::SimpleArray(here))?;
-        here = around;
-    }
-    Ok(Toml::SimpleArray(here))
 }
 
 impl<'a> Reader<'a> {
@@ -179,7 +142,8 @@ impl<'a> Reader<'a> {
     fn read_element(&mut self) -> Result<Statement<'a>, Fault>
         ensures found { ParsesStatement result element_prefix
             (remaining self.old.cursor) (remaining self.new.cursor) }
-        ensures rejected { OnFault result (ParsesNothing element_prefix (remaining self.old.cursor)) }
+        ensures rejected { OnFault result
+            (ParsesNothing element_prefix (remaining self.old.cursor)) }
         ensures stops { StopsAt result element_prefix
             (remaining self.old.cursor) (remaining self.new.cursor) }
     {
@@ -195,7 +159,8 @@ impl<'a> Reader<'a> {
     fn read_header(&mut self) -> Result<Statement<'a>, Fault>
         ensures found { ParsesStatement result header_prefix
             (remaining self.old.cursor) (remaining self.new.cursor) }
-        ensures rejected { OnFault result (ParsesNothing header_prefix (remaining self.old.cursor)) }
+        ensures rejected { OnFault result
+            (ParsesNothing header_prefix (remaining self.old.cursor)) }
         ensures stops { StopsAt result header_prefix
             (remaining self.old.cursor) (remaining self.new.cursor) }
     {

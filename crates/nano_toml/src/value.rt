@@ -44,7 +44,7 @@ impl PartialEq for Toml {
     ghost use Rattle.std.specs.Prelude.{◌≡◌, ◌↔◌, IsTrue};
     ghost use Rattle.nano_toml.specs.View.{view};
     ghost use Rattle.nano_toml.specs.SameData.{view_eq};
-    ghost use Rattle.nano_toml.specs.SameDataLaws.{view_eq_laws};
+    ghost use Rattle.nano_toml.specs.EqImpls.{view_eq_laws};
 
     ghost eq = { view_eq };
 
@@ -59,7 +59,7 @@ impl PartialEq for Toml {
 }
 
 impl Eq for Toml {
-    ghost use Rattle.nano_toml.specs.SameDataLaws.{view_eq_equiv};
+    ghost use Rattle.nano_toml.specs.EqImpls.{view_eq_equiv};
 
     ghost laws = { view_eq_equiv };
 }
@@ -148,7 +148,7 @@ impl Toml {
         }
     }
 
-    /// The truth value of a `Bool`; the caller knows that it is one.
+    /// The boolean of a `Bool`; the caller knows that it is one.
     pub fn boolean(&self) -> bool
         requires { IsSome (as_boolean (view self.now)) }
         ensures { as_boolean (view self.now) ≡ Some result }

@@ -65,7 +65,8 @@ impl<'a> Cursor<'a> {
     /// Takes what is skipped and the name after it, if there is a name. If not, nothing is
     /// taken.
     pub(crate) fn next_name(&mut self) -> Option<&'a str>
-        ensures cut { IfSome result (λ name. Cut (remaining self.old) (ident name.now) (remaining self.new)) }
+        ensures cut { IfSome result
+            (λ name. Cut (remaining self.old) (ident name.now) (remaining self.new)) }
         ensures none { IfNone result (remaining self.new ≡ remaining self.old) }
         ensures no_name { IfNone result
             ((name rest : List ℕ) → Cut (remaining self.old) (ident name) rest → ⊥) }

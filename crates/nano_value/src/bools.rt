@@ -1,9 +1,9 @@
-//! Truth values, and the unit.
+//! Booleans, and the unit.
 
 ghost use Rattle.nano_value.specs.Meaning.{nothing, truth};
 ghost use Rattle.nano_value.specs.Legal.{LegalTruth, LegalUnit};
-ghost use Rattle.nano_value.specs.MeaningOrderLaws.{meanings, wholes, truths_follow, units_follow};
-ghost use Rattle.nano_value.specs.ExactLaws.{truths_tell, units_tell};
+ghost use Rattle.nano_meaning.proofs.MeaningOrderLaws.{meanings, wholes, truths_follow, units_follow};
+ghost use Rattle.nano_meaning.proofs.ExactLaws.{truths_tell, units_tell};
 
 use crate::value::{Key, OrderedKey, Value};
 

@@ -3,14 +3,12 @@
 //! A caller in generic code that needs one of these facts calls the function; none of them does
 //! anything else.
 ghost use Rattle.std.specs.Prelude.{◌≡◌, ◌↔◌, List, map};
-ghost use Rattle.std.specs.List.{IsDistinct};
-ghost use Rattle.std.specs.Map.{keys_of};
 ghost use Rattle.nano_value.specs.Meaning.{Meaning, pair_map};
 ghost use Rattle.nano_value.specs.Tables.{Table, table_of};
-ghost use Rattle.nano_value.specs.Ascending.{ascending};
-ghost use Rattle.nano_value.specs.LastValues.{HoldsLastValues, IsInOrder};
+ghost use Rattle.nano_value.specs.LastValues.{HoldsLastValues};
 
 use crate::value::Value;
+pub use nano_meaning::laws::ascending_is_in_order;
 
 /// The table that a map of entries means is the one that has, for each key that occurs, the value
 /// of the key's last pair, and nothing else.
@@ -18,12 +16,4 @@ pub fn tables_hold_last_values<K: Value, V: Value>()
     ensures { (entries : List (K × V)) (t : Table Meaning) →
         (t ≡ table_of K.means V.means entries)
         ↔ HoldsLastValues (map (pair_map K.means V.means) entries) t }
-{}
-
-/// Of entries with different keys, the ascending list is the one that strictly ascends and has the
-/// same entries.
-pub fn ascending_is_in_order<K: Ord, V>()
-    ensures { (entries sorted : List (K × V)) →
-        IsDistinct K.eq (keys_of entries) →
-        (sorted ≡ ascending K.cmp entries) ↔ IsInOrder K.cmp entries sorted }
 {}

@@ -7,6 +7,7 @@
 
 mod bools;
 mod boxes;
+mod collect;
 pub mod laws;
 mod lists;
 mod maps;
@@ -22,5 +23,6 @@ mod tuples;
 mod unsigned;
 mod value;
 
+pub use collect::{Collect, CollectEntries};
 pub use ordered::{entries_by_rank, entries_in_order, items_in_order};
 pub use value::{Key, OrderedKey, Value};

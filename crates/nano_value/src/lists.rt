@@ -3,8 +3,8 @@
 ghost use Rattle.std.specs.Prelude.{◌≡◌, ◌<◌, length, map};
 ghost use Rattle.nano_value.specs.Meaning.{listed, usize_bound};
 ghost use Rattle.nano_value.specs.Legal.{LegalArray, LegalList};
-ghost use Rattle.nano_value.specs.MeaningOrderLaws.{lists, lists_follow};
-ghost use Rattle.nano_value.specs.ExactLaws.{lists_tell};
+ghost use Rattle.nano_meaning.proofs.MeaningOrderLaws.{lists, lists_follow};
+ghost use Rattle.nano_meaning.proofs.ExactLaws.{lists_tell};
 
 use crate::value::{Key, OrderedKey, Value};
 use std::collections::LinkedList;

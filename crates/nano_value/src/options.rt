@@ -3,8 +3,8 @@
 ghost use Rattle.std.specs.Option.{option_map};
 ghost use Rattle.nano_value.specs.Meaning.{optional};
 ghost use Rattle.nano_value.specs.Legal.{LegalOption};
-ghost use Rattle.nano_value.specs.MeaningOrderLaws.{options, options_follow};
-ghost use Rattle.nano_value.specs.ExactLaws.{options_tell};
+ghost use Rattle.nano_meaning.proofs.MeaningOrderLaws.{options, options_follow};
+ghost use Rattle.nano_meaning.proofs.ExactLaws.{options_tell};
 
 use crate::value::{Key, OrderedKey, Value};
 
@@ -13,7 +13,7 @@ impl<T: Value> Value for Option<T> {
 
     ghost legal = { LegalOption T.legal };
 
-    #[tactic(auto, using(crate::specs::LegalLaws::some_is_legal, crate::specs::LegalLaws::none_is_legal))]
+    #[tactic(auto, using(nano_meaning::proofs::LegalLaws::some_is_legal, nano_meaning::proofs::LegalLaws::none_is_legal))]
     fn known(&self) {
         if let Some(value) = self {
             value.known();

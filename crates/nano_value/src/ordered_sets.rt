@@ -1,9 +1,9 @@
 //! Ordered sets: each means its items, as a hash set of them does.
 
 ghost use Rattle.nano_value.specs.Sets.{LegalSet};
-ghost use Rattle.nano_value.specs.SetOrderLaws.{sets, sets_follow};
+ghost use Rattle.nano_meaning.proofs.SetOrderLaws.{sets, sets_follow};
 ghost use Rattle.nano_value.specs.OrderedSets.{ordered_means};
-ghost use Rattle.nano_value.specs.OrderedSetsLaws.{ordered_tell};
+ghost use Rattle.nano_meaning.proofs.OrderedSetsLaws.{ordered_tell};
 
 use crate::value::{Key, OrderedKey, Value};
 use std::collections::BTreeSet;

@@ -3,9 +3,9 @@
 
 ghost use Rattle.nano_value.specs.Meaning.{paired, pair_map};
 ghost use Rattle.nano_value.specs.Legal.{LegalPair};
-ghost use Rattle.nano_value.specs.MeaningOrderLaws.{pairs, pairs_follow, triples_follow};
-ghost use Rattle.nano_value.specs.MeaningOrderLaws.{quadruples_follow};
-ghost use Rattle.nano_value.specs.ExactLaws.{pairs_tell, triples_tell, quadruples_tell};
+ghost use Rattle.nano_meaning.proofs.MeaningOrderLaws.{pairs, pairs_follow, triples_follow};
+ghost use Rattle.nano_meaning.proofs.MeaningOrderLaws.{quadruples_follow};
+ghost use Rattle.nano_meaning.proofs.ExactLaws.{pairs_tell, triples_tell, quadruples_tell};
 
 use crate::value::{Key, OrderedKey, Value};
 
@@ -14,7 +14,7 @@ impl<A: Value, B: Value> Value for (A, B) {
 
     ghost legal = { LegalPair A.legal B.legal };
 
-    #[tactic(auto, using(crate::specs::LegalLaws::pair_is_legal))]
+    #[tactic(auto, using(nano_meaning::proofs::LegalLaws::pair_is_legal))]
     fn known(&self) {
         self.0.known();
         self.1.known();
@@ -32,7 +32,7 @@ impl<A: Value, B: Value, C: Value> Value for (A, B, C) {
 
     ghost legal = { LegalPair A.legal (LegalPair B.legal C.legal) };
 
-    #[tactic(auto, using(crate::specs::LegalLaws::pair_is_legal))]
+    #[tactic(auto, using(nano_meaning::proofs::LegalLaws::pair_is_legal))]
     fn known(&self) {
         self.0.known();
         self.1.known();
@@ -52,7 +52,7 @@ impl<A: Value, B: Value, C: Value, D: Value> Value for (A, B, C, D) {
 
     ghost legal = { LegalPair A.legal (LegalPair B.legal (LegalPair C.legal D.legal)) };
 
-    #[tactic(auto, using(crate::specs::LegalLaws::pair_is_legal))]
+    #[tactic(auto, using(nano_meaning::proofs::LegalLaws::pair_is_legal))]
     fn known(&self) {
         self.0.known();
         self.1.known();

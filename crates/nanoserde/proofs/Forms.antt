@@ -4,8 +4,8 @@ use Rattle.std.proofs.Common.{◌≡◌, ◌↔◌, ℕ, List, ◌++◌, [], sym
 use Rattle.nano_value.specs.Meaning.{Meaning}
 use Rattle.nano_value.specs.Agrees.{Agrees}
 use Rattle.nano_bin.specs.Codec.{Codec as BinCodec}
-use Rattle.nano_bin.specs.CodecLaws.{encodes_written, writes_same}
-use Rattle.nano_grammar.specs.CutLaws.{CutLaws}
+use Rattle.nano_bin_bytes.proofs.CodecLaws.{encodes_written, writes_same}
+use Rattle.nano_grammar.proofs.CutLaws.{CutLaws}
 use Rattle.nano_grammar.specs.Cutting.{Cutting}
 use Rattle.nano_grammar.specs.Codec.{Codec as TextCodec}
 use Rattle.nano_grammar.specs.Encoding.{Grammar}

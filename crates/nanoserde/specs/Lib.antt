@@ -3,7 +3,7 @@ pub use Rattle.nano_value.specs.Meaning
 pub use Rattle.nano_value.specs.Agrees
 pub use Rattle.nano_value.specs.Sums
 pub use Rattle.nano_text.specs.Place
-pub use Rattle.nano_bytes.specs.Reading as BinReading
+pub use Rattle.nano_bin_bytes.specs.Reading as BinReading
 pub use Rattle.nano_bin.specs.Codec as BinCodec
 pub use Rattle.nano_bin.specs.Whole as BinWhole
 pub use Rattle.nano_json.specs.Codec as JsonCodec
@@ -15,13 +15,13 @@ pub use Rattle.nano_grammar.specs.Whole as TextWhole
 pub use Rattle.nano_schema.specs.UserTypes
 pub use Rattle.nano_schema.specs.Views
 pub use Rattle.nano_schema.specs.Choices
-pub use Rattle.nano_schema_bin.specs.Record as BinRecord
-pub use Rattle.nano_schema_bin.specs.Choice as BinChoice
-pub use Rattle.nano_schema_bin.specs.Choices as BinChoices
-pub use Rattle.nano_schema_json.specs.Record as JsonRecord
-pub use Rattle.nano_schema_json.specs.Choice as JsonChoice
-pub use Rattle.nano_schema_ron.specs.Record as RonRecord
-pub use Rattle.nano_schema_ron.specs.Choice as RonChoice
+pub use Rattle.nano_bin_schema.specs.Structs as BinRecord
+pub use Rattle.nano_bin_schema.specs.Enums as BinChoice
+pub use Rattle.nano_bin_schema.specs.Choices as BinChoices
+pub use Rattle.nano_json_schema.specs.Structs as JsonRecord
+pub use Rattle.nano_json_schema.specs.Enums as JsonChoice
+pub use Rattle.nano_ron_schema.specs.Structs as RonRecord
+pub use Rattle.nano_ron_schema.specs.Enums as RonChoice
 -- what joins the formats
 pub mod Normal
 pub mod Promises

@@ -3,7 +3,7 @@ use Rattle.std.specs.Prelude.{◌≡◌, ℕ, List, encode_utf8_all}
 use Rattle.nano_value.specs.Meaning.{Meaning}
 use Rattle.nano_text.specs.Place.{remaining_text}
 use Rattle.nano_bin.specs.Codec.{Codec as BinCodec}
-use Rattle.nano_bytes.specs.Reading.{DecodesTo}
+use Rattle.nano_bin_bytes.specs.Reading.{DecodesTo}
 use Rattle.nano_grammar.specs.Cutting.{Cutting}
 use Rattle.nano_grammar.specs.Codec.{Codec as TextCodec}
 use Rattle.nano_grammar.specs.Encoding.{Grammar}

@@ -1,7 +1,6 @@
 //! From a text to the bytes of its value.
 
-ghost use Rattle.std.specs.Prelude.{IfOk};
-ghost use Rattle.nano_text.specs.Place.{remaining_text};
+ghost use Rattle.std.specs.Prelude.{IfOk, IfErr};
 ghost use Rattle.nano_json.specs.Readers.{RejectsText as RejectsJson};
 ghost use Rattle.nano_ron.specs.Readers.{RejectsText as RejectsRon};
 ghost use Rattle.nanoserde.specs.Normal.{JsonAsBytes, RonAsBytes};
@@ -26,7 +25,7 @@ use std::alloc::Global;
 pub fn json_to_bin<T: DeJson + BothBin>(alloc: Global, input: &str) -> Result<Vec<u8>, DeJsonErr>
     ensures written { IfOk result (λ bytes.
         JsonAsBytes T.means T.json T.bin input.now bytes.items) }
-    ensures rejected { RejectsJson T.json.encoding.encodes (remaining_text input.now) result }
+    ensures rejected { IfErr result (RejectsJson T.json.encoding.encodes input.now) }
 {
     let value = T::deserialize_json(alloc, input)?;
     json_written(alloc, value.serialize_bin(alloc))
@@ -48,7 +47,7 @@ pub fn json_to_bin<T: DeJson + BothBin>(alloc: Global, input: &str) -> Result<Ve
 pub fn ron_to_bin<T: DeRon + BothBin>(alloc: Global, input: &str) -> Result<Vec<u8>, DeRonErr>
     ensures written { IfOk result (λ bytes.
         RonAsBytes T.means T.ron T.bin input.now bytes.items) }
-    ensures rejected { RejectsRon T.ron.encoding.encodes (remaining_text input.now) result }
+    ensures rejected { IfErr result (RejectsRon T.ron.encoding.encodes input.now) }
 {
     let value = T::deserialize_ron(alloc, input)?;
     ron_written(alloc, value.serialize_bin(alloc))

@@ -17,28 +17,29 @@ pub use convert::{json_to_bin, ron_to_bin};
 pub use nano_bin::{
     BinCodec, BothBin, DeBin, DeBinErr, DeBinKind, SerBin, append_part, laws as bin_laws,
 };
+pub use nano_bin_schema::{
+    BinFields, BinRefs, BinShape, BinShapes, read_choice_bin, read_record_bin, write_choice_bin,
+    write_record_bin,
+};
 pub use nano_json::{
     BothJson, DeJson, DeJsonErr, DeJsonState, DeJsonTok, JsonCodec, SerJson, SerJsonState,
     laws as json_laws,
 };
-pub use nano_ron::{
-    BothRon, DeRon, DeRonErr, DeRonState, DeRonTok, RonCodec, SerRon, SerRonState, laws as ron_laws,
-};
-pub use nano_schema::{
-    Alone, Borrowed, BorrowedChoices, Choice, ChoiceParts, Choices, Either, Label, Named, OnePart,
-    Optional, Parts, Record, Required, Shape, Tupled, Variant, known_record, known_variant,
-};
-pub use nano_schema_bin::{
-    BinFields, BinRefs, BinShape, BinShapes, read_choice_bin, read_record_bin, write_choice_bin,
-    write_record_bin,
-};
-pub use nano_schema_json::{
+pub use nano_json_schema::{
     JsonFields, JsonRefs, JsonResult, JsonShape, JsonShapes, read_choice_json, read_parts_json,
     read_record_json, write_choice_json, write_record_json,
 };
-pub use nano_schema_ron::{
+pub use nano_ron::{
+    BothRon, DeRon, DeRonErr, DeRonState, DeRonTok, RonCodec, SerRon, SerRonState, laws as ron_laws,
+};
+pub use nano_ron_schema::{
     RonFields, RonRefs, RonResult, RonShape, RonShapes, read_choice_ron, read_parts_ron,
     read_record_ron, write_choice_ron, write_record_ron,
+};
+pub use nano_schema::{
+    Alone, Borrowed, BorrowedChoices, Choices, Either, EnumSchema, FieldRefs, Label, Named,
+    OnePart, Optional, Required, Shape, StructSchema, Tupled, Variant, VariantRefs, known_record,
+    known_variant,
 };
 pub use nano_toml::{Toml, TomlErr, TomlParser, TomlTok, laws as toml_laws};
 pub use nano_value::{

@@ -1,8 +1,7 @@
 //! The normal form of an input: what is written of the value that it begins with.
 
 ghost use Rattle.std.specs.Prelude.{IfOk, IfErr, string_bytes};
-ghost use Rattle.nano_bytes.specs.Reading.{Rejects};
-ghost use Rattle.nano_text.specs.Place.{remaining_text};
+ghost use Rattle.nano_bin_bytes.specs.Reading.{Rejects};
 ghost use Rattle.nano_json.specs.Readers.{RejectsText as RejectsJson};
 ghost use Rattle.nano_ron.specs.Readers.{RejectsText as RejectsRon};
 ghost use Rattle.nanoserde.specs.Normal.{NormalBytes, NormalJson, NormalRon};
@@ -48,7 +47,7 @@ pub fn normal_bin<T: BothBin>(alloc: Global, d: &[u8]) -> Result<Vec<u8>, DeBinE
 /// ```
 pub fn normal_json<T: BothJson>(alloc: Global, input: &str) -> Result<String, DeJsonErr>
     ensures normal { IfOk result (λ text. NormalJson T.means T.json input.now (string_bytes text)) }
-    ensures rejected { RejectsJson T.json.encoding.encodes (remaining_text input.now) result }
+    ensures rejected { IfErr result (RejectsJson T.json.encoding.encodes input.now) }
 {
     let value = T::deserialize_json(alloc, input)?;
     json_written(alloc, value.serialize_json(alloc))
@@ -70,7 +69,7 @@ pub fn normal_json<T: BothJson>(alloc: Global, input: &str) -> Result<String, De
 /// ```
 pub fn normal_ron<T: BothRon>(alloc: Global, input: &str) -> Result<String, DeRonErr>
     ensures normal { IfOk result (λ text. NormalRon T.means T.ron input.now (string_bytes text)) }
-    ensures rejected { RejectsRon T.ron.encoding.encodes (remaining_text input.now) result }
+    ensures rejected { IfErr result (RejectsRon T.ron.encoding.encodes input.now) }
 {
     let value = T::deserialize_ron(alloc, input)?;
     ron_written(alloc, value.serialize_ron(alloc))

@@ -1,12 +1,12 @@
 //! What a writer wrote, as a converter returns it.
 
 ghost use Rattle.std.specs.Prelude.{◌≡◌, IfOk, OnErr, IsErrOf, IsErrAnd};
-ghost use Rattle.nano_bytes.specs.declared.error.DeBinKind.TheVariants.{Memory};
-ghost use Rattle.nano_bytes.specs.Errors.{rejection};
+ghost use Rattle.nano_bin_bytes.specs.declared.error.DeBinKind.TheVariants.{Memory};
+ghost use Rattle.nano_bin_bytes.specs.Errors.{rejection};
 ghost use Rattle.nanoserde.specs.Written.{IsJsonMemory, IsRonMemory};
 
 use crate::{DeBinErr, DeJsonErr, DeJsonState, DeRonErr, DeRonState};
-use nano_bytes::no_memory;
+use nano_bin_bytes::no_memory;
 use std::alloc::{AllocError, Global};
 
 /// The bytes, or out of memory with `o` and `l` 0.

@@ -51,12 +51,15 @@ fn a_skipped_field_has_a_default(rt: HostRuntime) {
 const MARKERS: &[(&str, &str)] = &[
     (
         "struct A {\n    a: u8,\n}\n",
-        "4:1: no line is `// ---- written by nano_derive`",
+        "4:1: no line is `// ---- written by derive_files`",
     ),
-    ("// ---- written by nano_derive, twice\n", "1:1: the marker"),
-    ("  // ---- written by nano_derive\n", "1:3: the marker"),
     (
-        "// ---- written by nano_derive\nx\n// ---- written by nano_derive\n",
+        "// ---- written by derive_files, twice\n",
+        "1:1: the marker",
+    ),
+    ("  // ---- written by derive_files\n", "1:3: the marker"),
+    (
+        "// ---- written by derive_files\nx\n// ---- written by derive_files\n",
         "3:1: the marker stands a second time",
     ),
 ];
@@ -82,7 +85,7 @@ fn is_shown(alloc: Global, source: &str, expected: &str) -> Option<bool> {
 
 #[test]
 fn a_fault_is_shown_with_its_line_and_a_caret(rt: HostRuntime) {
-    let source = "struct A {\n\ta: Strng,\n}\n// ---- written by nano_derive\n";
+    let source = "struct A {\n\ta: Strng,\n}\n// ---- written by derive_files\n";
     let expected = "a.rt:2:5: `Strng` is no type that is known: none above has this name, \
         and no `use` brings it in\n\ta: Strng,\n\t   ^\n";
     assert!(&rt;

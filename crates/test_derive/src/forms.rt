@@ -16,14 +16,14 @@ type AFields = nano_schema::Tupled<AValues>;
 =>
         (&self.0, &self.1)
 =>
-        nano_schema_bin::write_record_bin::<Self, AFields>(self, alloc, output)
+        nano_bin_schema::write_record_bin::<Self, AFields>(self, alloc, output)
 =>
-            nano_schema_json::Part { of: &self.1 },
+            nano_json_schema::Part { of: &self.1 },
         );
 =>
-        nano_schema_ron::SerRon::ser_ron(&parts, alloc, d, s)
+        nano_ron_schema::SerRon::ser_ron(&parts, alloc, d, s)
 =>
-        nano_schema_ron::read_parts_ron::<Self, AValues>(alloc, state, input)
+        nano_ron_schema::read_parts_ron::<Self, AValues>(alloc, state, input)
 "#;
 
 /// A generic type agrees as its parameters do, and names those alone that it has.
@@ -75,10 +75,10 @@ type ARefs3<'a, U> = nano_schema::Either<&'a U, ARefs4<'a>>;
 struct A<T, U, V>(T, U, V);
 =>
 impl<
-    T: nano_schema_json::JsonCodec,
-    U: nano_schema_json::JsonCodec,
-    V: nano_schema_json::JsonCodec,
-> nano_schema_json::JsonCodec for A<T, U, V> {
+    T: nano_json_schema::JsonCodec,
+    U: nano_json_schema::JsonCodec,
+    V: nano_json_schema::JsonCodec,
+> nano_json_schema::JsonCodec for A<T, U, V> {
 "#;
 
 /// A ghost pair that is too long for a line has a line for each of its two.
@@ -124,7 +124,7 @@ struct A {
 =>
         Ok(-5)
 =>
-impl nano_schema_json::JsonDefaultOf<i8> for AADefault {
+impl nano_json_schema::JsonDefaultOf<i8> for AADefault {
 ----
 // nanoserde: json
 enum A {

@@ -51,7 +51,7 @@ enum Event {
     },
 }
 
-// ---- written by nano_derive
+// ---- written by derive_files
 ";
 
 /// The source with one character replaced, and another at a place that many characters further on.

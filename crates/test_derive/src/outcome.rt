@@ -24,6 +24,6 @@ pub(crate) fn outcome(alloc: Global, source: &str) -> Result<String, AllocError>
 
 /// What becomes of what stands above the marker.
 pub(crate) fn outcome_above(alloc: Global, above: &str) -> Result<String, AllocError> {
-    let source = format!(in alloc; "{above}\n// ---- written by nano_derive\n")?;
+    let source = format!(in alloc; "{above}\n// ---- written by derive_files\n")?;
     outcome(alloc, source.as_str())
 }

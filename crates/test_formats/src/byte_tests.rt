@@ -1,9 +1,9 @@
-//! The calls of `nano_bytes` that build user-defined types of a fixed width, the items of a type,
+//! The calls of `nano_bin_bytes` that build user-defined types of a fixed width, the items of a type,
 //! and the laws of `nano_bin`: each is made once, with its answer.
 
 use crate::checks::{holds, is_made, is_so};
 use nano_bin::{DeBin, SerBin, append_part, laws};
-use nano_bytes::{
+use nano_bin_bytes::{
     DeBinErr, DeBinKind, FixedWidth, append_bytes, append_bytes_after, append_number, append_run,
     as_value_error, no_memory, not_utf8, read_array, read_bytes, read_chunks, read_number,
     read_run, read_utf8, rest, too_short, trailing_bytes,

@@ -1,7 +1,7 @@
 //! The form of a name, values of either form, and faults as they are shown.
 
 use crate::checks::{holds, is_made};
-use example_text_forms::{Form, Rejection};
+use nano_text_forms::{Form, Rejection};
 use std::alloc::{AllocError, Global};
 
 /// Names, and the form that each tells.

@@ -3,7 +3,7 @@
 
 use crate::checks::{holds, is_so};
 use crate::frame_source::{Sink, Source};
-use nano_frames::{Fault, Messages, laws, put};
+use nano_bin_frames::{Fault, Messages, laws, put};
 use std::alloc::{AllocError, Global};
 use std::io::ErrorKind;
 

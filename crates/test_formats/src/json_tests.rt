@@ -148,11 +148,8 @@ fn json_laws(rt: HostRuntime) {
     laws::encoded_is_sound(&one);
     laws::null_stands_alone(&one);
     laws::same_meaning_same_text(&one, &one);
-    laws::sets_of_the_same_items_are_written_alike(
-        &HashSet::<u8>::new(alloc),
-        &BTreeSet::<u8>::new(alloc),
-    );
-    laws::maps_of_the_same_entries_are_written_alike(
+    laws::equal_sets_equal_text(&HashSet::<u8>::new(alloc), &BTreeSet::<u8>::new(alloc));
+    laws::equal_maps_equal_text(
         &HashMap::<u8, u8>::new(alloc),
         &BTreeMap::<u8, u8>::new(alloc),
     );

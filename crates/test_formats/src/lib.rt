@@ -1,5 +1,5 @@
 //! Tests of values, of texts, of each format with its tokens, of frames and of
-//! `example_text_forms` over their public surfaces: what the tables of `conformance_run` cannot
+//! `nano_text_forms` over their public surfaces: what the tables of `conformance_run` cannot
 //! say. They are one crate, since what a crate costs before its first function is more than most
 //! of them, and a crate of their own, so that they are proved beside the libraries and not with
 //! them.

@@ -118,11 +118,8 @@ fn ron_laws(rt: HostRuntime) {
     laws::encoded_is_sound(&7u8);
     laws::none_stands_alone(&7u8);
     laws::same_meaning_same_text(&7u8, &7u8);
-    laws::sets_of_the_same_items_are_written_alike(
-        &HashSet::<u8>::new(alloc),
-        &BTreeSet::<u8>::new(alloc),
-    );
-    laws::maps_of_the_same_entries_are_written_alike(
+    laws::equal_sets_equal_text(&HashSet::<u8>::new(alloc), &BTreeSet::<u8>::new(alloc));
+    laws::equal_maps_equal_text(
         &HashMap::<u8, u8>::new(alloc),
         &BTreeMap::<u8, u8>::new(alloc),
     );

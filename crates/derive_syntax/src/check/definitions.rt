@@ -3,9 +3,9 @@
 use crate::check::defaults::check_default;
 use crate::check::known::check_type;
 use crate::check::names::{check_distinct, check_name, encoded_name};
+use crate::fault::Fault;
 use crate::syntax::{Attributes, Content, Definition, Field, Shape, Source, Type, Variant};
 use crate::token::Token;
-use derive_source::Fault;
 use std::alloc::Global;
 
 const NO_CODEC: &str = "stands in a type with no formats: write `// nanoserde: bin json ron` above \

@@ -1,9 +1,9 @@
 //! Which types are known: those of the prelude, those of the file, its parameters, and those that
 //! a line brings in.
 
+use crate::fault::Fault;
 use crate::syntax::{Attributes, Definition, Source, Type};
 use crate::token::{Token, TokenKind};
-use derive_source::Fault;
 
 const PRELUDE: [&str; 15] = [
     "bool", "u8", "u16", "u32", "u64", "u128", "usize", "i8", "i16", "i32", "i64", "i128",

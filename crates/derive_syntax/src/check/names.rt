@@ -1,8 +1,8 @@
 //! Names of types, fields and variants.
 
+use crate::fault::Fault;
 use crate::syntax::Attributes;
 use crate::token::Token;
-use derive_source::Fault;
 
 /// An error at the first name that an earlier one is, without the quotes of a renamed one.
 pub(crate) fn check_distinct(names: &[Token<'_>]) -> Result<(), Fault> {

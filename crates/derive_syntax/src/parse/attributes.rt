@@ -1,9 +1,9 @@
 //! Comments `// nanoserde: ..`, and Rust's attributes, which are passed over.
 
+use crate::fault::Fault;
 use crate::parse::cursor::Cursor;
 use crate::syntax::{Attributes, Directions};
 use crate::token::{Token, TokenKind};
-use derive_source::Fault;
 
 /// What stands below an attribute.
 #[derive(Clone, Copy, PartialEq)]

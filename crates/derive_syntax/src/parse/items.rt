@@ -1,12 +1,12 @@
 //! The items above the marker: structs and enums are taken, lines that end in a semicolon are
 //! passed over, and anything else is an error.
 
+use crate::fault::Fault;
 use crate::parse::attributes::{Below, attributes};
 use crate::parse::cursor::Cursor;
 use crate::parse::fields::{fields, parts, variants, visibility};
 use crate::syntax::{Attributes, Definition, Shape, Source};
 use crate::token::{Token, TokenKind};
-use derive_source::Fault;
 use std::alloc::Global;
 
 /// What these tokens of a source of so many bytes declare.

@@ -5,8 +5,7 @@ use crate::output::parameters::{content_types, encoded_types, parameter_in};
 use crate::output::rows::ghost_pairs;
 use crate::output::tuples::{PLACES, named};
 use crate::output::types::{argument_of, type_text};
-use derive_source::Fault;
-use derive_syntax::{Content, Definition, Shape, Token, Type, Variant};
+use derive_syntax::{Content, Definition, Fault, Shape, Token, Type, Variant};
 use std::alloc::{AllocError, Global};
 
 /// The ghost terms of a type for its codecs.
@@ -52,7 +51,9 @@ fn of_fields<'a>(
     let pairs = ghost_pairs(alloc, &agree, "pair_agrees ", " ")?;
     let decode = all_decodable(alloc, &definition.parameters, types)?;
     Ok(Agreement {
-        agrees: format!(in alloc; "seen_agrees {pairs} ⟦<{full} as nano_schema::Record>⟧.view")?,
+        agrees: format!(in alloc;
+            "seen_agrees {pairs} ⟦<{full} as nano_schema::StructSchema>⟧.view"
+        )?,
         decodable: ghost_pairs(alloc, &decode, "both_are_read ", " ")?,
     })
 }
@@ -93,7 +94,9 @@ fn of_variants<'a>(
         decode = format!(in alloc; "(both_are_read {read} {decode})")?;
     }
     Ok(Agreement {
-        agrees: format!(in alloc; "choice_agrees {agree} ⟦<{full} as nano_schema::Choice>⟧.view")?,
+        agrees: format!(in alloc;
+            "choice_agrees {agree} ⟦<{full} as nano_schema::EnumSchema>⟧.view"
+        )?,
         decodable: decode,
     })
 }

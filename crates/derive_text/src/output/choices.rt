@@ -94,7 +94,7 @@ fn append_parts<'a>(sheet: &mut Sheet, held: &str, parts: &[Type<'a>]) -> Result
 }
 
 const VIEW: &str = "
-impl$BOUNDS nano_schema::Choice for $FULL {
+impl$BOUNDS nano_schema::EnumSchema for $FULL {
 $IMPORTS
     type Values = $VALUES;
 
@@ -128,7 +128,7 @@ fn append_view<'a>(
 const EITHER: &str =
     "ghost use Rattle.nano_schema.specs.declared.choices.Either.TheVariants.{First, Later};";
 
-const REFERENCES: &str = "impl$LIFETIME nano_schema::ChoiceParts<'a> for $FULL {
+const REFERENCES: &str = "impl$LIFETIME nano_schema::VariantRefs<'a> for $FULL {
     type Refs = $REFS;
 
     ghost values = { ⟦<$ROW as nano_schema::BorrowedChoices<'a>>⟧.values };
@@ -141,7 +141,7 @@ $ARMS        }
 
 impl$BOUNDS nano_schema::Value for $FULL {
     ghost means = { λ x. ⟦<$ROW as nano_schema::Choices>⟧.means 0 \
-        (⟦<$FULL as nano_schema::Choice>⟧.view x) };
+        (⟦<$FULL as nano_schema::EnumSchema>⟧.view x) };
 
     ghost legal = { LegalVariant ⟦<$ROW as nano_schema::Choices>⟧.legals };
 
@@ -150,8 +150,8 @@ impl$BOUNDS nano_schema::Value for $FULL {
     }
 }";
 
-/// Appends the impl that has references to the content of the variant, and the one that says what an
-/// enum means.
+/// Appends the impl that has references to the content of the variant, and the one that says what
+/// an enum means.
 fn append_references<'a>(
     sheet: &mut Sheet,
     target: &Target<'a>,

@@ -10,7 +10,8 @@ pub(crate) struct Codec {
     pub(crate) name: &'static str,
     /// The proof about the fields' names that a struct's codec takes, after a space.
     pub(crate) proof: &'static str,
-    /// The member of a row of variants, and the proofs about their names that an enum's codec takes.
+    /// The member of a row of variants, and the proofs about their names that an enum's codec
+    /// takes.
     pub(crate) chosen: &'static str,
     /// The impl that writes, and the arguments of its method after the value.
     pub(crate) writer: (&'static str, &'static str),
@@ -60,14 +61,14 @@ pub(crate) const RON: Codec = Codec {
 pub(crate) const DEFINITION: &str = "
 // ---- $HEADING
 
-impl$BOUNDS nano_schema_$MODULE::$NAMECodec for $FULL {
+impl$BOUNDS nano_$MODULE_schema::$NAMECodec for $FULL {
     ghost $MODULE = { $BODY };
 
     ghost agrees = { $AGREES };
 }";
 
 const BYTES_WRITER: &str = "
-impl$BOUNDS nano_schema_bin::SerBin for $FULL {
+impl$BOUNDS nano_bin_schema::SerBin for $FULL {
     fn ser_bin(
         &self,
         alloc: std::alloc::Global,
@@ -78,37 +79,37 @@ $BODY
 }";
 
 const BYTES_READER: &str = "
-impl$BOUNDS nano_schema_bin::DeBin for $FULL {
+impl$BOUNDS nano_bin_schema::DeBin for $FULL {
     ghost is_decodable = { $DECODABLE };
 
     fn de_bin(
         alloc: std::alloc::Global,
         offset: &mut usize,
         bytes: &[u8],
-    ) -> Result<Self, nano_schema_bin::DeBinErr> {
+    ) -> Result<Self, nano_bin_schema::DeBinErr> {
 $BODY
     }
 }";
 
 const TEXT_WRITER: &str = "
-impl$BOUNDS nano_schema_$MODULE::Ser$NAME for $FULL {
+impl$BOUNDS nano_$MODULE_schema::Ser$NAME for $FULL {
     fn ser_$MODULE(
         &self,
         alloc: std::alloc::Global,
         d: usize,
-        s: &mut nano_schema_$MODULE::Ser$NAMEState,
+        s: &mut nano_$MODULE_schema::Ser$NAMEState,
     ) -> Result<(), std::alloc::AllocError> {
 $BODY
     }
 }";
 
 const TEXT_READER: &str = "
-impl$BOUNDS nano_schema_$MODULE::De$NAME for $FULL {
+impl$BOUNDS nano_$MODULE_schema::De$NAME for $FULL {
     fn de_$MODULE(
         alloc: std::alloc::Global,
-        state: &mut nano_schema_$MODULE::De$NAMEState,
+        state: &mut nano_$MODULE_schema::De$NAMEState,
         input: &mut std::str::Chars<'_>,
-    ) -> nano_schema_$MODULE::$NAMEResult<Self> {
+    ) -> nano_$MODULE_schema::$NAMEResult<Self> {
 $BODY
     }
 }";

@@ -54,13 +54,14 @@ fn append_codec<'a>(
     append_impl(sheet, target, codec, DE, (reader, form.read, arguments))
 }
 
-const CODEC: &str = ": nano_schema_$MODULE::$NAMECodec";
+const CODEC: &str = ": nano_$MODULE_schema::$NAMECodec";
 
-const SER: &str = ": nano_schema_$MODULE::Ser$NAME";
+const SER: &str = ": nano_$MODULE_schema::Ser$NAME";
 
-const DE: &str = ": nano_schema_$MODULE::De$NAME";
+const DE: &str = ": nano_$MODULE_schema::De$NAME";
 
-/// Appends an impl, whose parameters have this bound: its template, its body, and the arguments there.
+/// Appends an impl, whose parameters have this bound: its template, its body, and the arguments
+/// there.
 fn append_impl<'a>(
     sheet: &mut Sheet,
     target: &Target<'a>,
@@ -132,6 +133,6 @@ const CITED: [(&str, &str); 10] = [
     ("refl", "ghost use Rattle.std.specs.Prelude.{refl};"),
     (
         "both_are_read",
-        "ghost use Rattle.nano_schema_bin.specs.Record.{both_are_read};",
+        "ghost use Rattle.nano_bin_schema.specs.Structs.{both_are_read};",
     ),
 ];

@@ -108,12 +108,12 @@ impl nano_schema::DefaultOf<$OF> for $NAME {
 }";
 
 const JSON: &str = "
-impl nano_schema_json::JsonDefaultOf<$OF> for $NAME {
+impl nano_json_schema::JsonDefaultOf<$OF> for $NAME {
     ghost is_sound = { λ x e. tt };
 }";
 
 const RON: &str = "
-impl nano_schema_ron::RonDefaultOf<$OF> for $NAME {
+impl nano_ron_schema::RonDefaultOf<$OF> for $NAME {
     ghost is_sound = { λ x e. tt };
 }";
 

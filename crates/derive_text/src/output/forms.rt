@@ -18,56 +18,56 @@ const REFL: &str = "ghost use Rattle.std.specs.Prelude.{refl};";
 /// A struct, by its fields.
 pub(crate) const RECORD: Form = Form {
     imports: [
-        &["ghost use Rattle.nano_schema_bin.specs.Record.{bin_of};"],
+        &["ghost use Rattle.nano_bin_schema.specs.Structs.{bin_of};"],
         &[
-            "ghost use Rattle.nano_schema_json.specs.Record.{json_of};",
+            "ghost use Rattle.nano_json_schema.specs.Structs.{json_of};",
             REFL,
         ],
         &[
-            "ghost use Rattle.nano_schema_ron.specs.Record.{ron_of};",
+            "ghost use Rattle.nano_ron_schema.specs.Structs.{ron_of};",
             REFL,
         ],
     ],
-    term: "$MODULE_of ⟦<$FULL as nano_schema::Record>⟧.view \
-        ⟦<$ROW as nano_schema_$MODULE::$NAMEShape>⟧.codec$PROOF",
-    write: "        nano_schema_$MODULE::write_record_$MODULE::<Self, $ROW>(self, $ARGUMENTS)",
-    read: "        nano_schema_$MODULE::read_record_$MODULE::<Self, $ROW>($ARGUMENTS)",
+    term: "$MODULE_of ⟦<$FULL as nano_schema::StructSchema>⟧.view \
+        ⟦<$ROW as nano_$MODULE_schema::$NAMEShape>⟧.codec$PROOF",
+    write: "        nano_$MODULE_schema::write_record_$MODULE::<Self, $ROW>(self, $ARGUMENTS)",
+    read: "        nano_$MODULE_schema::read_record_$MODULE::<Self, $ROW>($ARGUMENTS)",
 };
 
 /// An enum, by its variants.
 pub(crate) const CHOICE: Form = Form {
     imports: [
         &[
-            "ghost use Rattle.nano_schema_bin.specs.Choice.{bin_choice};",
+            "ghost use Rattle.nano_bin_schema.specs.Enums.{bin_choice};",
             REFL,
         ],
         &[
-            "ghost use Rattle.nano_schema_json.specs.Choice.{json_choice};",
+            "ghost use Rattle.nano_json_schema.specs.Enums.{json_choice};",
             REFL,
         ],
         &[
-            "ghost use Rattle.nano_schema_ron.specs.Choice.{ron_choice};",
+            "ghost use Rattle.nano_ron_schema.specs.Enums.{ron_choice};",
             REFL,
         ],
     ],
-    term: "$MODULE_choice ⟦<$FULL as nano_schema::Choice>⟧.view \
-        ⟦<$ROW as nano_schema_$MODULE::$NAMEShapes>⟧.$CHOSEN",
-    write: "        nano_schema_$MODULE::write_choice_$MODULE::<Self, $ROW>(self, $ARGUMENTS)",
-    read: "        nano_schema_$MODULE::read_choice_$MODULE::<Self, $ROW>($ARGUMENTS)",
+    term: "$MODULE_choice ⟦<$FULL as nano_schema::EnumSchema>⟧.view \
+        ⟦<$ROW as nano_$MODULE_schema::$NAMEShapes>⟧.$CHOSEN",
+    write: "        nano_$MODULE_schema::write_choice_$MODULE::<Self, $ROW>(self, $ARGUMENTS)",
+    read: "        nano_$MODULE_schema::read_choice_$MODULE::<Self, $ROW>($ARGUMENTS)",
 };
 
 const HELD: [&[&str]; 3] = [
-    &["ghost use Rattle.nano_schema_bin.specs.Record.{codec_as as bin_as};"],
-    &["ghost use Rattle.nano_schema_json.specs.Record.{codec_as as json_as};"],
-    &["ghost use Rattle.nano_schema_ron.specs.Record.{codec_as as ron_as};"],
+    &["ghost use Rattle.nano_bin_schema.specs.Structs.{codec_as as bin_as};"],
+    &["ghost use Rattle.nano_json_schema.specs.Structs.{codec_as as json_as};"],
+    &["ghost use Rattle.nano_ron_schema.specs.Structs.{codec_as as ron_as};"],
 ];
 
 /// A struct of one part, which it is.
 pub(crate) const TRANSPARENT: Form = Form {
     imports: HELD,
-    term: "$MODULE_as (λ x. x.0) ⟦<$ROW as nano_schema_$MODULE::$NAMECodec>⟧.$MODULE",
-    write: "        nano_schema_$MODULE::Ser$NAME::ser_$MODULE(&self.0, $ARGUMENTS)",
-    read: "        match <$ROW as nano_schema_$MODULE::De$NAME>::de_$MODULE($ARGUMENTS) {
+    term: "$MODULE_as (λ x. x.0) ⟦<$ROW as nano_$MODULE_schema::$NAMECodec>⟧.$MODULE",
+    write: "        nano_$MODULE_schema::Ser$NAME::ser_$MODULE(&self.0, $ARGUMENTS)",
+    read: "        match <$ROW as nano_$MODULE_schema::De$NAME>::de_$MODULE($ARGUMENTS) {
             Ok(value) => Ok($TYPE(value)),
             Err(error) => Err(error),
         }",
@@ -77,9 +77,9 @@ pub(crate) const TRANSPARENT: Form = Form {
 pub(crate) fn tupled(write: &str) -> Form<'_> {
     Form {
         imports: HELD,
-        term: "$MODULE_as ⟦<$FULL as nano_schema::Record>⟧.view \
-            ⟦<$VALUES as nano_schema_$MODULE::$NAMECodec>⟧.$MODULE",
+        term: "$MODULE_as ⟦<$FULL as nano_schema::StructSchema>⟧.view \
+            ⟦<$VALUES as nano_$MODULE_schema::$NAMECodec>⟧.$MODULE",
         write,
-        read: "        nano_schema_$MODULE::read_parts_$MODULE::<Self, $VALUES>($ARGUMENTS)",
+        read: "        nano_$MODULE_schema::read_parts_$MODULE::<Self, $VALUES>($ARGUMENTS)",
     }
 }

@@ -133,8 +133,8 @@ pub(crate) fn ghost_pairs(
     format!(in alloc; "({before}{first}{between}{second})")
 }
 
-/// The texts as nested pairs of a ghost term, after so many columns of a line that is indented so far
-/// and before some more. A pair that does not fit has a line for each of its two.
+/// The texts as nested pairs of a ghost term, after so many columns of a line that is indented so
+/// far and before some more. A pair that does not fit has a line for each of its two.
 pub(crate) fn laid_pairs(
     alloc: Global,
     texts: &[String],

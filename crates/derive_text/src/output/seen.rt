@@ -22,7 +22,7 @@ pub(crate) struct Seen {
 }
 
 const RECORD: &str = "
-impl$BOUNDS nano_schema::Record for $FULL {
+impl$BOUNDS nano_schema::StructSchema for $FULL {
     type Values = $FIELDS;
 
     ghost view = { λ x. $VIEW };
@@ -33,7 +33,7 @@ impl$BOUNDS nano_schema::Record for $FULL {
     }
 }
 
-impl$LIFETIME nano_schema::Parts<'a> for $FULL {
+impl$LIFETIME nano_schema::FieldRefs<'a> for $FULL {
     type Refs = $PARTS;
 
     ghost values = { ⟦<$ROW as nano_schema::Borrowed<'a>>⟧.values };
@@ -45,7 +45,7 @@ impl$LIFETIME nano_schema::Parts<'a> for $FULL {
 
 impl$BOUNDS nano_schema::Value for $FULL {
     ghost means = { λ x. ⟦<$ROW as nano_schema::Shape>⟧.means \
-        (⟦<$FULL as nano_schema::Record>⟧.view x) };
+        (⟦<$FULL as nano_schema::StructSchema>⟧.view x) };
 
     ghost legal = { ⟦<$ROW as nano_schema::Shape>⟧.legal };
 

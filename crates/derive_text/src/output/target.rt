@@ -4,8 +4,7 @@ use crate::output::agreement::{Agreement, agreement_of};
 use crate::output::parameters::bounds;
 use crate::output::sheet::Sheet;
 use crate::output::template::Holes;
-use derive_source::Fault;
-use derive_syntax::{Attributes, Definition, Shape, Token};
+use derive_syntax::{Attributes, Definition, Fault, Shape, Token};
 use std::alloc::{AllocError, Global};
 
 /// The type whose impls are written.

@@ -34,12 +34,12 @@ pub(crate) fn append_tuple<'a>(
 fn parts_writer(alloc: Global, count: usize) -> Result<String, AllocError> {
     let mut text = String::from_str(alloc, "        let parts = (\n")?;
     for place in PLACES.iter().take(count) {
-        text.push_str("            nano_schema_$MODULE::Part { of: &self.")?;
+        text.push_str("            nano_$MODULE_schema::Part { of: &self.")?;
         text.push_str(*place)?;
         text.push_str(" },\n")?;
     }
     text.push_str(
-        "        );\n        nano_schema_$MODULE::Ser$NAME::ser_$MODULE(&parts, $ARGUMENTS)",
+        "        );\n        nano_$MODULE_schema::Ser$NAME::ser_$MODULE(&parts, $ARGUMENTS)",
     )?;
     Ok(text)
 }

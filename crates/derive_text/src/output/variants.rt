@@ -12,8 +12,8 @@ use std::alloc::{AllocError, Global};
 /// What a pattern calls parts without names.
 pub(crate) const PARTS: [&str; 4] = ["first", "second", "third", "fourth"];
 
-/// Texts as a tuple, or the one text that there is, on a line that is indented so far, after so many
-/// columns of it.
+/// Texts as a tuple, or the one text that there is, on a line that is indented so far, after so
+/// many columns of it.
 pub(crate) fn tuple_of(
     alloc: Global,
     texts: &[String],

@@ -17,14 +17,14 @@ pub enum Choice {
     },
 }
 
-// ---- written by nano_derive
+// ---- written by derive_files
 
 ghost use Rattle.std.specs.Prelude.{codes, refl};
 ghost use Rattle.nano_schema.specs.declared.choices.Either.TheVariants.{First, Later};
 ghost use Rattle.nano_schema.specs.UserTypes.{LegalVariant, agreed};
-ghost use Rattle.nano_schema_bin.specs.Choice.{bin_choice};
-ghost use Rattle.nano_schema_json.specs.Choice.{json_choice};
-ghost use Rattle.nano_schema_ron.specs.Choice.{ron_choice};
+ghost use Rattle.nano_bin_schema.specs.Enums.{bin_choice};
+ghost use Rattle.nano_json_schema.specs.Enums.{json_choice};
+ghost use Rattle.nano_ron_schema.specs.Enums.{ron_choice};
 
 struct ChoiceA {}
 
@@ -107,7 +107,7 @@ type ChoiceRefs2<'a> = nano_schema::Either<(&'a i32, &'a String), ChoiceRefs3<'a
 
 type ChoiceRefs<'a> = nano_schema::Either<(), ChoiceRefs2<'a>>;
 
-impl nano_schema::Choice for Choice {
+impl nano_schema::EnumSchema for Choice {
     ghost use Rattle.nanoserde.specs.declared.records.choice.Choice.TheVariants.{A, B, C};
 
     type Values = ChoiceValues;
@@ -138,7 +138,7 @@ impl nano_schema::Choice for Choice {
     }
 }
 
-impl<'a> nano_schema::ChoiceParts<'a> for Choice {
+impl<'a> nano_schema::VariantRefs<'a> for Choice {
     type Refs = ChoiceRefs<'a>;
 
     ghost values = { ⟦<ChoiceVariants as nano_schema::BorrowedChoices<'a>>⟧.values };
@@ -165,7 +165,7 @@ impl<'a> nano_schema::ChoiceParts<'a> for Choice {
 
 impl nano_schema::Value for Choice {
     ghost means = { λ x. ⟦<ChoiceVariants as nano_schema::Choices>⟧.means 0
-        (⟦<Choice as nano_schema::Choice>⟧.view x) };
+        (⟦<Choice as nano_schema::EnumSchema>⟧.view x) };
 
     ghost legal = { LegalVariant ⟦<ChoiceVariants as nano_schema::Choices>⟧.legals };
 
@@ -176,91 +176,91 @@ impl nano_schema::Value for Choice {
 
 // ---- bytes
 
-impl nano_schema_bin::BinCodec for Choice {
-    ghost bin = { bin_choice ⟦<Choice as nano_schema::Choice>⟧.view
-        ⟦<ChoiceVariants as nano_schema_bin::BinShapes>⟧.chosen refl };
+impl nano_bin_schema::BinCodec for Choice {
+    ghost bin = { bin_choice ⟦<Choice as nano_schema::EnumSchema>⟧.view
+        ⟦<ChoiceVariants as nano_bin_schema::BinShapes>⟧.chosen refl };
 
     ghost agrees = { agreed };
 }
 
-impl nano_schema_bin::SerBin for Choice {
+impl nano_bin_schema::SerBin for Choice {
     fn ser_bin(
         &self,
         alloc: std::alloc::Global,
         output: &mut Vec<u8>,
     ) -> Result<(), std::alloc::AllocError> {
-        nano_schema_bin::write_choice_bin::<Self, ChoiceVariants>(self, alloc, output)
+        nano_bin_schema::write_choice_bin::<Self, ChoiceVariants>(self, alloc, output)
     }
 }
 
-impl nano_schema_bin::DeBin for Choice {
+impl nano_bin_schema::DeBin for Choice {
     ghost is_decodable = { refl };
 
     fn de_bin(
         alloc: std::alloc::Global,
         offset: &mut usize,
         bytes: &[u8],
-    ) -> Result<Self, nano_schema_bin::DeBinErr> {
-        nano_schema_bin::read_choice_bin::<Self, ChoiceVariants>(alloc, offset, bytes)
+    ) -> Result<Self, nano_bin_schema::DeBinErr> {
+        nano_bin_schema::read_choice_bin::<Self, ChoiceVariants>(alloc, offset, bytes)
     }
 }
 
 // ---- JSON
 
-impl nano_schema_json::JsonCodec for Choice {
-    ghost json = { json_choice ⟦<Choice as nano_schema::Choice>⟧.view
-        ⟦<ChoiceVariants as nano_schema_json::JsonShapes>⟧.codec refl refl refl };
+impl nano_json_schema::JsonCodec for Choice {
+    ghost json = { json_choice ⟦<Choice as nano_schema::EnumSchema>⟧.view
+        ⟦<ChoiceVariants as nano_json_schema::JsonShapes>⟧.codec refl refl refl };
 
     ghost agrees = { agreed };
 }
 
-impl nano_schema_json::SerJson for Choice {
+impl nano_json_schema::SerJson for Choice {
     fn ser_json(
         &self,
         alloc: std::alloc::Global,
         d: usize,
-        s: &mut nano_schema_json::SerJsonState,
+        s: &mut nano_json_schema::SerJsonState,
     ) -> Result<(), std::alloc::AllocError> {
-        nano_schema_json::write_choice_json::<Self, ChoiceVariants>(self, alloc, d, s)
+        nano_json_schema::write_choice_json::<Self, ChoiceVariants>(self, alloc, d, s)
     }
 }
 
-impl nano_schema_json::DeJson for Choice {
+impl nano_json_schema::DeJson for Choice {
     fn de_json(
         alloc: std::alloc::Global,
-        state: &mut nano_schema_json::DeJsonState,
+        state: &mut nano_json_schema::DeJsonState,
         input: &mut std::str::Chars<'_>,
-    ) -> nano_schema_json::JsonResult<Self> {
-        nano_schema_json::read_choice_json::<Self, ChoiceVariants>(alloc, state, input)
+    ) -> nano_json_schema::JsonResult<Self> {
+        nano_json_schema::read_choice_json::<Self, ChoiceVariants>(alloc, state, input)
     }
 }
 
 // ---- RON
 
-impl nano_schema_ron::RonCodec for Choice {
-    ghost ron = { ron_choice ⟦<Choice as nano_schema::Choice>⟧.view
-        ⟦<ChoiceVariants as nano_schema_ron::RonShapes>⟧.codec refl refl refl };
+impl nano_ron_schema::RonCodec for Choice {
+    ghost ron = { ron_choice ⟦<Choice as nano_schema::EnumSchema>⟧.view
+        ⟦<ChoiceVariants as nano_ron_schema::RonShapes>⟧.codec refl refl refl };
 
     ghost agrees = { agreed };
 }
 
-impl nano_schema_ron::SerRon for Choice {
+impl nano_ron_schema::SerRon for Choice {
     fn ser_ron(
         &self,
         alloc: std::alloc::Global,
         d: usize,
-        s: &mut nano_schema_ron::SerRonState,
+        s: &mut nano_ron_schema::SerRonState,
     ) -> Result<(), std::alloc::AllocError> {
-        nano_schema_ron::write_choice_ron::<Self, ChoiceVariants>(self, alloc, d, s)
+        nano_ron_schema::write_choice_ron::<Self, ChoiceVariants>(self, alloc, d, s)
     }
 }
 
-impl nano_schema_ron::DeRon for Choice {
+impl nano_ron_schema::DeRon for Choice {
     fn de_ron(
         alloc: std::alloc::Global,
-        state: &mut nano_schema_ron::DeRonState,
+        state: &mut nano_ron_schema::DeRonState,
         input: &mut std::str::Chars<'_>,
-    ) -> nano_schema_ron::RonResult<Self> {
-        nano_schema_ron::read_choice_ron::<Self, ChoiceVariants>(alloc, state, input)
+    ) -> nano_ron_schema::RonResult<Self> {
+        nano_ron_schema::read_choice_ron::<Self, ChoiceVariants>(alloc, state, input)
     }
 }

@@ -8,13 +8,13 @@ pub struct Holder<T> {
     pub x: T,
 }
 
-// ---- written by nano_derive
+// ---- written by derive_files
 
 ghost use Rattle.std.specs.Prelude.{codes, refl};
-ghost use Rattle.nano_schema_bin.specs.Record.{bin_of};
+ghost use Rattle.nano_bin_schema.specs.Structs.{bin_of};
 ghost use Rattle.nano_schema.specs.UserTypes.{seen_agrees};
-ghost use Rattle.nano_schema_json.specs.Record.{json_of};
-ghost use Rattle.nano_schema_ron.specs.Record.{ron_of};
+ghost use Rattle.nano_json_schema.specs.Structs.{json_of};
+ghost use Rattle.nano_ron_schema.specs.Structs.{ron_of};
 
 struct HolderX {}
 
@@ -28,7 +28,7 @@ impl nano_schema::Label for HolderX {
 
 type HolderFields<T> = nano_schema::Required<HolderX, T>;
 
-impl<T: nano_schema::Value> nano_schema::Record for Holder<T> {
+impl<T: nano_schema::Value> nano_schema::StructSchema for Holder<T> {
     type Values = T;
 
     ghost view = { λ x. x.x };
@@ -39,7 +39,7 @@ impl<T: nano_schema::Value> nano_schema::Record for Holder<T> {
     }
 }
 
-impl<'a, T: nano_schema::Value + 'a> nano_schema::Parts<'a> for Holder<T> {
+impl<'a, T: nano_schema::Value + 'a> nano_schema::FieldRefs<'a> for Holder<T> {
     type Refs = &'a T;
 
     ghost values = { ⟦<HolderFields<T> as nano_schema::Borrowed<'a>>⟧.values };
@@ -51,7 +51,7 @@ impl<'a, T: nano_schema::Value + 'a> nano_schema::Parts<'a> for Holder<T> {
 
 impl<T: nano_schema::Value> nano_schema::Value for Holder<T> {
     ghost means = { λ x. ⟦<HolderFields<T> as nano_schema::Shape>⟧.means
-        (⟦<Holder<T> as nano_schema::Record>⟧.view x) };
+        (⟦<Holder<T> as nano_schema::StructSchema>⟧.view x) };
 
     ghost legal = { ⟦<HolderFields<T> as nano_schema::Shape>⟧.legal };
 
@@ -62,91 +62,91 @@ impl<T: nano_schema::Value> nano_schema::Value for Holder<T> {
 
 // ---- bytes
 
-impl<T: nano_schema_bin::BinCodec> nano_schema_bin::BinCodec for Holder<T> {
-    ghost bin = { bin_of ⟦<Holder<T> as nano_schema::Record>⟧.view
-        ⟦<HolderFields<T> as nano_schema_bin::BinShape>⟧.codec };
+impl<T: nano_bin_schema::BinCodec> nano_bin_schema::BinCodec for Holder<T> {
+    ghost bin = { bin_of ⟦<Holder<T> as nano_schema::StructSchema>⟧.view
+        ⟦<HolderFields<T> as nano_bin_schema::BinShape>⟧.codec };
 
-    ghost agrees = { seen_agrees T.agrees ⟦<Holder<T> as nano_schema::Record>⟧.view };
+    ghost agrees = { seen_agrees T.agrees ⟦<Holder<T> as nano_schema::StructSchema>⟧.view };
 }
 
-impl<T: nano_schema_bin::SerBin> nano_schema_bin::SerBin for Holder<T> {
+impl<T: nano_bin_schema::SerBin> nano_bin_schema::SerBin for Holder<T> {
     fn ser_bin(
         &self,
         alloc: std::alloc::Global,
         output: &mut Vec<u8>,
     ) -> Result<(), std::alloc::AllocError> {
-        nano_schema_bin::write_record_bin::<Self, HolderFields<T>>(self, alloc, output)
+        nano_bin_schema::write_record_bin::<Self, HolderFields<T>>(self, alloc, output)
     }
 }
 
-impl<T: nano_schema_bin::DeBin> nano_schema_bin::DeBin for Holder<T> {
+impl<T: nano_bin_schema::DeBin> nano_bin_schema::DeBin for Holder<T> {
     ghost is_decodable = { T.is_decodable };
 
     fn de_bin(
         alloc: std::alloc::Global,
         offset: &mut usize,
         bytes: &[u8],
-    ) -> Result<Self, nano_schema_bin::DeBinErr> {
-        nano_schema_bin::read_record_bin::<Self, HolderFields<T>>(alloc, offset, bytes)
+    ) -> Result<Self, nano_bin_schema::DeBinErr> {
+        nano_bin_schema::read_record_bin::<Self, HolderFields<T>>(alloc, offset, bytes)
     }
 }
 
 // ---- JSON
 
-impl<T: nano_schema_json::JsonCodec> nano_schema_json::JsonCodec for Holder<T> {
-    ghost json = { json_of ⟦<Holder<T> as nano_schema::Record>⟧.view
-        ⟦<HolderFields<T> as nano_schema_json::JsonShape>⟧.codec refl };
+impl<T: nano_json_schema::JsonCodec> nano_json_schema::JsonCodec for Holder<T> {
+    ghost json = { json_of ⟦<Holder<T> as nano_schema::StructSchema>⟧.view
+        ⟦<HolderFields<T> as nano_json_schema::JsonShape>⟧.codec refl };
 
-    ghost agrees = { seen_agrees T.agrees ⟦<Holder<T> as nano_schema::Record>⟧.view };
+    ghost agrees = { seen_agrees T.agrees ⟦<Holder<T> as nano_schema::StructSchema>⟧.view };
 }
 
-impl<T: nano_schema_json::SerJson> nano_schema_json::SerJson for Holder<T> {
+impl<T: nano_json_schema::SerJson> nano_json_schema::SerJson for Holder<T> {
     fn ser_json(
         &self,
         alloc: std::alloc::Global,
         d: usize,
-        s: &mut nano_schema_json::SerJsonState,
+        s: &mut nano_json_schema::SerJsonState,
     ) -> Result<(), std::alloc::AllocError> {
-        nano_schema_json::write_record_json::<Self, HolderFields<T>>(self, alloc, d, s)
+        nano_json_schema::write_record_json::<Self, HolderFields<T>>(self, alloc, d, s)
     }
 }
 
-impl<T: nano_schema_json::DeJson> nano_schema_json::DeJson for Holder<T> {
+impl<T: nano_json_schema::DeJson> nano_json_schema::DeJson for Holder<T> {
     fn de_json(
         alloc: std::alloc::Global,
-        state: &mut nano_schema_json::DeJsonState,
+        state: &mut nano_json_schema::DeJsonState,
         input: &mut std::str::Chars<'_>,
-    ) -> nano_schema_json::JsonResult<Self> {
-        nano_schema_json::read_record_json::<Self, HolderFields<T>>(alloc, state, input)
+    ) -> nano_json_schema::JsonResult<Self> {
+        nano_json_schema::read_record_json::<Self, HolderFields<T>>(alloc, state, input)
     }
 }
 
 // ---- RON
 
-impl<T: nano_schema_ron::RonCodec> nano_schema_ron::RonCodec for Holder<T> {
-    ghost ron = { ron_of ⟦<Holder<T> as nano_schema::Record>⟧.view
-        ⟦<HolderFields<T> as nano_schema_ron::RonShape>⟧.codec refl };
+impl<T: nano_ron_schema::RonCodec> nano_ron_schema::RonCodec for Holder<T> {
+    ghost ron = { ron_of ⟦<Holder<T> as nano_schema::StructSchema>⟧.view
+        ⟦<HolderFields<T> as nano_ron_schema::RonShape>⟧.codec refl };
 
-    ghost agrees = { seen_agrees T.agrees ⟦<Holder<T> as nano_schema::Record>⟧.view };
+    ghost agrees = { seen_agrees T.agrees ⟦<Holder<T> as nano_schema::StructSchema>⟧.view };
 }
 
-impl<T: nano_schema_ron::SerRon> nano_schema_ron::SerRon for Holder<T> {
+impl<T: nano_ron_schema::SerRon> nano_ron_schema::SerRon for Holder<T> {
     fn ser_ron(
         &self,
         alloc: std::alloc::Global,
         d: usize,
-        s: &mut nano_schema_ron::SerRonState,
+        s: &mut nano_ron_schema::SerRonState,
     ) -> Result<(), std::alloc::AllocError> {
-        nano_schema_ron::write_record_ron::<Self, HolderFields<T>>(self, alloc, d, s)
+        nano_ron_schema::write_record_ron::<Self, HolderFields<T>>(self, alloc, d, s)
     }
 }
 
-impl<T: nano_schema_ron::DeRon> nano_schema_ron::DeRon for Holder<T> {
+impl<T: nano_ron_schema::DeRon> nano_ron_schema::DeRon for Holder<T> {
     fn de_ron(
         alloc: std::alloc::Global,
-        state: &mut nano_schema_ron::DeRonState,
+        state: &mut nano_ron_schema::DeRonState,
         input: &mut std::str::Chars<'_>,
-    ) -> nano_schema_ron::RonResult<Self> {
-        nano_schema_ron::read_record_ron::<Self, HolderFields<T>>(alloc, state, input)
+    ) -> nano_ron_schema::RonResult<Self> {
+        nano_ron_schema::read_record_ron::<Self, HolderFields<T>>(alloc, state, input)
     }
 }

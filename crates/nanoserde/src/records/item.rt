@@ -10,13 +10,13 @@ pub struct Item {
     pub note: Option<String>,
 }
 
-// ---- written by nano_derive
+// ---- written by derive_files
 
 ghost use Rattle.std.specs.Prelude.{codes, refl};
-ghost use Rattle.nano_schema_bin.specs.Record.{bin_of};
+ghost use Rattle.nano_bin_schema.specs.Structs.{bin_of};
 ghost use Rattle.nano_schema.specs.UserTypes.{agreed};
-ghost use Rattle.nano_schema_json.specs.Record.{json_of};
-ghost use Rattle.nano_schema_ron.specs.Record.{ron_of};
+ghost use Rattle.nano_json_schema.specs.Structs.{json_of};
+ghost use Rattle.nano_ron_schema.specs.Structs.{ron_of};
 
 struct ItemValue {}
 
@@ -43,7 +43,7 @@ type ItemFields = (
     nano_schema::Optional<ItemNote, String>,
 );
 
-impl nano_schema::Record for Item {
+impl nano_schema::StructSchema for Item {
     type Values = (i32, Option<String>);
 
     ghost view = { λ x. (x.value, x.note) };
@@ -54,7 +54,7 @@ impl nano_schema::Record for Item {
     }
 }
 
-impl<'a> nano_schema::Parts<'a> for Item {
+impl<'a> nano_schema::FieldRefs<'a> for Item {
     type Refs = (&'a i32, &'a Option<String>);
 
     ghost values = { ⟦<ItemFields as nano_schema::Borrowed<'a>>⟧.values };
@@ -66,7 +66,7 @@ impl<'a> nano_schema::Parts<'a> for Item {
 
 impl nano_schema::Value for Item {
     ghost means = { λ x. ⟦<ItemFields as nano_schema::Shape>⟧.means
-        (⟦<Item as nano_schema::Record>⟧.view x) };
+        (⟦<Item as nano_schema::StructSchema>⟧.view x) };
 
     ghost legal = { ⟦<ItemFields as nano_schema::Shape>⟧.legal };
 
@@ -77,91 +77,91 @@ impl nano_schema::Value for Item {
 
 // ---- bytes
 
-impl nano_schema_bin::BinCodec for Item {
-    ghost bin = { bin_of ⟦<Item as nano_schema::Record>⟧.view
-        ⟦<ItemFields as nano_schema_bin::BinShape>⟧.codec };
+impl nano_bin_schema::BinCodec for Item {
+    ghost bin = { bin_of ⟦<Item as nano_schema::StructSchema>⟧.view
+        ⟦<ItemFields as nano_bin_schema::BinShape>⟧.codec };
 
     ghost agrees = { agreed };
 }
 
-impl nano_schema_bin::SerBin for Item {
+impl nano_bin_schema::SerBin for Item {
     fn ser_bin(
         &self,
         alloc: std::alloc::Global,
         output: &mut Vec<u8>,
     ) -> Result<(), std::alloc::AllocError> {
-        nano_schema_bin::write_record_bin::<Self, ItemFields>(self, alloc, output)
+        nano_bin_schema::write_record_bin::<Self, ItemFields>(self, alloc, output)
     }
 }
 
-impl nano_schema_bin::DeBin for Item {
+impl nano_bin_schema::DeBin for Item {
     ghost is_decodable = { refl };
 
     fn de_bin(
         alloc: std::alloc::Global,
         offset: &mut usize,
         bytes: &[u8],
-    ) -> Result<Self, nano_schema_bin::DeBinErr> {
-        nano_schema_bin::read_record_bin::<Self, ItemFields>(alloc, offset, bytes)
+    ) -> Result<Self, nano_bin_schema::DeBinErr> {
+        nano_bin_schema::read_record_bin::<Self, ItemFields>(alloc, offset, bytes)
     }
 }
 
 // ---- JSON
 
-impl nano_schema_json::JsonCodec for Item {
-    ghost json = { json_of ⟦<Item as nano_schema::Record>⟧.view
-        ⟦<ItemFields as nano_schema_json::JsonShape>⟧.codec refl };
+impl nano_json_schema::JsonCodec for Item {
+    ghost json = { json_of ⟦<Item as nano_schema::StructSchema>⟧.view
+        ⟦<ItemFields as nano_json_schema::JsonShape>⟧.codec refl };
 
     ghost agrees = { agreed };
 }
 
-impl nano_schema_json::SerJson for Item {
+impl nano_json_schema::SerJson for Item {
     fn ser_json(
         &self,
         alloc: std::alloc::Global,
         d: usize,
-        s: &mut nano_schema_json::SerJsonState,
+        s: &mut nano_json_schema::SerJsonState,
     ) -> Result<(), std::alloc::AllocError> {
-        nano_schema_json::write_record_json::<Self, ItemFields>(self, alloc, d, s)
+        nano_json_schema::write_record_json::<Self, ItemFields>(self, alloc, d, s)
     }
 }
 
-impl nano_schema_json::DeJson for Item {
+impl nano_json_schema::DeJson for Item {
     fn de_json(
         alloc: std::alloc::Global,
-        state: &mut nano_schema_json::DeJsonState,
+        state: &mut nano_json_schema::DeJsonState,
         input: &mut std::str::Chars<'_>,
-    ) -> nano_schema_json::JsonResult<Self> {
-        nano_schema_json::read_record_json::<Self, ItemFields>(alloc, state, input)
+    ) -> nano_json_schema::JsonResult<Self> {
+        nano_json_schema::read_record_json::<Self, ItemFields>(alloc, state, input)
     }
 }
 
 // ---- RON
 
-impl nano_schema_ron::RonCodec for Item {
-    ghost ron = { ron_of ⟦<Item as nano_schema::Record>⟧.view
-        ⟦<ItemFields as nano_schema_ron::RonShape>⟧.codec refl };
+impl nano_ron_schema::RonCodec for Item {
+    ghost ron = { ron_of ⟦<Item as nano_schema::StructSchema>⟧.view
+        ⟦<ItemFields as nano_ron_schema::RonShape>⟧.codec refl };
 
     ghost agrees = { agreed };
 }
 
-impl nano_schema_ron::SerRon for Item {
+impl nano_ron_schema::SerRon for Item {
     fn ser_ron(
         &self,
         alloc: std::alloc::Global,
         d: usize,
-        s: &mut nano_schema_ron::SerRonState,
+        s: &mut nano_ron_schema::SerRonState,
     ) -> Result<(), std::alloc::AllocError> {
-        nano_schema_ron::write_record_ron::<Self, ItemFields>(self, alloc, d, s)
+        nano_ron_schema::write_record_ron::<Self, ItemFields>(self, alloc, d, s)
     }
 }
 
-impl nano_schema_ron::DeRon for Item {
+impl nano_ron_schema::DeRon for Item {
     fn de_ron(
         alloc: std::alloc::Global,
-        state: &mut nano_schema_ron::DeRonState,
+        state: &mut nano_ron_schema::DeRonState,
         input: &mut std::str::Chars<'_>,
-    ) -> nano_schema_ron::RonResult<Self> {
-        nano_schema_ron::read_record_ron::<Self, ItemFields>(alloc, state, input)
+    ) -> nano_ron_schema::RonResult<Self> {
+        nano_ron_schema::read_record_ron::<Self, ItemFields>(alloc, state, input)
     }
 }

@@ -1,6 +1,6 @@
 use Rattle.std.proofs.Common.{List, ℕ, subst, sym}
 use Rattle.std.proofs.lemmas.Result.{IfOk-weaker, IfErr-weaker}
-use Rattle.nano_bin.specs.CodecLaws.{encodes_written}
+use Rattle.nano_bin_bytes.proofs.CodecLaws.{encodes_written}
 use Rattle.nano_bin.proofs.RoundTrip.{for_memory}
 use Rattle.nano_bin.proofs.laws.read_back_whole.Goals as goal
 

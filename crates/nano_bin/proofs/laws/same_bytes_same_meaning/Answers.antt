@@ -1,5 +1,5 @@
 use Rattle.std.proofs.Common.{subst}
-use Rattle.nano_bin.specs.CodecLaws.{encodes_written, writes_same}
+use Rattle.nano_bin_bytes.proofs.CodecLaws.{encodes_written, writes_same}
 use Rattle.nano_bin.proofs.laws.same_bytes_same_meaning.Goals as goal
 
 pub returns : goal.returns

@@ -1,4 +1,4 @@
-use Rattle.nano_bin.specs.CodecLaws.{writes_same}
+use Rattle.nano_bin_bytes.proofs.CodecLaws.{writes_same}
 use Rattle.nano_bin.proofs.laws.same_meaning_same_bytes.Goals as goal
 
 pub returns : goal.returns

@@ -1,8 +1,8 @@
 use Rattle.std.proofs.Common.{rules, ◌≡◌, ◌+◌, ◌≤◌, ◌++◌, ◌∙◌, ℕ, List, take, length, ap, arith, append_assoc}
 use Rattle.std.proofs.lemmas.Slice.{take-put_mid, overwrites}
 use borrow.Rule.Slice.PartMut.{put_mid}
-use Rattle.nano_bytes.specs.LittleEndian.{little_endian}
-use Rattle.nano_bytes.specs.LittleEndianLaws.{length-little_endian}
+use Rattle.nano_bin_bytes.specs.LittleEndian.{little_endian}
+use Rattle.nano_bin_bytes.specs.NumberImpls.{length-little_endian}
 use Rattle.nano_bin.proofs.text_lists.put_text.Goals as goal
 
 -- what two writes, one after the other, leave up to their end
@@ -12,8 +12,8 @@ two_writes a m e k n xs ys zs first width inside second =
     let long : m ≤ length (put_mid a k xs ys) = search (rules, overwrites) in
     take-put_mid m n (put_mid a k xs ys) zs e second long ∙ (ap (λ l. l ++ zs) (take-put_mid a k xs ys m first fits) ∙ append_assoc (take a xs) ys zs)
 
-pub returns-clause-put : goal.returns-clause-put
-returns-clause-put c =
+pub returns : goal.returns
+returns c =
     let place = c.args.place in
     let head = c.copy_from_slice.new.self in
     let text = c.copy_from_slice-2.new.self in
@@ -21,5 +21,9 @@ returns-clause-put c =
     let width : length head ≡ 8 = ap length first ∙ length-little_endian 8 (length c.args.text.now) in
     let second : text ≡ c.args.text.now = c.copy_from_slice-2.ensures.after in
     let long : length text ≡ length c.args.text.now = ap length second in
-    two_writes place (place + 8) _ _ _ c.args.bytes.now head text (omega arith) (omega arith) (omega arith) (omega arith)
-    ∙ (λ i. take place c.args.bytes.now ++ (first i ++ second i))
+    record {
+      ends = omega arith;
+      put =
+          two_writes place (place + 8) _ _ _ c.args.bytes.now head text (omega arith) (omega arith) (omega arith) (omega arith)
+          ∙ (λ i. take place c.args.bytes.now ++ (first i ++ second i));
+    }

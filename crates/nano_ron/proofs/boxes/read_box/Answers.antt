@@ -1,12 +1,8 @@
-use Rattle.std.proofs.lemmas.Result.{err_from_is_err_and}
+use Rattle.nano_grammar.proofs.Outcomes.{passed_on, fails_for_memory}
 use Rattle.nano_ron.proofs.boxes.read_box.Goals as goal
 
-pub returns-in_err-value-clause-rejected : goal.returns-in_err-value-clause-rejected
-returns-in_err-value-clause-rejected g c =
-    let p = err_from_is_err_and c.from_residual.result c.from_residual.ensures.1 in
-    rw (p.1, p.2) c.in_err-value.ensures.rejected
+pub returns-in_err-value : goal.returns-in_err-value
+returns-in_err-value g c = passed_on _ _ c.from_residual.result c.from_residual.ensures.1 c.in_err-value.ensures.fails
 
-pub returns-in_err-value-clause-made : goal.returns-in_err-value-clause-made
-returns-in_err-value-clause-made g c =
-    let p = err_from_is_err_and c.from_residual.result c.from_residual.ensures.1 in
-    rw (p.1, p.2) c.in_err-value.ensures.made
+pub returns-in-Err : goal.returns-in-Err
+returns-in-Err g c = fails_for_memory c.in_ok-value.ensures.place c.err_memory.ensures.memory c.err_memory.ensures.made

@@ -1,26 +1,20 @@
 use Rattle.std.proofs.Common.{◌∙◌}
 use Rattle.std.proofs.lemmas.Bool.{true_from_ne_false}
-use Rattle.std.proofs.lemmas.Result.{IfErr-weaker, IfOk-weaker}
+use Rattle.std.proofs.lemmas.Result.{MatchResult-weaker}
 use Rattle.nano_grammar.proofs.WholeInputs.{written_whole, one_whole}
 use Rattle.nano_ron.proofs.Ron.{ron_laws, legal_there}
 use Rattle.nano_ron.proofs.laws.read_back_whole.Goals as goal
 
-pub returns-in-Ok-clause-same : goal.returns-in-Ok-clause-same
-returns-in-Ok-clause-same g c =
+pub returns-in-Ok : goal.returns-in-Ok
+returns-in-Ok g c =
     let f = g.T.RonCodec.ron in
     let w = f.canonical in
     let x = c.args.written.now in
     let written = f.is_written x (legal_there f g.met.T.RonCodec.agrees x c.known.ensures) 0 in
-    IfOk-weaker c.deserialize_ron_whole.result _ _ (λ read found sound.
+    MatchResult-weaker c.deserialize_ron_whole.result c.deserialize_ron_whole.ensures
+    (λ read found sound.
     let fits = written_whole ron_laws f.encoding.laws (w.tokens x) (w.text 0 x) c.as_str.result.now (g.T.Value.means x) written (c.as_str.ensures.value ∙ c.in-Ok.ensures) (c.written_tokens_encode_a_sound_value.ensures sound) in
-    one_whole ron_laws f.encoding.laws _ _ _ _ found fits) c.deserialize_ron_whole.ensures.decodes
-
-pub returns-in-Ok-clause-memory : goal.returns-in-Ok-clause-memory
-returns-in-Ok-clause-memory g c =
-    let f = g.T.RonCodec.ron in
-    let w = f.canonical in
-    let x = c.args.written.now in
-    let written = f.is_written x (legal_there f g.met.T.RonCodec.agrees x c.known.ensures) 0 in
-    IfErr-weaker c.deserialize_ron_whole.result _ _ (λ e none sound.
+    one_whole ron_laws f.encoding.laws _ _ _ _ found fits)
+    (λ e none sound.
     let fits = written_whole ron_laws f.encoding.laws (w.tokens x) (w.text 0 x) c.as_str.result.now (g.T.Value.means x) written (c.as_str.ensures.value ∙ c.in-Ok.ensures) (c.written_tokens_encode_a_sound_value.ensures sound) in
-    true_from_ne_false e.memory (λ known. none.0 known _ fits)) c.deserialize_ron_whole.ensures.rejected
+    true_from_ne_false e.memory (λ known. none.rejected known _ fits))

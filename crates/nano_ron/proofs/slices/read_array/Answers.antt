@@ -1,12 +1,5 @@
-use Rattle.std.proofs.lemmas.Result.{err_from_is_err_and}
+use Rattle.nano_grammar.proofs.Outcomes.{passed_on}
 use Rattle.nano_ron.proofs.slices.read_array.Goals as goal
 
-pub returns-in_err-items-clause-rejected : goal.returns-in_err-items-clause-rejected
-returns-in_err-items-clause-rejected g c =
-    let p = err_from_is_err_and c.from_residual.result c.from_residual.ensures.1 in
-    rw (p.1, p.2) c.in_err-items.ensures.rejected
-
-pub returns-in_err-items-clause-made : goal.returns-in_err-items-clause-made
-returns-in_err-items-clause-made g c =
-    let p = err_from_is_err_and c.from_residual.result c.from_residual.ensures.1 in
-    rw (p.1, p.2) c.in_err-items.ensures.made
+pub returns-in_err-items : goal.returns-in_err-items
+returns-in_err-items g c = passed_on _ _ c.from_residual.result c.from_residual.ensures.1 c.in_err-items.ensures.reads

@@ -1,134 +1,70 @@
-use Rattle.std.proofs.Common.{◌≡◌, ◌<◌, List, [], ◌∷◌, map, length, sym, ◌∙◌, ap, subst, arith}
+use Rattle.std.proofs.Common.{◌≡◌, ◌<◌, List, [], ◌∷◌, ◌++◌, map, length, refl, sym, ◌∙◌, ap, subst, arith}
 use Rattle.std.proofs.lemmas.Grind.{common_steps}
 use Rattle.std.proofs.lemmas.List.{map-append, length-map, length-append}
-use Rattle.std.proofs.lemmas.Result.{err_from_is_err_and}
 use Rattle.nano_value.specs.Meaning.{Meaning, listed}
-use Rattle.nano_grammar.proofs.ArrayReading.{not_closing, item_missing, item_too_many}
-use Rattle.nano_grammar.proofs.Containers.{ReadSoFar, read_start, read_next, read_found, read_open_rejected, read_comma_rejected}
-use Rattle.nano_grammar.proofs.Reading.{image_spans, image_rejected, count_spans, count_rejected}
+use Rattle.nano_grammar.proofs.CollectingCalls.{filled_none, filled_next, filled_no_more, array_read}
+use Rattle.nano_grammar.proofs.CollectingCalls.{array_opening_not, array_item_not, array_comma_not, array_closing_not}
+use Rattle.nano_grammar.proofs.Outcomes.{passed_on}
 use Rattle.nano_ron_tokens.specs.Brackets.{parens}
-use Rattle.nano_ron_tokens.specs.RonLaws.{ron, paren_brackets}
-use Rattle.nano_ron_tokens.specs.State.{at}
+use Rattle.nano_ron_tokens.proofs.RonLaws.{paren_brackets}
 use Rattle.nano_ron.proofs.Ron.{ron_laws}
-use Rattle.nano_text.specs.PlaceLaws.{advances_append}
+use Rattle.nano_ron.proofs.slices.read_items.Invariants.{mean}
 use Rattle.nano_ron.proofs.slices.read_items.Goals as goal
 
 pub loop-index-init : goal.loop-index-init
 loop-index-init g c = record {
-  read = rw c.new-items.ensures.items (read_start ron_laws g.T.RonCodec.ron.encoding.laws parens paren_brackets (at c.args.state.now c.args.input.now) (at c.paren_open.new.self c.paren_open.new.i) c.in_ok-paren_open.ensures.taken);
+  filled = rw c.new-items.ensures.items (filled_none ron_laws parens paren_brackets g.T.RonCodec.ron.encoding.laws mean [] refl c.in_ok-paren_open.ensures);
   count = ap length c.new-items.ensures.items;
-  place = c.in_ok-paren_open.ensures.place;
 }
 
 pub loop-index-preserved : goal.loop-index-preserved
 loop-index-preserved g c =
-    let s = g.T.RonCodec.ron.encoding in
     let means = g.T.Value.means in
-    let start = at c.args.state.now c.args.input.now in
-    let here = at c.loop-index.state c.loop-index.input in
-    let following = at c.de_ron.new.state c.de_ron.new.input in
-    let next = at c.eat_comma_paren.new.self c.eat_comma_paren.new.i in
-    let item = means c.in_ok-item.item in
-    let other = not_closing ron_laws parens paren_brackets s.laws here following item c.in_ok-item.ensures.decodes in
-    let more = read_next ron_laws s.laws parens paren_brackets start here following next (map means c.loop-index.items.items) item c.loop-index.invariant.read other c.in_ok-item.ensures.decodes c.in_ok-eat_comma_paren.ensures.taken in
-    let same = sym (map-append means c.loop-index.items.items (c.in_ok-item.item ∷ [])) in
-    let long = length-append c.loop-index.items.items (c.in_ok-item.item ∷ []) in
+    let here = c.loop-index.items.items in
+    let item = c.in_ok-item.item in
+    let long = length-append here (item ∷ []) in
     let count = c.loop-index.invariant.count in
     rw (c.push.ensures.items, c.if-is_err.ensures.negation) (record {
-      read = subst (λ (ms : List Meaning). ReadSoFar ron_laws parens s.encodes start next ms) same more;
+      filled = filled_next ron_laws parens paren_brackets g.T.RonCodec.ron.encoding.laws mean (map means (here ++ item ∷ [])) c.loop-index.invariant.filled c.in_ok-item.ensures c.in_ok-eat_comma_paren.ensures
+          (λ ms is. map-append means here (item ∷ []) ∙ ap (λ (l : List Meaning). l ++ means item ∷ []) is);
       count = omega (arith, long, count);
-      place = advances_append c.loop-index.invariant.place (advances_append c.in_ok-item.ensures.place c.in_ok-eat_comma_paren.ensures.place);
     })
 
-pub returns-clause-decodes : goal.returns-clause-decodes
-returns-clause-decodes g c =
-    let s = g.T.RonCodec.ron.encoding in
-    let start = at c.args.state.now c.args.input.now in
-    let end = at c.paren_close.new.self c.paren_close.new.i in
-    let taken = map g.T.Value.means c.loop-index.items.items in
+pub returns-clause-reads : goal.returns-clause-reads
+returns-clause-reads g c =
     let full : length c.loop-index.items.items ≡ c.args.count = grind (arith, common_steps) in
-    let found = read_found ron_laws s.laws parens paren_brackets start (at c.loop-index.state c.loop-index.input) end taken c.loop-index.invariant.read c.in_ok-paren_close.ensures.taken in
-    image_spans ron listed start end taken (count_spans ron_laws parens s.encodes start c.args.count end taken (length-map c.loop-index.items.items g.T.Value.means ∙ full) found)
+    array_read ron_laws parens paren_brackets g.T.RonCodec.ron.encoding.laws mean listed c.args.count listed
+    (λ ms is. (ap listed is, sym (ap length is) ∙ (length-map c.loop-index.items.items g.T.Value.means ∙ full)))
+    c.loop-index.invariant.filled c.in_ok-paren_close.ensures
 
-pub returns-in_err-paren_open-clause-rejected : goal.returns-in_err-paren_open-clause-rejected
-returns-in_err-paren_open-clause-rejected g c =
-    let p = err_from_is_err_and c.from_residual.result c.from_residual.ensures.1 in
-    let s = g.T.RonCodec.ron.encoding in
-    let start = at c.args.state.now c.args.input.now in
-    let r = c.in_err-paren_open.ensures.rejected in
-    rw (p.1, p.2) (λ known. image_rejected ron listed start (count_rejected ron_laws parens s.encodes start c.args.count (read_open_rejected ron_laws s.laws parens paren_brackets start (r.0 known))), r.1.0)
+pub returns-then-is_err-clause-reads : goal.returns-then-is_err-clause-reads
+returns-then-is_err-clause-reads g c =
+    filled_no_more ron_laws parens paren_brackets g.T.RonCodec.ron.encoding.laws mean c.loop-index.invariant.filled c.in_ok-item.ensures c.err_memory.ensures.memory c.err_memory.ensures.made
 
-pub returns-in_err-item-clause-rejected : goal.returns-in_err-item-clause-rejected
-returns-in_err-item-clause-rejected g c =
-    let p = err_from_is_err_and c.from_residual-in_err-item.result c.from_residual-in_err-item.ensures.1 in
-    let s = g.T.RonCodec.ron.encoding in
-    let start = at c.args.state.now c.args.input.now in
-    let here = at c.loop-index.state c.loop-index.input in
-    let taken = map g.T.Value.means c.loop-index.items.items in
-    let few : length taken < c.args.count = let long = length-map c.loop-index.items.items g.T.Value.means in let count = c.loop-index.invariant.count in let less = c.loop-index-test.true in omega (arith, long, count, less) in
-    let r = c.in_err-item.ensures.rejected in
-    rw (p.1, p.2) (λ known. image_rejected ron listed start (item_missing ron_laws parens paren_brackets s.laws start here taken c.loop-index.invariant.read c.args.count few (r.0 known)), r.1)
+pub returns-in_err-paren_open-clause-reads : goal.returns-in_err-paren_open-clause-reads
+returns-in_err-paren_open-clause-reads g c =
+    passed_on _ _ c.from_residual.result c.from_residual.ensures.1
+    (array_opening_not ron_laws parens paren_brackets g.T.RonCodec.ron.encoding.laws mean listed c.args.count c.in_err-paren_open.ensures.fails)
 
-pub returns-in_err-eat_comma_paren-clause-rejected : goal.returns-in_err-eat_comma_paren-clause-rejected
-returns-in_err-eat_comma_paren-clause-rejected g c =
-    let p = err_from_is_err_and c.from_residual-in_err-eat_comma_paren.result c.from_residual-in_err-eat_comma_paren.ensures.1 in
-    let s = g.T.RonCodec.ron.encoding in
-    let means = g.T.Value.means in
-    let start = at c.args.state.now c.args.input.now in
-    let here = at c.loop-index.state c.loop-index.input in
-    let following = at c.de_ron.new.state c.de_ron.new.input in
-    let item = means c.in_ok-item.item in
-    let other = not_closing ron_laws parens paren_brackets s.laws here following item c.in_ok-item.ensures.decodes in
-    let r = c.in_err-eat_comma_paren.ensures.rejected in
-    rw (p.1, p.2) (λ known. image_rejected ron listed start (count_rejected ron_laws parens s.encodes start c.args.count (read_comma_rejected ron_laws s.laws parens paren_brackets start here following (map means c.loop-index.items.items) item c.loop-index.invariant.read other c.in_ok-item.ensures.decodes (r.0 known))), r.1.0)
+pub returns-in_err-item-clause-reads : goal.returns-in_err-item-clause-reads
+returns-in_err-item-clause-reads g c =
+    let long = length-map c.loop-index.items.items g.T.Value.means in
+    let count = c.loop-index.invariant.count in
+    let less = c.loop-index-test.true in
+    let few : length (map g.T.Value.means c.loop-index.items.items) < c.args.count = omega (arith, long, count, less) in
+    passed_on _ _ c.from_residual-in_err-item.result c.from_residual-in_err-item.ensures.1
+    (array_item_not ron_laws parens paren_brackets g.T.RonCodec.ron.encoding.laws mean listed c.args.count c.loop-index.invariant.filled
+    (λ ms is. subst (λ (l : List Meaning). length l < c.args.count) is few) c.in_err-item.ensures.fails)
 
-pub returns-in_err-paren_close-clause-rejected : goal.returns-in_err-paren_close-clause-rejected
-returns-in_err-paren_close-clause-rejected g c =
-    let p = err_from_is_err_and c.from_residual-in_err-paren_close.result c.from_residual-in_err-paren_close.ensures.1 in
-    let s = g.T.RonCodec.ron.encoding in
-    let start = at c.args.state.now c.args.input.now in
-    let here = at c.loop-index.state c.loop-index.input in
-    let taken = map g.T.Value.means c.loop-index.items.items in
+pub returns-in_err-eat_comma_paren-clause-reads : goal.returns-in_err-eat_comma_paren-clause-reads
+returns-in_err-eat_comma_paren-clause-reads g c =
+    passed_on _ _ c.from_residual-in_err-eat_comma_paren.result c.from_residual-in_err-eat_comma_paren.ensures.1
+    (array_comma_not ron_laws parens paren_brackets g.T.RonCodec.ron.encoding.laws mean listed c.args.count c.loop-index.invariant.filled c.in_ok-item.ensures
+    c.in_err-eat_comma_paren.ensures.1.fails)
+
+pub returns-in_err-paren_close-clause-reads : goal.returns-in_err-paren_close-clause-reads
+returns-in_err-paren_close-clause-reads g c =
     let full : length c.loop-index.items.items ≡ c.args.count = grind (arith, common_steps) in
-    let r = c.in_err-paren_close.ensures.rejected in
-    rw (p.1, p.2) (λ known. image_rejected ron listed start (item_too_many ron_laws parens paren_brackets s.laws start here taken c.loop-index.invariant.read c.args.count (length-map c.loop-index.items.items g.T.Value.means ∙ full) (r.0 known)), r.1.0)
-
-pub returns-in_err-paren_open-clause-made : goal.returns-in_err-paren_open-clause-made
-returns-in_err-paren_open-clause-made g c =
-    let p = err_from_is_err_and c.from_residual.result c.from_residual.ensures.1 in
-    rw (p.1, p.2) (c.in_err-paren_open.ensures.rejected.1.1, c.in_err-paren_open.ensures.rejected.1.2)
-
-pub returns-in_err-item-clause-place : goal.returns-in_err-item-clause-place
-returns-in_err-item-clause-place g c =
-    advances_append c.loop-index.invariant.place c.in_err-item.ensures.place
-
-pub returns-in_err-item-clause-made : goal.returns-in_err-item-clause-made
-returns-in_err-item-clause-made g c =
-    let p = err_from_is_err_and c.from_residual-in_err-item.result c.from_residual-in_err-item.ensures.1 in
-    rw (p.1, p.2) c.in_err-item.ensures.made
-
-pub returns-in_err-eat_comma_paren-clause-place : goal.returns-in_err-eat_comma_paren-clause-place
-returns-in_err-eat_comma_paren-clause-place g c =
-    advances_append c.loop-index.invariant.place (advances_append c.in_ok-item.ensures.place c.in_err-eat_comma_paren.ensures.place)
-
-pub returns-in_err-eat_comma_paren-clause-made : goal.returns-in_err-eat_comma_paren-clause-made
-returns-in_err-eat_comma_paren-clause-made g c =
-    let p = err_from_is_err_and c.from_residual-in_err-eat_comma_paren.result c.from_residual-in_err-eat_comma_paren.ensures.1 in
-    rw (p.1, p.2) (c.in_err-eat_comma_paren.ensures.rejected.1.1, c.in_err-eat_comma_paren.ensures.rejected.1.2)
-
-pub returns-in_err-paren_close-clause-place : goal.returns-in_err-paren_close-clause-place
-returns-in_err-paren_close-clause-place g c =
-    advances_append c.loop-index.invariant.place c.in_err-paren_close.ensures.place
-
-pub returns-in_err-paren_close-clause-made : goal.returns-in_err-paren_close-clause-made
-returns-in_err-paren_close-clause-made g c =
-    let p = err_from_is_err_and c.from_residual-in_err-paren_close.result c.from_residual-in_err-paren_close.ensures.1 in
-    rw (p.1, p.2) (c.in_err-paren_close.ensures.rejected.1.1, c.in_err-paren_close.ensures.rejected.1.2)
-
-pub returns-clause-place : goal.returns-clause-place
-returns-clause-place g c =
-    advances_append c.loop-index.invariant.place c.in_ok-paren_close.ensures.place
-
-pub returns-then-is_err-clause-place : goal.returns-then-is_err-clause-place
-returns-then-is_err-clause-place g c =
-    advances_append c.loop-index.invariant.place c.in_ok-item.ensures.place
+    passed_on _ _ c.from_residual-in_err-paren_close.result c.from_residual-in_err-paren_close.ensures.1
+    (array_closing_not ron_laws parens paren_brackets g.T.RonCodec.ron.encoding.laws mean listed c.args.count c.loop-index.invariant.filled
+    (λ ms is. sym (ap length is) ∙ (length-map c.loop-index.items.items g.T.Value.means ∙ full)) c.in_err-paren_close.ensures.fails)

@@ -1,60 +1,28 @@
-use Rattle.std.proofs.lemmas.Result.{err_from_is_err_and}
-use Rattle.nano_grammar.proofs.TupleReading.{parts_found, first_part_rejected, comma_rejected, other_parts_rejected}
+use Rattle.nano_grammar.proofs.Outcomes.{passed_on}
+use Rattle.nano_grammar.proofs.TupleCalls.{parts_read, first_not, comma_not, others_not}
 use Rattle.nano_ron_tokens.specs.Brackets.{parens}
-use Rattle.nano_ron_tokens.specs.RonLaws.{paren_brackets}
-use Rattle.nano_ron_tokens.specs.State.{at}
-use Rattle.nano_ron.specs.TuplesLaws.{last_codec}
+use Rattle.nano_ron_tokens.proofs.RonLaws.{paren_brackets}
+use Rattle.nano_ron.specs.TupleCodecs.{last_codec}
 use Rattle.nano_ron.proofs.Ron.{ron_laws}
-use Rattle.nano_text.specs.PlaceLaws.{advances_append}
 use Rattle.nano_ron.proofs.tuples.read_two.Goals as goal
 
-pub returns-in_err-first-clause-rejected : goal.returns-in_err-first-clause-rejected
-returns-in_err-first-clause-rejected g c =
-    let p = err_from_is_err_and c.from_residual.result c.from_residual.ensures.1 in
-    let start = at c.args.state.now c.args.input.now in
-    let r = c.in_err-first.ensures.rejected in
-    rw (p.1, p.2) (λ known. first_part_rejected ron_laws parens paren_brackets g.A.RonCodec.ron.encoding (last_codec g.B.RonCodec.ron).encoding start (r.0 known), r.1)
+pub returns : goal.returns
+returns g c =
+    parts_read ron_laws parens paren_brackets g.A.RonCodec.ron.encoding (last_codec g.B.RonCodec.ron).encoding c.in_ok-first.ensures c.in_ok-eat_comma_paren.ensures
+    c.in_ok-last.ensures
 
-pub returns-in_err-eat_comma_paren-clause-rejected : goal.returns-in_err-eat_comma_paren-clause-rejected
-returns-in_err-eat_comma_paren-clause-rejected g c =
-    let p = err_from_is_err_and c.from_residual-in_err-eat_comma_paren.result c.from_residual-in_err-eat_comma_paren.ensures.1 in
-    let start = at c.args.state.now c.args.input.now in
-    let r = c.in_err-eat_comma_paren.ensures.rejected in
-    rw (p.1, p.2) (λ known. comma_rejected ron_laws parens paren_brackets g.A.RonCodec.ron.encoding (last_codec g.B.RonCodec.ron).encoding start (at c.de_ron.new.state c.de_ron.new.input) (g.A.Value.means c.in_ok-first.first) c.in_ok-first.ensures.decodes (r.0 known), r.1.0)
+pub returns-in_err-first : goal.returns-in_err-first
+returns-in_err-first g c =
+    passed_on _ _ c.from_residual.result c.from_residual.ensures.1
+    (first_not ron_laws parens paren_brackets g.A.RonCodec.ron.encoding (last_codec g.B.RonCodec.ron).encoding c.in_err-first.ensures)
 
-pub returns-in_err-last-clause-rejected : goal.returns-in_err-last-clause-rejected
-returns-in_err-last-clause-rejected g c =
-    let p = err_from_is_err_and c.from_residual-in_err-last.result c.from_residual-in_err-last.ensures.1 in
-    let start = at c.args.state.now c.args.input.now in
-    let r = c.in_err-last.ensures.rejected in
-    rw (p.1, p.2) (λ known. other_parts_rejected ron_laws parens paren_brackets g.A.RonCodec.ron.encoding (last_codec g.B.RonCodec.ron).encoding start (at c.de_ron.new.state c.de_ron.new.input) (at c.eat_comma_paren.new.self c.eat_comma_paren.new.i) (g.A.Value.means c.in_ok-first.first) c.in_ok-first.ensures.decodes c.in_ok-eat_comma_paren.ensures.taken (r.0 known), r.1)
+pub returns-in_err-eat_comma_paren : goal.returns-in_err-eat_comma_paren
+returns-in_err-eat_comma_paren g c =
+    passed_on _ _ c.from_residual-in_err-eat_comma_paren.result c.from_residual-in_err-eat_comma_paren.ensures.1
+    (comma_not ron_laws parens paren_brackets g.A.RonCodec.ron.encoding (last_codec g.B.RonCodec.ron).encoding c.in_ok-first.ensures c.in_err-eat_comma_paren.ensures.1.fails)
 
-pub returns-clause-decodes : goal.returns-clause-decodes
-returns-clause-decodes g c = parts_found ron_laws parens paren_brackets g.A.RonCodec.ron.encoding (last_codec g.B.RonCodec.ron).encoding (at c.args.state.now c.args.input.now) (at c.de_ron.new.state c.de_ron.new.input) (at c.eat_comma_paren.new.self c.eat_comma_paren.new.i) (at c.read_last.new.state c.read_last.new.input) (g.A.Value.means c.in_ok-first.first) (g.B.Value.means c.in_ok-last.last) c.in_ok-first.ensures.decodes c.in_ok-eat_comma_paren.ensures.taken c.in_ok-last.ensures.decodes
-
-pub returns-in_err-first-clause-made : goal.returns-in_err-first-clause-made
-returns-in_err-first-clause-made g c =
-    let p = err_from_is_err_and c.from_residual.result c.from_residual.ensures.1 in
-    rw (p.1, p.2) c.in_err-first.ensures.made
-
-pub returns-in_err-eat_comma_paren-clause-place : goal.returns-in_err-eat_comma_paren-clause-place
-returns-in_err-eat_comma_paren-clause-place g c =
-    advances_append c.in_ok-first.ensures.place c.in_err-eat_comma_paren.ensures.place
-
-pub returns-in_err-eat_comma_paren-clause-made : goal.returns-in_err-eat_comma_paren-clause-made
-returns-in_err-eat_comma_paren-clause-made g c =
-    let p = err_from_is_err_and c.from_residual-in_err-eat_comma_paren.result c.from_residual-in_err-eat_comma_paren.ensures.1 in
-    rw (p.1, p.2) (c.in_err-eat_comma_paren.ensures.rejected.1.1, c.in_err-eat_comma_paren.ensures.rejected.1.2)
-
-pub returns-in_err-last-clause-place : goal.returns-in_err-last-clause-place
-returns-in_err-last-clause-place g c =
-    advances_append c.in_ok-first.ensures.place (advances_append c.in_ok-eat_comma_paren.ensures.place c.in_err-last.ensures.place)
-
-pub returns-in_err-last-clause-made : goal.returns-in_err-last-clause-made
-returns-in_err-last-clause-made g c =
-    let p = err_from_is_err_and c.from_residual-in_err-last.result c.from_residual-in_err-last.ensures.1 in
-    rw (p.1, p.2) c.in_err-last.ensures.made
-
-pub returns-clause-place : goal.returns-clause-place
-returns-clause-place g c =
-    advances_append c.in_ok-first.ensures.place (advances_append c.in_ok-eat_comma_paren.ensures.place c.in_ok-last.ensures.place)
+pub returns-in_err-last : goal.returns-in_err-last
+returns-in_err-last g c =
+    passed_on _ _ c.from_residual-in_err-last.result c.from_residual-in_err-last.ensures.1
+    (others_not ron_laws parens paren_brackets g.A.RonCodec.ron.encoding (last_codec g.B.RonCodec.ron).encoding c.in_ok-first.ensures c.in_ok-eat_comma_paren.ensures
+    c.in_err-last.ensures)

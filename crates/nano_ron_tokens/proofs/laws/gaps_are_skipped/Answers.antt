@@ -1,5 +1,5 @@
 use Rattle.nano_ron_tokens.proofs.AfterGaps.{gap_is_left_out}
-use Rattle.nano_ron_tokens.specs.RonLaws.{gap_is_skipped}
+use Rattle.nano_ron_tokens.proofs.RonLaws.{gap_is_skipped}
 use Rattle.nano_ron_tokens.proofs.laws.gaps_are_skipped.Goals as goal
 
 pub returns : goal.returns

@@ -1,5 +1,5 @@
-use Rattle.std.proofs.Common.{ap, ◌<◌, ◌∙◌, ◌≡◌, ◌++◌, ◌∷◌, ◌-◌, [], sym, arith, length, vec_len}
-use Rattle.std.proofs.Common.{get_or, unwrap_or, Some, string_bytes}
+use Rattle.std.proofs.Common.{ap, ◌<◌, ◌∙◌, ◌≡◌, ◌++◌, ◌∷◌, ◌-◌, [], sym, arith, vec_len}
+use Rattle.std.proofs.Common.{unwrap_or, string_bytes}
 use Rattle.nano_show_answers.specs.OpenLists.{closed_lists}
 use Rattle.nano_show_answers.proofs.ListingLemmas.{less_left, popped}
 use Rattle.nano_show_answers.proofs.listed.append_listed.Goals as goal

@@ -1,6 +1,4 @@
-use Rattle.std.proofs.Common.{ap, ◌∙◌}
-use Rattle.nano_show_answers.specs.Chains.{chain}
-use Rattle.nano_show_answers.proofs.TableOrder.{chain-ascending, in_order}
+use Rattle.nano_show_answers.proofs.TableOrder.{in_order}
 use Rattle.nano_show_answers.proofs.listing.entries.Goals as goal
 
 pub returns : goal.returns

@@ -5,6 +5,6 @@ use Rattle.nano_show_answers.proofs.whole_inputs.whole_json_line.Goals as goal
 pub returns-in_ok-to_string-in-Err-2 : goal.returns-in_ok-to_string-in-Err-2
 returns-in_ok-to_string-in-Err-2 g c = λ answer h.
     let m = g.T.Value.means h.is_normal.value in
-    c.in-Err.ensures.rejected.0 c.if-this.false m
+    c.in-Err.ensures.rejected c.if-this.false m
     (subst (λ bytes. IsJson g.T.JsonCodec.json bytes m)
     (sym c.in_ok-text.ensures.0) h.is_normal.fitting)

@@ -1,6 +1,6 @@
 use Rattle.std.proofs.Common.{List, ℕ, refl, sym, ◌∙◌, subst, chars, arith, []}
 use Rattle.nano_text.specs.Place.{Passes, held, text_at}
-use Rattle.nano_text.specs.PlaceLaws.{passes_append, advances_none}
+use Rattle.nano_text.proofs.PlaceLaws.{passes_append, moves_none}
 use Rattle.nano_text.proofs.Bodies.{at_column, nothing_yet, run_boundary, reads_run, quote_boundary, string_read_at_once, passes_quote, advances_quote}
 use Rattle.nano_text.proofs.PlainStrings.{no_plain_string}
 use Rattle.nano_text.proofs.RemainingText.{remaining-first}
@@ -8,10 +8,10 @@ use Rattle.nano_text.proofs.body.plain_string.Goals as goal
 
 -- where nothing is taken
 pub returns-then-p-ne34-clause-place : goal.returns-then-p-ne34-clause-place
-returns-then-p-ne34-clause-place c = advances_none c.args.p.now c.args.i.now
+returns-then-p-ne34-clause-place c = moves_none c.args.p.now c.args.i.now
 
 pub returns-then-not-begins_with_quote-clause-place : goal.returns-then-not-begins_with_quote-clause-place
-returns-then-not-begins_with_quote-clause-place c = advances_none c.args.p.now c.args.i.now
+returns-then-not-begins_with_quote-clause-place c = moves_none c.args.p.now c.args.i.now
 
 pub returns-then-p-ne34-clause-none : goal.returns-then-p-ne34-clause-none
 returns-then-p-ne34-clause-none c = λ none characters rest s.

@@ -1,13 +1,13 @@
 use Rattle.std.proofs.Common.{ℕ, List, refl, sym, ◌∙◌, ap, subst, arith, string_bytes, chars, encode_utf8, ◌++◌}
 use Rattle.nano_text.specs.declared.place.Place.{Place}
 use Rattle.nano_text.specs.Place.{Passes, held, text_at}
-use Rattle.nano_text.specs.PlaceLaws.{passes_append, advances_none}
+use Rattle.nano_text.proofs.PlaceLaws.{passes_append, moves_none}
 use Rattle.nano_text.proofs.Bodies.{at_column, nothing_yet, run_boundary, reads_run, quote_boundary, string_read_at_once, passes_quote, advances_quote, unmoved, escape_boundary, reads_escape}
 use Rattle.nano_text.proofs.body.read_at_once.Goals as goal
 
 -- where nothing is taken
 pub returns-then-p-ne34-clause-place : goal.returns-then-p-ne34-clause-place
-returns-then-p-ne34-clause-place c = advances_none c.args.p.now c.args.i.now
+returns-then-p-ne34-clause-place c = moves_none c.args.p.now c.args.i.now
 
 pub returns-in_default-clause-place : goal.returns-in_default-clause-place
 returns-in_default-clause-place c = unmoved c.args.p.now c.runs.p c.args.i.now c.runs.i c.runs.invariant.place c.runs.invariant.input

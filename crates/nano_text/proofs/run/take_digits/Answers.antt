@@ -3,7 +3,7 @@ use Rattle.std.specs.Char.{is_ascii_digit}
 use Rattle.std.specs.Str.Parse.{digits_value, digits_value_after}
 use Rattle.nano_text.specs.Prefix.{prefix}
 use Rattle.nano_text.specs.Place.{held, text_at}
-use Rattle.nano_text.specs.PlaceLaws.{advances_none}
+use Rattle.nano_text.proofs.PlaceLaws.{moves_none}
 use Rattle.nano_text.proofs.DigitValues.{digit_from_value, no_digit_from_value, digits-remaining, digits_value-remaining}
 use Rattle.nano_text.proofs.Prefixes.{prefix_stop, after_stop}
 use Rattle.nano_text.proofs.RemainingText.{remaining_stop, not_nul}
@@ -51,7 +51,7 @@ returns-clause-rest c =
     c.next.ensures.rest ∙ remaining_after is_ascii_digit refl digits_cut c.args.p.now.cur c.digits_after-more.result.len c.args.i.now c.chars.result c.as_str-text.result.now digit c.as_str-text.utf8 c.as_str-text.ensures count (c.chars.ensures.rest ∙ c.split_at.ensures.back)
 
 pub returns-in_default-clause-place : goal.returns-in_default-clause-place
-returns-in_default-clause-place c = advances_none c.args.p.now c.args.i.now
+returns-in_default-clause-place c = moves_none c.args.p.now c.args.i.now
 
 pub returns-clause-place : goal.returns-clause-place
 returns-clause-place c =

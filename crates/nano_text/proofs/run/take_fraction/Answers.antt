@@ -3,7 +3,7 @@ use Rattle.nano_text.specs.Number.{is_point}
 use Rattle.nano_text.specs.Place.{text_at}
 use Rattle.nano_text.proofs.RemainingText.{remaining_stop}
 use Rattle.nano_text.proofs.Stops.{fraction_stop, after_fraction_stop}
-use Rattle.nano_text.specs.PlaceLaws.{advances_none, advances_append}
+use Rattle.nano_text.proofs.PlaceLaws.{moves_none, moves_append}
 use Rattle.nano_text.proofs.run.take_fraction.Goals as goal
 
 pub returns-then-p-ne46-clause-found : goal.returns-then-p-ne46-clause-found
@@ -13,8 +13,8 @@ pub returns-then-p-ne46-clause-rest : goal.returns-then-p-ne46-clause-rest
 returns-then-p-ne46-clause-rest c = sym (after_fraction_stop (text_at c.args.p.now c.args.i.now) (remaining_stop is_point _ c.args.i.now refl (ne_eqb _ _ c.if-p-ne46.true)))
 
 pub returns-then-p-ne46-clause-place : goal.returns-then-p-ne46-clause-place
-returns-then-p-ne46-clause-place c = advances_none c.args.p.now c.args.i.now
+returns-then-p-ne46-clause-place c = moves_none c.args.p.now c.args.i.now
 
 pub returns-clause-place : goal.returns-clause-place
 returns-clause-place c =
-    advances_append (c.next.ensures.counts (λ e. omega (arith, e, c.if-p-ne46.false))) c.take_digits.ensures.place
+    moves_append (c.next.ensures.counts (λ e. omega (arith, e, c.if-p-ne46.false))) c.take_digits.ensures.place

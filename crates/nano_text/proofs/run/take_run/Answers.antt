@@ -5,7 +5,7 @@ use Rattle.std.specs.Str.Parse.{digits_value}
 use Rattle.nano_text.specs.Prefix.{prefix, following}
 use Rattle.nano_text.specs.Scan.{after_whole, after_fraction, after_exponent, fraction_at, exponent_at, exponent_len, after_run}
 use Rattle.nano_text.specs.ScanLaws.{run_at}
-use Rattle.nano_text.specs.PlaceLaws.{advances_append}
+use Rattle.nano_text.proofs.PlaceLaws.{moves_append}
 use Rattle.nano_text.proofs.run.take_run.Goals as goal
 
 pub returns-clause-sign : goal.returns-clause-sign
@@ -39,4 +39,4 @@ returns-clause-rest c =
     c.take_exponent-exponent.ensures.rest ∙ ap after_exponent (c.take_fraction-fraction.ensures.rest ∙ ap after_fraction after_digits)
 
 pub returns-clause-place : goal.returns-clause-place
-returns-clause-place c = search (rules, advances_append)
+returns-clause-place c = search (rules, moves_append)

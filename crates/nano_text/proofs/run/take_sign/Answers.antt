@@ -1,7 +1,7 @@
 use Rattle.std.proofs.Common.{◌≢◌, ℕ, List, sym, ap, refl, ◌∙◌}
 use Rattle.nano_text.specs.Number.{is_sign}
 use Rattle.nano_text.specs.Place.{text_at}
-use Rattle.nano_text.specs.PlaceLaws.{advances_none}
+use Rattle.nano_text.proofs.PlaceLaws.{moves_none}
 use Rattle.nano_text.specs.Scan.{after_one, after_sign}
 use Rattle.nano_text.proofs.RemainingText.{remaining_stop, not_nul}
 use Rattle.nano_text.proofs.Stops.{first_stop, one_stop}
@@ -21,7 +21,7 @@ returns-clause-rest c =
     sym (ap (λ (t : List ℕ). after_one is_sign t) (c.next.ensures.taken some) ∙ rw (sym c.if-not-is_sign.ensures) refl)
 
 pub returns-then-not-is_sign-clause-place : goal.returns-then-not-is_sign-clause-place
-returns-then-not-is_sign-clause-place c = advances_none c.args.p.now c.args.i.now
+returns-then-not-is_sign-clause-place c = moves_none c.args.p.now c.args.i.now
 
 pub returns-clause-place : goal.returns-clause-place
 returns-clause-place c = c.next.ensures.counts (not_nul is_sign c.args.p.now.cur refl (sym c.if-not-is_sign.ensures))

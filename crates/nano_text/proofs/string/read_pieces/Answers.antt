@@ -5,7 +5,7 @@ use Rattle.nano_text.proofs.RemainingText.{remaining_end, remaining-first}
 use Rattle.nano_text.proofs.Escapes.{piece_some}
 use Rattle.nano_text.proofs.TakenPrefix.{after_shorter, plain_cut}
 use Rattle.nano_text.proofs.Strings.{nothing_read, reads_piece, reads_plain, no_string, written_le}
-use Rattle.nano_text.specs.PlaceLaws.{advances_none, advances_append}
+use Rattle.nano_text.proofs.PlaceLaws.{moves_none, moves_append}
 use Rattle.nano_text.proofs.string.read_pieces.Goals as goal
 
 -- the opening quote comes off the text
@@ -27,7 +27,7 @@ pieces-preserved c =
     let piece = c.in-Some.ensures.taken in
     record {
       read = reads_piece _ _ _ _ _ piece.0 c.pieces.invariant.read piece.1 piece.3 (c.in_ok-push.ensures.bytes ∙ ap (λ (n : ℕ). string_bytes c.pieces.strbuf ++ encode_utf8 n) piece.2);
-      place = advances_append c.pieces.invariant.place c.in-Some.ensures.place;
+      place = moves_append c.pieces.invariant.place c.in-Some.ensures.place;
       capacity = omega (arith, c.pieces.invariant.capacity, c.in_ok-push.ensures.capacity);
     }
 
@@ -53,7 +53,7 @@ pieces-smaller-then-p-ne92 c =
 pub pieces-preserved-then-p-ne92 : goal.pieces-preserved-then-p-ne92
 pieces-preserved-then-p-ne92 c = record {
   read = reads_plain is_plain (λ x h. h) _ _ _ _ _ c.pieces.invariant.read c.in_ok-take_plain.ensures.rest c.in_ok-take_plain.ensures.taken;
-  place = advances_append c.pieces.invariant.place c.in_ok-take_plain.ensures.place;
+  place = moves_append c.pieces.invariant.place c.in_ok-take_plain.ensures.place;
   capacity = omega (arith, c.pieces.invariant.capacity, c.in_ok-take_plain.ensures.capacity);
 }
 
@@ -64,7 +64,7 @@ returns-in_err-take_plain-clause-memory c error characters rest string =
     omega (arith, written_le _ _ _ _ characters rest quote more string, c.pieces.invariant.capacity, c.in_err-take_plain.ensures.full)
 
 pub returns-then-p-ne34-clause-place : goal.returns-then-p-ne34-clause-place
-returns-then-p-ne34-clause-place c = advances_none c.args.p.now c.args.i.now
+returns-then-p-ne34-clause-place c = moves_none c.args.p.now c.args.i.now
 
 pub pieces-init : goal.pieces-init
 pieces-init c = record {
@@ -77,14 +77,14 @@ pub returns-then-p-eq0-clause-place : goal.returns-then-p-eq0-clause-place
 returns-then-p-eq0-clause-place c = c.pieces.invariant.place
 
 pub returns-in_err-take_plain-clause-place : goal.returns-in_err-take_plain-clause-place
-returns-in_err-take_plain-clause-place c = advances_append c.pieces.invariant.place c.in_err-take_plain.ensures.place
+returns-in_err-take_plain-clause-place c = moves_append c.pieces.invariant.place c.in_err-take_plain.ensures.place
 
 pub returns-in_default-clause-place : goal.returns-in_default-clause-place
-returns-in_default-clause-place c = advances_append c.pieces.invariant.place c.in_default.ensures.place
+returns-in_default-clause-place c = moves_append c.pieces.invariant.place c.in_default.ensures.place
 
 pub returns-in_err-push-clause-place : goal.returns-in_err-push-clause-place
-returns-in_err-push-clause-place c = advances_append c.pieces.invariant.place c.in-Some.ensures.place
+returns-in_err-push-clause-place c = moves_append c.pieces.invariant.place c.in-Some.ensures.place
 
 pub returns-clause-place : goal.returns-clause-place
 returns-clause-place c =
-    advances_append c.pieces.invariant.place (c.next-2.ensures.counts (quote_some _ c.pieces-test.false))
+    moves_append c.pieces.invariant.place (c.next-2.ensures.counts (quote_some _ c.pieces-test.false))

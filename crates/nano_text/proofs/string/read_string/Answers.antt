@@ -1,6 +1,6 @@
 use Rattle.std.proofs.Common.{◌≡◌, ℕ, List, arith, refl, subst, sym}
 use Rattle.nano_text.specs.Place.{text_at}
-use Rattle.nano_text.specs.PlaceLaws.{advances_append}
+use Rattle.nano_text.proofs.PlaceLaws.{moves_append}
 use Rattle.nano_text.specs.String.{IsString}
 use Rattle.nano_text.proofs.string.read_string.Goals as goal
 
@@ -17,4 +17,4 @@ returns-clause-malformed c error characters rest string =
     c.read_pieces.ensures.malformed error characters rest (subst (λ (t : List ℕ). IsString t characters rest) (sym same) string)
 
 pub returns-clause-place : goal.returns-clause-place
-returns-clause-place c = advances_append c.read_at_once.ensures.place c.read_pieces.ensures.place
+returns-clause-place c = moves_append c.read_at_once.ensures.place c.read_pieces.ensures.place

@@ -1,6 +1,6 @@
 use Rattle.std.proofs.Common.{refl}
 use Rattle.nano_text.proofs.Escapes.{same_after_first}
-use Rattle.nano_text.specs.PlaceLaws.{advances_append}
+use Rattle.nano_text.proofs.PlaceLaws.{moves_append}
 use Rattle.nano_text.proofs.string.take_code_unit.Goals as goal
 
 pub returns-in_err-first-clause-none : goal.returns-in_err-first-clause-none
@@ -36,18 +36,18 @@ pub returns-in_err-first-clause-place : goal.returns-in_err-first-clause-place
 returns-in_err-first-clause-place c = c.in_err-first.ensures.place
 
 pub returns-in_err-second-clause-place : goal.returns-in_err-second-clause-place
-returns-in_err-second-clause-place c = advances_append c.in_ok-first.ensures.place c.in_err-second.ensures.place
+returns-in_err-second-clause-place c = moves_append c.in_ok-first.ensures.place c.in_err-second.ensures.place
 
 pub returns-in_err-third-clause-place : goal.returns-in_err-third-clause-place
 returns-in_err-third-clause-place c =
-    advances_append c.in_ok-first.ensures.place (advances_append c.in_ok-second.ensures.place c.in_err-third.ensures.place)
+    moves_append c.in_ok-first.ensures.place (moves_append c.in_ok-second.ensures.place c.in_err-third.ensures.place)
 
 pub returns-in_err-fourth-clause-place : goal.returns-in_err-fourth-clause-place
 returns-in_err-fourth-clause-place c =
-    advances_append c.in_ok-first.ensures.place (advances_append c.in_ok-second.ensures.place
-    (advances_append c.in_ok-third.ensures.place c.in_err-fourth.ensures.place))
+    moves_append c.in_ok-first.ensures.place (moves_append c.in_ok-second.ensures.place
+    (moves_append c.in_ok-third.ensures.place c.in_err-fourth.ensures.place))
 
 pub returns-clause-place : goal.returns-clause-place
 returns-clause-place c =
-    advances_append c.in_ok-first.ensures.place (advances_append c.in_ok-second.ensures.place
-    (advances_append c.in_ok-third.ensures.place c.in_ok-fourth.ensures.place))
+    moves_append c.in_ok-first.ensures.place (moves_append c.in_ok-second.ensures.place
+    (moves_append c.in_ok-third.ensures.place c.in_ok-fourth.ensures.place))

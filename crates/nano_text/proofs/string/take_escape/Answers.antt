@@ -3,7 +3,7 @@ use Rattle.nano_text.specs.Place.{text_at}
 use Rattle.nano_text.specs.String.{escaped}
 use Rattle.nano_text.proofs.RemainingText.{remaining_end}
 use Rattle.nano_text.proofs.Escapes.{piece_longer}
-use Rattle.nano_text.specs.PlaceLaws.{advances_append}
+use Rattle.nano_text.proofs.PlaceLaws.{moves_append}
 use Rattle.nano_text.proofs.string.take_escape.Goals as goal
 
 pub returns-then-p-eq0-clause-none : goal.returns-then-p-eq0-clause-none
@@ -20,12 +20,12 @@ returns-clause-taken c =
 
 pub returns-then-p-eq117-clause-place : goal.returns-then-p-eq117-clause-place
 returns-then-p-eq117-clause-place c =
-    advances_append (c.next.ensures.counts (λ e. omega (arith, e, c.requires)))
-    (advances_append (c.next-then-p-eq117.ensures.counts (λ e. omega (arith, e, c.if-p-eq117.true))) c.take_unicode.ensures.place)
+    moves_append (c.next.ensures.counts (λ e. omega (arith, e, c.requires)))
+    (moves_append (c.next-then-p-eq117.ensures.counts (λ e. omega (arith, e, c.if-p-eq117.true))) c.take_unicode.ensures.place)
 
 pub returns-then-p-eq0-clause-place : goal.returns-then-p-eq0-clause-place
 returns-then-p-eq0-clause-place c = c.next.ensures.counts (λ e. omega (arith, e, c.requires))
 
 pub returns-clause-place : goal.returns-clause-place
 returns-clause-place c =
-    advances_append (c.next.ensures.counts (λ e. omega (arith, e, c.requires))) (c.next-2.ensures.counts c.if-p-eq0.false)
+    moves_append (c.next.ensures.counts (λ e. omega (arith, e, c.requires))) (c.next-2.ensures.counts c.if-p-eq0.false)

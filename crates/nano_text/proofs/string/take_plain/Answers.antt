@@ -7,7 +7,7 @@ use Rattle.nano_text.specs.Prefix.{prefix}
 use Rattle.nano_text.specs.String.{is_plain}
 use Rattle.nano_text.proofs.TakenPrefix.{prefix_boundary, remaining_after, prefix_bytes, prefix_capacity, plain_cut, passes_prefix, passes_in_line, advances_over}
 use Rattle.nano_text.proofs.RemainingText.{not_nul}
-use Rattle.nano_text.specs.PlaceLaws.{advances_none}
+use Rattle.nano_text.proofs.PlaceLaws.{moves_none}
 use Rattle.nano_text.proofs.InLine.{taken_in_line}
 use Rattle.nano_text.proofs.string.take_plain.Goals.{then-run-lt128, else-run-lt128}
 use Rattle.nano_text.proofs.string.take_plain.Goals as goal
@@ -42,10 +42,10 @@ returns-in_err-push_str-clause-full c =
     rw error.1 (omega (arith, c.in_err-push_str.ensures.full, c.in_ok-push.ensures.capacity, c.push.new.self.bytes.ok.0, ap length all, length-append (string_bytes c.push.new.self) c.split_at.result.0.now))
 
 pub returns-in_err-push-clause-place : goal.returns-in_err-push-clause-place
-returns-in_err-push-clause-place c = advances_none c.args.p.now c.args.i.now
+returns-in_err-push-clause-place c = moves_none c.args.p.now c.args.i.now
 
 pub returns-in_err-push_str-clause-place : goal.returns-in_err-push_str-clause-place
-returns-in_err-push_str-clause-place c = advances_none c.args.p.now c.args.i.now
+returns-in_err-push_str-clause-place c = moves_none c.args.p.now c.args.i.now
 
 pub returns-clause-place : goal.returns-clause-place
 returns-clause-place c =

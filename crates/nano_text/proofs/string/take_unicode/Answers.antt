@@ -2,7 +2,7 @@ use Rattle.std.proofs.Common.{◌≢◌, ◌<◌, ◌≤◌, ◌⊎◌, inl, inr
 use Rattle.nano_text.specs.String.{scalar, pair, unit_value}
 use Rattle.nano_text.proofs.RemainingText.{remaining-first}
 use Rattle.nano_text.proofs.Escapes.{IfSome-from_SomeIff, unit_of_piece, paired, same_after_first}
-use Rattle.nano_text.specs.PlaceLaws.{advances_append}
+use Rattle.nano_text.proofs.PlaceLaws.{moves_append}
 use Rattle.nano_text.proofs.string.take_unicode.Goals as goal
 use Rattle.nano_text.proofs.string.take_unicode.Goals.{then-lead-lt55296-via-then-lead-lt55296, then-lead-lt55296-via-else-lead-lt55296+then-lead-gt57343, then-lead-gt56319-via-then-lead-gt56319, then-lead-gt56319-via-else-lead-gt56319+then-p-ne92}
 
@@ -79,19 +79,19 @@ returns-then-lead-gt56319-clause-place c = c.in_ok-lead.ensures.place
 
 pub returns-then-p-ne117-clause-place : goal.returns-then-p-ne117-clause-place
 returns-then-p-ne117-clause-place c =
-    advances_append c.in_ok-lead.ensures.place (c.next.ensures.counts (λ e. omega (arith, e, c.if-p-ne92.false)))
+    moves_append c.in_ok-lead.ensures.place (c.next.ensures.counts (λ e. omega (arith, e, c.if-p-ne92.false)))
 
 pub returns-in_err-trail-clause-place : goal.returns-in_err-trail-clause-place
 returns-in_err-trail-clause-place c =
-    advances_append c.in_ok-lead.ensures.place (advances_append (c.next.ensures.counts (λ e. omega (arith, e, c.if-p-ne92.false)))
-    (advances_append (c.next-2.ensures.counts (λ e. omega (arith, e, c.if-p-ne117.false))) c.in_err-trail.ensures.place))
+    moves_append c.in_ok-lead.ensures.place (moves_append (c.next.ensures.counts (λ e. omega (arith, e, c.if-p-ne92.false)))
+    (moves_append (c.next-2.ensures.counts (λ e. omega (arith, e, c.if-p-ne117.false))) c.in_err-trail.ensures.place))
 
 pub returns-then-trail-lt56320-clause-place : goal.returns-then-trail-lt56320-clause-place
 returns-then-trail-lt56320-clause-place c =
-    advances_append c.in_ok-lead.ensures.place (advances_append (c.next.ensures.counts (λ e. omega (arith, e, c.if-p-ne92.false)))
-    (advances_append (c.next-2.ensures.counts (λ e. omega (arith, e, c.if-p-ne117.false))) c.in_ok-trail.ensures.place))
+    moves_append c.in_ok-lead.ensures.place (moves_append (c.next.ensures.counts (λ e. omega (arith, e, c.if-p-ne92.false)))
+    (moves_append (c.next-2.ensures.counts (λ e. omega (arith, e, c.if-p-ne117.false))) c.in_ok-trail.ensures.place))
 
 pub returns-clause-place : goal.returns-clause-place
 returns-clause-place c =
-    advances_append c.in_ok-lead.ensures.place (advances_append (c.next.ensures.counts (λ e. omega (arith, e, c.if-p-ne92.false)))
-    (advances_append (c.next-2.ensures.counts (λ e. omega (arith, e, c.if-p-ne117.false))) c.in_ok-trail.ensures.place))
+    moves_append c.in_ok-lead.ensures.place (moves_append (c.next.ensures.counts (λ e. omega (arith, e, c.if-p-ne92.false)))
+    (moves_append (c.next-2.ensures.counts (λ e. omega (arith, e, c.if-p-ne117.false))) c.in_ok-trail.ensures.place))

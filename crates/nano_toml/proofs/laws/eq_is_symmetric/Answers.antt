@@ -1,5 +1,5 @@
 use Rattle.std.proofs.Common.{◌∙◌}
-use Rattle.nano_toml.specs.SameDataLaws.{view_eq_laws}
+use Rattle.nano_toml.specs.EqImpls.{view_eq_laws}
 use Rattle.nano_toml.proofs.laws.eq_is_symmetric.Goals as goal
 
 pub returns : goal.returns

@@ -1,4 +1,4 @@
-use Rattle.nano_toml.specs.SameDataLaws.{view_eq_laws}
+use Rattle.nano_toml.specs.EqImpls.{view_eq_laws}
 use Rattle.nano_toml.proofs.laws.eq_is_transitive.Goals as goal
 
 pub returns : goal.returns

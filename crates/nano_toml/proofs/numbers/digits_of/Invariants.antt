@@ -2,7 +2,7 @@ use Rattle.std.proofs.Common.{◌≡◌, ◌||◌, ◌+◌, Some, drop, length}
 use Rattle.nano_toml.specs.Characters.{is_in_digits}
 use Rattle.nano_toml.specs.Number.{digits}
 use Rattle.nano_toml.specs.Scan.{any_digit}
-use Rattle.nano_toml.specs.ScanLaws.{value_at}
+use Rattle.nano_toml.proofs.Values.{value_at}
 use Rattle.nano_toml.specs.Span.{prefix}
 use Rattle.nano_toml.proofs.numbers.digits_of.Given as goal
 

@@ -1,8 +1,7 @@
 use Rattle.std.proofs.Common.{◌++◌, ◌∷◌, [], Some, None, Option, option_map, IfSome, subst}
 use Rattle.std.proofs.lemmas.Result.{err_from_is_err_and}
 use Rattle.nano_toml.specs.Built.{IsPlain}
-use Rattle.nano_toml.specs.Prefixes.{Parses}
-use Rattle.nano_toml.specs.PrefixesLaws.{statement_prefix}
+use Rattle.nano_toml.specs.Prefixes.{Parses, statement_prefix}
 use Rattle.nano_toml.specs.RemainingText.{remaining}
 use Rattle.nano_toml.specs.Reading.{statement_view, IsNext}
 use Rattle.nano_toml.specs.declared.statements.Statement.{Statement as Read}

@@ -1,6 +1,7 @@
+use Rattle.std.proofs.Common.{refl}
 use Rattle.std.proofs.lemmas.Result.{err_from_is_err_and}
 use Rattle.nano_value.specs.Meaning.{listed}
-use Rattle.nano_bin.specs.Lists.{EncodesList}
+use Rattle.nano_bin_bytes.specs.Lists.{EncodesList}
 use Rattle.nano_bin.proofs.Readers.{list_reads, list_rejected, list_items_rejected, image_reads, image_rejected}
 use Rattle.nano_bin.proofs.lists.VecDeBin.de_bin.Goals as goal
 
@@ -11,10 +12,10 @@ pub returns-in_err-count-clause-err : goal.returns-in_err-count-clause-err
 returns-in_err-count-clause-err g c =
     let S = g.T.BinCodec.bin.encoding.encodes in
     let p = err_from_is_err_and c.from_residual.result c.from_residual.ensures.1 in
-    rw (p.1, p.2) (λ _. image_rejected (EncodesList S) listed _ (list_rejected S _ c.in_err-count.ensures.err))
+    rw (p.1, p.2) (record { rejects = λ _. image_rejected (EncodesList S) listed _ (list_rejected S _ c.in_err-count.ensures.err.none); unchanged = refl })
 
 pub returns-in_err-items-clause-err : goal.returns-in_err-items-clause-err
 returns-in_err-items-clause-err g c =
     let S = g.T.BinCodec.bin.encoding.encodes in
     let p = err_from_is_err_and c.from_residual-in_err-items.result c.from_residual-in_err-items.ensures.1 in
-    rw (p.1, p.2) (λ h. image_rejected (EncodesList S) listed _ (list_items_rejected S _ _ _ _ c.in_ok-count.ensures.ok (c.in_err-items.ensures.err h)))
+    rw (p.1, p.2) (record { rejects = λ h. image_rejected (EncodesList S) listed _ (list_items_rejected S _ _ _ _ c.in_ok-count.ensures.ok (c.in_err-items.ensures.err.rejects h)); unchanged = refl })

@@ -1,6 +1,8 @@
+use Rattle.std.proofs.Common.{arith, rules, refl}
+use Rattle.std.proofs.lemmas.Grind.{common_steps}
 use Rattle.std.proofs.lemmas.Result.{err_from_is_err_and}
 use Rattle.nano_value.specs.Meaning.{text}
-use Rattle.nano_bin.specs.Texts.{EncodesText}
+use Rattle.nano_bin_bytes.specs.Texts.{EncodesText}
 use Rattle.nano_bin.proofs.Readers.{text_reads, text_rejected, text_bytes_rejected, image_reads, image_rejected}
 use Rattle.nano_bin.proofs.texts.StringDeBin.de_bin.Goals as goal
 
@@ -10,9 +12,19 @@ returns-clause-ok c = image_reads text _ _ _ _ (text_reads _ _ _ _ _ _ c.in_ok-c
 pub returns-in_err-count-clause-err : goal.returns-in_err-count-clause-err
 returns-in_err-count-clause-err c =
     let p = err_from_is_err_and c.from_residual.result c.from_residual.ensures.1 in
-    rw (p.1, p.2) (λ _. image_rejected EncodesText text _ (text_rejected _ c.in_err-count.ensures.err))
+    let r = c.in_err-count.ensures.err in
+    rw (p.1, p.2) (record {
+      rejects = λ _. image_rejected EncodesText text _ (text_rejected _ r.none);
+      fault = first_of (search rules, grind (arith, common_steps));
+      unchanged = refl;
+    })
 
 pub returns-in_err-text-clause-err : goal.returns-in_err-text-clause-err
 returns-in_err-text-clause-err c =
     let p = err_from_is_err_and c.from_residual-in_err-text.result c.from_residual-in_err-text.ensures.1 in
-    rw (p.1, p.2) (λ h. image_rejected EncodesText text _ (text_bytes_rejected _ _ _ _ c.in_ok-count.ensures.ok (c.in_err-text.ensures.err h)))
+    let r = c.in_err-text.ensures.err in
+    rw (p.1, p.2) (record {
+      rejects = λ h. image_rejected EncodesText text _ (text_bytes_rejected _ _ _ _ c.in_ok-count.ensures.ok (r.rejects h));
+      fault = first_of (search rules, grind (arith, common_steps));
+      unchanged = refl;
+    })

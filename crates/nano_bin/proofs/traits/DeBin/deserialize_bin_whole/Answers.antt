@@ -11,9 +11,9 @@ returns-then-end-d-clause-trailing g c _ =
 
 pub returns-in-Err-clause-err : goal.returns-in-Err-clause-err
 returns-in-Err-clause-err g c other value h =
-    c.in-Err.ensures.err (not_for_memory c.in-Err.error c.as_value_error.result c.as_value_error.ensures other) value
+    c.in-Err.ensures.err.rejects (not_for_memory c.in-Err.error c.as_value_error.result c.as_value_error.ensures other) value
     (whole_decodes g.Self.BinCodec.bin.encoding.encodes c.args.d.now value h)
 
 pub returns-in-Err-clause-following : goal.returns-in-Err-clause-following
 returns-in-Err-clause-following g c other value f =
-    absurd (c.in-Err.ensures.err (not_for_memory c.in-Err.error c.as_value_error.result c.as_value_error.ensures other) value f)
+    absurd (c.in-Err.ensures.err.rejects (not_for_memory c.in-Err.error c.as_value_error.result c.as_value_error.ensures other) value f)

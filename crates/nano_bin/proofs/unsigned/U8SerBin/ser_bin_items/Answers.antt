@@ -1,5 +1,5 @@
 use Rattle.std.proofs.Common.{arith}
-use Rattle.nano_bytes.proofs.Runs.{flat_map-little_byte, are_bytes}
+use Rattle.nano_bin_bytes.proofs.Runs.{flat_map-little_byte, are_bytes}
 use Rattle.nano_bin.proofs.unsigned.U8SerBin.ser_bin_items.Goals as goal
 
 pub returns-clause-ok : goal.returns-clause-ok

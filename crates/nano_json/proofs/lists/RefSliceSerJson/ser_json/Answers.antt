@@ -1,4 +1,4 @@
-use Rattle.nano_text.specs.RollbackLaws.{unchanged_by}
+use Rattle.nano_text.proofs.RollbackLaws.{unchanged_by}
 use Rattle.nano_json.proofs.lists.RefSliceSerJson.ser_json.Goals as goal
 
 pub rollback_on_error-requires : goal.rollback_on_error-requires

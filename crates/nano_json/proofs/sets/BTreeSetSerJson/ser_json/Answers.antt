@@ -3,10 +3,10 @@ use Rattle.std.specs.Str.{encode_utf8_all}
 use Rattle.nano_grammar.proofs.WrittenLists.{in_order}
 use Rattle.nano_value.specs.InOrder.{ascending_items}
 use Rattle.nano_value.specs.MeaningOrder.{by_meaning}
-use Rattle.nano_value.specs.MeaningOrderLaws.{followed}
+use Rattle.nano_meaning.proofs.MeaningOrderLaws.{followed}
 use Rattle.nano_text.specs.Place.{saturating_next}
 use Rattle.nano_json.specs.Lists.{written_list}
-use Rattle.nano_text.specs.RollbackLaws.{unchanged_by, unchanged_ok, cut_back_err}
+use Rattle.nano_text.proofs.RollbackLaws.{unchanged_by, unchanged_ok, cut_back_err}
 use Rattle.nano_json.proofs.sets.BTreeSetSerJson.ser_json.Goals as goal
 
 pub rollback_on_error-requires : goal.rollback_on_error-requires

@@ -2,52 +2,52 @@ use Rattle.std.proofs.Common.{sym, ◌∙◌, refl, rules, arith, append-nil, ap
 use Rattle.std.proofs.lemmas.Grind.{common_steps}
 use Rattle.nano_text.proofs.RemainingText.{first_is-remaining, not_nul}
 use Rattle.nano_text.proofs.Prefixes.{after_stop, prefix_stop}
-use Rattle.nano_text.specs.PlaceLaws.{advances_append}
+use Rattle.nano_text.proofs.PlaceLaws.{moves_append}
 use Rattle.nano_text.specs.Prefix.{prefix}
 use Rattle.nano_text.specs.Place.{remaining}
-use Rattle.std.proofs.lemmas.Result.{err_from_is_err_and}
+use Rattle.nano_grammar.proofs.Outcomes.{passed_on}
 use Rattle.nano_json_tokens.proofs.Capacity.{word_has_one, word_is_one_byte}
 use Rattle.nano_json_tokens.specs.Cut.{is_word}
-use Rattle.nano_json_tokens.proofs.Reporting.{counts_none}
+use Rattle.nano_json_tokens.proofs.Scanning.{moved_none}
 use Rattle.nano_json_tokens.proofs.state.DeJsonState.gather_word.Goals as goal
 
-pub returns-clause-remaining : goal.returns-clause-remaining
-returns-clause-remaining c =
-    let stop = first_is-remaining is_word c.word.self.cur c.word.i refl ∙ sym c.word-test.ensures in
-    sym (after_stop is_word _ stop) ∙ c.word.invariant.rest
-
-pub returns-clause-gathered : goal.returns-clause-gathered
-returns-clause-gathered c =
+pub returns-clause-word : goal.returns-clause-word
+returns-clause-word c =
     let stop = first_is-remaining is_word c.word.self.cur c.word.i refl ∙ sym c.word-test.ensures in
     let full = c.word.invariant.taken in
-    sym (append-nil _) ∙ rw (prefix_stop is_word _ stop) at full
+    record {
+      word = sym (append-nil _) ∙ rw (prefix_stop is_word _ stop) at full;
+      passed = record { rest = sym (after_stop is_word _ stop) ∙ c.word.invariant.rest; place = c.word.invariant.place };
+    }
 
 pub word-preserved : goal.word-preserved
 word-preserved c = record {
   rest = search rules;
   capacity = rw c.next.ensures.identbuf (omega (arith, c.word.invariant.capacity, c.in_ok-push.ensures.capacity));
   taken = grind (arith, common_steps);
-  place = advances_append c.word.invariant.place (c.next.ensures.counts (not_nul is_word c.word.self.cur refl (sym c.word-test.ensures)));
+  place = moves_append c.word.invariant.place (c.next.ensures.counts (not_nul is_word c.word.self.cur refl (sym c.word-test.ensures)));
   strbuf = search rules;
   numbuf = search rules;
 }
 
-pub returns-in_err-push-clause-full : goal.returns-in_err-push-clause-full
-returns-in_err-push-clause-full c =
-    let error = err_from_is_err_and c.from_residual.result c.from_residual.ensures.1 in
+pub returns-in_err-push-clause-word : goal.returns-in_err-push-clause-word
+returns-in_err-push-clause-word c =
     let word = c.word.self.identbuf in
     let left = prefix is_word (remaining c.word.self.cur c.word.i) in
     let some = word_has_one c.word.self.cur c.word.i (sym c.word-test.ensures) in
     let one = word_is_one_byte c.word.self.cur (sym c.word-test.ensures) in
     let whole = ap length c.word.invariant.taken in
-    rw error.1 (omega (arith, c.in_err-push.ensures.full, word.bytes.ok.0, some, one, whole, length-append (string_bytes word) left, c.word.invariant.capacity))
+    passed_on _ _ c.from_residual.result c.from_residual.ensures.1 (record {
+      full = omega (arith, c.in_err-push.ensures.full, word.bytes.ok.0, some, one, whole, length-append (string_bytes word) left, c.word.invariant.capacity);
+      place = c.word.invariant.place;
+    })
 
 pub word-init : goal.word-init
 word-init c = record {
   rest = refl;
   taken = rw c.clear.ensures.bytes refl;
   capacity = omega (arith, c.clear.ensures.capacity);
-  place = counts_none c.args.self.now c.args.i.now;
+  place = moved_none c.args.self.now c.args.i.now;
   strbuf = refl;
   numbuf = refl;
 }

@@ -2,7 +2,7 @@ use Rattle.std.proofs.Common.{◌≡◌, ◌≤◌, ◌++◌, length, string_byt
 use Rattle.nano_text.specs.Place.{remaining}
 use Rattle.nano_text.specs.Prefix.{prefix, following}
 use Rattle.nano_json_tokens.specs.Cut.{is_word}
-use Rattle.nano_json_tokens.specs.Outcomes.{Counts}
+use Rattle.nano_json_tokens.specs.Outcomes.{Moved}
 use Rattle.nano_json_tokens.proofs.state.DeJsonState.gather_word.Given as goal
 
 abbrev pub invariant-word : goal.invariant-word
@@ -10,7 +10,7 @@ invariant-word l = record {
   rest : following is_word (remaining l.self.cur l.i) ≡ following is_word (remaining l.fn.self.cur l.fn.i);
   taken : string_bytes l.self.identbuf ++ prefix is_word (remaining l.self.cur l.i) ≡ prefix is_word (remaining l.fn.self.cur l.fn.i);
   capacity : string_capacity l.fn.self.identbuf ≤ string_capacity l.self.identbuf;
-  place : Counts l.fn.self l.fn.i l.self l.i;
+  place : Moved l.fn.self l.fn.i l.self l.i;
   strbuf : l.self.strbuf ≡ l.fn.self.strbuf;
   numbuf : l.self.numbuf ≡ l.fn.self.numbuf;
 }

@@ -1,13 +1,12 @@
-use Rattle.std.proofs.Common.{string_bytes}
+use Rattle.std.proofs.Common.{string_bytes, rules}
 use Rattle.nano_json_tokens.proofs.Cuts.{punctuator_cut, punctuator_some}
 use Rattle.nano_json_tokens.proofs.state.DeJsonState.scan_after_value.Goals as goal
 
-pub returns-in-Some-clause-taken : goal.returns-in-Some-clause-taken
-returns-in-Some-clause-taken c =
+pub returns-in-Some : goal.returns-in-Some
+returns-in-Some c =
     let is = c.in-Some.ensures (string_bytes c.next.new.self.strbuf) (string_bytes c.next.new.self.numbuf) in
-    rw (c.next.ensures.taken (punctuator_some _ _ is)) (punctuator_cut _ _ _ is)
-
-pub returns-in-Some-clause-place : goal.returns-in-Some-clause-place
-returns-in-Some-clause-place c =
-    let is = c.in-Some.ensures (string_bytes c.next.new.self.strbuf) (string_bytes c.next.new.self.numbuf) in
-    c.next.ensures.counts (punctuator_some _ _ is)
+    record {
+      taken = rw (c.next.ensures.taken (punctuator_some _ _ is)) (punctuator_cut _ _ _ is);
+      buffers = search rules;
+      place = c.next.ensures.counts (punctuator_some _ _ is);
+    }

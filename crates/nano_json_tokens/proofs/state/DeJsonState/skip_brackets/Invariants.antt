@@ -1,5 +1,5 @@
 use Rattle.nano_json_tokens.specs.State.{at}
-use Rattle.nano_json_tokens.specs.Outcomes.{Counts}
+use Rattle.nano_json_tokens.specs.Outcomes.{Moved}
 use Rattle.nano_json_tokens.proofs.BracketCounts.{Counting, Capacity}
 use Rattle.nano_json_tokens.proofs.Shorter.{left}
 use Rattle.nano_json_tokens.proofs.state.DeJsonState.skip_brackets.Given as goal
@@ -7,7 +7,7 @@ use Rattle.nano_json_tokens.proofs.state.DeJsonState.skip_brackets.Given as goal
 abbrev pub invariant-tokens : goal.invariant-tokens
 invariant-tokens l = record {
   counting : Counting (at l.fn.self l.fn.i) (at l.self l.i) l.depth;
-  place : Counts l.fn.self l.fn.i l.self l.i;
+  place : Moved l.fn.self l.fn.i l.self l.i;
   capacity : Capacity (at l.self l.i) l.depth;
 }
 

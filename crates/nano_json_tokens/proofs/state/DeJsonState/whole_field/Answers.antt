@@ -1,28 +1,64 @@
-use Rattle.std.proofs.Common.{sym, refl, inl, [], ◌∷◌}
-use Rattle.std.proofs.lemmas.Result.{on_ok_weaker}
-use Rattle.nano_json_tokens.specs.State.{at, pending}
-use Rattle.nano_json_tokens.proofs.BracketCounts.{skipped_cut, scalar_is}
-use Rattle.nano_json_tokens.proofs.Reporting.{reports, counts_none, counts_ended}
+use Rattle.std.proofs.Common.{sym, ◌∙◌, ap, refl, inl, inr, [], ◌∷◌}
+use Rattle.std.proofs.lemmas.Result.{MatchResult-weaker}
+use Rattle.nano_text.proofs.PlaceLaws.{moves_advance}
+use Rattle.nano_grammar.proofs.Outcomes.{fails_as, fails_here}
+use Rattle.nano_json_tokens.specs.State.{at}
+use Rattle.nano_json_tokens.proofs.BracketCounts.{skipped_cut, skipped_begins, skipped_bracket, scalar_is, opening_one, field_begins}
+use Rattle.nano_json_tokens.proofs.Calling.{gives_up, fails_ended_there, made_there}
 use Rattle.nano_json_tokens.proofs.state.DeJsonState.whole_field.Goals as goal
 
-pub returns-then-is_scalar-clause-taken : goal.returns-then-is_scalar-clause-taken
-returns-then-is_scalar-clause-taken c = on_ok_weaker c.next_tok.result (λ h. (
-  pending c.args.self.now ∷ [],
-  inl (pending c.args.self.now, refl, scalar_is (pending c.args.self.now) (sym c.if-is_scalar.ensures)),
-  (refl, (at c.next_tok.new.self c.next_tok.new.i, h, refl)),
-)) c.next_tok.ensures.taken
+pub returns-then-is_scalar : goal.returns-then-is_scalar
+returns-then-is_scalar c =
+    let here = at c.args.self.now c.args.i.now in
+    let scalar = scalar_is here.token (sym c.if-is_scalar.ensures) in
+    MatchResult-weaker c.next_tok.result c.next_tok.ensures
+    (λ _ x. (
+      here.token ∷ [],
+      inl (here.token, refl, scalar),
+      record {
+        taken = (refl, (at c.next_tok.new.self c.next_tok.new.i, x.taken, refl));
+        buffers = λ _. x.buffers;
+        place = x.place;
+      },
+    ))
+    (λ _ x. record {
+      fails = fails_as (λ none field s after l. let next = skipped_cut field here after s l in none next.0.token next.0.text next.1) x.fails;
+      unchanged = λ other. absurd (other (inl scalar));
+      ended = λ _. x.ended;
+      capacity = λ _ _. x.capacity;
+    })
 
-pub returns-then-is_scalar-clause-rejected : goal.returns-then-is_scalar-clause-rejected
-returns-then-is_scalar-clause-rejected c =
-    reports c.next_tok.result c.next_tok.new.self _ _
-    (λ h field s after l.
-    let x = skipped_cut field (at c.args.self.now c.args.i.now) after s l in
-    h x.0.token x.0.text x.1)
-    c.next_tok.ensures.rejected
+pub returns-in-Ok : goal.returns-in-Ok
+returns-in-Ok c =
+    let x = c.in-Ok.ensures in
+    (x.0, inr x.1, record { taken = x.2.taken; buffers = λ is. (let e = sym is ∙ sym c.if-is_scalar.ensures in cc e); place = x.2.place })
 
-pub returns-in-Err-clause-place : goal.returns-in-Err-clause-place
-returns-in-Err-clause-place c =
-    counts_ended c.args.self.now c.skip_brackets.new.self c.reject.new.self c.args.i.now c.skip_brackets.new.i c.skip_brackets.ensures.place c.reject.ensures.unchanged
+pub returns-in-Err : goal.returns-in-Err
+returns-in-Err c =
+    let here = at c.args.self.now c.args.i.now in
+    let mid = c.skip_brackets.new.self in
+    let new = c.reject.new.self in
+    let x = c.in-Err.ensures in
+    let is = c.reject.ensures.unchanged in
+    let opening = sym c.if-is_opening.ensures in
+    record {
+      fails = fails_ended_there mid new c.skip_brackets.new.i c.reject.result is (record {
+        rejected = λ known field s after l. x.rejected (c.reject.ensures.made.0 known) field (skipped_bracket field here after s l opening) after l;
+        made = made_there mid new c.reject.result is c.reject.ensures.made.1;
+        place = moves_advance x.place;
+      });
+      unchanged = λ other. absurd (other (inr (opening_one here.token opening)));
+      ended = λ _. ap (λ p. p.at) (gives_up mid new c.skip_brackets.new.i is);
+      capacity = λ _ is_one. (let e = sym is_one ∙ sym c.if-is_scalar.ensures in cc e);
+    }
 
-pub returns-clause-place : goal.returns-clause-place
-returns-clause-place c = counts_none c.args.self.now c.args.i.now
+pub returns : goal.returns
+returns c =
+    let here = at c.args.self.now c.args.i.now in
+    let other = field_begins here.token (sym c.if-is_scalar.ensures) (sym c.if-is_opening.ensures) in
+    record {
+      fails = fails_here (λ field s after l. other (skipped_begins field here after s l)) c.err_token.ensures;
+      unchanged = λ _. (refl, refl);
+      ended = λ is. absurd (other is);
+      capacity = λ is. absurd (other is);
+    }

@@ -3,11 +3,11 @@ use Rattle.std.specs.Str.{encode_utf8_all}
 use Rattle.std.specs.Map.Iter.{deref}
 use Rattle.nano_value.specs.InOrder.{ascending_items}
 use Rattle.nano_value.specs.MeaningOrder.{by_meaning}
-use Rattle.nano_value.specs.MeaningOrderLaws.{followed}
+use Rattle.nano_meaning.proofs.MeaningOrderLaws.{followed}
 use Rattle.nano_text.specs.Place.{saturating_next}
-use Rattle.nano_ron_tokens.specs.StylesLaws.{indent_style}
+use Rattle.nano_ron_tokens.proofs.StylesLaws.{indent_style}
 use Rattle.nano_ron.specs.Lists.{written_in}
-use Rattle.nano_text.specs.RollbackLaws.{unchanged_by, unchanged_ok, cut_back_err}
+use Rattle.nano_text.proofs.RollbackLaws.{unchanged_by, unchanged_ok, cut_back_err}
 use Rattle.nano_ron.proofs.sets.HashSetSerRon.ser_ron.Goals as goal
 
 pub rollback_on_error-requires : goal.rollback_on_error-requires

@@ -1,4 +1,5 @@
+use Rattle.nano_ron_tokens.proofs.Calling.{ended_read}
 use Rattle.nano_ron.proofs.unsigned.U16DeRon.de_ron.Goals as goal
 
-pub returns-clause-place : goal.returns-clause-place
-returns-clause-place c = c.end_on_error.ensures.place _ _ _ c.read_unsigned-read.ensures.place
+pub returns : goal.returns
+returns c = ended_read _ _ _ c.read_unsigned-read.new.input c.end_on_error.ensures c.read_unsigned-read.ensures

@@ -1,11 +1,14 @@
+use Rattle.std.proofs.Common.{ap, string_bytes, rules}
+use Rattle.nano_ron_tokens.specs.State.{token_of}
 use Rattle.nano_ron_tokens.specs.Token.{block_open}
-use Rattle.nano_ron_tokens.proofs.Reporting.{reports, none_after, counts_none}
+use Rattle.nano_ron_tokens.proofs.Calling.{takes_one, rejects_other}
 use Rattle.nano_ron_tokens.proofs.state.DeRonState.block_open.Goals as goal
 
-pub returns-in-BlockOpen-clause-rejected : goal.returns-in-BlockOpen-clause-rejected
-returns-in-BlockOpen-clause-rejected c =
-    let none = none_after block_open c.args.self.now c.args.i.now in
-    reports c.scan_value_token.result c.scan_value_token.new.self _ _ none c.scan_value_token.ensures.rejected
+pub returns-in-BlockOpen : goal.returns-in-BlockOpen
+returns-in-BlockOpen c =
+    let s = c.args.self.now in
+    let is = ap (λ t. token_of t (string_bytes s.strbuf) (string_bytes s.numbuf) (string_bytes s.identbuf)) c.in-BlockOpen.is in
+    takes_one block_open s c.scan_value_token.new.self c.args.i.now c.scan_value_token.new.i is c.scan_value_token.result c.scan_value_token.ensures
 
-pub returns-in_default-clause-place : goal.returns-in_default-clause-place
-returns-in_default-clause-place c = counts_none c.args.self.now c.args.i.now
+pub returns-in_default : goal.returns-in_default
+returns-in_default c = rejects_other block_open c.args.self.now c.args.i.now c.err_token.result (search rules) c.err_token.ensures

@@ -1,11 +1,14 @@
+use Rattle.std.proofs.Common.{ap, string_bytes, rules}
+use Rattle.nano_ron_tokens.specs.State.{token_of}
 use Rattle.nano_ron_tokens.specs.Token.{curly_close}
-use Rattle.nano_ron_tokens.proofs.Reporting.{reports, none_after, counts_none}
+use Rattle.nano_ron_tokens.proofs.Calling.{takes_one, rejects_other}
 use Rattle.nano_ron_tokens.proofs.state.DeRonState.curly_close.Goals as goal
 
-pub returns-in-CurlyClose-clause-rejected : goal.returns-in-CurlyClose-clause-rejected
-returns-in-CurlyClose-clause-rejected c =
-    let none = none_after curly_close c.args.self.now c.args.i.now in
-    reports c.next_tok.result c.next_tok.new.self _ _ none c.next_tok.ensures.rejected
+pub returns-in-CurlyClose : goal.returns-in-CurlyClose
+returns-in-CurlyClose c =
+    let s = c.args.self.now in
+    let is = ap (λ t. token_of t (string_bytes s.strbuf) (string_bytes s.numbuf) (string_bytes s.identbuf)) c.in-CurlyClose.is in
+    takes_one curly_close s c.next_tok.new.self c.args.i.now c.next_tok.new.i is c.next_tok.result c.next_tok.ensures
 
-pub returns-in_default-clause-place : goal.returns-in_default-clause-place
-returns-in_default-clause-place c = counts_none c.args.self.now c.args.i.now
+pub returns-in_default : goal.returns-in_default
+returns-in_default c = rejects_other curly_close c.args.self.now c.args.i.now c.err_token.result (search rules) c.err_token.ensures

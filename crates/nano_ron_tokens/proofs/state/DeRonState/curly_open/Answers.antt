@@ -1,11 +1,14 @@
+use Rattle.std.proofs.Common.{ap, string_bytes, rules}
+use Rattle.nano_ron_tokens.specs.State.{token_of}
 use Rattle.nano_ron_tokens.specs.Token.{curly_open}
-use Rattle.nano_ron_tokens.proofs.Reporting.{reports, none_after, counts_none}
+use Rattle.nano_ron_tokens.proofs.Calling.{takes_one, rejects_other}
 use Rattle.nano_ron_tokens.proofs.state.DeRonState.curly_open.Goals as goal
 
-pub returns-in-CurlyOpen-clause-rejected : goal.returns-in-CurlyOpen-clause-rejected
-returns-in-CurlyOpen-clause-rejected c =
-    let none = none_after curly_open c.args.self.now c.args.i.now in
-    reports c.scan_value_token.result c.scan_value_token.new.self _ _ none c.scan_value_token.ensures.rejected
+pub returns-in-CurlyOpen : goal.returns-in-CurlyOpen
+returns-in-CurlyOpen c =
+    let s = c.args.self.now in
+    let is = ap (λ t. token_of t (string_bytes s.strbuf) (string_bytes s.numbuf) (string_bytes s.identbuf)) c.in-CurlyOpen.is in
+    takes_one curly_open s c.scan_value_token.new.self c.args.i.now c.scan_value_token.new.i is c.scan_value_token.result c.scan_value_token.ensures
 
-pub returns-in_default-clause-place : goal.returns-in_default-clause-place
-returns-in_default-clause-place c = counts_none c.args.self.now c.args.i.now
+pub returns-in_default : goal.returns-in_default
+returns-in_default c = rejects_other curly_open c.args.self.now c.args.i.now c.err_token.result (search rules) c.err_token.ensures

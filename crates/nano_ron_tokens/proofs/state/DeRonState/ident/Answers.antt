@@ -1,12 +1,16 @@
-use Rattle.nano_ron_tokens.specs.Token.{ident}
-use Rattle.nano_ron_tokens.proofs.Reporting.{reports, none_after, counts_none}
+use Rattle.std.proofs.Common.{ap, sym, subst, refl, string_bytes, rules}
+use Rattle.std.proofs.lemmas.Result.{MatchResult-weaker}
+use Rattle.nano_grammar.proofs.Outcomes.{took, rejects_next, rejects_here}
+use Rattle.nano_ron_tokens.specs.State.{token_of}
+use Rattle.nano_ron_tokens.specs.Token.{ident, IsIdent}
 use Rattle.nano_ron_tokens.proofs.state.DeRonState.ident.Goals as goal
 
-pub returns-in-Ident-clause-rejected : goal.returns-in-Ident-clause-rejected
-returns-in-Ident-clause-rejected c =
-    reports c.next_tok.result c.next_tok.new.self _ _
-    (λ h name. none_after (ident name) c.args.self.now c.args.i.now h)
-    c.next_tok.ensures.rejected
+pub returns-in-Ident : goal.returns-in-Ident
+returns-in-Ident c =
+    let s = c.args.self.now in
+    let is = ap (λ t. token_of t (string_bytes s.strbuf) (string_bytes s.numbuf) (string_bytes s.identbuf)) c.in-Ident.is in
+    MatchResult-weaker c.next_tok.result c.next_tok.ensures (λ _ x. (string_bytes s.identbuf, took (ident (string_bytes s.identbuf)) is x))
+    (λ _ x. rejects_next (subst IsIdent (sym is) tt) (λ none name after l. none l.1.0.token l.1.0.text l.1.1) x)
 
-pub returns-in_default-clause-place : goal.returns-in_default-clause-place
-returns-in_default-clause-place c = counts_none c.args.self.now c.args.i.now
+pub returns-in_default : goal.returns-in_default
+returns-in_default c = rejects_here (search rules) (λ name after l. (search rules)) (refl, refl) c.err_token.ensures

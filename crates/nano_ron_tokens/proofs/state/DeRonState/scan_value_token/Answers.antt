@@ -1,13 +1,6 @@
-use Rattle.nano_text.specs.Place.{remaining}
-use Rattle.nano_ron_tokens.proofs.Capacity.{by_rejection}
-use Rattle.nano_ron_tokens.proofs.Reporting.{counts_ended}
+use Rattle.nano_ron_tokens.proofs.Scanning.{scan_stops}
 use Rattle.nano_ron_tokens.proofs.state.DeRonState.scan_value_token.Goals as goal
 
-pub returns-in-Err-clause-capacity : goal.returns-in-Err-clause-capacity
-returns-in-Err-clause-capacity c =
-    let text = remaining c.args.self.now.cur c.args.i.now in
-    by_rejection c.in-Err.rejection c.args.self.now text c.in-Err.ensures.rejected c.in-Err.ensures.capacity
-
-pub returns-in-Err-clause-place : goal.returns-in-Err-clause-place
-returns-in-Err-clause-place c =
-    counts_ended c.args.self.now c.scan_token.new.self c.reject.new.self c.args.i.now c.scan_token.new.i c.scan_token.ensures.place c.reject.ensures.unchanged
+pub returns-in-Err : goal.returns-in-Err
+returns-in-Err c =
+    scan_stops c.args.self.now c.scan_token.new.self c.reject.new.self c.args.i.now c.scan_token.new.i c.in-Err.rejection c.reject.result c.in-Err.ensures c.reject.ensures.unchanged c.reject.ensures.made

@@ -5,6 +5,7 @@ use Rattle.nano_text.proofs.TakenPrefix.{prefix_boundary, advances_over}
 use Rattle.nano_ron_tokens.specs.Scan.{is_blank}
 use Rattle.nano_ron_tokens.specs.State.{place_of}
 use Rattle.nano_ron_tokens.proofs.Blanks.{blank_cut, remaining_blanks, passes_blanks}
+use Rattle.nano_ron_tokens.proofs.Passing.{passed_next}
 use Rattle.nano_ron_tokens.proofs.state.DeRonState.skip_blanks.Goals as goal
 
 pub split_at-requires : goal.split_at-requires
@@ -18,15 +19,18 @@ returns-clause-remaining c =
     let count = c.blanks_len-len.ensures ∙ ap (λ (bs : List ℕ). length (prefix is_blank bs)) c.as_bytes.ensures.value in
     c.next.ensures.rest ∙ remaining_blanks c.blanks_len-len.result c.args.i.now c.chars.result text.result.now text.utf8 text.ensures count (c.chars.ensures.rest ∙ c.split_at.ensures.back)
 
-pub returns-clause-place : goal.returns-clause-place
-returns-clause-place c some =
+pub returns-clause-passed : goal.returns-clause-passed
+returns-clause-passed c some =
     let text = c.as_str-text in
     let p = place_of c.args.self.now in
     let r = place_of c.next.new.self in
     let count = c.blanks_len-len.ensures ∙ ap (λ (bs : List ℕ). length (prefix is_blank bs)) c.as_bytes.ensures.value in
     let left = c.chars.ensures.rest ∙ c.split_at.ensures.back in
-    advances_over is_blank refl blank_cut p r c.blanks_len-len.result c.args.i.now c.chars.result c.next.new.i text.result.now some
+    let e = c.next.ensures in
+    passed_next
+    (advances_over is_blank refl blank_cut p r c.blanks_len-len.result c.args.i.now c.chars.result c.next.new.i text.result.now some
     text.utf8 text.ensures count left c.next.ensures.held c.next.ensures.rest
     (passes_blanks c.blanks_len-len.result c.args.i.now c.chars.result text.result.now text.utf8 text.ensures count
     left p _ r (held c.next.new.i)
-    (omega arith) refl c.saturating_add-self.ensures c.next.ensures.passes)
+    (omega arith) refl c.saturating_add-self.ensures c.next.ensures.passes))
+    e.tok e.strbuf e.numbuf e.identbuf

@@ -2,10 +2,8 @@ use Rattle.std.proofs.Common.{◌≡◌, ◌∙◌, ap, refl, false, ne_eqb, ari
 use Rattle.nano_text.proofs.RemainingText.{remaining_end, remaining_stop}
 use Rattle.nano_text.specs.Prefix.{first_is}
 use Rattle.nano_text.specs.Place.{remaining}
-use Rattle.nano_text.specs.PlaceLaws.{advances_append}
 use Rattle.nano_ron_tokens.proofs.Comments.{is_slash, block_step, block_ends, block_over}
-use Rattle.nano_ron_tokens.proofs.Unchanged.{unchanged_next}
-use Rattle.nano_ron_tokens.proofs.Reporting.{counts_none}
+use Rattle.nano_ron_tokens.proofs.Passing.{passed_none, passed_next, passed_append}
 use Rattle.nano_ron_tokens.proofs.state.DeRonState.skip_block.Goals as goal
 use Rattle.nano_ron_tokens.proofs.state.DeRonState.skip_block.Goals.{else-star-via-then-star+else-self-eq47, else-star-via-else-star}
 
@@ -21,10 +19,12 @@ returns-then-self-eq47-clause-skipped c =
     (block_ends cur next text more rest (c.next.ensures.taken c.block-test.true) c.if-star.true
     (last.ensures.taken (λ z. omega (arith, z, c.if-self-eq47.true))) c.if-self-eq47.true)
 
-pub returns-then-self-eq47-clause-place : goal.returns-then-self-eq47-clause-place
-returns-then-self-eq47-clause-place c =
-    advances_append (advances_append c.block.invariant.place (c.next.ensures.counts c.block-test.true))
-    (c.next-then-self-eq47.ensures.counts (λ z. omega (arith, z, c.if-self-eq47.true)))
+pub returns-then-self-eq47-clause-passed : goal.returns-then-self-eq47-clause-passed
+returns-then-self-eq47-clause-passed c =
+    let e = c.next.ensures in
+    let f = c.next-then-self-eq47.ensures in
+    passed_append (passed_append c.block.invariant.passed (passed_next (e.counts c.block-test.true) e.tok e.strbuf e.numbuf e.identbuf))
+    (passed_next (f.counts (λ z. omega (arith, z, c.if-self-eq47.true))) f.tok f.strbuf f.numbuf f.identbuf)
 
 pub block-preserved : goal.block-preserved
 block-preserved c =
@@ -39,8 +39,7 @@ block-preserved c =
     ] in
     record {
       following = λ rest h. c.block.invariant.following rest (block_step cur text more rest (e.taken c.block-test.true) star h);
-      place = advances_append c.block.invariant.place (e.counts c.block-test.true);
-      unchanged = unchanged_next c.block.invariant.unchanged e.tok e.strbuf e.numbuf e.identbuf;
+      passed = passed_append c.block.invariant.passed (passed_next (e.counts c.block-test.true) e.tok e.strbuf e.numbuf e.identbuf);
     }
 
 pub returns-clause-skipped : goal.returns-clause-skipped
@@ -50,8 +49,4 @@ returns-clause-skipped c =
     c.block.invariant.following text (block_over text none)
 
 pub block-init : goal.block-init
-block-init c = record {
-  following = λ rest h. h;
-  place = counts_none c.args.self.now c.args.i.now;
-  unchanged = record { tok = refl; strbuf = refl; numbuf = refl; identbuf = refl };
-}
+block-init c = record { following = λ rest h. h; passed = passed_none c.args.self.now c.args.i.now }

@@ -1,6 +1,6 @@
 use Rattle.std.proofs.Common.{ℕ, List, length}
 use Rattle.nano_text.specs.Place.{remaining}
-use Rattle.nano_ron_tokens.specs.Outcomes.{Counts, KeepsToken}
+use Rattle.nano_ron_tokens.specs.Scan.{Passed}
 use Rattle.nano_ron_tokens.specs.Scan.{AfterBlock}
 use Rattle.nano_ron_tokens.proofs.state.DeRonState.skip_block.Given as goal
 
@@ -8,8 +8,7 @@ abbrev pub invariant-block : goal.invariant-block
 invariant-block l = record {
   -- what comes after what is left comes after the whole
   following : (rest : List ℕ) → AfterBlock (remaining l.self.cur l.i) rest → AfterBlock (remaining l.fn.self.cur l.fn.i) rest;
-  place : Counts l.fn.self l.fn.i l.self l.i;
-  unchanged : KeepsToken l.fn.self l.self;
+  passed : Passed l.fn.self l.fn.i l.self l.i;
 }
 
 abbrev pub decreases-block : goal.decreases-block

@@ -1,12 +1,12 @@
 use Rattle.std.proofs.Common.{arith, refl, ne_eqb}
 use Rattle.nano_text.proofs.RemainingText.{remaining_stop}
 use Rattle.nano_text.specs.Place.{remaining}
-use Rattle.nano_text.specs.PlaceLaws.{advances_append}
 use Rattle.nano_ron_tokens.proofs.Comments.{line_comment_at, block_comment_at, no_comment_at, is_slash, is_star}
+use Rattle.nano_ron_tokens.proofs.Passing.{passed_next, passed_append}
 use Rattle.nano_ron_tokens.proofs.state.DeRonState.skip_comment.Goals as goal
 
 pub returns-then-self-eq47-clause-skipped : goal.returns-then-self-eq47-clause-skipped
-returns-then-self-eq47-clause-skipped c known =
+returns-then-self-eq47-clause-skipped c =
     let cur = c.args.self.now.cur in
     let next = c.next.new.self.cur in
     let last = c.next-then-self-eq47 in
@@ -14,13 +14,15 @@ returns-then-self-eq47-clause-skipped c known =
     (remaining c.skip_line.new.self.cur c.skip_line.new.i) (c.next.ensures.taken (λ z. omega (arith, z, c.requires))) c.requires
     (last.ensures.taken (λ z. omega (arith, z, c.if-self-eq47.true))) c.if-self-eq47.true c.skip_line.ensures.skipped
 
-pub returns-then-self-eq47-clause-place : goal.returns-then-self-eq47-clause-place
-returns-then-self-eq47-clause-place c =
-    advances_append (advances_append (c.next.ensures.counts (λ z. omega (arith, z, c.requires)))
-    (c.next-then-self-eq47.ensures.counts (λ z. omega (arith, z, c.if-self-eq47.true)))) c.skip_line.ensures.place
+pub returns-then-self-eq47-clause-passed : goal.returns-then-self-eq47-clause-passed
+returns-then-self-eq47-clause-passed c =
+    let e = c.next.ensures in
+    let f = c.next-then-self-eq47.ensures in
+    passed_append (passed_append (passed_next (e.counts (λ z. omega (arith, z, c.requires))) e.tok e.strbuf e.numbuf e.identbuf)
+    (passed_next (f.counts (λ z. omega (arith, z, c.if-self-eq47.true))) f.tok f.strbuf f.numbuf f.identbuf)) c.skip_line.ensures.passed
 
 pub returns-then-self-eq42-clause-skipped : goal.returns-then-self-eq42-clause-skipped
-returns-then-self-eq42-clause-skipped c known =
+returns-then-self-eq42-clause-skipped c =
     let cur = c.args.self.now.cur in
     let next = c.next.new.self.cur in
     let last = c.next-then-self-eq42 in
@@ -28,18 +30,20 @@ returns-then-self-eq42-clause-skipped c known =
     (remaining c.skip_block.new.self.cur c.skip_block.new.i) (c.next.ensures.taken (λ z. omega (arith, z, c.requires))) c.requires
     (last.ensures.taken (λ z. omega (arith, z, c.if-self-eq42.true))) c.if-self-eq42.true c.skip_block.ensures.skipped
 
-pub returns-then-self-eq42-clause-place : goal.returns-then-self-eq42-clause-place
-returns-then-self-eq42-clause-place c =
-    advances_append (advances_append (c.next.ensures.counts (λ z. omega (arith, z, c.requires)))
-    (c.next-then-self-eq42.ensures.counts (λ z. omega (arith, z, c.if-self-eq42.true)))) c.skip_block.ensures.place
+pub returns-then-self-eq42-clause-passed : goal.returns-then-self-eq42-clause-passed
+returns-then-self-eq42-clause-passed c =
+    let e = c.next.ensures in
+    let f = c.next-then-self-eq42.ensures in
+    passed_append (passed_append (passed_next (e.counts (λ z. omega (arith, z, c.requires))) e.tok e.strbuf e.numbuf e.identbuf)
+    (passed_next (f.counts (λ z. omega (arith, z, c.if-self-eq42.true))) f.tok f.strbuf f.numbuf f.identbuf)) c.skip_block.ensures.passed
 
-pub returns-clause-rejected : goal.returns-clause-rejected
-returns-clause-rejected c known =
+pub returns-clause-skipped : goal.returns-clause-skipped
+returns-clause-skipped c =
     let cur = c.args.self.now.cur in
     let next = c.next.new.self.cur in
     no_comment_at cur (remaining cur c.args.i.now) (remaining next c.next.new.i) (c.next.ensures.taken (λ z. omega (arith, z, c.requires))) c.requires
     (remaining_stop is_slash next c.next.new.i refl (ne_eqb next 47 c.if-self-eq47.false))
     (remaining_stop is_star next c.next.new.i refl (ne_eqb next 42 c.if-self-eq42.false))
 
-pub returns-clause-place : goal.returns-clause-place
-returns-clause-place c = c.next.ensures.counts (λ z. omega (arith, z, c.requires))
+pub returns-clause-passed : goal.returns-clause-passed
+returns-clause-passed c = let e = c.next.ensures in passed_next (e.counts (λ z. omega (arith, z, c.requires))) e.tok e.strbuf e.numbuf e.identbuf

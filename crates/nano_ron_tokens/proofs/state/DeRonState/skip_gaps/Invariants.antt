@@ -1,7 +1,7 @@
 use Rattle.std.proofs.Common.{◌≡◌, ℕ, List, false, length}
 use Rattle.nano_text.specs.Place.{remaining}
 use Rattle.nano_ron_tokens.specs.Gaps.{is_space}
-use Rattle.nano_ron_tokens.specs.Outcomes.{Counts, KeepsToken}
+use Rattle.nano_ron_tokens.specs.Scan.{Passed}
 use Rattle.nano_ron_tokens.specs.Scan.{AfterGap}
 use Rattle.nano_ron_tokens.proofs.state.DeRonState.skip_gaps.Given as goal
 
@@ -10,8 +10,7 @@ invariant-comments l = record {
   -- what comes after a gap here comes after one from the start
   following : (rest : List ℕ) → AfterGap (remaining l.self.cur l.i) rest → AfterGap (remaining l.fn.self.cur l.fn.i) rest;
   no_space : is_space l.self.cur ≡ false;
-  place : Counts l.fn.self l.fn.i l.self l.i;
-  unchanged : KeepsToken l.fn.self l.self;
+  passed : Passed l.fn.self l.fn.i l.self l.i;
 }
 
 abbrev pub decreases-comments : goal.decreases-comments

@@ -1,10 +1,8 @@
-use Rattle.std.proofs.Common.{refl, ◌∙◌, ap}
+use Rattle.std.proofs.Common.{◌∙◌, ap}
 use Rattle.nano_text.proofs.RemainingText.{remaining_end}
 use Rattle.nano_text.specs.Place.{remaining}
-use Rattle.nano_text.specs.PlaceLaws.{advances_append}
 use Rattle.nano_ron_tokens.proofs.Comments.{line_step, line_ends, line_over}
-use Rattle.nano_ron_tokens.proofs.Unchanged.{unchanged_next}
-use Rattle.nano_ron_tokens.proofs.Reporting.{counts_none}
+use Rattle.nano_ron_tokens.proofs.Passing.{passed_none, passed_next, passed_append}
 use Rattle.nano_ron_tokens.proofs.state.DeRonState.skip_line.Goals as goal
 
 pub returns-then-ends-clause-skipped : goal.returns-then-ends-clause-skipped
@@ -14,8 +12,10 @@ returns-then-ends-clause-skipped c =
     let rest = remaining c.next.new.self.cur c.next.new.i in
     c.line.invariant.following rest (line_ends cur text rest (c.next.ensures.taken c.line-test.true) c.if-ends.true)
 
-pub returns-then-ends-clause-place : goal.returns-then-ends-clause-place
-returns-then-ends-clause-place c = advances_append c.line.invariant.place (c.next.ensures.counts c.line-test.true)
+pub returns-then-ends-clause-passed : goal.returns-then-ends-clause-passed
+returns-then-ends-clause-passed c =
+    let e = c.next.ensures in
+    passed_append c.line.invariant.passed (passed_next (e.counts c.line-test.true) e.tok e.strbuf e.numbuf e.identbuf)
 
 pub line-preserved : goal.line-preserved
 line-preserved c =
@@ -25,8 +25,7 @@ line-preserved c =
     let more = remaining c.next.new.self.cur c.next.new.i in
     record {
       following = λ rest h. c.line.invariant.following rest (line_step cur text more rest (e.taken c.line-test.true) c.if-ends.false h);
-      place = advances_append c.line.invariant.place (e.counts c.line-test.true);
-      unchanged = unchanged_next c.line.invariant.unchanged e.tok e.strbuf e.numbuf e.identbuf;
+      passed = passed_append c.line.invariant.passed (passed_next (e.counts c.line-test.true) e.tok e.strbuf e.numbuf e.identbuf);
     }
 
 pub returns-clause-skipped : goal.returns-clause-skipped
@@ -36,8 +35,4 @@ returns-clause-skipped c =
     c.line.invariant.following text (line_over text none)
 
 pub line-init : goal.line-init
-line-init c = record {
-  following = λ rest h. h;
-  place = counts_none c.args.self.now c.args.i.now;
-  unchanged = record { tok = refl; strbuf = refl; numbuf = refl; identbuf = refl };
-}
+line-init c = record { following = λ rest h. h; passed = passed_none c.args.self.now c.args.i.now }

@@ -2,11 +2,9 @@ use Rattle.std.proofs.Common.{sym, ◌∙◌, refl}
 use Rattle.nano_text.proofs.RemainingText.{first_is-remaining, not_nul}
 use Rattle.nano_text.proofs.Prefixes.{after_stop}
 use Rattle.nano_text.specs.Place.{remaining}
-use Rattle.nano_text.specs.PlaceLaws.{advances_append}
 use Rattle.nano_ron_tokens.specs.Gaps.{is_space}
 use Rattle.nano_ron_tokens.proofs.Blanks.{space_over, space_fewer}
-use Rattle.nano_ron_tokens.proofs.Unchanged.{unchanged_append}
-use Rattle.nano_ron_tokens.proofs.Reporting.{counts_none}
+use Rattle.nano_ron_tokens.proofs.Passing.{passed_none, passed_append}
 use Rattle.nano_ron_tokens.proofs.state.DeRonState.skip_space.Goals as goal
 
 pub returns-clause-remaining : goal.returns-clause-remaining
@@ -25,13 +23,8 @@ space-preserved c =
     let new = c.skip_blanks.new in
     record {
       rest = space_over c.space.self.cur c.space.i (remaining new.self.cur new.i) (sym c.space-test.ensures) e.remaining ∙ c.space.invariant.rest;
-      place = advances_append c.space.invariant.place (e.place (not_nul is_space c.space.self.cur refl (sym c.space-test.ensures)));
-      unchanged = unchanged_append c.space.invariant.unchanged e.unchanged;
+      passed = passed_append c.space.invariant.passed (e.passed (not_nul is_space c.space.self.cur refl (sym c.space-test.ensures)));
     }
 
 pub space-init : goal.space-init
-space-init c = record {
-  rest = refl;
-  place = counts_none c.args.self.now c.args.i.now;
-  unchanged = record { tok = refl; strbuf = refl; numbuf = refl; identbuf = refl };
-}
+space-init c = record { rest = refl; passed = passed_none c.args.self.now c.args.i.now }

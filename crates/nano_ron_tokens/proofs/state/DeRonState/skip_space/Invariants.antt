@@ -2,14 +2,13 @@ use Rattle.std.proofs.Common.{◌≡◌, length}
 use Rattle.nano_text.specs.Place.{remaining}
 use Rattle.nano_text.specs.Prefix.{following}
 use Rattle.nano_ron_tokens.specs.Gaps.{is_space}
-use Rattle.nano_ron_tokens.specs.Outcomes.{Counts, KeepsToken}
+use Rattle.nano_ron_tokens.specs.Scan.{Passed}
 use Rattle.nano_ron_tokens.proofs.state.DeRonState.skip_space.Given as goal
 
 abbrev pub invariant-space : goal.invariant-space
 invariant-space l = record {
   rest : following is_space (remaining l.self.cur l.i) ≡ following is_space (remaining l.fn.self.cur l.fn.i);
-  place : Counts l.fn.self l.fn.i l.self l.i;
-  unchanged : KeepsToken l.fn.self l.self;
+  passed : Passed l.fn.self l.fn.i l.self l.i;
 }
 
 abbrev pub decreases-space : goal.decreases-space

@@ -1,5 +1,5 @@
 use Rattle.nano_value.specs.Order.{meaning_cmp}
-use Rattle.nano_value.specs.TablesLaws.{no_entries}
+use Rattle.nano_meaning.proofs.TablesLaws.{no_entries}
 use Rattle.std.proofs.Common.{refl}
 use Rattle.nano_schema.proofs.defaults.TypeDefaultDefaultOfBTreeSet.default.Goals as goal
 

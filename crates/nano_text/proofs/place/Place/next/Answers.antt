@@ -1,6 +1,6 @@
 use Rattle.std.proofs.Common.{◌≡◌, rules, refl, subst, IsUtf8, ne_eqb}
 use Rattle.nano_text.specs.Place.{held, tail, place_after}
-use Rattle.nano_text.specs.PlaceLaws.{passes_next, advances_next}
+use Rattle.nano_text.proofs.PlaceLaws.{passes_next, moves_next}
 use Rattle.nano_text.proofs.RemainingText.{held_next, held_none, remaining_next, remaining_last, remaining_taken, remaining_none}
 use Rattle.nano_text.proofs.place.Place.next.Goals as goal
 
@@ -62,12 +62,12 @@ returns-else-c-eq10-clause-passes c =
 
 pub returns-then-c-eq10-clause-counts : goal.returns-then-c-eq10-clause-counts
 returns-then-c-eq10-clause-counts c some =
-    advances_next _ _ _ _ (returns-then-c-eq10-clause-passes c) (returns-then-c-eq10-clause-held c)
+    moves_next _ _ _ _ (returns-then-c-eq10-clause-passes c) (returns-then-c-eq10-clause-held c)
     (returns-then-c-eq10-clause-taken c some)
 
 pub returns-else-c-eq10-clause-counts : goal.returns-else-c-eq10-clause-counts
 returns-else-c-eq10-clause-counts c some =
-    advances_next _ _ _ _ (returns-else-c-eq10-clause-passes c) (returns-else-c-eq10-clause-held c)
+    moves_next _ _ _ _ (returns-else-c-eq10-clause-passes c) (returns-else-c-eq10-clause-held c)
     (returns-else-c-eq10-clause-taken c some)
 
 pub returns-in-None-clause-counts : goal.returns-in-None-clause-counts
@@ -75,4 +75,4 @@ returns-in-None-clause-counts c some =
     let none = held_none c.args.i.now c.in-None.ensures.steps.0.0 in
     let place : record c.args.self.now { cur = 0 } ≡ place_after c.args.self.now (held c.args.i.now) = rw none refl in
     let left : held c.next.new.self ≡ tail (held c.args.i.now) = search rules in
-    advances_next _ _ _ _ (passes_next _ _ _ _ place left) left (returns-in-None-clause-taken c some)
+    moves_next _ _ _ _ (passes_next _ _ _ _ place left) left (returns-in-None-clause-taken c some)

@@ -1,7 +1,7 @@
 use Rattle.std.proofs.Common.{◌≡◌, Option, IfNone, ap, sym, ◌∙◌, subst, false}
 use Rattle.nano_toml.specs.Characters.{starts_word}
 use Rattle.nano_toml.specs.RemainingText.{remaining}
-use Rattle.nano_toml.specs.ScanLaws.{next_after_gaps}
+use Rattle.nano_toml.proofs.Scans.{next_after_gaps}
 use Rattle.nano_toml.specs.Scan.{after_gaps}
 use Rattle.nano_toml.specs.Taken.{a_token}
 use Rattle.nano_toml.specs.Token.{Token, ident}

@@ -2,7 +2,7 @@ use Rattle.std.proofs.Common.{◌==◌, [], not, ap, sym, ◌∙◌, refl, ne_eq
 use Rattle.std.proofs.lemmas.Result.{err_from_is_err_and}
 use Rattle.nano_toml.specs.Characters.{starts_word, starts_number, is_quote}
 use Rattle.nano_toml.specs.RemainingText.{remaining}
-use Rattle.nano_toml.specs.ScanLaws.{next_after_gaps}
+use Rattle.nano_toml.proofs.Scans.{next_after_gaps}
 use Rattle.nano_toml.specs.Scan.{number_at}
 use Rattle.nano_toml.specs.Taken.{the_end, token_of}
 use Rattle.nano_toml.specs.Cut.{punctuator_token}

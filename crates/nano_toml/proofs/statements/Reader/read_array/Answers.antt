@@ -2,8 +2,7 @@ use Rattle.std.proofs.Common.{◌≡◌, ap, sym, refl, ◌∙◌, [], ◌∷◌
 use Rattle.std.proofs.lemmas.Result.{err_from_is_err_and}
 use Rattle.std.proofs.lemmas.List.{nil_from_length}
 use Rattle.nano_toml.specs.Data.{no_values, values}
-use Rattle.nano_toml.specs.Prefixes.{closed, is_open, push_value}
-use Rattle.nano_toml.specs.PrefixesLaws.{array_prefix}
+use Rattle.nano_toml.specs.Prefixes.{closed, is_open, push_value, array_prefix}
 use Rattle.nano_toml.specs.RemainingText.{remaining}
 use Rattle.nano_toml.specs.Reading.{arrays_view}
 use Rattle.nano_toml.specs.Taken.{token_of}

@@ -1,6 +1,6 @@
 use Rattle.std.proofs.Common.{[], length}
 use Rattle.nano_toml.specs.Data.{no_values}
-use Rattle.nano_toml.specs.PrefixesLaws.{array_prefix}
+use Rattle.nano_toml.specs.Prefixes.{array_prefix}
 use Rattle.nano_toml.specs.RemainingText.{remaining}
 use Rattle.nano_toml.specs.Reading.{arrays_view}
 use Rattle.nano_toml.specs.View.{values_view}

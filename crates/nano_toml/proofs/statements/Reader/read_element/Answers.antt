@@ -1,8 +1,7 @@
 use Rattle.std.proofs.Common.{refl, subst, [], ◌∷◌}
 use Rattle.std.proofs.lemmas.Result.{err_from_is_err_and}
 use Rattle.nano_toml.specs.Cut.{CutsNothing}
-use Rattle.nano_toml.specs.Prefixes.{closed}
-use Rattle.nano_toml.specs.PrefixesLaws.{closing, element_prefix}
+use Rattle.nano_toml.specs.Prefixes.{closed, closing, element_prefix}
 use Rattle.nano_toml.specs.RemainingText.{remaining}
 use Rattle.nano_toml.specs.Statements.{element}
 use Rattle.nano_toml.specs.Taken.{token_of}

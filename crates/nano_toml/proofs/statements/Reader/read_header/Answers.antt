@@ -1,7 +1,7 @@
 use Rattle.std.proofs.Common.{ℕ, List, refl, string_bytes, subst}
 use Rattle.std.proofs.lemmas.Result.{err_from_is_err_and, IfOk-weaker, IfErr-weaker}
 use Rattle.nano_toml.specs.Cut.{Cut, CutsNothing}
-use Rattle.nano_toml.specs.PrefixesLaws.{scope_prefix, element_prefix, header_prefix}
+use Rattle.nano_toml.specs.Prefixes.{scope_prefix, element_prefix, header_prefix}
 use Rattle.nano_toml.specs.RemainingText.{remaining}
 use Rattle.nano_toml.specs.Reading.{statement_view}
 use Rattle.nano_toml.specs.Taken.{token_of}

@@ -1,6 +1,6 @@
 use Rattle.std.proofs.Common.{refl, ℕ, List, subst}
 use Rattle.std.proofs.lemmas.Result.{err_from_is_err_and}
-use Rattle.nano_toml.specs.PrefixesLaws.{value_prefix, pair_of, pair_prefix}
+use Rattle.nano_toml.specs.Prefixes.{value_prefix, pair_of, pair_prefix}
 use Rattle.nano_toml.specs.RemainingText.{remaining}
 use Rattle.nano_toml.specs.Reading.{name_view}
 use Rattle.nano_toml.specs.Statements.{pair}

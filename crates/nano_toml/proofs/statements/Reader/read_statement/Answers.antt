@@ -2,8 +2,7 @@ use Rattle.std.proofs.Common.{◌≡◌, ◌<◌, ◌≤◌, ℕ, List, Some, �
 use Rattle.std.proofs.lemmas.Result.{err_from_is_err_and}
 use Rattle.nano_toml.specs.Built.{IsPlain}
 use Rattle.nano_toml.specs.Cut.{Cut, CutsNothing}
-use Rattle.nano_toml.specs.Prefixes.{Prefix, Parses, ParsesNothing}
-use Rattle.nano_toml.specs.PrefixesLaws.{pair_prefix, header_prefix, statement_prefix}
+use Rattle.nano_toml.specs.Prefixes.{Prefix, Parses, ParsesNothing, pair_prefix, header_prefix, statement_prefix}
 use Rattle.nano_toml.specs.RemainingText.{remaining}
 use Rattle.nano_toml.specs.Reading.{statement_view, IsNext, EncodesNothing}
 use Rattle.nano_toml.specs.Statements.{Statement}

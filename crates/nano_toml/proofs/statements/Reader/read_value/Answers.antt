@@ -1,7 +1,7 @@
 use Rattle.std.proofs.Common.{refl, []}
 use Rattle.std.proofs.lemmas.Result.{err_from_is_err_and, IfOk-weaker, IfErr-weaker}
 use Rattle.nano_toml.specs.Data.{no_values}
-use Rattle.nano_toml.specs.PrefixesLaws.{array_prefix, value_prefix}
+use Rattle.nano_toml.specs.Prefixes.{array_prefix, value_prefix}
 use Rattle.nano_toml.specs.RemainingText.{remaining}
 use Rattle.nano_toml.specs.Taken.{token_of}
 use Rattle.nano_toml.specs.Token.{open_bracket}

@@ -1,7 +1,7 @@
 use Rattle.std.proofs.lemmas.Bool.Decides.{same_from_decides}
 use Rattle.nano_toml.specs.View.{view}
 use Rattle.nano_toml.specs.SameData.{data_eq}
-use Rattle.nano_toml.specs.SameDataLaws.{data_eq-Decides}
+use Rattle.nano_toml.specs.EqImpls.{data_eq-Decides}
 use Rattle.nano_toml.proofs.value.TomlPartialEq.eq.Goals as goal
 
 pub returns-clause-value : goal.returns-clause-value

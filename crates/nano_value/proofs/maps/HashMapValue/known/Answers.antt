@@ -1,6 +1,6 @@
 use Rattle.std.proofs.Common.{sym, subst}
 use Rattle.std.specs.List.{AllByRecursion}
-use Rattle.nano_value.specs.TablesLaws.{map_is_legal}
+use Rattle.nano_meaning.proofs.TablesLaws.{map_is_legal}
 use Rattle.nano_value.proofs.maps.HashMapValue.known.Goals as goal
 
 pub returns : goal.returns

@@ -1,6 +1,6 @@
 use Rattle.std.proofs.Common.{sym, subst}
 use Rattle.std.specs.List.{AllByRecursion}
-use Rattle.nano_value.specs.OrderedMapsLaws.{ordered_map_is_legal}
+use Rattle.nano_meaning.proofs.OrderedMapsLaws.{ordered_map_is_legal}
 use Rattle.nano_value.proofs.ordered_maps.BTreeMapValue.known.Goals as goal
 
 pub returns : goal.returns

@@ -1,6 +1,6 @@
 use Rattle.std.proofs.Common.{sym, subst}
 use Rattle.std.specs.List.{AllByRecursion}
-use Rattle.nano_value.specs.OrderedSetsLaws.{ordered_is_legal}
+use Rattle.nano_meaning.proofs.OrderedSetsLaws.{ordered_is_legal}
 use Rattle.nano_value.proofs.ordered_sets.BTreeSetValue.known.Goals as goal
 
 pub returns : goal.returns

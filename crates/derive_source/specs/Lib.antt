@@ -1,3 +1,0 @@
-pub mod Below
-pub mod Errors
-pub mod Place

@@ -1,0 +1,108 @@
+//! Why nothing was written, with line and column.
+
+ghost use Rattle.std.specs.Prelude.{IfOk};
+ghost use Rattle.derive_syntax.specs.Errors.{IsErrorIn};
+ghost use Rattle.derive_syntax.specs.Place.{StandsIn};
+
+use crate::fault::{Fault, Subject};
+use crate::place::Place;
+use std::alloc::{AllocError, Global};
+use std::io::{self, Write};
+
+/// What is wrong with a source, and where.
+#[derive(Debug, Drop)]
+pub struct SourceFault {
+    /// What is wrong.
+    pub message: String,
+    /// At which byte, counted from 0.
+    pub offset: usize,
+    /// How many line feeds stand before it, so that 0 is the first line.
+    pub line: usize,
+    /// How many characters of its line stand before it.
+    pub column: usize,
+}
+
+/// Why nothing was written.
+#[derive(Debug, Drop)]
+pub enum DeriveError {
+    /// The source is at fault.
+    Source(SourceFault),
+    /// An allocation failed.
+    Memory,
+}
+
+impl SourceFault {
+    /// Prints `name:line:column: message`, with line and column counted from 1, then the line, and
+    /// a caret under the character. `source` is the text that was given. The output's errors are
+    /// passed on, with what was written before.
+    pub fn show<W: Write>(&self, output: &mut W, name: &str, source: &str) -> io::Result<()> {
+        let shown = source.lines().nth(self.line).unwrap_or("");
+        let line = self.line.saturating_add(1);
+        let column = self.column.saturating_add(1);
+        writeln!(output, "{name}:{line}:{column}: {}", self.message)?;
+        writeln!(output, "{shown}")?;
+        for c in shown.chars().take(self.column) {
+            write!(output, "{}", if c == '\t' { c } else { ' ' })?;
+        }
+        writeln!(output, "^")
+    }
+}
+
+impl From<AllocError> for DeriveError {
+    fn from(_failed: AllocError) -> Self {
+        DeriveError::Memory
+    }
+}
+
+/// The error of a fault in a source.
+pub(crate) fn error_of(alloc: Global, source: &str, fault: Fault) -> DeriveError
+    ensures { IsErrorIn source.now result }
+{
+    match fault {
+        Fault::Memory => DeriveError::Memory,
+        Fault::At {
+            offset,
+            subject,
+            words,
+        } => match source_fault(alloc, source, offset, subject, words) {
+            Ok(fault) => DeriveError::Source(fault),
+            Err(_failed) => DeriveError::Memory,
+        },
+    }
+}
+
+/// What is wrong at a byte. An offset within a character, or after the end, stands for the end.
+fn source_fault(
+    alloc: Global,
+    source: &str,
+    offset: usize,
+    subject: Subject,
+    words: &str,
+) -> Result<SourceFault, AllocError>
+    ensures { IfOk result (StandsIn source.now) }
+{
+    let message = message(alloc, source.get(offset..).unwrap_or(""), subject, words)?;
+    let (offset, before) = match source.get(..offset) {
+        Some(before) => (offset, before),
+        None => (source.len(), source),
+    };
+    let place = Place::following(before);
+    Ok(SourceFault {
+        message,
+        offset,
+        line: place.line,
+        column: place.column,
+    })
+}
+
+/// What is wrong, in words. `from` begins with what is at fault.
+fn message(alloc: Global, from: &str, subject: Subject, words: &str) -> Result<String, AllocError> {
+    match subject {
+        Subject::Token(length) => {
+            format!(in alloc; "`{}` {words}", from.get(..length).unwrap_or(from))
+        }
+        Subject::EndOfLine => format!(in alloc; "the end of the line {words}"),
+        Subject::Marker => format!(in alloc; "the marker {words}"),
+        Subject::Nothing => String::from_str(alloc, words),
+    }
+}

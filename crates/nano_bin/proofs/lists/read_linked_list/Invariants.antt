@@ -1,8 +1,0 @@
--- so many items stand between the start and the offset
-use Rattle.std.proofs.Common.{map}
-use Rattle.nano_bytes.specs.Reading.{Decodes}
-use Rattle.nano_bytes.specs.Items.{EncodesCount}
-use Rattle.nano_bin.proofs.lists.read_linked_list.Given as goal
-
-abbrev pub invariant-loop : goal.invariant-loop
-invariant-loop g l = Decodes (EncodesCount l.counter g.T.BinCodec.bin.encoding.encodes) l.bytes l.fn.offset (map g.T.Value.means l.items) l.at

@@ -1,0 +1,30 @@
+use Rattle.std.proofs.Common.{◌≡◌, ℕ, List, ◌<◌, ◌≤◌, ◌/◌, length, take, subst, ap, ◌∙◌, refl, arith, rules}
+use Rattle.std.proofs.lemmas.Grind.{common_steps}
+use Rattle.std.specs.Simd.{first_chunks}
+use Rattle.nano_bin_bytes.proofs.Runs.{chunks_read, chunks_rejected, take-first_chunks}
+use Rattle.nano_bin_bytes.proofs.read.read_chunks.Goals as goal
+
+pub returns-then-chunks-count-clause-err : goal.returns-then-chunks-count-clause-err
+returns-then-chunks-count-clause-err g c =
+    let left = c.rest.ensures in
+    let fewer = subst (λ n. n < c.args.count) (c.as_chunks.ensures.front_len ∙ ap (λ l. length l / g.row.N) left) c.if-chunks-count.true in
+    record {
+      none = chunks_rejected g.row.N c.args.count _ c.requires fewer;
+      short = first_of (search rules, grind (arith, common_steps));
+      unchanged = refl;
+    }
+
+-- the chunks that are answered
+answered :
+    (k count : ℕ) (chunks : List (List ℕ)) (rest left : List ℕ) → rest ≡ left
+    → chunks ≡ first_chunks k (length rest / k) rest
+    → count ≤ length left / k
+    → take count chunks ≡ first_chunks k count left
+answered k count chunks rest left same are enough =
+    ap (take count) (are ∙ ap (λ l. first_chunks k (length l / k) l) same) ∙ take-first_chunks k count (length left / k) left enough
+
+pub returns-clause-ok : goal.returns-clause-ok
+returns-clause-ok g c =
+    let left = c.rest.ensures in
+    let enough = subst (λ n. c.args.count ≤ n) (c.as_chunks.ensures.front_len ∙ ap (λ l. length l / g.row.N) left) c.if-chunks-count.false in
+    rw (answered g.row.N c.args.count _ _ _ left c.as_chunks.ensures.front enough) (chunks_read g.row.N c.args.count c.args.bytes.now c.args.offset.now c.requires enough)

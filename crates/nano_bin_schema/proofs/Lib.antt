@@ -1,0 +1,2 @@
+mod ChoiceReaders
+mod Tags

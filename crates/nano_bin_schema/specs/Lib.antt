@@ -1,0 +1,4 @@
+pub mod Structs
+pub mod Choices
+pub mod ChoiceCodecs
+pub mod Enums

@@ -1,4 +1,0 @@
-pub mod Faults
-pub mod Frames
-pub mod Left
-pub mod Promises

@@ -1,0 +1,178 @@
+-- The laws of items between brackets and of pairs, from those of what is in them.
+use Rattle.std.specs.Prelude.{◌≡◌, ◌≢◌, ◌⊎◌, List, [], ◌∷◌, ◌++◌, refl}
+use Rattle.std.specs.List.{AllByRecursion}
+use Rattle.std.proofs.Common.{sym, ◌∙◌, ap, subst, inl, inr, append_assoc, append-nil}
+use Rattle.nano_grammar.specs.Items.{ListPunctuation, OneValue, EncodedItems}
+use Rattle.nano_grammar.specs.Items.{EncodedList, EncodedPair}
+use Rattle.nano_grammar.proofs.ItemsLaws.{NeverStartsWith}
+use Rattle.nano_grammar.specs.Tokens.{NoneBeginsAnother}
+
+module _ {T : Type 0} where
+  -- what comes after a list and makes it no longer is empty
+  pub nothing_after : (ts more : List T) → ts ++ more ≡ ts → more ≡ []
+  nothing_after [] more e = e
+  nothing_after (t ∷ ts) more e =
+      let rest : ts ++ more ≡ ts = cc e in
+      nothing_after ts more rest
+
+  -- of two prefixes of one list, one goes on where the other ends
+  append_meets : (a x b y : List T) → a ++ x ≡ b ++ y
+      → ((c : List T) × (b ≡ a ++ c)) ⊎ ((c : List T) × (a ≡ b ++ c))
+  append_meets [] x b y e = inl (b, refl)
+  append_meets (t ∷ a) x [] y e = inr (t ∷ a, refl)
+  append_meets (t ∷ a) x (u ∷ b) y e =
+      let head : t ≡ u = cc e in
+      let rest : a ++ x ≡ b ++ y = cc e in
+      elim (append_meets a x b y rest) [
+        | inl r ↦ inl (r.0, cc (head, r.1))
+        | inr r ↦ inr (r.0, cc (head, r.1))
+      ]
+
+  cancel_prefix : (a x y : List T) → a ++ x ≡ a ++ y → x ≡ y
+  cancel_prefix [] x y e = e
+  cancel_prefix (t ∷ a) x y e =
+      let rest : a ++ x ≡ a ++ y = cc e in
+      cancel_prefix a x y rest
+
+  -- what is encoded by a list that goes on from another is encoded by that other alone
+  same_from : {V : Type 0} (encodes : List T → V → Type 0) → NoneBeginsAnother encodes
+      → (a b more : List T) (v w : V) → encodes a v → encodes b w → b ≡ a ++ more → b ≡ a
+  same_from encodes none_begins a b more v w h k e =
+      let whole = subst (λ (xs : List T). encodes xs w) e k in
+      let none = none_begins a more v w h whole in
+      e ∙ (ap (λ (xs : List T). a ++ xs) none ∙ append-nil a)
+
+  -- two encodings that begin one list of tokens are one
+  pub same_prefix : {V : Type 0} (encodes : List T → V → Type 0) → NoneBeginsAnother encodes
+      → (a x b y : List T) (v w : V) → encodes a v → encodes b w → a ++ x ≡ b ++ y
+      → (a ≡ b) × (x ≡ y)
+  same_prefix encodes none_begins a x b y v w h k e =
+      let both : a ≡ b = elim (append_meets a x b y e) [
+        | inl r ↦ sym (same_from encodes none_begins a b r.0 v w h k r.1)
+        | inr r ↦ same_from encodes none_begins b a r.0 w v k h r.1
+      ] in
+      (both, cancel_prefix a x y (e ∙ ap (λ (xs : List T). xs ++ y) (sym both)))
+
+  -- ---- items between brackets
+
+  module _ {V : Type 0} (punctuation : ListPunctuation T)
+      (apart : punctuation.closing ≢ punctuation.comma)
+      (encodes : List T → V → Type 0) (one : OneValue encodes)
+      (none_begins : NoneBeginsAnother encodes)
+      (never_closing : NeverStartsWith punctuation.closing encodes) where
+    not_closing : (a x y : List T) (v : V) → encodes a v → a ++ x ≡ punctuation.closing ∷ y → ⊥
+    not_closing [] x y v h e = never_closing [] v h
+    not_closing (t ∷ a) x y v h e =
+        let first : t ≡ punctuation.closing = cc e in
+        never_closing (t ∷ a) v h first
+
+    -- where items are a prefix of items, both are the same
+    pub items_meet : (vs ws : List V) (ts us more : List T) → EncodedItems punctuation encodes ts vs
+        → EncodedItems punctuation encodes us ws → ts ++ more ≡ us → (more ≡ []) × (vs ≡ ws)
+    items_meet [] [] ts us more h k e =
+        let both = sym (ap (λ (xs : List T). xs ++ more) h) ∙ (e ∙ k) in
+        let x : more ≡ [] = cc both in
+        (x, refl)
+    items_meet [] (w ∷ ws) ts us more h k e =
+        let longer = ap (λ (xs : List T). xs ++ more) h in
+        absurd (not_closing k.0 k.1 more w k.3 (sym k.2 ∙ (sym e ∙ longer)))
+    items_meet (v ∷ vs) [] ts us more h k e =
+        let longer = ap (λ (xs : List T). xs ++ more) (sym h.2) in
+        let split = sym (append_assoc h.0 h.1 more) ∙ (longer ∙ (e ∙ k)) in
+        absurd (not_closing h.0 (h.1 ++ more) [] v h.3 split)
+    items_meet (v ∷ vs) (w ∷ ws) ts us more h k e =
+        let longer = ap (λ (xs : List T). xs ++ more) (sym h.2) in
+        let split = sym (append_assoc h.0 h.1 more) ∙ (longer ∙ (e ∙ k.2)) in
+        let s = same_prefix encodes none_begins h.0 (h.1 ++ more) k.0 k.1 v w h.3 k.3 split in
+        let item = one k.0 v w (subst (λ (xs : List T). encodes xs v) s.0 h.3) k.3 in
+        elim h.4 [
+          | inl p ↦
+              let prefix = sym (ap (λ (xs : List T). xs ++ more) p.0) in
+              elim k.4 [
+                | inl q ↦
+                    let both = prefix ∙ (s.1 ∙ q.0) in
+                    let none : more ≡ [] = cc both in
+                    (none, cc (item, p.1, q.1))
+                | inr q ↦
+                    let both = prefix ∙ (s.1 ∙ q.1) in
+                    let first : punctuation.closing ≡ punctuation.comma = cc both in
+                    absurd (apart first)
+              ]
+          | inr p ↦
+              let prefix = sym (ap (λ (xs : List T). xs ++ more) p.1) in
+              elim k.4 [
+                | inl q ↦
+                    let both = prefix ∙ (s.1 ∙ q.0) in
+                    let first : punctuation.comma ≡ punctuation.closing = cc both in
+                    absurd (apart (sym first))
+                | inr q ↦
+                    let both = prefix ∙ (s.1 ∙ q.1) in
+                    let rest : p.0 ++ more ≡ q.0 = cc both in
+                    let r = items_meet vs ws p.0 q.0 more p.2 q.2 rest in
+                    (r.0, cc (item, r.1))
+              ]
+        ]
+
+    pub list_one_value : OneValue (EncodedList punctuation encodes)
+    list_one_value ts vs ws h k =
+        let both = sym h.1 ∙ k.1 in
+        let inside : h.0 ≡ k.0 = cc both in
+        (items_meet vs ws h.0 k.0 [] h.2 k.2 (append-nil h.0 ∙ inside)).1
+
+    pub list_none_begins : NoneBeginsAnother (EncodedList punctuation encodes)
+    list_none_begins ts more vs ws h k =
+        let both = sym (ap (λ (xs : List T). xs ++ more) h.1) ∙ k.1 in
+        let inside : h.0 ++ more ≡ k.0 = cc both in
+        (items_meet vs ws h.0 k.0 more h.2 k.2 inside).0
+
+  -- ---- pairs
+
+  module _ {K V : Type 0} (colon : T) (key : List T → K → Type 0) (value : List T → V → Type 0)
+      (one_key : OneValue key) (no_key_begins : NoneBeginsAnother key)
+      (one_value : OneValue value) (no_value_begins : NoneBeginsAnother value) where
+    pub pair_one_value : OneValue (EncodedPair colon key value)
+    pair_one_value ts v w h k =
+        let split = sym h.2 ∙ k.2 in
+        let first = colon ∷ h.1 in
+        let s = same_prefix key no_key_begins h.0 first k.0 (colon ∷ k.1) v.0 w.0 h.3 k.3 split in
+        let both = s.1 in
+        let back : h.1 ≡ k.1 = cc both in
+        let key_moved = subst (λ (xs : List T). key xs v.0) s.0 h.3 in
+        let value_moved = subst (λ (xs : List T). value xs v.1) back h.4 in
+        let keys : v.0 ≡ w.0 = one_key k.0 v.0 w.0 key_moved k.3 in
+        let values : v.1 ≡ w.1 = one_value k.1 v.1 w.1 value_moved k.4 in
+        λ i. (keys i, values i)
+
+    pub pair_none_begins : NoneBeginsAnother (EncodedPair colon key value)
+    pair_none_begins ts more v w h k =
+        let longer = ap (λ (xs : List T). xs ++ more) (sym h.2) in
+        let split = sym (append_assoc h.0 (colon ∷ h.1) more) ∙ (longer ∙ k.2) in
+        let following = colon ∷ (h.1 ++ more) in
+        let s = same_prefix key no_key_begins h.0 following k.0 (colon ∷ k.1) v.0 w.0 h.3 k.3 split
+        in
+        let both = s.1 in
+        let back : h.1 ++ more ≡ k.1 = cc both in
+        let moved = subst (λ (xs : List T). value xs w.1) (sym back) k.4 in
+        no_value_begins h.1 more v.1 w.1 h.4 moved
+
+-- ---- each item
+
+-- each item of a list has an encoding
+module _ {T V : Type 0} (punctuation : ListPunctuation T) (encodes : List T → V → Type 0) where
+  abbrev HasEncoding : V → Type 0
+  HasEncoding v = (prefix : List T) × encodes prefix v
+
+  each_item : (vs : List V) (ts : List T) → EncodedItems punctuation encodes ts vs
+      → AllByRecursion HasEncoding vs
+  each_item [] ts h = tt
+  each_item (v ∷ vs) ts h = (
+    (h.0, h.3),
+    elim h.4 [
+      | inl r ↦ subst (AllByRecursion HasEncoding) (sym r.1) tt
+      | inr r ↦ each_item vs r.0 r.2
+    ],
+  )
+
+  pub each_is_encoded : (vs : List V) (ts : List T) → EncodedList punctuation encodes ts vs
+      → AllByRecursion (λ v. (prefix : List T) × encodes prefix v) vs
+  each_is_encoded vs ts h = each_item vs h.0 h.2

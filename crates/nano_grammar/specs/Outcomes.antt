@@ -1,0 +1,154 @@
+-- What one call of a reader of text comes to, over any tokens: what was taken and how far that
+-- goes, or why nothing was and where that was found.
+use Rattle.std.specs.Prelude.{◌≡◌, ◌≢◌, ◌⊎◌, true, false, ℕ, Bool, List, [], ◌∷◌, Result}
+use Rattle.std.specs.Prelude.{MatchResult, ◌↔◌, chars}
+use Rattle.std.specs.declared.str.Chars.{Chars}
+use Rattle.nano_text.specs.declared.place.Place.{Place}
+use Rattle.nano_text.specs.Place.{Advances, Moves, remaining_text}
+use Rattle.nano_text.specs.PlaceInText.{StandsIn}
+use Rattle.nano_grammar.specs.Tokens.{At, Leaves, Spans, DecodesToNothing}
+use Rattle.nano_grammar.specs.Tokens.{TextDecodesTo, TextDecodesToNothing}
+use Rattle.nano_grammar.specs.Whole.{WholeDecodesTo, WholeDecodesToNothing, GoesOn, end_message}
+
+-- what an error says
+pub record Report : Type 0 where
+  pub memory : Bool
+  pub message : List ℕ
+  pub line : ℕ
+  pub col : ℕ
+
+-- the error stands at the place, and has no message where it is out of memory
+abbrev pub IsMadeAt : Place → Report → Type 0
+IsMadeAt place e =
+    (e.memory ≡ true → e.message ≡ []) × (e.line ≡ place.line) × (e.col ≡ place.col)
+
+-- where a reader is: the pending token with the remaining text, line and column, and what its input
+-- still holds
+pub record Position (T : Type 0) : Type 0 where
+  pub at : At T
+  pub place : Place
+  pub input : Chars
+
+-- no token is cut from the text
+abbrev pub NothingCut : {T : Type 0} → (List ℕ → T → List ℕ → Type 0) → List ℕ → Type 0
+NothingCut {T} cut text = (t : T) (rest : List ℕ) → cut text t rest → ⊥
+
+module _ {T : Type 0} where
+  -- line and column count exactly the characters between, and the input holds what comes after them
+  abbrev pub Moved : Position T → Position T → Type 0
+  Moved start end = Moves start.place start.input end.place end.input
+
+  -- the reader gave up there: it is at the end of the text, on the same line and column
+  abbrev pub given_up : At T → Position T → Position T
+  given_up last p = record { at = last; place = record p.place { cur = 0 }; input = p.input }
+
+  -- an error reports the fact, unless it is out of memory. It stands at the position, whose line
+  -- and column count characters that were taken
+  pub record Fails (fact : Type 0) (start end : Position T) (e : Report) : Type 0 where
+    pub rejected : e.memory ≡ false → fact
+    pub made : IsMadeAt end.place e
+    pub place : Advances start.place start.input end.place end.input
+
+  -- the next token could not be taken, unless that buffer was full: the reader is at the end
+  pub record Stops (last : At T) (fact full : Type 0) (start end : Position T) (e : Report)
+      : Type 0 where
+    pub fails : Fails fact start end e
+    pub ended : end.at ≡ last
+    pub capacity : full
+
+  -- the pending token is not the wanted one, and all is the same; or the next token could not be
+  -- taken after it
+  pub record RejectsToken (last : At T) (wanted fact full same : Type 0) (start end : Position T)
+      (e : Report) : Type 0 where
+    pub fails : Fails fact start end e
+    pub unchanged : (wanted → ⊥) → same
+    pub ended : wanted → end.at ≡ last
+    pub capacity : wanted → full
+
+  module _ (cut : List ℕ → T → List ℕ → Type 0) (buffered : Type 0) (start end : Position T) where
+    -- the next token is pending, and this is known of the buffers
+    pub record TookNext : Type 0 where
+      pub taken : cut start.at.text end.at.token end.at.text
+      pub buffers : buffered
+      pub place : Moved start end
+
+    -- these tokens were taken, and the next one is pending
+    pub record Took (ts : List T) : Type 0 where
+      pub taken : Leaves cut ts start.at end.at
+      pub buffers : buffered
+      pub place : Moved start end
+
+    -- the comma was taken, or the closing bracket is pending and all is the same
+    pub record TookComma (comma closing : T) (same : Type 0) : Type 0 where
+      pub taken : Leaves cut (comma ∷ []) start.at end.at
+          ⊎ ((start.at.token ≡ closing) × (end.at ≡ start.at))
+      pub unchanged : start.at.token ≢ comma → same
+      pub buffers : buffered
+      pub place : Moved start end
+
+  -- ---- values
+
+  module _ {V : Type 0} (cut : List ℕ → T → List ℕ → Type 0) (encodes : List T → V → Type 0)
+      (start end : Position T) where
+    -- the value is encoded from here to there
+    pub record Read (value : V) : Type 0 where
+      pub decodes : Spans cut encodes start.at end.at value
+      pub place : Moved start end
+
+    -- no value is encoded here
+    abbrev pub ReadsNone : Report → Type 0
+    ReadsNone = Fails (DecodesToNothing cut encodes start.at) start end
+
+    -- no value is encoded here, and the reader is at the end of the text
+    pub record ReadsNoneAndEnds (last : At T) (e : Report) : Type 0 where
+      pub fails : ReadsNone e
+      pub ended : end.at ≡ last
+
+    module _ {A E : Type 0} (report : E → Report) (means : A → V) where
+      -- a call reads a value by what it means; an error leaves the reader anywhere
+      abbrev pub Reads : Result A E → Type 0
+      Reads result = MatchResult result (λ x. Read (means x)) (λ e. ReadsNone (report e))
+
+      -- the same, and an error leaves the reader at the end of the text
+      abbrev pub ReadsOrEnds : At T → Result A E → Type 0
+      ReadsOrEnds last result =
+          MatchResult result (λ x. Read (means x)) (λ e. ReadsNoneAndEnds last (report e))
+
+-- ---- texts
+
+-- an error of a value that must be a whole input: its message is not that of a value that goes on,
+-- and is the same if it was not; all else is the same
+pub record IsValueError (error result : Report) : Type 0 where
+  pub memory : result.memory ≡ error.memory
+  pub apart : result.message ≢ end_message
+  pub unchanged : error.message ≢ end_message → result.message ≡ error.message
+  pub line : result.line ≡ error.line
+  pub col : result.col ≡ error.col
+
+module _ {T V : Type 0} (cut : List ℕ → T → List ℕ → Type 0) (encodes : List T → V → Type 0)
+    (bytes : List ℕ) where
+  -- no value is encoded at the beginning of the text, and the error stands in the text
+  pub record ReadsNoText (e : Report) : Type 0 where
+    pub rejected : e.memory ≡ false → TextDecodesToNothing cut encodes (remaining_text bytes)
+    pub silent : e.memory ≡ true → e.message ≡ []
+    pub place : StandsIn (chars bytes) e.line e.col
+
+  -- the whole input encodes no value. The message is `Cannot parse end ` exactly where a value
+  -- decodes, and more comes after it
+  pub record ReadsNoWhole (last : T) (e : Report) : Type 0 where
+    pub rejected : e.memory ≡ false → WholeDecodesToNothing cut encodes last bytes
+    pub silent : e.memory ≡ true → e.message ≡ []
+    pub trailing : e.memory ≡ false → (e.message ≡ end_message) ↔ GoesOn cut encodes last bytes
+    pub place : StandsIn (chars bytes) e.line e.col
+
+  module _ {A E : Type 0} (report : E → Report) (means : A → V) where
+    -- a call reads the value at the beginning of the text
+    abbrev pub ReadsText : Result A E → Type 0
+    ReadsText result = MatchResult result
+        (λ x. TextDecodesTo cut encodes (remaining_text bytes) (means x))
+        (λ e. ReadsNoText (report e))
+
+    -- a call reads the value that is the whole input
+    abbrev pub ReadsWhole : T → Result A E → Type 0
+    ReadsWhole last result = MatchResult result
+        (λ x. WholeDecodesTo cut encodes last bytes (means x)) (λ e. ReadsNoWhole last (report e))

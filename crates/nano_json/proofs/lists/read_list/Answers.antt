@@ -1,0 +1,52 @@
+use Rattle.std.proofs.Common.{sym, rules}
+use Rattle.nano_grammar.proofs.CollectingCalls.{turn_shorter, filled_none, filled_next, filled_no_more, all_read}
+use Rattle.nano_grammar.proofs.CollectingCalls.{opening_not, item_not, comma_not, closing_not}
+use Rattle.nano_grammar.proofs.Outcomes.{passed_on}
+use Rattle.nano_json_tokens.specs.Brackets.{blocks}
+use Rattle.nano_json_tokens.proofs.JsonLaws.{block_brackets}
+use Rattle.nano_json_tokens.specs.State.{pending}
+use Rattle.nano_json.proofs.Json.{json_laws, few_left, close_is, not_close}
+use Rattle.nano_json.proofs.lists.read_list.Goals as goal
+
+pub items-init : goal.items-init
+items-init g c =
+    filled_none json_laws blocks block_brackets g.T.JsonCodec.json.encoding.laws g.C.Collect.holds c.empty-items.result c.empty-items.ensures c.in_ok-block_open.ensures
+
+pub items-smaller : goal.items-smaller
+items-smaller g c = turn_shorter json_laws blocks block_brackets g.T.JsonCodec.json.encoding.laws c.in_ok-item.ensures c.in_ok-eat_comma_block.ensures
+
+pub items-preserved : goal.items-preserved
+items-preserved g c =
+    filled_next json_laws blocks block_brackets g.T.JsonCodec.json.encoding.laws g.C.Collect.holds c.put.new.self c.items.invariant c.in_ok-item.ensures c.in_ok-eat_comma_block.ensures c.in-Ok.ensures
+
+pub returns : goal.returns
+returns g c =
+    let few = few_left c.args.state.now c.args.input.now (search (rules, c.bytes_left-capacity.ensures.value, c.bytes_left-capacity.ensures.small)) in
+    all_read json_laws blocks block_brackets g.T.JsonCodec.json.encoding.laws g.C.Collect.holds g.C.Collect.whole g.C.Value.means g.met.C.Collect.is_whole few c.items.invariant
+    c.in_ok-block_close.ensures
+
+pub returns-in_default : goal.returns-in_default
+returns-in_default g c =
+    filled_no_more json_laws blocks block_brackets g.T.JsonCodec.json.encoding.laws g.C.Collect.holds c.items.invariant c.in_ok-item.ensures c.err_memory.ensures.memory c.err_memory.ensures.made
+
+pub returns-in_err-block_open : goal.returns-in_err-block_open
+returns-in_err-block_open g c =
+    passed_on _ _ c.from_residual.result c.from_residual.ensures.1
+    (opening_not json_laws blocks block_brackets g.T.JsonCodec.json.encoding.laws g.C.Collect.holds g.C.Collect.whole c.in_err-block_open.ensures.fails)
+
+pub returns-in_err-item : goal.returns-in_err-item
+returns-in_err-item g c =
+    let other = not_close (pending c.items.state) (sym c.items-test.ensures) in
+    passed_on _ _ c.from_residual-in_err-item.result c.from_residual-in_err-item.ensures.1
+    (item_not json_laws blocks block_brackets g.T.JsonCodec.json.encoding.laws g.C.Collect.holds g.C.Collect.whole c.items.invariant other c.in_err-item.ensures.fails)
+
+pub returns-in_err-eat_comma_block : goal.returns-in_err-eat_comma_block
+returns-in_err-eat_comma_block g c =
+    passed_on _ _ c.from_residual-in_err-eat_comma_block.result c.from_residual-in_err-eat_comma_block.ensures.1
+    (comma_not json_laws blocks block_brackets g.T.JsonCodec.json.encoding.laws g.C.Collect.holds g.C.Collect.whole c.items.invariant c.in_ok-item.ensures c.in_err-eat_comma_block.ensures.1.fails)
+
+pub returns-in_err-block_close : goal.returns-in_err-block_close
+returns-in_err-block_close g c =
+    let closing = close_is (pending c.items.state) (sym c.items-test.ensures) in
+    passed_on _ _ c.from_residual-in_err-block_close.result c.from_residual-in_err-block_close.ensures.1
+    (closing_not json_laws blocks block_brackets g.T.JsonCodec.json.encoding.laws g.C.Collect.holds g.C.Collect.whole c.items.invariant closing c.in_err-block_close.ensures.fails)

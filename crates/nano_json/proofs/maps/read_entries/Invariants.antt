@@ -1,0 +1,17 @@
+use Rattle.nano_grammar.proofs.CollectingCalls.{Filled}
+use Rattle.nano_grammar.proofs.TokensLeft.{tokens_left}
+use Rattle.nano_json_tokens.specs.Brackets.{curlies}
+use Rattle.nano_json_tokens.proofs.JsonLaws.{curly_brackets}
+use Rattle.nano_json_tokens.specs.Outcomes.{position}
+use Rattle.nano_json_tokens.specs.Scan.{is_end}
+use Rattle.nano_json_tokens.specs.State.{at}
+use Rattle.nano_json.specs.Maps.{EncodesEntry}
+use Rattle.nano_json.proofs.Json.{json_laws}
+use Rattle.nano_json.proofs.maps.read_entries.Given as goal
+
+abbrev pub invariant-entries : goal.invariant-entries
+invariant-entries g l =
+    Filled json_laws curlies curly_brackets g.C.CollectEntries.holds (EncodesEntry g.K.JsonCodec.json.encoding.encodes g.V.JsonCodec.json.encoding.encodes) (position l.fn.state l.fn.input) (position l.state l.input) l.entries
+
+abbrev pub decreases-entries : goal.decreases-entries
+decreases-entries g l = tokens_left is_end (at l.state l.input)

@@ -1,0 +1,99 @@
+-- What the calls that read an enum come to whose reader matches the names by hand.
+use Rattle.std.proofs.Common.{◌≡◌, ◌≢◌, ℕ, List, [], ◌∷◌, ◌++◌, Some, None, false, bytes_eq, get_or, length, inl, inr}
+use Rattle.std.proofs.Common.{refl, sym, ◌∙◌, ap, subst, arith}
+use Rattle.std.proofs.lemmas.Bool.{false_from_ne_true}
+use Rattle.std.proofs.lemmas.Slice.Eq.{bytes_eq-Decides}
+use Rattle.std.specs.declared.str.Chars.{Chars}
+use Rattle.nano_text.proofs.PlaceLaws.{moves_append, moves_advance}
+use Rattle.nano_value.specs.Meaning.{Meaning, nothing}
+use Rattle.nano_value.specs.Sums.{tagged}
+use Rattle.nano_grammar.specs.Outcomes.{Position, Report, Read, ReadsNoneAndEnds, Took}
+use Rattle.nano_grammar.specs.Tokens.{DecodesToNothing}
+use Rattle.nano_grammar.proofs.Outcomes.{fails_after, fails_ended}
+use Rattle.nano_grammar.proofs.Tokens.{leaves_append}
+use Rattle.nano_grammar.specs.Variants.{unit_named, content_named, Found, nobody, found, EncodesFound}
+use Rattle.nano_json_tokens.specs.Cut.{Cut}
+use Rattle.nano_json_tokens.specs.Outcomes.{position, report}
+use Rattle.nano_json_tokens.specs.State.{at, ended}
+use Rattle.nano_json_tokens.specs.Token.{Token}
+use Rattle.nano_json_tokens.specs.declared.error.DeJsonErr.{DeJsonErr}
+use Rattle.nano_json_tokens.specs.declared.state.DeJsonState.{DeJsonState}
+use Rattle.nano_json_tokens.proofs.Calling.{gives_up}
+use Rattle.nano_json.specs.Encoding.{Encoding}
+use Rattle.nano_json_schema.specs.UnknownNames.{GivesUnknown}
+use Rattle.nano_json_schema.specs.VariantReading.{Encodings, EncodesVariant, Closed}
+use Rattle.nano_json_schema.specs.Variants.{alone, opened}
+use Rattle.nano_json_schema.specs.VariantCodecs.{json_variants}
+use Rattle.nano_json_schema.proofs.VariantReaders.{unit_unknown, content_unknown, content_missing}
+
+-- a name that a match found to be another one
+pub is_another : (shown bytes name : List ℕ) → shown ≡ bytes → shown ≢ name
+    → bytes_eq bytes name ≡ false
+is_another shown bytes name e other =
+    false_from_ne_true (bytes_eq bytes name)
+    (λ same. other (e ∙ (bytes_eq-Decides bytes name).0 same))
+
+-- the one part that an array of one holds
+pub one_part : {A : Type 0} (d : A) (parts : List A) → length parts ≡ 1
+    → parts ≡ get_or parts 0 d ∷ []
+one_part d (part ∷ []) e = refl
+one_part d [] e = absurd (omega (arith, e))
+one_part d (part ∷ other ∷ parts) e = absurd (omega (arith, e))
+
+module _ (vs : Encodings) {same_buffers : Type 0} {start : Position Token} (name : List ℕ) where
+  -- a name without content
+  pub unit_read : {end : Position Token} (tag : ℕ) → Took Cut same_buffers start end (alone name)
+      → unit_named 0 vs name ≡ Some tag → Read Cut (EncodesVariant vs) start end (tagged tag nothing)
+  unit_read tag h has = record {
+    decodes = (
+      alone name,
+      inl (record { name = name; tag = tag; has = has; one = refl; is = refl }),
+      h.taken,
+    );
+    place = h.place;
+  }
+
+  -- a name with content
+  module _ {mid end : Position Token} (tag : ℕ) (content : Encoding) (h : Took Cut same_buffers start mid (opened name))
+      (has : content_named 0 vs name ≡ found tag content) where
+    pub content_read : {m : Meaning} → Read Cut (Closed content.encodes) mid end m
+        → Read Cut (EncodesVariant vs) start end (tagged tag m)
+    content_read {m} k =
+        let back = k.decodes.0 in
+        let Is = λ (f : Found Encoding). EncodesFound json_variants f back (tagged tag m) in
+        let encodes = subst Is (sym has) (record { part = m; has = k.decodes.1; is = refl }) in
+        record {
+          decodes = (
+            opened name ++ back,
+            inr (record { name = name; back = back; are = refl; content = encodes }),
+            leaves_append Cut (opened name) back start.at mid.at end.at h.taken k.decodes.2,
+          );
+          place = moves_append h.place k.place;
+        }
+
+    pub content_not : {e : Report} → ReadsNoneAndEnds Cut (Closed content.encodes) mid end ended e
+        → ReadsNoneAndEnds Cut (EncodesVariant vs) start end ended e
+    content_not k = record {
+      fails = fails_after (content_missing start.at vs mid.at name tag content h.taken has) h.place k.fails;
+      ended = k.ended;
+    }
+
+  -- no variant has the name
+  module _ {s new : DeJsonState} (i : Chars) {shown : List ℕ} {e : DeJsonErr} (unknown : GivesUnknown s new shown e) where
+    not_known : {ts : List Token} → Took Cut same_buffers start (position s i) ts
+        → DecodesToNothing Cut (EncodesVariant vs) start.at
+        → ReadsNoneAndEnds Cut (EncodesVariant vs) start (position new i) ended (report e)
+    not_known h none =
+        let up = gives_up s new i unknown.state in
+        record {
+          fails = fails_ended {mid = position s i} ended up (record { rejected = λ _. none; made = unknown.says.1; place = moves_advance h.place });
+          ended = ap (λ (p : Position Token). p.at) up;
+        }
+
+    pub unit_not_known : Took Cut same_buffers start (position s i) (alone name) → unit_named 0 vs name ≡ None
+        → ReadsNoneAndEnds Cut (EncodesVariant vs) start (position new i) ended (report e)
+    unit_not_known h has = not_known h (unit_unknown start.at vs (at s i) name h.taken has)
+
+    pub content_not_known : Took Cut same_buffers start (position s i) (opened name) → content_named 0 vs name ≡ nobody
+        → ReadsNoneAndEnds Cut (EncodesVariant vs) start (position new i) ended (report e)
+    content_not_known h has = not_known h (content_unknown start.at vs (at s i) name h.taken has)

@@ -1,0 +1,83 @@
+-- What the calls of JSON's readers of user-defined types come to.
+use Rattle.std.specs.Prelude.{◌≡◌, ℕ, Bool, List, [], Result, MatchResult}
+use Rattle.nano_value.specs.Meaning.{Meaning}
+use Rattle.nano_grammar.specs.Outcomes.{Position, Fails, Took}
+use Rattle.nano_json_tokens.specs.Cut.{Cut}
+use Rattle.nano_json_tokens.specs.Outcomes.{report}
+use Rattle.nano_json_tokens.specs.State.{ended, place_of}
+use Rattle.nano_json_tokens.specs.Token.{Token}
+use Rattle.nano_json_tokens.specs.declared.error.DeJsonErr.{DeJsonErr}
+use Rattle.nano_json_tokens.specs.declared.state.DeJsonState.{DeJsonState}
+use Rattle.nano_grammar.specs.Defaults.{HasEncoding}
+use Rattle.nano_grammar.specs.UserOutcomes.{NoField, ReadField, ReadsField as ReadsFieldBy}
+use Rattle.nano_grammar.specs.UserOutcomes.{GivesValues as GivesValuesBy, Misses, FailsAndEnds}
+use Rattle.nano_grammar.specs.UserOutcomes.{HoldsFields as HoldsFieldsBy}
+use Rattle.nano_grammar.specs.UserOutcomes.{ReadsChoice as ReadsChoiceBy, ReadsEnum as ReadsEnumBy}
+use Rattle.nano_json_schema.specs.Contents.{is_alone, bytes_of}
+use Rattle.nano_json_schema.specs.FieldReading.{Field, Shape, Allowed}
+use Rattle.nano_json_schema.specs.FieldCodecs.{json_fields}
+use Rattle.nano_json_schema.specs.VariantReading.{Encodings}
+use Rattle.nano_json_schema.specs.VariantCodecs.{json_variants}
+use Rattle.nano_json_schema.specs.declared.variants.VariantName.{VariantName}
+
+-- ---- tokens
+
+-- a call takes these tokens, or reports the fact
+abbrev pub TakesTokens : {A : Type 0} → (A → List Token) → Type 0 → Position Token → Position Token
+    → Result A DeJsonErr → Type 0
+TakesTokens tokens none start end result = MatchResult result
+    (λ x. Took Cut (Unit {0}) start end (tokens x)) (λ e. Fails none start end (report e))
+
+-- the same, and an error leaves the state at the end of the text
+abbrev pub TakesTokensOrEnds : {A : Type 0} → (A → List Token) → Type 0 → Position Token
+    → Position Token → Result A DeJsonErr → Type 0
+TakesTokensOrEnds tokens none start end result = MatchResult result
+    (λ x. Took Cut (Unit {0}) start end (tokens x))
+    (λ e. FailsAndEnds ended none start end (report e))
+
+-- ---- fields
+
+module _ (name : List ℕ) (shape : Shape) (before after : List Field → Type 0) where
+  -- a call reads the value of the field with this name, if one has it, and else leaves all the same
+  abbrev pub ReadsField : Type 0 → Position Token → Position Token → Result Bool DeJsonErr → Type 0
+  ReadsField same start end result =
+      ReadsFieldBy Cut [] name shape before after same start end report result
+
+  -- a call reads the value after this name, or skips it where no field has the name
+  abbrev pub TakesValue : {A : Type 0} → Position Token → Position Token → Result A DeJsonErr
+      → Type 0
+  TakesValue start end result = MatchResult result
+      (λ _. ReadField Cut [] name (Allowed shape) before after start end)
+      (λ e. Fails (NoField Cut [] name (Allowed shape) start.at) start end (report e))
+
+module _ (shape : Shape) (holds : List Field → Type 0) where
+  -- a call gives values which mean what the fields do that are held
+  abbrev pub GivesValues : {A : Type 0} → (A → Meaning) → DeJsonState → Result A DeJsonErr → Type 0
+  GivesValues means s result = GivesValuesBy shape holds report means (place_of s) result
+
+  -- a call takes fields between braces
+  abbrev pub HoldsFields : {A : Type 0} → Position Token → Position Token → Result A DeJsonErr
+      → Type 0
+  HoldsFields start end result = HoldsFieldsBy json_fields shape holds start end report result
+
+-- a call makes a value with this meaning, which is encoded; it fails for want of memory alone
+abbrev pub GivesDefault : {A : Type 0} → (List Token → Meaning → Type 0) → (A → Meaning) → Meaning
+    → DeJsonState → Result A DeJsonErr → Type 0
+GivesDefault encodes means default s result = MatchResult result
+    (λ value. (means value ≡ default) × HasEncoding encodes (means value))
+    (λ e. Misses ⊥ (place_of s) (report e))
+
+-- ---- variants
+
+-- a call reads the content of the variant whose name was taken in this way
+abbrev pub ReadsChoice : {A : Type 0} → Encodings → VariantName → (ℕ → A → Meaning)
+    → Position Token → Position Token → Result A DeJsonErr → Type 0
+ReadsChoice variants name means start end result =
+    ReadsChoiceBy json_variants variants (is_alone name) (bytes_of name) start end report means
+    ended result
+
+-- a call reads the name of a variant, and its content
+abbrev pub ReadsEnum : {A : Type 0} → Encodings → (A → Meaning) → Position Token → Position Token
+    → Result A DeJsonErr → Type 0
+ReadsEnum variants means start end result =
+    ReadsEnumBy json_variants variants start end report means ended result

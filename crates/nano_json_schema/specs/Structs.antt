@@ -1,0 +1,21 @@
+-- The codec of a user-defined struct in JSON.
+use Rattle.std.specs.Prelude.{◌≡◌, ◌&&◌, true}
+use Rattle.std.proofs.Common.{sym}
+use Rattle.std.proofs.lemmas.Bool.{and_parts}
+use Rattle.nano_grammar.specs.FieldCodec.{FieldsCodec}
+use Rattle.nano_grammar.specs.Names.{are_distinct}
+use Rattle.nano_json.specs.Codec.{Codec}
+-- what a struct without names needs, passed on
+pub use Rattle.nano_json.specs.Codec.{codec_as}
+use Rattle.nano_json_schema.specs.FieldCodecs.{json_fields, ascii_names, fields_codec}
+use Rattle.nano_json_schema.specs.Names.{are_ascii_names}
+
+-- a struct as the values of its fields, and their format. The last is `refl`: it checks that the
+-- names are ASCII of which no character needs an escape, and that none occurs twice
+abbrev pub json_of : {A B : Type 0} (view : A → B) (fields : FieldsCodec json_fields B)
+    → true ≡ (are_ascii_names fields.canonical.names && are_distinct fields.canonical.names)
+    → Codec A
+json_of view fields good =
+    let all = fields.canonical.names in
+    let parts = and_parts (are_ascii_names all) (are_distinct all) (sym good) in
+    codec_as view (fields_codec fields (ascii_names {names = all} parts.0) parts.1)

@@ -1,0 +1,71 @@
+//! User-defined structs in JSON.
+
+ghost use Rattle.std.specs.Prelude.{OnOk, OnErr};
+ghost use Rattle.nano_text.specs.Outcomes.{Appends, Unchanged};
+ghost use Rattle.nano_json.specs.Outcomes.{position, ReadsOrEnds};
+ghost use Rattle.nano_schema.specs.Views.{SeesAs};
+ghost use Rattle.nano_grammar.specs.FieldCanonical.{fields_text};
+ghost use Rattle.nano_json_schema.specs.FieldReading.{EncodesFields};
+ghost use Rattle.nano_json_schema.specs.FieldCodecs.{json_fields};
+
+use crate::fields::{JsonFields, JsonRefs};
+use crate::read::read_fields;
+use crate::writer::write_fields;
+use nano_json::{DeJson, DeJsonErr, DeJsonState, SerJsonState};
+use nano_schema::{FieldRefs, StructSchema};
+use std::alloc::{AllocError, Global};
+use std::str::Chars;
+
+/// Reads a user-defined struct. The token after it is pending then, which may be the end.
+///
+/// An error other than out of memory says that no struct is encoded there, with one more token
+/// or the end after it. Every error leaves the state at the end of the text.
+pub fn read_record_json<R: StructSchema, F: JsonFields<Values = R::Values>>(
+    alloc: Global,
+    state: &mut DeJsonState,
+    input: &mut Chars<'_>,
+) -> Result<R, DeJsonErr>
+    ensures { ReadsOrEnds (EncodesFields F.codec.struct.shape)
+        (λ value. F.codec.canonical.means (R.view value))
+        (position state.old input.old) (position state.new input.new) result }
+{
+    match read_fields::<F>(alloc, state, input) {
+        Ok(values) => Ok(R::make(values)),
+        Err(error) => Err(error),
+    }
+}
+
+/// Reads a user-defined struct of parts without names, which is encoded as their tuple. The token
+/// after it is pending then, which may be the end.
+///
+/// An error other than out of memory says that no such tuple is encoded there, with one more token
+/// or the end after it. Every error leaves the state at the end of the text.
+pub fn read_parts_json<R: StructSchema<Values = P>, P: DeJson>(
+    alloc: Global,
+    state: &mut DeJsonState,
+    input: &mut Chars<'_>,
+) -> Result<R, DeJsonErr>
+    ensures { ReadsOrEnds P.json.encoding.encodes (λ value. P.means (R.view value))
+        (position state.old input.old) (position state.new input.new) result }
+{
+    match P::de_json(alloc, state, input) {
+        Ok(values) => Ok(R::make(values)),
+        Err(error) => Err(error),
+    }
+}
+
+/// Writes a user-defined struct at level `d`, where the fields are those that it is seen by. If the
+/// write fails, `s.out` is unchanged.
+pub fn write_record_json<'a, R: FieldRefs<'a>, F: JsonRefs<'a, Refs = R::Refs, Values = R::Values>>(
+    value: &'a R,
+    alloc: Global,
+    d: usize,
+    s: &mut SerJsonState,
+) -> Result<(), AllocError>
+    ensures ok { SeesAs F.values R.FieldRefs.values → OnOk result (Appends s.old.out s.new.out
+        (fields_text json_fields d (F.codec.canonical.fields (R.view value.now)))) }
+    ensures err { OnErr result (Unchanged s.old.out s.new.out) }
+{
+    let refs = value.as_refs();
+    write_fields::<F>(&refs, alloc, d, s)
+}

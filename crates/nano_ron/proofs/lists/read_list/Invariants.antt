@@ -1,0 +1,16 @@
+use Rattle.nano_grammar.proofs.CollectingCalls.{Filled}
+use Rattle.nano_grammar.proofs.TokensLeft.{tokens_left}
+use Rattle.nano_ron_tokens.specs.Brackets.{blocks}
+use Rattle.nano_ron_tokens.proofs.RonLaws.{block_brackets}
+use Rattle.nano_ron_tokens.specs.Outcomes.{position}
+use Rattle.nano_ron_tokens.proofs.PunctuationLaws.{is_end}
+use Rattle.nano_ron_tokens.specs.State.{at}
+use Rattle.nano_ron.proofs.Ron.{ron_laws}
+use Rattle.nano_ron.proofs.lists.read_list.Given as goal
+
+abbrev pub invariant-items : goal.invariant-items
+invariant-items g l =
+    Filled ron_laws blocks block_brackets g.C.Collect.holds g.T.RonCodec.ron.encoding.encodes (position l.fn.state l.fn.input) (position l.state l.input) l.items
+
+abbrev pub decreases-items : goal.decreases-items
+decreases-items g l = tokens_left is_end (at l.state l.input)

@@ -1,0 +1,17 @@
+use Rattle.nano_grammar.proofs.CollectingCalls.{Filled}
+use Rattle.nano_grammar.proofs.TokensLeft.{tokens_left}
+use Rattle.nano_ron_tokens.specs.Brackets.{curlies}
+use Rattle.nano_ron_tokens.proofs.RonLaws.{curly_brackets}
+use Rattle.nano_ron_tokens.specs.Outcomes.{position}
+use Rattle.nano_ron_tokens.proofs.PunctuationLaws.{is_end}
+use Rattle.nano_ron_tokens.specs.State.{at}
+use Rattle.nano_ron.specs.Maps.{EncodesEntry}
+use Rattle.nano_ron.proofs.Ron.{ron_laws}
+use Rattle.nano_ron.proofs.maps.read_entries.Given as goal
+
+abbrev pub invariant-entries : goal.invariant-entries
+invariant-entries g l =
+    Filled ron_laws curlies curly_brackets g.C.CollectEntries.holds (EncodesEntry g.K.RonCodec.ron.encoding.encodes g.V.RonCodec.ron.encoding.encodes) (position l.fn.state l.fn.input) (position l.state l.input) l.entries
+
+abbrev pub decreases-entries : goal.decreases-entries
+decreases-entries g l = tokens_left is_end (at l.state l.input)

@@ -1,0 +1,7 @@
+use Rattle.nano_text.proofs.RollbackLaws.{unchanged_by}
+use Rattle.nano_ron_schema.proofs.brackets.InBracketsSerRon.ser_ron.Goals as goal
+
+pub rollback_on_error-requires : goal.rollback_on_error-requires
+rollback_on_error-requires g c =
+    unchanged_by c.append_brackets-written.result c.args.s.now.out c.append_brackets-written.new.s.out c.len-start.result _ c.len-start.ensures c.append_brackets-written.ensures.ok
+    c.append_brackets-written.ensures.err

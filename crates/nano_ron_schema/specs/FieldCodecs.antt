@@ -1,0 +1,76 @@
+-- What is proved of Fields.
+use Rattle.std.specs.Prelude.{◌≡◌, ℕ, true, List, Option, chars}
+use Rattle.nano_value.specs.Meaning.{Meaning}
+use Rattle.nano_grammar.specs.Codec.{Codec}
+use Rattle.nano_grammar.specs.Canonical.{ListStyle}
+use Rattle.nano_grammar.proofs.BothFieldsLaws.{also_fields}
+use Rattle.nano_grammar.proofs.DefaultsLaws.{default_field}
+use Rattle.nano_grammar.specs.FieldCodec.{AreNames, FieldsCodec}
+use Rattle.nano_grammar.proofs.FieldCodecLaws.{must_field, may_field}
+use Rattle.nano_grammar.specs.Fields.{FieldStyle}
+use Rattle.nano_ron_tokens.specs.Brackets.{parens, paren_punctuation}
+use Rattle.nano_ron_tokens.specs.Cut.{IsName}
+use Rattle.nano_ron_tokens.proofs.RonLaws.{ron, parens_are, paren_brackets}
+use Rattle.nano_ron_tokens.specs.Ron.{ron_grammar}
+use Rattle.nano_ron_tokens.proofs.ScalarsLaws.{none_style}
+use Rattle.nano_ron_tokens.specs.Styles.{lines}
+use Rattle.nano_ron_tokens.proofs.StylesLaws.{lines_written, entry_style}
+use Rattle.nano_ron_tokens.specs.Token.{ident}
+use Rattle.nano_ron_schema.specs.Names.{are_names}
+use Rattle.nano_ron_schema.specs.NamesLaws.{name_is_written, good_names}
+use Rattle.nano_ron_schema.specs.Fields.{NothingSkipped}
+
+-- each field on a line of its own, with a comma after it
+abbrev pub field_lines : ListStyle ron
+field_lines = record {
+  tokens = parens;
+  punctuation = paren_punctuation;
+  punctuation_is = parens_are;
+  ends = true;
+  gaps = lines;
+  gaps_are = lines_written paren_punctuation;
+}
+
+pub ident_injective : (m n : List ℕ) → ident m ≡ ident n → m ≡ n
+ident_injective m n e = cc e
+
+abbrev pub ron_fields : FieldStyle ron ron_grammar
+ron_fields = record {
+  list = field_lines;
+  brackets = paren_brackets;
+  pair = entry_style;
+  none = none_style;
+  name = λ name. ident name;
+  injective = ident_injective;
+  begins = λ name. tt;
+  Skipped = NothingSkipped;
+  skipped_apart = λ us more h k. absurd h;
+  IsName = IsName;
+  name_text = λ name. chars name;
+  name_is_written = name_is_written;
+}
+
+-- ---- the schema of a user-defined struct
+
+-- a field that must be there
+abbrev pub required_field : {A : Type 0} → List ℕ → Codec ron ron_grammar A → FieldsCodec ron_fields A
+required_field = must_field ron_fields
+
+-- a field that is always written, and has a default where it is missing
+abbrev pub defaulted_field : {A : Type 0} → List ℕ → Codec ron ron_grammar A → Meaning
+    → FieldsCodec ron_fields A
+defaulted_field = default_field ron_fields
+
+-- a field that may be missing, and is not written where it is none
+abbrev pub optional_field : {A : Type 0} → List ℕ → Codec ron ron_grammar A → FieldsCodec ron_fields (Option A)
+optional_field = may_field ron_fields
+
+-- fields, and more fields
+abbrev pub fields_pair : {A B : Type 0} → FieldsCodec ron_fields A → FieldsCodec ron_fields B
+    → FieldsCodec ron_fields (A × B)
+fields_pair = also_fields
+
+-- words but `true` and `false` can be written: `word_names refl` proves it of names that are
+-- given
+pub word_names : {names : List (List ℕ)} → are_names names ≡ true → AreNames ron_fields names
+word_names {names} h = record { each = good_names names h }

@@ -1,0 +1,17 @@
+pub mod Names
+pub mod NamesLaws
+pub mod Fields
+pub mod FieldCodecs
+pub mod Punctuation
+pub mod FieldReading
+pub mod FieldTexts
+pub mod Variants
+pub mod VariantCodecs
+pub mod Promises
+pub mod Structs
+pub mod ContentCodecs
+pub mod Enums
+pub mod DefaultImpls
+pub mod VariantReading
+pub mod UnknownNames
+pub mod Outcomes

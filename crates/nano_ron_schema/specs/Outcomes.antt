@@ -1,0 +1,90 @@
+-- What the calls of RON's readers of user-defined types come to.
+use Rattle.std.specs.Prelude.{◌≡◌, ℕ, Bool, List, Result, MatchResult, String, string_bytes}
+use Rattle.nano_value.specs.Meaning.{Meaning}
+use Rattle.nano_grammar.specs.Outcomes.{Position, Fails, Took}
+use Rattle.nano_ron_tokens.specs.Cut.{Cut}
+use Rattle.nano_ron_tokens.specs.Outcomes.{report}
+use Rattle.nano_ron_tokens.specs.State.{ended, pending, place_of}
+use Rattle.nano_ron_tokens.specs.Token.{Token, ident, IsIdent}
+use Rattle.nano_ron_tokens.specs.declared.error.DeRonErr.{DeRonErr}
+use Rattle.nano_ron_tokens.specs.declared.state.DeRonState.{DeRonState}
+use Rattle.nano_grammar.specs.Defaults.{HasEncoding}
+use Rattle.nano_grammar.specs.UserOutcomes.{ReadsField as ReadsFieldBy}
+use Rattle.nano_grammar.specs.UserOutcomes.{GivesValues as GivesValuesBy}
+use Rattle.nano_grammar.specs.UserOutcomes.{HoldsFields as HoldsFieldsBy}
+use Rattle.nano_grammar.specs.UserOutcomes.{ReadsChoice as ReadsChoiceBy}
+use Rattle.nano_grammar.specs.UserOutcomes.{ReadsEnum as ReadsEnumBy, FailsAndEnds, Misses}
+use Rattle.nano_grammar.specs.UserOutcomes.{NoField, ReadField}
+use Rattle.nano_ron_schema.specs.FieldReading.{Field, Shape, Allowed, head}
+use Rattle.nano_ron_schema.specs.FieldCodecs.{ron_fields}
+use Rattle.nano_ron_schema.specs.VariantReading.{Encodings}
+use Rattle.nano_ron_schema.specs.VariantCodecs.{ron_variants}
+
+-- ---- tokens
+
+-- a call takes these tokens, or reports the fact
+abbrev pub TakesTokens : {A : Type 0} → (A → List Token) → Type 0 → Position Token → Position Token
+    → Result A DeRonErr → Type 0
+TakesTokens tokens none start end result = MatchResult result
+    (λ x. Took Cut (Unit {0}) start end (tokens x)) (λ e. Fails none start end (report e))
+
+-- the same, and an error leaves the state at the end of the text
+abbrev pub TakesTokensOrEnds : {A : Type 0} → (A → List Token) → Type 0 → Position Token
+    → Position Token → Result A DeRonErr → Type 0
+TakesTokensOrEnds tokens none start end result = MatchResult result
+    (λ x. Took Cut (Unit {0}) start end (tokens x))
+    (λ e. FailsAndEnds ended none start end (report e))
+
+-- a call gives the pending word
+abbrev pub GivesWord : {Y : Type 0} → DeRonState → Result (String Y) DeRonErr → Type 0
+GivesWord s result = MatchResult result (λ name. pending s ≡ ident (string_bytes name))
+    (λ e. Misses (IsIdent (pending s) → ⊥) (place_of s) (report e))
+
+-- ---- fields
+
+module _ (name : List ℕ) (shape : Shape) (before after : List Field → Type 0) where
+  -- a call reads the field of this name, which is pending, if one has it, and else leaves all the
+  -- same
+  abbrev pub ReadsField : Type 0 → Position Token → Position Token → Result Bool DeRonErr
+      → Type 0
+  ReadsField same start end result =
+      ReadsFieldBy Cut (head name) name shape before after same start end report result
+
+  -- a call reads the field of this name, which is pending and must be known
+  abbrev pub TakesField : {A : Type 0} → Position Token → Position Token → Result A DeRonErr
+      → Type 0
+  TakesField start end result = MatchResult result
+      (λ _. ReadField Cut (head name) name (Allowed shape) before after start end)
+      (λ e. Fails (NoField Cut (head name) name (Allowed shape) start.at) start end (report e))
+
+module _ (shape : Shape) (holds : List Field → Type 0) where
+  -- a call gives values which mean what the fields do that are held
+  abbrev pub GivesValues : {A : Type 0} → (A → Meaning) → DeRonState → Result A DeRonErr
+      → Type 0
+  GivesValues means s result = GivesValuesBy shape holds report means (place_of s) result
+
+  -- a call takes fields between parentheses
+  abbrev pub HoldsFields : {A : Type 0} → Position Token → Position Token → Result A DeRonErr
+      → Type 0
+  HoldsFields start end result = HoldsFieldsBy ron_fields shape holds start end report result
+
+-- a call makes a value with this meaning, which is encoded; it fails for want of memory alone
+abbrev pub GivesDefault : {A : Type 0} → (List Token → Meaning → Type 0) → (A → Meaning) → Meaning
+    → DeRonState → Result A DeRonErr → Type 0
+GivesDefault encodes means default s result = MatchResult result
+    (λ value. (means value ≡ default) × HasEncoding encodes (means value))
+    (λ e. Misses ⊥ (place_of s) (report e))
+
+-- ---- variants
+
+-- a call reads the content of the variant of this name, which stood alone or not
+abbrev pub ReadsChoice : {A : Type 0} → Encodings → Bool → List ℕ → (ℕ → A → Meaning)
+    → Position Token → Position Token → Result A DeRonErr → Type 0
+ReadsChoice variants alone name means start end result =
+    ReadsChoiceBy ron_variants variants alone name start end report means ended result
+
+-- a call reads the name of a variant, and its content
+abbrev pub ReadsEnum : {A : Type 0} → Encodings → (A → Meaning) → Position Token → Position Token
+    → Result A DeRonErr → Type 0
+ReadsEnum variants means start end result =
+    ReadsEnumBy ron_variants variants start end report means ended result

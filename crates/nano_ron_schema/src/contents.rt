@@ -1,0 +1,232 @@
+//! What a variant holds, in RON: nothing, parts between parentheses, or named fields between them.
+
+ghost use Rattle.std.specs.Prelude.{◌≡◌, OnOk, OnErr, refl};
+ghost use Rattle.nano_value.specs.Meaning.{Meaning, nothing};
+ghost use Rattle.nano_text.specs.Outcomes.{Appends, Unchanged};
+ghost use Rattle.nano_ron.specs.Outcomes.{position, ReadsOrEnds};
+ghost use Rattle.nano_grammar.specs.Choices.{Content, stands_alone};
+ghost use Rattle.nano_ron_schema.specs.ContentCodecs.{no_content, content_as, fields_content};
+ghost use Rattle.nano_ron_schema.specs.VariantReading.{EncodesRest};
+ghost use Rattle.nano_ron_schema.specs.VariantCodecs.{ron_variants, single_codec};
+
+use crate::brackets::InBrackets;
+use crate::fields::{RonFields, RonRefs, RonShape};
+use crate::part::Part;
+use crate::variant_writer::{write_fields_variant, write_unit_variant, write_variant};
+use crate::variants::{read_content, read_fields_content};
+use nano_ron::{DeRon, DeRonErr, DeRonState, RonCodec, SerRon, SerRonState};
+use nano_schema::{Alone, Named, OnePart};
+use std::alloc::{AllocError, Global};
+use std::str::Chars;
+
+/// The content of a variant that has a RON codec.
+pub trait RonContent {
+    /// Its values.
+    type Values;
+
+    /// How it is written and read.
+    ghost content: { Content ron_variants Self.Values };
+}
+
+/// The content of a variant that is read from RON.
+pub trait ReadContent {
+    /// Its values.
+    type Values;
+
+    /// How it is written and read.
+    ghost content: { Content ron_variants Self.Values };
+
+    /// What it means.
+    ghost means: { Self.Values → Meaning };
+
+    /// Whether the name of the variant stands alone, with no content after it.
+    fn stands_alone() -> bool
+        ensures { result ≡ stands_alone content.rest };
+
+    /// Reads what comes after the name of the variant; for a variant without content that is
+    /// nothing.
+    ///
+    /// An error other than out of memory says that no such content is encoded there, with one
+    /// more token or the end after it. Every error leaves the state at the end of the text.
+    fn read(
+        alloc: Global,
+        state: &mut DeRonState,
+        input: &mut Chars<'_>,
+    ) -> Result<Self::Values, DeRonErr>
+        ensures { ReadsOrEnds (EncodesRest content.rest) means
+            (position state.old input.old) (position state.new input.new) result };
+}
+
+/// The content of a variant that is written as RON.
+pub trait WriteContent<'a> {
+    /// Its values.
+    type Values;
+
+    /// References to them.
+    type Refs;
+
+    /// What they refer to.
+    ghost values: { Self.Refs → Self.Values };
+
+    /// How it is written and read.
+    ghost content: { Content ron_variants Self.Values };
+
+    /// Appends the variant of this name with the content at level `d`. If the write fails,
+    /// `s.out` is unchanged.
+    fn write(
+        name: &str,
+        refs: &Self::Refs,
+        alloc: Global,
+        d: usize,
+        s: &mut SerRonState,
+    ) -> Result<(), AllocError>
+        ensures ok { OnOk result
+            (Appends s.old.out s.new.out (content.text name.now d (values refs.now))) }
+        ensures err { OnErr result (Unchanged s.old.out s.new.out) };
+}
+
+// ---- no content
+
+impl RonContent for Alone {
+    type Values = ();
+
+    ghost content = { no_content };
+}
+
+impl ReadContent for Alone {
+    type Values = ();
+
+    ghost content = { no_content };
+
+    ghost means = { λ v. nothing };
+
+    fn stands_alone() -> bool {
+        true
+    }
+
+    fn read(
+        _alloc: Global,
+        _state: &mut DeRonState,
+        _input: &mut Chars<'_>,
+    ) -> Result<(), DeRonErr> {
+        Ok(())
+    }
+}
+
+impl<'a> WriteContent<'a> for Alone {
+    type Values = ();
+
+    type Refs = ();
+
+    ghost values = { λ r. r };
+
+    ghost content = { no_content };
+
+    fn write(
+        name: &str,
+        _refs: &(),
+        _alloc: Global,
+        _d: usize,
+        s: &mut SerRonState,
+    ) -> Result<(), AllocError> {
+        write_unit_variant(name, s)
+    }
+}
+
+// ---- one part
+
+impl<T: RonCodec> RonContent for OnePart<T> {
+    type Values = T;
+
+    ghost content = { content_as (single_codec T.ron) (λ x d. refl) };
+}
+
+impl<T: DeRon> ReadContent for OnePart<T> {
+    type Values = T;
+
+    ghost content = { content_as (single_codec T.ron) (λ x d. refl) };
+
+    ghost means = { T.ron.canonical.means };
+
+    fn stands_alone() -> bool {
+        false
+    }
+
+    fn read(alloc: Global, state: &mut DeRonState, input: &mut Chars<'_>) -> Result<T, DeRonErr> {
+        match read_content::<InBrackets<T>>(alloc, state, input) {
+            Ok(content) => Ok(content.part),
+            Err(error) => Err(error),
+        }
+    }
+}
+
+impl<'a, T: SerRon + 'a> WriteContent<'a> for OnePart<T> {
+    type Values = T;
+
+    type Refs = &'a T;
+
+    ghost values = { λ r. r.now };
+
+    ghost content = { content_as (single_codec T.ron) (λ x d. refl) };
+
+    fn write(
+        name: &str,
+        refs: &&'a T,
+        alloc: Global,
+        d: usize,
+        s: &mut SerRonState,
+    ) -> Result<(), AllocError> {
+        let content = InBrackets {
+            part: Part { of: *refs },
+        };
+        write_variant(alloc, name, &content, d, s)
+    }
+}
+
+// ---- named fields
+
+impl<F: RonShape> RonContent for Named<F> {
+    type Values = F::Values;
+
+    ghost content = { fields_content F.codec };
+}
+
+impl<F: RonFields> ReadContent for Named<F> {
+    type Values = F::Values;
+
+    ghost content = { fields_content F.codec };
+
+    ghost means = { F.codec.canonical.means };
+
+    fn stands_alone() -> bool {
+        false
+    }
+
+    fn read(
+        alloc: Global,
+        state: &mut DeRonState,
+        input: &mut Chars<'_>,
+    ) -> Result<F::Values, DeRonErr> {
+        read_fields_content::<F>(alloc, state, input)
+    }
+}
+
+impl<'a, F: RonRefs<'a>> WriteContent<'a> for Named<F> {
+    type Values = F::Values;
+
+    type Refs = F::Refs;
+
+    ghost values = { F.values };
+
+    ghost content = { fields_content F.codec };
+
+    fn write(
+        name: &str,
+        refs: &F::Refs,
+        alloc: Global,
+        d: usize,
+        s: &mut SerRonState,
+    ) -> Result<(), AllocError> {
+        write_fields_variant::<F>(name, refs, alloc, d, s)
+    }
+}

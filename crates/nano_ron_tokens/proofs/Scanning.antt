@@ -1,0 +1,87 @@
+-- What one scan comes to, from what the scans inside it come to.
+use Rattle.std.proofs.Common.{◌≡◌, ◌≢◌, ℕ, List, true, Result, string_bytes, sym, subst, ap, ◌∙◌}
+use Rattle.std.proofs.lemmas.Result.{MatchResult-weaker}
+use Rattle.std.specs.declared.str.Chars.{Chars}
+use Rattle.nano_text.specs.Place.{remaining, Moves}
+use Rattle.nano_text.proofs.PlaceLaws.{moves_none, moves_append, moves_advance}
+use Rattle.nano_text.specs.declared.place.Place.{Place}
+use Rattle.nano_grammar.specs.Outcomes.{Stops}
+use Rattle.nano_ron_tokens.specs.Cut.{Cut, IsLexeme}
+use Rattle.nano_ron_tokens.specs.Outcomes.{report, position, Reports, Moved, NothingCut, NoCapacity}
+use Rattle.nano_ron_tokens.specs.Scan.{NotScanned, Scans, Passed, SkipsGaps}
+use Rattle.nano_ron_tokens.specs.State.{ended, pending, place_of}
+use Rattle.nano_ron_tokens.specs.Token.{Token}
+use Rattle.nano_ron_tokens.specs.declared.error.DeRonErr.{DeRonErr}
+use Rattle.nano_ron_tokens.specs.declared.scan.Rejection.{Rejection}
+use Rattle.nano_ron_tokens.specs.declared.scan.Rejection.TheVariants.{Memory}
+use Rattle.nano_ron_tokens.specs.declared.state.DeRonState.{DeRonState}
+use Rattle.nano_ron_tokens.specs.declared.token.DeRonTok.TheVariants.{Eof}
+use Rattle.nano_ron_tokens.proofs.Calling.{gives_up, fails_ended_there, made_there}
+use Rattle.nano_ron_tokens.proofs.Capacity.{by_rejection, outgrows_same}
+use Rattle.nano_ron_tokens.proofs.AfterGaps.{lexeme_cut, cut_lexeme}
+use Rattle.nano_ron_tokens.proofs.Skipping.{first_stops}
+
+-- nothing is passed
+pub moved_none : (s : DeRonState) (i : Chars) → Moved s i s i
+moved_none s i = moves_none (place_of s) i
+
+-- the state takes over a place that was taken from it and moved on
+pub moved_at : (old mid new : DeRonState) (p q : Place) (i j : Chars) → p ≡ place_of old
+    → new ≡ record mid { cur = q.cur; line = q.line; col = q.col } → Moves p i q j
+    → Moved old i new j
+moved_at old mid new p q i j from to h =
+    subst (λ (r : Place). Moves (place_of old) i r j) (sym (ap place_of to))
+    (subst (λ (r : Place). Moves r i q j) from h)
+
+-- an error where a token could not be scanned
+pub scan_stops : (old mid new : DeRonState) (i j : Chars) (r : Rejection) (e : DeRonErr)
+    → NotScanned Cut old i mid j r → new ≡ record mid { tok = Eof; cur = 0 }
+    → Reports new (r ≢ Memory) e
+    → Stops ended (NothingCut (remaining old.cur i)) (NoCapacity old (remaining old.cur i)) (position old i) (position new j) (report e)
+scan_stops old mid new i j r e h is made = record {
+  fails = fails_ended_there mid new j e is (record {
+    rejected = λ known. h.rejected (made.0 known);
+    made = made_there mid new e is made.1;
+    place = moves_advance h.place;
+  });
+  ended = ap (λ p. p.at) (gives_up mid new j is);
+  capacity = by_rejection r old (remaining old.cur i) h.rejected h.capacity;
+}
+
+-- tokens of one shape are those of another
+pub scans_as : {A : Type 0} (S R : List ℕ → Token → List ℕ → Type 0) (old new : DeRonState) (i j : Chars)
+    → ((t : Token) (rest : List ℕ) → S (remaining old.cur i) t rest → R (remaining old.cur i) t rest)
+    → ((t : Token) (rest : List ℕ) → R (remaining old.cur i) t rest → S (remaining old.cur i) t rest)
+    → (r : Result A Rejection) → Scans S old i new j r → Scans R old i new j r
+scans_as S R old new i j to from r h =
+    MatchResult-weaker r h
+    (λ _ x. record { taken = to (pending new) (remaining new.cur j) x.taken; buffers = x.buffers; place = x.place })
+    (λ _ x. record {
+      rejected = λ known t rest l. x.rejected known t rest (from t rest l);
+      capacity = λ memory t rest l. x.capacity memory t rest (from t rest l);
+      place = x.place;
+    })
+
+-- a lexeme after a gap is a token
+pub scans_spaced : {A : Type 0} (old mid new : DeRonState) (i j k : Chars) → Passed old i mid j
+    → SkipsGaps (remaining old.cur i) (remaining mid.cur j) true
+    → (r : Result A Rejection) → Scans (λ text token rest. IsLexeme token text rest) mid j new k r
+    → Scans Cut old i new k r
+scans_spaced old mid new i j k passed gap r h =
+    let from = λ (t : Token) (rest : List ℕ) (l : Cut (remaining old.cur i) t rest).
+    cut_lexeme (remaining old.cur i) (remaining mid.cur j) rest t gap.0 (first_stops (remaining mid.cur j) gap.1) l in
+    MatchResult-weaker r h
+    (λ _ x. record {
+      taken = lexeme_cut (remaining old.cur i) (remaining mid.cur j) (remaining new.cur k) (pending new) gap.0 x.taken;
+      buffers = record {
+        strbuf = λ other. x.buffers.strbuf other ∙ ap (λ b. string_bytes b) passed.strbuf;
+        numbuf = λ other. x.buffers.numbuf other ∙ ap (λ b. string_bytes b) passed.numbuf;
+        identbuf = λ other. x.buffers.identbuf other ∙ ap (λ b. string_bytes b) passed.identbuf;
+      };
+      place = moves_append passed.place x.place;
+    })
+    (λ _ x. record {
+      rejected = λ known t rest l. x.rejected known t rest (from t rest l);
+      capacity = λ memory t rest l. outgrows_same old mid t passed.strbuf passed.numbuf passed.identbuf (x.capacity memory t rest (from t rest l));
+      place = moves_append passed.place x.place;
+    })

@@ -1,0 +1,125 @@
+-- What is proved of Styles.
+use Rattle.std.specs.Prelude.{ℕ, true, false, [], ◌∷◌, codes, refl}
+use Rattle.nano_text.specs.Place.{saturating_next}
+use Rattle.nano_grammar.specs.Cutting.{IsValueText}
+use Rattle.nano_grammar.specs.Items.{ListPunctuation}
+use Rattle.nano_grammar.specs.Layouts.{AreGaps}
+use Rattle.nano_grammar.specs.Units.{UnitStyle}
+use Rattle.nano_grammar.specs.Canonical.{ListStyle, PairStyle, TupleStyle}
+use Rattle.nano_ron_tokens.specs.Brackets.{blocks, curlies, parens, block_punctuation}
+use Rattle.nano_ron_tokens.specs.Brackets.{curly_punctuation, paren_punctuation}
+use Rattle.nano_ron_tokens.proofs.RonLaws.{ron, no_gap_written, space_written, indent_written}
+use Rattle.nano_ron_tokens.proofs.RonLaws.{colon_is, blocks_are, parens_are, curlies_are}
+use Rattle.nano_ron_tokens.specs.Ron.{ron_grammar}
+use Rattle.nano_ron_tokens.specs.Token.{colon}
+use Rattle.nano_ron_tokens.specs.Styles.{lines, indents, spaces}
+
+pub lines_written : (punctuation : ListPunctuation ℕ) (d : ℕ)
+    → AreGaps ron true punctuation (lines d)
+lines_written punctuation d = record {
+  after_opening = space_written 10 refl refl;
+  before_item = indent_written (saturating_next d);
+  after_comma = space_written 10 refl refl;
+  before_closing = indent_written d;
+  closing_follows = λ e rest. absurd (cc e);
+}
+
+pub indents_written : (d : ℕ) → AreGaps ron false block_punctuation (indents d)
+indents_written d = record {
+  after_opening = no_gap_written;
+  before_item = indent_written (saturating_next d);
+  after_comma = no_gap_written;
+  before_closing = no_gap_written;
+  closing_follows = λ _ rest. refl;
+}
+
+pub spaces_written : AreGaps ron false paren_punctuation spaces
+spaces_written = record {
+  after_opening = no_gap_written;
+  before_item = no_gap_written;
+  after_comma = space_written 32 refl refl;
+  before_closing = no_gap_written;
+  closing_follows = λ _ rest. refl;
+}
+
+-- a vector
+abbrev pub line_style : ListStyle ron
+line_style = record {
+  tokens = blocks;
+  punctuation = block_punctuation;
+  punctuation_is = blocks_are;
+  ends = true;
+  gaps = lines;
+  gaps_are = lines_written block_punctuation;
+}
+
+-- a linked list, and sets
+abbrev pub indent_style : ListStyle ron
+indent_style = record {
+  tokens = blocks;
+  punctuation = block_punctuation;
+  punctuation_is = blocks_are;
+  ends = false;
+  gaps = indents;
+  gaps_are = indents_written;
+}
+
+-- arrays and slices
+abbrev pub paren_style : ListStyle ron
+paren_style = record {
+  tokens = parens;
+  punctuation = paren_punctuation;
+  punctuation_is = parens_are;
+  ends = false;
+  gaps = λ d. spaces;
+  gaps_are = λ d. spaces_written;
+}
+
+-- maps
+abbrev pub curly_style : ListStyle ron
+curly_style = record {
+  tokens = curlies;
+  punctuation = curly_punctuation;
+  punctuation_is = curlies_are;
+  ends = true;
+  gaps = lines;
+  gaps_are = lines_written curly_punctuation;
+}
+
+-- an entry of a map, and a named field
+abbrev pub entry_style : PairStyle ron
+entry_style = record {
+  token = colon;
+  punctuator = 58;
+  gap = [];
+  is_punctuator = colon_is;
+  follows = λ rest. refl;
+  is_gap = no_gap_written;
+}
+
+abbrev pub tuple_style : TupleStyle ron
+tuple_style = record {
+  tokens = parens;
+  punctuation = paren_punctuation;
+  punctuation_is = parens_are;
+  gap = 32 ∷ [];
+  is_gap = space_written 32 refl refl;
+}
+
+-- `()`
+pub unit_written : IsValueText ron (parens.opening ∷ (parens.closing ∷ [])) (codes "()")
+unit_written = record {
+  cut_again = λ rest _.
+      (41 ∷ rest, parens_are.opening.cut (41 ∷ rest), (rest, parens_are.closing.cut rest, refl));
+  has_token = tt;
+  textual = (refl, (refl, tt));
+}
+
+-- what means nothing
+abbrev pub unit_style : UnitStyle ron ron_grammar
+unit_style = record {
+  tokens = parens.opening ∷ (parens.closing ∷ []);
+  text = codes "()";
+  begins = tt;
+  is_written = unit_written;
+}

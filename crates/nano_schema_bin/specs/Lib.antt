@@ -1,4 +1,0 @@
-pub mod Choices
-pub mod ChoicesLaws
-pub mod Record
-pub mod Choice

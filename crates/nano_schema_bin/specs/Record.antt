@@ -1,9 +1,0 @@
--- The format of an own struct as bytes.
-use Rattle.nano_bin.specs.Codec.{Codec}
--- what a struct without names needs, passed on
-pub use Rattle.nano_bin.specs.Codec.{codec_as}
-pub use Rattle.nano_bin.specs.CodecLaws.{both_are_read}
-
--- a struct as the values of its fields, and their format
-abbrev pub bin_of : {A B : Type 0} (view : A → B) (fields : Codec B) → Codec A
-bin_of view fields = codec_as view fields

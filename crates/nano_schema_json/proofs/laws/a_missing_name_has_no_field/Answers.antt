@@ -1,6 +1,0 @@
-use Rattle.nano_schema_text.proofs.LastFields.{missing_name}
-use Rattle.nano_json_tokens.specs.Token.{Token}
-use Rattle.nano_schema_json.proofs.laws.a_missing_name_has_no_field.Goals as goal
-
-pub returns : goal.returns
-returns c = missing_name Token

@@ -1,6 +1,0 @@
-use Rattle.nano_schema_text.proofs.LastFields.{last_field}
-use Rattle.nano_json_tokens.specs.Token.{Token}
-use Rattle.nano_schema_json.proofs.laws.the_last_field_counts.Goals as goal
-
-pub returns : goal.returns
-returns c = last_field Token

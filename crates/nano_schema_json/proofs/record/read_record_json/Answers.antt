@@ -1,4 +1,0 @@
-use Rattle.nano_schema_json.proofs.record.read_record_json.Goals as goal
-
-pub returns-in-Ok-clause-decodes : goal.returns-in-Ok-clause-decodes
-returns-in-Ok-clause-decodes g c = rw c.make.ensures c.in-Ok.ensures.decodes

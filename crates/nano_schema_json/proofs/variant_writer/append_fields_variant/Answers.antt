@@ -1,6 +1,0 @@
-use Rattle.std.proofs.Common.{rules, append_assoc}
-use Rattle.std.proofs.lemmas.Str.{encodes-append}
-use Rattle.nano_schema_json.proofs.variant_writer.append_fields_variant.Goals as goal
-
-pub returns-clause-ok : goal.returns-clause-ok
-returns-clause-ok g c = search (rules, append_assoc, encodes-append)

@@ -1,8 +1,0 @@
-use Rattle.nano_text.specs.RollbackLaws.{unchanged_by}
-use Rattle.nano_schema_json.proofs.writer.write_fields.Goals as goal
-
-pub rollback_on_error-requires : goal.rollback_on_error-requires
-rollback_on_error-requires g c =
-    unchanged_by c.append_struct-written.result c.args.s.now.out c.append_struct-written.new.s.out
-    c.len-start.result _ c.len-start.ensures c.append_struct-written.ensures.ok
-    c.append_struct-written.ensures.err

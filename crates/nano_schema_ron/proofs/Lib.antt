@@ -1,5 +1,0 @@
-pub mod Pending
-pub mod WrittenFields
-pub mod VariantReaders
-pub mod ChoiceReaders
-pub mod UnknownNames

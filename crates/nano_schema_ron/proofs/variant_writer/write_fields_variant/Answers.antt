@@ -1,8 +1,0 @@
-use Rattle.nano_text.specs.RollbackLaws.{unchanged_by}
-use Rattle.nano_schema_ron.proofs.variant_writer.write_fields_variant.Goals as goal
-
-pub rollback_on_error-requires : goal.rollback_on_error-requires
-rollback_on_error-requires g c =
-    unchanged_by c.append_fields_variant-written.result c.args.s.now.out c.append_fields_variant-written.new.s.out
-    c.len-start.result _ c.len-start.ensures c.append_fields_variant-written.ensures.ok
-    c.append_fields_variant-written.ensures.err

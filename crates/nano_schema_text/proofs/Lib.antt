@@ -1,6 +1,0 @@
-pub mod LastFields
-pub mod FieldReading
-pub mod KnownNames
-pub mod StructReading
-pub mod ChoiceReaders
-pub mod UnknownNames

@@ -1,0 +1,6 @@
+use Rattle.std.proofs.Common.{ap}
+use Rattle.nano_value.specs.Tables.{table_of}
+use Rattle.nano_value.proofs.collect.HashMapCollectEntries.empty.Goals as goal
+
+pub returns : goal.returns
+returns g c = record { distinct = c.new.ensures.unique; same = ap (table_of g.K.Value.means g.V.Value.means) c.new.ensures.empty }

@@ -1,0 +1,2 @@
+pub mod CommandCodecs
+pub mod MessageCodecs

@@ -1,0 +1,41 @@
+//! Examples: user-defined types in bytes, in JSON and in RON. Each file is one that a user
+//! copies.
+//!
+//! `Server`, `Event`, `Signal` and `Query` are described once by a schema, and `derive_files` wrote
+//! each format from it. So are `Site`, `Clock` and `Notice`, which have attributes, `Tagged` and
+//! `Reply`, which have type parameters, and `Point` and `Entry`, whose parts have no names. `Limits`
+//! and `Tags` are encoded as their one field. `Command` implements bytes and `Message` implements
+//! JSON by hand, without a schema.
+#![tactic(auto)]
+
+mod clock;
+mod command;
+mod entry;
+mod event;
+mod limits;
+mod message;
+mod notice;
+mod point;
+mod query;
+mod reply;
+mod server;
+mod signal;
+mod site;
+mod tagged;
+mod tags;
+
+pub use clock::Clock;
+pub use command::Command;
+pub use entry::Entry;
+pub use event::Event;
+pub use limits::Limits;
+pub use message::Message;
+pub use notice::Notice;
+pub use point::Point;
+pub use query::Query;
+pub use reply::Reply;
+pub use server::Server;
+pub use signal::Signal;
+pub use site::Site;
+pub use tagged::Tagged;
+pub use tags::Tags;
