@@ -2,7 +2,7 @@
 """Follows each link and picture of the documents, and fails on a file or a heading that is not there.
 
 A link to another site is not followed. Usage, at the top of the repository:
-python3 docs/check_links.py
+python3 tools/check_links.py
 """
 import pathlib
 import re

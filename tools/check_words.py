@@ -3,7 +3,7 @@
 
 A name is split at its underscores, hyphens and capitals. Names of the standard library and of the
 published surface are allowed, each listed below. Usage, at the top of the repository:
-python3 docs/check_words.py
+python3 tools/check_words.py
 """
 import pathlib
 import re

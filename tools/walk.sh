@@ -1,14 +1,14 @@
 #!/bin/sh
 # Makes the walk of docs/USER_TYPES.md in an empty folder, without a proof, and compares what is
-# printed with docs/walk. The first step that differs ends it with status 1. It takes some minutes.
+# printed with tools/walk. The first step that differs ends it with status 1. It takes some minutes.
 #
-#     sh docs/walk.sh FOLDER
+#     sh tools/walk.sh FOLDER
 #
 # FOLDER must not be there yet; it is made, and may be removed afterwards.
 set -eu
-[ $# -eq 1 ] || { echo "usage: sh docs/walk.sh FOLDER" >&2; exit 2; }
+[ $# -eq 1 ] || { echo "usage: sh tools/walk.sh FOLDER" >&2; exit 2; }
 top=$(cd "$(dirname "$0")/.." && pwd)
-walk=$top/docs/walk
+walk=$top/tools/walk
 mkdir "$1"
 cd "$1"
 

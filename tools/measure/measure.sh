@@ -1,7 +1,7 @@
 #!/bin/sh
 # Measures what docs/SPEED.md says: builds the port's side, runs it beside its peers, and prints the tables.
 #
-#     sh docs/measure/measure.sh HARNESS OUT [FILTER]
+#     sh tools/measure/measure.sh HARNESS OUT [FILTER]
 #
 # HARNESS is the folder of the peers' harness (its build.sh and main.rs), OUT a folder for what is
 # built. FILTER takes cases alone, such as json/records. It wants rt, valgrind, GNU time and the

@@ -4,7 +4,7 @@
 A name in backticks is looked for among the names of the sources, of the definitions, of the proofs
 and of the case tables; a path among the files. Words of Rust, of the toolchain, and of other
 libraries are listed below. Numbers of mutants and of cases in tables are counted, and a clause that
-GUARANTEES.md cites of a function is looked for in a contract of that function. Usage, at the top of the repository: python3 docs/check_claims.py
+GUARANTEES.md cites of a function is looked for in a contract of that function. Usage, at the top of the repository: python3 tools/check_claims.py
 """
 import pathlib
 import re

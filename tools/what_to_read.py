@@ -11,7 +11,7 @@ Codec, Codecs or Impls, hold codecs of types, and laws: a codec there is a way t
 its own lines are not counted.
 
 The script fails where another module of specs/ states a law, and where a headline has more lines or
-files than are allowed. Usage, at the top of the repository: python3 docs/what_to_read.py [-v]
+files than are allowed. Usage, at the top of the repository: python3 tools/what_to_read.py [-v]
 With -v each definition is named with its lines.
 """
 import pathlib

@@ -2,11 +2,11 @@
 """Compares the snippets of documents, and the examples of doc comments, with the sources and the
 stored output.
 
-    ```rust    stands in one file of crates/example_*/src, or of docs/walk
+    ```rust    stands in one file of crates/example_*/src, or of tools/walk
     ```antt    stands in one file of crates/example_*/specs
     ```toml    stands in the stored input of a program, crates/*/stdin
-    ```json    stands in docs/walk/stdin
-    ```text    stands in the stored output of a program (crates/*/stdout) or of docs/walk.sh, is the
+    ```json    stands in tools/walk/stdin
+    ```text    stands in the stored output of a program (crates/*/stdout) or of tools/walk.sh, is the
                answer of a case of crates/conformance_run/data, or is a text that a test of
                crates/test_* expects
     ```sh      is not compared
@@ -17,7 +17,7 @@ crates/example_*/src.
 Lines are compared one by one, after the common indent and blanks at their ends are taken off. A line
 `// ..` or `-- ..` leaves lines of the source out; what follows it stands further down in the same
 file. Any other fence, or none, is a fault. Usage, at the top of the repository:
-python3 docs/check_snippets.py [-v]
+python3 tools/check_snippets.py [-v]
 With -v each snippet is printed with the file that it stands in.
 """
 import pathlib
@@ -27,11 +27,11 @@ import sys
 DOCUMENTS = ["README.md", "docs/GUIDE.md", "docs/USER_TYPES.md"]
 CUTS = {"// ..", "-- .."}
 SOURCES = {
-    "rust": ["crates/example_*/src/*.rt", "docs/walk/*.rt.txt"],
+    "rust": ["crates/example_*/src/*.rt", "tools/walk/*.rt.txt"],
     "antt": ["crates/example_*/specs/*.antt"],
     "toml": ["crates/*/stdin"],
-    "json": ["docs/walk/stdin"],
-    "text": ["crates/*/stdout", "docs/walk/stdout", "docs/walk/fault.txt",
+    "json": ["tools/walk/stdin"],
+    "text": ["crates/*/stdout", "tools/walk/stdout", "tools/walk/fault.txt",
              "crates/conformance_run/data/*.tsv", "crates/test_*/src/*.rt"],
 }
 STRING = re.compile(r'"((?:[^"\\]|\\.)*)"')

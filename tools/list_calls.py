@@ -5,7 +5,7 @@ The libraries are the crates of crates.txt above its tests, but for the generato
 or of `conformance`, whose calls the tables of cases make. It counts where its crate stands on the
 function's, straight or through others; so do the files of an example that the crate stands on,
 since its tests run them. A call counts by its name alone, whatever its type. Usage, at
-the top of the repository: python3 docs/list_calls.py [--all]
+the top of the repository: python3 tools/list_calls.py [--all]
 With --all each function is listed, with the files that call it.
 """
 import pathlib

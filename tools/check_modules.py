@@ -2,7 +2,7 @@
 """Fails on a module of the library that the module table of docs/ARCHITECTURE.md does not name.
 
 The library is every crate whose name begins with nano. Usage, at the top of the repository:
-python3 docs/check_modules.py
+python3 tools/check_modules.py
 """
 import pathlib
 import re

@@ -3,7 +3,7 @@
 
 Words are counted outside of tables, headings and code; a piece of code within a sentence is one
 word. A document may be a quarter longer than its plan. Usage, at the top of the repository:
-python3 docs/check_sentences.py [-v]
+python3 tools/check_sentences.py [-v]
 With -v the length of each document is printed.
 """
 import pathlib

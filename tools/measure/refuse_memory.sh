@@ -1,7 +1,7 @@
 #!/bin/sh
 # Runs cases with each request for memory refused in turn, and compares what comes.
 #
-#     sh docs/measure/refuse_memory.sh [TABLE..]
+#     sh tools/measure/refuse_memory.sh [TABLE..]
 #
 # TABLE is a table of crates/conformance_run/data, worked.tsv if none is named. A case is run once as
 # it is, and by refuse_malloc.c once for each request that it makes: with that one refused, and with

@@ -4,7 +4,7 @@
 The names are those of the tables in crates/conformance_run/data, wrong.tsv left out, and of the list
 in crates/conformance/src/names.rt, which has exactly the names that its program knows. An item of
 docs/DIFFERENCES.md is what its first column has, divided at its commas. Usage, at the top of the
-repository: python3 docs/check_differences.py
+repository: python3 tools/check_differences.py
 """
 import pathlib
 import re
