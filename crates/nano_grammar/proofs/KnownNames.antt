@@ -18,9 +18,9 @@ module _ (b : Bool) (p q : Type 0) where
   second_of e h = subst (λ c. either c p q) e h
 
 -- where a test for another name fails, the name is this one
-pub same_name : (xs ys name label : List ℕ) (unequal : Bool) → xs ≡ name → ys ≡ label → unequal ≡ not (bytes_eq xs ys)
+pub is_this_name : (xs ys name label : List ℕ) (unequal : Bool) → xs ≡ name → ys ≡ label → unequal ≡ not (bytes_eq xs ys)
     → unequal ≡ false → bytes_eq name label ≡ true
-same_name xs ys name label unequal x y is e =
+is_this_name xs ys name label unequal x y is e =
     ap (λ (l : List ℕ). bytes_eq l label) (sym x) ∙ (ap (bytes_eq xs) (sym y) ∙ not-false (bytes_eq xs ys) (sym is ∙ e))
 
 -- and where it succeeds, it is another one
