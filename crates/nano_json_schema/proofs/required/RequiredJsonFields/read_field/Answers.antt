@@ -1,7 +1,8 @@
 use Rattle.std.proofs.Common.{[], refl, sym}
-use Rattle.nano_grammar.proofs.Outcomes.{passed_on}
-use Rattle.nano_grammar.proofs.FieldCalls.{at_once, not_at_once, last_read, last_not, looked_up, looked_up_none, not_known}
-use Rattle.nano_grammar.proofs.KnownNames.{is_this_name, other_name}
+use Rattle.nano_grammar.proofs.TokenCalls.{passed_on}
+use Rattle.nano_grammar.proofs.FieldCalls.{at_once, not_at_once, last_read, last_not, looked_up}
+use Rattle.nano_grammar.proofs.FieldCalls.{looked_up_none, not_known}
+use Rattle.nano_grammar.proofs.FieldReading.{is_this_name, other_name}
 use Rattle.nano_json_tokens.specs.Cut.{Cut}
 use Rattle.nano_json_schema.specs.FieldCodecs.{required_field}
 use Rattle.nano_json_schema.proofs.required.RequiredJsonFields.read_field.Goals as goal

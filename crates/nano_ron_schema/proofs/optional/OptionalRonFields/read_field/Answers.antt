@@ -1,9 +1,10 @@
 use Rattle.std.proofs.Common.{string_bytes, inr, refl, sym}
-use Rattle.nano_grammar.proofs.Outcomes.{passed_on}
-use Rattle.nano_grammar.proofs.FieldCalls.{last_read, last_not, looked_up, looked_up_none, not_known}
-use Rattle.nano_grammar.proofs.KnownNames.{is_this_name, other_name}
+use Rattle.nano_grammar.proofs.TokenCalls.{passed_on}
+use Rattle.nano_grammar.proofs.FieldCalls.{last_read, last_not, looked_up, looked_up_none}
+use Rattle.nano_grammar.proofs.FieldCalls.{not_known}
+use Rattle.nano_grammar.proofs.FieldReading.{is_this_name, other_name}
 use Rattle.nano_ron_tokens.specs.Cut.{Cut}
-use Rattle.nano_ron_schema.specs.FieldReading.{head}
+use Rattle.nano_ron_schema.specs.Reading.{head}
 use Rattle.nano_ron_schema.specs.FieldCodecs.{optional_field}
 use Rattle.nano_ron_schema.proofs.optional.OptionalRonFields.read_field.Goals as goal
 
