@@ -7,7 +7,8 @@ use Rattle.nano_bin_frames.specs.declared.error.Fault.{Fault}
 use Rattle.nano_bin_frames.specs.declared.error.Fault.TheVariants.{Cut, Bad}
 use Rattle.nano_bin_frames.specs.declared.frames.Messages.{Messages}
 use Rattle.nano_bin_frames.specs.Frames.{IsOfStream, TakesMessage, IsCut, HoldsNoMessage}
-use Rattle.nano_bin_frames.specs.Frames.{RejectsFrame, left, chunk_size, IsFrame, AppendsFrame}
+use Rattle.nano_bin_frames.specs.Frames.{RejectsFrame, IsFrame, AppendsFrame}
+use Rattle.nano_bin_frames.specs.Left.{left, chunk_size}
 use Rattle.nano_bin_bytes.specs.Containers.{EncodesItems}
 
 -- the next message is taken with its frame; or there is none, the stream is at its end, and it is

@@ -24,7 +24,7 @@ pub struct Messages<R> {
 }
 
 impl<R: Read> Messages<R> {
-    ghost use Rattle.nano_bin_frames.specs.Frames.{left, chunk_size};
+    ghost use Rattle.nano_bin_frames.specs.Left.{left, chunk_size};
     ghost use Rattle.nano_bin_frames.specs.Outcomes.{Answers, TakesNothing, ReadFails, Forgets};
 
     /// Those that the reader gives. At most `chunk` bytes are read at a time, and at least one.
