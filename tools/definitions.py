@@ -149,7 +149,9 @@ class Specs:
         """The item of a name, through modules and names that are passed on."""
         for _ in range(8):
             *key, name = cited
-            key = self.passed.get(tuple(key), tuple(key))
+            key = tuple(key)
+            while key in self.passed:
+                key = self.passed[key]
             if name in self.items.get(key, {}):
                 return self.items[key][name]
             if name not in self.uses.get(key, {}):
