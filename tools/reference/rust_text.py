@@ -200,3 +200,9 @@ class RustText:
         rest = item.head[head.end():brace]
         return (span("k", "ghost") + " " + span("h", head.group(1)) + html.escape(rest)
                 + self.logic(item, item.head[brace:]))
+
+    def example(self, text):
+        """An example of a comment. Its names are linked where the file has them."""
+        written = self.rust(text)
+        self.unknown.clear()
+        return re.sub(r'<span class="u">(.*?)</span>', r"\1", written)

@@ -1,0 +1,161 @@
+"""The pages of traits and types: their members, methods and impls with their contracts."""
+import html
+import re
+
+from library import RustItem
+from page import section
+from rust_text import RustText
+from source import parts_of_body
+
+
+class ItemPages:
+    """Writes the page of each public trait, struct, enum and type."""
+
+    def __init__(self, writer):
+        self.writer, self.resolver, self.library = writer, writer.resolver, writer.library
+
+    def page(self, one):
+        """The body of the page of an item."""
+        word = {"type": "type"}.get(one.kind, one.kind)
+        docs = self.writer.markdown(one.file, one).blocks(one.item.docs)
+        head = [f"<h1><small>{word}</small> {html.escape(one.path())}</h1>",
+                f'<p class="where">{one.file.path}</p>', docs]
+        if one.kind == "trait":
+            return "\n".join([*head, self.trait_head(one), self.members(one),
+                              self.impls(one, self.impls_of_trait(one), True)])
+        return "\n".join([*head, self.type_head(one), self.parts(one), self.methods(one),
+                          self.impls(one, self.impls_of_type(one), False)])
+
+    # ---- traits
+
+    def trait_head(self, one):
+        """The head of a trait."""
+        text = RustText(self.resolver, one.file, one.item)
+        known = text.generics(one.item)
+        return f"<pre><code>{text.rust(one.item.head, known)}</code></pre>"
+
+    def members(self, one):
+        """The members of a trait, each with its contract."""
+        written = [self.member(one, member) for member in one.item.members]
+        return section("Members", "".join(part for part in written if part))
+
+    def member(self, one, member):
+        """One member of a trait."""
+        if member.name == "use":
+            return ""
+        title = f"{one.name}::{member.name}"
+        href = one.href(member.name)
+        if member.kind == "fn":
+            return self.writer.function(one.file, one.item, member, member.name, title, href)
+        self.resolver.current = (title, href)
+        text = RustText(self.resolver, one.file, one.item)
+        head = text.ghost(member) if member.kind == "ghost" else text.rust(
+            member.head, text.generics(one.item))
+        self.writer.take(text)
+        docs = self.writer.markdown(one.file, one).blocks(member.docs, 4)
+        believe = self.writer.to_believe(text.items, member.head, "this member")
+        return (f'<section class="item" id="{member.name}"><h3><code>{html.escape(title)}</code>'
+                f' <a class="anchor" href="#{member.name}" aria-label="Link to this member">#</a>'
+                f"</h3>\n{docs}<pre class=\"contract\"><code>{head}</code></pre>\n{believe}</section>\n")
+
+    # ---- types
+
+    def type_head(self, one):
+        """A struct or an enum with its public parts, without their comments."""
+        text = RustText(self.resolver, one.file)
+        known = text.generics(one.item)
+        derives = [part for part in one.item.attributes if part.startswith("#[derive")]
+        head = one.item.head
+        lines = [html.escape(part) for part in derives]
+        if one.kind in ("struct", "enum") and one.item.body.strip():
+            inner = []
+            for _, part in self.public_parts(one):
+                part = re.sub(r"(?m)^\s*///.*\n", "", part)
+                inner.append("    " + text.rust(part, known) + ",")
+            hidden = len(parts_of_body(one.item.body)) - len(self.public_parts(one))
+            inner += ['    <span class="c">// fields that are not public</span>'] if hidden else []
+            lines += [text.rust(head, known) + " {", *inner, "}"]
+        else:
+            lines.append(text.rust(head, known) + (" {}" if one.item.body else ";"))
+        return "<pre><code>" + "\n".join(lines) + "</code></pre>"
+
+    def public_parts(self, one):
+        """The public fields of a struct, or the variants of an enum."""
+        return [(docs, part) for docs, part in parts_of_body(one.item.body)
+                if one.kind == "enum" or part.startswith("pub ")]
+
+    def parts(self, one):
+        """The comments of fields or variants, with their anchors."""
+        if one.kind not in ("struct", "enum"):
+            return ""
+        rows = []
+        for docs, part in self.public_parts(one):
+            name = re.match(r"(?:pub )?(\w+)", part).group(1)
+            text = self.writer.markdown(one.file).inline(" ".join(docs))
+            rows.append(f'<dt id="{name}"><code>{name}</code></dt><dd>{text or "&#8203;"}</dd>')
+        title = "Variants" if one.kind == "enum" else "Fields"
+        return section(title, f"<dl>{''.join(rows)}</dl>") if rows else ""
+
+    def methods(self, one):
+        """The public methods of a type, each with its contract."""
+        blocks, written = [], []
+        for name, (file, block, member) in self.writer.methods(one).items():
+            if block.docs and block not in blocks:
+                blocks.append(block)
+                written.append(self.writer.markdown(file).blocks(block.docs))
+            title = f"{one.name}::{name}"
+            written.append(self.writer.function(file, block, member, name, title, one.href(name)))
+        return section("Calls", "".join(written)) if written else ""
+
+    # ---- impls
+
+    def impls_of_trait(self, one):
+        """The impl blocks of a trait."""
+        return [(file, block) for file, block, of_trait, _ in self.library.impls
+                if of_trait and self.writer.is_of(file, of_trait, one)]
+
+    def impls_of_type(self, one):
+        """The impl blocks of traits for a type."""
+        return [(file, block) for file, block, of_trait, of_type in self.library.impls
+                if of_trait and self.writer.is_of(file, of_type, one)]
+
+    def impls(self, one, blocks, with_lists):
+        """The impls of a trait, or those for a type: what each gives and promises."""
+        full, bare = [], []
+        for number, (file, block) in enumerate(blocks):
+            written = self.impl(file, block, f"impl-{number}", with_lists, one)
+            (full if written[1] else bare).append(written[0])
+        if bare:
+            full.append("<pre class=\"impls\"><code>" + "\n".join(bare) + "</code></pre>")
+        return section("Impls", "".join(full)) if full else ""
+
+    def impl(self, file, block, anchor, with_list, one):
+        """One impl: its head, its ghost members, and the functions that have clauses of their own."""
+        head = " ".join(block.head.split())
+        self.resolver.current = (head, f"{one.href()}#{anchor}")
+        text = RustText(self.resolver, file, block)
+        known = text.generics(block)
+        inner = []
+        for member in block.members:
+            if member.kind == "ghost" and member.name != "use":
+                inner.append(text.ghost(member) + ";")
+            elif member.kind == "type":
+                inner.append(text.rust(member.head, known) + ";")
+            elif member.kind == "fn" and member.clauses():
+                inner.append(text.function(member, f"{anchor}.{member.name}"))
+        written = text.rust(block.head, known)
+        self.writer.take(text)
+        if not inner:
+            return written, False
+        body = "\n\n".join("    " + part.replace("\n", "\n    ") for part in inner)
+        heads = " ".join(member.head for member in block.members)
+        believe = self.writer.to_believe(text.items, heads, "what it says") if with_list else ""
+        docs = self.writer.markdown(file).blocks(block.docs, 4)
+        return (f'<section class="item" id="{anchor}">{docs}<pre class="contract"><code>{written} {{\n'
+                f"{body}\n}}</code></pre>{believe}</section>"), True
+
+
+def internal_items(resolver):
+    """The types that definitions name and that are not public."""
+    return sorted((one for one in resolver.internal if isinstance(one, RustItem)),
+                  key=lambda one: (one.crate, one.name))
