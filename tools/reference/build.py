@@ -16,7 +16,6 @@ from item_pages import ItemPages, internal_items  # noqa: E402
 from library import module_page  # noqa: E402
 from page import Site  # noqa: E402
 from resolver import Resolver  # noqa: E402
-from rust_text import RustText  # noqa: E402
 from targets import page_of_module  # noqa: E402
 from what_to_read import HEADLINES  # noqa: E402
 
@@ -77,28 +76,20 @@ class Build:
         self.add_internal(site, crate, above)
 
     def add_internal(self, site, crate, above):
-        """The types that definitions name and that are not public."""
-        items = [one for one in internal_items(self.resolver) if one.crate == crate]
-        if not items:
-            return
-        parts = ["<h1><small>crate</small> Types that are not public</h1>",
-                 "<p>Definitions name them, and no caller sees them.</p>"]
-        for one in items:
-            docs = self.writer.markdown(one.file).blocks(one.item.docs, 4)
-            text = RustText(self.resolver, one.file)
-            written = text.rust(f"{one.item.head} {{{one.item.body}}}", text.generics(one.item))
-            inner = "".join(f'<span id="{one.name}.{name}"></span>'
-                            for name in self.names_of(one))
-            parts.append(f'<section class="item" id="{one.name}"><h3><code>{one.name}</code></h3>'
-                         f'{inner}<p class="where">{one.file.path}</p>{docs}'
-                         f"<pre><code>{written}</code></pre></section>")
-        site.add(f"/{crate}/internal.html", "Types that are not public", above, "\n".join(parts))
-
-    def names_of(self, one):
-        """The fields or variants of a type."""
-        if one.kind == "enum":
-            return self.resolver.names_inside(one)
-        return list(self.resolver.struct_fields(one))
+        """The types that definitions or contracts name and that are not public."""
+        written = {}
+        while True:
+            waiting = [one for one in internal_items(self.resolver)
+                       if one.crate == crate and one not in written]
+            if not waiting:
+                break
+            written.update((one, self.items.internal(one)) for one in waiting)
+        if written:
+            parts = ["<h1>Types that are not public</h1>",
+                     "<p>Definitions or contracts name them, and no caller sees them.</p>",
+                     *(written[one] for one in sorted(written, key=lambda one: one.name))]
+            site.add(f"/{crate}/internal.html", "Types that are not public", above,
+                     "\n".join(parts))
 
     def counts(self):
         """The numbers of the site."""

@@ -12,7 +12,7 @@ from rust_text import RustText
 def first_sentence(docs):
     """The first paragraph of a comment, up to its first stop."""
     text = " ".join(docs).strip() if "" not in docs else " ".join(docs[:docs.index("")])
-    return re.split(r"(?<=[.:])\s(?=[A-Z`])", text)[0]
+    return re.split(r"(?<=\.)\s(?=[A-Z`])", text)[0]
 
 
 class Writer:
@@ -73,7 +73,7 @@ class Writer:
         believe = self.to_believe(text.items, item.head)
         return (f'<section class="item" id="{anchor}"><h3><code>{html.escape(title)}</code>'
                 f' <a class="anchor" href="#{anchor}" aria-label="Link to this call">#</a></h3>\n'
-                f"{docs}<pre class=\"contract\"><code>{head}</code></pre>\n{believe}</section>\n")
+                f"<pre class=\"contract\"><code>{head}</code></pre>\n{believe}{docs}</section>\n")
 
     def take(self, text):
         """Keeps the words that nothing is known of."""

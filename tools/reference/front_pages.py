@@ -206,7 +206,7 @@ class FrontPages:
     def crate_card(self, crate):
         """A crate with the first sentence of its comment."""
         docs = self.library.files[crate, ()].docs
-        text = re.split(r"(?<=[.:])\s", " ".join(docs))[0]
+        text = re.split(r"(?<=\.)\s", " ".join(docs))[0]
         return (f'<li><a href="/{crate}/index.html"><code>{crate}</code></a> '
                 f"<small>{Markdown().inline(text)}</small></li>")
 

@@ -6,6 +6,7 @@ from library import RustItem
 from page import section
 from rust_text import RustText
 from source import parts_of_body
+from targets import Target, variants_of
 
 
 class ItemPages:
@@ -56,42 +57,43 @@ class ItemPages:
         believe = self.writer.to_believe(text.items, member.head, "this member")
         return (f'<section class="item" id="{member.name}"><h3><code>{html.escape(title)}</code>'
                 f' <a class="anchor" href="#{member.name}" aria-label="Link to this member">#</a>'
-                f"</h3>\n{docs}<pre class=\"contract\"><code>{head}</code></pre>\n{believe}</section>\n")
+                f"</h3>\n<pre class=\"contract\"><code>{head}</code></pre>\n{believe}{docs}</section>\n")
 
     # ---- types
 
     def type_head(self, one):
-        """A struct or an enum with its public parts, without their comments."""
+        """A struct or an enum with its parts, without their comments."""
         text = RustText(self.resolver, one.file)
-        known = text.generics(one.item)
+        known = self.known(text, one)
         derives = [part for part in one.item.attributes if part.startswith("#[derive")]
         head = one.item.head
         lines = [html.escape(part) for part in derives]
         if one.kind in ("struct", "enum") and one.item.body.strip():
             inner = []
-            for _, part in self.public_parts(one):
+            for _, part in parts_of_body(one.item.body):
                 part = re.sub(r"(?m)^\s*///.*\n", "", part)
                 inner.append("    " + text.rust(part, known) + ",")
-            hidden = len(parts_of_body(one.item.body)) - len(self.public_parts(one))
-            inner += ['    <span class="c">// fields that are not public</span>'] if hidden else []
             lines += [text.rust(head, known) + " {", *inner, "}"]
         else:
             lines.append(text.rust(head, known) + (" {}" if one.item.body else ";"))
         return "<pre><code>" + "\n".join(lines) + "</code></pre>"
 
-    def public_parts(self, one):
-        """The public fields of a struct, or the variants of an enum."""
-        return [(docs, part) for docs, part in parts_of_body(one.item.body)
-                if one.kind == "enum" or part.startswith("pub ")]
+    def known(self, text, one):
+        """The names that an item itself brings: its type parameters and its variants."""
+        variants = variants_of(one) if one.kind == "enum" else []
+        return {**text.generics(one.item),
+                **{name: Target("local", "", "a variant") for name in variants}}
 
     def parts(self, one):
         """The comments of fields or variants, with their anchors."""
         if one.kind not in ("struct", "enum"):
             return ""
         rows = []
-        for docs, part in self.public_parts(one):
-            name = re.match(r"(?:pub )?(\w+)", part).group(1)
+        for docs, part in parts_of_body(one.item.body):
+            name = re.match(r"(?:pub(?:\([^)]*\))? )?(\w+)", part).group(1)
             text = self.writer.markdown(one.file).inline(" ".join(docs))
+            if one.kind == "struct" and not part.startswith("pub "):
+                text += " <small>Not public.</small>"
             rows.append(f'<dt id="{name}"><code>{name}</code></dt><dd>{text or "&#8203;"}</dd>')
         title = "Variants" if one.kind == "enum" else "Fields"
         return section(title, f"<dl>{''.join(rows)}</dl>") if rows else ""
@@ -153,6 +155,32 @@ class ItemPages:
         docs = self.writer.markdown(file).blocks(block.docs, 4)
         return (f'<section class="item" id="{anchor}">{docs}<pre class="contract"><code>{written} {{\n'
                 f"{body}\n}}</code></pre>{believe}</section>"), True
+
+
+    # ---- items that are not public
+
+    def internal(self, one):
+        """An item that is not public, as it stands in its file."""
+        docs = self.writer.markdown(one.file).blocks(one.item.docs, 4)
+        text = RustText(self.resolver, one.file, one.item if one.kind == "trait" else None)
+        known = self.known(text, one)
+        anchors = "".join(f'<span id="{one.name}.{name}"></span>' for name in self.inside(one))
+        if one.kind == "trait":
+            inner = [text.ghost(member) + ";" if member.kind == "ghost" else text.rust(
+                member.head, known) + ";" for member in one.item.members if member.name != "use"]
+            code = text.rust(one.item.head, known) + " {\n    " + "\n    ".join(inner) + "\n}"
+        else:
+            body = f" {{{one.item.body}}}" if one.item.body else ";"
+            code = text.rust(one.item.head + body, known)
+        self.writer.take(text)
+        return (f'<section class="item" id="{one.name}"><h3><code>{one.name}</code></h3>{anchors}'
+                f'<p class="where">{one.file.path}</p>{docs}<pre><code>{code}</code></pre></section>')
+
+    def inside(self, one):
+        """The names of the fields, variants or members of an item."""
+        if one.kind == "struct":
+            return list(self.resolver.struct_fields(one))
+        return [name for name in self.resolver.names_inside(one) if name != "use"]
 
 
 def internal_items(resolver):

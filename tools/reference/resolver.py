@@ -17,7 +17,7 @@ PRELUDE = set("""
 # Words of the language itself, and of clauses without an import.
 LANGUAGE = set("""
     Type Unit tt absurd refl record let in if then else elim with where unfolding data pub abbrev
-    unfoldable do mutual ruleset _
+    unfoldable do mutual ruleset as cc _
 """.split())
 
 
