@@ -2,7 +2,7 @@
 import functools
 
 from definitions import module_of
-from what_to_read import HEADLINES, READ, closure, followed, is_law_module
+from what_to_read import HEADLINES, READ, closure, followed
 
 
 class Belief:
@@ -62,11 +62,6 @@ def summary(items):
     """The count of definitions, lines and files."""
     files = counted(len(by_file(items)), "file")
     return f"{counted(len(items), 'definition')}, {counted(lines_of(items), 'line')} in {files}"
-
-
-def is_counted(item):
-    """Whether the lines of an item count, if something rests on it."""
-    return not is_law_module(item)
 
 
 def name_of(item):

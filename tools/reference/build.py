@@ -8,7 +8,7 @@ import sys
 sys.path.insert(0, str(pathlib.Path(__file__).resolve().parent.parent))
 sys.path.insert(0, str(pathlib.Path(__file__).resolve().parent))
 
-from belief import Belief, counted, lines_of, is_counted  # noqa: E402
+from belief import Belief, counted, lines_of  # noqa: E402
 from crate_pages import CratePages, Writer  # noqa: E402
 from definition_pages import DefinitionPages  # noqa: E402
 from front_pages import FrontPages, Names, headline_path  # noqa: E402
@@ -94,7 +94,7 @@ class Build:
     def counts(self):
         """The numbers of the site."""
         public = [one for crate in self.library.crates for one in self.library.public_items(crate)]
-        believed = [one for one in self.belief.public if is_counted(one)]
+        believed = self.belief.public
         laws = [one for one in self.resolver.specs.all() if self.resolver.kinds[one] == "law"]
         return (f"{counted(len(public), 'public item')} in {counted(len(self.library.crates), 'crate')}. "
                 f"All public contracts together rest on {counted(len(believed), 'definition')} with "

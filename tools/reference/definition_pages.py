@@ -2,12 +2,13 @@
 import html
 import re
 
-from belief import counted, is_counted, lines_of
+from belief import counted, lines_of
 from definition_text import DefinitionText, above_html
 from definitions import module_of
 from markdown import Markdown
 from page import section
 from targets import page_of_module
+from what_to_read import is_law_module
 
 
 class DefinitionPages:
@@ -74,7 +75,7 @@ class DefinitionPages:
 
     def note(self, folder, items):
         """What stands on the page, and what of it must be believed."""
-        believed = [one for one in items if one in self.belief.public and is_counted(one)]
+        believed = [one for one in items if one in self.belief.public]
         laws = [one for one in items if self.resolver.kinds[one] == "law"]
         parts = [f"<b>{counted(lines_of(believed), 'line')}</b> in "
                  f"{counted(len(believed), 'definition')} that public contracts rest on"]
@@ -90,13 +91,13 @@ class DefinitionPages:
         kind, lines = self.resolver.kinds[item], counted(len(item.lines), "line")
         if kind == "law":
             return f'<span class="badge law">proved, {lines} with its proof</span>'
+        if item in self.belief.public:
+            return f'<span class="badge believe">to believe: {lines}</span>'
         if kind == "codec":
             return ('<span class="badge codec" title="Its values are followed, its laws are proved">'
                     f"codec, {lines}</span>")
-        if not is_counted(item):
+        if is_law_module(item):
             return f'<span class="badge codec">for proofs, {lines}</span>'
-        if item in self.belief.public:
-            return f'<span class="badge believe">to believe: {lines}</span>'
         return (f'<span class="badge" title="No public contract rests on it">{lines}, '
                 "for private calls</span>")
 
@@ -138,7 +139,7 @@ class DefinitionPages:
         for key, items in self.modules().items():
             if key[0] != crate:
                 continue
-            believed = [one for one in items if one in self.belief.public and is_counted(one)]
+            believed = [one for one in items if one in self.belief.public]
             first = re.split(r"(?<=\.)\s", self.comment(items))[0]
             rows.append(f'<tr><td><a href="{page_of_module(key)}"><code>{key[1]}/{key[2]}</code></a>'
                         f"</td><td>{Markdown().inline(first)}</td>"

@@ -61,7 +61,8 @@ def inner_anchors(tokens, item, laws):
             before = "".join(one for _, one in tokens[max(0, at - 3):at])
             if item.kind == "record" and before.endswith("pub ") \
                     or item.kind == "data" and re.search(r"\n\s*$", before):
-                found[at] = (f"{item.name}.{text}", "part proved" if text in laws else "part")
+                begin = at - 2 if item.kind == "record" else at
+                found[begin] = (f"{item.name}.{text}", "part proved" if text in laws else "part")
     return found
 
 
@@ -120,7 +121,8 @@ class DefinitionText:
         self.give_types(walk, tokens[1:end], parameter_types(self.item.type), self.context)
         result = split_outside(self.item.type, "→")[-1]
         walk.expected = (result, self.context, False)
-        return span("h", self.item.name) + walk.run(tokens[end:])
+        walk.run(tokens[end:])
+        return span("h", self.item.name) + "".join(walk.out)
 
 
     def give_types(self, walk, tokens, types, context):

@@ -67,7 +67,7 @@ class Walk(Fields):
 
     def run(self, tokens, anchors=None):
         """Writes the tokens. At the index of its token a part begins, with its anchor and kind."""
-        at, begun = 0, False
+        at, begun, before = 0, False, len(self.out)
         while at < len(tokens):
             kind, text = tokens[at]
             if anchors and at in anchors:
@@ -76,7 +76,7 @@ class Walk(Fields):
                                 + f'<span class="{part}" id="{html.escape(anchor)}">')
                 begun = True
             at = getattr(self, "on_" + kind)(tokens, at, text)
-        return "".join(self.out) + ("</span>" if begun else "")
+        return "".join(self.out[before:]) + ("</span>" if begun else "")
 
     def on_space(self, tokens, at, text):
         self.out.append(text)
