@@ -3,9 +3,11 @@
 
 Every link leads to a page and to an anchor on it, no page has an anchor twice, every public item,
 function and clause that regular expressions find in the sources is there, and every word of every
-clause is linked, bound, or known as the kit's. Usage, at the top of the repository:
+clause is linked, bound, or known as the kit's. Each definition that a contract is said to rest on
+is reached from that contract by clicks alone. Usage, at the top of the repository:
 python3 tools/check_reference.py [OUT]. Without a folder it writes the site anew and drops it again.
 """
+import collections
 import html.parser
 import pathlib
 import re
@@ -27,6 +29,7 @@ class Reader(html.parser.HTMLParser):
         super().__init__()
         self.anchors, self.links, self.items, self.bad = [], [], [], []
         self.open, self.passed_on, self.clauses, self.known = [], set(), [], 0
+        self.ways, self.below = collections.defaultdict(list), collections.defaultdict(list)
 
     def handle_starttag(self, tag, attributes):
         found = dict(attributes)
@@ -37,10 +40,15 @@ class Reader(html.parser.HTMLParser):
         self.open.append((tag, kinds))
         if "id" in found:
             self.anchors.append(found["id"])
-        if "href" in found:
-            self.links.append(found["href"])
         if tag == "section" and "item" in kinds:
             self.items.append(found.get("id"))
+        if "href" in found:
+            self.links.append(found["href"])
+            around = {kind for _, inner in self.open for kind in inner}
+            if self.items and around & {"contract", "definition", "above"}:
+                self.ways[self.items[-1]].append(found["href"])
+            elif self.items and "believe" in around:
+                self.below[self.items[-1]].append(found["href"])
         if "clause" in kinds:
             self.clauses.append(found["id"])
         if "u" in kinds:
@@ -91,6 +99,54 @@ def broken_links(folder, pages):
                 yield f"{name}: no file {link}"
             elif anchor and urllib.parse.unquote(anchor) not in anchors.get(other, ()):
                 yield f"{name}: no anchor {link}"
+
+
+class Ways:
+    """The clicks from one item to others: from its contract, or from its definition."""
+
+    def __init__(self, pages):
+        self.pages, self.steps = pages, {}
+
+    def place(self, path, link):
+        """The page and the item that a link leads to."""
+        target, _, anchor = link.partition("#")
+        other = (path.parent / urllib.parse.unquote(target)).resolve() if target else path
+        anchor = urllib.parse.unquote(anchor)
+        items = self.pages[other].items if other in self.pages else []
+        while anchor and anchor not in items:
+            anchor = anchor.rpartition(".")[0]
+        return other, anchor
+
+    def from_item(self, place):
+        """The items that one click leads to."""
+        if place not in self.steps:
+            path, anchor = place
+            self.steps[place] = {self.place(path, link) for link in
+                                 self.pages[path].ways.get(anchor, [])} if path in self.pages else set()
+        return self.steps[place]
+
+    def clicks(self, start):
+        """How many clicks each item is away."""
+        found, queue = {start: 0}, collections.deque([start])
+        while queue:
+            here = queue.popleft()
+            for there in self.from_item(here) - found.keys():
+                found[there] = found[here] + 1
+                queue.append(there)
+        return found
+
+
+def out_of_reach(folder, pages, counts):
+    """The definitions that no clicks lead to from a contract that rests on them."""
+    ways = Ways(pages)
+    for path, page in pages.items():
+        for item, links in page.below.items():
+            found = ways.clicks((path, item))
+            for link in links:
+                place = ways.place(path, link)
+                counts["clicks"] = max(counts["clicks"], found.get(place, 0))
+                if place not in found:
+                    yield f"{path.relative_to(folder)}#{item}: no clicks lead to {link}"
 
 
 def libraries():
@@ -184,8 +240,8 @@ def missing(folder, pages, crate, counts):
 def check(folder):
     """Prints what is wrong and the counts, and whether something is wrong."""
     folder = folder.resolve()
-    pages, counts = read(folder), {"items": 0, "functions": 0, "clauses": 0}
-    wrong = list(broken_links(folder, pages))
+    pages, counts = read(folder), {"items": 0, "functions": 0, "clauses": 0, "clicks": 0}
+    wrong = [*broken_links(folder, pages), *out_of_reach(folder, pages, counts)]
     for crate in libraries():
         wrong += missing(folder, pages, crate, counts)
     for line in wrong:
@@ -197,7 +253,8 @@ def check(folder):
     words = sum(page.known for page in pages.values())
     print(f"{len(pages):,} pages, {counts['items']:,} public items, {counts['functions']:,} functions "
           f"with {counts['clauses']:,} clauses of {words:,} words, {definitions:,} definitions and "
-          f"laws, {links:,} links, {size:,} bytes; {len(wrong)} wrong")
+          f"laws, {links:,} links, {size:,} bytes, at most {counts['clicks']} clicks from a contract to a "
+          f"definition below it; {len(wrong)} wrong")
     return bool(wrong) or not pages
 
 

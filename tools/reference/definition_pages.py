@@ -16,8 +16,8 @@ class DefinitionPages:
 
     def __init__(self, resolver, belief):
         self.resolver, self.belief, self.specs = resolver, belief, resolver.specs
-        self.unknown, self.written = [], {}
-        self.crates = set(resolver.library.crates)
+        self.unknown, self.written, self.proved = [], {}, {}
+        self.crates, self.shown = set(resolver.library.crates), set()
 
     def render(self):
         """Writes all that is needed, until nothing new is named."""
@@ -28,6 +28,11 @@ class DefinitionPages:
                 self.written[item] = self.text(item)
             waiting = [item for item in self.specs.all()
                        if item in self.resolver.linked and item not in self.written]
+
+        for law in self.specs.all():
+            if self.resolver.kinds[law] == "law" and law.file.parts[1] in self.crates:
+                for item in self.specs.items_in(law, law.signature):
+                    self.proved.setdefault(item, []).append(law)
 
     def text(self, item):
         """The prose and the code of an item."""
@@ -109,7 +114,7 @@ class DefinitionPages:
         return (f'<section class="item" id="{name}"><h3><code>{name}</code> {self.badge(item)}'
                 f' <a class="anchor" href="#{name}" aria-label="Link to this definition">#</a></h3>\n'
                 f"{text}{above}<pre class=\"definition\"><code>{code}</code></pre>\n"
-                f"{self.below(item)}{self.named_by(item)}</section>\n")
+                f"{self.below(item)}{self.laws_of(item)}{self.named_by(item)}</section>\n")
 
     def below(self, item):
         """How much stands below a definition."""
@@ -121,6 +126,28 @@ class DefinitionPages:
             return '<p class="below">Nothing of the repository stands below it.</p>'
         return (f'<p class="below">Below it: {counted(len(others), "definition")}, '
                 f"{counted(lines_of(others), 'line')}.</p>")
+
+    def laws_of(self, item):
+        """How many laws speak of a definition, and where they stand."""
+        modules, shown = {}, self.modules_shown()
+        for law in self.proved.get(item, []):
+            modules.setdefault(module_of(law.file), []).append(law)
+        if not modules or self.resolver.kinds[item] == "law":
+            return ""
+        parts = []
+        for key, laws in sorted(modules.items()):
+            name = "/".join(key)
+            place = f'<a href="{page_of_module(key)}">{name}</a>' if key in shown else name
+            parts.append(f"{place}&nbsp;{len(laws)}")
+        total = sum(len(laws) for laws in modules.values())
+        return (f'<details class="by"><summary>Proved of it: {counted(total, "law")}</summary>'
+                f"<p>{', '.join(parts)}</p></details>")
+
+    def modules_shown(self):
+        """The modules that have a page."""
+        if not self.shown:
+            self.shown = {module_of(item.file) for item in self.written}
+        return self.shown
 
     def named_by(self, item):
         """What names a definition."""

@@ -2,7 +2,7 @@
 import html
 import re
 
-from library import RustItem
+from library import RustItem, impl_parts
 from page import section
 from rust_text import RustText
 from source import parts_of_body
@@ -151,11 +151,18 @@ class ItemPages:
             return written, False
         body = "\n\n".join("    " + part.replace("\n", "\n    ") for part in inner)
         heads = " ".join(member.head for member in block.members)
-        believe = self.writer.to_believe(text.items, heads, "what it says") if with_list else ""
+        is_shown = with_list or not self.is_ours(file, block)
+        believe = self.writer.to_believe(text.items, heads, "what it says") if is_shown else ""
         docs = self.writer.markdown(file).blocks(block.docs, 4)
         return (f'<section class="item" id="{anchor}">{docs}<pre class="contract"><code>{written} {{\n'
                 f"{body}\n}}</code></pre>{believe}</section>"), True
 
+
+    def is_ours(self, file, block):
+        """Whether the trait of an impl has a page, which then has the impl too."""
+        head = re.match(r"[\w:]+", impl_parts(block.head)[0] or "")
+        found = self.library.resolve(file, head.group().split("::")) if head else None
+        return isinstance(found, RustItem) and found.home is not None
 
     # ---- items that are not public
 

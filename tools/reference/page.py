@@ -11,12 +11,12 @@ TEMPLATE = """<!doctype html>
 <meta charset="utf-8">
 <meta name="viewport" content="width=device-width, initial-scale=1">
 <meta name="color-scheme" content="light dark">
-<title>{title}</title>
+<title>{whole}</title>
 <link rel="stylesheet" href="/style.css">
 </head>
 <body>
 <header><nav class="crumbs" aria-label="Where this page is">{crumbs}</nav>
-<nav class="tools" aria-label="The site"><a href="/index.html">Start</a> <a href="/guarantees.html">Guarantees</a> <a href="/all.html">All names</a></nav></header>
+<nav class="tools" aria-label="The site"><a href="/guarantees.html">Guarantees</a> <a href="/all.html">All names</a></nav></header>
 <main>
 {body}
 </main>
@@ -67,7 +67,8 @@ def framed(page, before, after):
         around += (f'<a class="after" rel="next" href="{after.path}">'
                    f"<small>Next</small> {html.escape(after.title)}</a>")
     return TEMPLATE.format(
-        title=html.escape(page.title), body=page.body, around=around,
+        whole=html.escape(" · ".join([page.title, *(name for name, _ in page.crumbs[:0:-1])])),
+        body=page.body, around=around,
         crumbs=" <span>/</span> ".join([*crumbs, f"<b>{html.escape(page.title)}</b>"]))
 
 
