@@ -31,7 +31,7 @@ class DefinitionPages:
 
         for law in self.specs.all():
             if self.resolver.kinds[law] == "law" and law.file.parts[1] in self.crates:
-                for item in self.specs.items_in(law, law.signature):
+                for item in self.specs.items_in(law, f"{law.above} {law.signature}"):
                     self.proved.setdefault(item, []).append(law)
 
     def text(self, item):

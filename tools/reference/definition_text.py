@@ -29,10 +29,10 @@ def parameter_types(of):
     found = []
     for part in split_outside(of, "→")[:-1]:
         part = part.strip()
-        groups = re.findall(r"[({]([^(){}:]*):([^(){}]*(?:[({][^(){}]*[)}][^(){}]*)*)[)}]", part)
+        groups = re.findall(r"([({])([^(){}:]*):([^(){}]*(?:[({][^(){}]*[)}][^(){}]*)*)[)}]", part)
         if groups and part[0] in "({":
-            if part[0] == "(":
-                found += [of.strip() for names, of in groups for _ in names.split()]
+            found += [of.strip() for sign, names, of in groups if sign == "("
+                      for _ in names.split()]
         else:
             found.append(part)
     return found

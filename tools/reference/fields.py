@@ -7,7 +7,7 @@ from targets import Target, kit
 # Fields of values of the kit's own types, and what a name of a clause stands for before and after.
 KIT_FIELDS = set("""
     items entries keys value old new now post pre IsAlwaysCallable eq cmp symm trans congr refl hash
-    insert empty len output debug_output partial_cmp laws model
+    insert empty len output debug_output partial_cmp model
 """.split())
 
 
@@ -45,7 +45,7 @@ class Fields:
                 return found
         if name in KIT_FIELDS:
             return kit("a field or member of the kit's own types")
-        return self.resolver.by_name(name)
+        return self.by_name(name)
 
     def known_field(self, base, name):
         """The same, where what stands before the dot is known."""
@@ -65,6 +65,12 @@ class Fields:
             if name in self.resolver.names_inside(base.inner):
                 return self.resolver.type_target(base.inner, name)
         return self.resolver.types.field(base.of, base.context, base.is_rust, name)
+
+    def by_name(self, name):
+        """The target of a field of a record that is not known."""
+        key = getattr(self.context, "key", None)
+        crate = key[0] if key else self.context.file.crate
+        return self.resolver.by_name(name, crate, with_members=key is None)
 
     def trait_of(self, base, name):
         """The trait of this name, where it stands after a type to say which of its traits is meant."""

@@ -65,6 +65,10 @@ class Names:
         for name, places in self.resolver.members.items():
             found.setdefault(name, []).extend(
                 (f"{one.name}::{name}", one.href(name)) for one, _ in places)
+        for one in self.resolver.library.rust.values():
+            if one.kind == "struct" and (one.home or one in self.resolver.internal):
+                for name in self.resolver.struct_fields(one):
+                    found.setdefault(name, []).append((f"{one.name}.{name}", one.href(name)))
         return found
 
     def page(self):

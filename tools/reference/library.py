@@ -109,6 +109,20 @@ def groups_of(path="crates.txt"):
     return groups
 
 
+def below_each(path="crates.txt"):
+    """For each crate itself and every crate that it stands on."""
+    found = {}
+    for line in pathlib.Path(path).read_text().splitlines():
+        head, colon, uses = line.partition(":")
+        if colon and not line.startswith("#"):
+            found[head.split()[0]] = uses.split()
+
+    def all_below(crate):
+        return {crate}.union(*(all_below(one) for one in found.get(crate, [])))
+
+    return {crate: all_below(crate) for crate in found}
+
+
 class Library:
     """The libraries of the repository, with what each name of their code stands for."""
 
@@ -117,7 +131,7 @@ class Library:
                                 if pathlib.Path("crates", crate, "src/lib.rt").exists()])
                        for title, crates in groups_of()]
         self.crates = [crate for _, crates in self.groups for crate in crates]
-        self.files, self.rust = {}, {}
+        self.files, self.rust, self.below = {}, {}, below_each()
         for crate in self.crates:
             self.read(crate, (), pathlib.Path("crates", crate, "src/lib.rt"))
         for crate in self.crates:

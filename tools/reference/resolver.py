@@ -176,17 +176,22 @@ class Resolver:
         return Target("member", one.href(member.name), f"a member of {one.path()}",
                       of.group(1) if of else None, self.rust_context(one.file, one.item))
 
-    def by_name(self, word, only_members=False):
-        """The target of a field whose record is not known: the one of this name, or their list."""
-        members = self.members.get(word, [])
-        if len(members) == 1:
-            return self.member_target(*members[0])
-        records = [] if only_members else self.fields.get(word, [])
-        if len(records) == 1 and not members:
-            return self.field_target(records[0][0], word, records[0][1])
-        if members or records:
-            return Target("field", f"/all.html#field.{word}", "one of several fields of this name")
-        return None
+    def by_name(self, word, crate, with_members=False):
+        """The target of a field whose record is not known: the one of this name, or their list.
+
+        Only what the crate itself has, or those below it, can be meant.
+        """
+        below = self.library.below.get(crate, {crate})
+        found = [self.field_target(item, word, of) for item, of in self.fields.get(word, [])
+                 if item.file.parts[1] in below]
+        found += [self.struct_fields(one)[word] for one in self.library.rust.values()
+                  if one.kind == "struct" and one.crate in below and word in self.struct_fields(one)]
+        found += [self.member_target(one, member) for one, member in self.members.get(word, [])
+                  if with_members and one.crate in below and member.kind != "fn"]
+        if len(found) == 1:
+            return found[0]
+        many = Target("field", f"/all.html#field.{word}", "one of several fields of this name")
+        return many if found else None
 
     def bounds(self, heads, owner, file):
         """The traits that bound each type parameter, and `Self`."""

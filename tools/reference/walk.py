@@ -34,6 +34,11 @@ def items_of_target(target):
     return []
 
 
+def tip(part):
+    """What a part of a record says of itself, if it is a law."""
+    return ' title="a law: proved of each record that is made"' if "proved" in part else ""
+
+
 class Group:
     """A bracket that is open: its head, and the type of the record that is written in it."""
 
@@ -73,7 +78,7 @@ class Walk(Fields):
             if anchors and at in anchors:
                 anchor, part = anchors[at]
                 self.out.append(("</span>" if begun else "")
-                                + f'<span class="{part}" id="{html.escape(anchor)}">')
+                                + f'<span class="{part}" id="{html.escape(anchor)}"{tip(part)}>')
                 begun = True
             at = getattr(self, "on_" + kind)(tokens, at, text)
         return "".join(self.out[before:]) + ("</span>" if begun else "")
@@ -104,7 +109,7 @@ class Walk(Fields):
             self.out.append(span("k", text))
             return self.let(tokens, at + 1) if text == "let" else at + 1
         if self.is_field_name(tokens, at):
-            target = self.field_of_record(text) or self.resolver.by_name(text)
+            target = self.field_of_record(text) or self.by_name(text)
             if target is None and text in KIT_FIELDS:
                 target = kit("a field of the kit's own types")
         self.write(target, text)
