@@ -3,6 +3,7 @@ import html
 import re
 
 from targets import Target, kit
+from tokens import CLOSE, OPEN, closing
 
 # Fields of values of the kit's own types, and what a name of a clause stands for before and after.
 KIT_FIELDS = set("""
@@ -68,9 +69,24 @@ class Fields:
 
     def by_name(self, name):
         """The target of a field of a record that is not known."""
-        key = getattr(self.context, "key", None)
-        crate = key[0] if key else self.context.file.crate
-        return self.resolver.by_name(name, crate, with_members=key is None)
+        is_code = hasattr(self.context, "file")
+        return self.resolver.by_name(name, self.crate(), with_members=is_code)
+
+    def crate(self):
+        """The crate that the text is of."""
+        return self.context.file.crate if hasattr(self.context, "file") else self.context.key[0]
+
+    def fields_written(self, tokens, at):
+        """The fields of a record that is written out, if one record alone has all of these names."""
+        names, depth, fresh = set(), 0, True
+        for kind, text in tokens[at:closing(tokens, at)]:
+            if kind == "symbol":
+                depth += (text in OPEN) - (text in CLOSE)
+                fresh = depth == 1 and text in "{;"
+            elif kind == "word" and fresh:
+                names.add(text)
+                fresh = False
+        return self.resolver.record_with(names, self.crate()) if names else {}
 
     def trait_of(self, base, name):
         """The trait of this name, where it stands after a type to say which of its traits is meant."""
@@ -91,8 +107,7 @@ class Fields:
     def field_of_record(self, name):
         """The field of the record that is written out, where its type is known."""
         expected = self.groups[-1].record
-        if expected is None:
-            return None
-        found = self.resolver.types.field(*expected, name)
+        found = self.resolver.types.field(*expected, name) if expected is not None else None
+        found = found or self.groups[-1].fields.get(name)
         self.expected = (found.of, found.context, found.is_rust) if found is not None else None
         return found

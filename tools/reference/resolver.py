@@ -163,7 +163,8 @@ class Resolver:
             for member in found.item.members:
                 if member.name == word and member.kind in ("ghost", "type", "fn"):
                     return self.member_target(found, member)
-            above.append((found, re.findall(r"\b[A-Z]\w*", found.item.head.partition(":")[2])))
+            above.append((found, re.findall(r"(?:\b\w+::)*\b[A-Z]\w*",
+                                            found.item.head.partition(":")[2])))
         for one, names in above:
             target = self.member_of(one.file, names, word, depth + 1)
             if target is not None:
@@ -192,6 +193,17 @@ class Resolver:
             return found[0]
         many = Target("field", f"/all.html#field.{word}", "one of several fields of this name")
         return many if found else None
+
+    def record_with(self, names, crate):
+        """The fields of the one record or struct that has exactly fields of these names."""
+        below = self.library.below.get(crate, {crate})
+        found = [{name: self.field_target(item, name, of) for name, of, _ in item.fields}
+                 for item, _ in self.fields.get(min(names), [])
+                 if item.file.parts[1] in below and {name for name, *_ in item.fields} == names]
+        found += [self.struct_fields(one) for one in self.library.rust.values()
+                  if one.kind == "struct" and one.crate in below
+                  and self.struct_fields(one).keys() == names]
+        return found[0] if len(found) == 1 else {}
 
     def bounds(self, heads, owner, file):
         """The traits that bound each type parameter, and `Self`."""

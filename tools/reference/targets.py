@@ -167,10 +167,10 @@ def bounds_of(head):
     """The bounds of each type parameter of an item's head."""
     found, text = {}, masked(head)
     for part in re.findall(r"[<,]\s*(?:const )?(\w+)\s*:\s*([^,<>{]*(?:<[^<>]*>[^,<>{]*)*)", text):
-        names = re.findall(r"[A-Z]\w*", re.sub(r"<[^<>]*>", "", part[1]))
+        names = re.findall(r"(?:\w+::)*[A-Z]\w*", re.sub(r"<[^<>]*>", "", part[1]))
         found.setdefault(part[0], []).extend(names)
     for part in re.findall(r"(?m)^\s*(\w+): ([^,{]*),$", text):
-        found.setdefault(part[0], []).extend(re.findall(r"[A-Z]\w*", part[1]))
+        found.setdefault(part[0], []).extend(re.findall(r"(?:\w+::)*[A-Z]\w*", part[1]))
     return found
 
 

@@ -44,6 +44,7 @@ class Group:
 
     def __init__(self, symbol, record=None):
         self.symbol, self.record, self.head, self.first = symbol, record, None, True
+        self.fields = {}
 
 
 class Walk(Fields):
@@ -231,6 +232,8 @@ class Walk(Fields):
         expected = (base.of, base.context, base.is_rust) if base is not None else self.expected
         self.out.append(html.escape(text))
         self.groups.append(Group("record" if record else text, expected if record else None))
+        if record and base is None:
+            self.groups[-1].fields = self.fields_written(tokens, at)
         self.scopes.append({})
         return at + 1
 
