@@ -253,8 +253,8 @@ def check(folder):
     words = sum(page.known for page in pages.values())
     print(f"{len(pages):,} pages, {counts['items']:,} public items, {counts['functions']:,} functions "
           f"with {counts['clauses']:,} clauses of {words:,} words, {definitions:,} definitions and "
-          f"laws, {links:,} links, {size:,} bytes, at most {counts['clicks']} clicks from a contract to a "
-          f"definition below it; {len(wrong)} wrong")
+          f"laws, {links:,} links, {size:,} bytes, at most {counts['clicks']} clicks from a "
+          f"contract to a definition below it; {len(wrong)} wrong")
     return bool(wrong) or not pages
 
 

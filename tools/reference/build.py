@@ -96,7 +96,8 @@ class Build:
         public = [one for crate in self.library.crates for one in self.library.public_items(crate)]
         believed = self.belief.public
         laws = [one for one in self.resolver.specs.all() if self.resolver.kinds[one] == "law"]
-        return (f"{counted(len(public), 'public item')} in {counted(len(self.library.crates), 'crate')}. "
+        crates = counted(len(self.library.crates), "crate")
+        return (f"{counted(len(public), 'public item')} in {crates}. "
                 f"All public contracts together rest on {counted(len(believed), 'definition')} with "
                 f"{counted(lines_of(believed), 'line')}; {counted(len(laws), 'law')} are proved of "
                 "them.")

@@ -91,7 +91,8 @@ class Writer:
         for path, here in by_file(below).items():
             names = " ".join(f'<a href="{self.resolver.definition_href(one)}">'
                              f"{html.escape(one.name)}</a>&nbsp;{len(one.lines)}" for one in here)
-            rows.append(f"<li><b>{name_of(here[0])}</b> <small>{lines_of(here)}</small><br>{names}</li>")
+            rows.append(f"<li><b>{name_of(here[0])}</b> <small>{lines_of(here)}</small><br>"
+                        f"{names}</li>")
         return (f"<details class=\"believe\"><summary>To believe {word}, read {summary(below)}"
                 f"</summary><ul>{''.join(rows)}</ul></details>")
 

@@ -87,6 +87,8 @@ class DefinitionPages:
         if laws:
             parts.append(f"{counted(len(laws), 'law')}, of which the statement is shown; "
                          "laws are proved, so nobody has to believe them")
+        if any('class="part proved"' in self.written[one][2] for one in items):
+            parts.append("parts in green are laws that a record holds, proved where it is made")
         if folder == "proofs":
             parts.append("what definitions or contracts do not name is left out")
         return f'<p class="note">{"; ".join(parts)}.</p>'

@@ -7,6 +7,7 @@ from belief import counted, lines_of, name_of
 from definitions import module_of
 from markdown import Markdown
 from page import section
+from source import clause_name
 from targets import page_of_module
 from what_to_read import APART, HEADLINES
 
@@ -94,7 +95,8 @@ class Names:
         for name, places in sorted(self.fields().items(), key=lambda pair: pair[0].lower()):
             links = ", ".join(f'<a href="{html.escape(href)}">{html.escape(title)}</a>'
                               for title, href in places)
-            out.append(f'<li id="field.{html.escape(name)}"><code>{html.escape(name)}</code> {links}</li>')
+            shown = html.escape(name)
+            out.append(f'<li id="field.{shown}"><code>{shown}</code> {links}</li>')
         return "\n".join(out) + "</ul>"
 
 
@@ -126,7 +128,7 @@ class FrontPages:
                 for number, (word, clause, start, end) in enumerate(item.clauses()):
                     cites = set(re.findall(r"\w+", item.head[start:end]))
                     if bool(cites & own) == bool(own) and not (not own and cites & set(APART)):
-                        mark = f"{clause or word}" + ("" if clause or number == 0 else f"-{number}")
+                        mark = clause_name(number, word, clause)
                         anchor = href + ("." if "#" in href else "#") + mark
                         clauses.append(f'<a href="{anchor}"><code>{clause or word}</code></a>')
                 if clauses:

@@ -16,7 +16,8 @@ TEMPLATE = """<!doctype html>
 </head>
 <body>
 <header><nav class="crumbs" aria-label="Where this page is">{crumbs}</nav>
-<nav class="tools" aria-label="The site"><a href="/guarantees.html">Guarantees</a> <a href="/all.html">All names</a></nav></header>
+<nav class="tools" aria-label="The site"><a href="/guarantees.html">Guarantees</a>
+<a href="/all.html">All names</a></nav></header>
 <main>
 {body}
 </main>

@@ -3,7 +3,7 @@ import html
 import re
 
 from library import impl_parts
-from source import masked, matching
+from source import clause_name, masked, matching
 from targets import Target, local
 from tokens import RUST, tokens_of
 from walk import Walk, linked, span
@@ -177,7 +177,7 @@ class RustText:
         known, parts = self.generics(item), item.clauses()
         out = [self.rust(item.head[:parts[0][2]] if parts else item.head, known)]
         for number, (word, name, start, end) in enumerate(parts):
-            clause = f"{anchor}.{name or word}" + ("" if name or number == 0 else f"-{number}")
+            clause = f"{anchor}.{clause_name(number, word, name)}"
             brace = item.head.index("{", start)
             out.append(f'<span class="clause" id="{clause}">{span("k", word)}')
             out.append(" " + span("cn", name) if name else "")

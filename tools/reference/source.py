@@ -35,6 +35,11 @@ class Item:
         return parts
 
 
+def clause_name(number, word, name):
+    """The part of an anchor for a clause, by its place among the others, its word and its name."""
+    return (name or word) + ("" if name or number == 0 else f"-{number}")
+
+
 def masked(text):
     """The text with comments, strings and characters blanked out, so that brackets can be paired."""
     return HIDDEN.sub(lambda match: re.sub(r"[^\n]", " ", match.group()), text)
