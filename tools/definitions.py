@@ -8,6 +8,8 @@ import pathlib
 import re
 
 WORD = re.compile(r"(?<![\w'])[A-Za-z_][\w']*(?:-[\w']+)*")
+# A word that names an item, and no field of what stands before its dot.
+NAME = re.compile(r"(?<![\w'.])[A-Za-z_][\w']*(?:-[\w']+)*")
 USE = re.compile(r"(?:pub )?use Rattle\.(\w+)\.(specs|proofs)\.(\w+)\.\{([^}]*)\}")
 HEAD = re.compile(
     r"(?:pub |abbrev |unfoldable )*(record |data |module |mutual|ruleset )?([^\s:({]*)")
@@ -299,7 +301,7 @@ class Specs:
     def items_in(self, item, text):
         """The items that a text of an item names."""
         key = module_of(item.file)
-        found = [self.named(item, word) for word in set(WORD.findall(text))]
+        found = [self.named(item, word) for word in set(NAME.findall(text))]
         found += [self.find(*self.aliases[key][alias], name)
                   for alias, name in re.findall(r"\b(\w+)\.(\w+)", text)
                   if alias in self.aliases[key]]

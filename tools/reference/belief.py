@@ -1,6 +1,7 @@
 """What a reader must believe: the definitions below a contract, with their lines."""
 import functools
 
+from definition_text import DefinitionText
 from definitions import module_of
 from what_to_read import HEADLINES, READ, closure, followed
 
@@ -9,13 +10,25 @@ class Belief:
     """Finds the definitions below others, and counts their lines."""
 
     def __init__(self, resolver):
-        self.specs = resolver.specs
+        self.specs, self.resolver = resolver.specs, resolver
         self.specs.said = functools.cache(self.specs.said)
-        self.specs.items_in = functools.cache(self.specs.items_in)
+        self.named = self.specs.items_in
+        self.specs.items_in = functools.cache(self.items_in)
         crates = [crate for _, names in resolver.library.groups for crate in names]
         self.order = {crate: place for place, crate in enumerate(crates)}
         self.places = {item: place for place, item in enumerate(self.specs.all())}
         self.public = set()
+
+    def items_in(self, item, text):
+        """The items that a text of an item names, without those whose names are bound there."""
+        exact = self.exact_names(item)
+        return [one for one in self.named(item, text) if one in exact]
+
+    @functools.cache
+    def exact_names(self, item):
+        """The items that the code of an item names, read with its scopes."""
+        with self.resolver.unnoted():
+            return DefinitionText(self.resolver, item, []).names()
 
     def ordered(self, items):
         """The items by crate, file and place."""

@@ -73,7 +73,7 @@ class DefinitionText:
         self.resolver, self.item, self.unknown = resolver, item, unknown
         self.context = resolver.context_of(item)
         self.prose, self.code = parts_of(item)
-        self.tokens = tokens_of(self.code)
+        self.tokens, self.walks = tokens_of(self.code), []
 
     def walk(self):
         """A walk that knows what the modules around the item bind."""
@@ -81,7 +81,13 @@ class DefinitionText:
                     unknown=self.unknown)
         for name, of, _ in self.item.fields:
             walk.scopes[0][name] = self.resolver.field_target(self.item, name, of)
+        self.walks.append(walk)
         return walk
+
+    def names(self):
+        """The definitions that the code names. What is bound where it stands names none."""
+        self.html()
+        return {item for walk in self.walks for item in walk.items}
 
     def laws(self):
         """The fields of a record of values and laws that are laws."""

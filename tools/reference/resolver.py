@@ -1,4 +1,5 @@
 """Finds the target of each word, over the crates and over the definitions."""
+import contextlib
 import re
 
 from definitions import Specs, module_of
@@ -28,6 +29,7 @@ class Resolver:
         self.library, self.specs = Library(), Specs()
         self.types, self.contexts, self.structs = Types(self), {}, {}
         self.internal, self.linked, self.named_by, self.current = set(), set(), {}, None
+        self.is_noting = True
         self.kinds = {item: self.kind(item) for item in self.specs.all()}
         self.fields, self.members = {}, {}
         for item in self.specs.all():
@@ -44,10 +46,17 @@ class Resolver:
             return "law"
         return "codec" if self.specs.is_instance(item) else "definition"
 
+    @contextlib.contextmanager
+    def unnoted(self):
+        """Within it nothing is noted, since nothing is written."""
+        before, self.is_noting = self.is_noting, False
+        yield
+        self.is_noting = before
+
     def note(self, target):
         """Notes that what is written now names a definition."""
         item = target.inner
-        if hasattr(item, "signature"):
+        if self.is_noting and hasattr(item, "signature"):
             self.linked.add(item)
             if self.current is not None:
                 self.named_by.setdefault(item, {})[self.current] = True
