@@ -6,7 +6,8 @@ from library import RustItem, impl_parts
 from page import section
 from rust_text import RustText
 from source import parts_of_body
-from targets import Target, variants_of
+from targets import PART, Target, variants_of
+from tokens import tokens_of
 
 
 class ItemPages:
@@ -69,14 +70,23 @@ class ItemPages:
         head = one.item.head
         lines = [html.escape(part) for part in derives]
         if one.kind in ("struct", "enum") and one.item.body.strip():
-            inner = []
-            for _, part in parts_of_body(one.item.body):
-                part = re.sub(r"(?m)^\s*///.*\n", "", part)
-                inner.append("    " + text.rust(part, known) + ",")
+            inner = [self.part(one, text, known, part) for _, part in parts_of_body(one.item.body)]
             lines += [text.rust(head, known) + " {", *inner, "}"]
         else:
             lines.append(text.rust(head, known) + (" {}" if one.item.body else ";"))
+        self.writer.take(text)
         return "<pre><code>" + "\n".join(lines) + "</code></pre>"
+
+    def part(self, one, text, known, part):
+        """A field or a variant. A ghost field speaks of the others by their names."""
+        part = re.sub(r"(?m)^\s*///.*\n", "", part)
+        ghost = re.match(r"(?:pub )?ghost \w+: (?=\{)", part)
+        if not ghost:
+            return "    " + text.rust(part, known) + ","
+        walk = text.clause_walk(one.item)
+        walk.scopes[0].update(self.resolver.struct_fields(one))
+        written = walk.run(tokens_of(part[ghost.end():]))
+        return "    " + text.rust(ghost.group(), known) + written + ","
 
     def known(self, text, one):
         """The names that an item itself brings: its type parameters and its variants."""
@@ -88,15 +98,20 @@ class ItemPages:
         """The comments of fields or variants, with their anchors."""
         if one.kind not in ("struct", "enum"):
             return ""
-        rows = []
+        rows, hidden = [], []
         for docs, part in parts_of_body(one.item.body):
-            name = re.match(r"(?:pub(?:\([^)]*\))? )?(\w+)", part).group(1)
+            name = PART.match(part).group(1)
             text = self.writer.markdown(one.file).inline(" ".join(docs))
-            if one.kind == "struct" and not part.startswith("pub "):
-                text += " <small>Not public.</small>"
-            rows.append(f'<dt id="{name}"><code>{name}</code></dt><dd>{text or "&#8203;"}</dd>')
+            is_hidden = one.kind == "struct" and not part.startswith("pub ")
+            if is_hidden and not docs:
+                hidden.append(f'<code id="{name}">{name}</code>')
+            else:
+                text += " <small>Not public.</small>" if is_hidden else ""
+                rows.append(f'<dt id="{name}"><code>{name}</code></dt><dd>{text or "&#8203;"}</dd>')
         title = "Variants" if one.kind == "enum" else "Fields"
-        return section(title, f"<dl>{''.join(rows)}</dl>") if rows else ""
+        body = f"<dl>{''.join(rows)}</dl>" if rows else ""
+        body += f'<p class="below">Not public: {", ".join(hidden)}.</p>' if hidden else ""
+        return section(title, body) if body else ""
 
     def methods(self, one):
         """The public methods of a type, each with its contract."""
@@ -177,11 +192,18 @@ class ItemPages:
                 member.head, known) + ";" for member in one.item.members if member.name != "use"]
             code = text.rust(one.item.head, known) + " {\n    " + "\n    ".join(inner) + "\n}"
         else:
-            body = f" {{{one.item.body}}}" if one.item.body else ";"
-            code = text.rust(one.item.head + body, known)
+            inner = [f'    <span class="c">/// {html.escape(line)}</span>\n' * bool(line) + written
+                     for line, written in self.lines_of_parts(one, text, known)]
+            body = " {\n" + "\n".join(inner) + "\n}" if inner else ";"
+            code = text.rust(one.item.head, known) + body
         self.writer.take(text)
         return (f'<section class="item" id="{one.name}"><h3><code>{one.name}</code></h3>{anchors}'
                 f'<p class="where">{one.file.path}</p>{docs}<pre><code>{code}</code></pre></section>')
+
+    def lines_of_parts(self, one, text, known):
+        """The fields or variants of an item, each with its comment."""
+        return [(" ".join(docs), self.part(one, text, known, part))
+                for docs, part in parts_of_body(one.item.body)]
 
     def inside(self, one):
         """The names of the fields, variants or members of an item."""

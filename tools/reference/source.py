@@ -130,9 +130,11 @@ def parts_of_body(body):
         docs, _, at = docs_before(body, hidden, at)
         if at >= len(body):
             return parts
-        end, depth = at, 0
-        while end < len(body) and (hidden[end] != "," or depth):
-            depth += (hidden[end] in "([{<") - (hidden[end] in ")]}>")
+        end, depth, angles = at, 0, 0
+        while end < len(body) and (hidden[end] != "," or depth or angles):
+            depth += (hidden[end] in "([{") - (hidden[end] in ")]}")
+            if depth == 0:
+                angles += (hidden[end] == "<") - (hidden[end] == ">" and hidden[end - 1] != "-")
             end += 1
         parts.append((docs, body[at:end].strip()))
         at = end + 1

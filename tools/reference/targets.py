@@ -5,6 +5,8 @@ from definitions import split_outside
 from library import impl_parts
 from source import masked, parts_of_body
 
+# A field of a struct, or a variant of an enum.
+PART = re.compile(r"(?:pub(?:\([^)]*\))? )?(?:ghost )?(\w+):?\s*(.*)", re.S)
 HEAD = re.compile(r"[^\W\dλ][\w']*(?:-[\w']+)*")
 
 
@@ -44,7 +46,7 @@ def fields_of_struct(one, resolver):
     """The public fields of a Rust struct: for each name its target."""
     found = {}
     for _, text in parts_of_body(one.item.body):
-        match = re.match(r"(?:pub(?:\([^)]*\))? )?(\w+):\s*(.*)", text, re.S)
+        match = PART.match(text)
         if match:
             found[match.group(1)] = Target(
                 "field", one.href(match.group(1)), f"a field of {one.path()}", match.group(2),
