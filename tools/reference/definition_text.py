@@ -150,11 +150,12 @@ class DefinitionText:
         """The same inside of a constructor with its values."""
         words = [text for kind, text in tokens if kind == "word"]
         signs = [text for kind, text in tokens if kind == "symbol"]
+        parts = [text for kind, text in tokens if kind != "space"]
         held = re.match(r"\s*\(?\s*(?:Option|List)\s+(.*?)\)?\s*$", of, re.S)
-        if signs[:1] == ["∷"] or words[:1] == ["Some"]:
-            names = words[:1] if signs[:1] == ["∷"] else words[1:]
-            if held and names:
-                walk.bind(names[:1], held.group(1), context)
+        if "∷" in parts or words[:1] == ["Some"]:
+            name = parts[0] if parts[1] == "∷" else parts[1] if len(parts) == 2 else ""
+            if held and name in words:
+                walk.bind([name], held.group(1), context)
             return
         target = self.context.find(words[0]) if words else None
         item = getattr(target, "inner", None)

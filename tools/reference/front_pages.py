@@ -5,6 +5,7 @@ import re
 
 from belief import counted, lines_of, name_of
 from definitions import module_of
+from library import module_page
 from markdown import Markdown
 from page import section
 from source import clause_name
@@ -28,6 +29,9 @@ class Names:
     def __init__(self, resolver, writer, definitions):
         self.entries, self.resolver = [], resolver
         for crate in resolver.library.crates:
+            for module in resolver.library.public_modules(crate):
+                self.entries.append(("::".join([crate, *module]), module_page(crate, module),
+                                     "crate"))
             for one in resolver.library.public_items(crate):
                 self.entries.append((one.name, one.href(), f"{one.kind} of {crate}"))
                 self.add_inside(one, writer)
