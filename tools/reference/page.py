@@ -26,6 +26,9 @@ TEMPLATE = """<!doctype html>
 </html>
 """
 
+# The file that lists the pages of a site, below its folder.
+LIST = "pages.txt"
+
 
 class Page:
     """A page: its path, its title, the pages above it, and its body."""
@@ -47,6 +50,7 @@ class Site:
     def write(self, folder):
         """Writes all pages below a folder."""
         out = pathlib.Path(folder)
+        self.remove_old(out)
         for place, page in enumerate(self.pages):
             before = self.pages[place - 1] if place > 0 else None
             after = self.pages[place + 1] if place + 1 < len(self.pages) else None
@@ -55,6 +59,13 @@ class Site:
             path.write_text(relative(framed(page, before, after), page.path))
         style = pathlib.Path(__file__).parent / "style.css"
         shutil.copy(style, out / "style.css")
+        (out / LIST).write_text("".join(page.path.lstrip("/") + "\n" for page in self.pages))
+
+    def remove_old(self, out):
+        """Removes the pages that an earlier run wrote, and nothing else."""
+        before = (out / LIST).read_text().split() if (out / LIST).exists() else []
+        for path in before:
+            (out / path).unlink(missing_ok=True)
 
 
 def framed(page, before, after):
