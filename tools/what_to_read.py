@@ -80,6 +80,11 @@ def closure(specs, headline, places, types):
     # the fields that something reads, and the values of those that nothing has read yet
     read = {name for place in places
             for name in READ.findall(promised(pathlib.Path("crates", place).read_text()))}
+    return followed(specs, queue, read)
+
+
+def followed(specs, queue, read):
+    """The definitions that the items of the queue rest on, where these fields are read."""
     found, unread = {}, []
     while queue:
         item = queue.pop()
