@@ -1,0 +1,1 @@
+-- What is taken from streams that begin with lines of values.
