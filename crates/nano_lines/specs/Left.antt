@@ -39,6 +39,7 @@ module _ {R : Type 0} (remaining : R → Option (List ℕ)) where
   -- the next line ends at this place
   pub record IsWhole (lines : Lines R) (place : ℕ) : Type 0 where
     pub after : lines.buffer.offset ≤ place
+    pub within : place ≤ length lines.buffer.bytes.items
     pub one_line : HasNoFeed (unread_to lines.buffer place)
     pub ends : (unread lines.buffer
         ≡ unread_to lines.buffer place ++ line_feed ∷ drop (place + 1) lines.buffer.bytes.items)

@@ -71,8 +71,7 @@ module _ {R : Type 0} (remaining : R → Option (List ℕ)) (old new : Lines R) 
   -- bytes of a line that is too long may be let go of
   pub record Forgets : Type 0 where
     pub kept : KeepsAll
-    pub one_line : HasNoFeed (unread old.buffer) → HasNoFeed (unread new.buffer)
-    pub input : new.input ≡ old.input
+    pub one_line : HasNoFeed (unread new.buffer)
 
 -- all of a line is read, and it is not too long
 pub record IsWithin {R : Type 0} (old new : Lines R) (place : ℕ) : Type 0 where

@@ -1,7 +1,5 @@
 //! Values of any type, each a line of JSON in a stream.
 
-ghost use Rattle.std.specs.Prelude.{◌<◌, length};
-
 use crate::buffer::Buffer;
 use crate::error::Fault;
 use crate::line::{Line, read_line};
@@ -9,24 +7,21 @@ use nano_json::DeJson;
 use std::alloc::{AllocError, Global};
 use std::io::{ErrorKind, Read};
 
-/// How many bytes are read at a time, at most.
-const CHUNK: usize = 8192;
-
 /// Values read from a stream of lines, one after the other.
 #[derive(Drop)]
 pub struct Lines<R> {
     input: R,
     limit: usize,
-    chunk: Vec<u8>,
     buffer: Buffer,
     number: usize,
     long: bool,
-    ghost room: { 0 < length chunk.items },
 }
 
 impl<R: Read> Lines<R> {
     ghost use Rattle.std.specs.Prelude.{◌≡◌, ◌↔◌, ◌≤◌, ◌-◌, ◌⊎◌, true, false};
     ghost use Rattle.std.specs.Prelude.{IfOk, IfErr, IsTrue};
+    ghost use Rattle.nano_lines.specs.Buffers.{unread};
+    ghost use Rattle.nano_lines.specs.Lines.{HasNoFeed};
     ghost use Rattle.nano_lines.specs.Left.{IsAsNew, IsTooLong, IsWhole};
     ghost use Rattle.nano_lines.specs.Steps.{Finds, FindsNone, TakesLine, Reads, ReadFails};
     ghost use Rattle.nano_lines.specs.Steps.{Forgets, IsWithin, IsAtLast};
@@ -52,8 +47,7 @@ impl<R: Read> Lines<R> {
         Ok(Lines {
             input,
             limit,
-            chunk: vec![in alloc; 0; CHUNK]?,
-            buffer: Buffer::new(alloc),
+            buffer: Buffer::new(alloc)?,
             number: 0,
             long: false,
         })
@@ -84,9 +78,9 @@ impl<R: Read> Lines<R> {
     /// ```
     pub fn next<T: DeJson>(&mut self, alloc: Global) -> Result<Option<T>, Fault>
         ensures ok { IfOk result
-            (Answers R.remaining T.json.encoding.encodes T.means self.old self.new) }
+            (Answers R.remaining self.old self.new T.json.encoding.encodes T.means) }
         ensures err { IfErr result
-            (TakesFault R.remaining T.json.encoding.encodes self.old self.new) }
+            (TakesFault R.remaining self.old self.new T.json.encoding.encodes) }
     {
         'lines: for _ in 0..u64::MAX {
             let Some(end) = self.line_end()? else {
@@ -166,18 +160,19 @@ impl<R: Read> Lines<R> {
         requires { IsWhole R.remaining self.old end }
         ensures { TakesLine R.remaining self.old self.new end }
     {
-        self.buffer.take_to(end.saturating_add(1));
+        self.buffer.take_past(end);
         self.number = self.number.saturating_add(1);
         self.long = false;
     }
 
     /// Lets go of the bytes of a line that is too long, and remembers that it is.
     fn forget_long(&mut self)
+        requires { HasNoFeed (unread self.old.buffer) }
         ensures { Forgets R.remaining self.old self.new }
     {
         let end = self.buffer.bytes.len();
         if self.is_long(end) {
-            self.buffer.take_to(end);
+            self.buffer.take_past(end);
             self.long = true;
         }
     }
@@ -188,7 +183,7 @@ impl<R: Read> Lines<R> {
         ensures err { IfErr result (ReadFails R.remaining self.old self.new) }
     {
         self.buffer.forget();
-        match self.buffer.read(&mut self.input, &mut self.chunk) {
+        match self.buffer.read(&mut self.input) {
             Ok(count) => Ok(count),
             Err(error) => Err(Fault::Stream(error)),
         }
