@@ -8,7 +8,8 @@ use Rattle.nano_value.specs.Meaning.{Meaning}
 use Rattle.nano_grammar.specs.Codec.{IsEncoding, BeginsValue}
 use Rattle.nano_grammar.specs.Outcomes.{WholeDecodesTo}
 use Rattle.nano_grammar.specs.Tokens.{Begins}
-use Rattle.nano_json_tokens.specs.Cut.{Cut, is_space, nothing, MayBegin, json_grammar, AllSpace}
+use Rattle.nano_text.specs.Characters.{is_space}
+use Rattle.nano_json_tokens.specs.Cut.{Cut, nothing, MayBegin, json_grammar, AllSpace}
 use Rattle.nano_json_tokens.specs.Token.{Token, end}
 use Rattle.nano_json_tokens.proofs.Cuts.{cut_one_way}
 use Rattle.nano_lines.specs.Lines.{IsBlank, HoldsValue}

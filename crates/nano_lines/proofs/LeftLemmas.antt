@@ -27,10 +27,10 @@ consumed None left came coming h e = absurd (cc)
 consumed (Some xs) None came coming h e = absurd h
 consumed (Some xs) (Some ys) came coming h e = (ys, refl, sym (some_same xs coming e) ∙ h)
 
-kept : (known left : Option (List ℕ)) (coming : List ℕ) → Keeps known left → known ≡ Some coming → left ≡ Some coming
-kept None left coming h e = absurd (cc)
-kept (Some xs) None coming h e = absurd h
-kept (Some xs) (Some ys) coming h e = ap Some (h ∙ some_same xs coming e)
+unchanged : (known left : Option (List ℕ)) (coming : List ℕ) → Keeps known left → known ≡ Some coming → left ≡ Some coming
+unchanged None left coming h e = absurd (cc)
+unchanged (Some xs) None coming h e = absurd h
+unchanged (Some xs) (Some ys) coming h e = ap Some (h ∙ some_same xs coming e)
 
 at_end : (known : Option (List ℕ)) (coming : List ℕ) → IsAtEnd known → known ≡ Some coming → coming ≡ []
 at_end None coming h e = absurd (cc)
@@ -97,7 +97,7 @@ module _ {R : Type 0} (remaining : R → Option (List ℕ)) where
     lost = l.lost;
     coming = l.coming;
     are_lost = same_lost old new l.lost long limit l.are_lost;
-    known = kept (remaining old.input) (remaining new.input) l.coming h l.known;
+    known = unchanged (remaining old.input) (remaining new.input) l.coming h l.known;
     whole = l.whole ∙ ap (λ (x : List ℕ). l.lost ++ (x ++ l.coming)) (sym same);
   })
 
@@ -165,7 +165,7 @@ module _ {R : Type 0} (remaining : R → Option (List ℕ)) where
 
   pub finds-after : (a b c : Lines R) (found : Option ℕ) → KeepsAll remaining a b → Finds remaining b c found
       → Finds remaining a c found
-  finds-after a b c found h j = record { kept = takes-trans remaining a b c [] [] h j.kept; whole = j.whole; is = j.is }
+  finds-after a b c found h j = record { unchanged = takes-trans remaining a b c [] [] h j.unchanged; whole = j.whole; is = j.is }
 
   takes_long-after : (a b c : Lines R) (xs : List (List ℕ)) → KeepsAll remaining a b → TakesLongLine remaining b c → TakesLongLine remaining a c
   takes_long-after a b c xs h j = record {
@@ -187,7 +187,7 @@ module _ {R : Type 0} (remaining : R → Option (List ℕ)) where
   pub read_fails : (a b c : Lines R) (fault : Fault) → KeepsAll remaining a b → ReadFails remaining b c fault
       → FindsNone remaining a c fault
   read_fails a b c fault h j =
-      subst (FindsNone remaining a c) (sym j.is.1) (takes-trans remaining a b c [] [] h j.kept)
+      subst (FindsNone remaining a c) (sym j.is.1) (takes-trans remaining a b c [] [] h j.unchanged)
 
 -- ---- a line that is taken
 

@@ -29,8 +29,8 @@ module _ {R : Type 0} (remaining : R → Option (List ℕ)) where
   pub no_blanks : (a : Lines R) → TakesBlanks remaining a a
   no_blanks a = record { blanks = []; passed = tt; taken = keeps-same remaining a }
 
-  pub blanks-kept : (a b c : Lines R) → TakesBlanks remaining a b → KeepsAll remaining b c → TakesBlanks remaining a c
-  blanks-kept a b c h j = record {
+  pub blanks-unchanged : (a b c : Lines R) → TakesBlanks remaining a b → KeepsAll remaining b c → TakesBlanks remaining a c
+  blanks-unchanged a b c h j = record {
     blanks = h.blanks;
     passed = h.passed;
     taken = subst (TakesLines remaining a c) (append-nil h.blanks) (takes-trans remaining a b c h.blanks [] h.taken j);
@@ -72,7 +72,7 @@ module _ {R : Type 0} (remaining : R → Option (List ℕ)) where
       next = j.1.number ∙ ap saturating_next (sym j.0);
       limit = j.1.limit ∙ h.taken.limit;
     }
-    faults a b c (Stream error) h j = blanks-kept a b c h j
+    faults a b c (Stream error) h j = blanks-unchanged a b c h j
     faults a b c _ h j = absurd j
 
     pub of_stream : (a b : Lines R) (fault : Fault) → TakesBlanks remaining a b → IsOfStream fault
@@ -81,7 +81,7 @@ module _ {R : Type 0} (remaining : R → Option (List ℕ)) where
 
     pub takes_all : {T : Type 0} (means : T → Meaning) (a b c : Lines R) → TakesBlanks remaining a b → Finds remaining b c None
         → Answers remaining a c encodes means None
-    takes_all means a b c h j = (j.whole, record { blanks = blanks-kept a b c h j.kept; ended = j.is })
+    takes_all means a b c h j = (j.whole, record { blanks = blanks-unchanged a b c h j.unchanged; ended = j.is })
 
 -- ---- what a line is read as
 

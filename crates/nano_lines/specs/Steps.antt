@@ -46,7 +46,7 @@ module _ {R : Type 0} (remaining : R → Option (List ℕ)) (old new : Lines R) 
 
   -- no line was taken, and the next one ends there and is not too long; or nothing is left
   pub record Finds (found : Option ℕ) : Type 0 where
-    pub kept : KeepsAll
+    pub unchanged : KeepsAll
     pub whole : new.long ≡ false
     pub is : MatchOption found (IsEnded remaining new)
         (λ place. IsWhole remaining new place × (length (unread_to new.buffer place) ≤ new.limit))
@@ -59,18 +59,18 @@ module _ {R : Type 0} (remaining : R → Option (List ℕ)) (old new : Lines R) 
 
   -- so many bytes were read, none only at the end
   pub record Reads (count : ℕ) : Type 0 where
-    pub kept : KeepsAll
+    pub unchanged : KeepsAll
     pub nothing : count ≡ 0 → unread new.buffer ≡ unread old.buffer
     pub ended : count ≡ 0 → IsAtEnd (remaining new.input)
 
   -- a read or an allocation failed
   pub record ReadFails (fault : Fault) : Type 0 where
     pub is : IsOfStream fault
-    pub kept : KeepsAll
+    pub unchanged : KeepsAll
 
   -- bytes of a line that is too long may be let go of
   pub record Forgets : Type 0 where
-    pub kept : KeepsAll
+    pub unchanged : KeepsAll
     pub one_line : HasNoFeed (unread new.buffer)
 
 -- all of a line is read, and it is not too long

@@ -20,7 +20,7 @@ pub(crate) struct Buffer {
     pub ghost begun: { offset ≤ searched },
     pub ghost within: { searched ≤ length bytes.items },
     pub ghost unbroken: { (k : ℕ) → offset ≤ k → k < searched → slice_index bytes.items k ≢ 10 },
-    ghost room: { 0 < length chunk.items },
+    ghost capacity: { 0 < length chunk.items },
 }
 
 impl Buffer {

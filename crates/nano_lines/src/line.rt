@@ -1,7 +1,7 @@
 //! One line, read as a value.
 
 ghost use Rattle.std.specs.Prelude.{◌≡◌, ◌↔◌, true, IfOk, IfErr, IsTrue};
-ghost use Rattle.nano_json_tokens.specs.Cut.{is_space};
+ghost use Rattle.nano_text.specs.Characters.{is_space};
 ghost use Rattle.nano_lines.specs.Faults.{IsOfStream};
 ghost use Rattle.nano_lines.specs.Lines.{IsBlank};
 ghost use Rattle.nano_lines.specs.Reads.{IsRead, IsRejected};

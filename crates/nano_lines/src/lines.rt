@@ -69,11 +69,12 @@ impl<R: Read> Lines<R> {
     /// # Examples
     ///
     /// ```
-    /// let mut lines = Lines::with_limit(alloc, rt.stdin(), 1_000_000)?;
+    /// let mut lines = Lines::with_limit(alloc, rt.stdin(), LIMIT)?;
     /// // ..
-    ///     match lines.next::<Person>(alloc) {
-    ///         Ok(Some(person)) => writeln!(output, "{person:?}")?,
+    ///     match lines.next::<(String, u8)>(alloc) {
+    ///         Ok(Some(entry)) => put(alloc, &entry, &mut output)?,
     ///         Ok(None) => break,
+    ///         Err(Fault::Stream(error)) => return Err(error.into()),
     ///         Err(fault) => writeln!(output, "{fault}")?,
     /// ```
     pub fn next<T: DeJson>(&mut self, alloc: Global) -> Result<Option<T>, Fault>

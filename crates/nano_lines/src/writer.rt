@@ -24,7 +24,7 @@ use std::io::{self, ErrorKind, Write};
 /// # Examples
 ///
 /// ```
-/// put(alloc, &person, &mut output)?;
+/// Ok(Some(entry)) => put(alloc, &entry, &mut output)?,
 /// ```
 pub fn put<T: SerJson, W: Write>(alloc: Global, value: &T, output: &mut W) -> Result<(), Fault>
     ensures ok { OnOk result (AppendsLine (T.json.canonical.text 0 value.now)

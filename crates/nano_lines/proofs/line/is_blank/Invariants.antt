@@ -1,6 +1,6 @@
 -- the bytes so far are white space
 use Rattle.std.proofs.Common.{ℕ, ◌≡◌, ◌<◌, true, get_or}
-use Rattle.nano_json_tokens.specs.Cut.{is_space}
+use Rattle.nano_text.specs.Characters.{is_space}
 use Rattle.nano_lines.proofs.line.is_blank.Given as goal
 
 abbrev pub invariant-bytes : goal.invariant-bytes

@@ -14,7 +14,7 @@ invariant_of-self c =
       unbroken =
           found_before b.bytes.items c.deref.result.now c.deref.ensures.value b.offset b.searched b.begun b.within b.unbroken
           c.in-Some.distance first.0.before;
-      room = b.room;
+      capacity = b.capacity;
     }
 
 pub invariant_of-self-in-None : goal.invariant_of-self-in-None
@@ -26,7 +26,7 @@ invariant_of-self-in-None c =
       unbroken = λ k from below.
           none_found b.bytes.items c.deref.result.now c.deref.ensures.value b.offset b.searched b.begun b.within b.unbroken
           c.in-None.ensures k from (omega (arith, below, c.len-self.ensures));
-      room = b.room;
+      capacity = b.capacity;
     }
 
 pub returns-in-Some-clause-some : goal.returns-in-Some-clause-some

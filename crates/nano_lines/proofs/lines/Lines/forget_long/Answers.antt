@@ -13,7 +13,7 @@ returns-then-is_long g c =
     let whole : end ≡ length old.buffer.bytes.items = c.len-end.ensures ∙ old.buffer.bytes.ok.0 in
     let nothing = c.take_past.ensures ∙ drop_all _ old.buffer.bytes.items (omega (arith, whole)) in
     record {
-      kept =
+      unchanged =
           keeps_long g.R.Read.remaining old _ end whole (omega (arith, begun, within, whole)) c.requires
           (c.is_long.ensures.0 c.if-is_long.true) refl refl refl refl nothing;
       one_line = subst HasNoFeed (sym nothing) tt;

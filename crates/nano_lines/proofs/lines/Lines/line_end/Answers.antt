@@ -9,8 +9,8 @@ pub returns-in_err-pass_limit-clause-err : goal.returns-in_err-pass_limit-clause
 returns-in_err-pass_limit-clause-err g c =
     let known = g.R.Read.remaining in
     let searched = record c.reads.self { buffer = c.line_feed.new.self } in
-    let kept = keeps_searched known c.reads.self searched refl refl refl refl c.line_feed.ensures.bytes c.line_feed.ensures.offset in
-    let before = takes-trans known c.args.self.now c.reads.self searched [] [] c.reads.invariant kept in
+    let unchanged = keeps_searched known c.reads.self searched refl refl refl refl c.line_feed.ensures.bytes c.line_feed.ensures.offset in
+    let before = takes-trans known c.args.self.now c.reads.self searched [] [] c.reads.invariant unchanged in
     let p = err_from_is_err_and c.from_residual.result c.from_residual.ensures.1 in
     rw (p.1, p.2) (finds_none-after known c.args.self.now searched c.pass_limit.new.self _ before c.in_err-pass_limit.ensures.err)
 
@@ -18,9 +18,9 @@ pub returns-in_err-fill-clause-err : goal.returns-in_err-fill-clause-err
 returns-in_err-fill-clause-err g c =
     let known = g.R.Read.remaining in
     let searched = record c.reads.self { buffer = c.line_feed.new.self } in
-    let kept = keeps_searched known c.reads.self searched refl refl refl refl c.line_feed.ensures.bytes c.line_feed.ensures.offset in
-    let before = takes-trans known c.args.self.now c.reads.self searched [] [] c.reads.invariant kept in
-    let forgotten = takes-trans known c.args.self.now searched c.forget_long.new.self [] [] before c.forget_long.ensures.kept in
+    let unchanged = keeps_searched known c.reads.self searched refl refl refl refl c.line_feed.ensures.bytes c.line_feed.ensures.offset in
+    let before = takes-trans known c.args.self.now c.reads.self searched [] [] c.reads.invariant unchanged in
+    let forgotten = takes-trans known c.args.self.now searched c.forget_long.new.self [] [] before c.forget_long.ensures.unchanged in
     let p = err_from_is_err_and c.from_residual-in_err-fill.result c.from_residual-in_err-fill.ensures.1 in
     rw (p.1, p.2) (read_fails known c.args.self.now c.forget_long.new.self c.fill.new.self _ forgotten c.in_err-fill.ensures.err)
 
@@ -28,10 +28,10 @@ pub returns-then-branch-eq0-clause-ok : goal.returns-then-branch-eq0-clause-ok
 returns-then-branch-eq0-clause-ok g c =
     let known = g.R.Read.remaining in
     let searched = record c.reads.self { buffer = c.line_feed.new.self } in
-    let kept = keeps_searched known c.reads.self searched refl refl refl refl c.line_feed.ensures.bytes c.line_feed.ensures.offset in
-    let before = takes-trans known c.args.self.now c.reads.self searched [] [] c.reads.invariant kept in
-    let forgotten = takes-trans known c.args.self.now searched c.forget_long.new.self [] [] before c.forget_long.ensures.kept in
-    let read = takes-trans known c.args.self.now c.forget_long.new.self c.fill.new.self [] [] forgotten c.in_ok-fill.ensures.ok.kept in
+    let unchanged = keeps_searched known c.reads.self searched refl refl refl refl c.line_feed.ensures.bytes c.line_feed.ensures.offset in
+    let before = takes-trans known c.args.self.now c.reads.self searched [] [] c.reads.invariant unchanged in
+    let forgotten = takes-trans known c.args.self.now searched c.forget_long.new.self [] [] before c.forget_long.ensures.unchanged in
+    let read = takes-trans known c.args.self.now c.forget_long.new.self c.fill.new.self [] [] forgotten c.in_ok-fill.ensures.ok.unchanged in
     IfOk-weaker c.last_line.result _ _
     (λ found h. finds-after known c.args.self.now c.fill.new.self c.last_line.new.self found read h) c.last_line.ensures.ok
 
@@ -39,10 +39,10 @@ pub returns-then-branch-eq0-clause-err : goal.returns-then-branch-eq0-clause-err
 returns-then-branch-eq0-clause-err g c =
     let known = g.R.Read.remaining in
     let searched = record c.reads.self { buffer = c.line_feed.new.self } in
-    let kept = keeps_searched known c.reads.self searched refl refl refl refl c.line_feed.ensures.bytes c.line_feed.ensures.offset in
-    let before = takes-trans known c.args.self.now c.reads.self searched [] [] c.reads.invariant kept in
-    let forgotten = takes-trans known c.args.self.now searched c.forget_long.new.self [] [] before c.forget_long.ensures.kept in
-    let read = takes-trans known c.args.self.now c.forget_long.new.self c.fill.new.self [] [] forgotten c.in_ok-fill.ensures.ok.kept in
+    let unchanged = keeps_searched known c.reads.self searched refl refl refl refl c.line_feed.ensures.bytes c.line_feed.ensures.offset in
+    let before = takes-trans known c.args.self.now c.reads.self searched [] [] c.reads.invariant unchanged in
+    let forgotten = takes-trans known c.args.self.now searched c.forget_long.new.self [] [] before c.forget_long.ensures.unchanged in
+    let read = takes-trans known c.args.self.now c.forget_long.new.self c.fill.new.self [] [] forgotten c.in_ok-fill.ensures.ok.unchanged in
     IfErr-weaker c.last_line.result _ _
     (λ fault h. finds_none-after known c.args.self.now c.fill.new.self c.last_line.new.self fault read h) c.last_line.ensures.err
 
@@ -50,7 +50,7 @@ pub reads-preserved : goal.reads-preserved
 reads-preserved g c =
     let known = g.R.Read.remaining in
     let searched = record c.reads.self { buffer = c.line_feed.new.self } in
-    let kept = keeps_searched known c.reads.self searched refl refl refl refl c.line_feed.ensures.bytes c.line_feed.ensures.offset in
-    let before = takes-trans known _ c.reads.self searched [] [] c.reads.invariant kept in
-    let forgotten = takes-trans known _ searched c.forget_long.new.self [] [] before c.forget_long.ensures.kept in
-    takes-trans known _ c.forget_long.new.self c.fill.new.self [] [] forgotten c.in_ok-fill.ensures.ok.kept
+    let unchanged = keeps_searched known c.reads.self searched refl refl refl refl c.line_feed.ensures.bytes c.line_feed.ensures.offset in
+    let before = takes-trans known _ c.reads.self searched [] [] c.reads.invariant unchanged in
+    let forgotten = takes-trans known _ searched c.forget_long.new.self [] [] before c.forget_long.ensures.unchanged in
+    takes-trans known _ c.forget_long.new.self c.fill.new.self [] [] forgotten c.in_ok-fill.ensures.ok.unchanged

@@ -2,7 +2,7 @@ use Rattle.std.proofs.Common.{ap, ◌≡◌, List, ℕ, slice_range, refl}
 use Rattle.std.proofs.lemmas.Result.{err_from_is_err_and}
 use Rattle.nano_lines.specs.Lines.{HoldsValue}
 use Rattle.nano_lines.specs.Reads.{RejectsLine, IsNoText}
-use Rattle.nano_lines.proofs.NextLemmas.{blanks-kept, takes_next, takes_blank, takes_all, faults, of_stream}
+use Rattle.nano_lines.proofs.NextLemmas.{blanks-unchanged, takes_next, takes_blank, takes_all, faults, of_stream}
 use Rattle.nano_lines.proofs.NextLemmas.{read_blank, read_value, read_bad, read_no_text}
 use Rattle.nano_lines.proofs.lines.Lines.next.Goals as goal
 
@@ -20,7 +20,7 @@ returns-in_default-clause-ok g c =
 pub returns-in_err-line-clause-err : goal.returns-in_err-line-clause-err
 returns-in_err-line-clause-err g c =
     let p = err_from_is_err_and c.from_residual-in_err-line.result c.from_residual-in_err-line.ensures.1 in
-    let before = blanks-kept g.R.Read.remaining c.args.self.now c.lines.self c.line_end.new.self c.lines.invariant c.in_ok-end.ensures.ok.kept in
+    let before = blanks-unchanged g.R.Read.remaining c.args.self.now c.lines.self c.line_end.new.self c.lines.invariant c.in_ok-end.ensures.ok.unchanged in
     rw (p.1, p.2) (of_stream g.R.Read.remaining g.T.JsonCodec.json.encoding.encodes c.args.self.now c.line_end.new.self _ before
     c.in_err-line.ensures.err)
 
@@ -29,7 +29,7 @@ returns-in-Value-clause-ok g c =
     let encodes = g.T.JsonCodec.json.encoding.encodes in
     let at = c.line_end.new.self in
     let end = c.in-Some.end in
-    let before = blanks-kept g.R.Read.remaining c.args.self.now c.lines.self at c.lines.invariant c.in_ok-end.ensures.ok.kept in
+    let before = blanks-unchanged g.R.Read.remaining c.args.self.now c.lines.self at c.lines.invariant c.in_ok-end.ensures.ok.unchanged in
     let found = rw c.in-Some.is at c.in_ok-end.ensures.ok in
     let same = ap (λ (l : List ℕ). slice_range l at.buffer.offset end) c.deref.ensures.value in
     (
@@ -44,7 +44,7 @@ returns-in-Bad-clause-err g c =
     let encodes = g.T.JsonCodec.json.encoding.encodes in
     let at = c.line_end.new.self in
     let end = c.in-Some.end in
-    let before = blanks-kept g.R.Read.remaining c.args.self.now c.lines.self at c.lines.invariant c.in_ok-end.ensures.ok.kept in
+    let before = blanks-unchanged g.R.Read.remaining c.args.self.now c.lines.self at c.lines.invariant c.in_ok-end.ensures.ok.unchanged in
     let found = rw c.in-Some.is at c.in_ok-end.ensures.ok in
     let same = ap (λ (l : List ℕ). slice_range l at.buffer.offset end) c.deref.ensures.value in
     takes_next g.R.Read.remaining c.args.self.now at c.take_line.new.self end before found.whole found.is.1 c.take_line.ensures
@@ -56,7 +56,7 @@ returns-in-NotUtf8-clause-err g c =
     let encodes = g.T.JsonCodec.json.encoding.encodes in
     let at = c.line_end.new.self in
     let end = c.in-Some.end in
-    let before = blanks-kept g.R.Read.remaining c.args.self.now c.lines.self at c.lines.invariant c.in_ok-end.ensures.ok.kept in
+    let before = blanks-unchanged g.R.Read.remaining c.args.self.now c.lines.self at c.lines.invariant c.in_ok-end.ensures.ok.unchanged in
     let found = rw c.in-Some.is at c.in_ok-end.ensures.ok in
     let same = ap (λ (l : List ℕ). slice_range l at.buffer.offset end) c.deref.ensures.value in
     takes_next g.R.Read.remaining c.args.self.now at c.take_line.new.self end before found.whole found.is.1 c.take_line.ensures
@@ -68,7 +68,7 @@ lines-preserved g c =
     let encodes = g.T.JsonCodec.json.encoding.encodes in
     let at = c.line_end.new.self in
     let end = c.in-Some.end in
-    let before = blanks-kept g.R.Read.remaining c.args.self.now c.lines.self at c.lines.invariant c.in_ok-end.ensures.ok.kept in
+    let before = blanks-unchanged g.R.Read.remaining c.args.self.now c.lines.self at c.lines.invariant c.in_ok-end.ensures.ok.unchanged in
     let found = rw c.in-Some.is at c.in_ok-end.ensures.ok in
     let same = ap (λ (l : List ℕ). slice_range l at.buffer.offset end) c.deref.ensures.value in
     takes_blank g.R.Read.remaining c.args.self.now at c.take_line.new.self end before found.whole found.is.1 c.take_line.ensures
