@@ -151,14 +151,18 @@ module _ {R : Type 0} (remaining : R → Option (List ℕ)) where
       → new.input ≡ old.input → new.buffer.bytes ≡ old.buffer.bytes → new.buffer.offset ≡ old.buffer.offset
       → KeepsAll remaining old new
   keeps_searched old new number limit long input bytes offset = record {
-    left = λ s l. (s, refl, record {
-      lost = l.lost;
-      coming = l.coming;
-      are_lost = same_lost remaining old new l.lost long limit l.are_lost;
-      known = ap remaining input ∙ l.known;
-      whole = l.whole ∙ ap (λ (x : List ℕ). l.lost ++ (x ++ l.coming))
-          (ap (λ (n : ℕ). drop n old.buffer.bytes.items) (sym offset) ∙ ap (λ b. drop new.buffer.offset b.items) (sym bytes));
-    });
+    left = λ s l. (
+      s,
+      refl,
+      record {
+        lost = l.lost;
+        coming = l.coming;
+        are_lost = same_lost remaining old new l.lost long limit l.are_lost;
+        known = ap remaining input ∙ l.known;
+        whole = l.whole ∙ ap (λ (x : List ℕ). l.lost ++ (x ++ l.coming))
+            (ap (λ (n : ℕ). drop n old.buffer.bytes.items) (sym offset) ∙ ap (λ b. drop new.buffer.offset b.items) (sym bytes));
+      },
+    );
     number = number;
     limit = limit;
   }
@@ -171,9 +175,11 @@ module _ {R : Type 0} (remaining : R → Option (List ℕ)) where
   takes_long-after a b c xs h j = record {
     left = λ s l.
         let first = h.left s l in
-        let second = j.left first.0 first.2 in
-        (second.0, subst (λ (x : List ℕ). Follows remaining a c (second.0 ∷ []) x) (sym first.1) second.1,
-        subst (λ (n : ℕ). n < length second.0) h.limit second.2);
+        let second = j.left first.0 first.2 in (
+          second.0,
+          subst (λ (x : List ℕ). Follows remaining a c (second.0 ∷ []) x) (sym first.1) second.1,
+          subst (λ (n : ℕ). n < length second.0) h.limit second.2,
+        );
     number = j.number ∙ ap saturating_next h.number;
     limit = j.limit ∙ h.limit;
   }
@@ -220,23 +226,23 @@ module _ {R : Type 0} (remaining : R → Option (List ℕ)) (old new : Lines R) 
         one_line = no_feed-append lost line are.one_line is.one_line;
         ends = elim is.ends as (λ _. (lost ++ (unread old.buffer ++ coming) ≡ (lost ++ line) ++ line_feed ∷ (unread new.buffer ++ coming))
             ⊎ IsLastLine (lost ++ (unread old.buffer ++ coming)) (lost ++ line) (unread new.buffer ++ coming)) [
-          | inl feed ↦ inl (ap (λ (x : List ℕ). lost ++ (x ++ coming)) (feed ∙ ap (λ (x : List ℕ). line ++ line_feed ∷ x) (sym past))
-              ∙ (ap (λ (x : List ℕ). lost ++ x) (append_assoc line (line_feed ∷ unread new.buffer) coming)
-              ∙ sym (append_assoc lost line (line_feed ∷ (unread new.buffer ++ coming)))))
-          | inr last ↦
-              let nothing = at_end (remaining old.input) coming last.ended known in
-              let all : line ≡ unread old.buffer =
-              ap (λ (n : ℕ). slice_range old.buffer.bytes.items old.buffer.offset n) last.whole ∙ take_rest old.buffer.bytes.items old.buffer.offset in
-              inr (record {
-                whole =
-                    ap (λ (x : List ℕ). lost ++ (unread old.buffer ++ x)) nothing
-                    ∙ (ap (λ (x : List ℕ). lost ++ x) (append-nil (unread old.buffer) ∙ sym all));
-                some = some_last lost are last;
-                nothing =
-                    ap (λ (x : List ℕ). x ++ coming) (past ∙ drop_all (place + 1) old.buffer.bytes.items (let w = last.whole in omega (arith, w)))
-                    ∙ nothing;
-              })
-        ];
+              | inl feed ↦ inl (ap (λ (x : List ℕ). lost ++ (x ++ coming)) (feed ∙ ap (λ (x : List ℕ). line ++ line_feed ∷ x) (sym past))
+                  ∙ (ap (λ (x : List ℕ). lost ++ x) (append_assoc line (line_feed ∷ unread new.buffer) coming)
+                  ∙ sym (append_assoc lost line (line_feed ∷ (unread new.buffer ++ coming)))))
+              | inr last ↦
+                  let nothing = at_end (remaining old.input) coming last.ended known in
+                  let all : line ≡ unread old.buffer =
+                  ap (λ (n : ℕ). slice_range old.buffer.bytes.items old.buffer.offset n) last.whole ∙ take_rest old.buffer.bytes.items old.buffer.offset in
+                  inr (record {
+                    whole =
+                        ap (λ (x : List ℕ). lost ++ (unread old.buffer ++ x)) nothing
+                        ∙ (ap (λ (x : List ℕ). lost ++ x) (append-nil (unread old.buffer) ∙ sym all));
+                    some = some_last lost are last;
+                    nothing =
+                        ap (λ (x : List ℕ). x ++ coming) (past ∙ drop_all (place + 1) old.buffer.bytes.items (let w = last.whole in omega (arith, w)))
+                        ∙ nothing;
+                  })
+            ];
       }
 
   taken : (stream : List ℕ) (l : IsLeft remaining old stream)
@@ -244,8 +250,8 @@ module _ {R : Type 0} (remaining : R → Option (List ℕ)) (old new : Lines R) 
       × IsLeft remaining new (unread new.buffer ++ l.coming)
   taken stream l = (
     subst (λ (x : List ℕ). BeginsWithLine x (l.lost ++ unread_to old.buffer place) (unread new.buffer ++ l.coming)) (sym l.whole)
-    (line_begins l.lost l.coming l.are_lost l.known),
-    record { lost = []; coming = l.coming; are_lost = unlost; known = ap remaining input ∙ l.known; whole = refl }
+        (line_begins l.lost l.coming l.are_lost l.known),
+    record { lost = []; coming = l.coming; are_lost = unlost; known = ap remaining input ∙ l.known; whole = refl },
   )
 
   pub takes_line : TakesLine remaining old new place
@@ -261,10 +267,11 @@ module _ {R : Type 0} (remaining : R → Option (List ℕ)) (old new : Lines R) 
     };
     beyond = λ long. record {
       left = λ s l.
-          let t = taken s l in
-          (l.lost ++ unread_to old.buffer place,
-          (unread new.buffer ++ l.coming, (unread new.buffer ++ l.coming, t.0, refl), t.1),
-          too_long remaining old place l.lost l.are_lost is.after is.within long);
+          let t = taken s l in (
+            l.lost ++ unread_to old.buffer place,
+            (unread new.buffer ++ l.coming, (unread new.buffer ++ l.coming, t.0, refl), t.1),
+            too_long remaining old place l.lost l.are_lost is.after is.within long,
+          );
       number = number;
       limit = limit;
     };

@@ -65,9 +65,11 @@ module _ {R : Type 0} (remaining : R → Option (List ℕ)) where
       passed = h.passed;
       left = λ s l.
           let first = h.taken.left s l in
-          let second = j.1.left first.0 first.2 in
-          (second.0, (second.1.0, lines-append h.blanks (second.0 ∷ []) s first.0 second.1.0 first.1 second.1.1, second.1.2),
-          subst (λ (n : ℕ). n < length second.0) h.taken.limit second.2);
+          let second = j.1.left first.0 first.2 in (
+            second.0,
+            (second.1.0, lines-append h.blanks (second.0 ∷ []) s first.0 second.1.0 first.1 second.1.1, second.1.2),
+            subst (λ (n : ℕ). n < length second.0) h.taken.limit second.2,
+          );
       number_is = j.0 ∙ h.taken.number;
       next = j.1.number ∙ ap saturating_next (sym j.0);
       limit = j.1.limit ∙ h.taken.limit;

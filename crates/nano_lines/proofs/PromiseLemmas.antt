@@ -182,7 +182,7 @@ module _ {legal : Meaning → Type 0} {encodes : List Token → Meaning → Type
   over_empty limit = (
     record { blanks = []; passed = tt; whole = refl },
     λ f. none_reached f.reached.blanks f.line f.rest f.reached.begins,
-    λ m rest t. none_reached t.reached.blanks t.line rest t.reached.begins
+    λ m rest t. none_reached t.reached.blanks t.line rest t.reached.begins,
   ) where
     none_reached : (blanks : List (List ℕ)) (line rest : List ℕ) → BeginsWithLines (blanks ++ line ∷ []) [] rest → ⊥
     none_reached [] line rest h = no_line line h.0 h.1
@@ -196,9 +196,11 @@ module _ {legal : Meaning → Type 0} {encodes : List Token → Meaning → Type
         → GivesValues encodes limit stream (map means xs)
     lines_give [] stream all fit are = subst (λ (l : List ℕ). GivesValues encodes limit l []) (sym are) (over_empty limit)
     lines_give (x ∷ xs) stream all fit are =
-        let begins = subst (λ (l : List ℕ). BeginsWithLine l (encode_utf8_all (text x)) are.0) (sym are.2) (line_begins (text x) are.0 are.1) in
-        (are.0, begins_with_value limit stream (encode_utf8_all (text x)) are.0 (means x) begins fit.0 (holds x all.0),
-        lines_give xs are.0 all.1 fit.1 are.3)
+        let begins = subst (λ (l : List ℕ). BeginsWithLine l (encode_utf8_all (text x)) are.0) (sym are.2) (line_begins (text x) are.0 are.1) in (
+          are.0,
+          begins_with_value limit stream (encode_utf8_all (text x)) are.0 (means x) begins fit.0 (holds x all.0),
+          lines_give xs are.0 all.1 fit.1 are.3,
+        )
 
 -- ---- values of a type
 

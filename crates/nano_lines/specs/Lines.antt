@@ -6,7 +6,6 @@ use Rattle.nano_text.specs.Characters.{line_feed}
 use Rattle.nano_value.specs.Meaning.{Meaning}
 use Rattle.nano_grammar.specs.Outcomes.{WholeDecodesTo}
 use Rattle.nano_json_tokens.specs.Cut.{Cut, AllSpace}
-
 use Rattle.nano_json_tokens.specs.Token.{Token, end}
 
 -- no line feed stands in the bytes

@@ -97,13 +97,38 @@ const ROWS: &[Row] = &[
     (b"7\n8\n", 9, &[7, 8], ""),
     (b"7\n8", 9, &[7, 8], ""),
     (b"\n \t\r\n7\r\n\n  8  \n \r\n\t", 9, &[7, 8], ""),
-    (b"\x00\n7\n", 9, &[7], "Json Deserialize error: Unexpected token Eof expected u32 , line:1 col:2;"),
-    (b"7 8\n9\n", 9, &[9], "Json Deserialize error: Cannot parse end , line:1 col:4;"),
+    (
+        b"\x00\n7\n",
+        9,
+        &[7],
+        "Json Deserialize error: Unexpected token Eof expected unsigned integer , line:1 col:2;",
+    ),
+    (
+        b"7 8\n9\n",
+        9,
+        &[9],
+        "Json Deserialize error: Cannot parse end , line:1 col:4;",
+    ),
     (b"7\n\xff\n9", 9, &[7, 9], "line 2 is not UTF-8;"),
-    (b"123456789\n1234567890\n3\n", 9, &[123456789, 3], "line 2 is longer than the limit;"),
-    (b"1\n22\n", 0, &[], "line 1 is longer than the limit;line 2 is longer than the limit;"),
+    (
+        b"123456789\n1234567890\n3\n",
+        9,
+        &[123456789, 3],
+        "line 2 is longer than the limit;",
+    ),
+    (
+        b"1\n22\n",
+        0,
+        &[],
+        "line 1 is longer than the limit;line 2 is longer than the limit;",
+    ),
     (b"\n1234567890", 9, &[], "line 2 is longer than the limit;"),
-    (b"          \n7\n", 9, &[7], "line 1 is longer than the limit;"),
+    (
+        b"          \n7\n",
+        9,
+        &[7],
+        "line 1 is longer than the limit;",
+    ),
     (b"123456789\r\n", 9, &[], "line 1 is longer than the limit;"),
 ];
 

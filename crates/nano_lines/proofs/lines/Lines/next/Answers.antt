@@ -31,12 +31,11 @@ returns-in-Value-clause-ok g c =
     let end = c.in-Some.end in
     let before = blanks-unchanged g.R.Read.remaining c.args.self.now c.lines.self at c.lines.invariant c.in_ok-end.ensures.ok.unchanged in
     let found = rw c.in-Some.is at c.in_ok-end.ensures.ok in
-    let same = ap (λ (l : List ℕ). slice_range l at.buffer.offset end) c.deref.ensures.value in
-    (
+    let same = ap (λ (l : List ℕ). slice_range l at.buffer.offset end) c.deref.ensures.value in (
       c.take_line.ensures.whole,
       takes_next g.R.Read.remaining c.args.self.now at c.take_line.new.self end before found.whole found.is.1 c.take_line.ensures
-      (λ _ line. HoldsValue encodes line (g.T.Value.means c.in-Value.value))
-      (read_value encodes g.T.Value.means _ _ same at.number c.in_ok-line.line c.in-Value.value c.in_ok-line.ensures.ok c.in-Value.is),
+          (λ _ line. HoldsValue encodes line (g.T.Value.means c.in-Value.value))
+          (read_value encodes g.T.Value.means _ _ same at.number c.in_ok-line.line c.in-Value.value c.in_ok-line.ensures.ok c.in-Value.is),
     )
 
 pub returns-in-Bad-clause-err : goal.returns-in-Bad-clause-err
