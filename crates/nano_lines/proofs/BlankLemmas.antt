@@ -1,12 +1,11 @@
 -- A blank line holds no value.
 use Rattle.std.proofs.Common.{◌≡◌, ◌<◌, ◌==◌, ◌||◌, ℕ, zero, suc, List, [], ◌∷◌, ◌++◌, Bool, true, false, cond, ◌⊎◌, inl, inr}
-use Rattle.std.proofs.Common.{get_or, length, chars, refl, sym, ap, subst, ◌∙◌, arith, eqb-true, append-nil}
+use Rattle.std.proofs.Common.{get_or, length, refl, sym, ap, subst, ◌∙◌, arith, eqb-true, append-nil}
 use Rattle.std.proofs.lemmas.Bool.{or_cases, false≢true}
 use Rattle.std.proofs.lemmas.Str.{chars-IsAscii}
 use Rattle.nano_text.specs.Place.{before_nul, remaining_text}
 use Rattle.nano_value.specs.Meaning.{Meaning}
 use Rattle.nano_grammar.specs.Codec.{IsEncoding, BeginsValue}
-use Rattle.nano_grammar.specs.Outcomes.{WholeDecodesTo}
 use Rattle.nano_grammar.specs.Tokens.{Begins}
 use Rattle.nano_text.specs.Characters.{is_space}
 use Rattle.nano_json_tokens.specs.Cut.{Cut, nothing, MayBegin, json_grammar, AllSpace}

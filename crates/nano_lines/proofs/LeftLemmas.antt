@@ -1,13 +1,12 @@
 -- What is left of a stream after each step.
-use Rattle.std.proofs.Common.{◌≡◌, ◌≢◌, ℕ, suc, ◌+◌, ◌-◌, ◌<◌, ◌≤◌, List, [], ◌∷◌, ◌++◌, Bool, true, false, Option, None, Some}
-use Rattle.std.proofs.Common.{length, take, drop, slice_range, refl, sym, ap, subst, ◌∙◌, arith, ◌⊎◌, inl, inr}
+use Rattle.std.proofs.Common.{◌≡◌, ◌≢◌, ℕ, ◌+◌, ◌-◌, ◌<◌, ◌≤◌, List, [], ◌∷◌, ◌++◌, Bool, true, false, Option, None, Some}
+use Rattle.std.proofs.Common.{length, drop, slice_range, refl, sym, ap, subst, ◌∙◌, arith, ◌⊎◌, inl, inr}
 use Rattle.std.proofs.Common.{append_assoc, append-nil, length-append}
 use Rattle.std.proofs.lemmas.Bool.{false≢true}
-use Rattle.std.proofs.lemmas.List.{length-drop, length-take, drop_all, take_rest}
+use Rattle.std.proofs.lemmas.List.{drop_all, take_rest}
 use Rattle.std.specs.Io.KnownBytes.{Consumes, Keeps, IsAtEnd}
 use Rattle.nano_text.specs.Characters.{line_feed}
 use Rattle.nano_text.specs.Place.{saturating_next}
-use Rattle.nano_lines.specs.declared.buffer.Buffer.{Buffer}
 use Rattle.nano_lines.specs.declared.lines.Lines.{Lines}
 use Rattle.nano_lines.specs.Buffers.{unread, unread_to}
 use Rattle.nano_lines.specs.Left.{AreLost, IsLeft, IsLastAt, IsWhole, IsEnded, IsTooLong}

@@ -1,24 +1,22 @@
 -- What a call for the next value comes to, by its steps.
-use Rattle.std.proofs.Common.{◌≡◌, ◌≤◌, ◌<◌, ℕ, List, [], ◌∷◌, ◌++◌, false, length, refl, sym, ap, subst, ◌∙◌, append-nil, append_assoc, Option, None, Some}
-use Rattle.std.proofs.Common.{Result, Ok, Err, IfOk, IfErr}
+use Rattle.std.proofs.Common.{◌≡◌, ◌≤◌, ◌<◌, ℕ, List, [], ◌∷◌, ◌++◌, false, length, sym, ap, subst, ◌∙◌, append-nil, Option, None}
 use Rattle.std.specs.List.{AllByRecursion}
 use Rattle.nano_text.specs.Place.{saturating_next}
 use Rattle.nano_value.specs.Meaning.{Meaning}
 use Rattle.nano_json_tokens.specs.Token.{Token}
 use Rattle.nano_json_tokens.specs.declared.error.DeJsonErr.{DeJsonErr}
 use Rattle.nano_lines.specs.declared.error.Fault.{Fault}
-use Rattle.nano_lines.specs.declared.error.Fault.TheVariants.{Bad, Long, NotUtf8, Stream}
+use Rattle.nano_lines.specs.declared.error.Fault.TheVariants.{Long, Stream}
 use Rattle.nano_lines.specs.declared.lines.Lines.{Lines}
 use Rattle.nano_lines.specs.declared.line.Line.{Line}
 use Rattle.nano_lines.specs.declared.line.Line.TheVariants.{Blank, Value, Bad as BadLine, NotUtf8 as NoText}
 use Rattle.nano_lines.specs.Buffers.{unread_to}
 use Rattle.nano_lines.specs.Faults.{IsOfStream}
-use Rattle.nano_lines.specs.Left.{IsLeft}
 use Rattle.nano_lines.specs.Lines.{IsBlank, HoldsValue}
-use Rattle.nano_lines.specs.Outcomes.{IsPassed, TakesBlanks, TakesNext, TakesLong, TakesAll, TakesFault, Answers}
+use Rattle.nano_lines.specs.Outcomes.{IsPassed, TakesBlanks, TakesNext, TakesFault, Answers}
 use Rattle.nano_lines.specs.Reads.{IsRead, RejectsLine, IsNoText}
-use Rattle.nano_lines.specs.Steps.{number_after, Follows, TakesLines, TakesLine, KeepsAll, Finds, FindsNone}
-use Rattle.nano_lines.proofs.LeftLemmas.{keeps-same, takes-trans, lines-append, number-append}
+use Rattle.nano_lines.specs.Steps.{TakesLines, TakesLine, KeepsAll, Finds, FindsNone}
+use Rattle.nano_lines.proofs.LeftLemmas.{keeps-same, takes-trans, lines-append}
 
 passed-append : (limit : ℕ) (xs ys : List (List ℕ)) → AllByRecursion (IsPassed limit) xs → AllByRecursion (IsPassed limit) ys
     → AllByRecursion (IsPassed limit) (xs ++ ys)

@@ -1,8 +1,7 @@
 -- Lines that begin a stream, and the values that are taken from it.
-use Rattle.std.proofs.Common.{◌≡◌, ◌≢◌, ◌<◌, ◌≤◌, ◌+◌, ℕ, List, [], ◌∷◌, ◌++◌, length, map, refl, sym, ap, subst, ◌∙◌, append_assoc, append-nil, arith, ◌⊎◌, inl, inr}
+use Rattle.std.proofs.Common.{◌≡◌, ◌≤◌, ◌+◌, ℕ, List, [], ◌∷◌, ◌++◌, length, map, refl, sym, ap, subst, ◌∙◌, append_assoc, append-nil, arith, inl, inr}
 use Rattle.std.proofs.Common.{length-append, Option, Some, None, encode_utf8_all}
 use Rattle.std.proofs.lemmas.List.{append_cancel_left}
-use Rattle.std.specs.Io.KnownBytes.{Keeps}
 use Rattle.std.specs.List.{AllByRecursion}
 use Rattle.nano_text.specs.Characters.{line_feed}
 use Rattle.nano_value.specs.Meaning.{Meaning}
@@ -15,10 +14,10 @@ use Rattle.nano_json_tokens.specs.Cut.{json_grammar}
 use Rattle.nano_json_tokens.specs.Token.{Token, end}
 use Rattle.nano_json.proofs.Json.{json_laws, legal_there}
 use Rattle.nano_json.specs.Codec.{Codec}
-use Rattle.nano_lines.specs.Lines.{HasNoFeed, IsBlank, IsLastLine, BeginsWithLine, BeginsWithLines, HoldsValue}
+use Rattle.nano_lines.specs.Lines.{HasNoFeed, IsBlank, BeginsWithLine, BeginsWithLines, HoldsValue}
 use Rattle.nano_lines.specs.Outcomes.{IsPassed}
 use Rattle.nano_lines.specs.Writes.{AppendsLine, line_of}
-use Rattle.nano_lines.specs.Promises.{AreLines, AppendsLines, AddsLines, HoldValues, StreamHolds, ReachesLine, TakesValue, HasFault, IsOver, BeginsWithValue, GivesValues}
+use Rattle.nano_lines.specs.Promises.{AreLines, AppendsLines, AddsLines, HoldValues, StreamHolds, BeginsWithValue, GivesValues}
 use Rattle.nano_lines.proofs.BlankLemmas.{blank_holds_none}
 
 -- ---- lines

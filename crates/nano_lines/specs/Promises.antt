@@ -1,9 +1,8 @@
 -- What is taken from streams that begin with lines of values.
-use Rattle.std.specs.Prelude.{◌≡◌, ◌<◌, ◌≤◌, ◌⊎◌, ◌↔◌, ℕ, List, [], ◌∷◌, ◌++◌, Option, Some, length}
+use Rattle.std.specs.Prelude.{◌≡◌, ◌<◌, ◌≤◌, ◌⊎◌, ℕ, List, [], ◌∷◌, ◌++◌, Option, length}
 use Rattle.std.specs.Prelude.{encode_utf8_all}
 use Rattle.std.specs.Io.KnownBytes.{Keeps}
 use Rattle.std.specs.List.{AllByRecursion}
-use Rattle.nano_text.specs.Characters.{line_feed}
 use Rattle.nano_value.specs.Meaning.{Meaning}
 use Rattle.nano_json_tokens.specs.Token.{Token}
 use Rattle.nano_lines.specs.Lines.{HasNoFeed, IsBlank, BeginsWithLines, HoldsValue}

@@ -1,5 +1,5 @@
 -- What the steps of a call for the next value do.
-use Rattle.std.specs.Prelude.{◌≡◌, ◌<◌, ◌≤◌, ◌-◌, false, ℕ, List, [], ◌∷◌, ◌++◌, Option, length, MatchOption}
+use Rattle.std.specs.Prelude.{◌≡◌, ◌<◌, ◌≤◌, ◌-◌, false, ℕ, List, [], ◌∷◌, Option, length, MatchOption}
 use Rattle.std.specs.Io.KnownBytes.{IsAtEnd}
 use Rattle.nano_text.specs.Place.{saturating_next}
 use Rattle.nano_lines.specs.declared.error.Fault.{Fault}
@@ -8,7 +8,7 @@ use Rattle.nano_lines.specs.declared.lines.Lines.{Lines}
 use Rattle.nano_lines.specs.Buffers.{unread, unread_to}
 use Rattle.nano_lines.specs.Faults.{IsOfStream}
 use Rattle.nano_lines.specs.Left.{IsLeft, IsWhole, IsEnded, IsTooLong}
-use Rattle.nano_lines.specs.Lines.{HasNoFeed, BeginsWithLine, BeginsWithLines}
+use Rattle.nano_lines.specs.Lines.{HasNoFeed, BeginsWithLines}
 
 -- the number of the line after these
 abbrev pub number_after : ℕ → List (List ℕ) → ℕ

@@ -1,7 +1,5 @@
-use Rattle.std.proofs.Common.{refl, ◌≡◌, List, []}
+use Rattle.std.proofs.Common.{refl, []}
 use Rattle.std.proofs.lemmas.Result.{err_from_is_err_and, IfOk-weaker, IfErr-weaker}
-use Rattle.nano_lines.specs.declared.lines.Lines.{Lines}
-use Rattle.nano_lines.specs.Steps.{KeepsAll, Finds, FindsNone}
 use Rattle.nano_lines.proofs.LeftLemmas.{keeps_searched, takes-trans, finds-after, finds_none-after, read_fails}
 use Rattle.nano_lines.proofs.lines.Lines.line_end.Goals as goal
 
