@@ -4,7 +4,6 @@ use Rattle.std.specs.Prelude.{◌≡◌, ℕ, true, List, Option, ℤ, String, s
 use Rattle.std.specs.Global.{Global}
 use Rattle.std.specs.Int.{w8, w16, w32, w64}
 use Rattle.nano_value.specs.Meaning.{Meaning}
-use Rattle.nano_grammar.specs.Codec.{Codec}
 use Rattle.nano_grammar.proofs.BothFieldsLaws.{also_fields}
 use Rattle.nano_grammar.proofs.DefaultsLaws.{default_field}
 use Rattle.nano_grammar.specs.FieldCodec.{AreNames, FieldsCodec}
@@ -21,7 +20,7 @@ use Rattle.nano_json_tokens.specs.Names.{IsPlainName, are_ascii_names, quoted_na
 use Rattle.nano_json_tokens.proofs.NamesLaws.{name_is_written, each_ascii}
 pub use Rattle.nano_grammar.proofs.StructCodecLaws.{fields_codec}
 use Rattle.nano_grammar.proofs.TuplesLaws.{last_codec, tuple_codec}
-use Rattle.nano_json.specs.Codec.{codec_as}
+use Rattle.nano_json.specs.Codec.{Codec, codec_as}
 use Rattle.nano_json.specs.ScalarCodecs.{unsigned_codec, signed_codec, below_8, below_16, below_32}
 use Rattle.nano_json.specs.ScalarCodecs.{below_64, within_8, within_16, within_32, within_64}
 use Rattle.nano_json.specs.ScalarCodecs.{text_codec}
@@ -46,16 +45,16 @@ json_fields = record {
 -- ---- the schema of a user-defined struct
 
 -- a field that must be there
-abbrev pub required_field : {A : Type 0} → List ℕ → Codec json json_grammar A → FieldsCodec json_fields A
+abbrev pub required_field : {A : Type 0} → List ℕ → Codec A → FieldsCodec json_fields A
 required_field = must_field json_fields
 
 -- a field that is always written, and has a default where it is missing
-abbrev pub defaulted_field : {A : Type 0} → List ℕ → Codec json json_grammar A → Meaning
+abbrev pub defaulted_field : {A : Type 0} → List ℕ → Codec A → Meaning
     → FieldsCodec json_fields A
 defaulted_field = default_field json_fields
 
 -- a field that may be missing, and is not written where it is none
-abbrev pub optional_field : {A : Type 0} → List ℕ → Codec json json_grammar A
+abbrev pub optional_field : {A : Type 0} → List ℕ → Codec A
     → FieldsCodec json_fields (Option A)
 optional_field = may_field json_fields
 

@@ -2,7 +2,7 @@
 use Rattle.std.specs.Prelude.{◌≡◌, ℕ, true, List, [], ◌∷◌, ◌++◌, refl, ◌&&◌}
 use Rattle.std.proofs.lemmas.Bool.{and_parts}
 use Rattle.nano_grammar.specs.Tokens.{IsValueText}
-use Rattle.nano_grammar.specs.Codec.{Codec}
+use Rattle.nano_json.specs.Codec.{Codec}
 use Rattle.nano_grammar.proofs.LayoutsLaws.{pair_written, last_part_written, tuple_written}
 use Rattle.nano_grammar.specs.Variants.{VariantStyle, Variants}
 use Rattle.nano_grammar.specs.VariantCodec.{Body}
@@ -71,7 +71,7 @@ json_variants = record {
 }
 
 -- the content of a variant
-abbrev pub body : {A : Type 0} → Codec json json_grammar A → Body json_variants
+abbrev pub body : {A : Type 0} → Codec A → Body json_variants
 body {A} codec = record { Fields = A; codec = codec; fits = λ _ _. tt }
 
 -- the variants of an enum in their order, each by its name, and by the format of its content if it

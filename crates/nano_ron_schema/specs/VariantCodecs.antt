@@ -4,7 +4,7 @@ use Rattle.std.proofs.Common.{sym, subst, append_assoc, append-nil, eqb-true}
 use Rattle.std.proofs.lemmas.Bool.{and_parts}
 use Rattle.nano_text.specs.Characters.{first_is}
 use Rattle.nano_grammar.specs.Tokens.{IsValueText}
-use Rattle.nano_grammar.specs.Codec.{Codec}
+use Rattle.nano_ron.specs.Codec.{Codec}
 use Rattle.nano_grammar.proofs.TokensLaws.{textual_append}
 use Rattle.nano_grammar.proofs.TuplesLaws.{last_codec, tuple_codec}
 use Rattle.nano_grammar.specs.Variants.{VariantStyle}
@@ -76,12 +76,12 @@ ron_variants = record {
 
 -- the content of a variant, which is written between parentheses, as `λ x d. refl` proves of a
 -- tuple and of named fields
-abbrev pub body : {A : Type 0} → (codec : Codec ron ron_grammar A)
+abbrev pub body : {A : Type 0} → (codec : Codec A)
     → ((x : A) (d : ℕ) → InParentheses (codec.canonical.text d x)) → Body ron_variants
 body {A} codec fits = record { Fields = A; codec = codec; fits = fits }
 
 -- a tuple of one part
-abbrev pub single_codec : {A : Type 0} → Codec ron ron_grammar A → Codec ron ron_grammar A
+abbrev pub single_codec : {A : Type 0} → Codec A → Codec A
 single_codec f =
     tuple_codec tuple_style paren_brackets (last_codec tuple_style paren_brackets f)
 
