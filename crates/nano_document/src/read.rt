@@ -83,9 +83,9 @@ fn read_items(
     state.block_open(alloc, input)?;
     'items: while !state.is_block_close() {
         let item = read_json(alloc, levels, state, input)?;
-        if items.push(item).is_err() {
+        let Ok(()) = items.push(item) else {
             return Err(state.err_memory(alloc));
-        }
+        };
         state.eat_comma_block(alloc, input)?;
     }
     state.block_close(alloc, input)?;
@@ -111,9 +111,9 @@ fn read_entries(
     state.curly_open(alloc, input)?;
     'entries: while !state.is_curly_close() {
         let entry = read_entry(alloc, levels, state, input)?;
-        if entries.push(entry).is_err() {
+        let Ok(()) = entries.push(entry) else {
             return Err(state.err_memory(alloc));
-        }
+        };
         state.eat_comma_curly(alloc, input)?;
     }
     state.curly_close(alloc, input)?;

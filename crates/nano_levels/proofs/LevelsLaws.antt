@@ -111,13 +111,11 @@ module _ {T : Type 0} {c : Cutting T} {g : Grammar T} {A : Type 0} (l : Nested c
       let is = l.depth_is x in
       omega (arith, most, is)
 
-  -- a level holds the values that the one below it is around
-  pub level_encodes : (n : ℕ) (x : A) (ts : List T)
-      → (l.layer.codec (level n)).encoding.encodes ts (l.layer.means l.means (l.view x))
-      → (level (suc n)).encoding.encodes ts (l.means x)
+  -- a level encodes what one around the level below it does
+  pub level_holds : (n : ℕ) (m : Meaning) (ts : List T)
+      → (l.layer.codec (level n)).encoding.encodes ts m → (level (suc n)).encoding.encodes ts m
   unfolding level
-  level_encodes n x ts h =
-      subst ((l.layer.codec (level n)).encoding.encodes ts) (sym (l.means_is x)) h
+  level_holds n m ts h = h
 
   pub level_content : (n : ℕ) (m : Meaning) (ts : List T)
       → (level (suc n)).encoding.encodes ts m → (l.layer.codec (level n)).encoding.encodes ts m
