@@ -1,16 +1,18 @@
 -- Frames: each is the code of a list of bytes, and these are the code of a message.
-use Rattle.std.specs.Prelude.{◌≡◌, ◌≢◌, ℕ, List, [], ◌++◌, length, map, Option}
-use Rattle.std.specs.Io.KnownBytes.{Appends, Consumes, Keeps, IsAtEnd}
+use Rattle.std.specs.Prelude.{◌≡◌, ◌≢◌, ℕ, List, [], ◌++◌, length, map, Option, drop}
+use Rattle.std.specs.Io.KnownBytes.{Appends, Consumes, Keeps, IsAtEnd, prepend_known}
 use Rattle.std.specs.IoError.{error_kind}
 use Rattle.std.specs.declared.io.Error.{Error}
 use Rattle.std.specs.declared.io.ErrorKind.TheVariants.{Interrupted}
 use Rattle.nano_value.specs.Meaning.{Meaning, whole, listed}
 use Rattle.nano_bin_bytes.specs.declared.error.DeBinErr.{DeBinErr}
 use Rattle.nano_bin_bytes.specs.declared.error.DeBinKind.TheVariants.{Memory}
-use Rattle.nano_bin_bytes.specs.Whole.{RejectsWhole, IsOfTrailing, NamesTrailing}
-use Rattle.nano_bin_bytes.specs.LittleEndian.{little_endian}
-use Rattle.nano_bin_bytes.specs.Numbers.{EncodesUnsigned}
-use Rattle.nano_bin_bytes.specs.Lists.{EncodesAll, written_list}
+use Rattle.nano_bin_bytes.specs.Reading.{RejectsWhole, IsOfTrailing, NamesTrailing}
+use Rattle.nano_bin_bytes.specs.Scalars.{little_endian, EncodesUnsigned}
+use Rattle.nano_bin_bytes.specs.Containers.{EncodesAll, written_list}
+use Rattle.nano_bin_frames.specs.declared.frames.Messages.{Messages}
+use Rattle.nano_bin_frames.specs.declared.error.Fault.{Fault}
+use Rattle.nano_bin_frames.specs.declared.error.Fault.TheVariants.{Cut, Bad, Stream}
 
 -- the bytes are the code of a list of bytes
 abbrev pub IsFrame : List ℕ → List ℕ → Type 0
@@ -96,3 +98,30 @@ pub record RejectsFrame (encodes : List ℕ → Meaning → Type 0) (error : DeB
   pub code : List ℕ
   pub begins : BeginsWithFrame bytes code
   pub rejects : RejectsCode encodes code error
+
+-- ==== what is left of a stream of messages
+
+-- the bytes that were read and not taken, and then those of the reader, where these are known
+abbrev pub left : {R : Type 0} → (R → Option (List ℕ)) → Messages R → Option (List ℕ)
+left remaining messages = prepend_known (drop messages.offset messages.bytes.items)
+    (remaining messages.input)
+
+-- how many bytes are read at a time, at most
+abbrev pub chunk_size : {R : Type 0} → Messages R → ℕ
+chunk_size messages = length messages.chunk.items
+
+-- ==== faults of the reader and of memory, and what a rejected code carries
+
+-- a read failed, or allocation failed
+abbrev pub IsOfStream : Fault → Type 0
+IsOfStream fault = (error : Error) × (fault ≡ Stream error)
+
+-- the error, with the size of this code
+abbrev pub of_code : List ℕ → DeBinErr → DeBinErr
+of_code code error = record error { s = length code }
+
+-- why a code is no message: a fault that carries an error carries that of reading the code
+pub record IsFaultOf (encodes : List ℕ → Meaning → Type 0) (code : List ℕ) (fault : Fault)
+    : Type 0 where
+  pub bad : (error : DeBinErr) → fault ≡ Bad error → RejectsCode encodes code error
+  pub not_cut : fault ≢ Cut

@@ -7,12 +7,10 @@ use Rattle.std.proofs.Math.Utf8.{scalar, scalars}
 use Rattle.std.proofs.lemmas.Bool.Decides.{nat_tests}
 use Rattle.std.proofs.lemmas.Str.{encode_ascii, encodes-chars, scalars-chars, chars_from_encodes}
 use Rattle.std.proofs.lemmas.Bool.{and_parts, and_from}
-use Rattle.nano_value.specs.Legal.{IsText}
-use Rattle.nano_value.specs.Meaning.{usize_bound}
+use Rattle.nano_value.specs.Meaning.{IsText, usize_bound}
 use Rattle.nano_text.specs.String.{plain, IsPiece, IsString, piece_text, piece_char}
-use Rattle.nano_grammar.specs.Cutting.{IsValueText}
-use Rattle.nano_grammar.specs.Textual.{is_textual, AllTextual}
-use Rattle.nano_grammar.proofs.TextualLaws.{textual_append}
+use Rattle.nano_grammar.specs.Tokens.{IsValueText, is_textual, AllTextual}
+use Rattle.nano_grammar.proofs.TokensLaws.{textual_append}
 use Rattle.nano_json_tokens.specs.Cut.{quoted}
 use Rattle.nano_json_tokens.proofs.JsonLaws.{json}
 use Rattle.nano_json_tokens.specs.Token.{str}

@@ -3,7 +3,7 @@ use Rattle.std.specs.Prelude.{◌≡◌, ◌&&◌, true}
 use Rattle.std.proofs.Common.{sym}
 use Rattle.std.proofs.lemmas.Bool.{and_parts}
 use Rattle.nano_grammar.specs.FieldCodec.{FieldsCodec}
-use Rattle.nano_grammar.specs.Names.{are_distinct}
+use Rattle.nano_grammar.specs.Fields.{are_distinct}
 use Rattle.nano_json.specs.Codec.{Codec}
 -- what a struct without names needs, passed on
 pub use Rattle.nano_json.specs.Codec.{codec_as}

@@ -9,9 +9,8 @@ use Rattle.std.proofs.lemmas.Slice.Eq.{bytes_eq-Decides}
 use Rattle.std.proofs.lemmas.Str.{chars-IsAscii}
 use Rattle.std.proofs.lemmas.Str.Ascii.{IsAscii-cons, IsAscii-nil}
 use Rattle.std.specs.Str.{IsAscii}
-use Rattle.nano_text.specs.Prefix.{first_is}
-use Rattle.nano_grammar.specs.Cutting.{IsValueText}
-use Rattle.nano_grammar.specs.Textual.{is_textual, AllTextual}
+use Rattle.nano_text.specs.Characters.{first_is}
+use Rattle.nano_grammar.specs.Tokens.{IsValueText, is_textual, AllTextual}
 use Rattle.nano_ron_tokens.specs.Cut.{starts_word, is_word, IsName, word}
 use Rattle.nano_ron_tokens.proofs.RonLaws.{ron, cut_at_once}
 use Rattle.nano_ron_tokens.specs.Token.{ident}

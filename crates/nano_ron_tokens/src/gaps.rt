@@ -1,9 +1,9 @@
 //! How a reader's state passes over what stands between tokens: white space and comments.
 
 ghost use Rattle.std.specs.Prelude.{◌≡◌, ◌≢◌, length};
-ghost use Rattle.nano_text.specs.Prefix.{prefix, following};
+ghost use Rattle.nano_text.specs.Characters.{prefix, following};
 ghost use Rattle.nano_text.specs.Place.{held, remaining, before_nul};
-ghost use Rattle.nano_ron_tokens.specs.Gaps.{is_space};
+ghost use Rattle.nano_ron_tokens.specs.Cut.{is_space};
 ghost use Rattle.nano_ron_tokens.specs.Scan.{is_blank, AfterLine, AfterBlock, Passed, SkipsComment};
 ghost use Rattle.nano_ron_tokens.specs.Scan.{SkipsGaps};
 

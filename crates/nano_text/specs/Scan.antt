@@ -3,7 +3,7 @@ use Rattle.std.specs.Prelude.{ℕ, ◌+◌, ◌==◌, ◌||◌, ◌&&◌, nat_lt
 use Rattle.std.specs.Prelude.{Some, None, if◌then◌else◌}
 use Rattle.std.specs.Char.{is_ascii_digit}
 use Rattle.nano_text.specs.declared.run.ExponentLen.{ExponentLen}
-use Rattle.nano_text.specs.Prefix.{first_is, prefix, following}
+use Rattle.nano_text.specs.Characters.{first_is, prefix, following}
 use Rattle.nano_text.specs.Number.{Exponent, is_sign, is_point, is_letter_e}
 
 abbrev pub is_minus_char : ℕ → Bool

@@ -1,4 +1,3 @@
-pub mod Results
 pub mod ByRank
 mod NumberRanks
 pub mod TextRanks

@@ -1,6 +1,6 @@
 use Rattle.std.proofs.Common.{◌≡◌, length}
 use Rattle.nano_text.specs.Place.{remaining}
-use Rattle.nano_text.specs.Prefix.{following}
+use Rattle.nano_text.specs.Characters.{following}
 use Rattle.nano_json_tokens.specs.Cut.{is_space}
 use Rattle.nano_json_tokens.specs.Outcomes.{Moved}
 use Rattle.nano_json_tokens.proofs.state.DeJsonState.skip_spaces.Given as goal

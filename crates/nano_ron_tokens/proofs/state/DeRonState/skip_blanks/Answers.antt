@@ -1,11 +1,11 @@
 use Rattle.std.proofs.Common.{ℕ, List, ◌∙◌, ap, refl, length, arith}
-use Rattle.nano_text.specs.Prefix.{prefix}
+use Rattle.nano_text.specs.Characters.{prefix}
 use Rattle.nano_text.specs.Place.{held}
-use Rattle.nano_text.proofs.TakenPrefix.{prefix_boundary, advances_over}
+use Rattle.nano_text.proofs.Prefixes.{prefix_boundary, advances_over}
 use Rattle.nano_ron_tokens.specs.Scan.{is_blank}
 use Rattle.nano_ron_tokens.specs.State.{place_of}
-use Rattle.nano_ron_tokens.proofs.Blanks.{blank_cut, remaining_blanks, passes_blanks}
-use Rattle.nano_ron_tokens.proofs.Passing.{passed_next}
+use Rattle.nano_ron_tokens.proofs.Comments.{blank_cut, remaining_blanks, passes_blanks}
+use Rattle.nano_ron_tokens.proofs.Scanning.{passed_next}
 use Rattle.nano_ron_tokens.proofs.state.DeRonState.skip_blanks.Goals as goal
 
 pub split_at-requires : goal.split_at-requires

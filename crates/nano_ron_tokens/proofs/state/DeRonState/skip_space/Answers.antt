@@ -2,9 +2,9 @@ use Rattle.std.proofs.Common.{sym, ◌∙◌, refl}
 use Rattle.nano_text.proofs.RemainingText.{first_is-remaining, not_nul}
 use Rattle.nano_text.proofs.Prefixes.{after_stop}
 use Rattle.nano_text.specs.Place.{remaining}
-use Rattle.nano_ron_tokens.specs.Gaps.{is_space}
-use Rattle.nano_ron_tokens.proofs.Blanks.{space_over, space_fewer}
-use Rattle.nano_ron_tokens.proofs.Passing.{passed_none, passed_append}
+use Rattle.nano_ron_tokens.specs.Cut.{is_space}
+use Rattle.nano_ron_tokens.proofs.Comments.{space_over, space_fewer}
+use Rattle.nano_ron_tokens.proofs.Scanning.{passed_none, passed_append}
 use Rattle.nano_ron_tokens.proofs.state.DeRonState.skip_space.Goals as goal
 
 pub returns-clause-remaining : goal.returns-clause-remaining

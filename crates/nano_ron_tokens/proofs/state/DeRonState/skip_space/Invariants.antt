@@ -1,7 +1,7 @@
 use Rattle.std.proofs.Common.{◌≡◌, length}
 use Rattle.nano_text.specs.Place.{remaining}
-use Rattle.nano_text.specs.Prefix.{following}
-use Rattle.nano_ron_tokens.specs.Gaps.{is_space}
+use Rattle.nano_text.specs.Characters.{following}
+use Rattle.nano_ron_tokens.specs.Cut.{is_space}
 use Rattle.nano_ron_tokens.specs.Scan.{Passed}
 use Rattle.nano_ron_tokens.proofs.state.DeRonState.skip_space.Given as goal
 
