@@ -35,7 +35,7 @@ pub record IsTextOf (count : ℕ) (bytes utf8 : List ℕ) : Type 0 where
   pub count_is : length utf8 ≡ count
   pub is_utf8 : IsUtf8 utf8
 
--- ==== lists: the count, and the items. Arrays and slices: the items, and no count
+-- ==== lists and arrays
 
 -- the count of the items as a `usize`, and the items
 pub record EncodesList {A : Type 0} (S : List ℕ → A → Type 0) (bytes : List ℕ)

@@ -20,7 +20,7 @@ pub record EncodesNumber (k : ℕ) (bytes : List ℕ) (n : ℕ) : Type 0 where
   pub fits : n < 256 ^ k
   pub whole : bytes ≡ little_endian k n
 
--- ==== integers: fixed widths, the lowest byte first; signed ones in two's complement
+-- ==== integers of a width
 
 -- an unsigned number of k bytes
 abbrev pub EncodesUnsigned : ℕ → List ℕ → Meaning → Type 0

@@ -43,7 +43,7 @@ module _ {T : Type 0} {c : Cutting T} {g : Grammar T} (s : FieldStyle c g) where
     pub same_texts : (x y : A) → means x ≡ means y → (d : ℕ)
         → map (field_text d) (fields x) ≡ map (field_text d) (fields y)
 
--- ==== field codec
+-- ==== fields that are written and read back
 
 -- a written field as it stands in a text
 abbrev pub named : {T : Type 0} → WrittenField T → Field T

@@ -1,4 +1,5 @@
--- Items between brackets, with one comma between two and optionally one after the last: what\n-- encodes them, and how they are laid out.
+-- Items between brackets, with one comma between two and optionally one after the last: what
+-- encodes them, and how they are laid out.
 use Rattle.std.specs.Prelude.{◌≡◌, ◌≢◌, ◌⊎◌, List, [], ◌∷◌, ◌++◌, ℕ, Bool, false, cond}
 use Rattle.nano_grammar.specs.Tokens.{Cutting, IsPunctuator, Follows, IsWrittenGap}
 

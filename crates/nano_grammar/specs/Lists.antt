@@ -1,5 +1,4 @@
--- Lists of any count, and arrays of one count: items between brackets, with one comma between
--- two and optionally one after the last.
+-- Lists of any count, arrays of one count, and sets, of which each item counts once.
 use Rattle.std.specs.Prelude.{◌≡◌, ◌<◌, ℕ, List, length}
 use Rattle.std.specs.List.{AllByRecursion}
 use Rattle.nano_value.specs.Meaning.{IsImage, Meaning, usize_bound}

@@ -78,9 +78,7 @@ pub record Cut (text : List ℕ) (token : Token) (rest : List ℕ) : Type 0 wher
   pub skipped : AllByRecursion (λ c. is_space c ≡ true) space
   pub lexeme : IsLexeme token body rest
 
--- ==== what may begin a value
-
--- ---- how a text is cut
+-- ==== how a text is cut
 
 abbrev pub AllSpace : List ℕ → Type 0
 AllSpace = AllByRecursion (λ c. is_space c ≡ true)

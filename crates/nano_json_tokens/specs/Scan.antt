@@ -123,7 +123,7 @@ pub record GoesOn (s : DeJsonState) (input : List ℕ) (e : DeJsonErr) : Type 0 
 abbrev pub IsValueError : DeJsonErr → DeJsonErr → Type 0
 IsValueError error result = IsValueErrorOf (report error) (report result)
 
--- ==== names
+-- ==== a name that stands ahead of a reader
 
 module _ (old : DeJsonState) (before : Chars) (new : DeJsonState) (after : Chars) where
   -- the pending token and the name after it were taken, and a colon is pending

@@ -23,7 +23,7 @@ use Rattle.nano_ron_schema.specs.NamesLaws.{name_is_written, good_names}
 abbrev pub NothingSkipped : List Token → Type 0
 NothingSkipped us = ⊥
 
--- ==== field codecs
+-- ==== codecs of structs
 
 -- each field on a line of its own, with a comma after it
 abbrev pub field_lines : ListStyle ron

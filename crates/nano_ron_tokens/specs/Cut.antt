@@ -55,7 +55,7 @@ IsUnended text = (text ≡ [])
     ⊎ (((cs : List ℕ) × (text ≡ codes "//" ++ cs) × IsOneLine cs)
     ⊎ ((cs : List ℕ) × (text ≡ codes "/*" ++ cs) × HoldsNoEnd cs))
 
--- ==== which token is cut from a text, and what is left: a gap, one lexeme, the rest
+-- ==== which token is cut, and what is left
 
 -- a word starts at a letter or `_`
 abbrev pub starts_word : ℕ → Bool
@@ -141,8 +141,6 @@ pub record Cut (text : List ℕ) (token : Token) (rest : List ℕ) : Type 0 wher
   pub lexeme : IsLexeme token body rest
 
 -- ==== what may begin a value
-
--- ---- what may begin a value
 
 -- no comma, colon, closing bracket, `Bof` or end
 abbrev pub MayBegin : Token → Type 0

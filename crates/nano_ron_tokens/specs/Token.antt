@@ -62,7 +62,7 @@ IsLiteral (ident name) = Unit {0}
 IsLiteral (bool b) = Unit {0}
 IsLiteral _ = ⊥
 
--- ==== brackets
+-- ==== the brackets and the comma of lists, as tokens and as characters
 
 -- square brackets
 abbrev pub blocks : ListPunctuation Token

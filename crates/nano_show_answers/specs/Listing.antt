@@ -29,7 +29,7 @@ hex_pairs bytes = join_with_byte 32 (map hex_pair bytes)
 abbrev pub line : List ℕ → List ℕ
 line text = text ++ 10 ∷ []
 
--- ==== the listing of a table: its keys in ascending order, each with its value
+-- ==== the listing of a table
 
 -- a text as a JSON string
 abbrev pub quoted : List ℕ → List ℕ

@@ -41,7 +41,7 @@ last_comment_text (Some body) = 35 ∷ body
 abbrev pub IsLastComment : Option (List ℕ) → Type 0
 IsLastComment last = IfSome last (λ body. NoneOf is_line_feed body)
 
--- ==== cut
+-- ==== how a text is cut
 
 -- the tokens of one character
 abbrev pub punctuator_token : ℕ → Option Token

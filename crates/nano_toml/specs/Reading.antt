@@ -1,4 +1,4 @@
--- What the reader of statements gives.
+-- What the tokenizer and the reader of statements give.
 use Rattle.std.specs.Prelude.{◌≡◌, ℕ, List, [], string_bytes, ◌∷◌, Option, Some, None, Vec}
 use Rattle.std.specs.declared.alloc.Global.{Global}
 use Rattle.nano_toml.specs.Token.{Token, ident, string, unsigned, signed, decimal, boolean, nan}
@@ -45,7 +45,7 @@ Took text (a_token token) rest = Cut text token rest
 Took text the_end rest = CutEnd text × (rest ≡ [])
 Took text nothing_yet rest = ⊥
 
--- ==== what is known while a value is read
+-- ==== what the reader of statements gives
 
 -- the characters of a name
 abbrev pub name_view : Name → List ℕ
