@@ -1,3 +1,2 @@
 pub mod ByRank
-mod NumberRanks
 pub mod TextRanks
