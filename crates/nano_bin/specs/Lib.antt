@@ -9,4 +9,3 @@ pub use Rattle.nano_bin_bytes.specs.Variants
 -- the codecs of the types
 pub mod ScalarCodecs
 pub mod ContainerCodecs
--- texts, many at a time

@@ -14,7 +14,7 @@ use Rattle.nano_grammar.specs.Tokens.{Cutting, IsValueText}
 use Rattle.nano_grammar.specs.Codec.{Codec, Grammar, IsEncoding, Encoding, AreBrackets, Canonical}
 use Rattle.nano_grammar.specs.Codec.{ListStyle, PairStyle}
 use Rattle.nano_grammar.proofs.ItemLaws.{each_is_encoded}
-use Rattle.nano_grammar.specs.Items.{ListPunctuation}
+use Rattle.nano_grammar.specs.Items.{ListPunctuation, EncodedPair}
 use Rattle.nano_grammar.proofs.LayoutsLaws.{laid_out_written, laid_out_same, laid_out_encoded}
 use Rattle.nano_grammar.proofs.ListsLaws.{list_encoding}
 use Rattle.nano_grammar.proofs.PairsLaws.{pair_encoding, both_same, both_are_written}

@@ -1,6 +1,6 @@
 -- What other codecs are made from: a type seen as another, values of one token, the unit, and the
 -- parts of tuples. They carry their laws.
-use Rattle.std.specs.Prelude.{◌∷◌, ◌++◌, [], ℕ, refl}
+use Rattle.std.specs.Prelude.{◌∷◌, ◌++◌, [], refl}
 use Rattle.std.proofs.Common.{ap}
 use Rattle.nano_value.specs.Meaning.{Meaning, nothing}
 use Rattle.nano_grammar.specs.Tokens.{Cutting}

@@ -1,11 +1,10 @@
 -- Values of one token or of fixed ones: numbers, booleans, texts, the unit, what is absent.
-use Rattle.std.specs.Prelude.{◌≡◌, ◌≢◌, ℕ, List, [], ◌∷◌, refl, Option, Some, None, ◌+◌, ◌^◌, ℤ}
+use Rattle.std.specs.Prelude.{◌≡◌, ◌≢◌, ℕ, List, [], ◌∷◌, Option, Some, None, ◌+◌, ◌^◌, ℤ}
 use Rattle.std.specs.Prelude.{pos, negsuc}
-use Rattle.std.proofs.Common.{ap}
 use Rattle.std.specs.Int.{Width}
 use Rattle.nano_value.specs.Meaning.{Meaning, nothing}
 use Rattle.nano_grammar.specs.Tokens.{Cutting, IsValueText}
-use Rattle.nano_grammar.specs.Codec.{Grammar, Canonical, BeginsValue, Codec}
+use Rattle.nano_grammar.specs.Codec.{Grammar, BeginsValue, Codec}
 use Rattle.nano_grammar.specs.Items.{StartsOtherwise}
 use mir.Val.{hbits}
 

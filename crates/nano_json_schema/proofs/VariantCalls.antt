@@ -21,7 +21,7 @@ use Rattle.nano_json_tokens.specs.declared.error.DeJsonErr.{DeJsonErr}
 use Rattle.nano_json_tokens.specs.declared.state.DeJsonState.{DeJsonState}
 use Rattle.nano_json_tokens.proofs.Calling.{gives_up}
 use Rattle.nano_json.specs.Codec.{Encoding}
-use Rattle.nano_json_schema.specs.Names.{GivesUnknown}
+use Rattle.nano_json_schema.specs.Outcomes.{GivesUnknown}
 use Rattle.nano_json_schema.specs.Reading.{Encodings, EncodesVariant, Closed}
 use Rattle.nano_json_schema.specs.Variants.{alone, opened}
 use Rattle.nano_json_schema.specs.VariantCodecs.{json_variants}

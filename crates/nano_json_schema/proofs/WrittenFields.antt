@@ -8,7 +8,7 @@ use Rattle.nano_text.specs.Place.{saturating_next}
 use Rattle.nano_json_tokens.specs.Token.{curly_punctuation, Token}
 use Rattle.nano_json_schema.specs.FieldCodecs.{json_fields}
 use Rattle.nano_json_schema.specs.Outcomes.{after_comma, in_a_row, none_yet}
-use Rattle.nano_json_schema.specs.Names.{quoted_name}
+use Rattle.nano_json_tokens.specs.Names.{quoted_name}
 
 -- the bytes of a name between quotes, a colon and a value
 pub field_bytes : (name text : List ℕ) → IsUtf8 name

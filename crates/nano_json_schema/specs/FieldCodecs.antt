@@ -17,8 +17,8 @@ use Rattle.nano_json_tokens.proofs.ScalarsLaws.{str_injective}
 use Rattle.nano_json_tokens.specs.Skipped.{SkippedField}
 use Rattle.nano_json_tokens.specs.Token.{str}
 use Rattle.nano_json_tokens.proofs.BracketCounts.{skipped_apart}
-use Rattle.nano_json_schema.specs.Names.{IsPlainName, are_ascii_names, quoted_name}
-use Rattle.nano_json_schema.specs.NamesLaws.{name_is_written, each_ascii}
+use Rattle.nano_json_tokens.specs.Names.{IsPlainName, are_ascii_names, quoted_name}
+use Rattle.nano_json_tokens.proofs.NamesLaws.{name_is_written, each_ascii}
 pub use Rattle.nano_grammar.proofs.StructCodecLaws.{fields_codec}
 use Rattle.nano_grammar.proofs.TuplesLaws.{last_codec, tuple_codec}
 use Rattle.nano_json.specs.Codec.{codec_as}

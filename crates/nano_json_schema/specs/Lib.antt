@@ -1,5 +1,3 @@
-pub mod Names
-pub mod NamesLaws
 pub mod FieldCodecs
 pub mod Variants
 pub mod VariantCodecs

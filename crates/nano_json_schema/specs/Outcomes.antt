@@ -4,12 +4,12 @@ use Rattle.std.specs.Prelude.{◌++◌}
 use Rattle.nano_value.specs.Meaning.{Meaning}
 use Rattle.nano_grammar.specs.Outcomes.{Position, Fails, Took}
 use Rattle.nano_json_tokens.specs.Cut.{Cut}
-use Rattle.nano_json_tokens.specs.Outcomes.{report}
+use Rattle.nano_json_tokens.specs.Outcomes.{report, Says}
 use Rattle.nano_json_tokens.specs.State.{ended, place_of}
 use Rattle.nano_json_tokens.specs.Token.{Token, str}
 use Rattle.nano_json_tokens.specs.declared.error.DeJsonErr.{DeJsonErr}
 use Rattle.nano_json_tokens.specs.declared.state.DeJsonState.{DeJsonState}
-use Rattle.nano_grammar.specs.Fields.{HasEncoding}
+use Rattle.nano_grammar.specs.Fields.{HasEncoding, unknown_message}
 use Rattle.nano_grammar.specs.UserOutcomes.{NoField, ReadField, ReadsField as ReadsFieldBy}
 use Rattle.nano_grammar.specs.UserOutcomes.{GivesValues as GivesValuesBy, Misses, FailsAndEnds}
 use Rattle.nano_grammar.specs.UserOutcomes.{HoldsFields as HoldsFieldsBy}
@@ -21,6 +21,7 @@ use Rattle.nano_json_schema.specs.VariantCodecs.{json_variants}
 use Rattle.nano_json_schema.specs.declared.variants.VariantName.{VariantName}
 use Rattle.nano_grammar.specs.Promises.{LastFieldCounts as Counts, MissingNameHasNoField as Missing}
 use Rattle.nano_grammar.specs.Promises.{OtherNamesAreSeen as Seen}
+use Rattle.nano_json_tokens.specs.declared.token.DeJsonTok.TheVariants.{Eof}
 
 -- ---- tokens
 
@@ -119,3 +120,11 @@ in_a_row first W (x ∷ xs) = after_comma first (W x) ++ in_a_row false W xs
 abbrev pub none_yet : {A : Type 0} → Bool → List A → Bool
 none_yet first [] = first
 none_yet first (x ∷ xs) = false
+
+-- ==== the error for a name that no variant of an enum has
+
+-- the error for this name stands where the state stood, and has this message unless it is out of
+-- memory. The state is at the end of the text
+pub record GivesUnknown (old new : DeJsonState) (name : List ℕ) (e : DeJsonErr) : Type 0 where
+  pub says : Says old (unknown_message name) e
+  pub state : new ≡ record old { tok = Eof; cur = 0 }

@@ -11,8 +11,8 @@ use Rattle.nano_json_tokens.proofs.JsonLaws.{json, curlies_are, colon_is, no_gap
 use Rattle.nano_json_tokens.specs.Cut.{json_grammar}
 use Rattle.nano_json_tokens.proofs.ScalarsLaws.{text_one}
 use Rattle.nano_json_tokens.specs.Written.{written_text}
-use Rattle.nano_json_schema.specs.Names.{is_variant_name, are_ascii_names}
-use Rattle.nano_json_schema.specs.NamesLaws.{variant_name_is_text}
+use Rattle.nano_json_tokens.specs.Names.{is_variant_name, are_ascii_names}
+use Rattle.nano_json_tokens.proofs.NamesLaws.{variant_name_is_text}
 use Rattle.nano_json_schema.specs.Variants.{alone, opened, content_text}
 use Rattle.nano_grammar.specs.FieldCodec.{FieldsCodec, fields_text}
 use Rattle.nano_grammar.specs.Fields.{are_distinct}

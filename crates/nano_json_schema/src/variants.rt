@@ -6,8 +6,7 @@ ghost use Rattle.nano_json.specs.State.{at};
 ghost use Rattle.nano_json.specs.Token.{str, colon, curly_close};
 ghost use Rattle.nano_json_schema.specs.Reading.{EncodesFields, Closed, name_tokens};
 ghost use Rattle.nano_json_schema.specs.Reading.{NoVariantBegins};
-ghost use Rattle.nano_json_schema.specs.Outcomes.{TakesTokens, TakesTokensOrEnds};
-ghost use Rattle.nano_json_schema.specs.Names.{GivesUnknown};
+ghost use Rattle.nano_json_schema.specs.Outcomes.{TakesTokens, TakesTokensOrEnds, GivesUnknown};
 ghost use Rattle.nano_json_schema.specs.Variants.{alone, opened};
 
 use crate::fields::JsonFields;

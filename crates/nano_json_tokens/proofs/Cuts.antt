@@ -15,7 +15,8 @@ use Rattle.nano_text.specs.String.{IsString}
 use Rattle.nano_grammar.specs.Tokens.{IsOneWay}
 use Rattle.nano_json_tokens.specs.Token.{Token, str, u64, i64, f64, bool, null, colon, curly_open}
 use Rattle.nano_json_tokens.specs.Token.{curly_close, block_open, block_close, comma, end}
-use Rattle.nano_json_tokens.specs.Cut.{is_space, is_word, BeginsWithWord, IsPunctuator, IsWord}
+use Rattle.nano_text.specs.Characters.{is_space}
+use Rattle.nano_json_tokens.specs.Cut.{is_word, BeginsWithWord, IsPunctuator, IsWord}
 use Rattle.nano_json_tokens.specs.Cut.{IsRunOf, IsQuoted, IsEnd, IsLexeme, punctuator, word, number}
 use Rattle.nano_json_tokens.specs.Cut.{quoted, nothing, Cut}
 use Rattle.nano_json_tokens.specs.Scan.{punctuator_of, word_token}

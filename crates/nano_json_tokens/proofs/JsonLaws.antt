@@ -8,7 +8,8 @@ use Rattle.nano_grammar.specs.Scalars.{NoneStyle, UnitStyle}
 use Rattle.nano_grammar.specs.Codec.{AreBrackets, ListStyle, PairStyle, TupleStyle}
 use Rattle.nano_json_tokens.specs.Token.{blocks, curlies, block_punctuation, curly_punctuation}
 use Rattle.nano_json_tokens.specs.Token.{Token, null, colon, comma}
-use Rattle.nano_json_tokens.specs.Cut.{Cut, is_space, AllSpace, json_grammar}
+use Rattle.nano_text.specs.Characters.{is_space}
+use Rattle.nano_json_tokens.specs.Cut.{Cut, AllSpace, json_grammar}
 use Rattle.nano_json_tokens.proofs.CutAgainLaws.{punctuator_is_cut, null_is_cut, null_textual}
 use Rattle.nano_json_tokens.specs.Written.{MayFollow}
 

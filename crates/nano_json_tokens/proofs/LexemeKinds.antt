@@ -10,7 +10,8 @@ use Rattle.nano_text.specs.Number.{is_sign}
 use Rattle.nano_text.specs.Place.{held, remaining, before_nul}
 use Rattle.nano_json_tokens.specs.Token.{Token, str, bool, null, colon, curly_open, curly_close}
 use Rattle.nano_json_tokens.specs.Token.{block_open, block_close, comma, end}
-use Rattle.nano_json_tokens.specs.Cut.{is_space, is_word, starts_number, IsPunctuator, IsWord}
+use Rattle.nano_text.specs.Characters.{is_space}
+use Rattle.nano_json_tokens.specs.Cut.{is_word, starts_number, IsPunctuator, IsWord}
 use Rattle.nano_json_tokens.specs.Cut.{IsRunOf, IsQuoted, IsEnd, IsLexeme, punctuator, word, number}
 use Rattle.nano_json_tokens.specs.Cut.{quoted, nothing}
 use Rattle.nano_json_tokens.specs.Scan.{punctuator_of}

@@ -8,3 +8,4 @@ pub mod CutAgainLaws
 pub mod JsonLaws
 pub mod ScalarsLaws
 pub mod WrittenTextLaws
+pub mod NamesLaws

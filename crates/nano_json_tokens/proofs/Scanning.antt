@@ -8,7 +8,8 @@ use Rattle.nano_text.specs.Place.{remaining, Moves, before_nul}
 use Rattle.nano_text.proofs.PlaceLaws.{moves_none, moves_append, moves_advance}
 use Rattle.nano_text.specs.declared.place.Place.{Place}
 use Rattle.nano_grammar.specs.Outcomes.{Stops}
-use Rattle.nano_json_tokens.specs.Cut.{Cut, IsLexeme, is_space, quoted}
+use Rattle.nano_text.specs.Characters.{is_space}
+use Rattle.nano_json_tokens.specs.Cut.{Cut, IsLexeme, quoted}
 use Rattle.nano_json_tokens.specs.Outcomes.{report, position, Reports, Moved, NothingCut}
 use Rattle.nano_json_tokens.specs.Outcomes.{NoCapacity}
 use Rattle.nano_json_tokens.specs.Scan.{NotScanned, Scans, PassedSpace}

@@ -3,17 +3,13 @@ use Rattle.std.specs.Prelude.{◌≡◌, ℕ, ◌==◌, ◌||◌, Bool, true, fa
 use Rattle.std.specs.Prelude.{encode_utf8_all}
 use Rattle.std.specs.Char.{is_ascii_uppercase, is_ascii_lowercase, is_ascii_digit}
 use Rattle.std.specs.List.{AllByRecursion}
-use Rattle.nano_text.specs.Characters.{first_is, carriage_return, line_feed, tab}
+use Rattle.nano_text.specs.Characters.{first_is, is_space}
 use Rattle.nano_text.specs.Number.{is_sign, IsNumber}
 use Rattle.nano_text.specs.String.{IsString}
 use Rattle.nano_text.specs.declared.number.Number.TheVariants.{U64, I64, Dec}
 use Rattle.nano_json_tokens.specs.Token.{Token, str, u64, i64, f64, bool, null, colon, curly_open}
 use Rattle.nano_json_tokens.specs.Token.{curly_close, block_open, block_close, comma, end, bof}
 use Rattle.nano_grammar.specs.Codec.{Grammar}
-
--- line feed, carriage return, tab, space
-abbrev pub is_space : ℕ → Bool
-is_space c = (((c == line_feed) || (c == carriage_return)) || (c == tab)) || (c == 32)
 
 -- a character of a word: a letter or `_`
 abbrev pub is_word : ℕ → Bool

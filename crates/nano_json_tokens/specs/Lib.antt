@@ -7,3 +7,4 @@ pub mod Scan
 pub mod Promises
 pub mod Written
 pub mod WrittenImpls
+pub mod Names

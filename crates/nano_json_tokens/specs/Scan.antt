@@ -10,7 +10,8 @@ use Rattle.nano_grammar.specs.Outcomes.{HoldsNul, end_message}
 use Rattle.nano_json_tokens.specs.declared.scan.Rejection.{Rejection}
 use Rattle.nano_json_tokens.specs.declared.scan.Rejection.TheVariants.{Memory}
 use Rattle.nano_json_tokens.specs.declared.state.DeJsonState.{DeJsonState}
-use Rattle.nano_json_tokens.specs.Cut.{is_space, is_word}
+use Rattle.nano_text.specs.Characters.{is_space}
+use Rattle.nano_json_tokens.specs.Cut.{is_word}
 use Rattle.nano_json_tokens.specs.Outcomes.{Outgrows, Moved, position, report, Says, Takes}
 use Rattle.nano_json_tokens.specs.State.{KeepsOtherBuffers, pending}
 use Rattle.nano_json_tokens.specs.Token.{Token, str, u64, i64, f64, bool, null, colon, curly_open}

@@ -14,8 +14,8 @@ use Rattle.nano_ron_tokens.proofs.RonLaws.{ron, parens_are, paren_brackets}
 use Rattle.nano_ron_tokens.proofs.ScalarsLaws.{none_style}
 use Rattle.nano_ron_tokens.specs.Written.{lines}
 use Rattle.nano_ron_tokens.proofs.StylesLaws.{lines_written, entry_style}
-use Rattle.nano_ron_schema.specs.Names.{are_names}
-use Rattle.nano_ron_schema.specs.NamesLaws.{name_is_written, good_names}
+use Rattle.nano_ron_tokens.specs.Names.{are_names}
+use Rattle.nano_ron_tokens.proofs.NamesLaws.{name_is_written, good_names}
 
 -- ==== fields in a row
 

@@ -1,5 +1,3 @@
-pub mod Names
-pub mod NamesLaws
 pub mod FieldCodecs
 pub mod Outcomes
 pub mod Reading

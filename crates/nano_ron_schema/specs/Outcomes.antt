@@ -5,12 +5,12 @@ use Rattle.std.specs.List.{flat_map}
 use Rattle.nano_value.specs.Meaning.{Meaning}
 use Rattle.nano_grammar.specs.Outcomes.{Position, Fails, Took}
 use Rattle.nano_ron_tokens.specs.Cut.{Cut}
-use Rattle.nano_ron_tokens.specs.Outcomes.{report}
+use Rattle.nano_ron_tokens.specs.Outcomes.{report, Says}
 use Rattle.nano_ron_tokens.specs.State.{ended, pending, place_of}
 use Rattle.nano_ron_tokens.specs.Token.{Token, ident, IsIdent}
 use Rattle.nano_ron_tokens.specs.declared.error.DeRonErr.{DeRonErr}
 use Rattle.nano_ron_tokens.specs.declared.state.DeRonState.{DeRonState}
-use Rattle.nano_grammar.specs.Fields.{HasEncoding}
+use Rattle.nano_grammar.specs.Fields.{HasEncoding, unknown_message}
 use Rattle.nano_grammar.specs.UserOutcomes.{ReadsField as ReadsFieldBy}
 use Rattle.nano_grammar.specs.UserOutcomes.{GivesValues as GivesValuesBy}
 use Rattle.nano_grammar.specs.UserOutcomes.{HoldsFields as HoldsFieldsBy}
@@ -25,6 +25,7 @@ use Rattle.nano_text.specs.Characters.{line_feed}
 use Rattle.nano_grammar.specs.FieldCodec.{WrittenField, field_text as field_text_of}
 use Rattle.nano_grammar.specs.FieldCodec.{fields_text as fields_text_of}
 use Rattle.nano_ron_tokens.specs.Written.{indent}
+use Rattle.nano_ron_tokens.specs.declared.token.DeRonTok.TheVariants.{Eof}
 
 -- ---- tokens
 
@@ -132,3 +133,11 @@ field_text = field_text_of ron_fields
 -- fields between parentheses at this level
 abbrev pub fields_text : ℕ → List (WrittenField Token) → List ℕ
 fields_text = fields_text_of ron_fields
+
+-- ==== the error for a name that no variant of an enum has
+
+-- the error for this name stands where the state stood, and has this message unless it is out of
+-- memory. The state is at the end of the text
+pub record GivesUnknown (old new : DeRonState) (name : List ℕ) (e : DeRonErr) : Type 0 where
+  pub says : Says old (unknown_message name) e
+  pub state : new ≡ record old { tok = Eof; cur = 0 }

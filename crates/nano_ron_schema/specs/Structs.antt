@@ -8,7 +8,7 @@ use Rattle.nano_ron.specs.Codec.{Codec}
 -- what a struct without names needs, passed on
 pub use Rattle.nano_ron.specs.Codec.{codec_as}
 use Rattle.nano_ron_schema.specs.FieldCodecs.{ron_fields, word_names, fields_codec}
-use Rattle.nano_ron_schema.specs.Names.{are_names}
+use Rattle.nano_ron_tokens.specs.Names.{are_names}
 
 -- a struct as the values of its fields, and their format. The last is `refl`: it checks that the
 -- names are words but `true` and `false`, and that none occurs twice

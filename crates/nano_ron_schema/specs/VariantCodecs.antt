@@ -13,9 +13,9 @@ use Rattle.nano_ron_tokens.specs.Cut.{is_word, IsName, word, ron_grammar}
 use Rattle.nano_ron_tokens.proofs.RonLaws.{ron, cut_at_once, paren_brackets}
 use Rattle.nano_ron_tokens.proofs.StylesLaws.{tuple_style}
 use Rattle.nano_ron_tokens.specs.Token.{Token, ident}
-use Rattle.nano_ron_schema.specs.Names.{is_name, are_names}
-use Rattle.nano_ron_schema.specs.NamesLaws.{good_name, name_is_written, name_characters}
-use Rattle.nano_ron_schema.specs.NamesLaws.{textual_word}
+use Rattle.nano_ron_tokens.specs.Names.{is_name, are_names}
+use Rattle.nano_ron_tokens.proofs.NamesLaws.{good_name, name_is_written, name_characters}
+use Rattle.nano_ron_tokens.proofs.NamesLaws.{textual_word}
 use Rattle.nano_ron_schema.specs.Variants.{named, content_text, InParentheses}
 use Rattle.nano_grammar.specs.FieldCodec.{FieldsCodec, fields_text}
 use Rattle.nano_grammar.specs.Fields.{are_distinct}

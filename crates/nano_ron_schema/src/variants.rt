@@ -6,7 +6,7 @@ ghost use Rattle.nano_ron.specs.State.{pending};
 ghost use Rattle.nano_ron.specs.Token.{IsIdent};
 ghost use Rattle.nano_ron_schema.specs.Reading.{EncodesFields, Closed};
 ghost use Rattle.nano_ron_schema.specs.Outcomes.{GivesWord, TakesTokens, TakesTokensOrEnds};
-ghost use Rattle.nano_ron_schema.specs.Names.{GivesUnknown};
+ghost use Rattle.nano_ron_schema.specs.Outcomes.{GivesUnknown};
 ghost use Rattle.nano_ron_schema.specs.Variants.{named};
 
 use crate::fields::RonFields;

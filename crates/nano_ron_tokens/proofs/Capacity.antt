@@ -69,10 +69,10 @@ word_literal _ text rest h = absurd h
 -- a word changes no buffer but its own
 pub word_keeps : (old new : DeRonState) (text rest : List ℕ) → new.strbuf ≡ old.strbuf → new.numbuf ≡ old.numbuf
     → IsWord (pending new) text rest → KeepsOtherBuffers old new
-word_keeps old new text rest strbuf numbuf word = record {
+word_keeps old new text rest strbuf numbuf h = record {
   strbuf = λ _. ap (λ s. string_bytes s) strbuf;
   numbuf = λ _. ap (λ s. string_bytes s) numbuf;
-  identbuf = λ other. absurd (other (word_literal (pending new) text rest word));
+  identbuf = λ other. absurd (other (word_literal (pending new) text rest h));
 }
 
 -- ==== what is left is shorter

@@ -15,7 +15,8 @@ use Rattle.nano_ron_tokens.specs.Token.{curly_close, paren_open, paren_close, bl
 use Rattle.nano_ron_tokens.specs.Token.{block_close, comma, end}
 use Rattle.nano_ron_tokens.specs.Cut.{starts_word, starts_number, IsPunctuator, IsWord, IsRunOf}
 use Rattle.nano_ron_tokens.specs.Cut.{IsQuoted, IsCharacter, IsEnd, IsLexeme, punctuator, word}
-use Rattle.nano_ron_tokens.specs.Cut.{number, quoted, single, nothing, is_space, IsUnended}
+use Rattle.nano_text.specs.Characters.{is_space}
+use Rattle.nano_ron_tokens.specs.Cut.{number, quoted, single, nothing, IsUnended}
 use Rattle.nano_ron_tokens.specs.Scan.{punctuator_of, starts_gap, IsStop}
 use Rattle.nano_ron_tokens.proofs.Skipping.{first_stops, unended_stops}
 

@@ -11,3 +11,4 @@ pub mod CutAgainLaws
 pub mod WrittenTextLaws
 pub mod RonLaws
 pub mod ScalarsLaws
+pub mod NamesLaws

@@ -5,7 +5,8 @@ use Rattle.std.specs.List.{AllByRecursion, flat_map}
 use Rattle.std.proofs.lemmas.Bool.Decides.{nat_tests}
 use Rattle.nano_text.proofs.LaneMasks.{all_split}
 use Rattle.nano_text.specs.Characters.{first_is}
-use Rattle.nano_ron_tokens.specs.Cut.{is_space, IsOneLine, HoldsNoEnd, Skip, space, line, block}
+use Rattle.nano_text.specs.Characters.{is_space}
+use Rattle.nano_ron_tokens.specs.Cut.{IsOneLine, HoldsNoEnd, Skip, space, line, block}
 use Rattle.nano_ron_tokens.specs.Cut.{IsSkip, skip_text, IsGap, IsUnended}
 use Rattle.nano_ron_tokens.specs.Scan.{starts_gap, IsStop}
 

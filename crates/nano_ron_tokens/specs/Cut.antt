@@ -3,7 +3,7 @@ use Rattle.std.specs.Prelude.{◌≡◌, ◌≢◌, ◌⊎◌, ℕ, ◌==◌, �
 use Rattle.std.specs.Prelude.{false, encode_utf8_all}
 use Rattle.std.specs.List.{AllByRecursion, flat_map}
 use Rattle.std.specs.Char.{is_ascii_uppercase, is_ascii_lowercase, is_ascii_digit}
-use Rattle.nano_text.specs.Characters.{carriage_return, line_feed, tab, first_is}
+use Rattle.nano_text.specs.Characters.{line_feed, first_is, is_space}
 use Rattle.nano_text.specs.Number.{is_sign, IsNumber}
 use Rattle.nano_text.specs.String.{IsString}
 use Rattle.nano_text.specs.declared.number.Number.TheVariants.{U64, I64, Dec}
@@ -13,10 +13,6 @@ use Rattle.nano_ron_tokens.specs.Token.{block_open, block_close, end, bof}
 use Rattle.nano_grammar.specs.Codec.{Grammar}
 
 -- ==== what stands between tokens: white space and comments
-
--- line feed, carriage return, tab, space
-abbrev pub is_space : ℕ → Bool
-is_space c = (((c == line_feed) || (c == carriage_return)) || (c == tab)) || (c == 32)
 
 -- no line feed stands in the characters
 abbrev pub IsOneLine : List ℕ → Type 0

@@ -5,3 +5,4 @@ pub mod Outcomes
 pub mod Scan
 pub mod Promises
 pub mod Written
+pub mod Names

@@ -11,7 +11,8 @@ use Rattle.nano_ron_tokens.specs.declared.scan.Rejection.{Rejection}
 use Rattle.nano_ron_tokens.specs.declared.scan.Rejection.TheVariants.{Memory}
 use Rattle.nano_ron_tokens.specs.declared.state.DeRonState.{DeRonState}
 use Rattle.nano_ron_tokens.specs.Cut.{Cut, is_word, Skip, IsSkip, skip_text, IsGap, IsUnended}
-use Rattle.nano_ron_tokens.specs.Cut.{IsOneLine, HoldsNoEnd, is_space}
+use Rattle.nano_text.specs.Characters.{is_space}
+use Rattle.nano_ron_tokens.specs.Cut.{IsOneLine, HoldsNoEnd}
 use Rattle.nano_ron_tokens.specs.Outcomes.{Outgrows, Moved, position, report, Says}
 use Rattle.nano_ron_tokens.specs.State.{KeepsOtherBuffers, pending}
 use Rattle.nano_ron_tokens.specs.Token.{Token, ident, bool, colon, curly_open, curly_close}
@@ -80,10 +81,6 @@ punctuator_of c =
     else None
 
 -- ---- what is passed over
-
--- what indents are made of: a space
-abbrev pub is_blank : ℕ → Bool
-is_blank c = c == 32
 
 -- a gap begins here, or a comment that has no end
 abbrev pub starts_gap : ℕ → Bool

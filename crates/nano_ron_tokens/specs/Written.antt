@@ -3,7 +3,7 @@ use Rattle.std.specs.Prelude.{◌≡◌, ℕ, ◌==◌, ◌||◌, ◌&&◌, not,
 use Rattle.std.specs.Prelude.{◌∷◌, ◌++◌, if◌then◌else◌, codes, chars}
 use Rattle.std.specs.List.{flat_map}
 use Rattle.nano_text.specs.String.{Piece, plain, escaped, piece_text}
-use Rattle.nano_ron_tokens.specs.Cut.{is_space}
+use Rattle.nano_text.specs.Characters.{is_space}
 use Rattle.nano_text.specs.Characters.{backslash, carriage_return, digit_0, letter_n, letter_r}
 use Rattle.nano_text.specs.Characters.{letter_t, line_feed, quote, tab}
 use Rattle.nano_text.specs.Place.{saturating_next}

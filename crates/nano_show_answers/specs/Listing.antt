@@ -27,7 +27,7 @@ hex_pairs bytes = join_with_byte 32 (map hex_pair bytes)
 
 -- a text with a line feed after it
 abbrev pub line : List ℕ → List ℕ
-line text = text ++ 10 ∷ []
+line bytes = bytes ++ 10 ∷ []
 
 -- ==== the listing of a table
 

@@ -14,3 +14,4 @@ pub mod WholeNumbers
 pub mod PlainStrings
 pub mod PlaceLaws
 pub mod RollbackLaws
+pub mod Spaces

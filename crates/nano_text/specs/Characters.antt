@@ -1,5 +1,5 @@
 -- Characters that the formats name, by their codes.
-use Rattle.std.specs.Prelude.{ℕ, Bool, false, List, [], ◌∷◌, if◌then◌else◌, ◌+◌, ◌/◌, ◌%◌, ◌==◌}
+use Rattle.std.specs.Prelude.{ℕ, Bool, false, List, [], ◌∷◌, if◌then◌else◌, ◌+◌, ◌/◌, ◌%◌, ◌==◌, ◌||◌}
 use Rattle.std.specs.Int.{w64, trailing_zeros}
 
 abbrev pub backspace : ℕ
@@ -43,6 +43,10 @@ letter_t = 116
 
 abbrev pub letter_u : ℕ
 letter_u = 117
+
+-- white space: line feed, carriage return, tab, space
+abbrev pub is_space : ℕ → Bool
+is_space c = (((c == line_feed) || (c == carriage_return)) || (c == tab)) || (c == 32)
 
 -- ==== prefixes of a text
 

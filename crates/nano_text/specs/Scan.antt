@@ -82,3 +82,9 @@ decimal_len whole (Some digits) (Some e) =
     if (nat_lt 0 whole || nat_lt 0 digits) && nat_lt 0 e.digits
     then Some (digits + 1 + minus_capacity e.minus + e.digits)
     else None
+
+-- ---- white space
+
+-- what indents are made of: a space
+abbrev pub is_blank : ℕ → Bool
+is_blank c = c == 32

@@ -9,7 +9,8 @@ use Rattle.nano_toml.specs.declared.fault.Lexeme.{Lexeme}
 use Rattle.nano_toml.specs.declared.fault.Lexeme.TheVariants as lexeme
 use Rattle.nano_toml.specs.Characters.{IsByteTest, starts_word, starts_number, is_quote}
 use Rattle.nano_toml.specs.Cut.{punctuator_token}
-use Rattle.nano_toml.specs.FirstError.{IsMalformed, Breaks, Fails}
+use Rattle.nano_toml.specs.FirstError.{IsMalformed}
+use Rattle.nano_toml.specs.Stops.{Breaks, Fails}
 use Rattle.nano_toml.specs.Place.{number_remaining, array_prefix, value_prefix, element_prefix}
 use Rattle.nano_toml.specs.Place.{header_prefix, statement_prefix}
 use Rattle.nano_toml.proofs.LexemeHalts.{lexeme_remaining, malformed}

@@ -8,7 +8,7 @@ use Rattle.nano_toml.specs.Cut.{gaps_text}
 use Rattle.nano_toml.specs.Outcomes.{Reports}
 use Rattle.nano_toml.specs.FirstError.{AreClosedStatements, CanBeginStatement, IsRejected, lexeme}
 use Rattle.nano_toml.specs.FirstError.{token, end, IsFirstError, in_tokens, in_header, IsErrorAt}
-use Rattle.nano_toml.specs.FirstError.{Fails, Rejects, CanFind, Stops}
+use Rattle.nano_toml.specs.Stops.{Fails, Rejects, CanFind, Stops}
 use Rattle.nano_toml.specs.Place.{closed, is_open, nothing, Begins, Parses, statement_prefix}
 use Rattle.nano_toml.specs.Place.{before_nul, remaining_text, taken_count, taken, line_of}
 use Rattle.nano_toml.specs.Place.{column_of}

@@ -175,7 +175,7 @@ value_fitting n (c ∷ cs) =
 -- ==== value count
 
 abbrev pub count_step : Toml-F ℕ → ℕ
-count_step (Toml-F.SimpleArray values) = 1 + sum values.items
+count_step (Toml-F.SimpleArray list) = 1 + sum list.items
 count_step _ = 1
 
 -- how many values stand in its lists, itself among them

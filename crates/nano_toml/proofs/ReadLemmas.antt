@@ -10,7 +10,7 @@ use Rattle.nano_toml.specs.Place.{statement_prefix, closing}
 use Rattle.nano_toml.specs.Reading.{scalar_at, IsNext, EncodesNothing, Next, a_token, the_end}
 use Rattle.nano_toml.specs.Reading.{nothing_yet, token_of, Took}
 use Rattle.nano_toml.specs.Statements.{Statement, pair, Encodes, AreStatements}
-use Rattle.nano_toml.specs.FirstError.{Fails}
+use Rattle.nano_toml.specs.Stops.{Fails}
 use Rattle.nano_toml.specs.Token.{Token, close_bracket}
 use Rattle.nano_toml.specs.declared.token.TomlTok.{TomlTok}
 use Rattle.nano_toml.specs.declared.token.TomlTok.TheVariants as tok

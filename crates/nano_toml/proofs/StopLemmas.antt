@@ -7,7 +7,7 @@ use Rattle.nano_toml.specs.Place.{Prefix, closed, nothing, push_value, ClosesNot
 use Rattle.nano_toml.specs.Place.{array_prefix, value_prefix, pair_of, pair_prefix, element_prefix}
 use Rattle.nano_toml.specs.Place.{header_prefix, statement_prefix, closing, close_prefix}
 use Rattle.nano_toml.specs.Statements.{pair}
-use Rattle.nano_toml.specs.FirstError.{Fails, StandsNext, Breaks, Rejects, CanFind, Stops}
+use Rattle.nano_toml.specs.Stops.{Fails, StandsNext, Breaks, Rejects, CanFind, Stops}
 use Rattle.nano_toml.specs.Reading.{Next, a_token, the_end, nothing_yet, token_of, Took}
 use Rattle.nano_toml.specs.Token.{Token, ident, string, boolean, equals, close_bracket}
 use Rattle.nano_toml.specs.Token.{open_bracket}

@@ -5,6 +5,7 @@ pub mod Data
 pub mod EqImpls
 pub mod Outcomes
 pub mod FirstError
+pub mod Stops
 pub mod Place
 pub mod Kinds
 pub mod Number

@@ -6,7 +6,7 @@ ghost use Rattle.nano_toml.specs.Place.{ParsesNothing, close_all, array_prefix, 
 ghost use Rattle.nano_toml.specs.Place.{remaining};
 ghost use Rattle.nano_toml.specs.Outcomes.{OnFault, ParsesValue};
 ghost use Rattle.nano_toml.specs.Reading.{scalar_at, arrays_view, token_of};
-ghost use Rattle.nano_toml.specs.FirstError.{StopsAt};
+ghost use Rattle.nano_toml.specs.Stops.{StopsAt};
 
 use crate::fault::Fault;
 use crate::statements::Reader;

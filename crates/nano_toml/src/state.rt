@@ -9,7 +9,7 @@ ghost use Rattle.nano_toml.specs.Place.{remaining, remaining_text, taken_count};
 ghost use Rattle.nano_toml.specs.Outcomes.{OnFault};
 ghost use Rattle.nano_toml.specs.Scan.{after_gaps, tail};
 ghost use Rattle.nano_toml.specs.Token.{begins, following, Token};
-ghost use Rattle.nano_toml.specs.FirstError.{Breaks};
+ghost use Rattle.nano_toml.specs.Stops.{Breaks};
 ghost use Rattle.nano_toml.specs.Reading.{a_token, token_of, Took};
 ghost use Rattle.nano_toml.specs.declared.fault.Fault.TheVariants.{Memory};
 

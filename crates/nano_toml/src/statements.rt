@@ -9,7 +9,7 @@ ghost use Rattle.nano_toml.specs.Place.{statement_prefix, remaining, remaining_t
 ghost use Rattle.nano_toml.specs.Outcomes.{OnFault, ParsesStatement};
 ghost use Rattle.nano_toml.specs.Reading.{name_view, statement_view, IsNext, EncodesNothing};
 ghost use Rattle.nano_toml.specs.Reading.{token_of, Took};
-ghost use Rattle.nano_toml.specs.FirstError.{Breaks, Rejects, StandsNext, StopsAt};
+ghost use Rattle.nano_toml.specs.Stops.{Breaks, Rejects, StandsNext, StopsAt};
 ghost use Rattle.nano_toml.specs.Token.{close_bracket};
 ghost use Rattle.nano_toml.specs.declared.fault.Fault.TheVariants.{Memory};
 

@@ -1,6 +1,6 @@
 -- What forms say of their values, in any format where what is written of a value decodes to
 -- it.
-use Rattle.std.proofs.Common.{◌≡◌, ◌↔◌, ℕ, List, ◌++◌, [], sym, ◌∙◌, subst, refl, append-nil, true}
+use Rattle.std.proofs.Common.{◌≡◌, ℕ, List, [], sym, ◌∙◌, subst, refl, append-nil, true}
 use Rattle.nano_value.specs.Meaning.{Meaning, Agrees}
 use Rattle.nano_bin.specs.Codec.{Codec as BinCodec}
 use Rattle.nano_bin_bytes.proofs.CodecLaws.{encodes_written, writes_same}

@@ -1,6 +1,6 @@
 use Rattle.std.proofs.Common.{refl, ℕ, List, subst}
 use Rattle.nano_toml.specs.Place.{remaining}
-use Rattle.nano_toml.specs.FirstError.{StandsNext}
+use Rattle.nano_toml.specs.Stops.{StandsNext}
 use Rattle.nano_toml.specs.Token.{close_bracket}
 use Rattle.nano_toml.proofs.StopLemmas.{Rejects-close}
 use Rattle.nano_toml.proofs.statements.Reader.read_close_bracket.Goals as goal

@@ -3,7 +3,7 @@ use Rattle.std.proofs.lemmas.Result.{err_from_is_err_and}
 use Rattle.nano_toml.specs.Place.{value_prefix, pair_of, pair_prefix, remaining}
 use Rattle.nano_toml.specs.Reading.{name_view}
 use Rattle.nano_toml.specs.Statements.{pair}
-use Rattle.nano_toml.specs.FirstError.{StandsNext}
+use Rattle.nano_toml.specs.Stops.{StandsNext}
 use Rattle.nano_toml.specs.Token.{equals}
 use Rattle.nano_toml.specs.Data.{view}
 use Rattle.nano_toml.proofs.ReadLemmas.{Parses-token, Parses-pair, ParsesNothing-token}

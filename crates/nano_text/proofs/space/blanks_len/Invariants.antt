@@ -1,7 +1,7 @@
 use Rattle.std.proofs.Common.{◌≡◌, ◌+◌, length, drop}
 use Rattle.nano_text.specs.Characters.{prefix}
-use Rattle.nano_ron_tokens.specs.Scan.{is_blank}
-use Rattle.nano_ron_tokens.proofs.gaps.blanks_len.Given as goal
+use Rattle.nano_text.specs.Scan.{is_blank}
+use Rattle.nano_text.proofs.space.blanks_len.Given as goal
 
 abbrev pub invariant-loop-len : goal.invariant-loop-len
 invariant-loop-len l = record {

@@ -15,7 +15,7 @@ use Rattle.nano_ron_tokens.specs.Cut.{starts_word, is_word, IsName, word}
 use Rattle.nano_ron_tokens.proofs.RonLaws.{ron, cut_at_once}
 use Rattle.nano_ron_tokens.specs.Token.{ident}
 use Rattle.nano_ron_tokens.specs.Written.{MayFollow, may_follow}
-use Rattle.nano_ron_schema.specs.Names.{is_name, are_names}
+use Rattle.nano_ron_tokens.specs.Names.{is_name, are_names}
 
 -- ---- a name is cut into its token
 

@@ -15,8 +15,8 @@ use Rattle.nano_json_tokens.specs.Cut.{quoted}
 use Rattle.nano_json_tokens.proofs.JsonLaws.{json}
 use Rattle.nano_json_tokens.specs.Token.{str}
 use Rattle.nano_json_tokens.specs.Written.{stands_as_itself}
-use Rattle.nano_json_schema.specs.Names.{IsPlainName, is_plain_ascii, are_ascii_names}
-use Rattle.nano_json_schema.specs.Names.{is_variant_name, quoted_name}
+use Rattle.nano_json_tokens.specs.Names.{IsPlainName, is_plain_ascii, are_ascii_names}
+use Rattle.nano_json_tokens.specs.Names.{is_variant_name, quoted_name}
 
 -- ---- a plain name is cut into its token
 

@@ -4,11 +4,6 @@ use Rattle.std.specs.Prelude.{IsUtf8}
 use Rattle.std.specs.List.{list_all}
 use Rattle.nano_value.specs.Meaning.{usize_bound}
 use Rattle.nano_json_tokens.specs.Written.{stands_as_itself}
-use Rattle.nano_grammar.specs.Fields.{unknown_message}
-use Rattle.nano_json_tokens.specs.Outcomes.{Says}
-use Rattle.nano_json_tokens.specs.declared.error.DeJsonErr.{DeJsonErr}
-use Rattle.nano_json_tokens.specs.declared.state.DeJsonState.{DeJsonState}
-use Rattle.nano_json_tokens.specs.declared.token.DeJsonTok.TheVariants.{Eof}
 
 -- a name that stands between quotes as it is: UTF-8 in which each character is written as itself
 pub record IsPlainName (name : List ℕ) : Type 0 where
@@ -30,11 +25,3 @@ is_variant_name bytes = list_all is_plain_ascii bytes && nat_lt (length bytes) u
 -- a quote, the characters of a name as they are, a quote
 abbrev pub quoted_name : List ℕ → List ℕ
 quoted_name name = 34 ∷ (chars name ++ 34 ∷ [])
-
--- ==== the error for a name that no variant of an enum has
-
--- the error for this name stands where the state stood, and has this message unless it is out of
--- memory. The state is at the end of the text
-pub record GivesUnknown (old new : DeJsonState) (name : List ℕ) (e : DeJsonErr) : Type 0 where
-  pub says : Says old (unknown_message name) e
-  pub state : new ≡ record old { tok = Eof; cur = 0 }
