@@ -1,20 +1,29 @@
 -- A document by its alternative: what it means, and how it is written.
-use Rattle.std.proofs.Common.{◌≡◌, ℕ, ℤ, pos, Bool, List, map, String, Vec, Global, string_bytes, codes, refl, sym, ◌∙◌, ap, subst, rules}
+use Rattle.std.proofs.Common.{◌≡◌, ◌<◌, ◌^◌, ℕ, ℤ, pos, negsuc, FitsSigned, Bool, List, map, String, Vec, Global, string_bytes, codes, refl, sym, ◌∙◌, ap, subst, arith, rules}
+use Rattle.std.specs.Int.{w64}
 use Rattle.std.specs.Fmt.{signed_decimal}
 use Rattle.nano_text.specs.Place.{saturating_next}
 use Rattle.nano_value.specs.Meaning.{Meaning, number, whole, truth, text, nothing, listed}
 use Rattle.nano_meaning.specs.Sums.{tagged}
-use Rattle.nano_json.specs.ScalarCodecs.{boolean_codec}
+use Rattle.nano_json.specs.BoolCodecs.{boolean_codec}
 use Rattle.nano_json.specs.Lists.{written_list}
-use Rattle.nano_json.specs.Lists.{written_entries}
+use Rattle.nano_json.specs.Maps.{written_entries}
 use Rattle.nano_levels.specs.Kinds.{Tagged, codecs_at}
 use Rattle.nano_levels.proofs.LevelsLaws.{text_around, legal_around}
 use Rattle.nano_document.specs.Documents.{Fields, opened, view, json_means, entry_means, most_levels}
 use Rattle.nano_document.specs.DocumentCodecs.{layers, json_layer, json_nested, json_codec, string_codec}
+use Rattle.nano_document.specs.IntegerCodecs.{IsInteger}
 use Rattle.nano_document.specs.declared.json.Json as J
 use Rattle.nano_document.specs.declared.json.Json.{Json, the_lemmas}
 use Rattle.nano_document.specs.declared.json.Json.TheOpen as O
 use Rattle.nano_document.specs.declared.json.Json.TheViews.{out-Json}
+
+-- ---- numbers
+
+-- what an `i64` holds is a whole number of documents
+pub signed_fits : (z : ℤ) → FitsSigned w64 z → IsInteger z
+signed_fits (pos n) h = let small = h.sfits in omega (arith, small)
+signed_fits (negsuc n) h = h
 
 -- ---- what each alternative is seen as
 

@@ -5,18 +5,18 @@ use Rattle.std.specs.Global.{Global}
 use Rattle.std.proofs.Common.{◌∙◌, ap}
 use Rattle.nano_value.specs.Meaning.{Meaning, listed}
 use Rattle.nano_meaning.specs.Sums.{tagged}
-use Rattle.nano_grammar.specs.Codec.{Encoding as EncodingOf}
+use Rattle.nano_grammar.specs.Encoding.{Encoding as EncodingOf}
 use Rattle.nano_grammar.proofs.ListsLaws.{list_of}
 use Rattle.nano_grammar.proofs.PairsLaws.{and_then}
-use Rattle.nano_json_tokens.specs.Token.{blocks, curlies}
-use Rattle.nano_json_tokens.specs.Token.{json_grammar}
+use Rattle.nano_json_tokens.specs.Brackets.{blocks, curlies}
+use Rattle.nano_json_tokens.specs.Json.{json_grammar}
 use Rattle.nano_json_tokens.proofs.JsonLaws.{json, block_style, block_brackets, curly_style}
 use Rattle.nano_json_tokens.proofs.JsonLaws.{curly_brackets, entry_style}
 use Rattle.nano_json_tokens.specs.Token.{Token, bool, str, colon, integer_of, u64, i64}
-use Rattle.nano_json.specs.ScalarCodecs.{boolean_codec, unit_codec}
+use Rattle.nano_json.specs.BoolCodecs.{boolean_codec, unit_codec}
 use Rattle.nano_json.specs.Codec.{Codec, codec_as}
-use Rattle.nano_json.specs.Codec.{Encoding}
-use Rattle.nano_json.specs.ScalarCodecs.{text_codec}
+use Rattle.nano_json.specs.Encoding.{Encoding}
+use Rattle.nano_json.specs.TextCodecs.{text_codec}
 use Rattle.nano_levels.specs.Kinds.{kind_of, Tagged, AreKinds, codecs_at}
 use Rattle.nano_levels.specs.Layers.{Layer, Nested, greatest}
 use Rattle.nano_levels.proofs.KindsLaws.{no_content, kinds_layer}
@@ -47,12 +47,12 @@ layers (suc (suc (suc (suc (suc zero))))) =
     (next_layer entry_style (λ h. h) string_codec itself_layer)
 layers (suc (suc (suc (suc (suc (suc place)))))) = other_layer no_content
 
-integer_kind : (t : Token) (z : ℤ) → integer_of t ≡ Some z → kind t ≡ 2
+pub integer_kind : (t : Token) (z : ℤ) → integer_of t ≡ Some z → kind t ≡ 2
 integer_kind (u64 n) z e = refl
 integer_kind (i64 n) z e = refl
 integer_kind _ z e = absurd (cc)
 
-one_kind : (t u : Token) (ts : List Token) → ts ≡ t ∷ [] → t ≡ u → kind_of kind ts ≡ kind u
+pub one_kind : (t u : Token) (ts : List Token) → ts ≡ t ∷ [] → t ≡ u → kind_of kind ts ≡ kind u
 one_kind t u ts e same = ap (kind_of kind) e ∙ ap kind same
 
 pub kind_is : AreKinds kind layers
@@ -71,13 +71,13 @@ kind_is f (suc (suc (suc (suc (suc (suc place)))))) ts m h = absurd h
 abbrev pub json_layer : Layer json json_grammar Json (Tagged (Fields Json))
 json_layer = kinds_layer kind layers kind_is
 
-entries_mean : (es : List (String Global × Json))
+pub entries_mean : (es : List (String Global × Json))
     → map (entry_means (λ m. m)) (map (λ e. (e.0, json_means e.1)) es)
     ≡ map (entry_means json_means) es
 entries_mean [] = refl
 entries_mean (e ∷ es) = λ i. entry_means json_means e ∷ entries_mean es i
 
-means_seen : (y : Json-F Json) → means_step (map-Json Json Meaning json_means y)
+pub means_seen : (y : Json-F Json) → means_step (map-Json Json Meaning json_means y)
     ≡ json_layer.means json_means (opened y)
 means_seen Json-F.Null = refl
 means_seen (Json-F.Bool b) = refl
@@ -87,17 +87,17 @@ means_seen (Json-F.Text s) = refl
 means_seen (Json-F.List xs) = refl
 means_seen (Json-F.Object es) = ap (λ ms. tagged 5 (listed ms)) (entries_mean es.items)
 
-items_deep : (xs : List Json) → map (λ n. suc n) (map depth xs) ≡ map (λ x. suc (depth x)) xs
+pub items_deep : (xs : List Json) → map (λ n. suc n) (map depth xs) ≡ map (λ x. suc (depth x)) xs
 items_deep [] = refl
 items_deep (x ∷ xs) = λ i. suc (depth x) ∷ items_deep xs i
 
-entries_deep : (es : List (String Global × Json))
+pub entries_deep : (es : List (String Global × Json))
     → map (λ (e : String Global × ℕ). suc e.1) (map (λ e. (e.0, depth e.1)) es)
     ≡ map (λ e. suc (depth e.1)) es
 entries_deep [] = refl
 entries_deep (e ∷ es) = λ i. suc (depth e.1) ∷ entries_deep es i
 
-depth_seen : (y : Json-F Json) → depth_step (map-Json Json ℕ depth y)
+pub depth_seen : (y : Json-F Json) → depth_step (map-Json Json ℕ depth y)
     ≡ json_layer.deep depth (opened y)
 depth_seen Json-F.Null = refl
 depth_seen (Json-F.Bool b) = refl

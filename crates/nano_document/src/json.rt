@@ -1,6 +1,6 @@
 //! The type of documents.
 
-ghost use Rattle.nano_meaning.proofs.MeaningLaws.{agreed};
+ghost use Rattle.nano_meaning.proofs.AgreesLaws.{agreed};
 ghost use Rattle.nano_document.specs.Documents.{json_means};
 ghost use Rattle.nano_document.specs.DocumentCodecs.{json_codec};
 

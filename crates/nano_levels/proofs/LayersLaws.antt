@@ -5,17 +5,17 @@ use Rattle.std.specs.Option.{option_map}
 use Rattle.std.specs.List.{AllByRecursion}
 use Rattle.std.proofs.Common.{sym, ◌∙◌, subst, ap, arith}
 use Rattle.nano_text.specs.Place.{saturating_next}
-use Rattle.nano_value.specs.Meaning.{AllOfList, AllOfOption, BothOfPair}
+use Rattle.nano_value.specs.Legal.{AllOfList, AllOfOption, BothOfPair}
 use Rattle.nano_value.specs.Meaning.{Meaning, listed, paired, pair_map, optional}
-use Rattle.nano_meaning.proofs.MeaningLaws.{all_weaker}
+use Rattle.nano_meaning.proofs.LegalLaws.{all_weaker}
 use Rattle.nano_meaning.proofs.MeaningLaws.{listed_injective, both_injective}
-use Rattle.nano_grammar.specs.Tokens.{Cutting}
-use Rattle.nano_grammar.specs.Codec.{ListStyle, PairStyle}
+use Rattle.nano_grammar.specs.Cutting.{Cutting}
+use Rattle.nano_grammar.specs.Canonical.{ListStyle, PairStyle}
 use Rattle.nano_grammar.specs.Codec.{Codec}
-use Rattle.nano_grammar.specs.Codec.{Grammar, AreBrackets}
-use Rattle.nano_grammar.specs.Lists.{StartsOtherwise}
+use Rattle.nano_grammar.specs.Encoding.{Grammar, AreBrackets}
+use Rattle.nano_grammar.specs.Items.{StartsOtherwise}
 use Rattle.nano_grammar.specs.Layouts.{no_gaps}
-use Rattle.nano_grammar.specs.Scalars.{NoneStyle, SoundOption}
+use Rattle.nano_grammar.specs.Options.{NoneStyle, SoundOption}
 use Rattle.nano_grammar.proofs.LayoutsLaws.{laid_out_same}
 use Rattle.nano_grammar.proofs.ListsLaws.{list_codec}
 use Rattle.nano_grammar.proofs.OptionsLaws.{option_codec}
@@ -73,10 +73,10 @@ maps_same f h P same (x ∷ xs) all =
 
 module _ {T : Type 0} {c : Cutting T} {g : Grammar T} (s : ListStyle c) (are : AreBrackets g s.tokens)
     {A B : Type 0} (p : Layer c g A B) where
-  abbrev each_deep : (A → ℕ) → List B → ℕ
+  abbrev pub each_deep : (A → ℕ) → List B → ℕ
   each_deep d xs = greatest (map (p.deep d) xs)
 
-  items_less : (d : A → ℕ) (n : ℕ) (xs : List B) → each_deep d xs ≤ n
+  pub items_less : (d : A → ℕ) (n : ℕ) (xs : List B) → each_deep d xs ≤ n
       → AllByRecursion (p.All (λ y. d y < n)) xs
   items_less d n [] h = tt
   items_less d n (x ∷ xs) h =
@@ -87,7 +87,7 @@ module _ {T : Type 0} {c : Cutting T} {g : Grammar T} (s : ListStyle c) (are : A
         items_less d n xs rest,
       )
 
-  items_most : (d : A → ℕ) (n : ℕ) (xs : List B) → AllByRecursion (p.All (λ y. d y < n)) xs
+  pub items_most : (d : A → ℕ) (n : ℕ) (xs : List B) → AllByRecursion (p.All (λ y. d y < n)) xs
       → each_deep d xs ≤ n
   items_most d n [] h = omega arith
   items_most d n (x ∷ xs) h =
@@ -95,12 +95,12 @@ module _ {T : Type 0} {c : Cutting T} {g : Grammar T} (s : ListStyle c) (are : A
       let rest = items_most d n xs h.1 in
       omega (arith, first, rest)
 
-  items_mean : (f : Codec c g A) (xs : List B)
+  pub items_mean : (f : Codec c g A) (xs : List B)
       → map (p.codec f).canonical.means xs ≡ map (p.means f.canonical.means) xs
   items_mean f [] = refl
   items_mean f (x ∷ xs) = λ i. p.means_is f x i ∷ items_mean f xs i
 
-  items_sound : (f h : Codec c g A) (xs : List B)
+  pub items_sound : (f h : Codec c g A) (xs : List B)
       → AllByRecursion (p.All (λ y. f.canonical.tokens y ≡ h.canonical.tokens y)) xs
       → AllByRecursion (p.All (λ y. f.sound y → h.sound y)) xs
       → AllByRecursion (p.codec f).sound xs → AllByRecursion (p.codec h).sound xs
@@ -108,13 +108,13 @@ module _ {T : Type 0} {c : Cutting T} {g : Grammar T} (s : ListStyle c) (are : A
   items_sound f h (x ∷ xs) e w s =
       (p.sound_same f h x e.0 w.0 s.0, items_sound f h xs e.1 w.1 s.1)
 
-  items_parts : (f : Codec c g A) (m : A → Meaning) (xs : List B)
+  pub items_parts : (f : Codec c g A) (m : A → Meaning) (xs : List B)
       → AllByRecursion (p.codec f).encoding.legal (map (p.means m) xs)
       → AllByRecursion (p.All (λ y. f.encoding.legal (m y))) xs
   items_parts f m [] h = tt
   items_parts f m (x ∷ xs) h = (p.legal_parts f m x h.0, items_parts f m xs h.1)
 
-  items_legal : (f h : Codec c g A) (m : A → Meaning) (xs : List B)
+  pub items_legal : (f h : Codec c g A) (m : A → Meaning) (xs : List B)
       → AllByRecursion (p.All (λ y. f.encoding.legal (m y) → h.encoding.legal (m y))) xs
       → AllByRecursion (p.codec f).encoding.legal (map (p.means m) xs)
       → AllByRecursion (p.codec h).encoding.legal (map (p.means m) xs)
@@ -164,7 +164,7 @@ module _ {T : Type 0} {c : Cutting T} {g : Grammar T} (s : ListStyle c) (are : A
 
 module _ {T : Type 0} {c : Cutting T} {g : Grammar T} (s : PairStyle c)
     (divides : g.may_begin s.token → ⊥) {K A B : Type 0} (k : Codec c g K) (p : Layer c g A B) where
-  abbrev both_mean : (A → Meaning) → K × B → Meaning
+  abbrev pub both_mean : (A → Meaning) → K × B → Meaning
   both_mean m x = paired (pair_map k.canonical.means (p.means m) x)
 
   abbrev pub next_layer : Layer c g A (K × B)
@@ -203,55 +203,55 @@ module _ {T : Type 0} {c : Cutting T} {g : Grammar T} (s : PairStyle c)
 
 module _ {T : Type 0} {c : Cutting T} {g : Grammar T} (n : NoneStyle c g) {A B : Type 0}
     (p : Layer c g A B) where
-  abbrev SomeAll : (A → Type 0) → Option B → Type 0
+  abbrev pub SomeAll : (A → Type 0) → Option B → Type 0
   SomeAll P None = Unit {0}
   SomeAll P (Some x) = p.All P x
 
-  abbrev some_deep : (A → ℕ) → Option B → ℕ
+  abbrev pub some_deep : (A → ℕ) → Option B → ℕ
   some_deep d None = 0
   some_deep d (Some x) = p.deep d x
 
-  abbrev item_means : (A → Meaning) → Option B → Meaning
+  abbrev pub item_means : (A → Meaning) → Option B → Meaning
   item_means m x = optional (option_map (p.means m) x)
 
-  some_weaker : (P Q : A → Type 0) → ((y : A) → P y → Q y) → (x : Option B) → SomeAll P x
+  pub some_weaker : (P Q : A → Type 0) → ((y : A) → P y → Q y) → (x : Option B) → SomeAll P x
       → SomeAll Q x
   some_weaker P Q w None h = tt
   some_weaker P Q w (Some x) h = p.weaker P Q w x h
 
-  some_less : (d : A → ℕ) (x : Option B) → SomeAll (λ y. d y < some_deep d x) x
+  pub some_less : (d : A → ℕ) (x : Option B) → SomeAll (λ y. d y < some_deep d x) x
   some_less d None = tt
   some_less d (Some x) = p.less d x
 
-  some_most : (d : A → ℕ) (k : ℕ) (x : Option B) → SomeAll (λ y. d y < k) x → some_deep d x ≤ k
+  pub some_most : (d : A → ℕ) (k : ℕ) (x : Option B) → SomeAll (λ y. d y < k) x → some_deep d x ≤ k
   some_most d k None h = omega arith
   some_most d k (Some x) h = p.most d k x h
 
-  some_means : (f : Codec c g A) (x : Option B)
+  pub some_means : (f : Codec c g A) (x : Option B)
       → optional (option_map (p.codec f).canonical.means x) ≡ item_means f.canonical.means x
   some_means f None = refl
   some_means f (Some x) = ap (λ m. optional (Some m)) (p.means_is f x)
 
-  some_mean_same : (m k : A → Meaning) (x : Option B) → SomeAll (λ y. m y ≡ k y) x
+  pub some_mean_same : (m k : A → Meaning) (x : Option B) → SomeAll (λ y. m y ≡ k y) x
       → item_means m x ≡ item_means k x
   some_mean_same m k None e = refl
   some_mean_same m k (Some x) e = ap (λ m. optional (Some m)) (p.means_same m k x e)
 
-  some_text : (f h : Codec c g A) (x : Option B)
+  pub some_text : (f h : Codec c g A) (x : Option B)
       → SomeAll (λ y. (d : ℕ) → f.canonical.text d y ≡ h.canonical.text d y) x → (d : ℕ)
       → (option_codec n (p.codec f)).canonical.text d x
       ≡ (option_codec n (p.codec h)).canonical.text d x
   some_text f h None e d = refl
   some_text f h (Some x) e d = p.text_same f h x e d
 
-  some_tokens : (f h : Codec c g A) (x : Option B)
+  pub some_tokens : (f h : Codec c g A) (x : Option B)
       → SomeAll (λ y. f.canonical.tokens y ≡ h.canonical.tokens y) x
       → (option_codec n (p.codec f)).canonical.tokens x
       ≡ (option_codec n (p.codec h)).canonical.tokens x
   some_tokens f h None e = refl
   some_tokens f h (Some x) e = p.tokens_same f h x e
 
-  some_sound : (f h : Codec c g A) (x : Option B)
+  pub some_sound : (f h : Codec c g A) (x : Option B)
       → SomeAll (λ y. f.canonical.tokens y ≡ h.canonical.tokens y) x
       → SomeAll (λ y. f.sound y → h.sound y) x
       → SoundOption n (p.codec f) x → SoundOption n (p.codec h) x
@@ -259,7 +259,7 @@ module _ {T : Type 0} {c : Cutting T} {g : Grammar T} (n : NoneStyle c g) {A B :
   some_sound f h (Some x) e w s =
       (p.sound_same f h x e w s.0, subst (StartsOtherwise g.none) (p.tokens_same f h x e) s.1)
 
-  some_parts : (f : Codec c g A) (m : A → Meaning) (x : Option B) (part : Option Meaning)
+  pub some_parts : (f : Codec c g A) (m : A → Meaning) (x : Option B) (part : Option Meaning)
       → AllOfOption (p.codec f).encoding.legal part → item_means m x ≡ optional part
       → SomeAll (λ y. f.encoding.legal (m y)) x
   some_parts f m None part h e = tt
@@ -268,7 +268,7 @@ module _ {T : Type 0} {c : Cutting T} {g : Grammar T} (n : NoneStyle c g) {A B :
       p.legal_parts f m x
       (subst (p.codec f).encoding.legal (sym (both_injective _ _ _ _ e).0) h)
 
-  some_legal : (f h : Codec c g A) (m : A → Meaning) (x : Option B) (part : Option Meaning)
+  pub some_legal : (f h : Codec c g A) (m : A → Meaning) (x : Option B) (part : Option Meaning)
       → SomeAll (λ y. f.encoding.legal (m y) → h.encoding.legal (m y)) x
       → AllOfOption (p.codec f).encoding.legal part → item_means m x ≡ optional part
       → AllOfOption (p.codec h).encoding.legal (option_map (p.means m) x)

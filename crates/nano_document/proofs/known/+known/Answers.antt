@@ -3,26 +3,22 @@ use Rattle.std.specs.Int.{w64}
 use Rattle.std.specs.List.{AllByRecursion}
 use Rattle.std.proofs.Math.Numerals.{add-one}
 use Rattle.std.proofs.Math.Seq.{drop-cons}
-use Rattle.nano_value.specs.Meaning.{IsImage, LegalList, LegalPair, LegalText, LegalSigned, LegalUnsigned}
+use Rattle.nano_value.specs.Legal.{IsImage, LegalList, LegalPair, LegalText, LegalSigned, LegalUnsigned}
 use Rattle.nano_value.specs.Meaning.{Meaning, listed, number, nothing}
-use Rattle.nano_meaning.proofs.MeaningLaws.{list_is_legal, all_walked, pair_is_legal}
+use Rattle.nano_meaning.proofs.LegalLaws.{list_is_legal, all_walked, pair_is_legal}
 use Rattle.nano_document.specs.Documents.{json_means, entry_means}
 use Rattle.nano_document.specs.DocumentCodecs.{json_codec}
 use Rattle.nano_document.specs.IntegerCodecs.{IsInteger, integers}
 use Rattle.nano_document.specs.declared.json.Json as J
 use Rattle.nano_document.specs.declared.json.Json.{Json}
-use Rattle.nano_document.proofs.Documents.{legal_at, means-Null, means-Bool, means-U64, means-I64, means-Text, means-List, means-Object}
+use Rattle.nano_document.proofs.Documents.{signed_fits, legal_at, means-Null, means-Bool, means-U64, means-I64, means-Text, means-List, means-Object}
 use Rattle.nano_document.proofs.known.+known.Goals as goal
-
-fits : (z : ℤ) → FitsSigned w64 z → IsInteger z
-fits (pos n) h = let small = h.sfits in omega (arith, small)
-fits (negsuc n) h = h
 
 unsigned_is_legal : (m : Meaning) → LegalUnsigned 64 m → integers.legal m
 unsigned_is_legal m h = record { part = pos h.part; has = h.has; is = h.is }
 
 signed_is_legal : (m : Meaning) → LegalSigned w64 m → integers.legal m
-signed_is_legal m h = record { part = h.part; has = fits h.part h.has; is = h.is }
+signed_is_legal m h = record { part = h.part; has = signed_fits h.part h.has; is = h.is }
 
 pub known_json-returns-in-Null : goal.known_json-returns-in-Null
 known_json-returns-in-Null t c = rw c.in-Null.is (legal_at 0 J.Null nothing means-Null refl)
