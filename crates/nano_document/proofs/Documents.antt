@@ -33,10 +33,10 @@ out-Null = search (rules, the_lemmas)
 out-Bool : (b : Bool) → out-Json (J.Bool b) ≡ O.Bool b
 out-Bool b = search (rules, the_lemmas)
 
-out-U64 : (n : ℕ) → out-Json (J.U64 n) ≡ O.U64 n
+pub out-U64 : (n : ℕ) → out-Json (J.U64 n) ≡ O.U64 n
 out-U64 n = search (rules, the_lemmas)
 
-out-I64 : (z : ℤ) → out-Json (J.I64 z) ≡ O.I64 z
+pub out-I64 : (z : ℤ) → out-Json (J.I64 z) ≡ O.I64 z
 out-I64 z = search (rules, the_lemmas)
 
 out-Text : (s : String Global) → out-Json (J.Text s) ≡ O.Text s

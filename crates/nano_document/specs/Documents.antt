@@ -1,5 +1,6 @@
 -- A document of JSON: its alternatives, what it means, and how many levels it has below the first.
-use Rattle.std.specs.Prelude.{ℕ, zero, suc, ℤ, pos, Bool, List, map, String, string_bytes}
+use Rattle.std.specs.Prelude.{◌≡◌, ◌⊎◌, ℕ, zero, suc, ℤ, pos, Bool, List}
+use Rattle.std.specs.Prelude.{map, String, string_bytes}
 use Rattle.std.specs.Global.{Global}
 use Rattle.nano_value.specs.Meaning.{Meaning, number, whole, truth, text, nothing, listed, paired}
 use Rattle.nano_meaning.specs.Sums.{tagged}
@@ -79,3 +80,9 @@ depth = fold-Json ℕ depth_step
 -- how many levels a document may have that is read
 abbrev pub most_levels : ℕ
 most_levels = 128
+
+-- ---- what a document holds
+
+-- it is the whole number
+abbrev pub IsNumber : Json → ℤ → Type 0
+IsNumber x z = ((n : ℕ) × (x ≡ Json.U64 n) × (z ≡ pos n)) ⊎ (x ≡ Json.I64 z)

@@ -2,8 +2,10 @@
 //! objects.
 #![tactic(auto)]
 
+mod access;
 mod json;
 mod known;
+pub mod laws;
 mod read;
 mod write;
 

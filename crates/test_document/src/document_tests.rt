@@ -88,3 +88,66 @@ fn the_limit_of_levels_is_kept(rt: HostRuntime) {
     let alloc = rt.alloc();
     holds(&rt, limit_is_kept(alloc).unwrap_or(false), "128 levels");
 }
+
+/// Whether the document of a name is this number.
+fn is_number(json: &Json, name: &str, number: u64) -> bool {
+    match json.get(name) {
+        Some(found) => found.as_u64() == Some(number),
+        None => false,
+    }
+}
+
+/// Whether the documents of a list are as they stand in the text below.
+fn are_items(items: &Vec<Json>) -> bool {
+    items.len() == 4
+        && items[0].is_null()
+        && items[1].as_bool() == Some(true)
+        && items[2].as_i64() == Some(-3)
+        && items[2].as_u64() == None
+        && items[3].as_str() == Some("x")
+}
+
+fn is_list(json: &Json) -> bool {
+    match json.as_list() {
+        Some(items) => are_items(items),
+        None => false,
+    }
+}
+
+fn is_found(alloc: Global) -> Result<bool, DeJsonErr> {
+    let text = "{\"a\": 1, \"b\": [null, true, -3, \"x\"], \"a\": 18446744073709551615}";
+    let json = Json::deserialize_json_whole(alloc, text)?;
+    let Some(list) = json.get("b") else {
+        return Ok(false);
+    };
+    Ok(is_number(&json, "a", u64::MAX)
+        && json.get("c").is_none()
+        && is_list(list)
+        && list.get("a").is_none()
+        && json.as_bool().is_none()
+        && json.as_object().is_some())
+}
+
+fn is_taken_out(alloc: Global) -> Result<bool, DeJsonErr> {
+    let json = Json::deserialize_json(alloc, "[\"a\", [2], {\"b\": 3}]")?;
+    let Err(json) = json.into_text() else {
+        return Ok(false);
+    };
+    let Ok(mut items) = json.into_list() else {
+        return Ok(false);
+    };
+    let Some(object) = items.pop() else {
+        return Ok(false);
+    };
+    match object.into_object() {
+        Ok(entries) => Ok(entries.len() == 1 && entries[0].1.as_i64() == Some(3)),
+        Err(_json) => Ok(false),
+    }
+}
+
+#[test]
+fn what_a_document_holds(rt: HostRuntime) {
+    let alloc = rt.alloc();
+    holds(&rt, is_found(alloc).unwrap_or(false), "found");
+    holds(&rt, is_taken_out(alloc).unwrap_or(false), "taken out");
+}
