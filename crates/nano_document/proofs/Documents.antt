@@ -5,9 +5,9 @@ use Rattle.std.specs.Fmt.{signed_decimal}
 use Rattle.nano_text.specs.Place.{saturating_next}
 use Rattle.nano_value.specs.Meaning.{Meaning, number, whole, truth, text, nothing, listed}
 use Rattle.nano_meaning.specs.Sums.{tagged}
-use Rattle.nano_json.specs.BoolCodecs.{boolean_codec}
+use Rattle.nano_json.specs.ScalarCodecs.{boolean_codec}
 use Rattle.nano_json.specs.Lists.{written_list}
-use Rattle.nano_json.specs.Maps.{written_entries}
+use Rattle.nano_json.specs.Lists.{written_entries}
 use Rattle.nano_levels.specs.Kinds.{Tagged, codecs_at}
 use Rattle.nano_levels.proofs.LevelsLaws.{text_around, legal_around}
 use Rattle.nano_document.specs.Documents.{Fields, opened, view, json_means, entry_means, most_levels}

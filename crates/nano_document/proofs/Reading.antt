@@ -3,15 +3,15 @@ use Rattle.std.proofs.Common.{◌≡◌, ℕ, suc, ◌-◌, ℤ, Bool, List, [],
 use Rattle.nano_text.proofs.PlaceLaws.{moves_append}
 use Rattle.nano_value.specs.Meaning.{Meaning, paired}
 use Rattle.nano_meaning.specs.Sums.{tagged}
-use Rattle.nano_grammar.specs.Encoding.{BeginsValue, Encoding, IsEncoding}
+use Rattle.nano_grammar.specs.Codec.{BeginsValue, Encoding, IsEncoding}
 use Rattle.nano_grammar.specs.Maps.{EncodesEntry}
 use Rattle.nano_grammar.specs.Outcomes.{Report, Position, IsMadeAt, Fails, Took, Read}
 use Rattle.nano_grammar.specs.Tokens.{At, Leaves, DecodesToNothing}
-use Rattle.nano_grammar.proofs.MapReading.{value_rejected}
-use Rattle.nano_grammar.proofs.Outcomes.{fails_after, fails_as, fails_here}
+use Rattle.nano_grammar.proofs.ReadingCalls.{value_rejected}
+use Rattle.nano_grammar.proofs.TokenCalls.{fails_after, fails_as, fails_here}
 use Rattle.nano_grammar.proofs.Reading.{image_spans, image_rejected}
 use Rattle.nano_json_tokens.specs.Cut.{Cut}
-use Rattle.nano_json_tokens.specs.Json.{json_grammar}
+use Rattle.nano_json_tokens.specs.Cut.{json_grammar}
 use Rattle.nano_json_tokens.proofs.JsonLaws.{json}
 use Rattle.nano_json_tokens.specs.State.{pending, token_of}
 use Rattle.nano_json_tokens.specs.Token.{Token, colon}

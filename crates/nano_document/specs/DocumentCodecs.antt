@@ -5,18 +5,18 @@ use Rattle.std.specs.Global.{Global}
 use Rattle.std.proofs.Common.{◌∙◌, ap}
 use Rattle.nano_value.specs.Meaning.{Meaning, listed}
 use Rattle.nano_meaning.specs.Sums.{tagged}
-use Rattle.nano_grammar.specs.Encoding.{Encoding as EncodingOf}
+use Rattle.nano_grammar.specs.Codec.{Encoding as EncodingOf}
 use Rattle.nano_grammar.proofs.ListsLaws.{list_of}
 use Rattle.nano_grammar.proofs.PairsLaws.{and_then}
-use Rattle.nano_json_tokens.specs.Brackets.{blocks, curlies}
-use Rattle.nano_json_tokens.specs.Json.{json_grammar}
+use Rattle.nano_json_tokens.specs.Token.{blocks, curlies}
+use Rattle.nano_json_tokens.specs.Cut.{json_grammar}
 use Rattle.nano_json_tokens.proofs.JsonLaws.{json, block_style, block_brackets, curly_style}
 use Rattle.nano_json_tokens.proofs.JsonLaws.{curly_brackets, entry_style}
 use Rattle.nano_json_tokens.specs.Token.{Token, bool, str, colon, integer_of, u64, i64}
-use Rattle.nano_json.specs.BoolCodecs.{boolean_codec, unit_codec}
+use Rattle.nano_json.specs.ScalarCodecs.{boolean_codec, unit_codec}
 use Rattle.nano_json.specs.Codec.{Codec, codec_as}
-use Rattle.nano_json.specs.Encoding.{Encoding}
-use Rattle.nano_json.specs.TextCodecs.{text_codec}
+use Rattle.nano_json.specs.Codec.{Encoding}
+use Rattle.nano_json.specs.ScalarCodecs.{text_codec}
 use Rattle.nano_levels.specs.Kinds.{kind_of, Tagged, AreKinds, codecs_at}
 use Rattle.nano_levels.specs.Layers.{Layer, Nested, greatest}
 use Rattle.nano_levels.proofs.KindsLaws.{no_content, kinds_layer}

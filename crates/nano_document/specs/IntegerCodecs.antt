@@ -4,7 +4,7 @@ use Rattle.std.specs.Fmt.{signed_decimal}
 use Rattle.std.specs.Int.{w64}
 use Rattle.nano_value.specs.Meaning.{number}
 use Rattle.nano_meaning.proofs.MeaningLaws.{number_injective}
-use Rattle.nano_grammar.specs.Cutting.{IsValueText}
+use Rattle.nano_grammar.specs.Tokens.{IsValueText}
 use Rattle.nano_grammar.specs.Scalars.{OneCanonical}
 use Rattle.nano_grammar.proofs.ScalarsLaws.{one_of, one_codec}
 use Rattle.nano_json_tokens.proofs.JsonLaws.{json}
@@ -12,7 +12,7 @@ use Rattle.nano_json_tokens.proofs.ScalarsLaws.{signed_tokens, signed_carries, u
 use Rattle.nano_json_tokens.proofs.ScalarsLaws.{signed_one}
 use Rattle.nano_json_tokens.specs.WrittenImpls.{signed_token}
 use Rattle.nano_json.specs.Codec.{Codec}
-use Rattle.nano_json.specs.Encoding.{Encoding}
+use Rattle.nano_json.specs.Codec.{Encoding}
 
 abbrev pub IsInteger : ℤ → Type 0
 IsInteger (pos n) = n < 2 ^ 64

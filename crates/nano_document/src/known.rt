@@ -1,7 +1,7 @@
 //! What a document means is legal.
 
 ghost use Rattle.std.specs.Prelude.{map};
-ghost use Rattle.nano_value.specs.Legal.{LegalList, LegalPair, LegalText};
+ghost use Rattle.nano_value.specs.Meaning.{LegalList, LegalPair, LegalText};
 ghost use Rattle.nano_value.specs.Meaning.{listed};
 ghost use Rattle.nano_document.specs.Documents.{json_means, entry_means};
 ghost use Rattle.nano_document.specs.DocumentCodecs.{json_codec};

@@ -3,7 +3,7 @@
 ghost use Rattle.std.specs.Prelude.{OnOk, OnErr};
 ghost use Rattle.nano_text.specs.Outcomes.{Appends, AppendsPart};
 ghost use Rattle.nano_json.specs.Lists.{in_list, written_list};
-ghost use Rattle.nano_json.specs.Maps.{written_entry, written_entries};
+ghost use Rattle.nano_json.specs.Lists.{written_entry, written_entries};
 ghost use Rattle.nano_document.specs.DocumentCodecs.{json_codec, string_codec};
 
 use crate::json::Json;

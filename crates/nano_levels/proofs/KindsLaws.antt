@@ -4,9 +4,9 @@ use Rattle.std.proofs.Common.{sym, ◌∙◌, subst, ap}
 use Rattle.nano_value.specs.Meaning.{Meaning}
 use Rattle.nano_meaning.proofs.MeaningLaws.{whole_injective, both_injective}
 use Rattle.nano_meaning.specs.Sums.{tagged}
-use Rattle.nano_grammar.specs.Cutting.{Cutting}
+use Rattle.nano_grammar.specs.Tokens.{Cutting}
 use Rattle.nano_grammar.specs.Codec.{Codec}
-use Rattle.nano_grammar.specs.Encoding.{Grammar, BeginsValue, IsEncoding, Encoding}
+use Rattle.nano_grammar.specs.Codec.{Grammar, BeginsValue, IsEncoding, Encoding}
 use Rattle.nano_levels.specs.Kinds.{kind_of, LegalKind, EncodesKind, Tagged, codecs_at, AreKinds}
 use Rattle.nano_levels.specs.Layers.{Layer}
 use Rattle.nano_levels.proofs.LevelsLaws.{nothing_encoded}

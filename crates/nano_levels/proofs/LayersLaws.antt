@@ -5,17 +5,17 @@ use Rattle.std.specs.Option.{option_map}
 use Rattle.std.specs.List.{AllByRecursion}
 use Rattle.std.proofs.Common.{sym, ◌∙◌, subst, ap, arith}
 use Rattle.nano_text.specs.Place.{saturating_next}
-use Rattle.nano_value.specs.Legal.{AllOfList, AllOfOption, BothOfPair}
+use Rattle.nano_value.specs.Meaning.{AllOfList, AllOfOption, BothOfPair}
 use Rattle.nano_value.specs.Meaning.{Meaning, listed, paired, pair_map, optional}
-use Rattle.nano_meaning.proofs.LegalLaws.{all_weaker}
+use Rattle.nano_meaning.proofs.MeaningLaws.{all_weaker}
 use Rattle.nano_meaning.proofs.MeaningLaws.{listed_injective, both_injective}
-use Rattle.nano_grammar.specs.Cutting.{Cutting}
-use Rattle.nano_grammar.specs.Canonical.{ListStyle, PairStyle}
+use Rattle.nano_grammar.specs.Tokens.{Cutting}
+use Rattle.nano_grammar.specs.Codec.{ListStyle, PairStyle}
 use Rattle.nano_grammar.specs.Codec.{Codec}
-use Rattle.nano_grammar.specs.Encoding.{Grammar, AreBrackets}
+use Rattle.nano_grammar.specs.Codec.{Grammar, AreBrackets}
 use Rattle.nano_grammar.specs.Items.{StartsOtherwise}
-use Rattle.nano_grammar.specs.Layouts.{no_gaps}
-use Rattle.nano_grammar.specs.Options.{NoneStyle, SoundOption}
+use Rattle.nano_grammar.specs.Items.{no_gaps}
+use Rattle.nano_grammar.specs.Scalars.{NoneStyle, SoundOption}
 use Rattle.nano_grammar.proofs.LayoutsLaws.{laid_out_same}
 use Rattle.nano_grammar.proofs.ListsLaws.{list_codec}
 use Rattle.nano_grammar.proofs.OptionsLaws.{option_codec}

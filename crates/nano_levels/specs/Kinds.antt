@@ -3,9 +3,9 @@
 use Rattle.std.specs.Prelude.{◌≡◌, ℕ, List, [], ◌∷◌}
 use Rattle.nano_value.specs.Meaning.{Meaning}
 use Rattle.nano_meaning.specs.Sums.{tagged}
-use Rattle.nano_grammar.specs.Cutting.{Cutting}
+use Rattle.nano_grammar.specs.Tokens.{Cutting}
 use Rattle.nano_grammar.specs.Codec.{Codec}
-use Rattle.nano_grammar.specs.Encoding.{Grammar}
+use Rattle.nano_grammar.specs.Codec.{Grammar}
 use Rattle.nano_levels.specs.Layers.{Layer}
 
 -- the kind of the first token

@@ -1,8 +1,8 @@
 -- A type that contains itself, by one layer of it.
 use Rattle.std.specs.Prelude.{◌≡◌, ◌<◌, ◌≤◌, ℕ, max, List, [], ◌∷◌}
 use Rattle.nano_value.specs.Meaning.{Meaning}
-use Rattle.nano_grammar.specs.Cutting.{Cutting}
-use Rattle.nano_grammar.specs.Encoding.{Grammar}
+use Rattle.nano_grammar.specs.Tokens.{Cutting}
+use Rattle.nano_grammar.specs.Codec.{Grammar}
 use Rattle.nano_grammar.specs.Codec.{Codec}
 
 -- the greatest of numbers, 0 of none

@@ -3,9 +3,9 @@ use Rattle.std.specs.Int.{w64}
 use Rattle.std.specs.List.{AllByRecursion}
 use Rattle.std.proofs.Math.Numerals.{add-one}
 use Rattle.std.proofs.Math.Seq.{drop-cons}
-use Rattle.nano_value.specs.Legal.{IsImage, LegalList, LegalPair, LegalText, LegalSigned, LegalUnsigned}
+use Rattle.nano_value.specs.Meaning.{IsImage, LegalList, LegalPair, LegalText, LegalSigned, LegalUnsigned}
 use Rattle.nano_value.specs.Meaning.{Meaning, listed, number, nothing}
-use Rattle.nano_meaning.proofs.LegalLaws.{list_is_legal, all_walked, pair_is_legal}
+use Rattle.nano_meaning.proofs.MeaningLaws.{list_is_legal, all_walked, pair_is_legal}
 use Rattle.nano_document.specs.Documents.{json_means, entry_means}
 use Rattle.nano_document.specs.DocumentCodecs.{json_codec}
 use Rattle.nano_document.specs.IntegerCodecs.{IsInteger, integers}

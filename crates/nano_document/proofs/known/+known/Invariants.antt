@@ -1,7 +1,7 @@
 -- what is left is legal only if all is
 use Rattle.std.proofs.Common.{drop, String, Global}
 use Rattle.std.specs.List.{AllByRecursion}
-use Rattle.nano_value.specs.Legal.{LegalPair, LegalText}
+use Rattle.nano_value.specs.Meaning.{LegalPair, LegalText}
 use Rattle.nano_document.specs.Documents.{json_means, entry_means}
 use Rattle.nano_document.specs.DocumentCodecs.{json_codec}
 use Rattle.nano_document.specs.declared.json.Json.{Json}

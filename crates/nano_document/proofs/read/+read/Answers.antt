@@ -3,12 +3,12 @@ use Rattle.std.specs.Int.{w64}
 use Rattle.std.proofs.lemmas.Int.{to_z-of_z}
 use Rattle.nano_value.specs.Meaning.{number, truth, nothing, listed}
 use Rattle.nano_meaning.specs.Sums.{tagged}
-use Rattle.nano_meaning.proofs.CollectedLaws.{one_more_listed}
+use Rattle.nano_meaning.proofs.LastValuesLaws.{one_more_listed}
 use Rattle.nano_grammar.proofs.CollectingCalls.{turn_shorter, filled_none, filled_next, filled_no_more, all_read}
 use Rattle.nano_grammar.proofs.CollectingCalls.{opening_not, item_not, comma_not, closing_not}
-use Rattle.nano_grammar.proofs.Outcomes.{passed_on}
+use Rattle.nano_grammar.proofs.TokenCalls.{passed_on}
 use Rattle.nano_grammar.proofs.ReadingCalls.{one_read, one_stopped, unit_read, unit_stopped, entry_read, key_not, colon_not}
-use Rattle.nano_json_tokens.specs.Brackets.{blocks, curlies}
+use Rattle.nano_json_tokens.specs.Token.{blocks, curlies}
 use Rattle.nano_json_tokens.proofs.JsonLaws.{json, block_brackets, curly_brackets}
 use Rattle.nano_json_tokens.proofs.ScalarsLaws.{truth_tokens, signed_tokens}
 use Rattle.nano_json_tokens.specs.State.{pending}

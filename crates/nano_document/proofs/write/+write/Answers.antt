@@ -1,16 +1,16 @@
 use Rattle.std.specs.Prelude.{OnOk}
 use Rattle.nano_text.specs.Outcomes.{Appends}
 use Rattle.nano_json.specs.Lists.{written_list}
-use Rattle.nano_json.specs.Maps.{written_entries}
+use Rattle.nano_json.specs.Lists.{written_entries}
 use Rattle.std.proofs.Common.{false, drop, arith, string_bytes, encode_utf8, refl, rules, append_assoc, sym, ap, subst, ◌∙◌}
 use Rattle.std.proofs.lemmas.List.{drop_all}
 use Rattle.std.proofs.lemmas.Result.{on_ok_weaker}
 use Rattle.std.proofs.lemmas.Str.{encodes-append}
-use Rattle.nano_grammar.specs.Layouts.{no_gaps}
+use Rattle.nano_grammar.specs.Items.{no_gaps}
 use Rattle.nano_grammar.proofs.WrittenLists.{list_begun, list_ended}
-use Rattle.nano_grammar.proofs.WrittenItems.{write_next, pushed, entry_in_list}
-use Rattle.nano_json_tokens.specs.Brackets.{block_punctuation, curly_punctuation}
-use Rattle.nano_json.specs.Maps.{written_entry}
+use Rattle.nano_grammar.proofs.WrittenLists.{write_next, pushed, entry_in_list}
+use Rattle.nano_json_tokens.specs.Token.{block_punctuation, curly_punctuation}
+use Rattle.nano_json.specs.Lists.{written_entry}
 use Rattle.nano_document.specs.DocumentCodecs.{json_codec, string_codec}
 use Rattle.nano_document.proofs.Documents.{text-Null, text-Bool, text-U64, text-I64, text-Text, text-List, text-Object}
 use Rattle.nano_document.proofs.write.+write.Goals as goal

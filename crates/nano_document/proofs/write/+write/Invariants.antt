@@ -1,9 +1,9 @@
 -- what is written and what is left of the list make all of it
 use Rattle.std.proofs.Common.{false, drop, string_bytes}
-use Rattle.nano_json_tokens.specs.Brackets.{block_punctuation, curly_punctuation}
-use Rattle.nano_grammar.specs.Layouts.{no_gaps}
-use Rattle.nano_grammar.proofs.WrittenItems.{WritesSoFar}
-use Rattle.nano_json.specs.Maps.{written_entry}
+use Rattle.nano_json_tokens.specs.Token.{block_punctuation, curly_punctuation}
+use Rattle.nano_grammar.specs.Items.{no_gaps}
+use Rattle.nano_grammar.proofs.WrittenLists.{WritesSoFar}
+use Rattle.nano_json.specs.Lists.{written_entry}
 use Rattle.nano_document.specs.DocumentCodecs.{json_codec, string_codec}
 use Rattle.nano_document.proofs.write.+write.Given as goal
 
