@@ -249,9 +249,11 @@ module _ {T : Type 0} {c : Cutting T} {g : Grammar T} {A : Type 0} (l : Nested c
     legal_around x h =
         let n = l.depth x in
         let each = inside (λ y. Legal (l.means y) → (level n).encoding.legal (l.means y)) x
-        (λ y less legal. level_legal legal.0 n y legal.1 less) in
-        (suc n, subst (l.layer.codec (level n)).encoding.legal (sym (l.means_is x))
-        (l.layer.legal_same limited (level n) l.means (l.view x) each h))
+        (λ y less legal. level_legal legal.0 n y legal.1 less) in (
+          suc n,
+          subst (l.layer.codec (level n)).encoding.legal (sym (l.means_is x))
+              (l.layer.legal_same limited (level n) l.means (l.view x) each h),
+        )
 
     -- where a value is sound if those inside it are, all that are not too deep are
     module _ (each : (f : Codec c g A) (x : l.Seen) → l.layer.All f.sound x

@@ -1,4 +1,4 @@
--- Alternatives that are told apart by their first token: the kind of the token is the place of the
+-- Alternatives that differ in their first token: the kind of the token is the place of the
 -- alternative. The token belongs to the content.
 use Rattle.std.specs.Prelude.{◌≡◌, ℕ, List, [], ◌∷◌}
 use Rattle.nano_value.specs.Meaning.{Meaning}
