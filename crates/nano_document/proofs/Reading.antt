@@ -4,7 +4,7 @@ use Rattle.nano_text.proofs.PlaceLaws.{moves_append}
 use Rattle.nano_value.specs.Meaning.{Meaning, paired}
 use Rattle.nano_meaning.specs.Sums.{tagged}
 use Rattle.nano_grammar.specs.Codec.{BeginsValue, Encoding, IsEncoding}
-use Rattle.nano_grammar.specs.Maps.{EncodesEntry}
+use Rattle.nano_json.specs.Lists.{EncodesEntry}
 use Rattle.nano_grammar.specs.Outcomes.{Report, Position, IsMadeAt, Fails, Took, Read}
 use Rattle.nano_grammar.specs.Tokens.{At, Leaves, DecodesToNothing}
 use Rattle.nano_grammar.proofs.ReadingCalls.{value_rejected}
@@ -117,7 +117,7 @@ EntriesHold entries ms = map (entry_means json_means) entries.items ≡ ms
 
 module _ (levels : ℕ) where
   abbrev Entry : List Token → Meaning × Meaning → Type 0
-  Entry = EncodesEntry colon string_codec.encoding.encodes (Encodes levels)
+  Entry = EncodesEntry string_codec.encoding.encodes (Encodes levels)
 
   -- a name and a document, seen as one meaning
   pub entry_read_whole : {start end : Position Token} (x y : Meaning) → Read Cut Entry start end (x, y)
