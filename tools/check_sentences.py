@@ -20,7 +20,7 @@ PLANNED = {
     "docs/DIFFERENCES.md": None,
     "docs/FORMATS.md": None,
     "docs/GUARANTEES.md": 215,
-    "docs/GUIDE.md": 250,
+    "docs/GUIDE.md": 290,
     "docs/SECURITY.md": 60,
     "docs/SPEED.md": None,
     "docs/USER_TYPES.md": 200,
