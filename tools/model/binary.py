@@ -1,0 +1,163 @@
+"""Bytes: how a value is read and written. Section Binary of docs/FORMATS.md."""
+from .types import last_values, ordered
+
+
+class BinFault(Exception):
+    """An error: its kind, `o`, `l` and `s`."""
+
+    def __init__(self, kind, o, l, s):
+        super().__init__(kind, o, l, s)
+        self.kind, self.o, self.l, self.s = kind, o, l, s
+
+    def column(self):
+        """As the tables have it."""
+        return f"{self.kind} o {self.o} l {self.l} s {self.s}"
+
+    def printed(self):
+        """As it is printed."""
+        return f"Bin deserialize error at:{self.o} wanted:{self.l} bytes but max size is {self.s}"
+
+
+def take(data, at, count):
+    """The place after `count` bytes; fewer are TooShort, and past the end there are none."""
+    if at + count > len(data):
+        raise BinFault("TooShort", at, count, len(data))
+    return at + count
+
+
+def number(data, at, size, signed=False):
+    """An integer, little endian, and the place after it."""
+    end = take(data, at, size)
+    return int.from_bytes(data[at:end], "little", signed=signed), end
+
+
+def read(type, data, at):
+    """The value of the code at a place, and the place after it."""
+    kind = type.kind
+    if kind == "int":
+        return number(data, at, type.size, type.low < 0)
+    if kind == "bool":  # 0 is false, any other true
+        value, at = number(data, at, 1)
+        return value != 0, at
+    if kind == "unit":
+        return (), at
+    if kind == "String":  # its length is `l`, and its first byte `o`
+        count, at = number(data, at, 8)
+        end = take(data, at, count)
+        try:
+            return data[at:end].decode(), end
+        except UnicodeDecodeError:
+            raise BinFault("NotUtf8", at, count, len(data)) from None
+    if kind == "option":  # 1 and an item, and any other byte is none
+        value, at = number(data, at, 1)
+        if value != 1:
+            return (), at
+        item, at = read(type.parts[0], data, at)
+        return (item,), at
+    if kind == "box":
+        return read(type.parts[0], data, at)
+    if kind == "tuple":
+        return read_parts(type.parts, data, at)
+    if kind == "array":
+        return read_parts(type.parts * type.size, data, at)
+    if kind == "struct":
+        return read_fields(type.parts, data, at)
+    if kind == "enum":
+        return read_enum(type, data, at)
+    count, at = number(data, at, 8)
+    if kind == "map":
+        pairs = []
+        for _ in range(count):
+            pair, at = read_parts(type.parts, data, at)
+            pairs.append(pair)
+        return last_values(pairs), at
+    items = []
+    for _ in range(count):
+        item, at = read(type.parts[0], data, at)
+        items.append(item)
+    return (ordered(items) if kind == "set" else tuple(items)), at
+
+
+def read_parts(parts, data, at):
+    """The parts, one after another."""
+    values = []
+    for part in parts:
+        value, at = read(part, data, at)
+        values.append(value)
+    return tuple(values), at
+
+
+def read_fields(fields, data, at):
+    """The fields in declared order, and none that is skipped."""
+    values = []
+    for field in fields:
+        value = None
+        if field.kind != "skip":
+            value, at = read(field.type, data, at)
+        values.append(value)
+    return tuple(values), at
+
+
+def read_enum(type, data, at):
+    """The place of the variant as a u16, and its content. Another place is the kind Own."""
+    index, end = number(data, at, 2)
+    if index >= len(type.parts):
+        raise BinFault("Own", at, 0, len(data))
+    variant = type.parts[index]
+    read_content = read_fields if variant.fields else read_parts
+    content, at = read_content(variant.fields or variant.parts, data, end)
+    return (index, content), at
+
+
+def write(type, value):
+    """The code of a value."""
+    kind = type.kind
+    if kind == "int":
+        return value.to_bytes(type.size, "little", signed=type.low < 0)
+    if kind == "bool":
+        return bytes([value])
+    if kind == "unit":
+        return b""
+    if kind == "String":
+        return size(value.encode()) + value.encode()
+    if kind == "option":
+        return b"\1" + write(type.parts[0], value[0]) if value else b"\0"
+    if kind == "box":
+        return write(type.parts[0], value)
+    if kind == "tuple":
+        return write_parts(type.parts, value)
+    if kind == "array":
+        return write_parts(type.parts * type.size, value)
+    if kind == "struct":
+        return write_fields(type.parts, value)
+    if kind == "enum":
+        index, content = value
+        variant = type.parts[index]
+        write_content = write_fields if variant.fields else write_parts
+        return index.to_bytes(2, "little") + write_content(variant.fields or variant.parts, content)
+    if kind == "map":
+        return size(value) + b"".join(write_parts(type.parts, pair) for pair in value)
+    return size(value) + b"".join(write(type.parts[0], item) for item in value)
+
+
+def size(items):
+    """A count or a length, as a usize."""
+    return len(items).to_bytes(8, "little")
+
+
+def write_parts(parts, values):
+    """The parts, one after another."""
+    return b"".join(write(part, value) for part, value in zip(parts, values))
+
+
+def write_fields(fields, values):
+    """The fields in declared order, and none that is skipped."""
+    return b"".join(write(f.type, value) for f, value in zip(fields, values) if f.kind != "skip")
+
+
+def deserialize(type, data, whole=False):
+    """The value that the bytes begin with, or that they are."""
+    value, at = read(type, data, 0)
+    if whole and at != len(data):
+        raise BinFault("TrailingBytes", at, 0, len(data))
+    return value
