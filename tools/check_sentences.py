@@ -18,6 +18,7 @@ PLANNED = {
     "docs/ARCHITECTURE.md": 150,
     "docs/DECISIONS.md": 150,
     "docs/DIFFERENCES.md": None,
+    "docs/ERRORS.md": None,
     "docs/FORMATS.md": None,
     "docs/GUARANTEES.md": 200,
     "docs/GUIDE.md": 250,

@@ -56,14 +56,14 @@ def read(type, data, at):
         return (item,), at
     if kind == "box":
         return read(type.parts[0], data, at)
-    if kind == "tuple":
+    if kind in ("tuple", "array", "struct"):
         return read_parts(type.parts, data, at)
-    if kind == "array":
-        return read_parts(type.parts * type.size, data, at)
-    if kind == "struct":
-        return read_fields(type.parts, data, at)
-    if kind == "enum":
-        return read_enum(type, data, at)
+    if kind == "enum":  # the place of the variant as a u16; another is the kind Own
+        index, end = number(data, at, 2)
+        if index >= len(type.variants):
+            raise BinFault("Own", at, 0, len(data))
+        content, at = read_parts(type.variants[index].parts, data, end)
+        return (index, content), at
     count, at = number(data, at, 8)
     if kind == "map":
         pairs = []
@@ -87,28 +87,6 @@ def read_parts(parts, data, at):
     return tuple(values), at
 
 
-def read_fields(fields, data, at):
-    """The fields in declared order, and none that is skipped."""
-    values = []
-    for field in fields:
-        value = None
-        if field.kind != "skip":
-            value, at = read(field.type, data, at)
-        values.append(value)
-    return tuple(values), at
-
-
-def read_enum(type, data, at):
-    """The place of the variant as a u16, and its content. Another place is the kind Own."""
-    index, end = number(data, at, 2)
-    if index >= len(type.parts):
-        raise BinFault("Own", at, 0, len(data))
-    variant = type.parts[index]
-    read_content = read_fields if variant.fields else read_parts
-    content, at = read_content(variant.fields or variant.parts, data, end)
-    return (index, content), at
-
-
 def write(type, value):
     """The code of a value."""
     kind = type.kind
@@ -124,17 +102,11 @@ def write(type, value):
         return b"\1" + write(type.parts[0], value[0]) if value else b"\0"
     if kind == "box":
         return write(type.parts[0], value)
-    if kind == "tuple":
+    if kind in ("tuple", "array", "struct"):
         return write_parts(type.parts, value)
-    if kind == "array":
-        return write_parts(type.parts * type.size, value)
-    if kind == "struct":
-        return write_fields(type.parts, value)
     if kind == "enum":
         index, content = value
-        variant = type.parts[index]
-        write_content = write_fields if variant.fields else write_parts
-        return index.to_bytes(2, "little") + write_content(variant.fields or variant.parts, content)
+        return index.to_bytes(2, "little") + write_parts(type.variants[index].parts, content)
     if kind == "map":
         return size(value) + b"".join(write_parts(type.parts, pair) for pair in value)
     return size(value) + b"".join(write(type.parts[0], item) for item in value)
@@ -150,12 +122,7 @@ def write_parts(parts, values):
     return b"".join(write(part, value) for part, value in zip(parts, values))
 
 
-def write_fields(fields, values):
-    """The fields in declared order, and none that is skipped."""
-    return b"".join(write(f.type, value) for f, value in zip(fields, values) if f.kind != "skip")
-
-
-def deserialize(type, data, whole=False):
+def deserialize(type, data, whole):
     """The value that the bytes begin with, or that they are."""
     value, at = read(type, data, 0)
     if whole and at != len(data):

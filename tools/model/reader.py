@@ -1,14 +1,33 @@
 """What a reader of JSON or RON has: a text, the place in it, the pending token, and the helpers.
 
-The characters that are taken are those of the tokens so far, white space and comments before
-them, and the one character after them, which is `text[at]`. See Place in docs/ERRORS.md.
+The characters that are taken are those of the tokens so far, of all that is skipped before them,
+and the one after the last of them, which is `text[at]`: see Place in docs/ERRORS.md.
 """
 import re
+from typing import NamedTuple
 
+from . import lexemes
 from .debug import shown_char
 
 WHITE = re.compile("[ \t\r\n]*")
-GREATEST = 2**64 - 1
+GREATEST = 2**64 - 1  # usize::MAX
+
+
+class Brackets(NamedTuple):
+    """Two tokens around others, and the words for them."""
+
+    open: str
+    open_word: str
+    close: str
+    close_word: str
+
+
+BLOCK = Brackets("BlockOpen", "[", "BlockClose", "]")
+CURLY = Brackets("CurlyOpen", "{", "CurlyClose", "}")
+PAREN = Brackets("ParenOpen", "(", "ParenClose", ")")
+PUNCTUATION = {":": "Colon", ",": "Comma"}
+for _pair in (BLOCK, CURLY):
+    PUNCTUATION.update({_pair.open_word: _pair.open, _pair.close_word: _pair.close})
 
 
 class Fault(Exception):
@@ -20,9 +39,10 @@ class Fault(Exception):
 
 
 class Reader:
-    """A reader's state. `line` and `column` are those before the text, of which `taken` were counted."""
+    """A reader's state. Line and column begin with these, in which `taken` characters are counted."""
 
-    name = ""
+    PUNCTUATION = PUNCTUATION
+    NUMBERS = "+-0123456789"  # what a number begins with
 
     def __init__(self, text, line=0, column=0, taken=0):
         self.text, self.at, self.end = text, 0, -1
@@ -74,51 +94,74 @@ class Reader:
 
     # ---- tokens
 
+    def skipped(self, at, end):
+        """The place after all that is skipped before a token."""
+        return WHITE.match(self.text, at, end).end()
+
     def cut(self, at, end):
-        """The kind and the value of the token at a place that is not white space, and the place after it."""
+        """The kind and the value of the token at this place, and the place after it."""
+        char = self.text[at]
+        if char in self.PUNCTUATION:
+            return self.PUNCTUATION[char], None, at + 1
+        if char != '"' and char not in self.NUMBERS:
+            return self.cut_word(at, end)
+        what = "string" if char == '"' else "number"
+        tok, value, self.at = getattr(lexemes, what)(self.text, at, end)
+        if tok is None:
+            raise self.err_parse(what)
+        return tok, value, self.at
+
+    def cut_word(self, at, end):
+        """The same of a token that is no punctuation, number or string."""
         raise NotImplementedError
 
     def next_tok(self):
-        """Takes the next token; after an error the reader is at the end of its text."""
+        """Cuts the next token; after an error the reader is at the end of its text."""
         end = self.text_end()
-        self.at = WHITE.match(self.text, self.at, end).end() if self.at < end else self.at
         try:
+            self.at = self.skipped(self.at, end)
             tok, value, self.at = self.cut(self.at, end) if self.at < end else ("Eof", None, self.at)
         except Fault:
             self.fail()
             raise
         self.tok, self.value = tok, value
 
-    def stop(self, at):
-        """An error is found when the character at this place is taken."""
-        self.at = at
+    def next(self):
+        """Takes a character; at the end of the text there is none."""
+        self.at, self.failed = min(self.at + 1, len(self.text)), False
 
     def fail(self):
-        """The reader is at the end of its text."""
+        """The reader is at the end of its text; line and column are unchanged."""
         self.tok, self.value, self.failed = "Eof", None, True
 
     # ---- helpers
 
-    def expect(self, tok, what):
-        """Takes the pending token, which is to be this one, and the next."""
+    def ask(self, tok, what):
+        """Takes the pending token, which is to be this one."""
         if self.tok != tok:
             raise self.err_token(what)
         self.next_tok()
 
-    def eat_comma(self, close, what):
-        """Takes a comma, or leaves the closing bracket pending."""
-        if self.tok == "Comma":
-            self.next_tok()
-        elif self.tok != close:
-            raise self.err_token(what)
+    def open(self, brackets):
+        """Takes the opening bracket."""
+        self.ask(brackets.open, brackets.open_word)
+
+    def close(self, brackets):
+        """Takes the closing bracket."""
+        self.ask(brackets.close, brackets.close_word)
+
+    def eat_comma(self, brackets):
+        """Takes a comma, or leaves the closing bracket."""
+        if self.tok != brackets.close:
+            self.ask("Comma", f", or {brackets.close_word}")
 
     def next_colon(self):
-        """Takes two tokens, of which the first is to be a colon."""
+        """Takes the pending token, and then a colon."""
         self.next_tok()
-        self.expect("Colon", ":")
+        self.ask("Colon", ":")
 
     def u64_range(self, most):
-        """The pending integer from 0 to `most`."""
+        """The pending integer up to `most`."""
         if self.tok != "U64":
             raise self.err_token("unsigned integer")
         if self.value > most:
@@ -126,7 +169,7 @@ class Reader:
         return self.value
 
     def i64_range(self, least, most):
-        """The pending integer from `least` to `most`; the least is tested first."""
+        """The pending integer from `least`, which is tested first, to `most`."""
         if self.tok not in ("I64", "U64"):
             raise self.err_token("signed integer")
         if self.value < least:
@@ -142,17 +185,13 @@ class Reader:
         return self.value
 
     def as_string(self):
-        """The pending text, which is then empty. The token stays."""
+        """The pending text, which is then empty."""
         if self.tok != "Str":
             raise self.err_token("string")
         value, self.value = self.value, ""
         return value
 
-    def integer(self, type):
-        """The pending integer in the type's range."""
-        return self.i64_range(type.low, type.high) if type.low else self.u64_range(type.high)
-
     def end_of_input(self):
-        """A whole input: the end is pending, and no NUL stands anywhere."""
+        """A whole input: the end is pending, and the text has no NUL."""
         if self.tok != "Eof" or "\0" in self.text:
             raise self.err_parse("end")

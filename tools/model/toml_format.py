@@ -1,5 +1,5 @@
 """TOML: statements, their table, and its listing. The section TOML of docs/FORMATS.md."""
-from .json_format import quoted
+from .json_format import JsonForm
 from .toml_tokens import TomlReader
 
 VALUES = {"Str": "Str", "Bool": "Bool", "Date": "Date", "Nan": "Nan", "Inf": "Inf",
@@ -81,7 +81,7 @@ def value(reader):
 def shown(kind, content):
     """A value as the listing has it."""
     if kind == "Str":
-        return quoted(content)
+        return JsonForm.quoted(content)
     if kind == "Bool":
         return "true" if content else "false"
     if kind == "Num":
@@ -98,10 +98,10 @@ def listing(table):
     lines = []
     for key, (kind, content) in sorted(table.items()):
         if kind != "Array":
-            lines.append(f"{quoted(key)} = {shown(kind, content)}")
+            lines.append(f"{JsonForm.quoted(key)} = {shown(kind, content)}")
             continue
-        lines.append(f"{quoted(key)} = tables {len(content)}")
+        lines.append(f"{JsonForm.quoted(key)} = tables {len(content)}")
         for index, element in enumerate(content):
             for subkey, item in sorted(element.items()):
-                lines.append(f"{quoted(key)}[{index}] {quoted(subkey)} = {shown(*item)}")
+                lines.append(f"{JsonForm.quoted(key)}[{index}] {JsonForm.quoted(subkey)} = {shown(*item)}")
     return "".join(line + "\n" for line in lines)

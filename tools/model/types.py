@@ -14,23 +14,26 @@ class Type(NamedTuple):
     """A type: what kind it is, and what that kind needs to be said."""
 
     kind: str
-    parts: tuple = ()  # the types of parts, or the fields, or the variants
-    size: int = 0  # an integer's bytes, or the count of an array
+    parts: tuple = ()  # the types of its items, parts or fields, one after another
+    fields: tuple = ()  # of a struct
+    variants: tuple = ()  # of an enum
+    size: int = 0  # an integer's bytes
     low: int = 0  # the range of an integer
     high: int = 0
 
 
 class Field(NamedTuple):
-    """A named field. `kind` is required, missing (an Option), default or skip."""
+    """A named field. `kind` says what a missing one is: `required`, `optional`, which is `None`
+    and then is not written, or `default`."""
 
     name: str
     type: Type
-    kind: str = "required"
-    default: Any = None
+    kind: str
+    default: Any
 
 
 class Variant(NamedTuple):
-    """A variant: its name, the types of its parts, or its fields."""
+    """A variant: its name, the types of its parts or fields, and its fields."""
 
     name: str
     parts: tuple = ()
@@ -55,16 +58,17 @@ ALIASES = {
     "Reply": "Reply<i32, String>",
 }
 
-# The table "The types of the tables" of docs/FORMATS.md. A field is `name: type`, and after it
-# `skip` or the default, if it has one; a variant is a name, its parts or its fields.
+# The types of the tables in docs/FORMATS.md. A field is `name: type`, and its default if it has
+# one. A skipped field is neither read nor written, so it is no field here. A variant is a name, its
+# parts or its fields.
 STRUCTS = {
     "Item": ["value: i32", "note: Option<String>"],
     "Holder": ["x: A"],
     "Server": ["host: String", "port: u16", "tags: Tags", "limits: Limits", "note: Option<String>"],
     "Site": ["host: String", ("port: u16", 8080), ("first: String", "index"),
-             ("tags: Vec<String>", ()), ("hits: u64", "skip"), ("owner: Option<String>", ())],
+             ("tags: Vec<String>", ()), ("owner: Option<String>", ())],
     "Clock": [("offset: i32", -5), ("running: bool", True)],
-    "Tagged": ["first: A", "other: Option<B>", "more: Vec<A>", ("hits: u64", "skip"), ("times: u32", 1)],
+    "Tagged": ["first: A", "other: Option<B>", "more: Vec<A>", ("times: u32", 1)],
 }
 ENUMS = {
     "Choice": ["A", "B(i32, String)", {"C": ["a: i32", "b: String"]}],
@@ -73,7 +77,7 @@ ENUMS = {
     "Command": ["Stop", "Move(u32, String)", "Wait(u64)"],
     "Message": ["Hello", "Move(i32, String)", "Wait(u64)", {"Say": ["text: String", "times: u32"]}],
     "Notice": ["gone", "Move(i32, String)",
-               {"said": ["text: String", ("times: u32", 1), ("heard: u64", "skip")]}],
+               {"said": ["text: String", ("times: u32", 1)]}],
     "Reply": ["Found(A)", "Failed(B, u32)", {"Listed": ["items: Vec<A>", "next: Option<B>"]}],
 }
 # These have one format alone.
@@ -116,7 +120,7 @@ def read(words, given):
         item, rest = read(rest, given)
         if rest[0] != ";" or rest[2] != "]":
             raise Unknown("an array has its count")
-        return Type("array", (item,), int(rest[1])), rest[3:]
+        return Type("array", (item,) * int(rest[1])), rest[3:]
     parts = ()
     if rest[:1] == ["<"]:
         parts, rest = read_list(rest[1:], ">", given)
@@ -150,23 +154,21 @@ def named(word, parts, given):
         return parse(ALIASES[word])
     given = dict(zip("AB", parts))
     if word in STRUCTS:
-        return Type("struct", fields(STRUCTS[word], given))
+        found = fields(STRUCTS[word], given)
+        return Type("struct", tuple(field.type for field in found), found)
     if word in ENUMS:
-        return Type("enum", tuple(variant(line, given) for line in ENUMS[word]))
+        return Type("enum", variants=tuple(variant(line, given) for line in ENUMS[word]))
     raise Unknown(word)
 
 
 def fields(lines, given):
-    """The fields of a struct or of a variant."""
+    """The fields of a struct or of a variant. One whose type is written `Option<..>` may be missing."""
     found = []
     for line in lines:
-        line, default = line if isinstance(line, tuple) else (line, None)
+        line, *default = line if isinstance(line, tuple) else (line,)
         name, written = line.split(": ")
-        type, _ = read(NAME.findall(written), given)
-        kind = "missing" if written.startswith("Option<") else "required"
-        if default is not None:
-            kind = "skip" if default == "skip" else "default"
-        found.append(Field(name, type, kind, default))
+        kind = "default" if default else "optional" if written.startswith("Option<") else "required"
+        found.append(Field(name, read(NAME.findall(written), given)[0], kind, *default or [()]))
     return tuple(found)
 
 
@@ -174,7 +176,8 @@ def variant(line, given):
     """A variant of an enum."""
     if isinstance(line, dict):
         ((name, lines),) = line.items()
-        return Variant(name, fields=fields(lines, given))
+        found = fields(lines, given)
+        return Variant(name, tuple(field.type for field in found), found)
     name, _, parts = line.partition("(")
     return Variant(name, read_list(NAME.findall(parts), ")", given)[0] if parts else ())
 

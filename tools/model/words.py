@@ -1,9 +1,10 @@
-"""The program nano_show. The section The program nano_show of docs/ERRORS.md."""
+"""The program nano_show, of which docs/ERRORS.md has a section, and the formats by their names."""
 import re
 
-from . import binary, json_format, ron_format, toml_format, types
-from .binary import BinFault
+from . import binary, toml_format, types, values
+from .json_format import JsonForm, JsonReader
 from .reader import Fault
+from .ron_format import RonForm, RonReader
 
 USAGE = ("usage: nano_show code u16s N.. | code text [WORD] | json TYPE | ron TYPE | bin TYPE | toml"
          " | json-whole TYPE | ron-whole TYPE | bin-whole TYPE")
@@ -11,63 +12,67 @@ TYPES = {"u8": "u8", "u32": "u32", "u64": "u64", "i32": "i32", "i64": "i64", "bo
          "string": "String", "bytes": "Vec<u8>", "set": "HashSet<i32>", "map": "HashMap<String, i32>",
          "tree": "BTreeMap<String, i32>", "item": "Item", "choice": "Choice"}
 TITLES = {"json": "Json Deserialize error", "ron": "Ron Deserialize error", "toml": "Toml error"}
+READERS = {"json": JsonReader, "ron": RonReader}
+FORMS = {"json": JsonForm, "ron": RonForm}
 
 
-def printed(format, fault):
-    """An error of a text as it is printed, with line and column from 1."""
-    return f"{TITLES[format]}: {fault.message}, line:{fault.line + 1} col:{fault.column + 1}"
+class Rejected(Exception):
+    """An input with no value: the error as it is printed."""
 
 
-def usage():
-    """The ending of words that are unknown. They read nothing."""
-    return ending(2, USAGE)
+def of_text(name, read, data):
+    """What a reader makes of a text of this format."""
+    try:
+        return read(data.decode())
+    except UnicodeDecodeError:
+        raise Rejected("not UTF-8") from None
+    except Fault as fault:
+        place = f"line:{fault.line + 1} col:{fault.column + 1}"
+        raise Rejected(f"{TITLES[name]}: {fault.message}, {place}") from None
 
 
-def ending(status, text):
-    """An ending that writes nothing on standard output."""
-    return status, b"", text.encode() + b"\n"
+def decoded(name, type, data, whole):
+    """The value that an input of this format begins with, or that it is."""
+    if name == "bin":
+        return binary.deserialize(type, data, whole)
+    return of_text(name, lambda text: values.deserialize(READERS[name](text), type, whole), data)
 
 
-def code(words):
-    """`code u16s N..` or `code text [WORD]`: the bytes in pairs."""
+def encoded(name, type, value):
+    """What is written of a value: pairs of digits, or a text at level 0."""
+    return binary.write(type, value).hex(" ") if name == "bin" else values.write(FORMS[name], type, value)
+
+
+def codes(words):
+    """What `code` writes after these words, or nothing where they are unknown."""
     if words[:1] == ["u16s"]:
-        numbers = words[1:]
-        good = all(re.fullmatch("[0-9]+", n) and len(n.lstrip("0")) < 6 and int(n) < 65536 for n in numbers)
-        if not good:
-            return usage()
-        return pairs(binary.write(types.parse("Vec<u16>"), tuple(map(int, numbers))))
+        if all(re.fullmatch("0*[0-9]{1,5}", word) and int(word[-5:]) < 65536 for word in words[1:]):
+            return encoded("bin", types.parse("Vec<u16>"), tuple(map(int, words[1:])))
     if words[:1] == ["text"] and len(words) < 3:
-        return pairs(binary.write(types.parse("Option<String>"), tuple(words[1:])))
-    return usage()
+        return encoded("bin", types.parse("Option<String>"), tuple(words[1:]))
+    return None
 
 
-def pairs(data):
-    """Two digits for each byte, with a space between."""
-    return 0, data.hex(" ").encode() + b"\n", b""
+def answered(words, data):
+    """What is written for these words and this input, or nothing where the words are unknown."""
+    if words[:1] == ["code"]:
+        line = codes(words[1:])
+        return line if line is None else line + "\n"
+    if words == ["toml"]:
+        return toml_format.listing(of_text("toml", toml_format.parse, data))
+    name, dash, whole = (words[:1] or [""])[0].partition("-")
+    if len(words) != 2 or words[1] not in TYPES or name not in ("bin", *READERS) or dash + whole not in ("", "-whole"):
+        return None
+    type = types.parse(TYPES[words[1]])
+    return encoded(name, type, decoded(name, type, data, bool(whole))) + "\n"
 
 
 def run(words, data):
-    """The status, standard output and standard error of these words and this input."""
-    if words[:1] == ["code"]:
-        return code(words[1:])
-    if words == ["toml"]:
-        format, whole, type = "toml", False, None
-    elif len(words) == 2 and words[1] in TYPES and words[0].removesuffix("-whole") in ("bin", "json", "ron"):
-        format, whole = words[0].removesuffix("-whole"), words[0].endswith("-whole")
-        type = types.parse(TYPES[words[1]])
-    else:
-        return usage()
+    """The status, and what is written on standard output and on standard error."""
     try:
-        if format == "bin":
-            return pairs(binary.write(type, binary.deserialize(type, data, whole)))
-        text = data.decode()
-        if format == "toml":
-            return 0, toml_format.listing(toml_format.parse(text)).encode(), b""
-        module = {"json": json_format, "ron": ron_format}[format]
-        return 0, (module.write(type, module.deserialize(type, text, whole)) + "\n").encode(), b""
-    except UnicodeDecodeError:
-        return ending(1, "not UTF-8")
-    except BinFault as fault:
-        return ending(1, fault.printed())
-    except Fault as fault:
-        return ending(1, printed(format, fault))
+        line = answered(words, data)
+    except Rejected as error:
+        return 1, b"", f"{error}\n".encode()
+    except binary.BinFault as fault:
+        return 1, b"", f"{fault.printed()}\n".encode()
+    return (2, b"", f"{USAGE}\n".encode()) if line is None else (0, line.encode(), b"")

@@ -1,0 +1,122 @@
+"""Rows of a state: calls of a reader or a writer, one after another, and readers at an offset.
+
+The head of states.tsv says how their fields are written; Calls of a reader's state in
+docs/ERRORS.md says what each call does.
+"""
+import re
+
+from . import binary, toml_format, types, values
+from .reader import BLOCK, CURLY, GREATEST, PAREN, Fault
+from .ron_format import indent
+from .words import FORMS, READERS, encoded, of_text
+
+FORMATS = {"bin-at", "json-state", "ron-state", "json-write", "ron-write", "toml-date"}
+STATE = re.compile(r"(\w+)(?:\((.*?)\))? ([0-9]+):([0-9]+) (.*)", re.DOTALL)
+# The calls that ask for a token: the format that alone has it, the token and its word.
+ASKS = {"colon": ("", "Colon", ":"), "string": ("json", "Str", "String"), "ident": ("ron", "Ident", "Identifier")}
+BRACKETS = {"block": ("", BLOCK), "curly": ("", CURLY), "paren": ("ron", PAREN)}
+ERRORS = {"err_exp": "Unexpected key k", "err_nf": "Key not found k", "err_enum": "Enum not defined V",
+          "err_range": "Value out of range x ", "err_type": "Token wrong type x ", "err_parse": "Cannot parse x "}
+TESTS = {"next_str": ("json", "Str"), "is_null": ("json", "Null"), "next_ident": ("ron", "Ident"),
+         "is_block_close": ("", "BlockClose"), "is_curly_close": ("", "CurlyClose"), "is_paren_close": ("ron", "ParenClose")}
+
+
+def answered(format, type, data):
+    """The answer of a row."""
+    name, _, kind = format.partition("-")
+    if kind == "at":
+        offset, _, code = data.partition(b" ")
+        value, at = binary.read(types.parse(type), code, int(offset))
+        return f"{encoded('bin', types.parse(type), value)} -> {at}".encode()
+    if kind == "date":
+        return of_text(name, toml_format.parse, data)[type][1].encode()
+    if kind == "write" and type[0] != ".":
+        value, _ = binary.read(types.parse(type), data, 0)
+        return values.write(FORMS[name], types.parse(type), value, GREATEST).encode()
+    if kind == "write":
+        return f"ok -> {data.decode()}{appended(name, *type[1:].split('_'))}".encode()
+    tok, value, line, column, text = STATE.fullmatch(data.decode()).groups()
+    reader = READERS[name](text, int(line), int(column), 1)
+    reader.tok, reader.value = tok, carried(tok, value)
+    if type[0] != ".":
+        if not types.has(type, name):
+            raise types.Unknown(type)
+        return call(reader, lambda: values.write(FORMS[name], types.parse(type), read(reader, type))).encode()
+    return " | ".join(call(reader, lambda: called(name, reader, word[1:])) for word in type.split(" ")).encode()
+
+
+def carried(tok, value):
+    """What a token carries that is written with this in parentheses."""
+    if tok in ("U64", "I64"):
+        return int(value)
+    return value == "true" if tok == "Bool" else value[1:-1] if tok == "Char" else value
+
+
+def read(reader, type):
+    """A value of this type; a reader that fails is at the end of its text."""
+    try:
+        return values.read(reader, types.parse(type))
+    except Fault:
+        reader.fail()
+        raise
+
+
+def call(reader, ask):
+    """What a call answers, and the state after it."""
+    try:
+        answer = ask()
+    except Fault as fault:
+        answer = f"error {fault.message}, at {fault.line}:{fault.column}"
+    line, column = reader.place()
+    has_text = reader.tok in ("Str", "F64", "Ident")
+    current = "\0" if reader.failed else reader.text[reader.at : reader.at + 1] or "\0"
+    shown = f"{reader.tok}({reader.value})" if has_text else reader.shown()
+    return f"{answer} -> {shown} {line}:{column} {current}{reader.text[reader.at + 1 :]}"
+
+
+def called(format, reader, word):
+    """What one call answers."""
+    name, *arguments = re.fullmatch(r"([a-z0-9_]*?)(?:_(-?[0-9]+))?(?:_(-?[0-9]+))?", word).groups()
+    numbers = [int(argument) for argument in arguments if argument]
+    part, _, rest = name.partition("_")
+    if name in ("next", "next_tok", "next_colon", "fail", "whole_field") and hasattr(reader, name):
+        getattr(reader, name)()
+    elif name in ASKS and ASKS[name][0] in ("", format):
+        reader.ask(*ASKS[name][1:])
+    elif part in BRACKETS and BRACKETS[part][0] in ("", format) and rest in ("open", "close"):
+        getattr(reader, rest)(BRACKETS[part][1])
+    elif name.startswith("eat_comma_") and BRACKETS[name[10:]][0] in ("", format):
+        reader.eat_comma(BRACKETS[name[10:]][1])
+    elif name == "u64_range":
+        return str(reader.u64_range(*numbers or [2**64 - 1]))
+    elif name == "i64_range":
+        return str(reader.i64_range(*numbers or [-(2**63), 2**63 - 1]))
+    elif name == "as_bool":
+        return "true" if reader.as_bool() else "false"
+    elif name == "as_string":
+        return reader.as_string()
+    elif name in TESTS and TESTS[name][0] in ("", format):
+        return "true" if reader.tok == TESTS[name][1] else "false"
+    elif name == "is_none" and format == "ron":
+        return "true" if reader.is_absent() else "false"
+    elif name == "err_memory":
+        return "out of memory"
+    elif name == "err_token":
+        raise reader.err_token("x")
+    elif name in ERRORS:
+        raise reader.error(ERRORS[name])
+    else:
+        raise types.Unknown(word)
+    return "ok"
+
+
+def appended(format, name, *arguments):
+    """What a call of a writer's state appends."""
+    if format == "json":
+        texts = {"st": {"pre": "{", "post": "}"}.get(arguments[0], "") if arguments else "", "conl": ",", "indent": "",
+                 "field": f'"{arguments[-1]}":' if arguments else "", "label": f'"{arguments[-1]}"' if arguments else ""}
+        return texts[name]
+    level = int(arguments[-2] if name == "field" else arguments[-1]) if arguments and arguments[0] != "pre" else 0
+    texts = {"st": "(\n" if "pre" in arguments else indent(level) + ")", "conl": ",\n", "indent": indent(level),
+             "field": f"{indent(level)}{arguments[-1]}:" if arguments else ""}
+    return texts[name]
