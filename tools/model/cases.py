@@ -1,15 +1,7 @@
 """The rows of the tables in crates/conformance_run/data: their fields and how these are written."""
 import re
-from typing import NamedTuple
 
 ESCAPED = re.compile(rb"%\*([0-9]+)\(([^()]*)\)|%([0-9A-F]{2})")
-
-
-class Row(NamedTuple):
-    """A row: where it stands, and its fields as they are written."""
-
-    place: str
-    fields: list
 
 
 class Malformed(Exception):
@@ -17,12 +9,12 @@ class Malformed(Exception):
 
 
 def rows(path):
-    """The rows of a table, without its comments."""
+    """The rows of a table: where each stands, and its fields as they are written."""
     with open(path, encoding="utf-8", newline="\n") as table:
         for number, line in enumerate(table, 1):
             line = line.rstrip("\n")
             if line and not line.startswith("#"):
-                yield Row(f"{path}:{number}", line.split("\t"))
+                yield f"{path}:{number}", line.split("\t")
 
 
 def unescape(field):

@@ -63,29 +63,21 @@ class JsonReader(Reader):
         return self.tok == "Null"
 
     def variant(self, variants):
-        """Str with a name, or `{` Str with a name, Colon, the content, `}`."""
-        name = self.value
-        if self.tok == "Str":
+        """Str with a name; or `{` Str with a name, Colon, the content, `}` with no comma before it."""
+        has_content = self.tok == "CurlyOpen"
+        if has_content:
             self.next_tok()
-        elif self.tok == "CurlyOpen":
-            self.next_tok()
-            return self.variant_with_content(variants)
-        else:
+        elif self.tok != "Str":
             raise self.err_token("String or {")
-        for index, variant in enumerate(variants):
-            if variant.name == name and not variant.parts:
-                return index, ()
-        raise self.error(f"Enum not defined {name}")
-
-    def variant_with_content(self, variants):
-        """What stands between the brackets, and the closing one, which has no comma before it."""
         name = self.value
         self.ask("Str", "String")
-        self.ask("Colon", ":")
+        if has_content:
+            self.ask("Colon", ":")
         for index, variant in enumerate(variants):
-            if variant.name == name and variant.parts:
-                content = values.read_content(self, variant)
-                self.close(CURLY)
+            if variant.name == name and bool(variant.parts) == has_content:
+                content = values.read_content(self, variant) if has_content else ()
+                if has_content:
+                    self.close(CURLY)
                 return index, content
         raise self.error(f"Enum not defined {name}")
 
@@ -94,30 +86,8 @@ class JsonForm:
     """What is written. It is the same at every level."""
 
     UNIT = NONE = "null"
-
-    @staticmethod
-    def quoted(text):
-        """A string."""
-        return '"' + text.translate(ESCAPES) + '"'
-
-    @staticmethod
-    def key(name):
-        """The name of a field, and of a variant."""
-        return f'"{name}"'
-
-    @staticmethod
-    def content(name, content):
-        """A variant with content."""
-        return f'{{"{name}":{content}}}'
-
-    @staticmethod
-    def parts(texts, _=0):
-        """A list of any kind."""
-        return "[" + ",".join(texts) + "]"
-
-    @staticmethod
-    def pairs(texts, _):
-        """Pairs of a map, and fields."""
-        return "{" + ",".join(texts) + "}"
-
-    name, items, lines, fields = key, parts, parts, pairs
+    quoted = staticmethod(lambda text: '"' + text.translate(ESCAPES) + '"')
+    name = key = staticmethod(lambda name: f'"{name}"')  # of a variant, of a field
+    content = staticmethod(lambda name, content: f'{{"{name}":{content}}}')  # a variant with content
+    parts = items = lines = staticmethod(lambda texts, level=0: "[" + ",".join(texts) + "]")
+    pairs = fields = staticmethod(lambda texts, level: "{" + ",".join(texts) + "}")

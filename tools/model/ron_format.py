@@ -82,44 +82,22 @@ def indent(level):
     return " " * (4 * level)
 
 
+def in_lines(open, texts, level, close):
+    """Each text in a line of its own, with a comma after it."""
+    lines = "".join(f"{indent(level + 1)}{text},\n" for text in texts)
+    return f"{open}\n{lines}{indent(level)}{close}"
+
+
 class RonForm:
     """What is written at a level."""
 
     UNIT, NONE = "()", "None"
-    key = name = staticmethod(str)  # the name of a field, and of a variant
-    content = staticmethod(str.__add__)  # a variant with content
-
-    @staticmethod
-    def quoted(text):
-        """A string."""
-        return '"' + text.translate(ESCAPES) + '"'
-
-    @staticmethod
-    def parts(texts):
-        """An array, a tuple, the parts of a variant."""
-        return "(" + ", ".join(texts) + ")"
-
-    @staticmethod
-    def items(texts, level):
-        """A linked list, a set."""
-        return "[" + ",".join(indent(level + 1) + text for text in texts) + "]"
-
-    @staticmethod
-    def in_lines(texts, level):
-        """Each in a line of its own, with a comma after it."""
-        return "\n" + "".join(f"{indent(level + 1)}{text},\n" for text in texts) + indent(level)
-
-    @staticmethod
-    def lines(texts, level):
-        """A vector."""
-        return "[" + RonForm.in_lines(texts, level) + "]"
-
-    @staticmethod
-    def pairs(texts, level):
-        """A map."""
-        return "{" + RonForm.in_lines(texts, level) + "}"
-
-    @staticmethod
-    def fields(texts, level):
-        """Named fields."""
-        return "(" + RonForm.in_lines(texts, level) + ")"
+    quoted = staticmethod(lambda text: '"' + text.translate(ESCAPES) + '"')
+    name = key = staticmethod(lambda name: name)  # of a variant, of a field
+    content = staticmethod(lambda name, content: name + content)  # a variant with content
+    # an array, a tuple, the parts of a variant; a linked list, a set; a vector; a map; fields
+    parts = staticmethod(lambda texts: "(" + ", ".join(texts) + ")")
+    items = staticmethod(lambda texts, level: "[" + ",".join(indent(level + 1) + text for text in texts) + "]")
+    lines = staticmethod(lambda texts, level: in_lines("[", texts, level, "]"))
+    pairs = staticmethod(lambda texts, level: in_lines("{", texts, level, "}"))
+    fields = staticmethod(lambda texts, level: in_lines("(", texts, level, ")"))

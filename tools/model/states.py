@@ -12,6 +12,7 @@ from .words import FORMS, READERS, encoded, of_text
 
 FORMATS = {"bin-at", "json-state", "ron-state", "json-write", "ron-write", "toml-date"}
 STATE = re.compile(r"(\w+)(?:\((.*?)\))? ([0-9]+):([0-9]+) (.*)", re.DOTALL)
+WRITES = re.compile(r"(st_pre|st_post|conl|indent|field|label)(?:_([0-9]+))?(?:_([a-z]+))?")
 # The calls that ask for a token: the format that alone has it, the token and its word.
 ASKS = {"colon": ("", "Colon", ":"), "string": ("json", "Str", "String"), "ident": ("ron", "Ident", "Identifier")}
 BRACKETS = {"block": ("", BLOCK), "curly": ("", CURLY), "paren": ("ron", PAREN)}
@@ -34,7 +35,7 @@ def answered(format, type, data):
         value, _ = binary.read(types.parse(type), data, 0)
         return values.write(FORMS[name], types.parse(type), value, GREATEST).encode()
     if kind == "write":
-        return f"ok -> {data.decode()}{appended(name, *type[1:].split('_'))}".encode()
+        return f"ok -> {data.decode()}{appended(name, type[1:])}".encode()
     tok, value, line, column, text = STATE.fullmatch(data.decode()).groups()
     reader = READERS[name](text, int(line), int(column), 1)
     reader.tok, reader.value = tok, carried(tok, value)
@@ -110,13 +111,12 @@ def called(format, reader, word):
     return "ok"
 
 
-def appended(format, name, *arguments):
+def appended(format, call):
     """What a call of a writer's state appends."""
-    if format == "json":
-        texts = {"st": {"pre": "{", "post": "}"}.get(arguments[0], "") if arguments else "", "conl": ",", "indent": "",
-                 "field": f'"{arguments[-1]}":' if arguments else "", "label": f'"{arguments[-1]}"' if arguments else ""}
-        return texts[name]
-    level = int(arguments[-2] if name == "field" else arguments[-1]) if arguments and arguments[0] != "pre" else 0
-    texts = {"st": "(\n" if "pre" in arguments else indent(level) + ")", "conl": ",\n", "indent": indent(level),
-             "field": f"{indent(level)}{arguments[-1]}:" if arguments else ""}
-    return texts[name]
+    name, level, label = WRITES.fullmatch(call).groups()
+    space = indent(int(level or 0))
+    texts = {
+        "json": {"st_pre": "{", "st_post": "}", "conl": ",", "indent": "", "field": f'"{label}":', "label": f'"{label}"'},
+        "ron": {"st_pre": "(\n", "st_post": f"{space})", "conl": ",\n", "indent": space, "field": f"{space}{label}:"},
+    }
+    return texts[format][name]
