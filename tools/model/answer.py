@@ -26,9 +26,7 @@ UNKNOWN = Outcome("unknown", "")
 FORMATS = {"bin", "json", "ron"}
 
 
-def run(words, input):
-    """The status of nano_show, and what it writes on standard output and on standard error."""
-    return program.run(words, input)
+run = program.run
 
 
 def answer(format, type, input):

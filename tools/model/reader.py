@@ -31,11 +31,7 @@ for _pair in (BLOCK, CURLY):
 
 
 class Fault(Exception):
-    """An error of a text: its message, line and column, which count from 0."""
-
-    def __init__(self, message, line, column):
-        super().__init__(message, line, column)
-        self.message, self.line, self.column = message, line, column
+    """An error of a text. Its arguments are the message, and the line and column from 0."""
 
 
 class Reader:

@@ -67,7 +67,7 @@ def call(reader, ask):
     try:
         answer = ask()
     except Fault as fault:
-        answer = f"error {fault.message}, at {fault.line}:{fault.column}"
+        answer = "error {}, at {}:{}".format(*fault.args)
     line, column = reader.place()
     has_text = reader.tok in ("Str", "F64", "Ident")
     current = "\0" if reader.failed else reader.text[reader.at : reader.at + 1] or "\0"

@@ -53,7 +53,6 @@ class TomlReader(Reader):
         text = self.text
         quotes = 3 if text.startswith('"""', at, end) else 1
         if quotes == 1 and text.startswith('""', at, end):
-            # Three quotes would be their own beginning.
             return "Str", "", at + 2
         at += quotes
         pieces = []

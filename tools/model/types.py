@@ -76,10 +76,10 @@ ENUMS = {
     "Signal": ["Wait(u64)", "Move(u16, u16, u16)", "Light(u8, u8, u8, bool)"],
     "Command": ["Stop", "Move(u32, String)", "Wait(u64)"],
     "Message": ["Hello", "Move(i32, String)", "Wait(u64)", {"Say": ["text: String", "times: u32"]}],
-    "Notice": ["gone", "Move(i32, String)",
-               {"said": ["text: String", ("times: u32", 1)]}],
+    "Notice": ["gone", "Move(i32, String)", {"said": ["text: String", ("times: u32", 1)]}],
     "Reply": ["Found(A)", "Failed(B, u32)", {"Listed": ["items: Vec<A>", "next: Option<B>"]}],
 }
+PARAMETERS = {"Holder": 1, "Tagged": 2, "Reply": 2}
 # These have one format alone.
 ONLY = {"Command": "bin", "Message": "json", "u128": "bin", "i128": "bin"}
 
@@ -96,8 +96,8 @@ def parse(name):
         raise Unknown(name)
     try:
         type, rest = read(words, {})
-    except (IndexError, ValueError) as error:
-        raise Unknown(name) from error
+    except (IndexError, ValueError):
+        rest = words
     if rest:
         raise Unknown(name)
     return type
@@ -152,6 +152,8 @@ def named(word, parts, given):
         return Type(CONTAINERS[word], parts)
     if word in ALIASES and not parts:
         return parse(ALIASES[word])
+    if len(parts) != PARAMETERS.get(word, 0):
+        raise Unknown(word)
     given = dict(zip("AB", parts))
     if word in STRUCTS:
         found = fields(STRUCTS[word], given)

@@ -27,8 +27,8 @@ def of_text(name, read, data):
     except UnicodeDecodeError:
         raise Rejected("not UTF-8") from None
     except Fault as fault:
-        place = f"line:{fault.line + 1} col:{fault.column + 1}"
-        raise Rejected(f"{TITLES[name]}: {fault.message}, {place}") from None
+        message, line, column = fault.args
+        raise Rejected(f"{TITLES[name]}: {message}, line:{line + 1} col:{column + 1}") from None
 
 
 def decoded(name, type, data, whole):
