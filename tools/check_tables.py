@@ -7,9 +7,10 @@ as none can be, a verdict `rejected` (the pages give the text of every error), a
 model cannot judge, but for those of NOT_JUDGED. Each row of wrong.tsv has a fault, and where it is
 judged the program's stored output has the model's answer. The counts there are those of the tables.
 
-Of rust_crate.tsv it is looked at what the Rust crate did. With no name of a difference the two
-answer alike, or fail alike. With a name the row shows that difference as far as its columns can, by
-the table SHOWN below. What the crate answered, and the text of its errors, stand in no column.
+Of rust_crate.tsv it is looked at what the Rust crate did. The model is asked again with each named
+difference undone (rust_crate.py): then it does what the column RUST_CRATE says, each name changes
+what comes, and no other difference does. What the crate answered, and the text of its errors, stand
+in no column; so a name that changes these alone is judged by what the model would answer.
 Usage, at the top of the repository: python3 tools/check_tables.py [-v] [TABLE..]
 With -v each row that is not judged is printed.
 """
@@ -20,6 +21,7 @@ import time
 
 sys.path.insert(0, str(pathlib.Path(__file__).parent))
 sys.setrecursionlimit(20_000)
+import rust_crate  # noqa: E402
 from model import cases  # noqa: E402
 from model.answer import answer  # noqa: E402
 
@@ -29,48 +31,6 @@ WRONG = "wrong.tsv"
 # Rows that the model cannot judge, by table, format and type, and why.
 NOT_JUDGED = {}
 FIELDS = {"rust_crate.tsv": 7, WRONG: (5, 7)}
-# What a difference shows: what the crate did, a pattern of the answer, and one of the input.
-SHOWN = {
-    "counts": ("stopped", r"^TooShort ", ""),
-    "a text that is cut short": ("rejected", r"^TooShort o \d+ l (?!1 )", ""),
-    "a text that is not UTF-8": ("stopped", r"^NotUtf8 ", ""),
-    "i64_range": ("answered|rejected", r"Value out of range ", r"\d{19}|-\d"),
-    "whole_field": ("stopped", r"expected field |Cannot parse field ", ""),
-    "a fault in a tuple": ("rejected", "", r"[\[(]"),
-    "a character between apostrophes": ("answered|rejected", "", "'"),
-    "/*/": ("answered|rejected", "", r"/\*/"),
-    '""': ("answered|rejected", "", '""(?!")'),
-    "closing triple quotes": ("answered|rejected", "", '"""'),
-    "a.b": ("answered|rejected", "", r"[A-Za-z_][A-Za-z_-]*\."),
-    "[[a]] on a key of another kind": ("stopped", r"Array header on another kind ", r"\[\s*\["),
-}
-# These change what is answered, and the others alone whether something is.
-OTHER_ANSWERS = {"a.b", '""', "closing triple quotes", "/*/"}
-
-
-def crate_faults(fields, got):
-    """Where the columns show no difference that is named, or one that is not."""
-    did, names = fields[5], [name for name in fields[6].split("; ") if name]
-    alike = (did, got.verdict) in (("answered", "is"), ("rejected", "error"))
-    if did not in ("answered", "rejected", "stopped"):
-        yield f"the crate did {did!r}"
-    if not names and not alike:
-        yield f"the crate {did}, and no difference is named"
-    for name in names:
-        if name not in SHOWN:
-            yield f"no rule says how a row shows {name!r}"
-            continue
-        does, answered, given = SHOWN[name]
-        if did not in does.split("|"):
-            yield f"the crate {did}, which is not {name!r}"
-        if not re.search(answered, got.answer):
-            yield f"the answer {got.answer[:80]} is not {name!r}"
-        if not re.search(given, fields[2]):
-            yield f"the input has nothing of {name!r}"
-    if names and (did, got.verdict) == ("answered", "is") and not OTHER_ANSWERS & set(names):
-        yield f"both answer, and {fields[6]!r} changes no answer"
-    if "a.b" in names and got.verdict == "is" and not re.search(r'\.[^"]*"(?: =|\[)', got.answer):
-        yield "no key of the answer has a point"
 
 
 def faults_of(table, fields, outcomes):
@@ -95,7 +55,7 @@ def faults_of(table, fields, outcomes):
     elif (fields[3], answered) != tuple(got):
         yield f"wanted {fields[3]} {answered[:200]}, got {got.verdict} {got.answer[:200]}"
     if len(fields) == 7:
-        yield from crate_faults(fields, got)
+        yield from rust_crate.faults(fields)
 
 
 def stored():

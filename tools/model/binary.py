@@ -31,6 +31,20 @@ def number(data, at, size, signed=False):
     return int.from_bytes(data[at:end], "little", signed=signed), end
 
 
+def text(data, length, at):
+    """So many bytes of UTF-8: in an error `o` is the first of them, and `l` their number."""
+    end = take(data, at, length)
+    try:
+        return data[at:end].decode(), end
+    except UnicodeDecodeError:
+        raise BinFault("NotUtf8", at, length, len(data)) from None
+
+
+def counted(_, count, at):
+    """The count of a container of this type, with which nothing is done before its items are read."""
+    return count, at
+
+
 def read(type, data, at):
     """The value of the code at a place, and the place after it."""
     kind = type.kind
@@ -41,13 +55,8 @@ def read(type, data, at):
         return value != 0, at
     if kind == "unit":
         return (), at
-    if kind == "String":  # its length is `l`, and its first byte `o`
-        count, at = number(data, at, 8)
-        end = take(data, at, count)
-        try:
-            return data[at:end].decode(), end
-        except UnicodeDecodeError:
-            raise BinFault("NotUtf8", at, count, len(data)) from None
+    if kind == "String":
+        return text(data, *number(data, at, 8))
     if kind == "option":  # 1 and an item, and any other byte is none
         value, at = number(data, at, 1)
         if value != 1:
@@ -64,7 +73,7 @@ def read(type, data, at):
             raise BinFault("Own", at, 0, len(data))
         content, at = read_parts(type.variants[index].parts, data, end)
         return (index, content), at
-    count, at = number(data, at, 8)
+    count, at = counted(type, *number(data, at, 8))
     if kind == "map":
         pairs = []
         for _ in range(count):

@@ -11,44 +11,28 @@ def parse(text):
     reader = TomlReader(text)
     root, element, scope = {}, None, ""
     while True:
-        reader.next_tok()
+        key = reader.want("BlockOpen", "Ident", "Str", "Eof")
         if reader.tok == "Eof":
             return root
-        if reader.tok == "BlockOpen":
-            reader.next_tok()
-            if reader.tok == "BlockOpen":
-                element = array_header(reader, root)
-            else:
-                scope = name(reader, "Ident", "Str")
-                after(reader, "BlockClose")
-        else:
-            key = name(reader, "Ident", "Str")
-            after(reader, "Equals")
+        if reader.tok != "BlockOpen":
+            reader.want("Equals")
             reader.next_tok()
             # The last value of a key counts, in the root or in the last table.
             (root if element is None else element)[f"{scope}.{key}" if scope else key] = value(reader)
-
-
-def name(reader, *kinds):
-    """The name that the token is."""
-    if reader.tok not in kinds:
-        raise reader.err_unexpected()
-    return reader.value
-
-
-def after(reader, tok):
-    """Takes a token, which is to be this one."""
-    reader.next_tok()
-    if reader.tok != tok:
-        raise reader.err_unexpected()
+            continue
+        name = reader.want("BlockOpen", "Ident", "Str")
+        if reader.tok == "BlockOpen":
+            element = array_header(reader, root)
+        else:
+            scope = name
+            reader.want("BlockClose")
 
 
 def array_header(reader, root):
     """`[[a]]`: one more table in the Array at root key `a`, whatever the scope."""
-    reader.next_tok()
-    key = name(reader, "Ident")
-    after(reader, "BlockClose")
-    after(reader, "BlockClose")
+    key = reader.want("Ident")
+    reader.want("BlockClose")
+    reader.want("BlockClose")
     kind, tables = root.setdefault(key, ("Array", []))
     if kind != "Array":
         raise reader.error(f"Array header on another kind {key} ")

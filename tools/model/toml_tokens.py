@@ -112,6 +112,13 @@ class TomlReader(Reader):
             return f"{self.tok}({'true' if self.value else 'false'})"
         return super().shown()
 
+    def want(self, *toks):
+        """What the next token carries, which is to be one of these."""
+        self.next_tok()
+        if self.tok not in toks:
+            raise self.err_unexpected()
+        return self.value
+
     def err_unexpected(self):
         """The token that was taken is none that may stand there."""
         return self.error(f"Unexpected token {self.shown()} ")
