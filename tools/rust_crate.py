@@ -115,7 +115,8 @@ def cut_text(ported):
         try:
             return ported(data, length, at)
         except BinFault as fault:
-            raise BinFault(fault.kind, fault.o, 1 if fault.kind == "TooShort" else fault.l, fault.s) from fault
+            kind, o, l, s = fault.args
+            raise BinFault(kind, o, 1 if kind == "TooShort" else l, s) from fault
     return crate
 
 
@@ -125,7 +126,7 @@ def not_utf8(ported):
         try:
             return ported(data, length, at)
         except BinFault as fault:
-            raise (Stopped if fault.kind == "NotUtf8" else fault) from fault
+            raise (Stopped if fault.args[0] == "NotUtf8" else fault) from fault
     return crate
 
 

@@ -3,19 +3,15 @@ from .types import last_values, ordered
 
 
 class BinFault(Exception):
-    """An error: its kind, `o`, `l` and `s`."""
-
-    def __init__(self, kind, o, l, s):
-        super().__init__(kind, o, l, s)
-        self.kind, self.o, self.l, self.s = kind, o, l, s
+    """An error. Its arguments are its kind, `o`, `l` and `s`."""
 
     def column(self):
         """As the tables have it."""
-        return f"{self.kind} o {self.o} l {self.l} s {self.s}"
+        return "{} o {} l {} s {}".format(*self.args)
 
     def printed(self):
         """As it is printed."""
-        return f"Bin deserialize error at:{self.o} wanted:{self.l} bytes but max size is {self.s}"
+        return "Bin deserialize error at:{1} wanted:{2} bytes but max size is {3}".format(*self.args)
 
 
 def take(data, at, count):
