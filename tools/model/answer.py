@@ -11,7 +11,7 @@ a type has not this format, its verdict is `unknown`.
 """
 from typing import NamedTuple
 
-from . import binary, states, types, words as program
+from . import binary, states, type_tree, words as program
 from .cases import escape, words_of
 
 
@@ -33,7 +33,7 @@ def answer(format, type, input):
     """The verdict and the answer of a row with these three columns."""
     try:
         return Outcome("is", escape(answered(format, type, input)))
-    except types.Unknown:
+    except type_tree.Unknown:
         return UNKNOWN
     except binary.BinFault as fault:
         return Outcome("error", fault.column())
@@ -49,11 +49,11 @@ def answered(format, type, input):
             raise program.Rejected(f"{status}: {stderr.decode()[:-1]}")
         return stdout
     source, _, target = format.partition("-")
-    if format in states.FORMATS:
+    if format in states.FORMATS and (source == "toml" or type[:1] == "." or type_tree.has(type, source)):
         return states.answered(format, type, input)
     whole = target == "whole"
     target = source if target in ("", "whole") else target
-    if not {source, target} <= FORMATS or not (types.has(type, source) and types.has(type, target)):
-        raise types.Unknown(format)
-    known = types.parse(type)
+    if not {source, target} <= FORMATS or not (type_tree.has(type, source) and type_tree.has(type, target)):
+        raise type_tree.Unknown(format)
+    known = type_tree.parse(type)
     return program.encoded(target, known, program.decoded(source, known, input, whole)).encode()

@@ -1,5 +1,5 @@
 """Bytes: how a value is read and written. Section Binary of docs/FORMATS.md."""
-from .types import last_values, ordered
+from .type_tree import last_values, ordered
 
 
 class BinFault(Exception):

@@ -5,7 +5,7 @@ docs/ERRORS.md says what each call does.
 """
 import re
 
-from . import binary, toml_format, types, values
+from . import binary, toml_format, type_tree, values
 from .reader import BLOCK, CURLY, GREATEST, PAREN, Fault
 from .ron_format import indent
 from .words import FORMS, READERS, encoded, of_text
@@ -13,13 +13,15 @@ from .words import FORMS, READERS, encoded, of_text
 FORMATS = {"bin-at", "json-state", "ron-state", "json-write", "ron-write", "toml-date"}
 STATE = re.compile(r"(\w+)(?:\((.*?)\))? ([0-9]+):([0-9]+) (.*)", re.DOTALL)
 WRITES = re.compile(r"(st_pre|st_post|conl|indent|field|label)(?:_([0-9]+))?(?:_([a-z]+))?")
-# The calls that ask for a token: the format that alone has it, the token and its word.
-ASKS = {"colon": ("", "Colon", ":"), "string": ("json", "Str", "String"), "ident": ("ron", "Ident", "Identifier")}
-BRACKETS = {"block": ("", BLOCK), "curly": ("", CURLY), "paren": ("ron", PAREN)}
+# The calls that one format alone has.
+ALONE = {"json": {"string", "whole_field", "next_str", "is_null"},
+         "ron": {"ident", "paren_open", "paren_close", "eat_comma_paren", "is_paren_close", "next_ident", "is_none"}}
+ASKS = {"colon": ("Colon", ":"), "string": ("Str", "String"), "ident": ("Ident", "Identifier")}
+BRACKETS = {"block": BLOCK, "curly": CURLY, "paren": PAREN}
+TESTS = {"next_str": "Str", "is_null": "Null", "next_ident": "Ident", "is_block_close": "BlockClose",
+         "is_curly_close": "CurlyClose", "is_paren_close": "ParenClose"}
 ERRORS = {"err_exp": "Unexpected key k", "err_nf": "Key not found k", "err_enum": "Enum not defined V",
           "err_range": "Value out of range x ", "err_type": "Token wrong type x ", "err_parse": "Cannot parse x "}
-TESTS = {"next_str": ("json", "Str"), "is_null": ("json", "Null"), "next_ident": ("ron", "Ident"),
-         "is_block_close": ("", "BlockClose"), "is_curly_close": ("", "CurlyClose"), "is_paren_close": ("ron", "ParenClose")}
 
 
 def answered(format, type, data):
@@ -27,22 +29,20 @@ def answered(format, type, data):
     name, _, kind = format.partition("-")
     if kind == "at":
         offset, _, code = data.partition(b" ")
-        value, at = binary.read(types.parse(type), code, int(offset))
-        return f"{encoded('bin', types.parse(type), value)} -> {at}".encode()
+        value, at = binary.read(type_tree.parse(type), code, int(offset))
+        return f"{encoded('bin', type_tree.parse(type), value)} -> {at}".encode()
     if kind == "date":
         return of_text(name, toml_format.parse, data)[type][1].encode()
     if kind == "write" and type[0] != ".":
-        value, _ = binary.read(types.parse(type), data, 0)
-        return values.write(FORMS[name], types.parse(type), value, GREATEST).encode()
+        value, _ = binary.read(type_tree.parse(type), data, 0)
+        return values.write(FORMS[name], type_tree.parse(type), value, GREATEST).encode()
     if kind == "write":
         return f"ok -> {data.decode()}{appended(name, type[1:])}".encode()
     tok, value, line, column, text = STATE.fullmatch(data.decode()).groups()
     reader = READERS[name](text, int(line), int(column), 1)
     reader.tok, reader.value = tok, carried(tok, value)
     if type[0] != ".":
-        if not types.has(type, name):
-            raise types.Unknown(type)
-        return call(reader, lambda: values.write(FORMS[name], types.parse(type), read(reader, type))).encode()
+        return call(reader, lambda: values.write(FORMS[name], type_tree.parse(type), read(reader, type))).encode()
     return " | ".join(call(reader, lambda: called(name, reader, word[1:])) for word in type.split(" ")).encode()
 
 
@@ -56,7 +56,7 @@ def carried(tok, value):
 def read(reader, type):
     """A value of this type; a reader that fails is at the end of its text."""
     try:
-        return values.read(reader, types.parse(type))
+        return values.read(reader, type_tree.parse(type))
     except Fault:
         reader.fail()
         raise
@@ -80,34 +80,34 @@ def called(format, reader, word):
     name, *arguments = re.fullmatch(r"([a-z0-9_]*?)(?:_(-?[0-9]+))?(?:_(-?[0-9]+))?", word).groups()
     numbers = [int(argument) for argument in arguments if argument]
     part, _, rest = name.partition("_")
-    if name in ("next", "next_tok", "next_colon", "fail", "whole_field") and hasattr(reader, name):
-        getattr(reader, name)()
-    elif name in ASKS and ASKS[name][0] in ("", format):
-        reader.ask(*ASKS[name][1:])
-    elif part in BRACKETS and BRACKETS[part][0] in ("", format) and rest in ("open", "close"):
-        getattr(reader, rest)(BRACKETS[part][1])
-    elif name.startswith("eat_comma_") and BRACKETS[name[10:]][0] in ("", format):
-        reader.eat_comma(BRACKETS[name[10:]][1])
-    elif name == "u64_range":
-        return str(reader.u64_range(*numbers or [2**64 - 1]))
-    elif name == "i64_range":
-        return str(reader.i64_range(*numbers or [-(2**63), 2**63 - 1]))
-    elif name == "as_bool":
-        return "true" if reader.as_bool() else "false"
-    elif name == "as_string":
-        return reader.as_string()
-    elif name in TESTS and TESTS[name][0] in ("", format):
-        return "true" if reader.tok == TESTS[name][1] else "false"
-    elif name == "is_none" and format == "ron":
+    if name in ALONE["ron" if format == "json" else "json"]:
+        raise type_tree.Unknown(word)
+    if name in TESTS:
+        return "true" if reader.tok == TESTS[name] else "false"
+    if name == "is_none":
         return "true" if reader.is_absent() else "false"
-    elif name == "err_memory":
+    if name == "u64_range":
+        return str(reader.u64_range(*numbers or [2**64 - 1]))
+    if name == "i64_range":
+        return str(reader.i64_range(*numbers or [-(2**63), 2**63 - 1]))
+    if name == "as_bool":
+        return "true" if reader.as_bool() else "false"
+    if name == "as_string":
+        return reader.as_string()
+    if name == "err_memory":
         return "out of memory"
-    elif name == "err_token":
-        raise reader.err_token("x")
-    elif name in ERRORS:
-        raise reader.error(ERRORS[name])
+    if name == "err_token" or name in ERRORS:
+        raise reader.error(ERRORS[name]) if name in ERRORS else reader.err_token("x")
+    if name in ("next", "next_tok", "next_colon", "fail", "whole_field"):
+        getattr(reader, name)()
+    elif name in ASKS:
+        reader.ask(*ASKS[name])
+    elif name.startswith("eat_comma_"):
+        reader.eat_comma(BRACKETS[name[10:]])
+    elif rest in ("open", "close"):
+        getattr(reader, rest)(BRACKETS[part])
     else:
-        raise types.Unknown(word)
+        raise type_tree.Unknown(word)
     return "ok"
 
 

@@ -3,7 +3,7 @@
 See What each type asks, in order, in docs/ERRORS.md, and the tables of types in docs/FORMATS.md.
 """
 from .reader import BLOCK, CURLY, GREATEST
-from .types import last_values, ordered
+from .type_tree import last_values, ordered
 
 
 def read(reader, type):

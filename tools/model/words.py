@@ -1,7 +1,7 @@
 """The program nano_show, of which docs/ERRORS.md has a section, and the formats by their names."""
 import re
 
-from . import binary, toml_format, types, values
+from . import binary, toml_format, type_tree, values
 from .json_format import JsonForm, JsonReader
 from .reader import Fault
 from .ron_format import RonForm, RonReader
@@ -47,9 +47,9 @@ def codes(words):
     """What `code` writes after these words, or nothing where they are unknown."""
     if words[:1] == ["u16s"]:
         if all(re.fullmatch("0*[0-9]{1,5}", word) and int(word[-5:]) < 65536 for word in words[1:]):
-            return encoded("bin", types.parse("Vec<u16>"), tuple(map(int, words[1:])))
+            return encoded("bin", type_tree.parse("Vec<u16>"), tuple(map(int, words[1:])))
     if words[:1] == ["text"] and len(words) < 3:
-        return encoded("bin", types.parse("Option<String>"), tuple(words[1:]))
+        return encoded("bin", type_tree.parse("Option<String>"), tuple(words[1:]))
     return None
 
 
@@ -63,7 +63,7 @@ def answered(words, data):
     name, dash, whole = (words[:1] or [""])[0].partition("-")
     if len(words) != 2 or words[1] not in TYPES or name not in ("bin", *READERS) or dash + whole not in ("", "-whole"):
         return None
-    type = types.parse(TYPES[words[1]])
+    type = type_tree.parse(TYPES[words[1]])
     return encoded(name, type, decoded(name, type, data, bool(whole))) + "\n"
 
 
