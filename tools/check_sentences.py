@@ -18,6 +18,7 @@ PLANNED = {
     "docs/ARCHITECTURE.md": 170,
     "docs/DECISIONS.md": 165,
     "docs/DIFFERENCES.md": None,
+    "docs/ERRORS.md": None,
     "docs/FORMATS.md": None,
     "docs/GUARANTEES.md": 215,
     "docs/GUIDE.md": 290,
