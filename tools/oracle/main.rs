@@ -23,6 +23,9 @@ use std::time::Duration;
 /// The most bytes of one request for memory; a greater one ends the process, as on a small machine.
 const MOST_BYTES: usize = 1 << 28;
 
+/// The most rows that one copy of this process is sent.
+const MOST_ROWS: usize = 200;
+
 /// The most processor time of a row, in microseconds.
 const MOST_TIME: i64 = 100_000;
 
@@ -87,6 +90,7 @@ fn copy_of_this(rows: &[String]) -> Child {
     let program = std::env::current_exe().unwrap();
     let mut child = Command::new(program)
         .arg("answer")
+        .env("RUST_BACKTRACE", "0")
         .stdin(Stdio::piped())
         .stdout(Stdio::piped())
         .stderr(Stdio::null())
@@ -107,7 +111,8 @@ fn main() {
     let mut output = io::stdout().lock();
     let mut place = 0;
     while place < rows.len() {
-        let mut child = copy_of_this(&rows[place..]);
+        let end = rows.len().min(place + MOST_ROWS);
+        let mut child = copy_of_this(&rows[place..end]);
         let mut text = String::new();
         let mut answers = BufReader::new(child.stdout.take().unwrap());
         answers.read_to_string(&mut text).unwrap();
@@ -115,7 +120,7 @@ fn main() {
         let whole = text.rfind('\n').map_or(0, |end| end + 1);
         output.write_all(text[..whole].as_bytes()).unwrap();
         place += text[..whole].lines().count();
-        if place < rows.len() {
+        if place < end {
             output.write_all(b"stopped\n").unwrap();
             place += 1;
         }

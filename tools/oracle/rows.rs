@@ -52,7 +52,11 @@ fn run(words: &str, input: &[u8]) -> Option<Answer> {
         },
         _ => {
             let (format, word) = words.split_once(' ')?;
-            let answer = of_kind(format, crate::kinds::kind_of_word(word)?, input)?;
+            let is_known = matches!(format.trim_end_matches("-whole"), "bin" | "json" | "ron");
+            let answer = match is_known {
+                true => of_kind(format, crate::kinds::kind_of_word(word)?, input)?,
+                false => return None,
+            };
             let is_code = format.starts_with("bin");
             answer.map(|text| if is_code { pairs(&text).into_bytes() } else { text })
                 .map(|text| [text.as_slice(), b"\n"].concat())
