@@ -84,7 +84,7 @@ def run_oracle(oracle, first, rows):
         elif compare.is_same(row, status, text):
             counts["as the Rust crate"] += 1
         else:
-            names = differences.names_of(row[0], row[1], compare.unescaped(row[2]))
+            names = differences.names_of(row[0], row[1], compare.unescaped(row[2]), row[3], status)
             counts[names[0] if len(names) == 1 else "otherwise, by one of several names" if names else UNNAMED] += 1
             if not names:
                 printed += f"case {number}: " + "\t".join(row[:5]) + f"\n  the crate {status} {text}\n"

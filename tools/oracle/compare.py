@@ -81,10 +81,10 @@ def is_same(row, status, text):
 
 def fault_of(row, status, text):
     """What is wrong with a row, if anything is."""
-    form, kind, given, *_, crate, named = row
+    form, kind, given, verdict, _, crate, named = row
     if crate and crate != status:
         return f"the crate {status}, and the table says {crate}"
-    names = names_of(form, kind, unescaped(given))
+    names = names_of(form, kind, unescaped(given), verdict, status)
     if is_same(row, status, text):
         return f"no difference, and the table says {named}" if named else None
     if not names or crate and not named:
@@ -105,7 +105,7 @@ def compared(oracle, name, rows):
         fault = fault_of(row, status, text)
         if fault:
             counts["faults"] += 1
-            print("\t".join(row) + f"\n  {fault}")
+            print("\t".join(row)[:1000] + f"\n  {fault[:1000]}")
     print(f"{name}: " + ", ".join(f"{count} {what}" for what, count in counts.items()))
     return counts["faults"]
 

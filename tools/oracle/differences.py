@@ -2,7 +2,8 @@
 otherwise, each with the condition on format, type and input without which it explains nothing.
 
 A condition is about the whole input, not about the place where the two part, so that each is a line
-or two. `names_of` gives the names whose conditions an input meets.
+or two. `names_of` gives the names whose conditions an input meets. A name explains that the crate stopped,
+that both reject and tell otherwise, or whatever the two do.
 """
 import re
 
@@ -63,40 +64,48 @@ def is_over_i64(data):
 
 
 def skips_a_field(data, names):
-    """Whether a struct of these names meets a field of another name."""
-    known = set().union(*(FIELDS.get(name, set()) for name in names))
-    return bool(known) and any(name.decode(errors="replace") not in known for name in FIELD.findall(data))
+    """Whether a field has a name that one of these structs does not have."""
+    structs = [FIELDS[name] for name in names if name in FIELDS]
+    return bool(structs) and any(name.decode(errors="replace") not in set.intersection(*structs)
+                                 for name in FIELD.findall(data))
 
 
 def has_tuple(content):
     return re.search(r"\([^()]*,", content) is not None
 
 
-# Each name: the formats, and the condition on the type's content, the input, and the type's names.
+STOPPED, TOLD, ANY = "stopped", "told", "any"
+# Each name: the formats, what it explains, and the condition on the type's content, the input and the
+# type's names.
 NAMES = {
-    "counts": (("bin",), lambda of, data, _: re.search(r"Vec<|Hash(Set|Map)<|BTreeMap<", of)
+    "counts": ("bin", STOPPED, lambda of, data, _: re.search(r"Vec<|Hash(Set|Map)<|BTreeMap<", of)
                and is_large_count(data)),
-    "a text that is cut short": (("bin",), lambda of, data, _: has_text(of) and is_cut_text(data)),
-    "a text that is not UTF-8": (("bin",), lambda of, data, _: has_text(of) and is_no_text(data)),
-    "lengths whose sum wraps": (("bin",), lambda of, data, _: has_text(of) and is_wrapping(data)),
-    "i64_range": (("json", "ron"), lambda of, data, _: re.search(r"\bi\d", of) and is_over_i64(data)),
-    "whole_field": (("json",), lambda of, data, names: skips_a_field(data, names)),
-    "a fault in a tuple": (("json", "ron"), lambda of, data, _: has_tuple(of)),
-    "a character between apostrophes": (("ron",), lambda of, data, _: b"'" in data),
+    "a text that is cut short": ("bin", TOLD, lambda of, data, _: has_text(of) and is_cut_text(data)),
+    "a text that is not UTF-8": ("bin", STOPPED, lambda of, data, _: has_text(of) and is_no_text(data)),
+    "lengths whose sum wraps": ("bin", ANY, lambda of, data, _: has_text(of) and is_wrapping(data)),
+    "i64_range": ("json ron", ANY, lambda of, data, _: re.search(r"\bi\d", of) and is_over_i64(data)),
+    "whole_field": ("json", STOPPED, lambda of, data, names: skips_a_field(data, names)),
+    "a fault in a tuple": ("json ron", TOLD, lambda of, data, _: has_tuple(of)),
+    "a character between apostrophes": ("ron", ANY, lambda of, data, _: b"'" in data),
     "NUL inside a character between apostrophes": (
-        ("ron",), lambda of, data, _: re.search(rb"'\\?\0", data)),
-    "/*/": (("ron",), lambda of, data, _: b"/*/" in data),
-    '""': (("toml",), lambda of, data, _: b'""' in data),
-    "closing triple quotes": (("toml",), lambda of, data, _: data.count(b'"""') > 1),
-    "a.b": (("toml",), lambda of, data, _: re.search(rb"[A-Za-z_-]\.", data)),
-    "[[a]] on a key of another kind": (("toml",), lambda of, data, _: re.search(rb"\[[^\[]*\[", data)
-                                       and data.count(b"]") > 1),
-    "a string that ends at a backslash and NUL": (("toml",), lambda of, data, _: b"\\\0" in data),
+        "ron", ANY, lambda of, data, _: re.search(rb"'\\?\0", data)),
+    "/*/": ("ron", ANY, lambda of, data, _: b"/*/" in data),
+    '""': ("toml", ANY, lambda of, data, _: b'""' in data),
+    "closing triple quotes": ("toml", ANY, lambda of, data, _: data.count(b'"""') > 1),
+    "a.b": ("toml", ANY, lambda of, data, _: re.search(rb"[A-Za-z_-]\.", data)),
+    "[[a]] on a key of another kind": ("toml", STOPPED, lambda of, data, _: re.search(rb"\[[^\[]*\[", data)),
+    "a string that ends at a backslash and NUL": ("toml", ANY, lambda of, data, _: b"\\\0" in data),
 }
 
 
-def names_of(form, kind, data):
+def explains(what, verdict, status):
+    """Whether a name of this kind can explain a verdict of the port and a status of the crate."""
+    return what == ANY or (what == STOPPED and status == "stopped") or (
+        what == TOLD and (verdict, status) == ("error", "rejected"))
+
+
+def names_of(form, kind, data, verdict, status):
     """The names that can explain a difference at this input."""
     form, content, names = spoken(form, kind)
-    return [name for name, (forms, condition) in NAMES.items()
-            if form in forms and condition(content, data, names)]
+    return [name for name, (forms, what, condition) in NAMES.items()
+            if form in forms.split() and explains(what, verdict, status) and condition(content, data, names)]

@@ -80,10 +80,13 @@ pub fn of_type<T: All>(format: &str, input: &[u8]) -> Option<Answer> {
         "bin-json" => Some(bin::<T>(input, false).map(|value| value.serialize_json().into_bytes())),
         "bin-ron" => Some(bin::<T>(input, false).map(|value| value.serialize_ron().into_bytes())),
         "bin" | "bin-whole" => of_bytes::<T>(format, input),
-        _ => match std::str::from_utf8(input) {
-            Ok(text) => of_text::<T>(format, text),
-            Err(_) => Some(Err("not UTF-8".to_string())),
-        },
+        "json" | "json-whole" | "json-bin" | "ron" | "ron-whole" | "ron-bin" => {
+            match std::str::from_utf8(input) {
+                Ok(text) => of_text::<T>(format, text),
+                Err(_) => Some(Err("not UTF-8".to_string())),
+            }
+        }
+        _ => None,
     }
 }
 
