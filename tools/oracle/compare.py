@@ -5,8 +5,9 @@
 
 ORACLE is the program that build.sh built; a table is one of crates/conformance_run/data, rust_crate.tsv
 if none is named. Where both answer, the answers are the same; where both reject, so are the texts. Any
-other row needs a name of differences.py, and where the table names the difference, just these names.
-Where the table says what the crate did, it did that. Each other row is printed, and fails.
+other row needs a name of differences.py; where the table names the difference, the input meets the
+conditions of its names. Where the table says what the crate did, it did that. Each other row is printed,
+and fails.
 
 Compared as follows: hashed maps and sets in ascending order, as ordered.rs walks them. Errors of RON and
 TOML without their columns, which the crate leaves at 0. A float in a message as F64 alone, and numbers of
@@ -18,7 +19,7 @@ import subprocess
 import sys
 from collections import Counter
 
-from differences import names_of
+from differences import conditions_met, names_of
 
 DATA = pathlib.Path(__file__).resolve().parents[2] / "crates/conformance_run/data"
 COPIES = re.compile(r"%\*(\d+)\(([^)]*)\)")
@@ -89,7 +90,8 @@ def fault_of(row, status, text):
         return f"no difference, and the table says {named}" if named else None
     if not names or crate and not named:
         return f"the crate {status} {text}, and no name says why"
-    missing = [name for name in named.split("; ") if named and name not in names]
+    met = conditions_met(form, kind, unescaped(given))
+    missing = [name for name in named.split("; ") if named and name not in met]
     return f"not for {missing[0]}" if missing else None
 
 

@@ -2,8 +2,7 @@
 otherwise, each with the condition on format, type and input without which it explains nothing.
 
 A condition is about the whole input, not about the place where the two part, so that each is a line
-or two. `names_of` gives the names whose conditions an input meets. A name explains that the crate stopped,
-that both reject and tell otherwise, or whatever the two do.
+or two. A name explains that the crate stopped, that both reject and tell otherwise, or whatever the two do.
 """
 import re
 
@@ -104,8 +103,14 @@ def explains(what, verdict, status):
         what == TOLD and (verdict, status) == ("error", "rejected"))
 
 
+def conditions_met(form, kind, data):
+    """The names whose conditions an input meets, with what each explains."""
+    form, content, names = spoken(form, kind)
+    return {name: what for name, (forms, what, condition) in NAMES.items()
+            if form in forms.split() and condition(content, data, names)}
+
+
 def names_of(form, kind, data, verdict, status):
     """The names that can explain a difference at this input."""
-    form, content, names = spoken(form, kind)
-    return [name for name, (forms, what, condition) in NAMES.items()
-            if form in forms.split() and explains(what, verdict, status) and condition(content, data, names)]
+    met = conditions_met(form, kind, data)
+    return [name for name, what in met.items() if explains(what, verdict, status)]
