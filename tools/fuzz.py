@@ -38,6 +38,7 @@ from inputs.cases import case
 from inputs.draw import Draw
 
 IN_A_FILE = 20_000
+LONGEST = 600
 UNNAMED = "otherwise, and no name says why"
 PLAIN = [chr(b) if 0x20 <= b <= 0x7E and b != 0x25 else f"%{b:02X}" for b in range(256)]
 
@@ -50,10 +51,18 @@ def drawn(first, count):
         yield case(Draw(rng))
 
 
+def judged(form, kind, data):
+    """The model's verdict and answer. One that fails is a difference, too."""
+    try:
+        return answer(form, kind, data)[:2]
+    except Exception as error:  # whatever it is, it is to be printed
+        return "is", f"the model failed: {ascii(error)}"
+
+
 def rows_of(cases):
     """Each case with the model's answer, as the fields of a row, or None where it judges none."""
     for form, kind, data in cases:
-        verdict, text = answer(form, kind, data)[:2]
+        verdict, text = judged(form, kind, data)
         known = verdict != "unknown"
         yield [form, kind, "".join([PLAIN[b] for b in data]), verdict, text] if known else None
 
@@ -65,10 +74,14 @@ def run_program(program, first, rows):
         numbers = [number for number, row in enumerate(rows, first) if row]
         with open(path, "w", encoding="ascii") as file:
             file.writelines("\t".join(row) + "\n" for row in rows if row)
-        done = subprocess.run([program, "tables", path], capture_output=True, text=True, check=False)
+        try:
+            done = subprocess.run([program, "tables", path], capture_output=True, text=True, check=False,
+                                  timeout=LONGEST)
+        except subprocess.TimeoutExpired:
+            return 1, f"the program takes more than {LONGEST} s for the cases from {first} on\n"
     counts = re.search(rf"^{re.escape(path)}: (\d+) cases, (\d+) differ$", done.stdout, re.M)
     if not counts or int(counts.group(1)) != len(numbers):
-        return 1, f"the program ended with {done.returncode} in the cases from {first} on\n{done.stdout[-500:]}"
+        return 1, f"the program ended with {done.returncode} in the cases from {first} on\n{done.stdout[-500:]}\n"
     named = re.sub(rf"^{re.escape(path)}:(\d+): ", lambda m: f"case {numbers[int(m.group(1)) - 1]}: ",
                    done.stdout[:counts.start()], flags=re.M)
     return int(counts.group(2)), named

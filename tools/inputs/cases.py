@@ -1,5 +1,5 @@
 """A case drawn at random: the columns FORMAT, TYPE and INPUT of a row."""
-from . import binary_code, damage, kinds, texts, toml_text
+from . import binary_code, damage, kinds, states, texts, toml_text
 
 # The types that conformance names, by what stands around the names of their parts.
 NAMES = "u8 u16 u32 u64 usize i8 i16 i32 i64 bool () String".split()
@@ -24,7 +24,8 @@ BYTES_ALONE = ["u128", "i128", "Vec<u128>", "Vec<i128>", "Command"]
 JSON_ALONE = ["Message"]
 # What is said of an input in each format, and of how many cases.
 FORMATS = [("json", 20), ("json-whole", 8), ("json-bin", 3), ("ron", 20), ("ron-whole", 8), ("ron-bin", 3),
-           ("bin", 12), ("bin-whole", 6), ("bin-json", 2), ("bin-ron", 2), ("run", 16)]
+           ("bin", 12), ("bin-whole", 6), ("bin-json", 2), ("bin-ron", 2), ("run", 16),
+           ("json-state", 4), ("ron-state", 4), ("bin-at", 2)]
 DRAWN = [form for form, count in FORMATS for _ in range(count)]
 WORDS = {"u8": "u8", "u32": "u32", "u64": "u64", "i32": "i32", "i64": "i64", "bool": "bool",
          "string": "String", "bytes": "Vec<u8>", "set": "HashSet<i32>", "map": "HashMap<String, i32>",
@@ -43,6 +44,12 @@ def case(draw):
     if source == "bin" and name == "Vec<()>":
         # Items without bytes: the count alone says how long it takes.
         data = data[:2] + bytes(min(len(data), 8) - 2) + data[8:] if len(data) > 2 else data
+        form = "bin" if form == "bin-at" else form
+    if form == "bin-at":
+        return form, name, states.offset(draw, data)
+    if form.endswith("-state"):
+        kind = name if draw.chance(0.3) else states.calls(draw, source)
+        return form, kind, states.state(draw, source, data)
     return form, name, data
 
 
