@@ -53,5 +53,5 @@ if [ -d tools/model ]; then
 else
     echo "fuzz.py: skipped, since tools/model is not there"
 fi
-PROGRAM=$PWD/$program step "refuse_memory.sh" sh tools/measure/refuse_memory.sh worked.tsv
+step "refuse_memory.sh" env PROGRAM="$PWD/$program" sh tools/measure/refuse_memory.sh worked.tsv
 echo "all steps passed"

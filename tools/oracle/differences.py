@@ -84,7 +84,8 @@ NAMES = {
     "lengths whose sum wraps": ("bin", ANY, lambda of, data, _: has_text(of) and is_wrapping(data)),
     "i64_range": ("json ron", ANY, lambda of, data, _: re.search(r"\bi\d", of) and is_over_i64(data)),
     "whole_field": ("json", STOPPED, lambda of, data, names: skips_a_field(data, names)),
-    "a fault in a tuple": ("json ron", TOLD, lambda of, data, _: has_tuple(of)),
+    "a fault in a tuple": ("json ron", TOLD, lambda of, data, _: has_tuple(of)
+                           and re.search(rb"[\[(]", data)),
     "a character between apostrophes": ("ron", ANY, lambda of, data, _: b"'" in data),
     "NUL inside a character between apostrophes": (
         "ron", ANY, lambda of, data, _: re.search(rb"'\\?\0", data)),
