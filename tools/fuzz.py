@@ -38,7 +38,7 @@ from inputs.cases import case
 from inputs.draw import Draw
 
 IN_A_FILE = 20_000
-LONGEST = 600
+LONGEST = 1800
 UNNAMED = "otherwise, and no name says why"
 PLAIN = [chr(b) if 0x20 <= b <= 0x7E and b != 0x25 else f"%{b:02X}" for b in range(256)]
 
@@ -82,9 +82,23 @@ def run_program(program, first, rows):
     counts = re.search(rf"^{re.escape(path)}: (\d+) cases, (\d+) differ$", done.stdout, re.M)
     if not counts or int(counts.group(1)) != len(numbers):
         return 1, f"the program ended with {done.returncode} in the cases from {first} on\n{done.stdout[-500:]}\n"
-    named = re.sub(rf"^{re.escape(path)}:(\d+): ", lambda m: f"case {numbers[int(m.group(1)) - 1]}: ",
-                   done.stdout[:counts.start()], flags=re.M)
-    return int(counts.group(2)), named
+    reports = re.split(rf"^{re.escape(path)}:(?=\d+: )", done.stdout[:counts.start()], flags=re.M)[1:]
+    return sorted_out(numbers, reports)
+
+
+def sorted_out(numbers, reports):
+    """How many reports of a program are of a difference, and their texts; the types that it does not know
+    are a difference each."""
+    kept, types = [], Counter()
+    for report in reports:
+        line, _, text = report.partition(": ")
+        if text.endswith(", got unknown \n") and text.count("\n") == 2:
+            types[text.split("\t")[1]] += 1
+        else:
+            kept.append(f"case {numbers[int(line) - 1]}: {text}")
+    kept += [f"{count} cases of the type {kind}, which the program does not know\n"
+             for kind, count in types.items()]
+    return len(kept), "".join(kept)
 
 
 def run_oracle(oracle, first, rows):
