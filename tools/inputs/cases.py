@@ -1,27 +1,27 @@
-"""A case drawn at random: the columns FORMAT, TYPE and INPUT of a row."""
+"""A case drawn at random: the columns FORMAT, TYPE and INPUT of a row. Its type is one that a table names."""
+import pathlib
+
 from . import binary_code, damage, kinds, states, texts, toml_text
 
-# The types that conformance names, by what stands around the names of their parts.
-NAMES = "u8 u16 u32 u64 usize i8 i16 i32 i64 bool () String".split()
-RECORDS = "Test Plain Item Choice Server Event Signal".split()
-TYPES = [
-    *NAMES, *RECORDS, *"Site Clock Notice Tagged Reply Point Entry".split(),
-    *(f"{outer}<{name}>" for outer in ("Option", "Vec") for name in NAMES),
-    *(f"{outer}<{name}>" for outer in ("HashSet", "BTreeSet") for name in ("u8", "i32", "String", "Option<u8>")),
-    *(f"{outer}<{pair}>" for outer in ("HashMap", "BTreeMap") for pair in (
-        "u8, u8", "u8, bool", "i16, String", "u64, u8", "i64, u8", "String, i32", "String, String")),
-    *"LinkedList<u8> LinkedList<String> Box<u8> Box<String> Option<Option<u8>> Vec<Option<u8>>".split(),
-    *"Vec<Vec<u8>> Vec<LinkedList<u8>> Vec<BTreeSet<u8>>".split(),
-    "HashMap<String, Vec<u8>>", "Vec<HashMap<u8, u8>>", "Vec<HashMap<String, i32>>",
-    "[u8; 0]", "[u8; 2]", "[u16; 2]", "[String; 2]", "(u8, u8)", "(u8, String)", "(u8, bool, i16)",
-    "(u8, bool, i16, String)", "(String, String)", "(String, String, String)",
-    "(String, String, String, String)",
-    "Holder<HashMap<u8, u8>>", "Holder<HashMap<String, i32>>", "Holder<Pair>", "Holder<Lists>",
-    *(shape.format(name) for name in RECORDS for shape in (
-        "Holder<{}>", "Holder<Holder<Option<{}>>>", "Vec<Option<Holder<{}>>>")),
-]
+DATA = pathlib.Path(__file__).resolve().parents[2] / "crates/conformance_run/data"
 BYTES_ALONE = ["u128", "i128", "Vec<u128>", "Vec<i128>", "Command"]
 JSON_ALONE = ["Message"]
+
+
+def types_of_tables():
+    """The types that have three formats, of those that the tables name."""
+    found = set()
+    for path in DATA.glob("*.tsv"):
+        rows = path.read_text(encoding="ascii").splitlines() if path.name != "wrong.tsv" else []
+        for row in rows:
+            form, _, rest = row.partition("\t")
+            kind = rest.partition("\t")[0]
+            if form.split("-")[0] in ("bin", "json", "ron") and kind[:1] != ".":
+                found.add(kind)
+    return sorted(found - set(BYTES_ALONE + JSON_ALONE))
+
+
+TYPES = types_of_tables()
 # What is said of an input in each format, and of how many cases.
 FORMATS = [("json", 20), ("json-whole", 8), ("json-bin", 3), ("ron", 20), ("ron-whole", 8), ("ron-bin", 3),
            ("bin", 12), ("bin-whole", 6), ("bin-json", 2), ("bin-ron", 2), ("run", 16),
