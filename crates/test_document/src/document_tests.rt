@@ -17,11 +17,23 @@ const TEXTS: &[(&str, &str)] = &[
     ("\"a\\u00e9\\n\"", "\"aé\\n\""),
     ("[ ]", "[]"),
     ("[1, [2], {},]", "[1,[2],{}]"),
-    ("{\"b\": 1, \"a\": [null], \"b\": 2}", "{\"b\":1,\"a\":[null],\"b\":2}"),
+    (
+        "{\"b\": 1, \"a\": [null], \"b\": 2}",
+        "{\"b\":1,\"a\":[null],\"b\":2}",
+    ),
 ];
 
 /// Texts that are no documents.
-const NOT_READ: &[&str] = &["", "1.5", "1e3", "[1", "{\"a\"}", "{1:2}", "nul", "18446744073709551616"];
+const NOT_READ: &[&str] = &[
+    "",
+    "1.5",
+    "1e3",
+    "[1",
+    "{\"a\"}",
+    "{1:2}",
+    "nul",
+    "18446744073709551616",
+];
 
 fn again(alloc: Global, text: &str) -> Result<String, DeJsonErr> {
     let document = Json::deserialize_json_whole(alloc, text)?;
@@ -67,7 +79,9 @@ fn is_too_deep(alloc: Global, text: &str, col: usize) -> bool {
     match Json::deserialize_json(alloc, text) {
         Ok(_document) => false,
         Err(error) => {
-            error.msg.as_str() == "Value out of range levels>128 " && error.line == 0 && error.col == col
+            error.msg.as_str() == "Value out of range levels>128 "
+                && error.line == 0
+                && error.col == col
         }
     }
 }
@@ -77,16 +91,22 @@ fn levels_are_counted(alloc: Global) -> Result<bool, AllocError> {
     let empty = nested(alloc, 128, "")?;
     let more = nested(alloc, 128, "1")?;
     let deep = nested(alloc, 129, "")?;
-    Ok(is_again(alloc, most.as_str(), most.as_str())
-        && is_again(alloc, empty.as_str(), empty.as_str())
-        && is_too_deep(alloc, more.as_str(), 130)
-        && is_too_deep(alloc, deep.as_str(), 130))
+    Ok(
+        is_again(alloc, most.as_str(), most.as_str())
+            && is_again(alloc, empty.as_str(), empty.as_str())
+            && is_too_deep(alloc, more.as_str(), 130)
+            && is_too_deep(alloc, deep.as_str(), 130),
+    )
 }
 
 #[test]
 fn levels_are_counted_to_128(rt: HostRuntime) {
     let alloc = rt.alloc();
-    holds(&rt, levels_are_counted(alloc).unwrap_or(false), "128 levels");
+    holds(
+        &rt,
+        levels_are_counted(alloc).unwrap_or(false),
+        "128 levels",
+    );
 }
 
 /// Whether the documents of a list are as they stand in the text below.
