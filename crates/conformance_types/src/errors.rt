@@ -4,29 +4,25 @@ use crate::outcome::Outcome;
 use nanoserde::{DeBinErr, DeBinKind, DeJsonErr, DeRonErr};
 use std::alloc::{AllocError, Global};
 
-/// The bytes of a value, or the kind of the error with its `o`, `l` and `s`. An offset that the
-/// error moved is reported.
-pub(crate) fn code(
-    alloc: Global,
-    read: Result<Vec<u8>, DeBinErr>,
-    moved: usize,
-) -> Result<Outcome, AllocError> {
-    match read {
-        Ok(bytes) => Ok(Outcome::Code(bytes)),
-        Err(error) => {
-            let DeBinErr { o, l, s, kind } = error;
-            if moved != 0 {
-                text_of(format!(in alloc; "{kind:?} that moved the offset by {moved}"))
-            } else if kind == DeBinKind::Memory && l == 0 {
-                Err(AllocError)
-            } else {
-                text_of(format!(in alloc; "{kind:?} o {o} l {l} s {s}"))
-            }
-        }
+/// The kind of an error of bytes, with its `o`, `l` and `s`. Where the error moved the offset, by
+/// how much is reported in their place.
+pub fn code(alloc: Global, error: DeBinErr, moved: usize) -> Result<Outcome, AllocError> {
+    let DeBinErr { o, l, s, kind } = error;
+    if moved != 0 {
+        text_of(format!(in alloc; "{kind:?} that moved the offset by {moved}"))
+    } else if kind == DeBinKind::Memory && l == 0 {
+        Err(AllocError)
+    } else {
+        text_of(format!(in alloc; "{kind:?} o {o} l {l} s {s}"))
     }
 }
 
-/// A text, or the text of the error.
+/// The outcome of a text that is none.
+pub(crate) fn not_a_text(alloc: Global) -> Result<Outcome, AllocError> {
+    text_of(String::from_str(alloc, "not UTF-8"))
+}
+
+/// A JSON text, or the text of the error.
 pub(crate) fn json(alloc: Global, read: Result<String, DeJsonErr>) -> Result<Outcome, AllocError> {
     match read {
         Ok(text) => Ok(Outcome::Text(text.into_bytes())),
@@ -46,12 +42,12 @@ pub(crate) fn json_code(
 }
 
 /// The text of the error.
-fn json_error(alloc: Global, error: &DeJsonErr) -> Result<Outcome, AllocError> {
+pub(crate) fn json_error(alloc: Global, error: &DeJsonErr) -> Result<Outcome, AllocError> {
     let shown = format!(in alloc; "{error}")?;
     error_of(alloc, error.memory, error.msg.is_empty(), shown)
 }
 
-/// A text, or the text of the error.
+/// A RON text, or the text of the error.
 pub(crate) fn ron(alloc: Global, read: Result<String, DeRonErr>) -> Result<Outcome, AllocError> {
     match read {
         Ok(text) => Ok(Outcome::Text(text.into_bytes())),
@@ -71,7 +67,7 @@ pub(crate) fn ron_code(
 }
 
 /// The text of the error.
-fn ron_error(alloc: Global, error: &DeRonErr) -> Result<Outcome, AllocError> {
+pub(crate) fn ron_error(alloc: Global, error: &DeRonErr) -> Result<Outcome, AllocError> {
     let shown = format!(in alloc; "{error}")?;
     error_of(alloc, error.memory, error.msg.is_empty(), shown)
 }
