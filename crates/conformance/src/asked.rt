@@ -132,7 +132,7 @@ impl Asked {
     /// Appends which questions failed, and how often each was asked.
     pub fn append(&self, out: &mut String) -> Result<(), AllocError> {
         self.append_failed(out)?;
-        let mut before = "asked: ";
+        let mut before = "; asked: ";
         for (name, count) in &self.rows() {
             let asked = count.asked;
             write!(out, "{before}{asked} {name}")?;
@@ -143,18 +143,18 @@ impl Asked {
 
     /// Appends how often each question failed that did.
     fn append_failed(&self, out: &mut String) -> Result<(), AllocError> {
-        out.push_str("failed: ")?;
-        let mut are_right = true;
+        let mut before = "failed: ";
         for (name, count) in &self.rows() {
             let failed = count.failed;
             if failed != 0 {
-                write!(out, "{failed} {name}, ")?;
-                are_right = false;
+                write!(out, "{before}{failed} {name}")?;
+                before = ", ";
             }
         }
-        if are_right {
-            out.push_str("none, ")?;
+        if before == ", " {
+            Ok(())
+        } else {
+            out.push_str("failed: none")
         }
-        Ok(())
     }
 }

@@ -1,5 +1,6 @@
 //! Errors as answers, and out of memory, which is none.
 
+use crate::format::Format;
 use crate::outcome::Outcome;
 use nanoserde::{DeBinErr, DeBinKind, DeJsonErr, DeRonErr};
 use std::alloc::{AllocError, Global};
@@ -14,6 +15,25 @@ pub fn code(alloc: Global, error: DeBinErr, moved: usize) -> Result<Outcome, All
         Err(AllocError)
     } else {
         text_of(format!(in alloc; "{kind:?} o {o} l {l} s {s}"))
+    }
+}
+
+/// The bytes of a value that was read between two offsets, or the error. The second offset is reported
+/// where the format asks for it.
+pub(crate) fn bin(
+    alloc: Global,
+    format: Format,
+    read: Result<Vec<u8>, DeBinErr>,
+    (start, end): (usize, usize),
+) -> Result<Outcome, AllocError> {
+    match (read, format) {
+        (Ok(bytes), Format::BinAt) => {
+            let answer = Outcome::Code(bytes).answer(alloc)?;
+            let reported = format!(in alloc; "{answer} -> {end}")?;
+            Ok(Outcome::Text(reported.into_bytes()))
+        }
+        (Ok(bytes), _) => Ok(Outcome::Code(bytes)),
+        (Err(error), _) => code(alloc, error, start.abs_diff(end)),
     }
 }
 
@@ -42,7 +62,7 @@ pub(crate) fn json_code(
 }
 
 /// The text of the error.
-pub(crate) fn json_error(alloc: Global, error: &DeJsonErr) -> Result<Outcome, AllocError> {
+fn json_error(alloc: Global, error: &DeJsonErr) -> Result<Outcome, AllocError> {
     let shown = format!(in alloc; "{error}")?;
     error_of(alloc, error.memory, error.msg.is_empty(), shown)
 }
@@ -67,7 +87,7 @@ pub(crate) fn ron_code(
 }
 
 /// The text of the error.
-pub(crate) fn ron_error(alloc: Global, error: &DeRonErr) -> Result<Outcome, AllocError> {
+fn ron_error(alloc: Global, error: &DeRonErr) -> Result<Outcome, AllocError> {
     let shown = format!(in alloc; "{error}")?;
     error_of(alloc, error.memory, error.msg.is_empty(), shown)
 }

@@ -1,5 +1,6 @@
 //! A state of JSON's reader as a case has it.
 
+use crate::outcome::Outcome;
 use crate::start::{Left, Start, character, reported, start_of};
 use nanoserde::{DeJsonErr, DeJsonState, DeJsonTok};
 use std::alloc::{AllocError, Global};
@@ -19,6 +20,14 @@ pub fn json_start(
         None => Ok(None),
         Some(state) => Ok(Some((state, input))),
     }
+}
+
+/// The state in which a text is read from its beginning on. Its first token may be none.
+pub(crate) fn json_begun(alloc: Global, input: &mut Chars<'_>) -> DeJsonState {
+    let mut state = DeJsonState::new(alloc);
+    state.next(input);
+    let _cut = state.next_tok(alloc, input);
+    state
 }
 
 /// The state that is described, whose first character is taken from the input.
@@ -100,4 +109,19 @@ pub fn append_json_state(
 pub fn json_fault(alloc: Global, error: &DeJsonErr) -> Result<String, AllocError> {
     let msg = error.msg.as_str();
     reported(alloc, error.memory, msg, (error.line, error.col))
+}
+
+/// What was read in a state, and the state afterwards.
+pub(crate) fn json_left(
+    alloc: Global,
+    read: Result<String, DeJsonErr>,
+    state: &DeJsonState,
+    input: &Chars<'_>,
+) -> Result<Outcome, AllocError> {
+    let mut answer = match read {
+        Ok(text) => text,
+        Err(error) => json_fault(alloc, &error)?,
+    };
+    append_json_state(&mut answer, state, input)?;
+    Ok(Outcome::Text(answer.into_bytes()))
 }

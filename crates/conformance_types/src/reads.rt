@@ -1,14 +1,14 @@
 //! The outcome of an input as a value of one type, through the bounds of its formats. What a type
 //! has of its own is one function for each way in and out: each is built once for each type.
 
-use crate::errors::{code, json, json_code, json_error, not_a_text, ron, ron_code, ron_error};
+use crate::errors::{bin, code, json, json_code, not_a_text, ron, ron_code};
 use crate::format::Format;
-use crate::json_state::{append_json_state, json_fault, json_start};
+use crate::json_state::{json_begun, json_left, json_start};
 use crate::outcome::Outcome;
-use crate::ron_state::{append_ron_state, ron_fault, ron_start};
+use crate::ron_state::{ron_begun, ron_left, ron_start};
 use nanoserde::{
-    BothBin, BothJson, BothRon, DeJsonErr, DeJsonState, DeRonErr, DeRonState, SerJsonState,
-    SerRonState, json_to_bin, normal_json, normal_ron, ron_to_bin,
+    BothBin, BothJson, BothRon, DeBinErr, DeBinKind, DeJsonErr, DeJsonState, DeRonErr, DeRonState,
+    SerJsonState, SerRonState, json_to_bin, normal_json, normal_ron, ron_to_bin,
 };
 use std::alloc::{AllocError, Global};
 use std::str;
@@ -37,59 +37,48 @@ pub(crate) fn of_bytes<T: BothBin>(
     format: Format,
     input: &[u8],
 ) -> Result<Outcome, AllocError> {
-    match format {
-        Format::Bin => bin_at::<T>(alloc, format, 0, input),
-        Format::BinAt => match split_offset(input) {
-            Some((offset, bytes)) => bin_at::<T>(alloc, format, offset, bytes),
-            None => Ok(Outcome::Unknown),
-        },
-        Format::BinWhole => match T::deserialize_bin_whole(alloc, input) {
-            Ok(value) => Ok(Outcome::Code(value.serialize_bin(alloc)?)),
-            Err(error) => code(alloc, error, 0),
-        },
-        _ => Ok(Outcome::Unknown),
+    if let Format::BinWhole = format {
+        let read = code_of(alloc, T::deserialize_bin_whole(alloc, input));
+        return bin(alloc, format, read, (0, 0));
     }
-}
-
-/// The code of the value that stands at an offset, and the offset after it where that is asked.
-fn bin_at<T: BothBin>(
-    alloc: Global,
-    format: Format,
-    start: usize,
-    bytes: &[u8],
-) -> Result<Outcome, AllocError> {
+    let Some((start, bytes)) = split_offset(format, input) else {
+        return Ok(Outcome::Unknown);
+    };
     let mut offset = start;
-    match T::de_bin(alloc, &mut offset, bytes) {
-        Ok(value) => after(alloc, format, value.serialize_bin(alloc)?, offset),
-        Err(error) => code(alloc, error, start.abs_diff(offset)),
+    let read = code_of(alloc, T::de_bin(alloc, &mut offset, bytes));
+    bin(alloc, format, read, (start, offset))
+}
+
+/// What is written of the value that was read.
+fn code_of<T: BothBin>(alloc: Global, read: Result<T, DeBinErr>) -> Result<Vec<u8>, DeBinErr> {
+    match read {
+        Ok(value) => match value.serialize_bin(alloc) {
+            Ok(code) => Ok(code),
+            Err(_) => Err(DeBinErr {
+                o: 0,
+                l: 0,
+                s: 0,
+                kind: DeBinKind::Memory,
+            }),
+        },
+        Err(error) => Err(error),
     }
 }
 
-/// A code, and the offset after it where that is asked.
-fn after(
-    alloc: Global,
-    format: Format,
-    code: Vec<u8>,
-    offset: usize,
-) -> Result<Outcome, AllocError> {
-    let read = Outcome::Code(code);
+/// The offset from which bytes are read, and the bytes: those after the space after it, where the
+/// format has one.
+fn split_offset(format: Format, input: &[u8]) -> Option<(usize, &[u8])> {
     match format {
+        Format::Bin => Some((0, input)),
         Format::BinAt => {
-            let answer = read.answer(alloc)?;
-            let reported = format!(in alloc; "{answer} -> {offset}")?;
-            Ok(Outcome::Text(reported.into_bytes()))
+            let place = input.iter().position(|byte| *byte == b' ')?;
+            let (number, rest) = input.split_at_checked(place)?;
+            let number = str::from_utf8(number).ok()?;
+            let (_space, bytes) = rest.split_first()?;
+            Some((number.parse().ok()?, bytes))
         }
-        _ => Ok(read),
+        _ => None,
     }
-}
-
-/// The offset, and the bytes after the space after it.
-fn split_offset(input: &[u8]) -> Option<(usize, &[u8])> {
-    let place = input.iter().position(|byte| *byte == b' ')?;
-    let (number, rest) = input.split_at_checked(place)?;
-    let number = str::from_utf8(number).ok()?;
-    let (_space, bytes) = rest.split_first()?;
-    Some((number.parse().ok()?, bytes))
 }
 
 /// The text of the value that bytes begin with.
@@ -138,8 +127,8 @@ fn of_text<T: BothBin + BothJson + BothRon>(
         Format::JsonBin => json_code(alloc, json_to_bin::<T>(alloc, text)),
         Format::RonBin => ron_code(alloc, ron_to_bin::<T>(alloc, text)),
         Format::Ron => ron(alloc, normal_ron::<T>(alloc, text)),
-        Format::RonWhole => ron_value(alloc, T::deserialize_ron_whole(alloc, text)),
-        Format::RonAgain => ron_again::<T>(alloc, text),
+        Format::RonWhole => ron(alloc, ron_of(alloc, T::deserialize_ron_whole(alloc, text))),
+        Format::RonAgain => ron(alloc, ron_again::<T>(alloc, text)),
         Format::RonState => ron_at::<T>(alloc, text),
         _ => of_json::<T>(alloc, format, text),
     }
@@ -153,78 +142,68 @@ pub(crate) fn of_json<T: BothJson>(
 ) -> Result<Outcome, AllocError> {
     match format {
         Format::Json => json(alloc, normal_json::<T>(alloc, text)),
-        Format::JsonWhole => json_value(alloc, T::deserialize_json_whole(alloc, text)),
-        Format::JsonAgain => json_again::<T>(alloc, text),
+        Format::JsonWhole => json(
+            alloc,
+            json_of(alloc, T::deserialize_json_whole(alloc, text)),
+        ),
+        Format::JsonAgain => json(alloc, json_again::<T>(alloc, text)),
         Format::JsonState => json_at::<T>(alloc, text),
         _ => Ok(Outcome::Unknown),
     }
 }
 
-/// The normal form of the value that was read, or the error.
-fn json_value<T: BothJson>(
-    alloc: Global,
-    read: Result<T, DeJsonErr>,
-) -> Result<Outcome, AllocError> {
+/// What is written of the value that was read.
+fn json_of<T: BothJson>(alloc: Global, read: Result<T, DeJsonErr>) -> Result<String, DeJsonErr> {
     match read {
-        Ok(value) => Ok(Outcome::Text(value.serialize_json(alloc)?.into_bytes())),
-        Err(error) => json_error(alloc, &error),
+        Ok(value) => match value.serialize_json(alloc) {
+            Ok(text) => Ok(text),
+            Err(_) => Err(DeJsonState::new(alloc).err_memory(alloc)),
+        },
+        Err(error) => Err(error),
     }
 }
 
-/// The outcome of what is read second, whatever the first reading gave.
-fn json_again<T: BothJson>(alloc: Global, text: &str) -> Result<Outcome, AllocError> {
+/// What is written of the value that is read second, whatever the first reading gave.
+fn json_again<T: BothJson>(alloc: Global, text: &str) -> Result<String, DeJsonErr> {
     let mut input = text.chars();
-    let mut state = DeJsonState::new(alloc);
-    state.next(&mut input);
-    let _cut = state.next_tok(alloc, &mut input);
+    let mut state = json_begun(alloc, &mut input);
     let _first = T::de_json(alloc, &mut state, &mut input);
-    json_value(alloc, T::de_json(alloc, &mut state, &mut input))
+    json_of(alloc, T::de_json(alloc, &mut state, &mut input))
 }
 
 /// What is read in a state, and the state afterwards.
 fn json_at<T: BothJson>(alloc: Global, text: &str) -> Result<Outcome, AllocError> {
-    match json_start(alloc, text)? {
-        None => Ok(Outcome::Unknown),
-        Some((mut state, mut input)) => {
-            let mut answer = match T::de_json(alloc, &mut state, &mut input) {
-                Ok(value) => value.serialize_json(alloc)?,
-                Err(error) => json_fault(alloc, &error)?,
-            };
-            append_json_state(&mut answer, &state, &input)?;
-            Ok(Outcome::Text(answer.into_bytes()))
-        }
-    }
+    let Some((mut state, mut input)) = json_start(alloc, text)? else {
+        return Ok(Outcome::Unknown);
+    };
+    let read = json_of(alloc, T::de_json(alloc, &mut state, &mut input));
+    json_left(alloc, read, &state, &input)
 }
 
-/// The normal form of the value that was read, or the error.
-fn ron_value<T: BothRon>(alloc: Global, read: Result<T, DeRonErr>) -> Result<Outcome, AllocError> {
+/// What is written of the value that was read.
+fn ron_of<T: BothRon>(alloc: Global, read: Result<T, DeRonErr>) -> Result<String, DeRonErr> {
     match read {
-        Ok(value) => Ok(Outcome::Text(value.serialize_ron(alloc)?.into_bytes())),
-        Err(error) => ron_error(alloc, &error),
+        Ok(value) => match value.serialize_ron(alloc) {
+            Ok(text) => Ok(text),
+            Err(_) => Err(DeRonState::new(alloc).err_memory(alloc)),
+        },
+        Err(error) => Err(error),
     }
 }
 
-/// The outcome of what is read second, whatever the first reading gave.
-fn ron_again<T: BothRon>(alloc: Global, text: &str) -> Result<Outcome, AllocError> {
+/// What is written of the value that is read second, whatever the first reading gave.
+fn ron_again<T: BothRon>(alloc: Global, text: &str) -> Result<String, DeRonErr> {
     let mut input = text.chars();
-    let mut state = DeRonState::new(alloc);
-    state.next(&mut input);
-    let _cut = state.next_tok(alloc, &mut input);
+    let mut state = ron_begun(alloc, &mut input);
     let _first = T::de_ron(alloc, &mut state, &mut input);
-    ron_value(alloc, T::de_ron(alloc, &mut state, &mut input))
+    ron_of(alloc, T::de_ron(alloc, &mut state, &mut input))
 }
 
 /// What is read in a state, and the state afterwards.
 fn ron_at<T: BothRon>(alloc: Global, text: &str) -> Result<Outcome, AllocError> {
-    match ron_start(alloc, text)? {
-        None => Ok(Outcome::Unknown),
-        Some((mut state, mut input)) => {
-            let mut answer = match T::de_ron(alloc, &mut state, &mut input) {
-                Ok(value) => value.serialize_ron(alloc)?,
-                Err(error) => ron_fault(alloc, &error)?,
-            };
-            append_ron_state(&mut answer, &state, &input)?;
-            Ok(Outcome::Text(answer.into_bytes()))
-        }
-    }
+    let Some((mut state, mut input)) = ron_start(alloc, text)? else {
+        return Ok(Outcome::Unknown);
+    };
+    let read = ron_of(alloc, T::de_ron(alloc, &mut state, &mut input));
+    ron_left(alloc, read, &state, &input)
 }

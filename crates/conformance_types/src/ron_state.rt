@@ -1,5 +1,6 @@
 //! A state of RON's reader as a case has it.
 
+use crate::outcome::Outcome;
 use crate::start::{Left, Start, character, reported, start_of};
 use nanoserde::{DeRonErr, DeRonState, DeRonTok};
 use std::alloc::{AllocError, Global};
@@ -16,6 +17,14 @@ pub fn ron_start(alloc: Global, text: &str) -> Result<Option<(DeRonState, Chars<
         None => Ok(None),
         Some(state) => Ok(Some((state, input))),
     }
+}
+
+/// The state in which a text is read from its beginning on. Its first token may be none.
+pub(crate) fn ron_begun(alloc: Global, input: &mut Chars<'_>) -> DeRonState {
+    let mut state = DeRonState::new(alloc);
+    state.next(input);
+    let _cut = state.next_tok(alloc, input);
+    state
 }
 
 /// The state that is described, whose first character is taken from the input.
@@ -99,4 +108,19 @@ pub fn append_ron_state(
 pub fn ron_fault(alloc: Global, error: &DeRonErr) -> Result<String, AllocError> {
     let msg = error.msg.as_str();
     reported(alloc, error.memory, msg, (error.line, error.col))
+}
+
+/// What was read in a state, and the state afterwards.
+pub(crate) fn ron_left(
+    alloc: Global,
+    read: Result<String, DeRonErr>,
+    state: &DeRonState,
+    input: &Chars<'_>,
+) -> Result<Outcome, AllocError> {
+    let mut answer = match read {
+        Ok(text) => text,
+        Err(error) => ron_fault(alloc, &error)?,
+    };
+    append_ron_state(&mut answer, state, input)?;
+    Ok(Outcome::Text(answer.into_bytes()))
 }
