@@ -132,8 +132,9 @@ impl Asked {
     /// Appends which questions failed, and how often each was asked.
     pub fn append(&self, out: &mut String) -> Result<(), AllocError> {
         self.append_failed(out)?;
+        let rows = self.rows();
         let mut before = "; asked: ";
-        for (name, count) in &self.rows() {
+        for (name, count) in &rows {
             let asked = count.asked;
             write!(out, "{before}{asked} {name}")?;
             before = ", ";
@@ -143,8 +144,9 @@ impl Asked {
 
     /// Appends how often each question failed that did.
     fn append_failed(&self, out: &mut String) -> Result<(), AllocError> {
+        let rows = self.rows();
         let mut before = "failed: ";
-        for (name, count) in &self.rows() {
+        for (name, count) in &rows {
             let failed = count.failed;
             if failed != 0 {
                 write!(out, "{before}{failed} {name}")?;

@@ -18,22 +18,24 @@ pub fn code(alloc: Global, error: DeBinErr, moved: usize) -> Result<Outcome, All
     }
 }
 
-/// The bytes of a value that was read between two offsets, or the error. The second offset is reported
-/// where the format asks for it.
+/// The bytes of a value that was read between two offsets, or the error. The second offset is
+/// reported where the format asks for it.
 pub(crate) fn bin(
     alloc: Global,
     format: Format,
     read: Result<Vec<u8>, DeBinErr>,
     (start, end): (usize, usize),
 ) -> Result<Outcome, AllocError> {
-    match (read, format) {
-        (Ok(bytes), Format::BinAt) => {
-            let answer = Outcome::Code(bytes).answer(alloc)?;
-            let reported = format!(in alloc; "{answer} -> {end}")?;
-            Ok(Outcome::Text(reported.into_bytes()))
-        }
-        (Ok(bytes), _) => Ok(Outcome::Code(bytes)),
-        (Err(error), _) => code(alloc, error, start.abs_diff(end)),
+    match read {
+        Ok(bytes) => match format {
+            Format::BinAt => {
+                let answer = Outcome::Code(bytes).answer(alloc)?;
+                let reported = format!(in alloc; "{answer} -> {end}")?;
+                Ok(Outcome::Text(reported.into_bytes()))
+            }
+            _ => Ok(Outcome::Code(bytes)),
+        },
+        Err(error) => code(alloc, error, start.abs_diff(end)),
     }
 }
 
