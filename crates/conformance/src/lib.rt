@@ -6,7 +6,7 @@
 mod asked;
 mod calls;
 mod case;
-mod counterpart;
+mod counterparts;
 mod dates;
 mod findings;
 mod json_calls;
@@ -22,7 +22,7 @@ pub use asked::{Asked, Count, Question};
 pub use calls::outcome_of;
 pub use case::{Case, NoCase};
 pub use conformance_types::{Format, Outcome, code, escape, unescape};
-pub use counterpart::counterpart;
+pub use counterparts::counterpart;
 pub use findings::{Difference, Findings};
 pub use repeat::write_out;
 pub use table::differences_of;

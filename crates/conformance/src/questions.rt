@@ -3,7 +3,7 @@
 use crate::asked::Question;
 use crate::calls::outcome_of;
 use crate::case::Case;
-use crate::counterpart::counterpart;
+use crate::counterparts::counterpart;
 use crate::findings::Findings;
 use conformance_types::{Format, Outcome};
 use std::alloc::{AllocError, Global};
