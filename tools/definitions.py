@@ -8,6 +8,8 @@ import pathlib
 import re
 
 WORD = re.compile(r"(?<![\w'])[A-Za-z_][\w']*(?:-[\w']+)*")
+# A word that names an item, and no field of what stands before its dot.
+NAME = re.compile(r"(?<![\w'.])[A-Za-z_][\w']*(?:-[\w']+)*")
 USE = re.compile(r"(?:pub )?use Rattle\.(\w+)\.(specs|proofs)\.(\w+)\.\{([^}]*)\}")
 HEAD = re.compile(
     r"(?:pub |abbrev |unfoldable )*(record |data |module |mutual|ruleset )?([^\s:({]*)")
@@ -149,7 +151,9 @@ class Specs:
         """The item of a name, through modules and names that are passed on."""
         for _ in range(8):
             *key, name = cited
-            key = self.passed.get(tuple(key), tuple(key))
+            key = tuple(key)
+            while key in self.passed:
+                key = self.passed[key]
             if name in self.items.get(key, {}):
                 return self.items[key][name]
             if name not in self.uses.get(key, {}):
@@ -297,7 +301,7 @@ class Specs:
     def items_in(self, item, text):
         """The items that a text of an item names."""
         key = module_of(item.file)
-        found = [self.named(item, word) for word in set(WORD.findall(text))]
+        found = [self.named(item, word) for word in set(NAME.findall(text))]
         found += [self.find(*self.aliases[key][alias], name)
                   for alias, name in re.findall(r"\b(\w+)\.(\w+)", text)
                   if alias in self.aliases[key]]

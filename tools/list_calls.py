@@ -4,8 +4,9 @@
 The libraries are the crates of crates.txt above its tests, but for the generator. A test file is one of a crate of tests
 or of `conformance`, whose calls the tables of cases make. It counts where its crate stands on the
 function's, straight or through others; so do the files of an example that the crate stands on,
-since its tests run them. A call counts by its name alone, whatever its type. Usage, at
-the top of the repository: python3 tools/list_calls.py [--all]
+since its tests run them. A call counts by its name alone, whatever its type. The script fails on a
+function that no test calls and that is not in UNCALLED, and on a name there that tests call. Usage,
+at the top of the repository: python3 tools/list_calls.py [--all]
 With --all each function is listed, with the files that call it.
 """
 import pathlib
@@ -14,6 +15,8 @@ import sys
 
 ITEM = re.compile(r"^(\s*)(pub |pub\(crate\) )?(?:final )?(trait|impl|fn)\b(.*)")
 COMMENT = re.compile(r"//.*")
+# Public functions that no test calls, as they are printed, and why.
+UNCALLED = {}
 
 
 def crates():
@@ -84,17 +87,23 @@ def test_files(below, libraries):
 def main():
     below, libraries = crates()
     files = list(test_files(below, libraries))
-    count = untested = 0
+    count, faults, untested = 0, 0, set()
     for crate in libraries:
         for path, owner, name in public_functions(crate):
             able = (file for file in files if crate in file[2])
             callers = sorted({str(file[0]) for file in able if name in file[1]})
             count += 1
-            untested += not callers
+            label = "::".join(part for part in (crate, owner, name) if part)
+            if not callers:
+                untested.add(label)
+                faults += label not in UNCALLED
             if "--all" in sys.argv or not callers:
-                label = "::".join(part for part in (crate, owner, name) if part)
-                print(f"{label} ({path.name}):", *(callers or ["none"]))
-    print(f"{count} public functions, {untested} that no test calls")
+                print(f"{label} ({path.name}):", *(callers or [UNCALLED.get(label, "none")]))
+    for label in sorted(set(UNCALLED) - untested):
+        print(f"{label} is called, or is no public function")
+        faults += 1
+    print(f"{count} public functions, {len(untested)} that no test calls, {faults} faults")
+    return 1 if faults else 0
 
 
-main()
+sys.exit(main())

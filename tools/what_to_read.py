@@ -24,10 +24,10 @@ READ = re.compile(r"\.([\w'-]+)")
 # The source files whose contracts are the headline, the crate whose types have the encodings that
 # these speak of, and the most lines and files of its definitions.
 HEADLINES = {
-    "bytes": (["nano_bin/src/traits.rt"], "nano_bin", 370, 30),
-    "JSON": (["nano_json/src/traits.rt"], "nano_json", 970, 50),
-    "RON": (["nano_ron/src/traits.rt"], "nano_ron", 1050, 50),
-    "TOML": (["nano_toml/src/parser.rt"], None, 500, 20),
+    "bytes": (["nano_bin/src/traits.rt"], "nano_bin", 330, 15),
+    "JSON": (["nano_json/src/traits.rt"], "nano_json", 900, 30),
+    "RON": (["nano_ron/src/traits.rt"], "nano_ron", 980, 30),
+    "TOML": (["nano_toml/src/parser.rt"], None, 500, 15),
     "the place of an error of TOML": (["nano_toml/src/parser.rt"], None, None, None),
     "the program": (["nano_show_answers/src/answers.rt"], None, None, None),
 }
@@ -80,6 +80,11 @@ def closure(specs, headline, places, types):
     # the fields that something reads, and the values of those that nothing has read yet
     read = {name for place in places
             for name in READ.findall(promised(pathlib.Path("crates", place).read_text()))}
+    return followed(specs, queue, read)
+
+
+def followed(specs, queue, read):
+    """The definitions that the items of the queue rest on, where these fields are read."""
     found, unread = {}, []
     while queue:
         item = queue.pop()

@@ -3,6 +3,7 @@
 refuse_memory.sh calls it with the built program, the built refuse_malloc.c, and the table.
 """
 import os
+import re
 import subprocess
 import sys
 from collections import Counter
@@ -15,13 +16,14 @@ WITHOUT_MEMORY = (".next", ".fail", ".is_null", ".is_none", ".is_block_close", "
 
 def run(program, library, line):
     """What the case answers, with requests refused and last with none refused; how many requests it
-    makes, and how many of them were refused."""
+    makes, and how many of them were refused, which is -1 where refuse_malloc.c did not count them."""
     environment = dict(os.environ, LD_PRELOAD=library)
     # The program does not look at what is wanted, and a word of a command line is at most 128 KB.
     case = "\t".join(line.split("\t")[:3] + ["", ""])
     done = subprocess.run([program, "one", case], env=environment, capture_output=True, check=False)
     lines = done.stdout.decode().split("\n")[:-1]
-    requests, refused = done.stderr.split()[-2:] or (0, 0)
+    counts = re.search(rb"^(\d+) (\d+)\n\Z", done.stderr, re.M)
+    requests, refused = counts.groups() if counts else (-1, -1)
     return lines[:-1], lines[-1] if lines else "stopped", int(requests), int(refused)
 
 
@@ -41,6 +43,17 @@ def judged(line, answer, ample):
     return "other"
 
 
+def status_of(counts):
+    """1 where something is other, and where no request was refused or none of them was felt."""
+    of_kind = Counter()
+    for (_, kind), count in counts.items():
+        of_kind[kind] += count
+    for kind, what in (("refused", "no request was refused"), ("memory", "nothing ran out of memory")):
+        if not of_kind[kind]:
+            print(what)
+    return 0 if of_kind["refused"] and of_kind["memory"] and not of_kind["other"] else 1
+
+
 def main():
     """Runs each case, prints what is other, and the counts by format."""
     program, library, table = sys.argv[1:]
@@ -53,6 +66,10 @@ def main():
         for line, (answers, ample, requests, refused) in zip(lines, results):
             form = line.split("\t")[0]
             counts[form, "cases"] += 1
+            counts[form, "refused"] += max(refused, 0)
+            if refused < 0:
+                counts[form, "other"] += 1
+                print(f"other: {line[:1000]}\n  no request was counted")
             if refused < requests:
                 long.update(cases=1, requests=requests, refused=refused)
             if ample in ("out of memory", "stopped", "no case"):
@@ -68,7 +85,7 @@ def main():
         print(form, *(f"{kind} {counts[form, kind]}" for kind in ("cases", "ample", "memory", "other")))
     if long:
         print(f"{long['cases']} long cases: {long['refused']} of {long['requests']} requests refused")
-    return 1 if any(kind == "other" and count for (_, kind), count in counts.items()) else 0
+    return status_of(counts)
 
 
 if __name__ == "__main__":

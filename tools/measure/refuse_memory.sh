@@ -8,7 +8,8 @@
 # it and every later one. Of a case with more than 200 requests, later ones are refused one in 31. Each
 # such run must answer as with ample memory, or out of memory, marked as such; a call of states.tsv that
 # takes no memory must answer as with ample memory, once the case has its memory. Anything else is
-# printed as `other`, and the status is then 1. The last lines of a table are counts by format.
+# printed as `other`, and the status is then 1; so it is where no request was refused. The last lines of a
+# table are counts by format.
 #
 # It runs the proved program where `rt run` or `rt ci` left one, and else one that it builds by `rt try`,
 # which proves nothing; PROGRAM in the environment is another one. It wants rt, cc and Python.

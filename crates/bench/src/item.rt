@@ -3,9 +3,10 @@
 
 ghost use Rattle.std.specs.Prelude.{codes, refl};
 ghost use Rattle.nano_meaning.proofs.AgreesLaws.{agreed};
-ghost use Rattle.nano_bin.specs.Codec.{codec_as as seen_as};
+ghost use Rattle.nano_bin.specs.BaseCodecs.{codec_as as seen_as};
 ghost use Rattle.nano_json.specs.Codec.{codec_as};
-ghost use Rattle.nano_json_schema.specs.FieldCodecs.{required_field, optional_field, fields_pair, ascii_names, fields_codec};
+ghost use Rattle.nano_json_schema.specs.FieldCodecs.{required_field, optional_field, fields_pair};
+ghost use Rattle.nano_json_schema.specs.FieldCodecs.{ascii_names, fields_codec};
 
 use nano_bin::{BinCodec, DeBin, DeBinErr, SerBin, append_part};
 use nano_json::{DeJson, DeJsonErr, DeJsonState, JsonCodec, SerJson, SerJsonState};
@@ -54,7 +55,7 @@ impl Value for Item {
 
     ghost legal = { ⟦<(i32, Option<String>) as Value>⟧.legal };
 
-    #[tactic(auto, using(nano_meaning::proofs::LegalLaws::pair_is_legal))]
+    #[tactic(auto, using(nano_meaning::proofs::MeaningLaws::pair_is_legal))]
     fn known(&self) {
         self.value.known();
         self.note.known();

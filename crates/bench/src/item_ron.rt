@@ -3,8 +3,8 @@
 ghost use Rattle.std.specs.Prelude.{codes, refl};
 ghost use Rattle.nano_meaning.proofs.AgreesLaws.{agreed};
 ghost use Rattle.nano_ron.specs.Codec.{codec_as};
-ghost use Rattle.nano_ron_schema.specs.FieldCodecs.{required_field, optional_field, fields_pair, word_names};
-ghost use Rattle.nano_ron_schema.specs.Fields.{fields_codec};
+ghost use Rattle.nano_ron_schema.specs.FieldCodecs.{required_field, optional_field, fields_pair};
+ghost use Rattle.nano_ron_schema.specs.FieldCodecs.{word_names, fields_codec};
 
 use crate::item::{Item, ItemFields};
 use nano_ron::{DeRon, DeRonErr, DeRonState, RonCodec, SerRon, SerRonState};

@@ -1,5 +1,7 @@
 -- The place after one more character.
-use Rattle.std.proofs.Common.{subst, chars, ◌≡◌, ◌≢◌, ℕ, ◌+◌, ◌<◌, ◌≤◌, ◌==◌, not, List, [], ◌∷◌, ◌++◌, length, Fits, w64, filter, reverse, true, false, Bool, cond, refl, arith, ne_eqb}
+use Rattle.std.proofs.Common.{subst, chars, ◌≡◌, ◌≢◌, ℕ, ◌+◌, ◌<◌, ◌≤◌, ◌==◌, not, List, [], ◌∷◌}
+use Rattle.std.proofs.Common.{◌++◌, length, Fits, w64, filter, reverse, true, false, Bool, cond}
+use Rattle.std.proofs.Common.{refl, arith, ne_eqb}
 use Rattle.std.proofs.lemmas.List.{reverse-append, length-append, length-reverse}
 use Rattle.std.proofs.lemmas.Str.{length-le-encodes, chars-encodes}
 use Rattle.std.specs.Str.{IsUtf8}

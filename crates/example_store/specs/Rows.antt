@@ -4,8 +4,7 @@ use Rattle.std.specs.Global.{Global}
 use Rattle.std.specs.BTreeMap.{BTreeMap, get_by_text}
 use Rattle.std.specs.Io.KnownBytes.{Appends}
 use Rattle.nano_value.specs.Meaning.{Meaning}
-use Rattle.nano_bin.specs.Codec.{Codec}
-use Rattle.nano_bin.specs.Encoding.{Encoding}
+use Rattle.nano_bin.specs.Codec.{Codec, Encoding}
 
 -- all the bytes that a reader gives, where these are known, encode no value
 abbrev pub HoldsNone : Encoding → Option (List ℕ) → Type 0

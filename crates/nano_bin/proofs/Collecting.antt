@@ -1,16 +1,13 @@
 -- What a reader that puts items into a collection knows at the head of its loop, and at its exits.
 use Rattle.std.proofs.Common.{◌≡◌, ℕ, ◌+◌, ◌<◌, ◌≤◌, List, [], ◌∷◌, ◌++◌, drop, sym, subst, arith}
-use Rattle.nano_value.specs.Legal.{IsImage}
-use Rattle.nano_value.specs.Meaning.{Meaning, paired}
+use Rattle.nano_value.specs.Meaning.{IsImage, Meaning, paired}
 use Rattle.nano_meaning.proofs.MeaningLaws.{both_injective}
-use Rattle.nano_bin_bytes.specs.LittleEndian.{EncodesNumber}
+use Rattle.nano_bin_bytes.specs.Scalars.{EncodesNumber}
 use Rattle.nano_bin_bytes.specs.Reading.{Decodes, DecodesToNothing}
-use Rattle.nano_bin_bytes.specs.Encoding.{IsEncoding}
-use Rattle.nano_bin_bytes.specs.Lists.{EncodesAll, EncodesCount, EncodesList}
-use Rattle.nano_bin_bytes.specs.Tuples.{EncodesPair}
-use Rattle.nano_bin.proofs.Readers.{count_reads_none, count_reads_push, count_rejected}
-use Rattle.nano_bin.proofs.Readers.{list_reads, list_rejected, list_items_rejected}
-use Rattle.nano_bin.proofs.Readers.{image_reads, image_rejected}
+use Rattle.nano_bin_bytes.specs.Codec.{IsEncoding}
+use Rattle.nano_bin_bytes.specs.Containers.{EncodesAll, EncodesCount, EncodesList, EncodesPair}
+use Rattle.nano_bin.proofs.Readers.{count_reads_none, count_reads_push, count_rejected, list_reads}
+use Rattle.nano_bin.proofs.Readers.{list_rejected, list_items_rejected, image_reads, image_rejected}
 
 -- so many items stand between two offsets, and the collection holds them
 pub record Collected {C V : Type 0} (holds : C → List V → Type 0) (S : List ℕ → V → Type 0)

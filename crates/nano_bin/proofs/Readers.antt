@@ -1,23 +1,19 @@
 -- What the readers of containers answer, from what the readers of their parts answer.
-use Rattle.std.proofs.Common.{◌≡◌, ◌≢◌, ℕ, ◌+◌, ◌<◌, refl, List, [], ◌∷◌, ◌++◌, length, drop, Option, Some, None, sym, ◌∙◌, subst, ap, arith, append_assoc, length-append}
+use Rattle.std.proofs.Common.{◌≡◌, ◌≢◌, ℕ, ◌+◌, ◌<◌, refl, List, [], ◌∷◌, ◌++◌, length, drop}
+use Rattle.std.proofs.Common.{Option, Some, None, sym, ◌∙◌, subst, ap, arith, append_assoc}
+use Rattle.std.proofs.Common.{length-append}
 use Rattle.std.proofs.lemmas.List.{append-nil}
-use Rattle.nano_value.specs.Meaning.{Meaning, nothing, truth, whole}
+use Rattle.nano_value.specs.Meaning.{Meaning, nothing, truth, whole, IsImage}
 use Rattle.nano_meaning.proofs.MeaningLaws.{whole_injective}
-use Rattle.nano_value.specs.Legal.{IsImage}
-use Rattle.nano_bin_bytes.specs.Encoding.{IsEncoding}
-use Rattle.nano_bin_bytes.proofs.EncodingLaws.{same_prefixes, same_heads}
+use Rattle.nano_bin_bytes.specs.Codec.{IsEncoding}
+use Rattle.nano_bin_bytes.proofs.CodecLaws.{same_prefixes, same_heads}
 use Rattle.nano_bin_bytes.specs.declared.error.DeBinErr.{DeBinErr}
-use Rattle.nano_bin_bytes.specs.Reading.{DecodesToNothing, Decodes}
-use Rattle.nano_bin_bytes.specs.Rejections.{ReadsNoneWhereShort}
-use Rattle.nano_bin_bytes.specs.LittleEndian.{EncodesNumber}
-use Rattle.nano_bin_bytes.specs.Bools.{EncodesUnit, EncodesTruth, EncodesBool}
-use Rattle.nano_bin_bytes.proofs.BoolsLaws.{truth_byte}
-use Rattle.nano_bin_bytes.specs.Numbers.{EncodesUnsigned}
-use Rattle.nano_bin_bytes.proofs.NumbersLaws.{number_encoding}
-use Rattle.nano_bin_bytes.specs.Tuples.{EncodesPair}
-use Rattle.nano_bin_bytes.specs.Options.{EncodesOption}
-use Rattle.nano_bin_bytes.specs.Lists.{EncodesItems, EncodesCount, EncodesList}
-use Rattle.nano_bin_bytes.specs.Texts.{EncodesText, IsTextOf}
+use Rattle.nano_bin_bytes.specs.Reading.{DecodesToNothing, Decodes, ReadsNoneWhereShort}
+use Rattle.nano_bin_bytes.specs.Scalars.{EncodesNumber, EncodesUnit, EncodesTruth, EncodesBool}
+use Rattle.nano_bin_bytes.specs.Scalars.{EncodesUnsigned}
+use Rattle.nano_bin_bytes.proofs.ScalarsLaws.{truth_byte, number_encoding}
+use Rattle.nano_bin_bytes.specs.Containers.{EncodesPair, EncodesOption, EncodesItems, EncodesCount}
+use Rattle.nano_bin_bytes.specs.Containers.{EncodesList, EncodesText, IsTextOf}
 
 -- ---- one reader after another
 

@@ -1,16 +1,28 @@
 -- What is read where a code stands.
-use Rattle.std.proofs.Common.{◌≡◌, ◌≢◌, ℕ, ◌+◌, List, ◌++◌, length, drop, sym, ◌∙◌, subst, ap, append_assoc, refl, Result, Ok, Err, IfErr}
-use Rattle.std.proofs.lemmas.List.{drop-drop}
+use Rattle.std.proofs.Common.{◌≡◌, ◌≢◌, ℕ, ◌+◌, List, ◌++◌, length, drop, sym, ◌∙◌, subst, ap}
+use Rattle.std.proofs.Common.{append_assoc, refl, Result, Ok, Err, IfErr, Bool, true, false, cond}
+use Rattle.std.proofs.Common.{map, ◌<◌, [], arith}
+use Rattle.std.proofs.lemmas.List.{drop-drop, append-nil}
 use Rattle.std.proofs.Math.Seq.{drop-append_seam}
+use Rattle.std.specs.declared.cmp.Ordering.{Ordering}
+use Rattle.std.specs.FinMap.Entries.{is_sorted}
 use Rattle.nano_bin_bytes.specs.declared.error.DeBinErr.{DeBinErr}
 use Rattle.nano_bin_bytes.specs.declared.error.DeBinKind.{DeBinKind}
-use Rattle.nano_bin_bytes.specs.declared.error.DeBinKind.TheVariants.{TooShort, NotUtf8, TooLong, Memory, Own}
-use Rattle.nano_bin_bytes.specs.declared.error.DeBinKind.TheVariants.{TrailingBytes}
-use Rattle.nano_bin_bytes.specs.Encoding.{IsEncoding}
-use Rattle.nano_bin_bytes.proofs.EncodingLaws.{same_prefixes}
-use Rattle.nano_bin_bytes.specs.Reading.{DecodesToNothing, Decodes}
-use Rattle.nano_bin_bytes.specs.Rejections.{ReadsNone}
+use Rattle.nano_bin_bytes.specs.declared.error.DeBinKind.TheVariants.{TooShort, NotUtf8, TooLong}
+use Rattle.nano_bin_bytes.specs.declared.error.DeBinKind.TheVariants.{Memory, Own, TrailingBytes}
+use Rattle.nano_bin_bytes.specs.Codec.{IsEncoding, Codec}
+use Rattle.nano_bin_bytes.proofs.CodecLaws.{same_prefixes}
+use Rattle.nano_bin_bytes.specs.Reading.{DecodesToNothing, Decodes, ReadsNone, rejection}
+use Rattle.nano_bin_bytes.specs.Reading.{kind_within, own_error, DecodesTo, ReportsTrailing}
 use Rattle.nano_bin_bytes.specs.Promises.{StandsAt, FailsForMemory}
+use Rattle.nano_value.specs.Meaning.{Meaning, Agrees}
+use Rattle.nano_value.specs.Tables.{table_of, table_means}
+use Rattle.nano_value.specs.Sets.{marked, item_set, set_means}
+use Rattle.nano_meaning.proofs.SetsLaws.{set_means-injective}
+use Rattle.nano_value.specs.Ordered.{ordered_means, unordered}
+use Rattle.nano_meaning.proofs.OrderedSetsLaws.{no_list_is_unordered}
+use Rattle.nano_value.specs.Order.{MeaningOrder}
+use Rattle.nano_bin.specs.ContainerCodecs.{map_codec, set_codec}
 
 module _ {A : Type 0} {P : A → Type 0} {S : List ℕ → A → Type 0} (s : IsEncoding P S) where
   -- the value that the bytes encode is read, and the offset is set after its encoding
@@ -57,3 +69,69 @@ pub fails_for_memory : {T A : Type 0} (S : List ℕ → A → Type 0) (code byte
     → IfErr r (FailsForMemory code bytes start end)
 fails_for_memory S code bytes start end (Ok x) h fits = tt
 fails_for_memory S code bytes start end (Err x) h fits = record { memory = λ at. for_memory x.kind (λ other. fits at (h.rejects other)); unchanged = h.unchanged }
+
+-- ==== values of the same bytes
+
+module _ {K : Type 0} {means : K → Meaning} {legal : Meaning → Type 0} (o : MeaningOrder) (k : Codec K) (t : Agrees means legal k.canonical.means k.encoding.legal) where
+  -- entries of the same table
+  pub same_entries :
+      {V : Type 0} {means' : V → Meaning} {legal' : Meaning → Type 0} (v : Codec V)
+      → Agrees means' legal' v.canonical.means v.encoding.legal
+      → (es fs : List (K × V))
+      → table_of means means' es ≡ table_of means means' fs
+      → (map_codec o k v).canonical.written es ≡ (map_codec o k v).canonical.written fs
+  same_entries {V} {means'} v u es fs e =
+      let seen : (xs : List (K × V)) → table_means (table_of k.canonical.means v.canonical.means xs) ≡ table_means (table_of means means' xs) = λ xs i. table_means (table_of (t.means_is i) (u.means_is i) xs) in
+      (map_codec o k v).canonical.same_written es fs (seen es ∙ (ap table_means e ∙ sym (seen fs)))
+
+  items_reported :
+      (C : K → K → Ordering) (xs ys : List K)
+      → set_means (item_set means xs) ≡ ordered_means C means ys
+      → item_set means xs ≡ item_set means ys
+  items_reported C xs ys =
+      elim (is_sorted C (marked ys)) as (λ (b : Bool). set_means (item_set means xs) ≡ cond b (set_means (item_set means ys)) (unordered (map means ys)) → item_set means xs ≡ item_set means ys) [
+        | true ↦ λ e. set_means-injective (item_set means xs) (item_set means ys) e
+        | false ↦ λ e. no_list_is_unordered _ (map means ys) e
+      ]
+
+  -- a set without an order, and one that holds its items in the order C
+  pub same_items :
+      (C : K → K → Ordering) (xs ys : List K)
+      → set_means (item_set means xs) ≡ ordered_means C means ys
+      → (set_codec o k).canonical.written xs ≡ (set_codec o k).canonical.written ys
+  same_items C xs ys e =
+      let seen : (zs : List K) → set_means (item_set k.canonical.means zs) ≡ set_means (item_set means zs) = λ zs i. set_means (item_set (t.means_is i) zs) in
+      (set_codec o k).canonical.same_written xs ys (seen xs ∙ (ap set_means (items_reported C xs ys e) ∙ sym (seen ys)))
+
+-- ==== whole inputs
+
+-- a value that all of the bytes encode decodes from them
+pub whole_decodes : {A : Type 0} (S : List ℕ → A → Type 0) (bytes : List ℕ) (x : A) → S bytes x → DecodesTo S bytes x
+whole_decodes S bytes x h = record { prefix = bytes; rest = []; whole = sym (append-nil bytes); is_encoded = h }
+
+-- a value that is read up to a place before the end is not encoded by all of the bytes
+pub read_before_end : {A : Type 0} {P : A → Type 0} {S : List ℕ → A → Type 0} → IsEncoding P S → (bytes : List ℕ) (end : ℕ) (x : A) → Decodes S bytes 0 x end → end < length bytes → (y : A) → S bytes y → ⊥
+read_before_end s bytes end x r less y h =
+    let same = same_prefixes s r.prefix bytes (drop end bytes) [] x y r.is_encoded h (sym r.whole ∙ sym (append-nil bytes)) in
+    let one = r.moved in
+    let long = ap length same.0 in
+    omega (arith, one, long, less)
+
+-- bytes follow it
+pub read_trailing : {A : Type 0} (S : List ℕ → A → Type 0) (bytes : List ℕ) (end : ℕ) (x : A) (e : DeBinErr) → Decodes S bytes 0 x end → end < length bytes → e ≡ rejection TrailingBytes end 0 bytes → ReportsTrailing S bytes e
+read_trailing S bytes end x e r less is = record {
+  value = x;
+  fits = record { prefix = r.prefix; rest = drop end bytes; whole = r.whole; is_encoded = r.is_encoded };
+  more = λ none.
+      let one = r.moved in
+      let all = ap length (r.whole ∙ (ap (λ l. r.prefix ++ l) none ∙ append-nil r.prefix)) in
+      omega (arith, one, all, less);
+  is =
+      let one = r.moved in
+      let place : end ≡ length r.prefix = omega (arith, one) in
+      is ∙ ap (λ n. rejection TrailingBytes n 0 bytes) place;
+}
+
+-- an error of a value that is passed on is out of memory where the value's error was
+pub not_for_memory : (given e : DeBinErr) → e ≡ own_error given → e.kind ≢ Memory → given.kind ≢ Memory
+not_for_memory given e is other same = other (ap (λ x. x.kind) is ∙ ap kind_within same)

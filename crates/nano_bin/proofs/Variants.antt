@@ -3,11 +3,12 @@ use Rattle.std.proofs.Common.{ℕ, refl, List, drop, subst}
 use Rattle.nano_value.specs.Meaning.{Meaning, whole}
 use Rattle.nano_value.specs.Sums.{tagged}
 use Rattle.nano_bin_bytes.specs.Reading.{Decodes, DecodesToNothing}
-use Rattle.nano_bin_bytes.specs.LittleEndian.{EncodesNumber}
-use Rattle.nano_bin_bytes.proofs.NumbersLaws.{number_encoding}
-use Rattle.nano_bin_bytes.specs.Numbers.{EncodesUnsigned}
-use Rattle.nano_bin_bytes.specs.Variants.{Variants, Variant, EncodesVariant, EncodesEnum, encoding_at, variant_means}
-use Rattle.nano_bin.proofs.Readers.{then_reads, then_rejected, first_rejected, image_reads, image_rejected, unsigned_reads, unsigned_rejected}
+use Rattle.nano_bin_bytes.specs.Scalars.{EncodesNumber, EncodesUnsigned}
+use Rattle.nano_bin_bytes.proofs.ScalarsLaws.{number_encoding}
+use Rattle.nano_bin_bytes.specs.Variants.{Variants, Variant, EncodesVariant, EncodesEnum}
+use Rattle.nano_bin_bytes.specs.Variants.{encoding_at, variant_means}
+use Rattle.nano_bin.proofs.Readers.{then_reads, then_rejected, first_rejected, image_reads}
+use Rattle.nano_bin.proofs.Readers.{image_rejected, unsigned_reads, unsigned_rejected}
 
 module _ (vs : Variants) (bytes : List ℕ) where
   -- the tag was read, and the content after it

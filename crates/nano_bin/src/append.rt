@@ -1,7 +1,7 @@
 //! Writing one part after the other.
 
 ghost use Rattle.std.specs.Prelude.{◌≡◌, ◌++◌, take, OnOk, OnErr};
-ghost use Rattle.nano_bin_bytes.specs.LittleEndian.{little_endian};
+ghost use Rattle.nano_bin_bytes.specs.Scalars.{little_endian};
 
 use crate::traits::SerBin;
 use std::alloc::{AllocError, Global};

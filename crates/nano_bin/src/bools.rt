@@ -3,10 +3,9 @@
 ghost use Rattle.std.specs.Prelude.{◌≡◌, refl, IfOk, IfErr, IsOk};
 ghost use Rattle.nano_value.specs.Meaning.{nothing, truth};
 ghost use Rattle.nano_meaning.proofs.AgreesLaws.{agreed};
-ghost use Rattle.nano_bin_bytes.specs.Reading.{Decodes};
-ghost use Rattle.nano_bin_bytes.specs.Rejections.{ReadsNoneWhereShort};
-ghost use Rattle.nano_bin_bytes.specs.Bools.{EncodesBool, EncodesUnit};
-ghost use Rattle.nano_bin.specs.BoolCodecs.{boolean_codec, unit_codec};
+ghost use Rattle.nano_bin_bytes.specs.Reading.{Decodes, ReadsNoneWhereShort};
+ghost use Rattle.nano_bin_bytes.specs.Scalars.{EncodesBool, EncodesUnit};
+ghost use Rattle.nano_bin.specs.ScalarCodecs.{boolean_codec, unit_codec};
 
 use crate::traits::{BinCodec, DeBin, SerBin};
 use nano_bin_bytes::DeBinErr;

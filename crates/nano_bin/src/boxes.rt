@@ -1,7 +1,7 @@
 //! Boxes: the content.
 
 ghost use Rattle.nano_meaning.proofs.AgreesLaws.{seen_agrees};
-ghost use Rattle.nano_bin_bytes.specs.Codec.{codec_as};
+ghost use Rattle.nano_bin_bytes.specs.BaseCodecs.{codec_as};
 
 use crate::traits::{BinCodec, DeBin, SerBin};
 use nano_bin_bytes::{DeBinErr, no_memory};

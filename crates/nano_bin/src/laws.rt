@@ -2,15 +2,14 @@
 //!
 //! A caller in generic code that needs one of these facts calls the function; none of them does
 //! anything else.
-ghost use Rattle.std.specs.Prelude.{◌≡◌, ◌+◌, ◌++◌, ◌↔◌, ℕ, List, IfOk};
-ghost use Rattle.std.specs.Prelude.{IfErr};
+ghost use Rattle.std.specs.Prelude.{◌≡◌, ◌+◌, ◌++◌, ◌↔◌, ℕ, List, IfOk, IfErr};
 ghost use Rattle.nano_value.specs.Meaning.{Meaning};
 ghost use Rattle.nano_bin_bytes.specs.declared.error.DeBinKind.{DeBinKind};
 ghost use Rattle.nano_bin_bytes.specs.Reading.{DecodesTo};
 ghost use Rattle.nano_value.specs.Tables.{table_of};
-ghost use Rattle.nano_bin_bytes.specs.Maps.{written_entries};
-ghost use Rattle.nano_bin_bytes.specs.Promises.{StandsAt, ReadsBack, ReadsBothBack};
-ghost use Rattle.nano_bin_bytes.specs.Promises.{FailsForMemory, OneValue, NoneBeginsAnother};
+ghost use Rattle.nano_bin_bytes.specs.Containers.{written_entries};
+ghost use Rattle.nano_bin_bytes.specs.Promises.{StandsAt, ReadsBack, ReadsBothBack, FailsForMemory};
+ghost use Rattle.nano_bin_bytes.specs.Promises.{OneValue, NoneBeginsAnother};
 
 use crate::traits::{BinCodec, BothBin, DeBin, SerBin};
 use nano_bin_bytes::DeBinErr;

@@ -1,14 +1,12 @@
 //! Vectors and linked lists: the count, and the items. Slices and arrays: the items, and no count.
 
-ghost use Rattle.std.specs.Prelude.{◌≡◌, ◌≤◌, ◌++◌, take, length, IfOk, IfErr, OnOk};
-ghost use Rattle.std.specs.Prelude.{OnErr};
+ghost use Rattle.std.specs.Prelude.{◌≡◌, ◌≤◌, ◌++◌, take, length, IfOk, IfErr, OnOk, OnErr};
 ghost use Rattle.std.specs.List.{flat_map};
 ghost use Rattle.nano_meaning.proofs.AgreesLaws.{list_agrees, array_agrees, seen_agrees};
-ghost use Rattle.nano_bin_bytes.specs.Reading.{Decodes};
-ghost use Rattle.nano_bin_bytes.specs.Rejections.{ReadsNone};
-ghost use Rattle.nano_bin_bytes.specs.Codec.{codec_as};
-ghost use Rattle.nano_bin_bytes.specs.Lists.{EncodesAll};
-ghost use Rattle.nano_bin.specs.ListCodecs.{list_codec, array_codec, slice_codec};
+ghost use Rattle.nano_bin_bytes.specs.Reading.{Decodes, ReadsNone};
+ghost use Rattle.nano_bin_bytes.specs.BaseCodecs.{codec_as};
+ghost use Rattle.nano_bin_bytes.specs.Containers.{EncodesAll};
+ghost use Rattle.nano_bin.specs.ContainerCodecs.{list_codec, array_codec, slice_codec};
 
 use crate::append::{append_count, append_part};
 use crate::read::read_count;

@@ -1,7 +1,7 @@
 //! Options: any byte but 1; or the byte 1 and the item.
 
 ghost use Rattle.nano_meaning.proofs.AgreesLaws.{option_agrees};
-ghost use Rattle.nano_bin.specs.OptionCodecs.{option_codec};
+ghost use Rattle.nano_bin.specs.ContainerCodecs.{option_codec};
 
 use crate::append::append_part;
 use crate::traits::{BinCodec, DeBin, SerBin};

@@ -3,12 +3,12 @@
 
 ghost use Rattle.std.specs.Prelude.{◌≡◌, ◌≤◌, ◌++◌, take, length, OnOk, OnErr};
 ghost use Rattle.std.specs.List.{flat_map};
-ghost use Rattle.nano_value.specs.Ascending.{ascending};
+ghost use Rattle.nano_value.specs.Tables.{ascending};
 ghost use Rattle.nano_meaning.proofs.AgreesLaws.{ordered_map_agrees, seen_agrees};
-ghost use Rattle.nano_bin_bytes.specs.Codec.{codec_as};
+ghost use Rattle.nano_bin_bytes.specs.BaseCodecs.{codec_as};
 ghost use Rattle.nano_bin_bytes.proofs.CodecLaws.{both_are_read};
-ghost use Rattle.nano_bin.specs.OrderedMapCodecs.{ordered_map_codec};
-ghost use Rattle.nano_bin_bytes.specs.Tuples.{written_pair};
+ghost use Rattle.nano_bin.specs.ContainerCodecs.{ordered_map_codec};
+ghost use Rattle.nano_bin_bytes.specs.Containers.{written_pair};
 
 use crate::append::{append_count, append_part};
 use crate::maps::read_entries;

@@ -1,9 +1,8 @@
 //! Reading a count.
 
 ghost use Rattle.std.specs.Prelude.{IfOk, IfErr};
-ghost use Rattle.nano_bin_bytes.specs.Reading.{Decodes};
-ghost use Rattle.nano_bin_bytes.specs.Rejections.{ReadsNoneWhereShort};
-ghost use Rattle.nano_bin_bytes.specs.LittleEndian.{EncodesNumber};
+ghost use Rattle.nano_bin_bytes.specs.Reading.{Decodes, ReadsNoneWhereShort};
+ghost use Rattle.nano_bin_bytes.specs.Scalars.{EncodesNumber};
 
 use crate::traits::DeBin;
 use nano_bin_bytes::DeBinErr;

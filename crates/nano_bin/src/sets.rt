@@ -3,10 +3,10 @@
 ghost use Rattle.std.specs.Prelude.{◌≡◌, ◌≤◌, ◌++◌, map, take, length, OnOk, OnErr};
 ghost use Rattle.std.specs.List.{flat_map};
 ghost use Rattle.std.specs.Map.Iter.{deref};
-ghost use Rattle.nano_value.specs.InOrder.{ascending_items};
+ghost use Rattle.nano_value.specs.Sets.{ascending_items};
 ghost use Rattle.nano_meaning.proofs.AgreesLaws.{set_agrees, ordered_agrees, seen_agrees};
-ghost use Rattle.nano_bin_bytes.specs.Codec.{codec_as};
-ghost use Rattle.nano_bin.specs.SetCodecs.{set_codec, ordered_codec};
+ghost use Rattle.nano_bin_bytes.specs.BaseCodecs.{codec_as};
+ghost use Rattle.nano_bin.specs.ContainerCodecs.{set_codec, ordered_codec};
 
 use crate::append::{append_count, append_part};
 use crate::lists::read_items;

@@ -4,12 +4,11 @@ ghost use Rattle.std.specs.Prelude.{refl, IfOk, IfErr};
 ghost use Rattle.std.specs.Int.{w8, w16, w32, w64, w128};
 ghost use Rattle.nano_value.specs.Meaning.{number};
 ghost use Rattle.nano_meaning.proofs.AgreesLaws.{agreed};
-ghost use Rattle.nano_bin_bytes.specs.Reading.{Decodes};
-ghost use Rattle.nano_bin_bytes.specs.Rejections.{ReadsNoneWhereShort};
-ghost use Rattle.nano_bin_bytes.specs.Numbers.{EncodesSigned};
-ghost use Rattle.nano_bin.specs.NumberCodecs.{signed_codec};
-ghost use Rattle.nano_bin_bytes.proofs.NumbersLaws.{bits_fit_8, bits_fit_16};
-ghost use Rattle.nano_bin_bytes.proofs.NumbersLaws.{bits_fit_32, bits_fit_64, bits_fit_128};
+ghost use Rattle.nano_bin_bytes.specs.Reading.{Decodes, ReadsNoneWhereShort};
+ghost use Rattle.nano_bin_bytes.specs.Scalars.{EncodesSigned};
+ghost use Rattle.nano_bin.specs.ScalarCodecs.{signed_codec};
+ghost use Rattle.nano_bin_bytes.proofs.ScalarsLaws.{bits_fit_8, bits_fit_16, bits_fit_32};
+ghost use Rattle.nano_bin_bytes.proofs.ScalarsLaws.{bits_fit_64, bits_fit_128};
 
 use crate::traits::{BinCodec, DeBin, SerBin};
 use nano_bin_bytes::{DeBinErr, append_number, append_run, read_number, read_run};

@@ -1,11 +1,10 @@
 //! Many texts at a time: short ones are gathered and appended at once, so that most of them cost no
 //! test of the capacity.
 
-ghost use Rattle.std.specs.Prelude.{◌≡◌, ◌+◌, ◌≤◌, ◌<◌, ◌++◌, take, length, IfOk};
-ghost use Rattle.std.specs.Prelude.{OnOk, OnErr};
+ghost use Rattle.std.specs.Prelude.{◌≡◌, ◌+◌, ◌≤◌, ◌<◌, ◌++◌, take, length, IfOk, OnOk, OnErr};
 ghost use Rattle.std.specs.List.{flat_map};
-ghost use Rattle.nano_bin_bytes.specs.Texts.{written_text, written_string};
-ghost use Rattle.nano_bin.specs.TextBlocks.{AppendsSome, Gathers, PutsText};
+ghost use Rattle.nano_bin_bytes.specs.Containers.{written_text, written_string};
+ghost use Rattle.nano_bin.specs.ScalarCodecs.{AppendsSome, Gathers, PutsText};
 
 use nano_bin_bytes::{FixedWidth, append_bytes_after};
 use std::alloc::AllocError;

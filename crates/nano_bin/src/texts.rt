@@ -5,10 +5,9 @@
 ghost use Rattle.std.specs.Prelude.{refl, string_bytes, IfOk, IfErr};
 ghost use Rattle.nano_value.specs.Meaning.{text};
 ghost use Rattle.nano_meaning.proofs.AgreesLaws.{agreed};
-ghost use Rattle.nano_bin_bytes.specs.Reading.{Decodes};
-ghost use Rattle.nano_bin_bytes.specs.Rejections.{ReadsNoString};
-ghost use Rattle.nano_bin_bytes.specs.Texts.{EncodesString};
-ghost use Rattle.nano_bin.specs.TextCodecs.{string_codec};
+ghost use Rattle.nano_bin_bytes.specs.Reading.{Decodes, ReadsNoString};
+ghost use Rattle.nano_bin_bytes.specs.Containers.{EncodesString};
+ghost use Rattle.nano_bin.specs.ScalarCodecs.{string_codec};
 
 use crate::append::append_count;
 use crate::read::read_count;

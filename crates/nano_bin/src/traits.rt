@@ -6,7 +6,7 @@ use std::alloc::{AllocError, Global};
 
 /// A type that has an encoding as bytes. A type that is only written has one too.
 pub trait BinCodec: Value {
-    ghost use Rattle.nano_value.specs.Agrees.{Agrees};
+    ghost use Rattle.nano_value.specs.Meaning.{Agrees};
     ghost use Rattle.nano_bin_bytes.specs.Codec.{Codec};
 
     /// The canonical encoding of each value, and which bytes encode which meaning.
@@ -82,10 +82,9 @@ pub trait SerBin: BinCodec {
 /// A value that can be read from bytes.
 pub trait DeBin: BinCodec + Drop {
     ghost use Rattle.std.specs.Prelude.{◌≡◌, true, map, IfOk, IfErr};
-    ghost use Rattle.nano_bin_bytes.specs.Reading.{DecodesTo, Decodes, Rejects};
-    ghost use Rattle.nano_bin_bytes.specs.Rejections.{ReadsNone};
-    ghost use Rattle.nano_bin_bytes.specs.Items.{EncodesCount};
-    ghost use Rattle.nano_bin_bytes.specs.Whole.{RejectsWhole, IsOfTrailing, NamesTrailing};
+    ghost use Rattle.nano_bin_bytes.specs.Reading.{DecodesTo, Decodes, Rejects, ReadsNone};
+    ghost use Rattle.nano_bin_bytes.specs.Reading.{RejectsWhole, IsOfTrailing, NamesTrailing};
+    ghost use Rattle.nano_bin_bytes.specs.Containers.{EncodesCount};
 
     /// Reads the value that a prefix of the bytes from `offset` on encodes, and sets `offset`
     /// after that prefix.

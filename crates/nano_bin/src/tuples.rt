@@ -2,9 +2,9 @@
 //! others.
 
 ghost use Rattle.nano_meaning.proofs.AgreesLaws.{pair_agrees, seen_agrees};
-ghost use Rattle.nano_bin_bytes.specs.Codec.{codec_as};
+ghost use Rattle.nano_bin_bytes.specs.BaseCodecs.{codec_as};
 ghost use Rattle.nano_bin_bytes.proofs.CodecLaws.{both_are_read};
-ghost use Rattle.nano_bin.specs.TupleCodecs.{pair_codec};
+ghost use Rattle.nano_bin.specs.ContainerCodecs.{pair_codec};
 
 use crate::append::append_part;
 use crate::traits::{BinCodec, DeBin, SerBin};

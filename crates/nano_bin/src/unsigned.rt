@@ -3,10 +3,9 @@
 ghost use Rattle.std.specs.Prelude.{refl, IfOk, IfErr};
 ghost use Rattle.nano_value.specs.Meaning.{whole};
 ghost use Rattle.nano_meaning.proofs.AgreesLaws.{agreed};
-ghost use Rattle.nano_bin_bytes.specs.Reading.{Decodes};
-ghost use Rattle.nano_bin_bytes.specs.Rejections.{ReadsNoneWhereShort};
-ghost use Rattle.nano_bin_bytes.specs.Numbers.{EncodesUnsigned};
-ghost use Rattle.nano_bin.specs.NumberCodecs.{unsigned_codec};
+ghost use Rattle.nano_bin_bytes.specs.Reading.{Decodes, ReadsNoneWhereShort};
+ghost use Rattle.nano_bin_bytes.specs.Scalars.{EncodesUnsigned};
+ghost use Rattle.nano_bin.specs.ScalarCodecs.{unsigned_codec};
 
 use crate::traits::{BinCodec, DeBin, SerBin};
 use nano_bin_bytes::{
@@ -21,7 +20,7 @@ impl BinCodec for u8 {
 }
 
 impl SerBin for u8 {
-    #[tactic(auto, using(nano_bin_bytes::proofs::LittleEndianLaws::little_byte))]
+    #[tactic(auto, using(nano_bin_bytes::proofs::ScalarsLaws::little_byte))]
     fn ser_bin(&self, alloc: Global, output: &mut Vec<u8>) -> Result<(), AllocError> {
         match output.push(*self) {
             Ok(()) => Ok(()),

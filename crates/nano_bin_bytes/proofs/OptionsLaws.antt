@@ -2,16 +2,13 @@
 use Rattle.std.specs.Prelude.{◌≡◌, ℕ, true, refl, List, [], ◌++◌, Option, Some, None}
 use Rattle.std.specs.Option.{option_map}
 use Rattle.std.proofs.Common.{sym, ◌∙◌, subst, ap, lit<, arith, append_assoc}
-use Rattle.nano_value.specs.Meaning.{Meaning, optional}
+use Rattle.nano_value.specs.Meaning.{Meaning, optional, IsImage, AllOfOption}
 use Rattle.nano_meaning.proofs.MeaningLaws.{both_injective}
-use Rattle.nano_value.specs.Legal.{IsImage, AllOfOption}
-use Rattle.nano_bin_bytes.specs.Encoding.{IsEncoding}
-use Rattle.nano_bin_bytes.specs.Canonical.{Canonical}
-use Rattle.nano_bin_bytes.specs.Codec.{Codec}
-use Rattle.nano_bin_bytes.proofs.NumbersLaws.{number_encoding}
-use Rattle.nano_bin_bytes.specs.LittleEndian.{EncodesNumber, little_endian}
+use Rattle.nano_bin_bytes.specs.Codec.{IsEncoding, Canonical, Codec}
+use Rattle.nano_bin_bytes.proofs.ScalarsLaws.{number_encoding}
+use Rattle.nano_bin_bytes.specs.Scalars.{EncodesNumber, little_endian}
 use Rattle.nano_bin_bytes.proofs.TuplesLaws.{pair_encoding}
-use Rattle.nano_bin_bytes.specs.Options.{EncodesOption, EncodesOptional, written_option}
+use Rattle.nano_bin_bytes.specs.Containers.{EncodesOption, written_option}
 
 module _ {A : Type 0} {P : A → Type 0} {S : List ℕ → A → Type 0} (s : IsEncoding P S) where
   option_is_legal : (a : List ℕ) (x : Option A) → EncodesOption S a x → AllOfOption P x
@@ -90,7 +87,7 @@ module _ {A : Type 0} (f : Codec A) where
       f.is_decodable ≡ true
       → (x : Option A)
       → IsImage optional (AllOfOption f.encoding.legal) (optional (option_map f.canonical.means x))
-      → EncodesOptional f.encoding.encodes (written_option f.canonical.written x)
+      → IsImage optional (EncodesOption f.encoding.encodes (written_option f.canonical.written x))
       (optional (option_map f.canonical.means x))
   option_reads_back is x h =
       let reported = optional_reported f.canonical.means x h.part h.is in

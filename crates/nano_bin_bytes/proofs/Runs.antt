@@ -1,5 +1,7 @@
 -- Numbers of a fixed width, one or a given count in sequence, read as chunks of bytes.
-use Rattle.std.proofs.Common.{◌≡◌, ℕ, zero, suc, ◌+◌, ◌*◌, ◌/◌, ◌<◌, ◌≤◌, refl, List, [], ◌∷◌, ◌++◌, map, length, take, drop, sym, ◌∙◌, subst, ap, arith, length-append, length-drop, slice_index, get_or-drop}
+use Rattle.std.proofs.Common.{◌≡◌, ℕ, zero, suc, ◌+◌, ◌*◌, ◌/◌, ◌<◌, ◌≤◌, refl, List, [], ◌∷◌, ◌++◌}
+use Rattle.std.proofs.Common.{map, length, take, drop, sym, ◌∙◌, subst, ap, arith, length-append}
+use Rattle.std.proofs.Common.{length-drop, slice_index, get_or-drop}
 use Rattle.std.specs.List.{flat_map}
 use Rattle.std.specs.Simd.{first_chunks}
 use Rattle.std.proofs.Math.Nat.{le-div_iff_mul-le}
@@ -7,11 +9,11 @@ use Rattle.std.proofs.Math.Seq.{take-add}
 use Rattle.std.proofs.lemmas.List.{drop-drop, take-append-drop, length-take-le, length-map}
 use Rattle.nano_value.specs.Meaning.{Meaning, whole}
 use Rattle.nano_bin_bytes.specs.Reading.{DecodesToNothing, Decodes}
-use Rattle.nano_bin_bytes.specs.LittleEndian.{EncodesNumber, little_endian}
+use Rattle.nano_bin_bytes.specs.Scalars.{EncodesNumber, little_endian, AreBytes, HasWidth}
+use Rattle.nano_bin_bytes.specs.Scalars.{EncodesUnsigned}
 use Rattle.nano_bin_bytes.specs.NumberImpls.{length-little_endian}
-use Rattle.nano_bin_bytes.proofs.LittleEndianLaws.{little_byte}
-use Rattle.nano_bin_bytes.specs.Numbers.{AreBytes, HasWidth, EncodesUnsigned}
-use Rattle.nano_bin_bytes.specs.Items.{IsChunk, EncodesItems, EncodesCount}
+use Rattle.nano_bin_bytes.proofs.ScalarsLaws.{little_byte}
+use Rattle.nano_bin_bytes.specs.Containers.{IsChunk, EncodesItems, EncodesCount}
 
 pub are_bytes : (bytes : List ℕ) → ((i : ℕ) → slice_index bytes i < 256) → AreBytes bytes
 are_bytes [] h = tt

@@ -1,15 +1,11 @@
 -- What is proved of Tuples.
 use Rattle.std.specs.Prelude.{◌≡◌, ℕ, ◌&&◌, true, refl, List, ◌++◌}
 use Rattle.std.proofs.Common.{sym, ◌∙◌, subst, ap}
-use Rattle.nano_value.specs.Meaning.{paired, pair_map}
+use Rattle.nano_value.specs.Meaning.{paired, pair_map, IsImage, BothOfPair}
 use Rattle.nano_meaning.proofs.MeaningLaws.{both_injective}
-use Rattle.nano_value.specs.Legal.{IsImage, BothOfPair}
-use Rattle.nano_bin_bytes.specs.Encoding.{IsEncoding}
-use Rattle.nano_bin_bytes.proofs.EncodingLaws.{same_prefixes, same_heads}
-use Rattle.nano_bin_bytes.specs.Canonical.{Canonical}
-use Rattle.nano_bin_bytes.specs.Codec.{Codec}
-use Rattle.nano_bin_bytes.proofs.CodecLaws.{both_read}
-use Rattle.nano_bin_bytes.specs.Tuples.{EncodesPair, EncodesPaired, written_pair}
+use Rattle.nano_bin_bytes.specs.Codec.{IsEncoding, Canonical, Codec}
+use Rattle.nano_bin_bytes.proofs.CodecLaws.{same_prefixes, same_heads, both_read}
+use Rattle.nano_bin_bytes.specs.Containers.{EncodesPair, written_pair}
 
 module _ {A B : Type 0} {P : A → Type 0} {S : List ℕ → A → Type 0} {Q : B → Type 0}
     {R : List ℕ → B → Type 0} (s : IsEncoding P S) (t : IsEncoding Q R) where
@@ -69,8 +65,8 @@ module _ {A B : Type 0} (f : Codec A) (g : Codec B) where
       → (x : A × B)
       → IsImage paired (BothOfPair f.encoding.legal g.encoding.legal)
       (paired (pair_map f.canonical.means g.canonical.means x))
-      → EncodesPaired f.encoding.encodes g.encoding.encodes
-      (written_pair f.canonical.written g.canonical.written x)
+      → IsImage paired (EncodesPair f.encoding.encodes g.encoding.encodes
+      (written_pair f.canonical.written g.canonical.written x))
       (paired (pair_map f.canonical.means g.canonical.means x))
   pair_reads_back is x h =
       let one = f.canonical.means x.0 in

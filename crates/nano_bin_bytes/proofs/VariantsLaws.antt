@@ -5,14 +5,14 @@ use Rattle.nano_value.specs.Meaning.{Meaning}
 use Rattle.nano_meaning.proofs.MeaningLaws.{whole_injective, both_injective}
 use Rattle.nano_value.specs.Sums.{LegalVariant, count_variants}
 use Rattle.nano_meaning.proofs.SumsLaws.{legal_at, variant_is_legal, content_is_legal, place_below}
-use Rattle.nano_bin_bytes.specs.Encoding.{IsEncoding}
-use Rattle.nano_bin_bytes.proofs.EncodingLaws.{image_encoding, same_prefixes, same_heads}
-use Rattle.nano_bin_bytes.proofs.CodecLaws.{both_read}
-use Rattle.nano_bin_bytes.proofs.NumbersLaws.{number_encoding}
-use Rattle.nano_bin_bytes.specs.LittleEndian.{EncodesNumber, little_endian}
+use Rattle.nano_bin_bytes.specs.Codec.{IsEncoding}
+use Rattle.nano_bin_bytes.proofs.CodecLaws.{image_encoding, same_prefixes, same_heads, both_read}
+use Rattle.nano_bin_bytes.proofs.ScalarsLaws.{number_encoding}
+use Rattle.nano_bin_bytes.specs.Scalars.{EncodesNumber, little_endian}
 use Rattle.nano_bin_bytes.specs.Variants.{Variants, no_variants, variant, legal_bodies, body_at}
-use Rattle.nano_bin_bytes.specs.Variants.{encoding_at, Variant, variant_means, EncodesVariant, EncodesEnum, Tagged}
-use Rattle.nano_bin_bytes.specs.Variants.{tagged_means, written_tagged, are_read}
+use Rattle.nano_bin_bytes.specs.Variants.{encoding_at, Variant, variant_means, EncodesVariant}
+use Rattle.nano_bin_bytes.specs.Variants.{EncodesEnum, Tagged, tagged_means, written_tagged}
+use Rattle.nano_bin_bytes.specs.Variants.{are_read}
 
 -- ---- what is written
 

@@ -6,9 +6,9 @@ use Rattle.std.proofs.Common.{sym, ◌∙◌, subst, ap, arith, Fits as FitsWidt
 use Rattle.std.proofs.Math.Facts.{sfits_to_z, of_z-to_z}
 use Rattle.std.proofs.Math.Nat.{pow-suc}
 use Rattle.nano_value.specs.Meaning.{number, whole}
-use Rattle.nano_bin_bytes.specs.LittleEndian.{EncodesNumber, little_endian, little_value}
-use Rattle.nano_bin_bytes.specs.Numbers.{EncodesUnsigned, EncodesSigned, signed_value}
-use Rattle.nano_bin_bytes.specs.Numbers.{AreBytes, HasWidth}
+use Rattle.nano_bin_bytes.specs.Scalars.{EncodesNumber, little_endian, little_value}
+use Rattle.nano_bin_bytes.specs.Scalars.{EncodesUnsigned, EncodesSigned, signed_value, AreBytes}
+use Rattle.nano_bin_bytes.specs.Scalars.{HasWidth}
 
 pub length-little_endian : (k n : ℕ) → length (little_endian k n) ≡ k
 unfolding little_endian

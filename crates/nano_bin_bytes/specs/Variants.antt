@@ -1,13 +1,12 @@
 -- Enums: a tag of two bytes, which is the place of the variant, and after it the content of
 -- the variant.
 use Rattle.std.specs.Prelude.{◌≡◌, ℕ, zero, suc, ◌&&◌, Bool, true, refl, List, [], ◌++◌}
-use Rattle.nano_value.specs.Meaning.{Meaning}
-use Rattle.nano_value.specs.Legal.{IsImage}
+use Rattle.nano_value.specs.Meaning.{Meaning, IsImage}
 use Rattle.nano_value.specs.Sums as sums
 use Rattle.nano_value.specs.Sums.{tagged}
-use Rattle.nano_bin_bytes.specs.Encoding.{Encoding, no_encoding}
-use Rattle.nano_bin_bytes.specs.Codec.{Codec}
-use Rattle.nano_bin_bytes.specs.LittleEndian.{EncodesNumber, little_endian}
+use Rattle.nano_bin_bytes.specs.Codec.{Encoding, Codec}
+use Rattle.nano_bin_bytes.specs.BaseCodecs.{no_encoding}
+use Rattle.nano_bin_bytes.specs.Scalars.{EncodesNumber, little_endian}
 
 -- the content of a variant, by its type and the format of it
 pub record Body : Type 1 where

@@ -3,7 +3,7 @@
 ghost use Rattle.std.specs.Prelude.{◌≡◌};
 ghost use Rattle.std.specs.Result.{IsOkAnd};
 ghost use Rattle.nano_bin_bytes.specs.declared.error.DeBinKind.{DeBinKind};
-ghost use Rattle.nano_bin_bytes.specs.Errors.{rejection, own_error};
+ghost use Rattle.nano_bin_bytes.specs.Reading.{rejection, own_error};
 
 use std::alloc::AllocError;
 use std::error::Error;
@@ -61,7 +61,7 @@ impl Clone for DeBinErr {
 
 impl fmt::Display for DeBinErr {
     ghost use Rattle.std.specs.Prelude.{Some};
-    ghost use Rattle.nano_bin_bytes.specs.Errors.{printed};
+    ghost use Rattle.nano_bin_bytes.specs.Reading.{printed};
 
     ghost output = { λ e. Some (printed e) };
 
@@ -78,7 +78,7 @@ impl fmt::Display for DeBinErr {
 
 impl fmt::Debug for DeBinErr {
     ghost use Rattle.std.specs.Prelude.{Some};
-    ghost use Rattle.nano_bin_bytes.specs.Errors.{printed};
+    ghost use Rattle.nano_bin_bytes.specs.Reading.{printed};
 
     ghost debug_output = { λ e. Some (printed e) };
 

@@ -1,11 +1,10 @@
 //! Numbers of a fixed width: their bytes, one number or many at a time.
 
-ghost use Rattle.std.specs.Prelude.{◌≡◌, ◌+◌, ◌*◌, ◌/◌, ◌≤◌, ◌<◌, ◌++◌, map, take, length};
-ghost use Rattle.std.specs.Prelude.{IfOk, IfErr, OnOk, OnErr};
+ghost use Rattle.std.specs.Prelude.{◌≡◌, ◌+◌, ◌*◌, ◌/◌, ◌≤◌, ◌<◌, ◌++◌, map, take, length, IfOk};
+ghost use Rattle.std.specs.Prelude.{IfErr, OnOk, OnErr};
 ghost use Rattle.std.specs.List.{flat_map};
-ghost use Rattle.nano_bin_bytes.specs.Reading.{Decodes};
-ghost use Rattle.nano_bin_bytes.specs.Rejections.{ReadsNoneWhereShort, ReadsNoRun};
-ghost use Rattle.nano_bin_bytes.specs.Items.{EncodesCount};
+ghost use Rattle.nano_bin_bytes.specs.Reading.{Decodes, ReadsNoneWhereShort, ReadsNoRun};
+ghost use Rattle.nano_bin_bytes.specs.Containers.{EncodesCount};
 
 use crate::append::{append_bytes, append_bytes_after};
 use crate::error::{DeBinErr, no_memory};

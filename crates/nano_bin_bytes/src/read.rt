@@ -1,12 +1,11 @@
 //! Reading bytes from an offset on.
 
-ghost use Rattle.std.specs.Prelude.{◌≡◌, ◌+◌, ◌*◌, ◌/◌, ◌<◌, map, length, drop};
-ghost use Rattle.std.specs.Prelude.{string_bytes, IfOk, IfErr, OnOk};
+ghost use Rattle.std.specs.Prelude.{◌≡◌, ◌+◌, ◌*◌, ◌/◌, ◌<◌, map, length, drop, string_bytes, IfOk};
+ghost use Rattle.std.specs.Prelude.{IfErr, OnOk};
 ghost use Rattle.nano_value.specs.Meaning.{whole};
-ghost use Rattle.nano_bin_bytes.specs.Reading.{Decodes};
-ghost use Rattle.nano_bin_bytes.specs.Rejections.{ReadsNoneWhereShort, ReadsNoStringOf};
-ghost use Rattle.nano_bin_bytes.specs.Numbers.{EncodesUnsigned};
-ghost use Rattle.nano_bin_bytes.specs.Items.{EncodesCount, IsChunk, IsTextOf};
+ghost use Rattle.nano_bin_bytes.specs.Reading.{Decodes, ReadsNoneWhereShort, ReadsNoStringOf};
+ghost use Rattle.nano_bin_bytes.specs.Scalars.{EncodesUnsigned};
+ghost use Rattle.nano_bin_bytes.specs.Containers.{EncodesCount, IsChunk, IsTextOf};
 
 use crate::error::{DeBinErr, no_memory, not_utf8, too_short};
 use std::alloc::Global;

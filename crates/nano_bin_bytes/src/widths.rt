@@ -2,9 +2,8 @@
 
 ghost use Rattle.std.specs.Prelude.{◌≡◌};
 ghost use Rattle.std.specs.Int.{w8, w16, w32, w64, w128};
-ghost use Rattle.nano_bin_bytes.specs.LittleEndian.{little_endian, little_value};
-ghost use Rattle.nano_bin_bytes.specs.Numbers.{EncodesUnsigned, EncodesSigned, written_signed};
-ghost use Rattle.nano_bin_bytes.specs.Numbers.{signed_value};
+ghost use Rattle.nano_bin_bytes.specs.Scalars.{little_endian, little_value, EncodesUnsigned};
+ghost use Rattle.nano_bin_bytes.specs.Scalars.{EncodesSigned, written_signed, signed_value};
 ghost use Rattle.nano_bin_bytes.specs.NumberImpls.{unsigned_width, signed_width};
 
 use nano_value::Value;
@@ -13,7 +12,7 @@ use nano_value::Value;
 pub trait FixedWidth<const N: usize>: Value + Drop {
     ghost use Rattle.std.specs.Prelude.{◌≡◌, ℕ, List};
     ghost use Rattle.nano_value.specs.Meaning.{Meaning};
-    ghost use Rattle.nano_bin_bytes.specs.Numbers.{HasWidth};
+    ghost use Rattle.nano_bin_bytes.specs.Scalars.{HasWidth};
 
     /// The bytes of a number.
     ghost as_bytes: { Self → List ℕ };
@@ -43,12 +42,12 @@ impl FixedWidth<1> for u8 {
 
     ghost of_bytes = { little_value };
 
-    #[tactic(auto, using(crate::proofs::LittleEndianLaws::little_byte))]
+    #[tactic(auto, using(crate::proofs::ScalarsLaws::little_byte))]
     fn to_bytes(&self) -> [u8; 1] {
         [*self]
     }
 
-    #[tactic(auto, using(crate::proofs::LittleEndianLaws::from_le_bytes_8))]
+    #[tactic(auto, using(crate::proofs::ScalarsLaws::from_le_bytes_8))]
     fn from_bytes(bytes: &[u8; 1]) -> u8 {
         u8::from_le_bytes(*bytes)
     }
@@ -63,12 +62,12 @@ impl FixedWidth<2> for u16 {
 
     ghost of_bytes = { little_value };
 
-    #[tactic(auto, using(crate::proofs::LittleEndianLaws::to_le_bytes_16))]
+    #[tactic(auto, using(crate::proofs::ScalarsLaws::to_le_bytes_16))]
     fn to_bytes(&self) -> [u8; 2] {
         u16::to_le_bytes(*self)
     }
 
-    #[tactic(auto, using(crate::proofs::LittleEndianLaws::from_le_bytes_16))]
+    #[tactic(auto, using(crate::proofs::ScalarsLaws::from_le_bytes_16))]
     fn from_bytes(bytes: &[u8; 2]) -> u16 {
         u16::from_le_bytes(*bytes)
     }
@@ -83,12 +82,12 @@ impl FixedWidth<4> for u32 {
 
     ghost of_bytes = { little_value };
 
-    #[tactic(auto, using(crate::proofs::LittleEndianLaws::to_le_bytes_32))]
+    #[tactic(auto, using(crate::proofs::ScalarsLaws::to_le_bytes_32))]
     fn to_bytes(&self) -> [u8; 4] {
         u32::to_le_bytes(*self)
     }
 
-    #[tactic(auto, using(crate::proofs::LittleEndianLaws::from_le_bytes_32))]
+    #[tactic(auto, using(crate::proofs::ScalarsLaws::from_le_bytes_32))]
     fn from_bytes(bytes: &[u8; 4]) -> u32 {
         u32::from_le_bytes(*bytes)
     }
@@ -103,12 +102,12 @@ impl FixedWidth<8> for u64 {
 
     ghost of_bytes = { little_value };
 
-    #[tactic(auto, using(crate::proofs::LittleEndianLaws::to_le_bytes_64))]
+    #[tactic(auto, using(crate::proofs::ScalarsLaws::to_le_bytes_64))]
     fn to_bytes(&self) -> [u8; 8] {
         u64::to_le_bytes(*self)
     }
 
-    #[tactic(auto, using(crate::proofs::LittleEndianLaws::from_le_bytes_64))]
+    #[tactic(auto, using(crate::proofs::ScalarsLaws::from_le_bytes_64))]
     fn from_bytes(bytes: &[u8; 8]) -> u64 {
         u64::from_le_bytes(*bytes)
     }
@@ -123,12 +122,12 @@ impl FixedWidth<8> for usize {
 
     ghost of_bytes = { little_value };
 
-    #[tactic(auto, using(crate::proofs::LittleEndianLaws::to_le_bytes_64))]
+    #[tactic(auto, using(crate::proofs::ScalarsLaws::to_le_bytes_64))]
     fn to_bytes(&self) -> [u8; 8] {
         usize::to_le_bytes(*self)
     }
 
-    #[tactic(auto, using(crate::proofs::LittleEndianLaws::from_le_bytes_64))]
+    #[tactic(auto, using(crate::proofs::ScalarsLaws::from_le_bytes_64))]
     fn from_bytes(bytes: &[u8; 8]) -> usize {
         usize::from_le_bytes(*bytes)
     }
@@ -143,12 +142,12 @@ impl FixedWidth<16> for u128 {
 
     ghost of_bytes = { little_value };
 
-    #[tactic(auto, using(crate::proofs::LittleEndianLaws::to_le_bytes_128))]
+    #[tactic(auto, using(crate::proofs::ScalarsLaws::to_le_bytes_128))]
     fn to_bytes(&self) -> [u8; 16] {
         u128::to_le_bytes(*self)
     }
 
-    #[tactic(auto, using(crate::proofs::LittleEndianLaws::from_le_bytes_128))]
+    #[tactic(auto, using(crate::proofs::ScalarsLaws::from_le_bytes_128))]
     fn from_bytes(bytes: &[u8; 16]) -> u128 {
         u128::from_le_bytes(*bytes)
     }

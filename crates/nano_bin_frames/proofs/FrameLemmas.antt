@@ -1,24 +1,26 @@
 -- Frames in what is left of a stream.
-use Rattle.std.proofs.Common.{◌≡◌, ◌≢◌, ℕ, ◌^◌, ◌<◌, List, [], ◌∷◌, ◌++◌, length, drop, map, refl, sym, ap, subst, ◌∙◌, append_assoc, append-nil, length-append, arith, take, take-append-drop, length-drop, Option, Some, None, IfSome, Result, Ok, Err, OnOk}
+use Rattle.std.proofs.Common.{◌≡◌, ◌≢◌, ℕ, ◌^◌, ◌<◌, List, [], ◌∷◌, ◌++◌, length, drop, map, refl}
+use Rattle.std.proofs.Common.{sym, ap, subst, ◌∙◌, append_assoc, append-nil, length-append, arith}
+use Rattle.std.proofs.Common.{take, take-append-drop, length-drop, Option, Some, None, IfSome}
+use Rattle.std.proofs.Common.{Result, Ok, Err, OnOk}
 use Rattle.std.specs.Io.KnownBytes.{Appends, Consumes, Keeps, IsAtEnd, prepend_known}
 use Rattle.std.proofs.KnownBytes.{Appends-nil, Appends-trans, Appends-kept}
-use Rattle.nano_value.specs.Meaning.{Meaning, whole, listed}
-use Rattle.nano_value.specs.Legal.{IsImage, LegalUnsigned, LegalList}
-use Rattle.nano_meaning.proofs.LegalLaws.{list_weaker}
-use Rattle.nano_bin_bytes.specs.LittleEndian.{little_endian}
+use Rattle.nano_value.specs.Meaning.{Meaning, whole, listed, IsImage, LegalUnsigned, LegalList}
+use Rattle.nano_meaning.proofs.MeaningLaws.{list_weaker}
+use Rattle.nano_bin_bytes.specs.Scalars.{little_endian, EncodesUnsigned}
 use Rattle.nano_bin_bytes.specs.NumberImpls.{length-little_endian}
-use Rattle.nano_bin_bytes.specs.Reading.{Decodes, DecodesToNothing}
-use Rattle.nano_bin_bytes.specs.Lists.{EncodesAll}
-use Rattle.nano_bin_bytes.specs.Numbers.{EncodesUnsigned}
+use Rattle.nano_bin_bytes.specs.Reading.{Decodes, DecodesToNothing, RejectsWhole, IsOfTrailing}
+use Rattle.nano_bin_bytes.specs.Reading.{NamesTrailing}
+use Rattle.nano_bin_bytes.specs.Containers.{EncodesAll}
 use Rattle.nano_bin_bytes.proofs.ListsLaws.{list_reads_back}
-use Rattle.nano_bin.specs.NumberCodecs.{u8_codec}
+use Rattle.nano_bin.specs.ScalarCodecs.{u8_codec}
 use Rattle.nano_bin_bytes.specs.declared.error.DeBinErr.{DeBinErr}
 use Rattle.nano_bin_bytes.specs.declared.error.DeBinKind.TheVariants.{Memory}
-use Rattle.nano_bin_bytes.specs.Whole.{RejectsWhole, IsOfTrailing, NamesTrailing}
 use Rattle.nano_bin_frames.specs.declared.error.Fault.{Fault}
 use Rattle.nano_bin_frames.specs.declared.error.Fault.TheVariants.{Bad, Stream}
-use Rattle.nano_bin_frames.specs.Faults.{IsOfStream, of_code}
-use Rattle.nano_bin_frames.specs.Frames.{IsFrame, frame_of, AppendsFrame, WritesUpTo, DecodesAfter, IsCut, HoldsNoMessage, RejectsCode, RejectsFrame}
+use Rattle.nano_bin_frames.specs.Frames.{IsOfStream, of_code, IsFrame, frame_of, AppendsFrame}
+use Rattle.nano_bin_frames.specs.Frames.{WritesUpTo, DecodesAfter, IsCut, HoldsNoMessage}
+use Rattle.nano_bin_frames.specs.Frames.{RejectsCode, RejectsFrame}
 
 -- ---- what is written
 

@@ -1,18 +1,20 @@
 -- Frames that begin a stream, and the messages that are taken from it.
-use Rattle.std.proofs.Common.{◌≡◌, ℕ, List, [], ◌∷◌, ◌++◌, length, map, refl, sym, ap, subst, ◌∙◌, append_assoc, append-nil, arith, length-append, Option, Some, None}
+use Rattle.std.proofs.Common.{◌≡◌, ℕ, List, [], ◌∷◌, ◌++◌, length, map, refl, sym, ap, subst, ◌∙◌}
+use Rattle.std.proofs.Common.{append_assoc, append-nil, arith, length-append, Option, Some, None}
 use Rattle.std.proofs.lemmas.List.{append_cancel_left}
 use Rattle.std.specs.Io.KnownBytes.{Keeps}
 use Rattle.std.specs.List.{AllByRecursion}
-use Rattle.nano_value.specs.Meaning.{Meaning, whole, listed}
+use Rattle.nano_value.specs.Meaning.{Meaning, whole, listed, LegalList}
 use Rattle.nano_meaning.proofs.MeaningLaws.{listed_injective, whole_injective}
-use Rattle.nano_value.specs.Legal.{LegalList}
 use Rattle.nano_bin_bytes.specs.NumberImpls.{length-little_endian}
-use Rattle.nano_bin_bytes.specs.Encoding.{IsEncoding}
-use Rattle.nano_bin_bytes.proofs.EncodingLaws.{same_prefixes}
-use Rattle.nano_bin.specs.ListCodecs.{list_codec}
-use Rattle.nano_bin.specs.NumberCodecs.{u8_codec}
+use Rattle.nano_bin_bytes.specs.Codec.{IsEncoding}
+use Rattle.nano_bin_bytes.proofs.CodecLaws.{same_prefixes}
+use Rattle.nano_bin.specs.ContainerCodecs.{list_codec}
+use Rattle.nano_bin.specs.ScalarCodecs.{u8_codec}
 use Rattle.nano_bin_frames.specs.Frames.{IsFrame, AppendsFrame, TakesMessage, HoldsNoMessage}
-use Rattle.nano_bin_frames.specs.Promises.{AreFrames, AppendsFrames, AddsFrames, AreOneFrame, BeginsWithMessage, TakesMessages, IsOnTheWay, GivesMessages}
+use Rattle.nano_bin_frames.specs.Outcomes.{AreFrames, AppendsFrames, AddsFrames, AreOneFrame}
+use Rattle.nano_bin_frames.specs.Outcomes.{BeginsWithMessage, TakesMessages, IsOnTheWay}
+use Rattle.nano_bin_frames.specs.Outcomes.{GivesMessages}
 
 -- ---- frames
 

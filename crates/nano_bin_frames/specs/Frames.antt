@@ -7,10 +7,11 @@ use Rattle.std.specs.declared.io.ErrorKind.TheVariants.{Interrupted}
 use Rattle.nano_value.specs.Meaning.{Meaning, whole, listed}
 use Rattle.nano_bin_bytes.specs.declared.error.DeBinErr.{DeBinErr}
 use Rattle.nano_bin_bytes.specs.declared.error.DeBinKind.TheVariants.{Memory}
-use Rattle.nano_bin_bytes.specs.Whole.{RejectsWhole, IsOfTrailing, NamesTrailing}
-use Rattle.nano_bin_bytes.specs.LittleEndian.{little_endian}
-use Rattle.nano_bin_bytes.specs.Numbers.{EncodesUnsigned}
-use Rattle.nano_bin_bytes.specs.Lists.{EncodesAll, written_list}
+use Rattle.nano_bin_bytes.specs.Reading.{RejectsWhole, IsOfTrailing, NamesTrailing}
+use Rattle.nano_bin_bytes.specs.Scalars.{little_endian, EncodesUnsigned}
+use Rattle.nano_bin_bytes.specs.Containers.{EncodesAll, written_list}
+use Rattle.nano_bin_frames.specs.declared.error.Fault.{Fault}
+use Rattle.nano_bin_frames.specs.declared.error.Fault.TheVariants.{Cut, Bad, Stream}
 
 -- the bytes are the code of a list of bytes
 abbrev pub IsFrame : List ℕ → List ℕ → Type 0
@@ -96,3 +97,19 @@ pub record RejectsFrame (encodes : List ℕ → Meaning → Type 0) (error : DeB
   pub code : List ℕ
   pub begins : BeginsWithFrame bytes code
   pub rejects : RejectsCode encodes code error
+
+-- ==== faults of the reader and of memory, and what a rejected code carries
+
+-- a read failed, or allocation failed
+abbrev pub IsOfStream : Fault → Type 0
+IsOfStream fault = (error : Error) × (fault ≡ Stream error)
+
+-- the error, with the size of this code
+abbrev pub of_code : List ℕ → DeBinErr → DeBinErr
+of_code code error = record error { s = length code }
+
+-- why a code is no message: a fault that carries an error carries that of reading the code
+pub record IsFaultOf (encodes : List ℕ → Meaning → Type 0) (code : List ℕ) (fault : Fault)
+    : Type 0 where
+  pub bad : (error : DeBinErr) → fault ≡ Bad error → RejectsCode encodes code error
+  pub not_cut : fault ≢ Cut

@@ -2,7 +2,7 @@
 
 ghost use Rattle.std.specs.Prelude.{◌≡◌, ◌≢◌};
 ghost use Rattle.nano_bin_bytes.specs.declared.error.DeBinKind.{DeBinKind};
-ghost use Rattle.nano_bin_frames.specs.Faults.{IsOfStream, of_code};
+ghost use Rattle.nano_bin_frames.specs.Frames.{IsOfStream, of_code};
 
 use nano_bin::{DeBinErr, DeBinKind};
 use std::io::{self, ErrorKind};

@@ -1,11 +1,11 @@
 //! Messages of any type, each in a frame: the encoded message, as a length-prefixed byte list.
 
-ghost use Rattle.std.specs.Prelude.{◌≡◌, ◌<◌, ◌≤◌, ◌↔◌, length, drop, max};
-ghost use Rattle.std.specs.Prelude.{Some, IfOk, IfErr, IfSome, IfNone, OnErr, IsErrOf};
+ghost use Rattle.std.specs.Prelude.{◌≡◌, ◌<◌, ◌≤◌, ◌↔◌, length, drop, max, Some, IfOk, IfErr};
+ghost use Rattle.std.specs.Prelude.{IfSome, IfNone, OnErr, IsErrOf};
 ghost use Rattle.std.specs.Io.KnownBytes.{Keeps};
 ghost use Rattle.nano_bin_bytes.specs.Reading.{Decodes, DecodesToNothing};
-ghost use Rattle.nano_bin_frames.specs.Faults.{IsOfStream, IsFaultOf};
-ghost use Rattle.nano_bin_frames.specs.Frames.{IsFrame, DecodesAfter, ReadsNothing};
+ghost use Rattle.nano_bin_frames.specs.Frames.{IsOfStream, IsFaultOf, IsFrame, DecodesAfter};
+ghost use Rattle.nano_bin_frames.specs.Frames.{ReadsNothing};
 
 use crate::error::{Fault, no_memory, rejection};
 use nano_bin::{DeBin, DeBinKind};

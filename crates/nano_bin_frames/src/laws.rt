@@ -6,8 +6,8 @@
 //! does anything.
 ghost use Rattle.std.specs.Prelude.{◌≡◌, ◌++◌, ℕ, List, Some, map};
 ghost use Rattle.nano_bin_frames.specs.Frames.{IsFrame, AppendsFrame};
-ghost use Rattle.nano_bin_frames.specs.Promises.{AreFrames, AppendsFrames, AddsFrames, AreOneFrame};
-ghost use Rattle.nano_bin_frames.specs.Promises.{BeginsWithMessage, GivesMessages};
+ghost use Rattle.nano_bin_frames.specs.Outcomes.{AreFrames, AppendsFrames, AddsFrames, AreOneFrame};
+ghost use Rattle.nano_bin_frames.specs.Outcomes.{BeginsWithMessage, GivesMessages};
 
 use nano_bin::{DeBin, SerBin};
 use nano_value::Value;

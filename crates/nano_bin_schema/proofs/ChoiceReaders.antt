@@ -1,16 +1,19 @@
 -- What is read of a choice of variants, from what is read of the first of them and of the others.
 use Rattle.std.specs.Prelude.{◌≡◌, ◌≢◌, ◌+◌, ◌-◌, ℕ, zero, suc, List, refl, drop}
-use Rattle.std.proofs.Common.{◌∙◌, subst, ap, arith}
+use Rattle.std.proofs.Common.{◌∙◌, subst, ap, arith, ◌≤◌, sym}
 use Rattle.nano_value.specs.Meaning.{Meaning}
-use Rattle.nano_value.specs.Sums.{tagged}
-use Rattle.nano_bin_bytes.specs.Reading.{Decodes, Rejects}
-use Rattle.nano_bin_bytes.specs.Rejections.{ReadsNone}
+use Rattle.nano_value.specs.Sums.{tagged, count_variants}
+use Rattle.nano_bin_bytes.specs.Reading.{Decodes, Rejects, ReadsNone}
 use Rattle.nano_bin_bytes.specs.declared.error.DeBinErr.{DeBinErr}
 use Rattle.nano_bin_bytes.specs.Codec.{Codec}
-use Rattle.nano_bin_bytes.specs.Variants.{Variants, variant, body, encoding_at}
+use Rattle.nano_bin_bytes.specs.Variants.{Variants, variant, body, encoding_at, no_variants}
+use Rattle.nano_bin_bytes.specs.Variants.{legal_bodies}
 use Rattle.nano_schema.specs.Choices.{either_is}
 use Rattle.nano_schema.specs.declared.choices.Either.TheVariants.{First, Later}
 use Rattle.nano_bin_schema.specs.Choices.{DecodesChoice, ReadsNoVariant}
+use Rattle.nano_bin_bytes.specs.Scalars.{EncodesNumber}
+use Rattle.nano_bin_bytes.proofs.CodecLaws.{same_prefixes}
+use Rattle.nano_bin_bytes.proofs.ScalarsLaws.{number_encoding}
 
 module _ {A : Type 0} (f : Codec A) (others : Variants) (means : A → Meaning) (bytes : List ℕ)
     (start end : ℕ) where
@@ -71,3 +74,22 @@ module _ {A : Type 0} (f : Codec A) (others : Variants) {bytes : List ℕ} {star
         own = λ few. h.own (rw e (omega (arith, few)));
         unchanged = h.unchanged;
       }
+
+-- ==== tags
+
+-- one tag at most stands at a place
+pub one_tag : (bytes : List ℕ) (start m n x y : ℕ) → Decodes (EncodesNumber 2) bytes start x m
+    → Decodes (EncodesNumber 2) bytes start y n → x ≡ y
+one_tag bytes start m n x y r s =
+    let e = same_prefixes (number_encoding 2) r.prefix s.prefix (drop m bytes) (drop n bytes) x y
+    r.is_encoded s.is_encoded (sym r.whole ∙ s.whole) in
+    (number_encoding 2).one_value s.prefix x y (subst (λ l. EncodesNumber 2 l x) e.0 r.is_encoded) s.is_encoded
+
+-- nothing is the content of a tag that no variant has
+pub unknown_content : (vs : Variants) (tag : ℕ) → count_variants (legal_bodies vs) ≤ tag
+    → (bytes : List ℕ) (m : Meaning) → (encoding_at vs tag).encodes bytes m → ⊥
+unknown_content no_variants tag h a m e = e
+unknown_content (variant b others) zero h a m e = omega (arith, h)
+unknown_content (variant b others) (suc tag) h a m e =
+    let less : count_variants (legal_bodies others) ≤ tag = omega (arith, h) in
+    unknown_content others tag less a m e

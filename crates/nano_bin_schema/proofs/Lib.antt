@@ -1,2 +1,1 @@
 mod ChoiceReaders
-mod Tags

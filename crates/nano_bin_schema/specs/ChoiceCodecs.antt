@@ -3,9 +3,9 @@ use Rattle.std.specs.Prelude.{◌≡◌, ◌+◌, ◌≤◌, ℕ, suc, true}
 use Rattle.std.proofs.Common.{sym, ◌∙◌, subst, ap, arith}
 use Rattle.nano_value.specs.Sums.{tagged, LegalVariant, count_variants}
 use Rattle.nano_bin_bytes.specs.Codec.{Codec}
-use Rattle.nano_bin_bytes.specs.Variants.{EncodesEnum, no_variants, variant, body}
-use Rattle.nano_bin_bytes.specs.Variants.{written_tagged, tagged_means, legal_bodies, are_read}
-use Rattle.nano_bin.specs.VariantCodecs.{variants_of}
+use Rattle.nano_bin_bytes.specs.Variants.{EncodesEnum, no_variants, variant, body, written_tagged}
+use Rattle.nano_bin_bytes.specs.Variants.{tagged_means, legal_bodies, are_read}
+use Rattle.nano_bin.specs.ContainerCodecs.{variants_of}
 use Rattle.nano_bin_bytes.proofs.VariantsLaws.{tagged_same, tagged_reads_back}
 use Rattle.nano_schema.specs.Choices.{either_is}
 use Rattle.nano_schema.specs.declared.choices.Either.{Either}

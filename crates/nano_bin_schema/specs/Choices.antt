@@ -3,11 +3,10 @@
 use Rattle.std.specs.Prelude.{◌≡◌, ◌+◌, ◌≤◌, ℕ, suc, List, ◌++◌, drop}
 use Rattle.nano_value.specs.Meaning.{Meaning}
 use Rattle.nano_value.specs.Sums.{tagged, count_variants}
-use Rattle.nano_bin_bytes.specs.LittleEndian.{little_endian}
+use Rattle.nano_bin_bytes.specs.Scalars.{little_endian}
 use Rattle.nano_bin_bytes.specs.declared.error.DeBinErr.{DeBinErr}
 use Rattle.nano_bin_bytes.specs.declared.error.DeBinKind.TheVariants.{Own}
-use Rattle.nano_bin_bytes.specs.Errors.{rejection}
-use Rattle.nano_bin_bytes.specs.Reading.{Decodes, Rejects}
+use Rattle.nano_bin_bytes.specs.Reading.{rejection, Decodes, Rejects}
 use Rattle.nano_bin_bytes.specs.Codec.{Codec}
 use Rattle.nano_bin_bytes.specs.Variants.{Variants, variant, body, body_at, encoding_at}
 use Rattle.nano_bin_bytes.specs.Variants.{legal_bodies, Tagged}

@@ -3,9 +3,10 @@ use Rattle.std.specs.Prelude.{◌≡◌, ◌≤◌, ℕ, List, true}
 use Rattle.std.proofs.Common.{leb, sym}
 use Rattle.std.proofs.lemmas.Bool.{leb-true}
 use Rattle.nano_value.specs.Sums.{count_variants}
-use Rattle.nano_bin_bytes.specs.LittleEndian.{EncodesNumber}
+use Rattle.nano_bin_bytes.specs.Scalars.{EncodesNumber}
 use Rattle.nano_bin_bytes.specs.Reading.{Decodes}
-use Rattle.nano_bin_bytes.specs.Codec.{Codec, codec_as}
+use Rattle.nano_bin_bytes.specs.Codec.{Codec}
+use Rattle.nano_bin_bytes.specs.BaseCodecs.{codec_as}
 use Rattle.nano_bin_bytes.specs.Variants.{Variants, legal_bodies}
 use Rattle.nano_bin_schema.specs.Choices.{Chosen}
 use Rattle.nano_bin_schema.specs.ChoiceCodecs.{choice_codec}

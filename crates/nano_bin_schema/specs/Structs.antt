@@ -1,7 +1,7 @@
 -- The codec of a user-defined struct as bytes.
 use Rattle.nano_bin_bytes.specs.Codec.{Codec}
 -- what a struct without names needs, passed on
-pub use Rattle.nano_bin_bytes.specs.Codec.{codec_as}
+pub use Rattle.nano_bin_bytes.specs.BaseCodecs.{codec_as}
 pub use Rattle.nano_bin_bytes.proofs.CodecLaws.{both_are_read}
 
 -- a struct as the values of its fields, and their format

@@ -2,9 +2,7 @@
 
 ghost use Rattle.std.specs.Prelude.{◌≡◌, ◌++◌, ◌≤◌, Err, IfOk, IfErr, OnOk, OnErr};
 ghost use Rattle.nano_value.specs.Sums.{count_variants};
-ghost use Rattle.nano_bin_bytes.specs.Errors.{rejection};
-ghost use Rattle.nano_bin_bytes.specs.Reading.{Decodes};
-ghost use Rattle.nano_bin_bytes.specs.Rejections.{ReadsNone};
+ghost use Rattle.nano_bin_bytes.specs.Reading.{rejection, Decodes, ReadsNone};
 ghost use Rattle.nano_bin_bytes.specs.declared.error.DeBinKind.TheVariants.{Own};
 ghost use Rattle.nano_bin_bytes.specs.Variants.{EncodesEnum, written_tagged, legal_bodies};
 ghost use Rattle.nano_schema.specs.Views.{SeesAs};

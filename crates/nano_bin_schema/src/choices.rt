@@ -2,10 +2,11 @@
 
 ghost use Rattle.std.specs.Prelude.{◌≡◌, ◌++◌, ◌+◌, ◌≤◌, ◌<◌, IfOk, IfErr, OnOk, OnErr};
 ghost use Rattle.nano_value.specs.Sums.{count_variants};
-ghost use Rattle.nano_bin_bytes.specs.LittleEndian.{little_endian};
+ghost use Rattle.nano_bin_bytes.specs.Scalars.{little_endian};
 ghost use Rattle.nano_schema.specs.Choices.{either_map};
 ghost use Rattle.nano_bin_bytes.specs.Variants.{legal_bodies};
-ghost use Rattle.nano_bin_schema.specs.Choices.{Chosen, DecodesChoice, written_from, ReadsNoVariant};
+ghost use Rattle.nano_bin_schema.specs.Choices.{Chosen, DecodesChoice, written_from};
+ghost use Rattle.nano_bin_schema.specs.Choices.{ReadsNoVariant};
 ghost use Rattle.nano_bin_schema.specs.ChoiceCodecs.{last_choice, next_choice};
 
 use crate::fields::{BinFields, BinRefs, BinShape};

@@ -1,6 +1,6 @@
 //! What a variant holds, as bytes.
 
-ghost use Rattle.nano_bin.specs.BoolCodecs.{unit_codec};
+ghost use Rattle.nano_bin.specs.ScalarCodecs.{unit_codec};
 
 use crate::fields::{BinFields, BinRefs, BinShape};
 use nano_bin::{BinCodec, DeBin, DeBinErr, SerBin, append_part};

@@ -1,11 +1,9 @@
 //! Fields as bytes.
 
 ghost use Rattle.std.specs.Prelude.{◌≡◌, ◌++◌, IfOk, IfErr, OnOk, OnErr};
-ghost use Rattle.nano_bin_bytes.specs.Reading.{Decodes};
-ghost use Rattle.nano_bin_bytes.specs.Rejections.{ReadsNone};
+ghost use Rattle.nano_bin_bytes.specs.Reading.{Decodes, ReadsNone};
 ghost use Rattle.nano_bin_bytes.specs.Codec.{Codec};
-ghost use Rattle.nano_bin.specs.OptionCodecs.{option_codec};
-ghost use Rattle.nano_bin.specs.TupleCodecs.{pair_codec};
+ghost use Rattle.nano_bin.specs.ContainerCodecs.{option_codec, pair_codec};
 
 use nano_bin::{BinCodec, DeBin, DeBinErr, SerBin};
 use nano_schema::{Defaulted, Optional, Required};

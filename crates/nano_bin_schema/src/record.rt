@@ -1,8 +1,7 @@
 //! User-defined structs as bytes.
 
 ghost use Rattle.std.specs.Prelude.{◌≡◌, ◌++◌, IfOk, IfErr, OnOk, OnErr};
-ghost use Rattle.nano_bin_bytes.specs.Reading.{Decodes};
-ghost use Rattle.nano_bin_bytes.specs.Rejections.{ReadsNone};
+ghost use Rattle.nano_bin_bytes.specs.Reading.{Decodes, ReadsNone};
 ghost use Rattle.nano_schema.specs.Views.{SeesAs};
 
 use crate::fields::{BinFields, BinRefs};

@@ -5,20 +5,17 @@ use Rattle.std.proofs.Common.{sym, ◌∙◌, ap, subst, append_assoc}
 use Rattle.std.proofs.lemmas.Bool.{or_left, or_right, or_from, or_parts}
 use Rattle.std.proofs.lemmas.List.{map-append}
 use Rattle.nano_value.specs.Meaning.{Meaning, paired, pair_map}
-use Rattle.nano_meaning.proofs.MeaningLaws.{both_injective}
-use Rattle.nano_meaning.proofs.LegalLaws.{all-map, all_weaker}
-use Rattle.nano_text.proofs.EachLaws.{all_append, all_split}
-use Rattle.nano_grammar.specs.Cutting.{Cutting}
-use Rattle.nano_grammar.specs.Encoding.{Grammar}
-use Rattle.nano_grammar.specs.Fields.{FieldStyle, Field, either, others}
-use Rattle.nano_grammar.specs.Struct.{Struct}
+use Rattle.nano_meaning.proofs.MeaningLaws.{both_injective, all-map, all_weaker}
+use Rattle.nano_text.proofs.LaneMasks.{all_append, all_split}
+use Rattle.nano_grammar.specs.Tokens.{Cutting}
+use Rattle.nano_grammar.specs.Codec.{Grammar}
+use Rattle.nano_grammar.specs.Fields.{FieldStyle, Field, either, others, Struct, Differs}
+use Rattle.nano_grammar.specs.Fields.{AreDistinct}
 use Rattle.nano_grammar.proofs.StructLaws.{also_read}
-use Rattle.nano_grammar.specs.Names.{Differs, AreDistinct}
-use Rattle.nano_grammar.proofs.NamesLaws.{AreApart, all_join, distinct_apart}
-use Rattle.nano_grammar.specs.FieldCanonical.{WrittenField}
-use Rattle.nano_grammar.proofs.FieldCanonicalLaws.{also_write}
-use Rattle.nano_grammar.specs.FieldCodec.{named, IsKnown, IsUnknown, AreNames, IsWrittenField}
-use Rattle.nano_grammar.specs.FieldCodec.{FieldsCodec}
+use Rattle.nano_grammar.proofs.FieldReading.{AreApart, all_join, distinct_apart}
+use Rattle.nano_grammar.specs.FieldCodec.{WrittenField, named, IsKnown, IsUnknown, AreNames}
+use Rattle.nano_grammar.specs.FieldCodec.{IsWrittenField, FieldsCodec}
+use Rattle.nano_grammar.proofs.FieldCodecLaws.{also_write}
 
 -- the fields of the first are none of the others
 known_are_passed : {T : Type 0} (knows : List ℕ → Bool) (fs rest : List (Field T))

@@ -2,18 +2,16 @@
 use Rattle.std.proofs.Common.{◌≡◌, ◌≢◌, ◌+◌, ◌<◌, ◌≤◌, inl, inr, List, [], ◌∷◌, ◌++◌, length}
 use Rattle.std.proofs.Common.{length-append, ap, arith}
 use Rattle.nano_value.specs.Meaning.{usize_bound}
-use Rattle.nano_grammar.proofs.CutLaws.{CutLaws}
-use Rattle.nano_grammar.specs.Cutting.{Cutting}
+use Rattle.nano_grammar.proofs.TokensLaws.{CutLaws, tokens_left, leaves_shorter}
+use Rattle.nano_grammar.specs.Tokens.{Cutting, At, Leaves, Spans, DecodesToNothing}
 use Rattle.nano_grammar.specs.Items.{ListPunctuation, EncodedItems, EncodedList}
 use Rattle.nano_grammar.proofs.ListsLaws.{no_item_closes}
-use Rattle.nano_grammar.specs.Encoding.{Grammar, IsEncoding, AreBrackets}
-use Rattle.nano_grammar.specs.Tokens.{At, Leaves, Spans, DecodesToNothing}
+use Rattle.nano_grammar.specs.Codec.{Grammar, IsEncoding, AreBrackets}
 use Rattle.nano_grammar.proofs.ListReading.{SoFar, StillLeft, start_so_far, start_left, item_left}
 use Rattle.nano_grammar.proofs.ListReading.{next_so_far, next_left, open_rejected, item_rejected}
 use Rattle.nano_grammar.proofs.ListReading.{comma_rejected, close_rejected, close_found}
 use Rattle.nano_grammar.proofs.PartReading.{CommaTaken}
 use Rattle.nano_grammar.proofs.Reading.{value_shorter, either_way}
-use Rattle.nano_grammar.proofs.TokensLeft.{tokens_left, leaves_shorter}
 
 module _ {T : Type 0} {c : Cutting T} {g : Grammar T} (r : CutLaws c g) where
   -- these items are read, each of at least one token, and whatever list is encoded goes on

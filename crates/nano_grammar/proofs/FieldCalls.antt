@@ -1,15 +1,16 @@
 -- What the calls that read the value of a field come to, whatever the tokens are.
-use Rattle.std.proofs.Common.{◌≡◌, ℕ, List, [], ◌∷◌, ◌++◌, Bool, true, false, ◌||◌, bytes_eq, refl, sym, ◌∙◌, ap, subst}
+use Rattle.std.proofs.Common.{◌≡◌, ℕ, List, [], ◌∷◌, ◌++◌, Bool, true, false, ◌||◌, bytes_eq, refl}
+use Rattle.std.proofs.Common.{sym, ◌∙◌, ap, subst}
 use Rattle.nano_value.specs.Meaning.{Meaning}
-use Rattle.nano_grammar.specs.Cutting.{Cutting}
-use Rattle.nano_grammar.specs.Encoding.{Grammar}
+use Rattle.nano_grammar.specs.Tokens.{Cutting, At, Leaves}
+use Rattle.nano_grammar.specs.Codec.{Grammar}
 use Rattle.nano_grammar.specs.Outcomes.{Report, Position, Moved, Fails, Took, Read, ReadsNone}
-use Rattle.nano_grammar.specs.Tokens.{At, Leaves}
-use Rattle.nano_grammar.proofs.Outcomes.{fails_as}
-use Rattle.nano_grammar.specs.Fields.{FieldStyle, Field, Shape, Allowed, LastEncodes, both_fields, others}
+use Rattle.nano_grammar.proofs.TokenCalls.{fails_as}
+use Rattle.nano_grammar.specs.Fields.{FieldStyle, Field, Shape, Allowed, LastEncodes, both_fields}
+use Rattle.nano_grammar.specs.Fields.{others}
 use Rattle.nano_grammar.specs.UserOutcomes.{NoField, ReadField, LooksUp, LooksUpNone}
-use Rattle.nano_grammar.proofs.SlotsLaws.{last_takes, others_known, others_unknown}
-use Rattle.nano_grammar.proofs.KnownNames.{to_first, to_second, first_of, second_of}
+use Rattle.nano_grammar.proofs.FieldsLaws.{last_takes, others_known, others_unknown}
+use Rattle.nano_grammar.proofs.FieldReading.{to_first, to_second, first_of, second_of}
 
 or_first : (a b : Bool) → a ≡ true → a || b ≡ true
 or_first a b e = ap (λ x. x || b) e

@@ -1,12 +1,18 @@
 -- What a reader of one field knows of the tokens that it takes.
-use Rattle.std.proofs.Common.{◌≡◌, ℕ, List, [], ◌∷◌, refl, ap}
-use Rattle.std.proofs.Common.{sym, ◌∙◌, subst}
-use Rattle.nano_grammar.specs.Tokens.{At, Leaves, DecodesTo, Spans, DecodesToNothing}
-use Rattle.nano_grammar.proofs.Tokens.{same_at, leaves_append, leaves_split}
-use Rattle.nano_grammar.proofs.CutLaws.{CutLaws}
-use Rattle.nano_grammar.specs.Cutting.{Cutting}
-use Rattle.nano_grammar.specs.Encoding.{Grammar}
-use Rattle.nano_grammar.specs.Fields.{FieldStyle, Field, EncodedField, EncodedNamed}
+use Rattle.std.proofs.Common.{◌≡◌, ℕ, List, [], ◌∷◌, refl, ap, sym, ◌∙◌, subst, Bool, true, false}
+use Rattle.std.proofs.Common.{not, bytes_eq}
+use Rattle.std.proofs.lemmas.Bool.{not-false, not-true, or_parts, true≢false, and_parts}
+use Rattle.std.specs.Prelude.{◌++◌}
+use Rattle.std.specs.List.{AllByRecursion, list_all}
+use Rattle.std.proofs.lemmas.Slice.Eq.{bytes_eq-Decides}
+use Rattle.nano_grammar.specs.Tokens.{At, Leaves, DecodesTo, Spans, DecodesToNothing, Cutting}
+use Rattle.nano_grammar.proofs.TokensLaws.{same_at, leaves_append, leaves_split, CutLaws}
+use Rattle.nano_grammar.specs.Codec.{Grammar, Encoding}
+use Rattle.nano_grammar.specs.Fields.{FieldStyle, Field, EncodedField, EncodedNamed, either}
+use Rattle.nano_grammar.specs.Fields.{is_known_name, are_distinct, Differs, AreDistinct}
+use Rattle.nano_grammar.specs.Variants.{Variants}
+use Rattle.nano_grammar.specs.Choices.{Rest, no_more, more, before, stands_alone, is_named}
+use Rattle.nano_text.proofs.LaneMasks.{all_split}
 
 module _ {T : Type 0} {c : Cutting T} {g : Grammar T} (s : FieldStyle c g) (r : CutLaws c g) where
   -- the same tokens lead to one place
@@ -99,3 +105,108 @@ module _ {T : Type 0} {c : Cutting T} {g : Grammar T} (s : FieldStyle c g) (r : 
     no_field_after here following l none =
         field_rejected name here (sym l.0) Value takes (λ us t. (tt, t))
         (value_rejected name Value here following (refl, l.1) none)
+
+-- ==== known names
+
+-- one fact or the other, where it is known which
+module _ (b : Bool) (p q : Type 0) where
+  pub to_first : b ≡ true → p → either b p q
+  to_first e h = subst (λ c. either c p q) (sym e) h
+
+  pub to_second : b ≡ false → q → either b p q
+  to_second e h = subst (λ c. either c p q) (sym e) h
+
+  pub first_of : b ≡ true → either b p q → p
+  first_of e h = subst (λ c. either c p q) e h
+
+  pub second_of : b ≡ false → either b p q → q
+  second_of e h = subst (λ c. either c p q) e h
+
+-- where a test for another name fails, the name is this one
+pub is_this_name : (xs ys name label : List ℕ) (unequal : Bool) → xs ≡ name → ys ≡ label → unequal ≡ not (bytes_eq xs ys)
+    → unequal ≡ false → bytes_eq name label ≡ true
+is_this_name xs ys name label unequal x y is e =
+    ap (λ (l : List ℕ). bytes_eq l label) (sym x) ∙ (ap (bytes_eq xs) (sym y) ∙ not-false (bytes_eq xs ys) (sym is ∙ e))
+
+-- and where it succeeds, it is another one
+pub other_name : (xs ys name label : List ℕ) (unequal : Bool) → xs ≡ name → ys ≡ label → unequal ≡ not (bytes_eq xs ys)
+    → unequal ≡ true → bytes_eq name label ≡ false
+other_name xs ys name label unequal x y is e =
+    ap (λ (l : List ℕ). bytes_eq l label) (sym x) ∙ (ap (bytes_eq xs) (sym y) ∙ not-true (bytes_eq xs ys) (sym is ∙ e))
+
+-- ==== unknown names
+
+module _ {T : Type 0} {g : Grammar T} (rest : Rest g) (first : List ℕ)
+    (others : Variants (Encoding g)) (stood : Bool) (name : List ℕ) where
+  unknown_parts : is_known_name (before rest first others) stood name ≡ false
+      → (is_named stood (stands_alone rest) name first ≡ false)
+      × (is_known_name others stood name ≡ false)
+  unknown_parts e =
+      elim rest as (λ r. is_known_name (before r first others) stood name ≡ false
+      → (is_named stood (stands_alone r) name first ≡ false)
+      × (is_known_name others stood name ≡ false)) [
+        | no_more ↦ λ e. or_parts (is_named stood true name first) (is_known_name others stood name) e
+        | more content ↦ λ e. or_parts (is_named stood false name first) (is_known_name others stood name) e
+      ] e
+
+  -- it is not that of the first
+  pub first_unknown : is_named stood (stands_alone rest) name first ≡ true
+      → is_known_name (before rest first others) stood name ≡ false → ⊥
+  first_unknown named unknown = true≢false (sym named ∙ (unknown_parts unknown).0)
+
+  -- and not that of a later one
+  pub later_unknown : is_known_name (before rest first others) stood name ≡ false
+      → is_known_name others stood name ≡ false
+  later_unknown unknown = (unknown_parts unknown).1
+
+-- ==== names
+
+-- names of one list and of another: none stands twice in either, and none of the second in the
+-- first
+pub record AreApart (xs ys : List (List ℕ)) : Type 0 where
+  pub first : AreDistinct xs
+  pub second : AreDistinct ys
+  pub across : AllByRecursion (λ y. AllByRecursion (Differs y) xs) ys
+
+-- ---- the laws of it
+
+pub same_name : (name : List ℕ) → bytes_eq name name ≡ true
+same_name name = (bytes_eq-Decides name name).1 refl
+
+pub all_join : {A : Type 0} (P Q R : A → Type 0) → ((x : A) → P x → Q x → R x) → (xs : List A)
+    → AllByRecursion P xs → AllByRecursion Q xs → AllByRecursion R xs
+all_join P Q R join [] h k = tt
+all_join P Q R join (x ∷ xs) h k = (join x h.0 k.0, all_join P Q R join xs h.1 k.1)
+
+each_differs : (name : List ℕ) (names : List (List ℕ))
+    → list_all (λ other. not (bytes_eq other name)) names ≡ true
+    → AllByRecursion (λ other. Differs other name) names
+each_differs name [] h = tt
+each_differs name (other ∷ names) h =
+    let rest = list_all (λ o. not (bytes_eq o name)) names in
+    let first = and_parts (not (bytes_eq other name)) rest h in
+    (not-true (bytes_eq other name) first.0, each_differs name names first.1)
+
+pub distinct_names : (names : List (List ℕ)) → are_distinct names ≡ true → AreDistinct names
+distinct_names [] h = tt
+distinct_names (name ∷ names) h =
+    let rest = list_all (λ other. not (bytes_eq other name)) names in
+    let first = and_parts rest (are_distinct names) h in
+    (each_differs name names first.0, distinct_names names first.1)
+
+nothing_differs : (ys : List (List ℕ)) → AllByRecursion (λ y. Unit {0}) ys
+nothing_differs [] = tt
+nothing_differs (y ∷ ys) = (tt, nothing_differs ys)
+
+pub distinct_apart : (xs ys : List (List ℕ)) → AreDistinct (xs ++ ys) → AreApart xs ys
+distinct_apart [] ys h = record { first = tt; second = h; across = nothing_differs ys }
+distinct_apart (x ∷ xs) ys h =
+    let here = all_split (λ other. Differs other x) xs ys h.0 in
+    let rest = distinct_apart xs ys h.1 in
+    let Apart = λ (y : List ℕ). AllByRecursion (Differs y) xs in
+    let Across = λ (y : List ℕ). AllByRecursion (Differs y) (x ∷ xs) in
+    record {
+      first = (here.0, rest.first);
+      second = rest.second;
+      across = all_join (λ y. Differs y x) Apart Across (λ y d e. (d, e)) ys here.1 rest.across;
+    }

@@ -1,11 +1,27 @@
 -- The laws of items between brackets and of pairs, from those of what is in them.
-use Rattle.std.specs.Prelude.{◌≡◌, ◌≢◌, ◌⊎◌, List, [], ◌∷◌, ◌++◌, refl}
+use Rattle.std.specs.Prelude.{◌≡◌, ◌⊎◌, List, [], ◌∷◌, ◌≢◌, ◌++◌, refl}
 use Rattle.std.specs.List.{AllByRecursion}
 use Rattle.std.proofs.Common.{sym, ◌∙◌, ap, subst, inl, inr, append_assoc, append-nil}
-use Rattle.nano_grammar.specs.Items.{ListPunctuation, OneValue, EncodedItems}
+use Rattle.nano_grammar.specs.Items.{ListPunctuation, StartsOtherwise, EncodedItems, OneValue}
 use Rattle.nano_grammar.specs.Items.{EncodedList, EncodedPair}
-use Rattle.nano_grammar.proofs.ItemsLaws.{NeverStartsWith}
 use Rattle.nano_grammar.specs.Tokens.{NoneBeginsAnother}
+
+-- ==== items
+
+-- what comes after an item: the closing bracket, or a comma and the items that are left
+abbrev pub EncodedAfter : {T V : Type 0} → ListPunctuation T → (List T → V → Type 0) → List T
+    → List V → Type 0
+EncodedAfter {T} punctuation encodes back vs =
+    ((back ≡ punctuation.closing ∷ []) × (vs ≡ []))
+    ⊎ ((more : List T) × (back ≡ punctuation.comma ∷ more)
+    × EncodedItems punctuation encodes more vs)
+
+-- every encoding has a first token, and it is another
+abbrev pub NeverStartsWith : {T V : Type 0} → T → (List T → V → Type 0) → Type 0
+NeverStartsWith {T} {V} t encodes =
+    (ts : List T) (v : V) → encodes ts v → StartsOtherwise t ts
+
+-- ==== item
 
 module _ {T : Type 0} where
   -- what comes after a list and makes it no longer is empty

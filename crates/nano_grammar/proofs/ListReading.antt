@@ -2,11 +2,9 @@
 use Rattle.std.proofs.Common.{◌≡◌, ◌≢◌, ℕ, List, [], ◌∷◌, ◌++◌, ◌⊎◌, inl, inr, refl, ap, sym, ◌∙◌}
 use Rattle.std.proofs.Common.{subst, append_assoc}
 use Rattle.nano_grammar.specs.Tokens.{At, Leaves, DecodesTo, Spans, IsOneWay, NoneBeginsAnother}
-use Rattle.nano_grammar.specs.Items.{ListPunctuation, StartsOtherwise, EncodedItems}
-use Rattle.nano_grammar.proofs.ItemsLaws.{EncodedAfter}
-use Rattle.nano_grammar.specs.Items.{EncodedList}
-use Rattle.nano_grammar.proofs.ItemsLaws.{NeverStartsWith}
-use Rattle.nano_grammar.proofs.Tokens.{leaves_append, leaves_split, same_at, same_end}
+use Rattle.nano_grammar.specs.Items.{ListPunctuation, StartsOtherwise, EncodedItems, EncodedList}
+use Rattle.nano_grammar.proofs.ItemLaws.{EncodedAfter, NeverStartsWith}
+use Rattle.nano_grammar.proofs.TokensLaws.{leaves_append, leaves_split, same_at, same_end}
 
 -- what the tokens taken so far encode: with the closing bracket after them a list, and with
 -- more items too, where no closing bracket is pending

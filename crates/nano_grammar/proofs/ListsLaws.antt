@@ -3,19 +3,16 @@ use Rattle.std.specs.Prelude.{◌≡◌, ℕ, List, [], ◌∷◌, map, refl}
 use Rattle.std.specs.List.{AllByRecursion}
 use Rattle.std.proofs.Common.{sym, subst, inl, inr}
 use Rattle.nano_text.specs.Place.{saturating_next}
-use Rattle.nano_value.specs.Legal.{AllOfList, AllOfCount}
-use Rattle.nano_value.specs.Meaning.{Meaning, listed}
+use Rattle.nano_value.specs.Meaning.{AllOfList, AllOfCount, Meaning, listed}
 use Rattle.nano_meaning.proofs.MeaningLaws.{listed_injective}
-use Rattle.nano_grammar.specs.Cutting.{Cutting, IsValueText}
-use Rattle.nano_grammar.specs.Codec.{Codec}
+use Rattle.nano_grammar.specs.Tokens.{Cutting, IsValueText, NoneBeginsAnother}
+use Rattle.nano_grammar.specs.Codec.{Codec, Grammar, BeginsValue, IsEncoding, Encoding, AreBrackets}
+use Rattle.nano_grammar.specs.Codec.{Canonical, ListStyle}
 use Rattle.nano_grammar.proofs.ItemLaws.{list_one_value, list_none_begins, each_is_encoded}
+use Rattle.nano_grammar.proofs.ItemLaws.{NeverStartsWith}
 use Rattle.nano_grammar.specs.Items.{ListPunctuation, EncodedItems, EncodedList, OneValue}
-use Rattle.nano_grammar.proofs.ItemsLaws.{NeverStartsWith}
 use Rattle.nano_grammar.proofs.LayoutsLaws.{laid_out_written, laid_out_same, laid_out_encoded}
-use Rattle.nano_grammar.specs.Encoding.{Grammar, BeginsValue, IsEncoding, Encoding, AreBrackets}
 use Rattle.nano_grammar.proofs.EncodingLaws.{begins_otherwise, encoding_of}
-use Rattle.nano_grammar.specs.Tokens.{NoneBeginsAnother}
-use Rattle.nano_grammar.specs.Canonical.{Canonical, ListStyle}
 use Rattle.nano_grammar.specs.Lists.{EncodesList, EncodesCount, list_text, list_tokens, AllSound}
 
 -- ---- the encoding

@@ -3,27 +3,25 @@ use Rattle.std.specs.Prelude.{◌≡◌, ℕ, List, [], ◌∷◌, map, refl}
 use Rattle.std.specs.List.{AllByRecursion}
 use Rattle.std.proofs.Common.{sym, subst, ap}
 use Rattle.nano_text.specs.Place.{saturating_next}
-use Rattle.nano_value.specs.Ascending.{ascending}
+use Rattle.nano_value.specs.Tables.{ascending, LegalMap, AllOfTable, table_of, table_means}
+use Rattle.nano_value.specs.Tables.{last_values, map_means}
 use Rattle.nano_meaning.proofs.AscendingLaws.{ascending_same, all-ascending, table_of-ascending}
-use Rattle.nano_value.specs.Legal.{BothOfPair, AllOfList}
-use Rattle.nano_value.specs.Meaning.{Meaning, pair_map}
-use Rattle.nano_value.specs.MeaningOrder.{MeaningOrder, by_meaning}
-use Rattle.nano_meaning.proofs.MeaningOrderLaws.{by_meaning-orders}
-use Rattle.nano_value.specs.Tables.{LegalMap, AllOfTable, table_of, table_means, last_values, map_means}
+use Rattle.nano_value.specs.Meaning.{BothOfPair, AllOfList, Meaning, pair_map}
+use Rattle.nano_value.specs.Order.{MeaningOrder, by_meaning}
+use Rattle.nano_meaning.proofs.OrderLaws.{by_meaning-orders}
 use Rattle.nano_meaning.proofs.TablesLaws.{table_means-injective, all_of_last_values}
-use Rattle.nano_grammar.specs.Cutting.{Cutting, IsValueText}
-use Rattle.nano_grammar.specs.Codec.{Codec}
+use Rattle.nano_grammar.specs.Tokens.{Cutting, IsValueText}
+use Rattle.nano_grammar.specs.Codec.{Codec, Grammar, IsEncoding, Encoding, AreBrackets, Canonical}
+use Rattle.nano_grammar.specs.Codec.{ListStyle, PairStyle}
 use Rattle.nano_grammar.proofs.ItemLaws.{each_is_encoded}
-use Rattle.nano_grammar.specs.Items.{ListPunctuation}
+use Rattle.nano_grammar.specs.Items.{ListPunctuation, EncodedPair}
 use Rattle.nano_grammar.proofs.LayoutsLaws.{laid_out_written, laid_out_same, laid_out_encoded}
 use Rattle.nano_grammar.proofs.ListsLaws.{list_encoding}
 use Rattle.nano_grammar.proofs.PairsLaws.{pair_encoding, both_same, both_are_written}
-use Rattle.nano_grammar.specs.Pairs.{pair_text, pair_tokens}
-use Rattle.nano_grammar.specs.Encoding.{Grammar, IsEncoding, Encoding, AreBrackets}
+use Rattle.nano_grammar.specs.Maps.{pair_text, pair_tokens, EncodesEntries}
+use Rattle.nano_grammar.specs.Maps.{EncodesMap, map_text, map_tokens, entries_of, AllSoundEntries}
+use Rattle.nano_grammar.specs.Maps.{SoundEntries}
 use Rattle.nano_grammar.proofs.EncodingLaws.{image_encoding}
-use Rattle.nano_grammar.specs.Canonical.{Canonical, ListStyle, PairStyle}
-use Rattle.nano_grammar.specs.Maps.{EncodesEntry, EncodesEntries, EncodesMap, map_text}
-use Rattle.nano_grammar.specs.Maps.{map_tokens, entries_of, AllSoundEntries, SoundEntries}
 
 -- ---- the encoding
 
@@ -31,7 +29,7 @@ module _ {T : Type 0} (g : Grammar T) (punctuation : ListPunctuation T)
     (are : AreBrackets g punctuation) (punctuator : T)
     {P Q : Meaning → Type 0} {S R : List T → Meaning → Type 0} (s : IsEncoding g P S)
     (t : IsEncoding g Q R) where
-  pub entry_encoding : IsEncoding g (BothOfPair P Q) (EncodesEntry punctuator S R)
+  pub entry_encoding : IsEncoding g (BothOfPair P Q) (EncodedPair punctuator S R)
   entry_encoding = pair_encoding g punctuator s t
 
   entries_encoding : IsEncoding g (AllOfList (BothOfPair P Q))
@@ -141,7 +139,7 @@ module _ {T : Type 0} {c : Cutting T} {g : Grammar T} (s : ListStyle c)
       all.items)
 
   abbrev EntryEncoded : List T → Meaning × Meaning → Type 0
-  EntryEncoded = EncodesEntry p.token k.encoding.encodes v.encoding.encodes
+  EntryEncoded = EncodedPair p.token k.encoding.encodes v.encoding.encodes
 
   entries_read_back : (es : List (K × V))
       → AllByRecursion (BothOfPair k.encoding.legal v.encoding.legal) (map means_entry es)

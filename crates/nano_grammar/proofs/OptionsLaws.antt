@@ -2,18 +2,16 @@
 use Rattle.std.specs.Prelude.{◌≡◌, ℕ, List, [], ◌++◌, Option, Some, None, refl}
 use Rattle.std.specs.Option.{option_map}
 use Rattle.std.proofs.Common.{sym, ◌∙◌, subst, ap}
-use Rattle.nano_value.specs.Legal.{AllOfOption}
-use Rattle.nano_value.specs.Meaning.{Meaning, optional}
+use Rattle.nano_value.specs.Meaning.{AllOfOption, Meaning, optional}
 use Rattle.nano_meaning.proofs.MeaningLaws.{both_injective}
-use Rattle.nano_grammar.specs.Cutting.{Cutting, IsValueText}
-use Rattle.nano_grammar.specs.Codec.{Codec}
+use Rattle.nano_grammar.specs.Tokens.{Cutting, IsValueText}
+use Rattle.nano_grammar.specs.Codec.{Codec, Grammar, BeginsValue, StartsWith, IsEncoding, Encoding}
+use Rattle.nano_grammar.specs.Codec.{Canonical}
 use Rattle.nano_grammar.specs.Items.{StartsOtherwise}
-use Rattle.nano_grammar.specs.Encoding.{Grammar, BeginsValue, StartsWith, IsEncoding, Encoding}
 use Rattle.nano_grammar.proofs.EncodingLaws.{same_tails, otherwise_append, starts_apart}
 use Rattle.nano_grammar.proofs.EncodingLaws.{starts_otherwise, encoding_of}
-use Rattle.nano_grammar.specs.Canonical.{Canonical}
-use Rattle.nano_grammar.specs.Options.{NoneStyle, EncodesOption, option_text, option_tokens}
-use Rattle.nano_grammar.specs.Options.{SoundOption}
+use Rattle.nano_grammar.specs.Scalars.{NoneStyle, EncodesOption, option_text, option_tokens}
+use Rattle.nano_grammar.specs.Scalars.{SoundOption}
 
 pub some_injective : {A : Type 0} (x y : A) → Some x ≡ Some y → x ≡ y
 some_injective x y e = cc e

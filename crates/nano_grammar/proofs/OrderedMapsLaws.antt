@@ -4,20 +4,16 @@ use Rattle.std.specs.declared.cmp.Ordering.{Ordering}
 use Rattle.std.specs.FinMap.Entries.{is_sorted}
 use Rattle.std.proofs.Common.{◌≡◌, sym, ap}
 use Rattle.nano_value.specs.Meaning.{Meaning, paired, pair_map}
-use Rattle.nano_value.specs.MeaningOrder.{MeaningOrder}
-use Rattle.nano_value.specs.OrderedMaps.{ordered_map_means}
+use Rattle.nano_value.specs.Order.{MeaningOrder}
+use Rattle.nano_value.specs.Ordered.{ordered_map_means, unordered}
 use Rattle.nano_meaning.proofs.OrderedMapsLaws.{ordered_map_means-tables}
-use Rattle.nano_value.specs.OrderedSets.{unordered}
 use Rattle.nano_meaning.proofs.OrderedSetsLaws.{no_list_is_unordered}
 use Rattle.nano_value.specs.Tables.{LegalMap, table_of, table_means}
-use Rattle.nano_grammar.specs.Cutting.{Cutting, IsValueText}
-use Rattle.nano_grammar.specs.Codec.{Codec}
-use Rattle.nano_grammar.specs.Maps.{EncodesMap, map_text, map_tokens}
+use Rattle.nano_grammar.specs.Tokens.{Cutting, IsValueText}
+use Rattle.nano_grammar.specs.Codec.{Codec, Grammar, AreBrackets, Canonical, ListStyle, PairStyle}
+use Rattle.nano_grammar.specs.Maps.{EncodesMap, map_text, map_tokens, means, tokens, text, Sound}
 use Rattle.nano_grammar.proofs.MapsLaws.{map_of, map_same, map_is_written, map_reads_back}
 use Rattle.nano_grammar.proofs.MapsLaws.{map_is_sound}
-use Rattle.nano_grammar.specs.Encoding.{Grammar, AreBrackets}
-use Rattle.nano_grammar.specs.Canonical.{Canonical, ListStyle, PairStyle}
-use Rattle.nano_grammar.specs.OrderedMaps.{means, tokens, text, Sound}
 
 module _ {T : Type 0} {c : Cutting T} (s : ListStyle c) (p : PairStyle c) {K V : Type 0}
     (o : MeaningOrder) (v : Canonical c K) (w : Canonical c V) (R : K → K → Ordering) where

@@ -1,19 +1,17 @@
 -- What is proved of Pairs.
 use Rattle.std.specs.Prelude.{◌≡◌, ℕ, List, ◌∷◌, ◌++◌, refl}
 use Rattle.std.proofs.Common.{sym, subst}
-use Rattle.nano_value.specs.Legal.{BothOfPair}
-use Rattle.nano_value.specs.Meaning.{Meaning, paired, pair_map}
+use Rattle.nano_value.specs.Meaning.{BothOfPair, Meaning, paired, pair_map}
 use Rattle.nano_meaning.proofs.MeaningLaws.{both_injective}
-use Rattle.nano_grammar.specs.Cutting.{Cutting, IsValueText}
-use Rattle.nano_grammar.specs.Codec.{Codec}
+use Rattle.nano_grammar.specs.Tokens.{Cutting, IsValueText}
+use Rattle.nano_grammar.specs.Codec.{Codec, Grammar, BeginsValue, StartsWith, IsEncoding, Encoding}
+use Rattle.nano_grammar.specs.Codec.{Canonical, PairStyle}
 use Rattle.nano_grammar.proofs.ItemLaws.{pair_one_value, pair_none_begins}
 use Rattle.nano_grammar.specs.Items.{EncodedPair}
 use Rattle.nano_grammar.proofs.LayoutsLaws.{pair_written}
-use Rattle.nano_grammar.specs.Encoding.{Grammar, BeginsValue, StartsWith, IsEncoding, Encoding}
 use Rattle.nano_grammar.proofs.EncodingLaws.{begins_append, not_none, starts_before, starts_after}
 use Rattle.nano_grammar.proofs.EncodingLaws.{encoding_of}
-use Rattle.nano_grammar.specs.Canonical.{Canonical, PairStyle}
-use Rattle.nano_grammar.specs.Pairs.{pair_text, pair_tokens, BothSound}
+use Rattle.nano_grammar.specs.Maps.{pair_text, pair_tokens, BothSound}
 
 -- ---- the encoding
 

@@ -4,8 +4,8 @@ use Rattle.std.proofs.Common.{◌≡◌, ◌≢◌, ℕ, List, [], ◌∷◌, �
 use Rattle.std.proofs.Common.{subst}
 use Rattle.nano_grammar.specs.Tokens.{At, Leaves, DecodesTo, Spans, IsOneWay, NoneBeginsAnother}
 use Rattle.nano_grammar.specs.Items.{ListPunctuation, EncodedPair}
-use Rattle.nano_grammar.specs.Parts.{EncodedLast, EncodedAfter}
-use Rattle.nano_grammar.proofs.Tokens.{leaves_append, leaves_split, same_at, same_end}
+use Rattle.nano_grammar.specs.Tuples.{EncodedLast, EncodedAfter}
+use Rattle.nano_grammar.proofs.TokensLaws.{leaves_append, leaves_split, same_at, same_end}
 
 -- ---- a part, a token and another part
 

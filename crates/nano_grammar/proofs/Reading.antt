@@ -1,19 +1,14 @@
 -- What a reader of one value knows of the tokens that it takes.
 use Rattle.std.proofs.Common.{◌≡◌, ◌≢◌, ℕ, ◌<◌, ◌⊎◌, inl, inr, List, [], ◌∷◌, length, Some, None}
 use Rattle.std.proofs.Common.{refl, ap, sym, ◌∙◌, subst}
-use Rattle.nano_value.specs.Legal.{IsImage}
-use Rattle.nano_value.specs.Meaning.{Meaning, usize_bound}
-use Rattle.nano_grammar.proofs.CutLaws.{CutLaws}
-use Rattle.nano_grammar.specs.Cutting.{Cutting}
+use Rattle.nano_value.specs.Meaning.{IsImage, Meaning, usize_bound}
+use Rattle.nano_grammar.proofs.TokensLaws.{CutLaws, same_end, tokens_left, token_shorter}
+use Rattle.nano_grammar.specs.Tokens.{Cutting, At, Leaves, Spans, DecodesToNothing}
 use Rattle.nano_grammar.specs.Items.{ListPunctuation, StartsOtherwise, EncodedList}
 use Rattle.nano_grammar.specs.Lists.{EncodesList, EncodesCount}
 use Rattle.nano_grammar.proofs.ListsLaws.{between_one, between_apart}
-use Rattle.nano_grammar.specs.Options.{EncodesOption}
-use Rattle.nano_grammar.specs.Scalars.{EncodesOne}
-use Rattle.nano_grammar.specs.Encoding.{Grammar, BeginsValue, IsEncoding, AreBrackets}
-use Rattle.nano_grammar.specs.Tokens.{At, Leaves, Spans, DecodesToNothing}
-use Rattle.nano_grammar.proofs.Tokens.{same_end}
-use Rattle.nano_grammar.proofs.TokensLeft.{tokens_left, token_shorter}
+use Rattle.nano_grammar.specs.Scalars.{EncodesOption, EncodesOne}
+use Rattle.nano_grammar.specs.Codec.{Grammar, BeginsValue, IsEncoding, AreBrackets}
 
 pub either_way : {A B : Type 0} → A ⊎ B → B ⊎ A
 either_way (inl a) = inr a

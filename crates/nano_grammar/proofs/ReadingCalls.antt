@@ -1,21 +1,46 @@
 -- What the calls that read one value come to, whatever the tokens are.
-use Rattle.std.proofs.Common.{◌≡◌, ◌≢◌, List, [], ◌∷◌, Some, None, refl, sym}
+use Rattle.std.proofs.Common.{List, [], ◌∷◌, ◌≡◌, ◌≢◌, Some, None, refl, sym}
+use Rattle.nano_value.specs.Meaning.{Meaning, IsImage, optional, nothing}
+use Rattle.nano_grammar.proofs.TokensLaws.{CutLaws}
+use Rattle.nano_grammar.specs.Tokens.{Cutting, At, Leaves, Spans, DecodesToNothing}
+use Rattle.nano_grammar.specs.Items.{EncodedPair}
+use Rattle.nano_grammar.specs.Codec.{Grammar, IsEncoding, BeginsValue}
+use Rattle.nano_grammar.proofs.PartReading.{pair_found, first_rejected, punctuator_rejected}
+use Rattle.nano_grammar.proofs.PartReading.{second_rejected}
 use Rattle.nano_text.proofs.PlaceLaws.{moves_append}
-use Rattle.nano_value.specs.Legal.{IsImage}
-use Rattle.nano_value.specs.Meaning.{Meaning, optional, nothing}
-use Rattle.nano_grammar.proofs.CutLaws.{CutLaws}
-use Rattle.nano_grammar.specs.Cutting.{Cutting}
-use Rattle.nano_grammar.specs.Encoding.{Grammar, BeginsValue, IsEncoding}
-use Rattle.nano_grammar.specs.Maps.{EncodesEntry}
-use Rattle.nano_grammar.specs.Options.{EncodesOption}
-use Rattle.nano_grammar.specs.Outcomes.{Report, Position, IsMadeAt, NothingCut, Fails, TookNext, Took, Read, ReadsNoneAndEnds}
-use Rattle.nano_grammar.specs.Scalars.{EncodesOne}
-use Rattle.nano_grammar.specs.Tokens.{At, Leaves, DecodesToNothing}
-use Rattle.nano_grammar.specs.Units.{EncodesUnit}
-use Rattle.nano_grammar.proofs.MapReading.{entry_found, key_rejected, colon_rejected, value_rejected}
-use Rattle.nano_grammar.proofs.Outcomes.{fails_as, fails_after, fails_here}
-use Rattle.nano_grammar.proofs.Reading.{image_spans, image_rejected, one_spans, one_rejected, one_uncut, one_token, token_taken}
-use Rattle.nano_grammar.proofs.Reading.{none_spans, some_spans, none_rejected, some_rejected}
+use Rattle.nano_grammar.specs.Scalars.{EncodesOption, EncodesOne, EncodesUnit}
+use Rattle.nano_grammar.specs.Outcomes.{Report, Position, IsMadeAt, NothingCut, Fails, TookNext}
+use Rattle.nano_grammar.specs.Outcomes.{Took, Read, ReadsNoneAndEnds}
+use Rattle.nano_grammar.proofs.TokenCalls.{fails_as, fails_after, fails_here}
+use Rattle.nano_grammar.proofs.Reading.{image_spans, image_rejected, one_spans, one_rejected}
+use Rattle.nano_grammar.proofs.Reading.{one_uncut, one_token, token_taken, none_spans, some_spans}
+use Rattle.nano_grammar.proofs.Reading.{none_rejected, some_rejected}
+
+-- ==== what is known while an entry is read
+
+module _ {T : Type 0} {c : Cutting T} {g : Grammar T} (r : CutLaws c g) (punctuator : T)
+    {P : Meaning → Type 0} {S : List T → Meaning → Type 0} (s : IsEncoding g P S)
+    (R : List T → Meaning → Type 0) where
+  pub entry_found : (start m k end : At T) (x y : Meaning) → Spans c.cut S start m x
+      → Leaves c.cut (punctuator ∷ []) m k → Spans c.cut R k end y
+      → Spans c.cut (EncodedPair punctuator S R) start end (x, y)
+  entry_found = pair_found c.cut r.one_way punctuator S s.none_begins R
+
+  pub key_rejected : (start : At T) → DecodesToNothing c.cut S start
+      → DecodesToNothing c.cut (EncodedPair punctuator S R) start
+  key_rejected = first_rejected c.cut r.one_way punctuator S s.none_begins R
+
+  pub colon_rejected : (start m : At T) (x : Meaning) → Spans c.cut S start m x
+      → ((k : At T) → Leaves c.cut (punctuator ∷ []) m k → ⊥)
+      → DecodesToNothing c.cut (EncodedPair punctuator S R) start
+  colon_rejected = punctuator_rejected c.cut r.one_way punctuator S s.none_begins R
+
+  pub value_rejected : (start m k : At T) (x : Meaning) → Spans c.cut S start m x
+      → Leaves c.cut (punctuator ∷ []) m k → DecodesToNothing c.cut R k
+      → DecodesToNothing c.cut (EncodedPair punctuator S R) start
+  value_rejected = second_rejected c.cut r.one_way punctuator S s.none_begins R
+
+-- ==== reading calls
 
 -- ---- one token
 
@@ -95,11 +120,11 @@ module _ {T : Type 0} {c : Cutting T} {g : Grammar T} (r : CutLaws c g) where
   module _ (punctuator : T) {P : Meaning → Type 0} {S : List T → Meaning → Type 0} (s : IsEncoding g P S)
       (R : List T → Meaning → Type 0) where
     abbrev NoEntry : At T → Type 0
-    NoEntry start = DecodesToNothing c.cut (EncodesEntry punctuator S R) start
+    NoEntry start = DecodesToNothing c.cut (EncodedPair punctuator S R) start
 
     pub entry_read : {buffered : Type 0} {start m k end : Position T} {x y : Meaning} → Read c.cut S start m x
         → Took c.cut buffered m k (punctuator ∷ []) → Read c.cut R k end y
-        → Read c.cut (EncodesEntry punctuator S R) start end (x, y)
+        → Read c.cut (EncodedPair punctuator S R) start end (x, y)
     entry_read {start = start} {m} {k} {end} {x} {y} key colon value = record {
       decodes = entry_found r punctuator s R start.at m.at k.at end.at x y key.decodes colon.taken value.decodes;
       place = moves_append key.place (moves_append colon.place value.place);

@@ -1,12 +1,19 @@
 -- What is proved of Scalars.
-use Rattle.std.specs.Prelude.{◌≡◌, ℕ, List, [], ◌∷◌, ◌++◌, refl}
-use Rattle.std.proofs.Common.{sym, ◌∙◌, subst, ap}
-use Rattle.nano_value.specs.Meaning.{Meaning}
-use Rattle.nano_grammar.specs.Cutting.{Cutting, IsValueText}
-use Rattle.nano_grammar.specs.Codec.{Codec}
-use Rattle.nano_grammar.specs.Encoding.{Grammar, BeginsValue, StartsWith, IsEncoding, Encoding}
+use Rattle.std.specs.Prelude.{◌≡◌, ℕ, List, [], ◌∷◌, ◌++◌, refl, ◌<◌, ◌^◌, ℤ, FitsSigned}
+use Rattle.std.proofs.Common.{sym, ◌∙◌, subst, ap, arith, ◌+◌, pos, negsuc, ◌≤ℤ◌}
+use Rattle.std.specs.Int.{w8, w16, w32, w64, Width}
+use Rattle.std.proofs.lemmas.Int.{ints}
+use Rattle.nano_value.specs.Meaning.{Meaning, LegalUnit}
+use Rattle.nano_grammar.specs.Tokens.{Cutting, IsValueText}
+use Rattle.nano_grammar.specs.Codec.{Codec, Grammar, BeginsValue, StartsWith, IsEncoding, Encoding}
 use Rattle.nano_grammar.proofs.EncodingLaws.{same_heads, same_tails, encoding_of}
-use Rattle.nano_grammar.specs.Scalars.{Carries, EncodesOne, OneCanonical, one_canonical}
+use Rattle.nano_grammar.specs.Scalars.{Carries, EncodesOne, OneCanonical, UnitStyle}
+use Rattle.nano_grammar.specs.BaseCodecs.{one_canonical}
+use Rattle.nano_grammar.specs.Scalars.{EncodesUnit}
+use Rattle.nano_grammar.specs.BaseCodecs.{unit_canonical}
+use Rattle.nano_grammar.proofs.ItemLaws.{nothing_after}
+use mir.Val.{hbits}
+use Rattle.nano_grammar.specs.Scalars.{IsRangeOf}
 
 -- what encodes each value by one token, as a value may begin, is an encoding
 pub token_encoding : {T : Type 0} (g : Grammar T) {A : Type 0} {P : A → Type 0}
@@ -75,3 +82,99 @@ one_codec k means P w = record {
   encoded_is_sound = λ x ts h. tt;
   null_alone = one_null_alone k means P w;
 }
+
+-- ==== the unit
+
+-- ---- the encoding, the canonical text and the format
+
+pub unit_encoding : {T : Type 0} (g : Grammar T) (tokens : List T) → BeginsValue g tokens
+    → IsEncoding g LegalUnit (EncodesUnit tokens)
+unit_encoding {T} g tokens begins = record {
+  is_legal = λ ts m h. h.is;
+  one_value = λ ts m n h k. h.is ∙ sym k.is;
+  none_begins = λ ts more m n h k.
+      nothing_after tokens more (sym (ap (λ (us : List T). us ++ more) h.one) ∙ k.one);
+  begins = λ ts m h. subst (BeginsValue g) (sym h.one) begins;
+}
+
+module _ {T : Type 0} {c : Cutting T} {g : Grammar T} (s : UnitStyle c g) where
+  abbrev pub unit_of : Encoding g
+  unit_of = record {
+    legal = LegalUnit;
+    encodes = EncodesUnit s.tokens;
+    laws = unit_encoding g s.tokens s.begins;
+  }
+
+  abbrev pub unit_codec : {A : Type 0} → Codec c g A
+  unit_codec = record {
+    canonical = (unit_canonical s);
+    encoding = unit_of;
+    is_written = λ x h d. s.is_written;
+    sound = λ _. Unit {0};
+    reads_back = λ x h _. record { one = refl; is = refl };
+    encoded_is_sound = λ x ts h. tt;
+    null_alone = λ x ts e h. subst (StartsWith g.none) (sym h.one) e;
+  }
+
+-- ==== numbers
+
+pub below_8 : (n : ℕ) → n < 2 ^ 8 → n < 2 ^ 64
+below_8 n h = omega (arith, h)
+
+pub below_16 : (n : ℕ) → n < 2 ^ 16 → n < 2 ^ 64
+below_16 n h = omega (arith, h)
+
+pub below_32 : (n : ℕ) → n < 2 ^ 32 → n < 2 ^ 64
+below_32 n h = omega (arith, h)
+
+pub below_64 : (n : ℕ) → n < 2 ^ 64 → n < 2 ^ 64
+below_64 n h = h
+
+pub within_8 : (z : ℤ) → FitsSigned w8 z → FitsSigned w64 z
+within_8 z h = let small = h.sfits in record { sfits = omega (arith, small) }
+
+pub within_16 : (z : ℤ) → FitsSigned w16 z → FitsSigned w64 z
+within_16 z h = let small = h.sfits in record { sfits = omega (arith, small) }
+
+pub within_32 : (z : ℤ) → FitsSigned w32 z → FitsSigned w64 z
+within_32 z h = let small = h.sfits in record { sfits = omega (arith, small) }
+
+pub within_64 : (z : ℤ) → FitsSigned w64 z → FitsSigned w64 z
+within_64 z h = h
+
+-- ==== integers
+
+-- a number between the least and the greatest fits
+between : (w : Width) (k : ℕ) (z : ℤ) → 2 ^ hbits w ≡ k + 1 → negsuc k ≤ℤ z → z ≤ℤ pos k → FitsSigned w z
+between w k (pos n) e low high = record { sfits = omega (arith, ints, e, low, high) }
+between w k (negsuc n) e low high = record { sfits = omega (arith, ints, e, low, high) }
+
+at_least : (w : Width) (k : ℕ) (z : ℤ) → 2 ^ hbits w ≡ k + 1 → FitsSigned w z → negsuc k ≤ℤ z
+at_least w k (pos n) e h = omega (arith, ints)
+at_least w k (negsuc n) e h = let small = h.sfits in omega (arith, ints, e, small)
+
+at_most : (w : Width) (k : ℕ) (z : ℤ) → 2 ^ hbits w ≡ k + 1 → FitsSigned w z → z ≤ℤ pos k
+at_most w k (pos n) e h = let small = h.sfits in omega (arith, ints, e, small)
+at_most w k (negsuc n) e h = omega (arith, ints)
+
+-- a number between two of 64 bits is one
+pub inside : (min max z : ℤ) → FitsSigned w64 min → FitsSigned w64 max → min ≤ℤ z → z ≤ℤ max
+    → FitsSigned w64 z
+inside min (pos m) (pos n) lo hi a b = let s = hi.sfits in record { sfits = omega (arith, ints, s, b) }
+inside min (negsuc m) (pos n) lo hi a b = absurd (omega (arith, ints, b))
+inside (pos k) max (negsuc n) lo hi a b = absurd (omega (arith, ints, a))
+inside (negsuc k) max (negsuc n) lo hi a b = let s = lo.sfits in record { sfits = omega (arith, ints, s, a) }
+
+-- what is in the range of a width fits it
+pub range_fits : (w : Width) (min max z : ℤ) → IsRangeOf w min max → min ≤ℤ z → z ≤ℤ max → FitsSigned w z
+range_fits w (negsuc k) (pos n) z h low high =
+    between w n z h.1 (subst (λ j. negsuc j ≤ℤ z) h.0 low) high
+range_fits w (negsuc k) (negsuc n) z h low high = absurd h
+range_fits w (pos k) max z h low high = absurd h
+
+-- and what fits a width is in its range
+pub fits_range : (w : Width) (min max z : ℤ) → IsRangeOf w min max → FitsSigned w z → (min ≤ℤ z) × (z ≤ℤ max)
+fits_range w (negsuc k) (pos n) z h fits =
+    (subst (λ j. negsuc j ≤ℤ z) (sym h.0) (at_least w n z h.1 fits), at_most w n z h.1 fits)
+fits_range w (negsuc k) (negsuc n) z h fits = absurd h
+fits_range w (pos k) max z h fits = absurd h

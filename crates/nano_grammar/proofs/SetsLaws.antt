@@ -5,30 +5,27 @@ use Rattle.std.specs.FinMap.Entries.{is_sorted}
 use Rattle.std.proofs.Common.{sym, subst, ap}
 use Rattle.std.proofs.lemmas.List.{length-map}
 use Rattle.nano_text.specs.Place.{saturating_next}
-use Rattle.nano_value.specs.InOrder.{ascending_items}
-use Rattle.nano_value.specs.Legal.{BothOfPair, AllOfList}
-use Rattle.nano_value.specs.Meaning.{Meaning, usize_bound}
-use Rattle.nano_value.specs.MeaningOrder.{MeaningOrder, by_meaning}
-use Rattle.nano_meaning.proofs.MeaningOrderLaws.{by_meaning-orders}
-use Rattle.nano_value.specs.OrderedSets.{ordered_means, unordered}
+use Rattle.nano_value.specs.Sets.{ascending_items, LegalSet, AllOfSet, marked, item_set, set_means}
+use Rattle.nano_value.specs.Sets.{items_mean}
+use Rattle.nano_value.specs.Meaning.{BothOfPair, AllOfList, Meaning, usize_bound}
+use Rattle.nano_value.specs.Order.{MeaningOrder, by_meaning}
+use Rattle.nano_meaning.proofs.OrderLaws.{by_meaning-orders}
+use Rattle.nano_value.specs.Ordered.{ordered_means, unordered}
 use Rattle.nano_meaning.proofs.OrderedSetsLaws.{no_list_is_unordered, ordered_means-sets}
-use Rattle.nano_meaning.proofs.SetItemsLaws.{same_items, all_items, item_set-ascending}
-use Rattle.nano_value.specs.Sets.{LegalSet, AllOfSet, marked, item_set, set_means, items_mean}
+use Rattle.nano_meaning.proofs.SetsLaws.{same_items, all_items, item_set-ascending}
 use Rattle.nano_meaning.proofs.SetsLaws.{set_means-injective, all-marked}
 use Rattle.nano_value.specs.Tables.{last_values}
 use Rattle.nano_meaning.proofs.TablesLaws.{all_of_last_values}
-use Rattle.nano_grammar.specs.Cutting.{Cutting, IsValueText}
-use Rattle.nano_grammar.specs.Codec.{Codec}
+use Rattle.nano_grammar.specs.Tokens.{Cutting, IsValueText}
+use Rattle.nano_grammar.specs.Codec.{Codec, Grammar, IsEncoding, Encoding, AreBrackets, Canonical}
+use Rattle.nano_grammar.specs.Codec.{ListStyle}
 use Rattle.nano_grammar.proofs.ItemLaws.{each_is_encoded}
 use Rattle.nano_grammar.specs.Items.{ListPunctuation}
 use Rattle.nano_grammar.proofs.LayoutsLaws.{laid_out_same}
 use Rattle.nano_grammar.proofs.ListsLaws.{list_encoding, items_are_written, items_read_back}
 use Rattle.nano_grammar.proofs.ListsLaws.{each_is_sound}
-use Rattle.nano_grammar.specs.Encoding.{Grammar, IsEncoding, Encoding, AreBrackets}
 use Rattle.nano_grammar.proofs.EncodingLaws.{image_encoding}
-use Rattle.nano_grammar.specs.Canonical.{Canonical, ListStyle}
-use Rattle.nano_grammar.specs.Sets.{EncodesSet, set_text, set_tokens, items_of}
-use Rattle.nano_grammar.specs.Sets.{SoundSet}
+use Rattle.nano_grammar.specs.Lists.{EncodesSet, set_text, set_tokens, items_of, SoundSet}
 
 -- ---- the encoding
 

@@ -2,19 +2,17 @@
 use Rattle.std.specs.Prelude.{◌≡◌, ℕ, true, [], map, refl}
 use Rattle.std.specs.List.{AllByRecursion}
 use Rattle.std.proofs.Common.{sym, subst, append-nil}
-use Rattle.nano_grammar.specs.Cutting.{Cutting, IsValueText}
-use Rattle.nano_grammar.specs.Codec.{Codec}
-use Rattle.nano_grammar.specs.Encoding.{Grammar}
+use Rattle.nano_grammar.specs.Tokens.{Cutting, IsValueText}
+use Rattle.nano_grammar.specs.Codec.{Codec, Grammar}
 use Rattle.nano_grammar.proofs.LayoutsLaws.{laid_out_encoded, laid_out_written}
 use Rattle.nano_text.specs.Place.{saturating_next}
 use Rattle.nano_grammar.specs.Fields.{FieldStyle, EncodedField, Allowed, EncodedFields, either}
+use Rattle.nano_grammar.specs.Fields.{are_distinct}
 use Rattle.nano_grammar.proofs.StructLaws.{fields_of}
-use Rattle.nano_grammar.specs.Names.{are_distinct}
-use Rattle.nano_grammar.proofs.NamesLaws.{all_join, distinct_names}
-use Rattle.nano_grammar.specs.FieldCanonical.{field_tokens, field_text, fields_tokens}
-use Rattle.nano_grammar.specs.FieldCanonical.{fields_text}
-use Rattle.nano_grammar.proofs.FieldCanonicalLaws.{fields_canonical}
+use Rattle.nano_grammar.proofs.FieldReading.{all_join, distinct_names}
+use Rattle.nano_grammar.specs.FieldCodec.{field_tokens, field_text, fields_tokens, fields_text}
 use Rattle.nano_grammar.specs.FieldCodec.{named, IsKnown, AreNames, FieldsCodec}
+use Rattle.nano_grammar.proofs.FieldCodecLaws.{fields_canonical}
 
 module _ {T : Type 0} {c : Cutting T} {g : Grammar T} {s : FieldStyle c g} {A : Type 0}
     (f : FieldsCodec s A) where

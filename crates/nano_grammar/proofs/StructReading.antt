@@ -1,20 +1,17 @@
 -- What a reader of named fields knows at the head of the loop, and at its exits.
 use Rattle.std.proofs.Common.{◌≡◌, ◌≢◌, ◌<◌, ◌⊎◌, ℕ, List, [], ◌∷◌, ◌++◌, inl, inr, sym, subst}
 use Rattle.nano_value.specs.Meaning.{Meaning}
-use Rattle.nano_grammar.proofs.CutLaws.{CutLaws}
-use Rattle.nano_grammar.specs.Cutting.{Cutting}
+use Rattle.nano_grammar.proofs.TokensLaws.{CutLaws, same_end, tokens_left}
+use Rattle.nano_grammar.specs.Tokens.{Cutting, At, Leaves, Spans, DecodesToNothing}
 use Rattle.nano_grammar.specs.Items.{ListPunctuation, EncodedList}
-use Rattle.nano_grammar.specs.Encoding.{Grammar, IsEncoding}
-use Rattle.nano_grammar.specs.Tokens.{At, Leaves, Spans, DecodesToNothing}
+use Rattle.nano_grammar.specs.Codec.{Grammar, IsEncoding}
 use Rattle.nano_grammar.proofs.Containers.{ReadSoFar, read_start, item_shorter, read_next}
 use Rattle.nano_grammar.proofs.Containers.{read_found, read_open_rejected, read_item_rejected}
 use Rattle.nano_grammar.proofs.Containers.{read_comma_rejected, read_close_rejected}
 use Rattle.nano_grammar.proofs.PartReading.{CommaTaken}
-use Rattle.nano_grammar.proofs.Tokens.{same_end}
-use Rattle.nano_grammar.proofs.TokensLeft.{tokens_left}
 use Rattle.nano_grammar.specs.Fields.{FieldStyle, Field, Allowed, EncodedField, EncodedFields}
-use Rattle.nano_grammar.proofs.FieldLaws.{any_encoding, one_list, no_list_begins}
-use Rattle.nano_grammar.specs.Struct.{Struct}
+use Rattle.nano_grammar.specs.Fields.{Struct}
+use Rattle.nano_grammar.proofs.FieldsLaws.{any_encoding, one_list, no_list_begins}
 
 module _ {T : Type 0} {c : Cutting T} {g : Grammar T} (s : FieldStyle c g) (r : CutLaws c g)
     (struct : Struct T) where

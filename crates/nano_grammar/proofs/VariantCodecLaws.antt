@@ -8,22 +8,19 @@ use Rattle.nano_value.specs.Meaning.{Meaning, nothing}
 use Rattle.nano_meaning.proofs.MeaningLaws.{whole_injective, both_injective}
 use Rattle.nano_value.specs.Sums.{LegalFrom, tagged}
 use Rattle.nano_meaning.proofs.SumsLaws.{place_above}
-use Rattle.nano_grammar.specs.Cutting.{Cutting, IsValueText}
-use Rattle.nano_grammar.specs.Codec.{Codec}
-use Rattle.nano_grammar.specs.Encoding.{Grammar, BeginsValue, Encoding, StartsWith}
+use Rattle.nano_grammar.specs.Tokens.{Cutting, IsValueText}
+use Rattle.nano_grammar.specs.Codec.{Codec, Grammar, BeginsValue, Encoding, StartsWith}
 use Rattle.nano_grammar.proofs.EncodingLaws.{starts_after}
-use Rattle.nano_grammar.proofs.NamesLaws.{same_name}
-use Rattle.nano_grammar.specs.Variants.{VariantStyle, Variants, no_variants, unit_variant}
-use Rattle.nano_grammar.specs.Variants.{variant, has_name, names_differ, unit_named, found}
-use Rattle.nano_grammar.specs.Variants.{either_found, content_named, sums_of, EncodesFound}
-use Rattle.nano_grammar.specs.Variants.{EncodesFrom, EncodesVariant}
-use Rattle.nano_grammar.proofs.VariantLaws.{unit_has_name, other_name}
-use Rattle.nano_grammar.proofs.VariantLaws.{content_has_name, unit_is_legal, found_is_legal}
-use Rattle.nano_grammar.proofs.VariantLaws.{variants_of}
-use Rattle.nano_grammar.specs.VariantCanonical.{Body, encodings, Seen, tag_of, seen_means}
-use Rattle.nano_grammar.specs.VariantCanonical.{seen_text, seen_tokens, names_are_good}
-use Rattle.nano_grammar.proofs.VariantCanonicalLaws.{first_is_none_after, variants_canonical}
-use Rattle.nano_grammar.specs.VariantCodec.{SoundContent}
+use Rattle.nano_grammar.proofs.FieldReading.{same_name}
+use Rattle.nano_grammar.specs.Variants.{VariantStyle, Variants, no_variants, unit_variant, variant}
+use Rattle.nano_grammar.specs.Variants.{has_name, names_differ, unit_named, found, either_found}
+use Rattle.nano_grammar.specs.Variants.{content_named, sums_of, EncodesFound, EncodesFrom}
+use Rattle.nano_grammar.specs.Variants.{EncodesVariant}
+use Rattle.nano_grammar.proofs.VariantLaws.{unit_has_name, other_name, content_has_name}
+use Rattle.nano_grammar.proofs.VariantLaws.{unit_is_legal, found_is_legal, variants_of}
+use Rattle.nano_grammar.proofs.VariantLaws.{first_is_none_after, variants_canonical}
+use Rattle.nano_grammar.specs.VariantCodec.{Body, encodings, Seen, tag_of, seen_means, seen_text}
+use Rattle.nano_grammar.specs.VariantCodec.{seen_tokens, names_are_good, SoundContent}
 use Rattle.nano_grammar.proofs.OptionsLaws.{some_injective}
 
 -- ---- the laws of it

@@ -5,12 +5,11 @@ use Rattle.std.specs.Prelude.{◌≡◌, ℕ, suc, ◌&&◌, ◌||◌, not, Bool
 use Rattle.std.specs.Prelude.{bytes_eq}
 use Rattle.nano_value.specs.Meaning.{Meaning, nothing}
 use Rattle.nano_value.specs.Sums.{tagged}
-use Rattle.nano_grammar.specs.Cutting.{Cutting}
-use Rattle.nano_grammar.specs.Encoding.{Grammar, Encoding}
-use Rattle.nano_grammar.specs.Variants.{VariantStyle, Variants, no_variants, unit_variant}
-use Rattle.nano_grammar.specs.Variants.{variant, Closed, unit_named, content_named}
-use Rattle.nano_grammar.specs.Variants.{EncodesFound}
-use Rattle.nano_grammar.specs.VariantCanonical.{Body, Seen, seen_means, seen_text}
+use Rattle.nano_grammar.specs.Tokens.{Cutting}
+use Rattle.nano_grammar.specs.Codec.{Grammar, Encoding}
+use Rattle.nano_grammar.specs.Variants.{VariantStyle, Variants, no_variants, unit_variant, variant}
+use Rattle.nano_grammar.specs.Variants.{Closed, unit_named, content_named, EncodesFound}
+use Rattle.nano_grammar.specs.VariantCodec.{Body, Seen, seen_means, seen_text}
 use Rattle.nano_schema.specs.declared.choices.Either.{Either}
 use Rattle.nano_schema.specs.declared.choices.Either.TheVariants.{First, Later}
 

@@ -1,14 +1,15 @@
 -- Named fields, over any format's tokens: what they are encoded and written with, the fields
 -- of a text, the last one of a name, and what a shape of fields encodes.
 use Rattle.std.specs.Prelude.{◌≡◌, ℕ, ◌||◌, Bool, true, false, List, [], ◌∷◌, ◌++◌, Option, Some}
-use Rattle.std.specs.Prelude.{None, bytes_eq, if◌then◌else◌}
-use Rattle.nano_value.specs.Meaning.{Meaning, paired}
-use Rattle.nano_value.specs.Legal.{IsImage, BothOfPair}
+use Rattle.std.specs.Prelude.{None, bytes_eq, if◌then◌else◌, ◌&&◌, not, codes, ◌⊎◌}
+use Rattle.std.specs.List.{AllByRecursion, list_all}
+use Rattle.nano_value.specs.Meaning.{Meaning, paired, IsImage, BothOfPair}
 use Rattle.nano_grammar.specs.Items.{EncodedList}
-use Rattle.nano_grammar.specs.Cutting.{Cutting, IsValueText}
-use Rattle.nano_grammar.specs.Options.{NoneStyle}
-use Rattle.nano_grammar.specs.Encoding.{Grammar, AreBrackets, Encoding}
-use Rattle.nano_grammar.specs.Canonical.{ListStyle, PairStyle}
+use Rattle.nano_grammar.specs.Tokens.{Cutting, IsValueText, At, Leaves}
+use Rattle.nano_grammar.specs.Scalars.{NoneStyle}
+use Rattle.nano_grammar.specs.Codec.{Grammar, AreBrackets, Encoding, ListStyle, PairStyle, Codec}
+use Rattle.nano_grammar.specs.Variants.{VariantStyle, Variants, no_variants, unit_variant, variant}
+use Rattle.nano_grammar.specs.Choices.{is_named}
 
 -- how a format has named fields: the brackets and the comma, the colon, the token that carries
 -- a name, and what may come after an unknown name, of which nothing is a proper prefix of
@@ -113,3 +114,105 @@ both_fields a b = record {
   means = λ fs. IsImage paired (BothOfPair (a.means fs) (b.means (others a.knows fs)));
   legal = IsImage paired (BothOfPair a.legal b.legal);
 }
+
+-- ==== names
+
+-- no name stands twice: a test
+abbrev pub are_distinct : List (List ℕ) → Bool
+are_distinct [] = true
+are_distinct (name ∷ names) =
+    list_all (λ other. not (bytes_eq other name)) names && are_distinct names
+
+-- the name is another
+abbrev pub Differs : List ℕ → List ℕ → Type 0
+Differs name other = bytes_eq name other ≡ false
+
+-- no name stands twice
+abbrev pub AreDistinct : List (List ℕ) → Type 0
+AreDistinct [] = Unit {0}
+AreDistinct (name ∷ names) = AllByRecursion (λ other. Differs other name) names × AreDistinct names
+
+-- ==== names that no variant of an enum has, whatever the tokens are
+
+-- what the error for such a name says
+abbrev pub unknown_message : List ℕ → List ℕ
+unknown_message name = codes "Enum not defined " ++ name
+
+-- one of the variants has the name, and stands alone if the name stood alone and only then
+abbrev pub is_known_name : {C : Type 1} → Variants C → Bool → List ℕ → Bool
+is_known_name no_variants stood name = false
+is_known_name (unit_variant first others) stood name =
+    is_named stood true name first || is_known_name others stood name
+is_known_name (variant first content others) stood name =
+    is_named stood false name first || is_known_name others stood name
+
+module _ {T : Type 0} {c : Cutting T} {g : Grammar T} (s : VariantStyle c g) where
+  -- the tokens of a name that stands alone, or of one with content after it
+  abbrev pub tokens_of_name : Bool → List ℕ → List T
+  tokens_of_name true name = s.alone name
+  tokens_of_name false name = s.opened name
+
+  -- a name is here, with one more token or the end after it, and no variant that such tokens name
+  -- has it
+  pub record HasUnknownName (vs : Variants (Encoding g)) (start : At T) : Type 0 where
+    pub stood : Bool
+    pub name : List ℕ
+    pub after : At T
+    pub stands : Leaves c.cut (tokens_of_name stood name) start after
+    pub unknown : (alone : Bool) → Leaves c.cut (tokens_of_name alone name) start after
+        → is_known_name vs alone name ≡ false
+
+-- ==== what is read of the fields so far: a slot holds the last value of its name
+
+-- empty where no field has the name, else what the last one encodes
+abbrev pub Holds : {T : Type 0} → List ℕ → (List T → Meaning → Type 0) → Option Meaning
+    → List (Field T) → Type 0
+Holds name encodes None fs = last name fs ≡ None
+Holds name encodes (Some m) fs = LastEncodes name encodes fs m
+
+-- ==== a field that has a default where it is missing
+
+-- some tokens encode the meaning
+abbrev pub HasEncoding : {T : Type 0} → (List T → Meaning → Type 0) → Meaning → Type 0
+HasEncoding {T} encodes m = (ts : List T) × encodes ts m
+
+-- each value that means the default is sound
+abbrev pub IsSoundDefault : {T : Type 0} {c : Cutting T} {g : Grammar T} {A : Type 0}
+    → Codec c g A → Meaning → Type 0
+IsSoundDefault {A = A} f missing = (x : A) → f.canonical.means x ≡ missing → f.sound x
+
+module _ {T : Type 0} {g : Grammar T} (name : List ℕ) (s : Encoding g) (missing : Meaning) where
+  -- no field has the name, and the meaning is the default, which has an encoding
+  abbrev pub IsMissing : List (Field T) → Meaning → Type 0
+  IsMissing fs m = (last name fs ≡ None) × ((m ≡ missing) × HasEncoding s.encodes m)
+
+  -- a field that may be missing, which means the default then; where it is there, the last of its
+  -- name counts
+  abbrev pub defaulted_field : Shape T
+  defaulted_field = record {
+    knows = λ n. bytes_eq n name;
+    takes = λ n us. (m : Meaning) × s.encodes us m;
+    means = λ fs m. IsMissing fs m ⊎ LastEncodes name s.encodes fs m;
+    legal = s.legal;
+  }
+
+-- ==== the laws of named fields
+
+-- of what may come after a name, nothing is a proper prefix of another
+abbrev pub Apart : {T : Type 0} → (List ℕ → List T → Type 0) → Type 0
+Apart {T} takes = (name : List ℕ) (us more : List T)
+    → takes name us → takes name (us ++ more) → more ≡ []
+
+-- what comes after a name can be distinguished, a list of fields means one thing, and what it
+-- means is legal
+pub record IsShape {T : Type 0} (shape : Shape T) : Type 0 where
+  pub apart : Apart shape.takes
+  pub one : (fs : List (Field T)) (m n : Meaning) → shape.means fs m → shape.means fs n → m ≡ n
+  pub is_legal : (fs : List (Field T)) (m : Meaning) → shape.means fs m → shape.legal m
+
+-- ==== named fields with their laws: what encodes a user-defined struct
+
+-- the fields of a struct, with their laws
+pub record Struct (T : Type 0) : Type 1 where
+  pub shape : Shape T
+  pub laws : IsShape shape

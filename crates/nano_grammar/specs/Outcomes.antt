@@ -1,14 +1,46 @@
 -- What one call of a reader of text comes to, over any tokens: what was taken and how far that
 -- goes, or why nothing was and where that was found.
-use Rattle.std.specs.Prelude.{◌≡◌, ◌≢◌, ◌⊎◌, true, false, ℕ, Bool, List, [], ◌∷◌, Result}
-use Rattle.std.specs.Prelude.{MatchResult, ◌↔◌, chars}
+use Rattle.std.specs.Prelude.{◌≡◌, ◌≢◌, ◌⊎◌, ℕ, List, [], ◌∷◌, ◌++◌, chars, codes, true, false}
+use Rattle.std.specs.Prelude.{Bool, Result, MatchResult, ◌↔◌}
 use Rattle.std.specs.declared.str.Chars.{Chars}
+use Rattle.nano_text.specs.Place.{remaining_text, Advances, Moves, StandsIn}
+use Rattle.nano_grammar.specs.Tokens.{Begins, At, Leaves, Spans, DecodesToNothing, TextDecodesTo}
+use Rattle.nano_grammar.specs.Tokens.{TextDecodesToNothing}
 use Rattle.nano_text.specs.declared.place.Place.{Place}
-use Rattle.nano_text.specs.Place.{Advances, Moves, remaining_text}
-use Rattle.nano_text.specs.PlaceInText.{StandsIn}
-use Rattle.nano_grammar.specs.Tokens.{At, Leaves, Spans, DecodesToNothing}
-use Rattle.nano_grammar.specs.Tokens.{TextDecodesTo, TextDecodesToNothing}
-use Rattle.nano_grammar.specs.Whole.{WholeDecodesTo, WholeDecodesToNothing, GoesOn, end_message}
+
+-- ==== whole inputs
+
+-- a NUL stands in the text
+abbrev pub HoldsNul : List ℕ → Type 0
+HoldsNul bytes = (prefix following : List ℕ) × (chars bytes ≡ prefix ++ 0 ∷ following)
+
+-- the message of the error where a value decodes, and more comes after it
+abbrev pub end_message : List ℕ
+end_message = codes "Cannot parse end "
+
+module _ {T V : Type 0} (cut : List ℕ → T → List ℕ → Type 0) (encodes : List T → V → Type 0) where
+  -- an encoding of the value begins the text, with this token after it
+  abbrev pub DecodesBefore : T → List ℕ → V → Type 0
+  DecodesBefore next text value =
+      (ts : List T) × encodes ts value × Begins cut (ts ++ next ∷ []) text
+
+  -- the whole input encodes the value: the end comes after it, and there is no NUL anywhere
+  pub record WholeDecodesTo (end : T) (bytes : List ℕ) (value : V) : Type 0 where
+    pub fits : DecodesBefore end (remaining_text bytes) value
+    pub no_nul : ¬ HoldsNul bytes
+
+  -- a value decodes, and a token other than the end, or a NUL, comes after it
+  pub record GoesOn (end : T) (bytes : List ℕ) : Type 0 where
+    pub value : V
+    pub next : T
+    pub fits : DecodesBefore next (remaining_text bytes) value
+    pub more : (next ≢ end) ⊎ HoldsNul bytes
+
+  -- the whole input encodes no value
+  abbrev pub WholeDecodesToNothing : T → List ℕ → Type 0
+  WholeDecodesToNothing end bytes = (value : V) → WholeDecodesTo end bytes value → ⊥
+
+-- ==== outcomes
 
 -- what an error says
 pub record Report : Type 0 where

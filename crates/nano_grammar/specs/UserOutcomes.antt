@@ -5,14 +5,13 @@ use Rattle.std.specs.declared.str.Chars.{Chars}
 use Rattle.nano_value.specs.Meaning.{Meaning}
 use Rattle.nano_text.specs.declared.place.Place.{Place}
 use Rattle.nano_text.specs.Place.{text_at, Moves}
-use Rattle.nano_grammar.specs.Cutting.{Cutting}
-use Rattle.nano_grammar.specs.Encoding.{Grammar, Encoding}
+use Rattle.nano_grammar.specs.Tokens.{Cutting, At, Leaves, Spans, DecodesToNothing}
+use Rattle.nano_grammar.specs.Codec.{Grammar, Encoding}
 use Rattle.nano_grammar.specs.Outcomes.{Report, IsMadeAt, Position, Moved, Fails, Read, ReadsNone}
 use Rattle.nano_grammar.specs.Outcomes.{ReadsNoneAndEnds}
-use Rattle.nano_grammar.specs.Tokens.{At, Leaves, Spans, DecodesToNothing}
 use Rattle.nano_grammar.specs.Choices.{EncodesAfter}
-use Rattle.nano_grammar.specs.Fields.{FieldStyle, Field, Shape, EncodedFields}
-use Rattle.nano_grammar.specs.UnknownNames.{unknown_message, is_known_name, HasUnknownName}
+use Rattle.nano_grammar.specs.Fields.{FieldStyle, Field, Shape, EncodedFields, unknown_message}
+use Rattle.nano_grammar.specs.Fields.{is_known_name, HasUnknownName}
 use Rattle.nano_grammar.specs.Variants.{VariantStyle, Variants, EncodesVariant}
 
 -- ---- errors

@@ -4,12 +4,11 @@
 -- content. No two variants have one name.
 use Rattle.std.specs.Prelude.{◌≡◌, ◌⊎◌, ℕ, suc, ◌&&◌, ◌||◌, not, Bool, true, false, List, ◌++◌}
 use Rattle.std.specs.Prelude.{Option, Some, None, bytes_eq, cond}
-use Rattle.nano_value.specs.Legal.{IsImage, LegalUnit}
-use Rattle.nano_value.specs.Meaning.{Meaning, nothing}
+use Rattle.nano_value.specs.Meaning.{IsImage, LegalUnit, Meaning, nothing}
 use Rattle.nano_value.specs.Sums.{Variants as Sums, no_variants as no_sums, variant as sum}
 use Rattle.nano_value.specs.Sums.{LegalVariant, tagged}
-use Rattle.nano_grammar.specs.Cutting.{Cutting, IsValueText}
-use Rattle.nano_grammar.specs.Encoding.{Grammar, BeginsValue, Encoding}
+use Rattle.nano_grammar.specs.Tokens.{Cutting, IsValueText}
+use Rattle.nano_grammar.specs.Codec.{Grammar, BeginsValue, Encoding}
 
 -- how a format has variants: a name alone; and with content, what comes before the content and
 -- after it. Some names can be written, and some texts can be content

@@ -1,7 +1,7 @@
 //! Laws of the definitions that the formats' contracts cite, each proved once for every cut and
 //! every encoding: each function does nothing, and its contract is the law.
-ghost use Rattle.nano_grammar.specs.Promises.{TakenTokensBegin, DecodesWhereTextBegins};
-ghost use Rattle.nano_grammar.specs.Promises.{SpansOnce, ListsAreJoined};
+ghost use Rattle.nano_grammar.specs.Promises.{TakenTokensBegin, DecodesWhereTextBegins, SpansOnce};
+ghost use Rattle.nano_grammar.specs.Promises.{ListsAreJoined};
 
 /// Any way to cut a text into tokens `T`, to encode values `V` by them, and to punctuate lists.
 pub trait AnyCodec<T, V> {

@@ -2,7 +2,7 @@
 
 ghost use Rattle.std.specs.Prelude.{◌≡◌, ◌≢◌, string_bytes, codes};
 ghost use Rattle.std.specs.Bool.{MatchBool};
-ghost use Rattle.nano_grammar.specs.Whole.{HoldsNul, end_message};
+ghost use Rattle.nano_grammar.specs.Outcomes.{HoldsNul, end_message};
 
 /// Whether a NUL stands anywhere in the text.
 pub fn holds_nul(text: &str) -> bool

@@ -4,7 +4,7 @@
 
 ghost use Rattle.nano_value.specs.Meaning.{truth, nothing};
 ghost use Rattle.nano_meaning.proofs.AgreesLaws.{agreed};
-ghost use Rattle.nano_json.specs.BoolCodecs.{booleans, units, boolean_codec, unit_codec};
+ghost use Rattle.nano_json.specs.ScalarCodecs.{booleans, units, boolean_codec, unit_codec};
 ghost use Rattle.nano_json.specs.Outcomes.{position, Reads};
 
 use crate::traits::{DeJson, JsonCodec, SerJson};

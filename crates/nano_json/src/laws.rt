@@ -5,12 +5,12 @@ ghost use Rattle.nano_value.specs.Meaning.{Meaning};
 ghost use Rattle.nano_value.specs.Sets.{item_set};
 ghost use Rattle.nano_value.specs.Tables.{table_of};
 ghost use Rattle.nano_json.specs.Cut.{Cut};
-ghost use Rattle.nano_json.specs.Items.{OneValue};
-ghost use Rattle.nano_json.specs.SameText.{EntriesDecideText, ItemsDecideText};
-ghost use Rattle.nano_json.specs.Encoding.{BeginsValue, StartsWith};
+ghost use Rattle.nano_grammar.specs.Items.{OneValue};
+ghost use Rattle.nano_json.specs.Readers.{EntriesDecideText, ItemsDecideText};
+ghost use Rattle.nano_json.specs.Codec.{BeginsValue, StartsWith};
 ghost use Rattle.nano_json.specs.Token.{Token, null, end};
-ghost use Rattle.nano_json.specs.Tokens.{At, Cuts, DecodesTo, NoneBeginsAnother};
-ghost use Rattle.nano_json.specs.Whole.{WholeDecodesTo};
+ghost use Rattle.nano_grammar.specs.Tokens.{At, Cuts, DecodesTo, NoneBeginsAnother};
+ghost use Rattle.nano_grammar.specs.Outcomes.{WholeDecodesTo};
 ghost use Rattle.nano_json.specs.Written.{MayFollow};
 
 use crate::traits::{BothJson, JsonCodec};

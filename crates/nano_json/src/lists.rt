@@ -5,9 +5,8 @@ ghost use Rattle.nano_value.specs.Meaning.{listed};
 ghost use Rattle.nano_meaning.proofs.AgreesLaws.{seen_agrees, list_agrees, array_agrees};
 ghost use Rattle.nano_json.specs.Codec.{codec_as};
 ghost use Rattle.nano_text.specs.Outcomes.{Appends, AppendsPart};
-ghost use Rattle.nano_json.specs.ListCodecs.{array_of, list_codec};
+ghost use Rattle.nano_json.specs.ContainerCodecs.{array_of, list_codec, array_codec};
 ghost use Rattle.nano_json.specs.Lists.{in_list, written_list, EncodesAll};
-ghost use Rattle.nano_json.specs.ListCodecs.{array_codec};
 ghost use Rattle.nano_json.specs.Outcomes.{position, Reads};
 
 use crate::traits::{DeJson, JsonCodec, SerJson};

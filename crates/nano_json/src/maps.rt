@@ -5,9 +5,9 @@ ghost use Rattle.std.specs.Prelude.{OnOk, OnErr, map};
 ghost use Rattle.nano_value.specs.Meaning.{pair_map};
 ghost use Rattle.nano_meaning.proofs.AgreesLaws.{seen_agrees, map_agrees};
 ghost use Rattle.nano_json.specs.Codec.{codec_as};
-ghost use Rattle.nano_json.specs.Lists.{in_list};
-ghost use Rattle.nano_json.specs.Maps.{EncodesAllEntries, EncodesEntry, written_entry, written_entries};
-ghost use Rattle.nano_json.specs.MapCodecs.{map_codec};
+ghost use Rattle.nano_json.specs.Lists.{in_list, EncodesAllEntries, EncodesEntry, written_entry};
+ghost use Rattle.nano_json.specs.Lists.{written_entries};
+ghost use Rattle.nano_json.specs.ContainerCodecs.{map_codec};
 ghost use Rattle.nano_text.specs.Outcomes.{Appends, AppendsPart};
 ghost use Rattle.nano_json.specs.Outcomes.{position, Reads};
 

@@ -1,7 +1,7 @@
 //! Options: `null`, or the item.
 
 ghost use Rattle.nano_meaning.proofs.AgreesLaws.{option_agrees};
-ghost use Rattle.nano_json.specs.OptionCodecs.{option_codec};
+ghost use Rattle.nano_json.specs.ContainerCodecs.{option_codec};
 
 use crate::traits::{DeJson, JsonCodec, SerJson};
 use nano_json_tokens::{DeJsonErr, DeJsonState, SerJsonState};

@@ -4,8 +4,8 @@
 ghost use Rattle.std.specs.Prelude.{OnOk, OnErr};
 ghost use Rattle.nano_meaning.proofs.AgreesLaws.{seen_agrees, ordered_map_agrees};
 ghost use Rattle.nano_json.specs.Codec.{codec_as};
-ghost use Rattle.nano_json.specs.Maps.{written_entries};
-ghost use Rattle.nano_json.specs.MapCodecs.{ordered_map_codec};
+ghost use Rattle.nano_json.specs.Lists.{written_entries};
+ghost use Rattle.nano_json.specs.ContainerCodecs.{ordered_map_codec};
 ghost use Rattle.nano_text.specs.Outcomes.{Appends, AppendsPart};
 
 use crate::maps::{append_entry, read_entries};

@@ -6,7 +6,7 @@ ghost use Rattle.nano_meaning.proofs.AgreesLaws.{seen_agrees, set_agrees, ordere
 ghost use Rattle.nano_json.specs.Codec.{codec_as};
 ghost use Rattle.nano_json.specs.Lists.{written_list};
 ghost use Rattle.nano_text.specs.Outcomes.{Appends, AppendsPart};
-ghost use Rattle.nano_json.specs.SetCodecs.{set_codec, ordered_codec};
+ghost use Rattle.nano_json.specs.ContainerCodecs.{set_codec, ordered_codec};
 
 use crate::lists::{append_item, read_list};
 use crate::traits::{DeJson, JsonCodec, SerJson};

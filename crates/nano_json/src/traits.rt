@@ -7,7 +7,7 @@ use std::str::Chars;
 
 /// A type that has a JSON codec. A type that is only written has one too.
 pub trait JsonCodec: Value {
-    ghost use Rattle.nano_value.specs.Agrees.{Agrees};
+    ghost use Rattle.nano_value.specs.Meaning.{Agrees};
     ghost use Rattle.nano_json.specs.Codec.{Codec};
 
     /// The canonical text of each value, the tokens that it is cut into, and which tokens

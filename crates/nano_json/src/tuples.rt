@@ -6,8 +6,8 @@ ghost use Rattle.nano_value.specs.Meaning.{paired};
 ghost use Rattle.nano_meaning.proofs.AgreesLaws.{seen_agrees, pair_agrees};
 ghost use Rattle.nano_text.specs.Outcomes.{Appends, AppendsPart};
 ghost use Rattle.nano_json.specs.Outcomes.{position, Reads};
-ghost use Rattle.nano_json.specs.TupleCodecs.{last_codec, two_parts, three_parts, four_parts};
-ghost use Rattle.nano_json.specs.TupleCodecs.{pair_codec, triple_codec, quadruple_codec};
+ghost use Rattle.nano_json.specs.ContainerCodecs.{last_codec, two_parts, three_parts, four_parts};
+ghost use Rattle.nano_json.specs.ContainerCodecs.{pair_codec, triple_codec, quadruple_codec};
 
 use crate::traits::{DeJson, JsonCodec, SerJson};
 use nano_json_tokens::{DeJsonErr, DeJsonState, SerJsonState, end_on_error};

@@ -6,8 +6,8 @@ ghost use Rattle.std.specs.Prelude.{◌≡◌, ◌+◌, ◌^◌};
 ghost use Rattle.nano_value.specs.Meaning.{whole};
 ghost use Rattle.nano_meaning.proofs.AgreesLaws.{agreed};
 ghost use Rattle.nano_json.specs.Outcomes.{position, Reads};
-ghost use Rattle.nano_json.specs.NumberCodecs.{unsigned, unsigned_codec, below_8, below_16, below_32};
-ghost use Rattle.nano_json.specs.NumberCodecs.{below_64};
+ghost use Rattle.nano_json.specs.ScalarCodecs.{unsigned, unsigned_codec, below_8, below_16};
+ghost use Rattle.nano_json.specs.ScalarCodecs.{below_32, below_64};
 
 use crate::traits::{DeJson, JsonCodec, SerJson};
 use nano_json_tokens::{DeJsonErr, DeJsonState, SerJsonState, end_on_error};

@@ -1,25 +1,24 @@
 -- What the calls come to that go on to the name of a field, which is pending then or was taken in place.
-use Rattle.std.proofs.Common.{◌≡◌, ◌≢◌, ℕ, List, [], ◌∷◌, Bool, true, false, Option, Some, None, MatchOption, Bor, string_bytes}
-use Rattle.std.proofs.Common.{inl, inr, refl, sym, ◌∙◌, ap, subst}
+use Rattle.std.proofs.Common.{◌≡◌, ◌≢◌, ℕ, List, [], ◌∷◌, Bool, true, false, Option, Some, None}
+use Rattle.std.proofs.Common.{MatchOption, Bor, string_bytes, inl, inr, refl, sym, ◌∙◌, ap, subst}
 use Rattle.std.specs.Option.{is_some}
 use Rattle.std.specs.declared.str.Chars.{Chars}
 use Rattle.nano_text.specs.Place.{remaining}
 use Rattle.nano_text.proofs.PlaceLaws.{moves_append}
 use Rattle.nano_grammar.specs.Outcomes.{Position, Moved, Report, Fails, TookNext, Took, TookComma}
 use Rattle.nano_grammar.specs.Tokens.{At, Leaves}
-use Rattle.nano_grammar.proofs.Outcomes.{fails_as, fails_after}
-use Rattle.nano_grammar.proofs.Tokens.{leaves_append, leaves_split}
-use Rattle.nano_grammar.proofs.TokenCalls.{one_end, left_after}
+use Rattle.nano_grammar.proofs.TokenCalls.{fails_as, fails_after, one_end, left_after}
+use Rattle.nano_grammar.proofs.TokensLaws.{leaves_append, leaves_split}
 use Rattle.nano_json_tokens.specs.Cut.{Cut}
-use Rattle.nano_json_tokens.specs.Names.{NoName, TookName}
+use Rattle.nano_json_tokens.specs.Scan.{NoName, TookName}
 use Rattle.nano_json_tokens.specs.Outcomes.{position, NoneHere}
 use Rattle.nano_json_tokens.specs.State.{at, pending, token_of, KeepsBuffers, KeepsOtherBuffers}
 use Rattle.nano_json_tokens.specs.Token.{Token, str, colon, comma, curly_close, IsStr}
 use Rattle.nano_json_tokens.specs.declared.state.DeJsonState.{DeJsonState}
 use Rattle.nano_json_tokens.proofs.Cuts.{cut_one_way, cut_spaced}
-use Rattle.nano_json_schema.specs.NameReading.{name_bytes, GoesOn, ReachedName, NoNameAfter, TakesNameAfter}
-use Rattle.nano_json_schema.specs.NameReading.{TookColon, NoColonAfter}
-use Rattle.nano_json_schema.proofs.Pending.{pending_name}
+use Rattle.nano_json_schema.specs.Reading.{name_bytes, GoesOn, ReachedName, NoNameAfter}
+use Rattle.nano_json_schema.specs.Reading.{TakesNameAfter, TookColon, NoColonAfter}
+use Rattle.nano_json_schema.proofs.Calls.{pending_name}
 
 -- ---- a name that was taken in place
 

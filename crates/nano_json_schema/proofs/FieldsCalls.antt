@@ -1,27 +1,28 @@
 -- What the calls that read named fields come to: at the head of the loop, after a turn, and at each exit.
-use Rattle.std.proofs.Common.{◌≡◌, ◌≢◌, ◌<◌, ◌≤◌, ℕ, List, [], ◌∷◌, ◌++◌, true, false, Option, Some, None, Bor}
-use Rattle.std.proofs.Common.{inl, inr, refl, sym, ◌∙◌, ap, subst, arith}
+use Rattle.std.proofs.Common.{◌≡◌, ◌≢◌, ◌<◌, ◌≤◌, ℕ, List, [], ◌∷◌, ◌++◌, true, false, Option, Some}
+use Rattle.std.proofs.Common.{None, Bor, inl, inr, refl, sym, ◌∙◌, ap, subst, arith}
 use Rattle.nano_text.proofs.PlaceLaws.{moves_append}
 use Rattle.nano_grammar.specs.Outcomes.{Position, Moved, Report, Fails, Took, ReadsNone}
 use Rattle.nano_grammar.specs.Tokens.{At, Leaves}
-use Rattle.nano_grammar.proofs.Outcomes.{fails_as, fails_after}
-use Rattle.nano_grammar.proofs.Tokens.{leaves_append, leaves_split}
-use Rattle.nano_grammar.proofs.TokensLeft.{tokens_left, leaves_shorter, token_shorter}
+use Rattle.nano_grammar.proofs.TokenCalls.{fails_as, fails_after}
+use Rattle.nano_grammar.proofs.TokensLaws.{leaves_append, leaves_split, tokens_left, leaves_shorter}
+use Rattle.nano_grammar.proofs.TokensLaws.{token_shorter}
 use Rattle.nano_grammar.specs.UserOutcomes.{ReadField, NoField, HeldFields}
-use Rattle.nano_grammar.specs.Struct.{Struct}
+use Rattle.nano_grammar.specs.Fields.{Struct}
 use Rattle.nano_grammar.proofs.FieldReading.{field_after, no_field_after}
-use Rattle.nano_grammar.proofs.StructReading.{FieldsSoFar, fields_start, fields_next, struct_found, struct_missing}
-use Rattle.nano_grammar.proofs.StructReading.{struct_open_rejected, struct_field_rejected}
-use Rattle.nano_grammar.proofs.StructReading.{struct_comma_rejected, struct_close_rejected}
+use Rattle.nano_grammar.proofs.StructReading.{FieldsSoFar, fields_start, fields_next, struct_found}
+use Rattle.nano_grammar.proofs.StructReading.{struct_missing, struct_open_rejected}
+use Rattle.nano_grammar.proofs.StructReading.{struct_field_rejected, struct_comma_rejected}
+use Rattle.nano_grammar.proofs.StructReading.{struct_close_rejected}
 use Rattle.nano_json_tokens.specs.Cut.{Cut}
 use Rattle.nano_json_tokens.specs.Token.{Token, str, colon, comma, curly_open, curly_close}
 use Rattle.nano_json.proofs.Json.{json_laws}
-use Rattle.nano_json_schema.specs.FieldReading.{Field, Shape, Allowed, EncodesFields}
+use Rattle.nano_json_schema.specs.Reading.{Field, Shape, Allowed, EncodesFields, name_bytes}
+use Rattle.nano_json_schema.specs.Reading.{StandsAfter, GoesOn, ReachedName, TookColon, TookField}
+use Rattle.nano_json_schema.specs.Reading.{NoColonAfter, NoFieldAfter}
 use Rattle.nano_json_schema.specs.FieldCodecs.{json_fields}
-use Rattle.nano_json_schema.specs.NameReading.{name_bytes, StandsAfter, GoesOn, ReachedName, TookColon, TookField}
-use Rattle.nano_json_schema.specs.NameReading.{NoColonAfter, NoFieldAfter}
-use Rattle.nano_json_schema.specs.Punctuation.{is_str}
-use Rattle.nano_json_schema.proofs.Pending.{name_goes_on, no_name_pending, closes_or_not}
+use Rattle.nano_json_schema.specs.Outcomes.{is_str}
+use Rattle.nano_json_schema.proofs.Calls.{name_goes_on, no_name_pending, closes_or_not}
 
 -- ---- one field
 

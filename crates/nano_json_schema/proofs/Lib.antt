@@ -1,10 +1,6 @@
-pub mod Pending
 pub mod Calls
 pub mod WrittenFields
 pub mod VariantReaders
-pub mod ChoiceReaders
-pub mod ChoiceCalls
 pub mod VariantCalls
 pub mod FieldNames
 pub mod FieldsCalls
-pub mod UnknownNames

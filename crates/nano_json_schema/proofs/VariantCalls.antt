@@ -1,6 +1,6 @@
 -- What the calls that read an enum come to whose reader matches the names by hand.
-use Rattle.std.proofs.Common.{◌≡◌, ◌≢◌, ℕ, List, [], ◌∷◌, ◌++◌, Some, None, false, bytes_eq, get_or, length, inl, inr}
-use Rattle.std.proofs.Common.{refl, sym, ◌∙◌, ap, subst, arith}
+use Rattle.std.proofs.Common.{◌≡◌, ◌≢◌, ℕ, List, [], ◌∷◌, ◌++◌, Some, None, false, bytes_eq, get_or}
+use Rattle.std.proofs.Common.{length, inl, inr, refl, sym, ◌∙◌, ap, subst, arith}
 use Rattle.std.proofs.lemmas.Bool.{false_from_ne_true}
 use Rattle.std.proofs.lemmas.Slice.Eq.{bytes_eq-Decides}
 use Rattle.std.specs.declared.str.Chars.{Chars}
@@ -9,9 +9,10 @@ use Rattle.nano_value.specs.Meaning.{Meaning, nothing}
 use Rattle.nano_value.specs.Sums.{tagged}
 use Rattle.nano_grammar.specs.Outcomes.{Position, Report, Read, ReadsNoneAndEnds, Took}
 use Rattle.nano_grammar.specs.Tokens.{DecodesToNothing}
-use Rattle.nano_grammar.proofs.Outcomes.{fails_after, fails_ended}
-use Rattle.nano_grammar.proofs.Tokens.{leaves_append}
-use Rattle.nano_grammar.specs.Variants.{unit_named, content_named, Found, nobody, found, EncodesFound}
+use Rattle.nano_grammar.proofs.TokenCalls.{fails_after, fails_ended}
+use Rattle.nano_grammar.proofs.TokensLaws.{leaves_append}
+use Rattle.nano_grammar.specs.Variants.{unit_named, content_named, Found, nobody, found}
+use Rattle.nano_grammar.specs.Variants.{EncodesFound}
 use Rattle.nano_json_tokens.specs.Cut.{Cut}
 use Rattle.nano_json_tokens.specs.Outcomes.{position, report}
 use Rattle.nano_json_tokens.specs.State.{at, ended}
@@ -19,9 +20,9 @@ use Rattle.nano_json_tokens.specs.Token.{Token}
 use Rattle.nano_json_tokens.specs.declared.error.DeJsonErr.{DeJsonErr}
 use Rattle.nano_json_tokens.specs.declared.state.DeJsonState.{DeJsonState}
 use Rattle.nano_json_tokens.proofs.Calling.{gives_up}
-use Rattle.nano_json.specs.Encoding.{Encoding}
-use Rattle.nano_json_schema.specs.UnknownNames.{GivesUnknown}
-use Rattle.nano_json_schema.specs.VariantReading.{Encodings, EncodesVariant, Closed}
+use Rattle.nano_json.specs.Codec.{Encoding}
+use Rattle.nano_json_schema.specs.Outcomes.{GivesUnknown}
+use Rattle.nano_json_schema.specs.Reading.{Encodings, EncodesVariant, Closed}
 use Rattle.nano_json_schema.specs.Variants.{alone, opened}
 use Rattle.nano_json_schema.specs.VariantCodecs.{json_variants}
 use Rattle.nano_json_schema.proofs.VariantReaders.{unit_unknown, content_unknown, content_missing}

@@ -2,14 +2,13 @@
 use Rattle.std.proofs.Common.{◌≡◌, ℕ, Bool, true, false, cond, List, [], ◌∷◌, ◌++◌, IsUtf8, chars}
 use Rattle.std.proofs.Common.{encode_utf8_all, refl, sym, ◌∙◌, ap, append_assoc, append-nil, lit<}
 use Rattle.std.proofs.lemmas.Str.{encodes-append, encode_ascii, encodes-chars}
-use Rattle.nano_grammar.specs.Layouts.{no_gaps, laid_out, after_item}
-use Rattle.nano_grammar.specs.FieldCanonical.{WrittenField, field_text, fields_text}
+use Rattle.nano_grammar.specs.Items.{no_gaps, laid_out, after_item}
+use Rattle.nano_grammar.specs.FieldCodec.{WrittenField, field_text, fields_text}
 use Rattle.nano_text.specs.Place.{saturating_next}
-use Rattle.nano_json_tokens.specs.Brackets.{curly_punctuation}
-use Rattle.nano_json_tokens.specs.Token.{Token}
+use Rattle.nano_json_tokens.specs.Token.{curly_punctuation, Token}
 use Rattle.nano_json_schema.specs.FieldCodecs.{json_fields}
-use Rattle.nano_json_schema.specs.FieldTexts.{after_comma, in_a_row, none_yet}
-use Rattle.nano_json_schema.specs.Names.{quoted_name}
+use Rattle.nano_json_schema.specs.Outcomes.{after_comma, in_a_row, none_yet}
+use Rattle.nano_json_tokens.specs.Names.{quoted_name}
 
 -- the bytes of a name between quotes, a colon and a value
 pub field_bytes : (name text : List ℕ) → IsUtf8 name

@@ -1,18 +1,14 @@
 -- Which defaults that hold nothing are sound.
 use Rattle.std.specs.declared.cmp.Ordering.{Ordering}
 use Rattle.nano_value.specs.Meaning.{nothing}
-use Rattle.nano_value.specs.MeaningOrder.{MeaningOrder}
-use Rattle.nano_grammar.specs.Defaults.{IsSoundDefault}
-use Rattle.nano_grammar.proofs.EmptyDefaultsLaws.{encoded_default, none_default}
-use Rattle.nano_grammar.proofs.EmptyDefaultsLaws.{no_list, no_map, no_set}
+use Rattle.nano_value.specs.Order.{MeaningOrder}
+use Rattle.nano_grammar.specs.Fields.{IsSoundDefault}
+use Rattle.nano_grammar.proofs.DefaultsLaws.{encoded_default, none_default, no_list, no_map, no_set}
 use Rattle.nano_json.specs.Codec.{Codec}
-use Rattle.nano_json.specs.MapCodecs.{map_codec, ordered_map_codec}
-use Rattle.nano_json.specs.OptionCodecs.{option_codec}
-use Rattle.nano_json.specs.SetCodecs.{set_codec, ordered_codec}
-use Rattle.nano_json.specs.ListCodecs.{list_codec}
-use Rattle.nano_json_tokens.specs.Brackets.{blocks, curlies}
+use Rattle.nano_json.specs.ContainerCodecs.{map_codec, ordered_map_codec, option_codec, set_codec}
+use Rattle.nano_json.specs.ContainerCodecs.{ordered_codec, list_codec}
+use Rattle.nano_json_tokens.specs.Token.{blocks, curlies, colon}
 use Rattle.nano_json_tokens.proofs.JsonLaws.{block_brackets, curly_brackets, null_style}
-use Rattle.nano_json_tokens.specs.Token.{colon}
 
 -- an absent item
 pub none_is_sound : {A : Type 0} (f : Codec A) → IsSoundDefault (option_codec f) nothing

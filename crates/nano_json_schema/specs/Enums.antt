@@ -2,7 +2,7 @@
 use Rattle.std.specs.Prelude.{◌≡◌, true}
 use Rattle.std.proofs.Common.{sym}
 use Rattle.nano_grammar.specs.Variants.{names_differ}
-use Rattle.nano_grammar.specs.VariantCanonical.{names_are_good}
+use Rattle.nano_grammar.specs.VariantCodec.{names_are_good}
 use Rattle.nano_json.specs.Codec.{Codec, codec_as}
 use Rattle.nano_json_schema.specs.VariantCodecs.{json_variants}
 use Rattle.nano_grammar.specs.Choices.{ChoiceCodec}

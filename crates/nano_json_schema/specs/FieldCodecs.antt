@@ -1,23 +1,30 @@
 -- Named fields in JSON: between braces, with their names as they are between quotes. A
 -- field whose name is not known is passed over.
-use Rattle.std.specs.Prelude.{◌≡◌, ℕ, true, List, Option}
+use Rattle.std.specs.Prelude.{◌≡◌, ℕ, true, List, Option, ℤ, String, string_bytes}
+use Rattle.std.specs.Global.{Global}
+use Rattle.std.specs.Int.{w8, w16, w32, w64}
 use Rattle.nano_value.specs.Meaning.{Meaning}
-use Rattle.nano_grammar.specs.Codec.{Codec}
 use Rattle.nano_grammar.proofs.BothFieldsLaws.{also_fields}
 use Rattle.nano_grammar.proofs.DefaultsLaws.{default_field}
 use Rattle.nano_grammar.specs.FieldCodec.{AreNames, FieldsCodec}
 use Rattle.nano_grammar.proofs.FieldCodecLaws.{must_field, may_field}
 use Rattle.nano_grammar.specs.Fields.{FieldStyle}
 use Rattle.nano_json_tokens.proofs.JsonLaws.{json, curly_style, entry_style, null_style}
-use Rattle.nano_json_tokens.proofs.JsonLaws.{curly_brackets}
-use Rattle.nano_json_tokens.specs.Json.{json_grammar}
+use Rattle.nano_json_tokens.proofs.JsonLaws.{curly_brackets, tuple_style, block_brackets}
+use Rattle.nano_json_tokens.specs.Cut.{json_grammar}
 use Rattle.nano_json_tokens.proofs.ScalarsLaws.{str_injective}
 use Rattle.nano_json_tokens.specs.Skipped.{SkippedField}
 use Rattle.nano_json_tokens.specs.Token.{str}
 use Rattle.nano_json_tokens.proofs.BracketCounts.{skipped_apart}
-use Rattle.nano_json_schema.specs.Names.{IsPlainName, are_ascii_names, quoted_name}
-use Rattle.nano_json_schema.specs.NamesLaws.{name_is_written, each_ascii}
+use Rattle.nano_json_tokens.specs.Names.{IsPlainName, are_ascii_names, quoted_name}
+use Rattle.nano_json_tokens.proofs.NamesLaws.{name_is_written, each_ascii}
 pub use Rattle.nano_grammar.proofs.StructCodecLaws.{fields_codec}
+use Rattle.nano_grammar.proofs.TuplesLaws.{last_codec, tuple_codec}
+use Rattle.nano_json.specs.Codec.{Codec, codec_as}
+use Rattle.nano_json.specs.ScalarCodecs.{unsigned_codec, signed_codec, below_8, below_16, below_32}
+use Rattle.nano_json.specs.ScalarCodecs.{below_64, within_8, within_16, within_32, within_64}
+use Rattle.nano_json.specs.ScalarCodecs.{text_codec}
+pub use Rattle.nano_json.specs.ContainerCodecs.{array_codec, pair_codec, triple_codec}
 
 abbrev pub json_fields : FieldStyle json json_grammar
 json_fields = record {
@@ -38,16 +45,16 @@ json_fields = record {
 -- ---- the schema of a user-defined struct
 
 -- a field that must be there
-abbrev pub required_field : {A : Type 0} → List ℕ → Codec json json_grammar A → FieldsCodec json_fields A
+abbrev pub required_field : {A : Type 0} → List ℕ → Codec A → FieldsCodec json_fields A
 required_field = must_field json_fields
 
 -- a field that is always written, and has a default where it is missing
-abbrev pub defaulted_field : {A : Type 0} → List ℕ → Codec json json_grammar A → Meaning
+abbrev pub defaulted_field : {A : Type 0} → List ℕ → Codec A → Meaning
     → FieldsCodec json_fields A
 defaulted_field = default_field json_fields
 
 -- a field that may be missing, and is not written where it is none
-abbrev pub optional_field : {A : Type 0} → List ℕ → Codec json json_grammar A
+abbrev pub optional_field : {A : Type 0} → List ℕ → Codec A
     → FieldsCodec json_fields (Option A)
 optional_field = may_field json_fields
 
@@ -60,3 +67,40 @@ fields_pair = also_fields
 pub ascii_names : {names : List (List ℕ)} → are_ascii_names names ≡ true
     → AreNames json_fields names
 ascii_names {names} h = record { each = each_ascii names h }
+
+-- ==== parts of structs without names
+
+abbrev pub u8_codec : Codec ℕ
+u8_codec = unsigned_codec 8 below_8
+
+abbrev pub u16_codec : Codec ℕ
+u16_codec = unsigned_codec 16 below_16
+
+abbrev pub u32_codec : Codec ℕ
+u32_codec = unsigned_codec 32 below_32
+
+abbrev pub u64_codec : Codec ℕ
+u64_codec = unsigned_codec 64 below_64
+
+abbrev pub usize_codec : Codec ℕ
+usize_codec = unsigned_codec 64 below_64
+
+abbrev pub i8_codec : Codec ℤ
+i8_codec = signed_codec w8 within_8
+
+abbrev pub i16_codec : Codec ℤ
+i16_codec = signed_codec w16 within_16
+
+abbrev pub i32_codec : Codec ℤ
+i32_codec = signed_codec w32 within_32
+
+abbrev pub i64_codec : Codec ℤ
+i64_codec = signed_codec w64 within_64
+
+abbrev pub string_codec : Codec (String Global)
+string_codec = codec_as (λ x. string_bytes x) text_codec
+
+-- a tuple of one part
+abbrev pub single_codec : {A : Type 0} → Codec A → Codec A
+single_codec f =
+    tuple_codec tuple_style block_brackets (last_codec tuple_style block_brackets f)

@@ -1,24 +1,27 @@
 -- What the calls of JSON's readers of user-defined types come to.
-use Rattle.std.specs.Prelude.{◌≡◌, ℕ, Bool, List, [], Result, MatchResult}
+use Rattle.std.specs.Prelude.{◌≡◌, ℕ, Bool, List, [], Result, MatchResult, true, false, cond, ◌∷◌}
+use Rattle.std.specs.Prelude.{◌++◌}
 use Rattle.nano_value.specs.Meaning.{Meaning}
 use Rattle.nano_grammar.specs.Outcomes.{Position, Fails, Took}
 use Rattle.nano_json_tokens.specs.Cut.{Cut}
-use Rattle.nano_json_tokens.specs.Outcomes.{report}
+use Rattle.nano_json_tokens.specs.Outcomes.{report, Says}
 use Rattle.nano_json_tokens.specs.State.{ended, place_of}
-use Rattle.nano_json_tokens.specs.Token.{Token}
+use Rattle.nano_json_tokens.specs.Token.{Token, str}
 use Rattle.nano_json_tokens.specs.declared.error.DeJsonErr.{DeJsonErr}
 use Rattle.nano_json_tokens.specs.declared.state.DeJsonState.{DeJsonState}
-use Rattle.nano_grammar.specs.Defaults.{HasEncoding}
+use Rattle.nano_grammar.specs.Fields.{HasEncoding, unknown_message}
 use Rattle.nano_grammar.specs.UserOutcomes.{NoField, ReadField, ReadsField as ReadsFieldBy}
 use Rattle.nano_grammar.specs.UserOutcomes.{GivesValues as GivesValuesBy, Misses, FailsAndEnds}
 use Rattle.nano_grammar.specs.UserOutcomes.{HoldsFields as HoldsFieldsBy}
 use Rattle.nano_grammar.specs.UserOutcomes.{ReadsChoice as ReadsChoiceBy, ReadsEnum as ReadsEnumBy}
-use Rattle.nano_json_schema.specs.Contents.{is_alone, bytes_of}
-use Rattle.nano_json_schema.specs.FieldReading.{Field, Shape, Allowed}
+use Rattle.nano_json_schema.specs.Variants.{is_alone, bytes_of}
+use Rattle.nano_json_schema.specs.Reading.{Field, Shape, Allowed, Encodings}
 use Rattle.nano_json_schema.specs.FieldCodecs.{json_fields}
-use Rattle.nano_json_schema.specs.VariantReading.{Encodings}
 use Rattle.nano_json_schema.specs.VariantCodecs.{json_variants}
 use Rattle.nano_json_schema.specs.declared.variants.VariantName.{VariantName}
+use Rattle.nano_grammar.specs.Promises.{LastFieldCounts as Counts, MissingNameHasNoField as Missing}
+use Rattle.nano_grammar.specs.Promises.{OtherNamesAreSeen as Seen}
+use Rattle.nano_json_tokens.specs.declared.token.DeJsonTok.TheVariants.{Eof}
 
 -- ---- tokens
 
@@ -81,3 +84,47 @@ abbrev pub ReadsEnum : {A : Type 0} → Encodings → (A → Meaning) → Positi
     → Result A DeJsonErr → Type 0
 ReadsEnum variants means start end result =
     ReadsEnumBy json_variants variants start end report means ended result
+
+-- ==== laws of the definitions, over JSON's tokens
+
+-- of the fields with one name, the last counts
+abbrev pub LastFieldCounts : Type 0
+LastFieldCounts = Counts Token
+
+-- a name is missing where no field has it
+abbrev pub MissingNameHasNoField : Type 0
+MissingNameHasNoField = Missing Token
+
+-- of a name that the first fields do not know, the second see the last field of all
+abbrev pub OtherNamesAreSeen : Type 0
+OtherNamesAreSeen = Seen Token
+
+-- ==== tests of the pending token
+
+abbrev pub is_str : Token → Bool
+is_str (str bytes) = true
+is_str _ = false
+
+-- ==== fields one after the other, as they are written
+
+-- after a comma, unless it is the first
+abbrev pub after_comma : Bool → List ℕ → List ℕ
+after_comma first text = cond first text (44 ∷ text)
+
+-- items one after the other: each after a comma, unless it is the first of all
+abbrev pub in_a_row : {A : Type 0} → Bool → (A → List ℕ) → List A → List ℕ
+in_a_row first W [] = []
+in_a_row first W (x ∷ xs) = after_comma first (W x) ++ in_a_row false W xs
+
+-- whether none stands before the next one, where that was so before these
+abbrev pub none_yet : {A : Type 0} → Bool → List A → Bool
+none_yet first [] = first
+none_yet first (x ∷ xs) = false
+
+-- ==== the error for a name that no variant of an enum has
+
+-- the error for this name stands where the state stood, and has this message unless it is out of
+-- memory. The state is at the end of the text
+pub record GivesUnknown (old new : DeJsonState) (name : List ℕ) (e : DeJsonErr) : Type 0 where
+  pub says : Says old (unknown_message name) e
+  pub state : new ≡ record old { tok = Eof; cur = 0 }

@@ -3,12 +3,12 @@ use Rattle.std.specs.Prelude.{◌≡◌, ◌&&◌, true}
 use Rattle.std.proofs.Common.{sym}
 use Rattle.std.proofs.lemmas.Bool.{and_parts}
 use Rattle.nano_grammar.specs.FieldCodec.{FieldsCodec}
-use Rattle.nano_grammar.specs.Names.{are_distinct}
+use Rattle.nano_grammar.specs.Fields.{are_distinct}
 use Rattle.nano_json.specs.Codec.{Codec}
 -- what a struct without names needs, passed on
 pub use Rattle.nano_json.specs.Codec.{codec_as}
 use Rattle.nano_json_schema.specs.FieldCodecs.{json_fields, ascii_names, fields_codec}
-use Rattle.nano_json_schema.specs.Names.{are_ascii_names}
+use Rattle.nano_json_tokens.specs.Names.{are_ascii_names}
 
 -- a struct as the values of its fields, and their format. The last is `refl`: it checks that the
 -- names are ASCII of which no character needs an escape, and that none occurs twice

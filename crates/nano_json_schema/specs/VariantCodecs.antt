@@ -1,19 +1,25 @@
--- What is proved of Variants.
-use Rattle.std.specs.Prelude.{◌≡◌, ℕ, true, List, [], ◌∷◌, ◌++◌, refl}
-use Rattle.nano_grammar.specs.Cutting.{IsValueText}
-use Rattle.nano_grammar.specs.Codec.{Codec}
+-- Codecs of enums in JSON, and of what their variants hold.
+use Rattle.std.specs.Prelude.{◌≡◌, ℕ, true, List, [], ◌∷◌, ◌++◌, refl, ◌&&◌}
+use Rattle.std.proofs.lemmas.Bool.{and_parts}
+use Rattle.nano_grammar.specs.Tokens.{IsValueText}
+use Rattle.nano_json.specs.Codec.{Codec}
 use Rattle.nano_grammar.proofs.LayoutsLaws.{pair_written, last_part_written, tuple_written}
 use Rattle.nano_grammar.specs.Variants.{VariantStyle, Variants}
-use Rattle.nano_grammar.specs.VariantCanonical.{Body}
-use Rattle.nano_json_tokens.specs.Brackets.{curlies, curly_punctuation}
+use Rattle.nano_grammar.specs.VariantCodec.{Body}
+use Rattle.nano_json_tokens.specs.Token.{curlies, curly_punctuation, Token, str, colon, curly_close}
 use Rattle.nano_json_tokens.proofs.JsonLaws.{json, curlies_are, colon_is, no_gap_written}
-use Rattle.nano_json_tokens.specs.Json.{json_grammar}
+use Rattle.nano_json_tokens.specs.Cut.{json_grammar}
 use Rattle.nano_json_tokens.proofs.ScalarsLaws.{text_one}
-use Rattle.nano_json_tokens.specs.Token.{Token, str, colon, curly_close}
 use Rattle.nano_json_tokens.specs.Written.{written_text}
-use Rattle.nano_json_schema.specs.Names.{is_variant_name}
-use Rattle.nano_json_schema.specs.NamesLaws.{variant_name_is_text}
+use Rattle.nano_json_tokens.specs.Names.{is_variant_name, are_ascii_names}
+use Rattle.nano_json_tokens.proofs.NamesLaws.{variant_name_is_text}
 use Rattle.nano_json_schema.specs.Variants.{alone, opened, content_text}
+use Rattle.nano_grammar.specs.FieldCodec.{FieldsCodec, fields_text}
+use Rattle.nano_grammar.specs.Fields.{are_distinct}
+use Rattle.nano_grammar.proofs.StructLaws.{fields_of}
+use Rattle.nano_json_schema.specs.FieldCodecs.{json_fields, ascii_names, fields_codec}
+use Rattle.nano_grammar.specs.Choices.{no_more, more, Content}
+use Rattle.nano_grammar.proofs.ChoicesLaws.{alone_placed, body_placed}
 
 pub alone_meets : (a b : List ℕ) (x y : List Token) → alone a ++ x ≡ alone b ++ y
     → (a ≡ b) × (x ≡ y)
@@ -65,10 +71,44 @@ json_variants = record {
 }
 
 -- the content of a variant
-abbrev pub body : {A : Type 0} → Codec json json_grammar A → Body json_variants
+abbrev pub body : {A : Type 0} → Codec A → Body json_variants
 body {A} codec = record { Fields = A; codec = codec; fits = λ _ _. tt }
 
 -- the variants of an enum in their order, each by its name, and by the format of its content if it
 -- has one
 abbrev pub JsonVariants : Type 1
 JsonVariants = Variants (Body json_variants)
+
+-- ==== what a variant holds
+
+-- no content: the name stands alone
+abbrev pub no_content : Content json_variants (Unit {0})
+no_content = record {
+  rest = no_more;
+  text = λ name d x. written_text name;
+  good = true;
+  placed = λ _. alone_placed json_variants;
+}
+
+-- content of this format
+abbrev pub content_as : {A : Type 0} → Codec A → Content json_variants A
+content_as f = record {
+  rest = more f.encoding;
+  text = λ name d x. content_text name (f.canonical.text d x);
+  good = true;
+  placed = λ _. body_placed json_variants (body f);
+}
+
+-- named fields, of which each name is ASCII that needs no escape, and none stands twice
+abbrev pub fields_content : {A : Type 0} → FieldsCodec json_fields A → Content json_variants A
+fields_content f =
+    let all = f.canonical.names in
+    record {
+      rest = more (fields_of json_fields f.struct);
+      text = λ name d x. content_text name (fields_text json_fields d (f.canonical.fields x));
+      good = are_ascii_names all && are_distinct all;
+      placed = λ ok.
+          let parts = and_parts (are_ascii_names all) (are_distinct all) ok in
+          body_placed json_variants
+          (body (fields_codec f (ascii_names {names = all} parts.0) parts.1));
+    }

@@ -5,8 +5,8 @@ ghost use Rattle.nano_meaning.proofs.AgreesLaws.{seen_agrees};
 ghost use Rattle.nano_text.specs.Outcomes.{Appends, AppendsPart};
 ghost use Rattle.nano_json.specs.Codec.{codec_as};
 ghost use Rattle.nano_json.specs.Outcomes.{position, Reads};
-ghost use Rattle.nano_json.specs.TupleCodecs.{last_codec};
-ghost use Rattle.nano_json_schema.specs.PartCodecs.{single_codec};
+ghost use Rattle.nano_json.specs.ContainerCodecs.{last_codec};
+ghost use Rattle.nano_json_schema.specs.FieldCodecs.{single_codec};
 
 use nano_json::{
     DeJson, DeJsonErr, DeJsonState, JsonCodec, SerJson, SerJsonState, end_on_error,

@@ -5,7 +5,7 @@ ghost use Rattle.nano_schema.specs.Views.{SeesAs};
 ghost use Rattle.nano_text.specs.Outcomes.{Appends, Unchanged};
 ghost use Rattle.nano_json.specs.Outcomes.{position, ReadsOrEnds};
 ghost use Rattle.nano_json_schema.specs.Outcomes.{ReadsEnum};
-ghost use Rattle.nano_json_schema.specs.VariantReading.{EncodesVariant};
+ghost use Rattle.nano_json_schema.specs.Reading.{EncodesVariant};
 
 use crate::choices::{JsonChoiceRefs, JsonChoices};
 use crate::variants::read_variant_name;

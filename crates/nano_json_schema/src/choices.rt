@@ -8,9 +8,8 @@ ghost use Rattle.nano_json.specs.Outcomes.{position};
 ghost use Rattle.nano_schema.specs.Choices.{either_is, either_map};
 ghost use Rattle.nano_grammar.specs.Choices.{ChoiceCodec, is_named, last_choice};
 ghost use Rattle.nano_grammar.proofs.ChoicesLaws.{next_choice};
-ghost use Rattle.nano_json_schema.specs.Contents.{is_alone, bytes_of};
-ghost use Rattle.nano_json_schema.specs.Outcomes.{ReadsChoice};
-ghost use Rattle.nano_json_schema.specs.UnknownNames.{GivesUnknown};
+ghost use Rattle.nano_json_schema.specs.Variants.{is_alone, bytes_of};
+ghost use Rattle.nano_json_schema.specs.Outcomes.{ReadsChoice, GivesUnknown};
 ghost use Rattle.nano_json_schema.specs.VariantCodecs.{json_variants};
 
 use crate::contents::{JsonContent, ReadContent, WriteContent};

@@ -6,10 +6,10 @@ ghost use Rattle.nano_value.specs.Meaning.{Meaning, nothing};
 ghost use Rattle.nano_text.specs.Outcomes.{Appends, Unchanged};
 ghost use Rattle.nano_json.specs.Outcomes.{position, ReadsOrEnds};
 ghost use Rattle.nano_grammar.specs.Choices.{Content, stands_alone};
-ghost use Rattle.nano_json_schema.specs.PartCodecs.{single_codec};
-ghost use Rattle.nano_json_schema.specs.ContentCodecs.{no_content, content_as, fields_content};
-ghost use Rattle.nano_json_schema.specs.VariantReading.{EncodesRest};
+ghost use Rattle.nano_json_schema.specs.FieldCodecs.{single_codec};
+ghost use Rattle.nano_json_schema.specs.VariantCodecs.{no_content, content_as, fields_content};
 ghost use Rattle.nano_json_schema.specs.VariantCodecs.{json_variants};
+ghost use Rattle.nano_json_schema.specs.Reading.{EncodesRest};
 
 use crate::brackets::InBrackets;
 use crate::fields::{JsonFields, JsonRefs, JsonShape};

@@ -3,8 +3,8 @@
 ghost use Rattle.std.specs.Option.{option_map};
 ghost use Rattle.nano_json_schema.specs.FieldCodecs.{defaulted_field};
 ghost use Rattle.nano_json_schema.specs.Outcomes.{GivesDefault};
-ghost use Rattle.nano_grammar.specs.Slots.{Holds};
-ghost use Rattle.nano_grammar.proofs.SlotsLaws.{holds_skips};
+ghost use Rattle.nano_grammar.specs.Fields.{Holds};
+ghost use Rattle.nano_grammar.proofs.FieldsLaws.{holds_skips};
 
 use crate::fields::{JsonFields, JsonRefs, JsonShape};
 use crate::writer::append_field;
@@ -15,7 +15,7 @@ use std::str::Chars;
 
 /// A default that is read back from JSON.
 pub trait JsonDefaultOf<T: JsonCodec>: DefaultOf<T> {
-    ghost use Rattle.nano_grammar.specs.Defaults.{IsSoundDefault};
+    ghost use Rattle.nano_grammar.specs.Fields.{IsSoundDefault};
 
     /// It is sound: nowhere inside it a `Some` stands around what is written as an absent value.
     ghost is_sound: { IsSoundDefault T.json Self.DefaultOf.missing };

@@ -4,12 +4,10 @@
 ghost use Rattle.std.specs.Prelude.{◌≡◌, List, [], ◌∷◌, ◌++◌, false, IfOk, OnOk, OnErr};
 ghost use Rattle.nano_text.specs.Outcomes.{Appends, AppendsPart};
 ghost use Rattle.nano_json.specs.Outcomes.{position, Keeps};
-ghost use Rattle.nano_grammar.specs.FieldCodec.{FieldsCodec};
-ghost use Rattle.nano_grammar.specs.FieldCanonical.{field_text};
-ghost use Rattle.nano_json_schema.specs.FieldReading.{Field};
-ghost use Rattle.nano_json_schema.specs.FieldTexts.{in_a_row, none_yet};
+ghost use Rattle.nano_grammar.specs.FieldCodec.{FieldsCodec, field_text};
+ghost use Rattle.nano_json_schema.specs.Reading.{Field};
+ghost use Rattle.nano_json_schema.specs.Outcomes.{in_a_row, none_yet, ReadsField, GivesValues};
 ghost use Rattle.nano_json_schema.specs.FieldCodecs.{json_fields};
-ghost use Rattle.nano_json_schema.specs.Outcomes.{ReadsField, GivesValues};
 
 use nano_json::{DeJsonErr, DeJsonState, SerJsonState};
 use std::alloc::{AllocError, Global};

@@ -8,9 +8,8 @@ ghost use Rattle.nano_json.specs.State.{pending};
 ghost use Rattle.nano_json.specs.Token.{IsStr};
 ghost use Rattle.nano_json_tokens.specs.Cut.{Cut};
 ghost use Rattle.nano_json_tokens.specs.Token.{str, colon, comma, curly_close, curly_open};
-ghost use Rattle.nano_json_schema.specs.NameReading.{ReachesName, GoesOn, TakesNameAfter};
-ghost use Rattle.nano_json_schema.specs.Outcomes.{TakesTokens};
-ghost use Rattle.nano_json_schema.specs.Punctuation.{is_str};
+ghost use Rattle.nano_json_schema.specs.Reading.{ReachesName, GoesOn, TakesNameAfter};
+ghost use Rattle.nano_json_schema.specs.Outcomes.{TakesTokens, is_str};
 
 use nano_json::{DeJsonErr, DeJsonState, DeJsonTok};
 use std::alloc::Global;

@@ -2,7 +2,7 @@
 
 ghost use Rattle.nano_grammar.specs.Fields.{others};
 ghost use Rattle.nano_json_schema.specs.FieldCodecs.{fields_pair};
-ghost use Rattle.nano_grammar.proofs.SlotsLaws.{both_skip};
+ghost use Rattle.nano_grammar.proofs.FieldsLaws.{both_skip};
 
 use crate::fields::{JsonFields, JsonRefs, JsonShape};
 use nano_json::{DeJsonErr, DeJsonState, SerJsonState};

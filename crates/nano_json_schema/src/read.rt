@@ -4,8 +4,8 @@ ghost use Rattle.std.specs.Prelude.{◌≡◌, [], None};
 ghost use Rattle.nano_json.specs.Outcomes.{position, Reads, ReadsOrEnds};
 ghost use Rattle.nano_json.specs.State.{pending};
 ghost use Rattle.nano_json.specs.Token.{IsStr};
-ghost use Rattle.nano_json_schema.specs.FieldReading.{EncodesFields};
-ghost use Rattle.nano_json_schema.specs.NameReading.{name_bytes, TakesField, TakesColonAfter};
+ghost use Rattle.nano_json_schema.specs.Reading.{EncodesFields, name_bytes, TakesField};
+ghost use Rattle.nano_json_schema.specs.Reading.{TakesColonAfter};
 ghost use Rattle.nano_json_schema.specs.Outcomes.{HoldsFields, TakesValue};
 
 use crate::fields::JsonFields;

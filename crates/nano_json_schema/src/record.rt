@@ -4,8 +4,8 @@ ghost use Rattle.std.specs.Prelude.{OnOk, OnErr};
 ghost use Rattle.nano_text.specs.Outcomes.{Appends, Unchanged};
 ghost use Rattle.nano_json.specs.Outcomes.{position, ReadsOrEnds};
 ghost use Rattle.nano_schema.specs.Views.{SeesAs};
-ghost use Rattle.nano_grammar.specs.FieldCanonical.{fields_text};
-ghost use Rattle.nano_json_schema.specs.FieldReading.{EncodesFields};
+ghost use Rattle.nano_grammar.specs.FieldCodec.{fields_text};
+ghost use Rattle.nano_json_schema.specs.Reading.{EncodesFields};
 ghost use Rattle.nano_json_schema.specs.FieldCodecs.{json_fields};
 
 use crate::fields::{JsonFields, JsonRefs};

@@ -1,6 +1,6 @@
 //! A variant with two, three or four parts, in JSON: a tuple between square brackets.
 
-ghost use Rattle.nano_json_schema.specs.ContentCodecs.{content_as};
+ghost use Rattle.nano_json_schema.specs.VariantCodecs.{content_as};
 
 use crate::contents::{JsonContent, ReadContent, WriteContent};
 use crate::part::Part;

@@ -1,7 +1,7 @@
 //! The variants of enums, written: a name, and between braces a name with its content.
 
 ghost use Rattle.std.specs.Prelude.{◌++◌, ◌∷◌, [], OnOk, OnErr};
-ghost use Rattle.nano_grammar.specs.FieldCanonical.{fields_text};
+ghost use Rattle.nano_grammar.specs.FieldCodec.{fields_text};
 ghost use Rattle.nano_json_schema.specs.FieldCodecs.{json_fields};
 ghost use Rattle.nano_json_schema.specs.Variants.{content_text};
 ghost use Rattle.nano_text.specs.Outcomes.{Appends, AppendsPart, Unchanged};

@@ -4,10 +4,9 @@ ghost use Rattle.std.specs.Prelude.{◌∷◌, [], ℕ, List, string_bytes};
 ghost use Rattle.nano_json.specs.Outcomes.{position, ReadsOrEnds, NoneHere};
 ghost use Rattle.nano_json.specs.State.{at};
 ghost use Rattle.nano_json.specs.Token.{str, colon, curly_close};
-ghost use Rattle.nano_json_schema.specs.FieldReading.{EncodesFields};
-ghost use Rattle.nano_json_schema.specs.Outcomes.{TakesTokens, TakesTokensOrEnds};
-ghost use Rattle.nano_json_schema.specs.UnknownNames.{GivesUnknown};
-ghost use Rattle.nano_json_schema.specs.VariantReading.{Closed, name_tokens, NoVariantBegins};
+ghost use Rattle.nano_json_schema.specs.Reading.{EncodesFields, Closed, name_tokens};
+ghost use Rattle.nano_json_schema.specs.Reading.{NoVariantBegins};
+ghost use Rattle.nano_json_schema.specs.Outcomes.{TakesTokens, TakesTokensOrEnds, GivesUnknown};
 ghost use Rattle.nano_json_schema.specs.Variants.{alone, opened};
 
 use crate::fields::JsonFields;

@@ -1,10 +1,10 @@
 //! Named fields, as they are written.
 
 ghost use Rattle.std.specs.Prelude.{OnOk, OnErr};
-ghost use Rattle.nano_grammar.specs.FieldCanonical.{field_text, fields_text};
-ghost use Rattle.nano_grammar.proofs.FieldCanonicalLaws.{written_field};
+ghost use Rattle.nano_grammar.specs.FieldCodec.{field_text, fields_text};
+ghost use Rattle.nano_grammar.proofs.FieldCodecLaws.{written_field};
 ghost use Rattle.nano_json_schema.specs.FieldCodecs.{json_fields};
-ghost use Rattle.nano_json_schema.specs.FieldTexts.{after_comma};
+ghost use Rattle.nano_json_schema.specs.Outcomes.{after_comma};
 ghost use Rattle.nano_text.specs.Outcomes.{Appends, AppendsPart, Unchanged};
 
 use crate::fields::JsonRefs;

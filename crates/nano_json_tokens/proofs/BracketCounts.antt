@@ -1,14 +1,17 @@
 -- Counting brackets: what a reader of a skipped field knows of the tokens that it took.
-use Rattle.std.proofs.Common.{◌≡◌, ◌≢◌, ℕ, ◌+◌, ◌<◌, ◌≤◌, ◌^◌, List, [], ◌∷◌, ◌++◌, ◌⊎◌, inl, inr, refl, ap, sym, ◌∙◌, subst, true, false, arith, append-nil, length}
+use Rattle.std.proofs.Common.{◌≡◌, ◌≢◌, ℕ, ◌+◌, ◌<◌, ◌≤◌, ◌^◌, List, [], ◌∷◌, ◌++◌, ◌⊎◌, inl, inr}
+use Rattle.std.proofs.Common.{refl, ap, sym, ◌∙◌, subst, true, false, arith, append-nil, length}
 use Rattle.std.specs.List.{AllByRecursion}
-use Rattle.nano_grammar.proofs.Tokens.{leaves_append, meets}
+use Rattle.nano_grammar.proofs.TokensLaws.{leaves_append, meets}
 use Rattle.nano_grammar.specs.Tokens.{At, Leaves}
-use Rattle.nano_json_tokens.specs.Token.{Token, str, u64, i64, f64, bool, null, curly_open, block_open, end}
+use Rattle.nano_json_tokens.specs.Token.{Token, str, u64, i64, f64, bool, null, curly_open}
+use Rattle.nano_json_tokens.specs.Token.{block_open, end}
 use Rattle.nano_json_tokens.specs.Cut.{Cut}
 use Rattle.nano_json_tokens.specs.Scan.{is_scalar, is_opening, is_end}
-use Rattle.nano_json_tokens.specs.Skipped.{SkippedField, BeginsField, IsBracketed, IsScalar, opens, closes, opens_in, closes_in}
+use Rattle.nano_json_tokens.specs.Skipped.{SkippedField, BeginsField, IsBracketed, IsScalar, opens}
+use Rattle.nano_json_tokens.specs.Skipped.{closes, opens_in, closes_in}
 use Rattle.nano_json_tokens.proofs.Cuts.{cut_one_way}
-use Rattle.nano_json_tokens.proofs.Shorter.{left, left_token, cut_shorter}
+use Rattle.nano_json_tokens.proofs.Capacity.{left, left_token, cut_shorter}
 
 -- the end is none of them
 abbrev NoEnd : List Token → Type 0

@@ -1,23 +1,30 @@
 -- If allocation failed, the buffer had no capacity for the text of the token.
-use Rattle.std.proofs.Common.{◌≡◌, ◌≢◌, ℕ, ◌<◌, ◌≤◌, List, true, false, arith, rules, length, encode_utf8, refl, ap, subst, codes, string_bytes, string_capacity, encode_utf8_all}
+use Rattle.std.proofs.Common.{◌≡◌, ◌≢◌, ℕ, ◌<◌, ◌≤◌, List, true, false, arith, rules, length}
+use Rattle.std.proofs.Common.{encode_utf8, refl, ap, subst, codes, string_bytes, string_capacity}
+use Rattle.std.proofs.Common.{encode_utf8_all, ◌+◌, ◌∷◌, ◌++◌, sym, length-append, cond}
 use Rattle.std.specs.declared.str.Chars.{Chars}
 use Rattle.std.proofs.lemmas.Bool.Decides.{nat_tests}
 use Rattle.std.proofs.lemmas.Str.{encode_ascii}
-use Rattle.nano_text.specs.Prefix.{prefix}
+use Rattle.nano_text.specs.Characters.{prefix}
 use Rattle.nano_text.specs.Place.{remaining}
 use Rattle.nano_text.specs.Number.{IsNumber}
 use Rattle.nano_text.specs.String.{IsString}
 use Rattle.nano_text.specs.declared.number.Number.TheVariants.{U64, I64, Dec}
-use Rattle.nano_text.proofs.Numbers.{IsNumber-unique}
+use Rattle.nano_text.proofs.Numbers.{IsNumber-unique, IsNumber-shorter}
 use Rattle.nano_text.proofs.RemainingText.{remaining_more}
-use Rattle.nano_json_tokens.specs.Cut.{is_word, IsWord, IsRunOf, IsQuoted}
+use Rattle.nano_json_tokens.specs.Cut.{is_word, IsWord, IsRunOf, IsQuoted, Cut, IsPunctuator, IsEnd}
+use Rattle.nano_json_tokens.specs.Cut.{IsLexeme, punctuator, word, number, quoted, nothing}
 use Rattle.nano_json_tokens.specs.Outcomes.{Outgrows, NothingCut, NoCapacity}
-use Rattle.nano_json_tokens.specs.Token.{Token, str, u64, i64, f64, bool, null, IsLiteral}
+use Rattle.nano_json_tokens.specs.Token.{Token, str, u64, i64, f64, bool, null, IsLiteral, colon}
+use Rattle.nano_json_tokens.specs.Token.{curly_open, curly_close, block_open, block_close, comma}
+use Rattle.nano_json_tokens.specs.Token.{end}
 use Rattle.nano_json_tokens.specs.State.{pending, KeepsOtherBuffers}
 use Rattle.nano_json_tokens.specs.declared.state.DeJsonState.{DeJsonState}
 use Rattle.nano_json_tokens.specs.declared.scan.Rejection.{Rejection}
 use Rattle.nano_json_tokens.specs.declared.scan.Rejection.TheVariants.{Memory}
 use Rattle.nano_json_tokens.proofs.Cuts.{word_itself}
+use Rattle.nano_grammar.specs.Tokens.{At}
+use Rattle.nano_json_tokens.specs.Scan.{is_end}
 
 -- a word has its first character
 pub word_has_one : (cur : ℕ) (i : Chars) → is_word cur ≡ true → 1 ≤ length (prefix is_word (remaining cur i))
@@ -76,8 +83,75 @@ word_literal _ text rest h = absurd h
 -- a word changes no buffer but its own
 pub word_keeps : (old new : DeJsonState) (text rest : List ℕ) → new.strbuf ≡ old.strbuf → new.numbuf ≡ old.numbuf
     → IsWord (pending new) text rest → KeepsOtherBuffers old new
-word_keeps old new text rest strbuf numbuf word = record {
+word_keeps old new text rest strbuf numbuf h = record {
   strbuf = λ _. ap (λ s. string_bytes s) strbuf;
   numbuf = λ _. ap (λ s. string_bytes s) numbuf;
-  identbuf = λ other. absurd (other (word_literal (pending new) text rest word));
+  identbuf = λ other. absurd (other (word_literal (pending new) text rest h));
 }
+
+-- ==== what is left is shorter
+
+-- how many tokens may be left at most, the pending one with them
+unfoldable pub left : At Token → ℕ
+left s = length s.text + cond (is_end s.token) 0 1
+
+punctuator_shorter : (t : Token) (text rest : List ℕ) → IsPunctuator t text rest → length rest + cond (is_end t) 0 1 ≤ length text
+punctuator_shorter colon text rest h = omega (arith, ap length h)
+punctuator_shorter comma text rest h = omega (arith, ap length h)
+punctuator_shorter block_open text rest h = omega (arith, ap length h)
+punctuator_shorter block_close text rest h = omega (arith, ap length h)
+punctuator_shorter curly_open text rest h = omega (arith, ap length h)
+punctuator_shorter curly_close text rest h = omega (arith, ap length h)
+punctuator_shorter _ text rest h = absurd h
+
+word_shorter : (t : Token) (text rest : List ℕ) → IsWord t text rest → length rest + cond (is_end t) 0 1 ≤ length text
+word_shorter (bool true) text rest h = omega (arith, ap length h.0)
+word_shorter (bool false) text rest h = omega (arith, ap length h.0)
+word_shorter null text rest h = omega (arith, ap length h.0)
+word_shorter _ text rest h = absurd h
+
+run_shorter : (t : Token) (text rest : List ℕ) → IsRunOf t text rest → length rest + cond (is_end t) 0 1 ≤ length text
+run_shorter (u64 n) text rest h = omega (arith, IsNumber-shorter text h.0 rest (U64 n) h.1)
+run_shorter (i64 n) text rest h = omega (arith, IsNumber-shorter text h.0 rest (I64 n) h.1)
+run_shorter (f64 run) text rest h = omega (arith, IsNumber-shorter text run rest Dec h)
+run_shorter _ text rest h = absurd h
+
+after_quotes : (inside rest : List ℕ) → length rest + 1 ≤ length (34 ∷ (inside ++ 34 ∷ rest))
+after_quotes inside rest = omega (arith, length-append inside (34 ∷ rest))
+
+quoted_shorter : (t : Token) (text rest : List ℕ) → IsQuoted t text rest → length rest + cond (is_end t) 0 1 ≤ length text
+quoted_shorter (str bytes) text rest h = subst (λ (l : List ℕ). length rest + 1 ≤ length l) (sym h.1.split) (after_quotes _ rest)
+quoted_shorter _ text rest h = absurd h
+
+end_shorter : (t : Token) (text rest : List ℕ) → IsEnd t text rest → length rest + cond (is_end t) 0 1 ≤ length text
+end_shorter end text rest h = omega (arith, ap length h.1)
+end_shorter _ text rest h = absurd h
+
+lexeme_shorter : (t : Token) (text rest : List ℕ) → IsLexeme t text rest → length rest + cond (is_end t) 0 1 ≤ length text
+lexeme_shorter t text rest (punctuator h) = punctuator_shorter t text rest h
+lexeme_shorter t text rest (word h) = word_shorter t text rest h
+lexeme_shorter t text rest (number s h) = run_shorter t text rest h
+lexeme_shorter t text rest (quoted h) = quoted_shorter t text rest h
+lexeme_shorter t text rest (nothing h) = end_shorter t text rest h
+
+-- a cut takes a character for each token but the end
+pub cut_takes : (text : List ℕ) (t : Token) (rest : List ℕ) → Cut text t rest → length rest + cond (is_end t) 0 1 ≤ length text
+cut_takes text t rest h =
+    omega (arith, lexeme_shorter t h.body rest h.lexeme, ap length h.split, length-append h.space h.body)
+
+-- what is left after a token was left before it, with the token
+pub cut_shorter : (s m : At Token) → Cut s.text m.token m.text → left m ≤ length s.text
+unfolding left
+cut_shorter s m h = cut_takes s.text m.token m.text h
+
+pub not_end : (t : Token) → t ≢ end → is_end t ≡ false
+not_end end h = absurd (h refl)
+not_end _ h = refl
+
+-- another token than the end is one more
+pub left_token : (s : At Token) → s.token ≢ end → left s ≡ length s.text + 1
+unfolding left
+left_token s h = rw (not_end s.token h) refl
+
+pub token_shorter : (s m : At Token) → s.token ≢ end → Cut s.text m.token m.text → left m < left s
+token_shorter s m more c = omega (arith, cut_shorter s m c, left_token s more)

@@ -1,5 +1,7 @@
 -- A token is cut exactly where its lexeme follows the white space, and in only one way.
-use Rattle.std.proofs.Common.{◌≡◌, ℕ, List, [], ◌∷◌, ◌++◌, ◌⊎◌, inl, inr, Bool, true, false, cond, refl, ap, sym, ◌∙◌, subst, Some, codes, bytes_eq, nat_eq, eqb-true, encode_utf8_all, append-nil, ◌↔◌}
+use Rattle.std.proofs.Common.{◌≡◌, ℕ, List, [], ◌∷◌, ◌++◌, ◌⊎◌, inl, inr, Bool, true, false, cond}
+use Rattle.std.proofs.Common.{refl, ap, sym, ◌∙◌, subst, Some, codes, bytes_eq, nat_eq, eqb-true}
+use Rattle.std.proofs.Common.{encode_utf8_all, append-nil, ◌↔◌}
 use Rattle.std.proofs.lemmas.Slice.Eq.{bytes_eq-Decides}
 use Rattle.std.specs.List.{AllByRecursion}
 use Rattle.nano_text.proofs.Prefixes.{prefix_all, prefix_split, prefix_stop, after_stop}
@@ -7,14 +9,20 @@ use Rattle.nano_text.proofs.Numbers.{IsNumber-unique}
 use Rattle.nano_text.proofs.Strings.{IsString-unique}
 use Rattle.nano_text.specs.declared.number.Number.{Number}
 use Rattle.nano_text.specs.declared.number.Number.TheVariants.{U64, I64, Dec}
-use Rattle.nano_text.specs.Prefix.{prefix, following}
+use Rattle.nano_text.specs.Characters.{prefix, following}
 use Rattle.nano_text.specs.Number.{IsNumber}
 use Rattle.nano_text.specs.String.{IsString}
 use Rattle.nano_grammar.specs.Tokens.{IsOneWay}
-use Rattle.nano_json_tokens.specs.Token.{Token, str, u64, i64, f64, bool, null, colon, curly_open, curly_close, block_open, block_close, comma, end}
-use Rattle.nano_json_tokens.specs.Cut.{is_space, is_word, BeginsWithWord, IsPunctuator, IsWord, IsRunOf, IsQuoted, IsEnd, IsLexeme, punctuator, word, number, quoted, nothing, Cut}
+use Rattle.nano_json_tokens.specs.Token.{Token, str, u64, i64, f64, bool, null, colon, curly_open}
+use Rattle.nano_json_tokens.specs.Token.{curly_close, block_open, block_close, comma, end}
+use Rattle.nano_text.specs.Characters.{is_space}
+use Rattle.nano_json_tokens.specs.Cut.{is_word, BeginsWithWord, IsPunctuator, IsWord}
+use Rattle.nano_json_tokens.specs.Cut.{IsRunOf, IsQuoted, IsEnd, IsLexeme, punctuator, word, number}
+use Rattle.nano_json_tokens.specs.Cut.{quoted, nothing, Cut}
 use Rattle.nano_json_tokens.specs.Scan.{punctuator_of, word_token}
-use Rattle.nano_json_tokens.proofs.LexemeKinds.{punctuator_kind, word_kind, number_kind, quoted_kind, end_kind, only_punctuator, only_word, only_number, only_quoted, only_end, lexeme_no_space}
+use Rattle.nano_json_tokens.proofs.LexemeKinds.{punctuator_kind, word_kind, number_kind}
+use Rattle.nano_json_tokens.proofs.LexemeKinds.{quoted_kind, end_kind, only_punctuator, only_word}
+use Rattle.nano_json_tokens.proofs.LexemeKinds.{only_number, only_quoted, only_end, lexeme_no_space}
 use Rattle.nano_grammar.proofs.OptionsLaws.{some_injective}
 
 pick : {A : Type 0} (b : Bool) (x y z : A) → cond b x y ≡ z → ((b ≡ true) × (x ≡ z)) ⊎ ((b ≡ false) × (y ≡ z))

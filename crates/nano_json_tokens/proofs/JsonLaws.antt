@@ -1,20 +1,17 @@
 -- What is proved of Json.
 use Rattle.std.specs.Prelude.{◌≡◌, ℕ, codes, true, false, List, [], ◌∷◌, ◌++◌, refl}
 use Rattle.std.proofs.Common.{sym, ◌∙◌, ap, append_assoc}
-use Rattle.nano_text.proofs.EachLaws.{all_append}
-use Rattle.nano_grammar.specs.Cutting.{Cutting, IsPunctuator, IsWrittenGap}
-use Rattle.nano_grammar.specs.Items.{ListPunctuation}
-use Rattle.nano_grammar.specs.Layouts.{no_gaps, PunctuationIs, AreGaps}
-use Rattle.nano_grammar.specs.Options.{NoneStyle}
-use Rattle.nano_grammar.specs.Encoding.{AreBrackets}
-use Rattle.nano_grammar.specs.Units.{UnitStyle}
-use Rattle.nano_grammar.specs.Canonical.{ListStyle, PairStyle, TupleStyle}
-use Rattle.nano_json_tokens.specs.Brackets.{blocks, curlies, block_punctuation, curly_punctuation}
-use Rattle.nano_json_tokens.specs.Cut.{Cut, is_space}
-use Rattle.nano_json_tokens.proofs.CutAgainLaws.{punctuator_is_cut, null_is_cut, null_textual}
+use Rattle.nano_text.proofs.LaneMasks.{all_append}
+use Rattle.nano_grammar.specs.Tokens.{Cutting, IsPunctuator, IsWrittenGap}
+use Rattle.nano_grammar.specs.Items.{ListPunctuation, no_gaps, PunctuationIs, AreGaps}
+use Rattle.nano_grammar.specs.Scalars.{NoneStyle, UnitStyle}
+use Rattle.nano_grammar.specs.Codec.{AreBrackets, ListStyle, PairStyle, TupleStyle}
+use Rattle.nano_json_tokens.specs.Token.{blocks, curlies, block_punctuation, curly_punctuation}
 use Rattle.nano_json_tokens.specs.Token.{Token, null, colon, comma}
+use Rattle.nano_text.specs.Characters.{is_space}
+use Rattle.nano_json_tokens.specs.Cut.{Cut, AllSpace, json_grammar}
+use Rattle.nano_json_tokens.proofs.CutAgainLaws.{punctuator_is_cut, null_is_cut, null_textual}
 use Rattle.nano_json_tokens.specs.Written.{MayFollow}
-use Rattle.nano_json_tokens.specs.Json.{AllSpace, json_grammar}
 
 -- ---- how a text is cut
 

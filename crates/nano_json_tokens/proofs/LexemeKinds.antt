@@ -1,14 +1,19 @@
 -- What the first character of a text says of the lexeme that the text begins with.
-use Rattle.std.proofs.Common.{◌≡◌, ℕ, List, [], ◌∷◌, inl, inr, Bool, true, false, cond, refl, ap, sym, ◌∙◌, None, is_some, arith, nat_eq, ◌≤◌, eqb-true, ne_eqb}
+use Rattle.std.proofs.Common.{◌≡◌, ℕ, List, [], ◌∷◌, inl, inr, Bool, true, false, cond, refl, ap}
+use Rattle.std.proofs.Common.{sym, ◌∙◌, None, is_some, arith, nat_eq, ◌≤◌, eqb-true, ne_eqb}
 use Rattle.std.specs.Char.{is_ascii_digit}
 use Rattle.std.specs.declared.str.Chars.{Chars}
 use Rattle.std.proofs.lemmas.Bool.{or_cases}
 use Rattle.nano_text.proofs.Runs.{digit_range}
-use Rattle.nano_text.specs.Prefix.{first_is}
+use Rattle.nano_text.specs.Characters.{first_is}
 use Rattle.nano_text.specs.Number.{is_sign}
 use Rattle.nano_text.specs.Place.{held, remaining, before_nul}
-use Rattle.nano_json_tokens.specs.Token.{Token, str, bool, null, colon, curly_open, curly_close, block_open, block_close, comma, end}
-use Rattle.nano_json_tokens.specs.Cut.{is_space, is_word, starts_number, IsPunctuator, IsWord, IsRunOf, IsQuoted, IsEnd, IsLexeme, punctuator, word, number, quoted, nothing}
+use Rattle.nano_json_tokens.specs.Token.{Token, str, bool, null, colon, curly_open, curly_close}
+use Rattle.nano_json_tokens.specs.Token.{block_open, block_close, comma, end}
+use Rattle.nano_text.specs.Characters.{is_space}
+use Rattle.nano_json_tokens.specs.Cut.{is_word, starts_number, IsPunctuator, IsWord}
+use Rattle.nano_json_tokens.specs.Cut.{IsRunOf, IsQuoted, IsEnd, IsLexeme, punctuator, word, number}
+use Rattle.nano_json_tokens.specs.Cut.{quoted, nothing}
 use Rattle.nano_json_tokens.specs.Scan.{punctuator_of}
 
 pub data Kind : Type 0 where

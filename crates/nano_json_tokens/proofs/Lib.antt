@@ -1,12 +1,11 @@
 pub mod LexemeKinds
 pub mod Cuts
-pub mod NamesAhead
+pub mod Scanning
 pub mod Capacity
-pub mod Shorter
 pub mod BracketCounts
 pub mod Calling
-pub mod Scanning
 pub mod CutAgainLaws
 pub mod JsonLaws
 pub mod ScalarsLaws
 pub mod WrittenTextLaws
+pub mod NamesLaws

@@ -4,15 +4,14 @@ use Rattle.std.specs.Prelude.{refl}
 use Rattle.std.specs.Fmt.{decimal, signed_decimal}
 use Rattle.std.specs.Int.{Width, w64}
 use Rattle.std.proofs.Common.{sym, ◌∙◌, ap}
-use Rattle.nano_value.specs.Legal.{IsText}
-use Rattle.nano_value.specs.Meaning.{number, truth, whole, text}
+use Rattle.nano_value.specs.Meaning.{IsText, number, truth, whole, text}
 use Rattle.nano_meaning.proofs.MeaningLaws.{number_injective, truth_injective, whole_injective}
 use Rattle.nano_meaning.proofs.MeaningLaws.{text_injective}
 use Rattle.nano_grammar.specs.Scalars.{Carries, OneCanonical}
 use Rattle.nano_json_tokens.proofs.CutAgainLaws.{unsigned_is_cut, signed_is_cut, truth_is_cut}
 use Rattle.nano_json_tokens.proofs.CutAgainLaws.{unsigned_textual, signed_textual, truth_textual}
 use Rattle.nano_json_tokens.proofs.WrittenTextLaws.{text_is_cut, text_textual}
-use Rattle.nano_json_tokens.specs.Json.{MayBegin, json_grammar}
+use Rattle.nano_json_tokens.specs.Cut.{MayBegin, json_grammar}
 use Rattle.nano_json_tokens.proofs.JsonLaws.{json}
 use Rattle.nano_json_tokens.specs.Token.{Token, str, u64, i64, bool, null, integer_of}
 use Rattle.nano_json_tokens.specs.Written.{written_truth, written_text}

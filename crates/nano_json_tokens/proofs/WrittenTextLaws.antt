@@ -8,12 +8,11 @@ use Rattle.std.proofs.Math.Utf8.{scalar, scalars}
 use Rattle.std.proofs.lemmas.Bool.{eqb-false, and_parts}
 use Rattle.std.proofs.lemmas.Bool.Decides.{nat_tests}
 use Rattle.std.proofs.lemmas.Str.{encodes-chars, scalars-chars, digit_value-digit_char}
-use Rattle.nano_value.specs.Legal.{IsText}
+use Rattle.nano_value.specs.Meaning.{IsText}
 use Rattle.nano_text.specs.String.{Piece, escaped, scalar as scalar_piece, IsPiece, IsString}
 use Rattle.nano_text.specs.String.{piece_text, piece_char, unit_value}
-use Rattle.nano_grammar.specs.Textual.{is_textual, AllTextual}
-use Rattle.nano_grammar.proofs.TextualLaws.{textual_append}
-use Rattle.nano_grammar.specs.Tokens.{IsCutInto}
+use Rattle.nano_grammar.specs.Tokens.{is_textual, AllTextual, IsCutInto}
+use Rattle.nano_grammar.proofs.TokensLaws.{textual_append}
 use Rattle.nano_json_tokens.specs.Token.{str}
 use Rattle.nano_json_tokens.specs.Cut.{quoted, Cut}
 use Rattle.nano_json_tokens.proofs.CutAgainLaws.{cut_at_once}

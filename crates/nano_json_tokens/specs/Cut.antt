@@ -3,17 +3,13 @@ use Rattle.std.specs.Prelude.{◌≡◌, ℕ, ◌==◌, ◌||◌, Bool, true, fa
 use Rattle.std.specs.Prelude.{encode_utf8_all}
 use Rattle.std.specs.Char.{is_ascii_uppercase, is_ascii_lowercase, is_ascii_digit}
 use Rattle.std.specs.List.{AllByRecursion}
-use Rattle.nano_text.specs.Prefix.{first_is}
+use Rattle.nano_text.specs.Characters.{first_is, is_space}
 use Rattle.nano_text.specs.Number.{is_sign, IsNumber}
 use Rattle.nano_text.specs.String.{IsString}
 use Rattle.nano_text.specs.declared.number.Number.TheVariants.{U64, I64, Dec}
 use Rattle.nano_json_tokens.specs.Token.{Token, str, u64, i64, f64, bool, null, colon, curly_open}
-use Rattle.nano_json_tokens.specs.Token.{curly_close, block_open, block_close, comma, end}
-use Rattle.nano_text.specs.Characters.{carriage_return, line_feed, tab}
-
--- line feed, carriage return, tab, space
-abbrev pub is_space : ℕ → Bool
-is_space c = (((c == line_feed) || (c == carriage_return)) || (c == tab)) || (c == 32)
+use Rattle.nano_json_tokens.specs.Token.{curly_close, block_open, block_close, comma, end, bof}
+use Rattle.nano_grammar.specs.Codec.{Grammar}
 
 -- a character of a word: a letter or `_`
 abbrev pub is_word : ℕ → Bool
@@ -77,3 +73,23 @@ pub record Cut (text : List ℕ) (token : Token) (rest : List ℕ) : Type 0 wher
   pub split : text ≡ space ++ body
   pub skipped : AllByRecursion (λ c. is_space c ≡ true) space
   pub lexeme : IsLexeme token body rest
+
+-- ==== how a text is cut
+
+abbrev pub AllSpace : List ℕ → Type 0
+AllSpace = AllByRecursion (λ c. is_space c ≡ true)
+
+-- ---- what may begin a value
+
+-- no comma, colon, closing bracket, `Bof` or end
+abbrev pub MayBegin : Token → Type 0
+MayBegin comma = ⊥
+MayBegin colon = ⊥
+MayBegin curly_close = ⊥
+MayBegin block_close = ⊥
+MayBegin bof = ⊥
+MayBegin end = ⊥
+MayBegin _ = Unit {0}
+
+abbrev pub json_grammar : Grammar Token
+json_grammar = record { may_begin = MayBegin; none = null; none_begins = tt }

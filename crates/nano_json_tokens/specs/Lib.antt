@@ -2,15 +2,9 @@ pub mod Token
 pub mod Cut
 pub mod State
 pub mod Skipped
-pub mod Messages
 pub mod Outcomes
 pub mod Scan
-pub mod Names
-pub mod Input
-pub mod SkippedOutcomes
 pub mod Promises
-pub mod Punctuation
-pub mod Brackets
 pub mod Written
 pub mod WrittenImpls
-pub mod Json
+pub mod Names

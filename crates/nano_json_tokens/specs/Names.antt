@@ -1,26 +1,27 @@
--- A name that stands ahead of a reader.
-use Rattle.std.specs.Prelude.{◌≡◌, ℕ, List, [], ◌∷◌}
-use Rattle.std.specs.declared.str.Chars.{Chars}
-use Rattle.nano_text.specs.Place.{remaining}
-use Rattle.nano_text.specs.Prefix.{following}
-use Rattle.nano_text.specs.String.{IsPlainString}
-use Rattle.nano_json_tokens.specs.declared.state.DeJsonState.{DeJsonState}
-use Rattle.nano_json_tokens.specs.Cut.{is_space}
-use Rattle.nano_json_tokens.specs.Outcomes.{Moved, Takes}
-use Rattle.nano_json_tokens.specs.State.{pending}
-use Rattle.nano_json_tokens.specs.Token.{str, colon}
+-- Names of fields and variants in JSON.
+use Rattle.std.specs.Prelude.{◌≡◌, ℕ, ◌&&◌, nat_lt, Bool, true, List, [], ◌∷◌, ◌++◌, length, chars}
+use Rattle.std.specs.Prelude.{IsUtf8}
+use Rattle.std.specs.List.{list_all}
+use Rattle.nano_value.specs.Meaning.{usize_bound}
+use Rattle.nano_json_tokens.specs.Written.{stands_as_itself}
 
-module _ (old : DeJsonState) (before : Chars) (new : DeJsonState) (after : Chars) where
-  -- the pending token and the name after it were taken, and a colon is pending
-  pub record TookName (name : List ℕ) : Type 0 where
-    pub colon : pending new ≡ colon
-    pub taken : Takes (pending old ∷ (str name ∷ [])) old before new after
-    pub place : Moved old before new after
+-- a name that stands between quotes as it is: UTF-8 in which each character is written as itself
+pub record IsPlainName (name : List ℕ) : Type 0 where
+  pub utf8 : IsUtf8 name
+  pub themselves : list_all stands_as_itself (chars name) ≡ true
 
-  -- no name without escapes stands there with a colon directly after it; white space was passed
-  pub record NoName : Type 0 where
-    pub none : (name rest : List ℕ) → IsPlainString
-        (following is_space (remaining old.cur before)) name (58 ∷ rest) → ⊥
-    pub tok : new.tok ≡ old.tok
-    pub space : remaining new.cur after ≡ following is_space (remaining old.cur before)
-    pub place : Moved old before new after
+-- a byte of ASCII that is written as itself
+abbrev pub is_plain_ascii : ℕ → Bool
+is_plain_ascii c = nat_lt c 128 && stands_as_itself c
+
+-- names of ASCII whose characters are written as themselves
+abbrev pub are_ascii_names : List (List ℕ) → Bool
+are_ascii_names names = list_all (λ name. list_all is_plain_ascii name) names
+
+-- bytes of ASCII that need no escape, so many that a `usize` counts them
+abbrev pub is_variant_name : List ℕ → Bool
+is_variant_name bytes = list_all is_plain_ascii bytes && nat_lt (length bytes) usize_bound
+
+-- a quote, the characters of a name as they are, a quote
+abbrev pub quoted_name : List ℕ → List ℕ
+quoted_name name = 34 ∷ (chars name ++ 34 ∷ [])

@@ -3,7 +3,8 @@ use Rattle.std.specs.Prelude.{◌≡◌, ◌↔◌, true, ℕ, List, [], ◌∷�
 use Rattle.std.specs.List.{AllByRecursion}
 use Rattle.nano_grammar.specs.Tokens.{At, BeginsAt, Leaves, IsOneWay}
 use Rattle.nano_json_tokens.specs.Token.{Token, end}
-use Rattle.nano_json_tokens.specs.Cut.{is_space, Cut}
+use Rattle.nano_text.specs.Characters.{is_space}
+use Rattle.nano_json_tokens.specs.Cut.{Cut}
 use Rattle.nano_json_tokens.specs.Skipped.{SkippedField}
 
 -- a text is cut in one way: one token, one rest

@@ -1,19 +1,23 @@
 -- The code's own tests of characters and tokens, for the contracts of private functions.
 use Rattle.std.specs.Prelude.{◌≡◌, ◌≢◌, ◌==◌, ◌<◌, ℕ, Bool, true, false, List, length, codes}
 use Rattle.std.specs.Prelude.{Option, Some, None, bytes_eq, if◌then◌else◌, Result, MatchResult}
-use Rattle.std.specs.Prelude.{string_capacity}
+use Rattle.std.specs.Prelude.{string_capacity, ◌⊎◌, [], ◌∷◌}
 use Rattle.std.specs.declared.str.Chars.{Chars}
 use Rattle.nano_text.specs.Place.{remaining}
-use Rattle.nano_text.specs.Prefix.{prefix, following}
-use Rattle.nano_grammar.specs.Outcomes.{NothingCut, TookNext}
+use Rattle.nano_text.specs.Characters.{prefix, following}
+use Rattle.nano_grammar.specs.Outcomes.{NothingCut, TookNext, IsValueError as IsValueErrorOf}
+use Rattle.nano_grammar.specs.Outcomes.{HoldsNul, end_message}
 use Rattle.nano_json_tokens.specs.declared.scan.Rejection.{Rejection}
 use Rattle.nano_json_tokens.specs.declared.scan.Rejection.TheVariants.{Memory}
 use Rattle.nano_json_tokens.specs.declared.state.DeJsonState.{DeJsonState}
-use Rattle.nano_json_tokens.specs.Cut.{is_space, is_word}
-use Rattle.nano_json_tokens.specs.Outcomes.{Outgrows, Moved, position}
-use Rattle.nano_json_tokens.specs.State.{KeepsOtherBuffers}
+use Rattle.nano_text.specs.Characters.{is_space}
+use Rattle.nano_json_tokens.specs.Cut.{is_word}
+use Rattle.nano_json_tokens.specs.Outcomes.{Outgrows, Moved, position, report, Says, Takes}
+use Rattle.nano_json_tokens.specs.State.{KeepsOtherBuffers, pending}
 use Rattle.nano_json_tokens.specs.Token.{Token, str, u64, i64, f64, bool, null, colon, curly_open}
 use Rattle.nano_json_tokens.specs.Token.{curly_close, block_open, block_close, comma, end}
+use Rattle.nano_json_tokens.specs.declared.error.DeJsonErr.{DeJsonErr}
+use Rattle.nano_text.specs.String.{IsPlainString}
 
 -- the token that a word is
 abbrev pub word_token : List ℕ → Option Token
@@ -103,3 +107,36 @@ is_closing _ = false
 abbrev pub is_end : Token → Bool
 is_end end = true
 is_end _ = false
+
+-- ==== the characters that are still to be read
+
+-- the input ends here
+pub record IsWholeInput (s : DeJsonState) (input : List ℕ) : Type 0 where
+  pub ends : pending s ≡ end
+  pub no_nul : HoldsNul input → ⊥
+
+-- another token is pending, or a NUL stands somewhere
+pub record GoesOn (s : DeJsonState) (input : List ℕ) (e : DeJsonErr) : Type 0 where
+  pub goes_on : (pending s ≢ end) ⊎ HoldsNul input
+  pub says : Says s end_message e
+
+-- the message is not that of a value that goes on; all else is the same
+abbrev pub IsValueError : DeJsonErr → DeJsonErr → Type 0
+IsValueError error result = IsValueErrorOf (report error) (report result)
+
+-- ==== a name that stands ahead of a reader
+
+module _ (old : DeJsonState) (before : Chars) (new : DeJsonState) (after : Chars) where
+  -- the pending token and the name after it were taken, and a colon is pending
+  pub record TookName (name : List ℕ) : Type 0 where
+    pub colon : pending new ≡ colon
+    pub taken : Takes (pending old ∷ (str name ∷ [])) old before new after
+    pub place : Moved old before new after
+
+  -- no name without escapes stands there with a colon directly after it; white space was passed
+  pub record NoName : Type 0 where
+    pub none : (name rest : List ℕ) → IsPlainString
+        (following is_space (remaining old.cur before)) name (58 ∷ rest) → ⊥
+    pub tok : new.tok ≡ old.tok
+    pub space : remaining new.cur after ≡ following is_space (remaining old.cur before)
+    pub place : Moved old before new after

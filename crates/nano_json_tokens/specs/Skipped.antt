@@ -1,8 +1,19 @@
 -- A skipped field: one token of a value, or a whole bracket.
-use Rattle.std.specs.Prelude.{◌≡◌, ◌≢◌, ◌⊎◌, ℕ, ◌+◌, List, [], ◌∷◌, ◌++◌}
+use Rattle.std.specs.Prelude.{◌≡◌, ◌≢◌, ◌⊎◌, ℕ, ◌+◌, List, [], ◌∷◌, ◌++◌, true, Result, MatchResult}
 use Rattle.std.specs.List.{AllByRecursion}
+use Rattle.std.specs.declared.str.Chars.{Chars}
 use Rattle.nano_json_tokens.specs.Token.{Token, str, u64, i64, f64, bool, null, curly_open}
 use Rattle.nano_json_tokens.specs.Token.{curly_close, block_open, block_close, end}
+use Rattle.nano_text.specs.Place.{remaining}
+use Rattle.nano_grammar.specs.Outcomes.{Took, RejectsToken}
+use Rattle.nano_json_tokens.specs.declared.error.DeJsonErr.{DeJsonErr}
+use Rattle.nano_json_tokens.specs.declared.scan.Rejection.{Rejection}
+use Rattle.nano_json_tokens.specs.declared.scan.Rejection.TheVariants.{Memory}
+use Rattle.nano_json_tokens.specs.declared.state.DeJsonState.{DeJsonState}
+use Rattle.nano_json_tokens.specs.Cut.{Cut}
+use Rattle.nano_json_tokens.specs.Outcomes.{report, position, Keeps, Moved, NoneHere, NoCapacity}
+use Rattle.nano_json_tokens.specs.Scan.{is_scalar}
+use Rattle.nano_json_tokens.specs.State.{ended, pending, KeepsOtherBuffers}
 
 -- how many opening brackets a token is, square or curly
 abbrev pub opens : Token → ℕ
@@ -55,3 +66,29 @@ SkippedField ts = ((t : Token) × (ts ≡ t ∷ []) × IsScalar t) ⊎ IsBracket
 -- a skipped field may begin with the token
 abbrev pub BeginsField : Token → Type 0
 BeginsField t = IsScalar t ⊎ (opens t ≡ 1)
+
+-- ==== calls that pass over a field
+
+module _ (old : DeJsonState) (before : Chars) (new : DeJsonState) (after : Chars) where
+  -- a field is taken; what is said of the buffers is said of a field of one token
+  abbrev pub TakesField : {A : Type 0} → Result A DeJsonErr → Type 0
+  TakesField result = MatchResult result
+      (λ _. (field : List Token) × SkippedField field
+      × Took Cut (is_scalar (pending old) ≡ true → KeepsOtherBuffers old new)
+      (position old before) (position new after) field)
+      (λ e. RejectsToken ended (BeginsField (pending old))
+      ((field : List Token) → SkippedField field → NoneHere field old before)
+      (is_scalar (pending old) ≡ true → NoCapacity old (remaining old.cur before))
+      (Keeps old before new after) (position old before) (position new after) (report e))
+
+  -- no brackets with all between them stand here
+  pub record NotBracketed (r : Rejection) : Type 0 where
+    pub rejected : r ≢ Memory → (field : List Token) → IsBracketed field → NoneHere field old before
+    pub place : Moved old before new after
+
+  -- brackets are taken with all between them
+  abbrev pub SkipsBrackets : {A : Type 0} → Result A Rejection → Type 0
+  SkipsBrackets result = MatchResult result
+      (λ _. (field : List Token) × IsBracketed field
+      × Took Cut (Unit {0}) (position old before) (position new after) field)
+      NotBracketed

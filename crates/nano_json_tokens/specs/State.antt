@@ -1,7 +1,8 @@
 -- What a reader's state and its characters stand for.
-use Rattle.std.specs.Prelude.{◌≡◌, ℕ, List, [], string_bytes}
+use Rattle.std.specs.Prelude.{◌≡◌, ℕ, List, [], string_bytes, ℤ, ◌++◌, codes, decimal}
 use Rattle.std.specs.declared.str.Chars.{Chars}
-use Rattle.nano_text.specs.Place.{remaining}
+use Rattle.std.specs.Fmt.{signed_decimal}
+use Rattle.nano_text.specs.Place.{remaining, saturating_next}
 use Rattle.nano_grammar.specs.Tokens.{At}
 use Rattle.nano_text.specs.declared.place.Place.{Place}
 use Rattle.nano_json_tokens.specs.declared.token.DeJsonTok.{DeJsonTok}
@@ -14,6 +15,7 @@ use Rattle.nano_json_tokens.specs.declared.state.DeJsonState.{DeJsonState}
 use Rattle.nano_json_tokens.specs.Token.{Token, str, character, u64, i64, f64, bool, bare_ident}
 use Rattle.nano_json_tokens.specs.Token.{null, colon, curly_open, curly_close, block_open}
 use Rattle.nano_json_tokens.specs.Token.{block_close, comma, bof, end, IsStr, IsNumeric, IsLiteral}
+use Rattle.nano_json_tokens.specs.declared.error.DeJsonErr.{DeJsonErr}
 
 -- the token, with the text that it has in a buffer
 abbrev pub token_of : DeJsonTok → List ℕ → List ℕ → Token
@@ -71,3 +73,31 @@ pub record IsFresh (s : DeJsonState) : Type 0 where
   pub identbuf : string_bytes s.identbuf ≡ []
   pub line : s.line ≡ 0
   pub col : s.col ≡ 0
+
+-- ==== the texts of errors
+
+-- a value and the bound that it is beyond, with a sign between
+abbrev pub out_of_range : List ℕ → List ℕ → List ℕ → List ℕ
+out_of_range value sign bound =
+    codes "Value out of range " ++ (value ++ (sign ++ (bound ++ codes " ")))
+
+abbrev pub below_range : ℤ → ℤ → List ℕ
+below_range value least = out_of_range (signed_decimal value) (codes "<") (signed_decimal least)
+
+abbrev pub above_range : ℤ → ℤ → List ℕ
+above_range value greatest =
+    out_of_range (signed_decimal value) (codes ">") (signed_decimal greatest)
+
+-- what an error prints: lines and columns are counted from 1 there
+abbrev pub error_text : DeJsonErr → List ℕ
+error_text e =
+    let place = decimal (saturating_next e.line)
+    ++ (codes " col:" ++ decimal (saturating_next e.col)) in
+    codes "Json Deserialize error: " ++ (string_bytes e.msg ++ (codes ", line:" ++ place))
+
+-- the same message, place and memory flag
+pub record IsSameError (a b : DeJsonErr) : Type 0 where
+  pub msg : string_bytes b.msg ≡ string_bytes a.msg
+  pub line : b.line ≡ a.line
+  pub col : b.col ≡ a.col
+  pub memory : b.memory ≡ a.memory

@@ -1,5 +1,6 @@
 -- The tokens of JSON, each with the text that it carries, as bytes of UTF-8.
-use Rattle.std.specs.Prelude.{ℕ, ℤ, pos, Bool, List, Option, Some, None}
+use Rattle.std.specs.Prelude.{ℕ, ℤ, pos, Bool, List, Option, Some, None, true, false}
+use Rattle.nano_grammar.specs.Items.{ListPunctuation}
 
 pub data Token : Type 0 where
   -- a string, with its characters
@@ -47,3 +48,35 @@ abbrev pub IsLiteral : Token → Type 0
 IsLiteral (bool b) = Unit {0}
 IsLiteral null = Unit {0}
 IsLiteral _ = ⊥
+
+-- ==== the brackets and the comma of lists and maps, as tokens and as characters
+
+-- square brackets
+abbrev pub blocks : ListPunctuation Token
+blocks = record { opening = block_open; closing = block_close; comma = comma }
+
+-- braces
+abbrev pub curlies : ListPunctuation Token
+curlies = record { opening = curly_open; closing = curly_close; comma = comma }
+
+-- [ ] ,
+abbrev pub block_punctuation : ListPunctuation ℕ
+block_punctuation = record { opening = 91; closing = 93; comma = 44 }
+
+-- { } ,
+abbrev pub curly_punctuation : ListPunctuation ℕ
+curly_punctuation = record { opening = 123; closing = 125; comma = 44 }
+
+-- ==== tests of the pending token
+
+abbrev pub is_null : Token → Bool
+is_null null = true
+is_null _ = false
+
+abbrev pub is_block_close : Token → Bool
+is_block_close block_close = true
+is_block_close _ = false
+
+abbrev pub is_curly_close : Token → Bool
+is_curly_close curly_close = true
+is_curly_close _ = false

@@ -4,7 +4,7 @@ use Rattle.std.specs.Prelude.{List, [], ◌∷◌, ◌++◌, if◌then◌else◌
 use Rattle.std.specs.Char.{digit_char}
 use Rattle.std.specs.List.{flat_map}
 use Rattle.nano_text.specs.String.{Piece, CodeUnit, plain, escaped, scalar, piece_text}
-use Rattle.nano_json_tokens.specs.Cut.{is_space}
+use Rattle.nano_text.specs.Characters.{is_space}
 use Rattle.nano_text.specs.Characters.{backslash, backspace, carriage_return, form_feed, letter_b}
 use Rattle.nano_text.specs.Characters.{letter_f, letter_n, letter_r, letter_t, line_feed, quote}
 use Rattle.nano_text.specs.Characters.{tab}

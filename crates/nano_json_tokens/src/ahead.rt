@@ -2,7 +2,8 @@
 //! token of a value.
 
 ghost use Rattle.std.specs.Prelude.{◌≡◌, ℕ, List, IfSome, Some, true, false};
-ghost use Rattle.nano_json_tokens.specs.Cut.{is_space, Cut};
+ghost use Rattle.nano_text.specs.Characters.{is_space};
+ghost use Rattle.nano_json_tokens.specs.Cut.{Cut};
 ghost use Rattle.nano_json_tokens.specs.Scan.{punctuator_of, Scans};
 ghost use Rattle.nano_json_tokens.specs.State.{token_of};
 

@@ -1,7 +1,7 @@
 //! Errors of a reader, and the calls of a state that make them.
 
 ghost use Rattle.std.specs.Prelude.{◌≡◌, ◌++◌, true, IfOk, codes};
-ghost use Rattle.nano_json_tokens.specs.Messages.{IsSameError, below_range, above_range};
+ghost use Rattle.nano_json_tokens.specs.State.{IsSameError, below_range, above_range};
 ghost use Rattle.nano_json_tokens.specs.Outcomes.{IsMadeAt, Says, SaysIt};
 
 use crate::state::DeJsonState;
@@ -39,7 +39,7 @@ impl DeJsonErr {
 
 impl fmt::Display for DeJsonErr {
     ghost use Rattle.std.specs.Prelude.{Some};
-    ghost use Rattle.nano_json_tokens.specs.Messages.{error_text};
+    ghost use Rattle.nano_json_tokens.specs.State.{error_text};
 
     ghost output = { λ e. Some (error_text e) };
 
@@ -53,7 +53,7 @@ impl fmt::Display for DeJsonErr {
 
 impl fmt::Debug for DeJsonErr {
     ghost use Rattle.std.specs.Prelude.{Some};
-    ghost use Rattle.nano_json_tokens.specs.Messages.{error_text};
+    ghost use Rattle.nano_json_tokens.specs.State.{error_text};
 
     ghost debug_output = { λ e. Some (error_text e) };
 

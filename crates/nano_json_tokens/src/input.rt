@@ -1,7 +1,7 @@
 //! What a reader of a whole input needs: the end after the value, and the errors of the value.
 
 ghost use Rattle.std.specs.Prelude.{MatchResult};
-ghost use Rattle.nano_json_tokens.specs.Input.{IsWholeInput, GoesOn, IsValueError};
+ghost use Rattle.nano_json_tokens.specs.Scan.{IsWholeInput, GoesOn, IsValueError};
 
 use crate::error::DeJsonErr;
 use crate::state::DeJsonState;

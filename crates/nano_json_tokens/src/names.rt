@@ -1,7 +1,7 @@
 //! A name that stands ahead, in place.
 
 ghost use Rattle.std.specs.Prelude.{MatchOption};
-ghost use Rattle.nano_json_tokens.specs.Names.{NoName, TookName};
+ghost use Rattle.nano_json_tokens.specs.Scan.{NoName, TookName};
 ghost use Rattle.nano_json_tokens.specs.State.{KeepsBuffers};
 
 use crate::state::DeJsonState;

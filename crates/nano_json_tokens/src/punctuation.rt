@@ -2,7 +2,7 @@
 
 ghost use Rattle.std.specs.Prelude.{◌≡◌};
 ghost use Rattle.nano_json_tokens.specs.State.{pending};
-ghost use Rattle.nano_json_tokens.specs.Punctuation.{is_null, is_block_close, is_curly_close};
+ghost use Rattle.nano_json_tokens.specs.Token.{is_null, is_block_close, is_curly_close};
 ghost use Rattle.nano_json_tokens.specs.Scan.{is_scalar, is_opening, is_closing, is_end};
 
 use crate::state::DeJsonState;

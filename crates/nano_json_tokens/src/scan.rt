@@ -2,7 +2,7 @@
 
 ghost use Rattle.std.specs.Prelude.{◌≡◌, ◌≢◌, ℕ, List, None, false};
 ghost use Rattle.std.specs.Option.{option_map};
-ghost use Rattle.nano_json_tokens.specs.Cut.{is_space, starts_number, Cut, IsLexeme, IsRunOf};
+ghost use Rattle.nano_json_tokens.specs.Cut.{starts_number, Cut, IsLexeme, IsRunOf};
 ghost use Rattle.nano_json_tokens.specs.Cut.{IsQuoted};
 ghost use Rattle.nano_json_tokens.specs.Scan.{punctuator_of, Scans, PassedSpace};
 ghost use Rattle.nano_json_tokens.specs.State.{token_of};
@@ -10,7 +10,7 @@ ghost use Rattle.nano_json_tokens.specs.State.{token_of};
 use crate::state::DeJsonState;
 use crate::token::DeJsonTok;
 use crate::words::is_word;
-use nano_text::{Fault, Number, read_number, read_string};
+use nano_text::{Fault, Number, is_space, read_number, read_string};
 use std::str::Chars;
 
 /// Why no token was taken. The message is made where the error is reported to the caller, so
@@ -52,14 +52,14 @@ impl DeJsonState {
         }
     }
 
-    /// Passes over white space, character by character.
+    /// Passes over white space.
     #[inline(never)]
     fn skip_spaces(&mut self, i: &mut Chars<'_>)
         ensures { PassedSpace self.old i.old self.new i.new }
     {
-        'space: while is_space(self.cur) {
-            self.next(i);
-        }
+        let mut place = self.place();
+        place.skip_space(i);
+        self.stand_at(place);
     }
 
     /// Takes the token that begins here, where no white space stands. Most are a number, a
@@ -147,13 +147,6 @@ impl DeJsonState {
             },
         }
     }
-}
-
-#[inline]
-fn is_space(c: char) -> bool
-    ensures { result ≡ is_space c }
-{
-    c == '\n' || c == '\r' || c == '\t' || c == ' '
 }
 
 #[inline]

@@ -2,8 +2,7 @@
 
 ghost use Rattle.std.specs.Prelude.{◌≡◌, ◌+◌, ◌<◌, ◌^◌, true};
 ghost use Rattle.nano_json_tokens.specs.Scan.{is_opening};
-ghost use Rattle.nano_json_tokens.specs.SkippedOutcomes.{TakesField, SkipsBrackets};
-ghost use Rattle.nano_json_tokens.specs.Skipped.{opens, closes};
+ghost use Rattle.nano_json_tokens.specs.Skipped.{TakesField, SkipsBrackets, opens, closes};
 ghost use Rattle.nano_json_tokens.specs.State.{pending};
 
 use crate::error::DeJsonErr;

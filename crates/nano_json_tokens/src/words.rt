@@ -1,7 +1,7 @@
 //! How a reader's state takes a word: `true`, `false` or `null`.
 
 ghost use Rattle.std.specs.Prelude.{◌≡◌, MatchResult, Some, string_bytes};
-ghost use Rattle.nano_text.specs.Prefix.{prefix};
+ghost use Rattle.nano_text.specs.Characters.{prefix};
 ghost use Rattle.nano_text.specs.Place.{remaining};
 ghost use Rattle.nano_json_tokens.specs.Cut.{is_word};
 ghost use Rattle.nano_json_tokens.specs.Scan.{word_token, FoundWord, NotWord, NoCapacityForWord};

@@ -2,16 +2,14 @@
 use Rattle.std.specs.Prelude.{ℕ, map, refl}
 use Rattle.std.specs.Option.{option_map}
 use Rattle.std.specs.declared.cmp.Ordering.{Ordering}
-use Rattle.nano_meaning.specs.Legal.{LegalOption, LegalList, LegalArray, LegalPair}
-use Rattle.nano_meaning.proofs.LegalLaws.{option_weaker, list_weaker, array_weaker, pair_weaker}
-use Rattle.nano_meaning.specs.Meaning.{Meaning, optional, listed, paired, pair_map}
+use Rattle.nano_meaning.specs.Meaning.{LegalOption, LegalList, LegalArray, LegalPair, Meaning}
+use Rattle.nano_meaning.specs.Meaning.{optional, listed, paired, pair_map, Agrees}
+use Rattle.nano_meaning.proofs.MeaningLaws.{option_weaker, list_weaker, array_weaker, pair_weaker}
 use Rattle.nano_meaning.specs.Sets.{LegalSet, item_set, set_means}
 use Rattle.nano_meaning.proofs.SetsLaws.{set_weaker}
-use Rattle.nano_meaning.specs.OrderedMaps.{ordered_map_means}
-use Rattle.nano_meaning.specs.OrderedSets.{ordered_means}
+use Rattle.nano_meaning.specs.Ordered.{ordered_map_means, ordered_means}
 use Rattle.nano_meaning.specs.Tables.{LegalMap, table_of, table_means}
 use Rattle.nano_meaning.proofs.TablesLaws.{map_weaker}
-use Rattle.nano_meaning.specs.Agrees.{Agrees}
 
 -- a format that says both as the type does
 pub agreed : {A : Type 0} {means : A → Meaning} {legal : Meaning → Type 0}

@@ -15,18 +15,17 @@ use Rattle.std.specs.Map.{lookup, keys_of}
 use Rattle.std.proofs.Common.{sym, ◌∙◌, subst, ap, append_assoc}
 use Rattle.std.proofs.lemmas.List.{append-nil, length-map}
 use Rattle.std.proofs.lemmas.Map.Keys.{IsDistinct-from_sorted}
-use Rattle.nano_meaning.specs.Meaning.{Meaning, pair_map, usize_bound}
+use Rattle.nano_meaning.specs.Meaning.{Meaning, pair_map, usize_bound, EqAgrees, BothOfPair}
+use Rattle.nano_meaning.specs.Meaning.{AllOfList}
 use Rattle.nano_meaning.specs.Order.{meaning_cmp}
-use Rattle.nano_meaning.proofs.OrderLaws.{meaning_cmp-total, meaning_cmp-antisymmetric, same_meaning}
-use Rattle.nano_meaning.proofs.OrderLaws.{same_meaning-decides}
-use Rattle.nano_meaning.specs.Exact.{EqAgrees}
-use Rattle.nano_meaning.specs.Legal.{BothOfPair, AllOfList}
-use Rattle.nano_meaning.proofs.LegalLaws.{all-map}
+use Rattle.nano_meaning.proofs.OrderLaws.{meaning_cmp-total, meaning_cmp-antisymmetric}
+use Rattle.nano_meaning.proofs.OrderLaws.{same_meaning, same_meaning-decides}
+use Rattle.nano_meaning.proofs.MeaningLaws.{all-map}
 use Rattle.nano_meaning.specs.Tables.{Table, table_of, insert_all, last_values, AllOfTable}
+use Rattle.nano_meaning.specs.Tables.{ascending, IsOrderOf}
 use Rattle.nano_meaning.proofs.TablesLaws.{no_entries, get-table_of}
 use Rattle.nano_meaning.proofs.SortedEntriesLaws.{equal, same_values, all_found, strictly_sorted}
 use Rattle.nano_meaning.proofs.SortedEntriesLaws.{put_last, above_earlier}
-use Rattle.nano_meaning.specs.Ascending.{ascending, IsOrderOf}
 
 -- the order of a type whose `==` agrees with what its values mean
 pub key_order : {K : Type 0} (R : K → K → Ordering) (E : K → K → Bool) (means written : K → Meaning)

@@ -10,10 +10,9 @@ use Rattle.std.specs.Cmp.Lexicographic.{pointwise, bytes_decides}
 use Rattle.std.proofs.Common.{ap, sym, ◌∙◌, subst}
 use Rattle.std.proofs.lemmas.Bool.{and_from}
 use Rattle.nano_meaning.specs.Meaning.{Meaning, number, text, nothing, both, whole, truth, optional}
-use Rattle.nano_meaning.specs.Meaning.{listed, paired, pair_map}
+use Rattle.nano_meaning.specs.Meaning.{listed, paired, pair_map, EqAgrees}
 use Rattle.nano_meaning.proofs.MeaningLaws.{number_injective, truth_injective, whole_injective}
 use Rattle.nano_meaning.proofs.MeaningLaws.{text_injective, both_injective}
-use Rattle.nano_meaning.specs.Exact.{EqAgrees}
 
 false_is_not_true : {P : Type 0} → false ≡ true → P
 false_is_not_true h = absurd (cc)

@@ -6,23 +6,27 @@ use Rattle.std.specs.List.{AllByRecursion}
 use Rattle.std.specs.List.Sorted.{IsStrictlySortedBy}
 use Rattle.std.specs.Ordering.{is_lt, is_eq}
 use Rattle.std.specs.Cmp.{IsTotalOrder}
-use Rattle.std.specs.Cmp.Lexicographic.{pointwise}
+use Rattle.std.specs.Cmp.Lexicographic.{pointwise, slice_cmp, lists_total}
 use Rattle.std.specs.FinMap.Entries.{below_all, is_sorted}
 use Rattle.std.specs.Map.{keys_of}
 use Rattle.std.proofs.Common.{ap, sym, ◌∙◌, subst}
-use Rattle.nano_meaning.specs.Meaning.{Meaning, listed, paired, pair_map}
+use Rattle.std.specs.FinMap.{slice_cmp-IsAntisymmetric}
+use Rattle.nano_meaning.specs.Meaning.{Meaning, listed, paired, pair_map, EqAgrees}
 use Rattle.nano_meaning.proofs.MeaningLaws.{listed_injective}
-use Rattle.nano_meaning.specs.Exact.{EqAgrees}
 use Rattle.nano_meaning.proofs.ExactLaws.{lists_tell, pairs_tell}
-use Rattle.nano_meaning.specs.Tables.{table_of, table_means, LegalMap, last_values}
+use Rattle.nano_meaning.specs.Tables.{table_of, table_means, LegalMap, last_values, IsOrderOf}
+use Rattle.nano_meaning.specs.Tables.{ascending}
 use Rattle.nano_meaning.proofs.TablesLaws.{map_is_legal, table_means-injective, pairs_injective}
 use Rattle.nano_meaning.specs.Sets.{marked}
-use Rattle.nano_meaning.specs.OrderedSets.{unordered}
+use Rattle.nano_meaning.specs.Ordered.{unordered, ordered_map_means, seen_map, pairs_of, entry_cmp}
 use Rattle.nano_meaning.proofs.OrderedSetsLaws.{unordered_injective, no_list_is_unordered, is_true}
-use Rattle.nano_meaning.proofs.OrderedSetsLaws.{same_sorted, sorted_marked}
-use Rattle.nano_meaning.specs.Ascending.{IsOrderOf}
+use Rattle.nano_meaning.proofs.OrderedSetsLaws.{same_sorted, sorted_marked, listed_is_list}
+use Rattle.nano_meaning.proofs.OrderedSetsLaws.{unordered_is_none, seen_unordered, map_itself}
 use Rattle.nano_meaning.proofs.AscendingLaws.{key_order, ascending_same, ascending-sorted}
-use Rattle.nano_meaning.specs.OrderedMaps.{ordered_map_means}
+use Rattle.nano_meaning.proofs.AscendingLaws.{table_of-ascending}
+use Rattle.nano_meaning.specs.Order.{meaning_cmp, MeaningOrder, Follows, items_of, parts_of}
+use Rattle.nano_meaning.proofs.OrderLaws.{meanings, by_meaning-orders, order_by, order_by-is}
+use Rattle.nano_meaning.proofs.OrderLaws.{seen_items, lists_map, pairs, pairs_follow, followed}
 
 module _ {K V : Type 0} (R : K → K → Ordering) where
   below_keys : (x : K) (es : List (K × V)) → below_all R x es ≡ below_all R x (marked (keys_of es))
@@ -41,13 +45,13 @@ module _ {K V : Type 0} (R : K → K → Ordering) where
 
   module _ (f : K → Meaning) (g : V → Meaning) where
     -- what the entries mean, pair by pair
-    abbrev pairs_of : List (K × V) → List (Meaning × Meaning)
-    pairs_of es = map (pair_map f g) es
+    abbrev meant_pairs : List (K × V) → List (Meaning × Meaning)
+    meant_pairs es = map (pair_map f g) es
 
     pub ordered_map_means-sorted : (es : List (K × V)) → IsStrictlySortedBy R (keys_of es)
         → ordered_map_means R f g es ≡ table_means (table_of f g es)
     ordered_map_means-sorted es h =
-        ap (λ b. cond b (table_means (table_of f g es)) (unordered (map paired (pairs_of es))))
+        ap (λ b. cond b (table_means (table_of f g es)) (unordered (map paired (meant_pairs es))))
         (is_true R _ (sorted_entries es h))
 
     -- a map of legal entries is legal
@@ -60,13 +64,13 @@ module _ {K V : Type 0} (R : K → K → Ordering) where
 
     -- what entries mean that were found to stand in order, or not
     abbrev found_means : List (K × V) → Bool → Meaning
-    found_means es b = cond b (table_means (table_of f g es)) (unordered (map paired (pairs_of es)))
+    found_means es b = cond b (table_means (table_of f g es)) (unordered (map paired (meant_pairs es)))
 
     pairs_from_unordered : (es fs : List (K × V))
-        → unordered (map paired (pairs_of es)) ≡ unordered (map paired (pairs_of fs))
-        → pairs_of es ≡ pairs_of fs
+        → unordered (map paired (meant_pairs es)) ≡ unordered (map paired (meant_pairs fs))
+        → meant_pairs es ≡ meant_pairs fs
     pairs_from_unordered es fs e =
-        pairs_injective (pairs_of es) (pairs_of fs) (unordered_injective _ _ e)
+        pairs_injective (meant_pairs es) (meant_pairs fs) (unordered_injective _ _ e)
 
     -- maps that mean the same have the same table
     pub ordered_map_means-tables : (es fs : List (K × V))
@@ -78,21 +82,21 @@ module _ {K V : Type 0} (R : K → K → Ordering) where
           | true ↦ elim (is_sorted R fs) as (λ b. table_means (table_of f g es) ≡ found_means fs b
               → table_of f g es ≡ table_of f g fs) [
                 | true ↦ λ e. table_means-injective (table_of f g es) (table_of f g fs) e
-                | false ↦ λ e. no_list_is_unordered _ (map paired (pairs_of fs)) e
+                | false ↦ λ e. no_list_is_unordered _ (map paired (meant_pairs fs)) e
               ]
-          | false ↦ elim (is_sorted R fs) as (λ b. unordered (map paired (pairs_of es)) ≡
+          | false ↦ elim (is_sorted R fs) as (λ b. unordered (map paired (meant_pairs es)) ≡
               found_means fs b → table_of f g es ≡ table_of f g fs) [
-                | true ↦ λ e. no_list_is_unordered _ (map paired (pairs_of es)) (sym e)
+                | true ↦ λ e. no_list_is_unordered _ (map paired (meant_pairs es)) (sym e)
                 | false ↦ λ e. ap last_values (pairs_from_unordered es fs e)
               ]
         ]
 
     module _ (order : IsOrderOf f R) where
-      meanings_of_keys : (es : List (K × V)) → map f (keys_of es) ≡ keys_of (pairs_of es)
+      meanings_of_keys : (es : List (K × V)) → map f (keys_of es) ≡ keys_of (meant_pairs es)
       meanings_of_keys [] = refl
       meanings_of_keys (e ∷ es) = ap (λ l. f e.0 ∷ l) (meanings_of_keys es)
 
-      same_order : (es fs : List (K × V)) → pairs_of es ≡ pairs_of fs
+      same_order : (es fs : List (K × V)) → meant_pairs es ≡ meant_pairs fs
           → is_sorted R es ≡ is_sorted R fs
       same_order es fs h =
           let keys = meanings_of_keys es ∙ (ap keys_of h ∙ sym (meanings_of_keys fs)) in
@@ -100,37 +104,37 @@ module _ {K V : Type 0} (R : K → K → Ordering) where
           ∙ sym (sorted_keys fs))
 
       -- entries that mean the same, one by one, make the same map
-      pub from_pairs : (es fs : List (K × V)) → pairs_of es ≡ pairs_of fs
+      pub from_pairs : (es fs : List (K × V)) → meant_pairs es ≡ meant_pairs fs
           → ordered_map_means R f g es ≡ ordered_map_means R f g fs
       from_pairs es fs h i =
           cond (same_order es fs h i) (table_means (last_values (h i)))
           (unordered (map paired (h i)))
 
       pairs_in_order : (es fs : List (K × V)) → T (is_sorted R es) → T (is_sorted R fs)
-          → table_of f g es ≡ table_of f g fs → pairs_of es ≡ pairs_of fs
+          → table_of f g es ≡ table_of f g fs → meant_pairs es ≡ meant_pairs fs
       pairs_in_order es fs p q e =
           let entries =
           ascending_same R f order g (pair_map f g) (λ x y k l i. (k i, l i)) es fs e in
-          let left = ap pairs_of (ascending-sorted order.total es p) in
-          let right = ap pairs_of (ascending-sorted order.total fs q) in
+          let left = ap meant_pairs (ascending-sorted order.total es p) in
+          let right = ap meant_pairs (ascending-sorted order.total fs q) in
           sym left ∙ (entries ∙ right)
 
       -- maps that mean the same have entries that mean the same, one by one
       pub ordered_map_means-pairs : (es fs : List (K × V))
-          → ordered_map_means R f g es ≡ ordered_map_means R f g fs → pairs_of es ≡ pairs_of fs
+          → ordered_map_means R f g es ≡ ordered_map_means R f g fs → meant_pairs es ≡ meant_pairs fs
       ordered_map_means-pairs es fs =
           elim (is_sorted R es) as (λ a. is_sorted R es ≡ a
-          → found_means es a ≡ ordered_map_means R f g fs → pairs_of es ≡ pairs_of fs) [
+          → found_means es a ≡ ordered_map_means R f g fs → meant_pairs es ≡ meant_pairs fs) [
             | true ↦ λ p. elim (is_sorted R fs) as (λ b. is_sorted R fs ≡ b
-                → table_means (table_of f g es) ≡ found_means fs b → pairs_of es ≡ pairs_of fs) [
+                → table_means (table_of f g es) ≡ found_means fs b → meant_pairs es ≡ meant_pairs fs) [
                   | true ↦ λ q e. pairs_in_order es fs (subst T (sym p) tt) (subst T (sym q) tt)
                       (table_means-injective (table_of f g es) (table_of f g fs) e)
-                  | false ↦ λ q e. no_list_is_unordered _ (map paired (pairs_of fs)) e
+                  | false ↦ λ q e. no_list_is_unordered _ (map paired (meant_pairs fs)) e
                 ] refl
             | false ↦ λ p. elim (is_sorted R fs) as (λ b. is_sorted R fs ≡ b
-                → unordered (map paired (pairs_of es)) ≡ found_means fs b
-                → pairs_of es ≡ pairs_of fs) [
-                  | true ↦ λ q e. no_list_is_unordered _ (map paired (pairs_of es)) (sym e)
+                → unordered (map paired (meant_pairs es)) ≡ found_means fs b
+                → meant_pairs es ≡ meant_pairs fs) [
+                  | true ↦ λ q e. no_list_is_unordered _ (map paired (meant_pairs es)) (sym e)
                   | false ↦ λ q e. pairs_from_unordered es fs e
                 ] refl
           ] refl
@@ -157,3 +161,85 @@ ordered_maps_tell {K} {V} R E f D g total matches exact reports es fs =
         (map (pair_map f g) xs)
     each_paired [] = refl
     each_paired (x ∷ xs) = ap (λ l. paired (pair_map f g x) ∷ l) (each_paired xs)
+
+-- ==== map order
+
+abbrev pub maps : MeaningOrder → MeaningOrder → MeaningOrder
+maps o p = order_by (seen_map o) (slice_cmp (pairs o p).cmp) (lists_total (pairs o p).total)
+
+seen_parts : (ps : List (Meaning × Meaning)) → map parts_of (map paired ps) ≡ ps
+seen_parts [] = refl
+seen_parts (p ∷ ps) = ap (λ l. p ∷ l) (seen_parts ps)
+
+-- entries in one order, put in another in which they stood
+reordered : (o : MeaningOrder) (ps : List (Meaning × Meaning)) → T (is_sorted o.cmp ps)
+    → ascending o.cmp (ascending meaning_cmp ps) ≡ ps
+reordered o ps sorted =
+    let itself = λ (m : Meaning). m in
+    let table = table_of-ascending meaning_cmp itself (by_meaning-orders itself meanings) itself ps
+    in
+    let same =
+    ascending_same o.cmp itself (by_meaning-orders itself o) itself (λ p. p)
+    (λ x y k l i. (k i, l i)) (ascending meaning_cmp ps) ps table in
+    sym (map_itself (ascending o.cmp (ascending meaning_cmp ps)))
+    ∙ (same ∙ (map_itself (ascending o.cmp ps) ∙ ascending-sorted o.total ps sorted))
+
+module _ {K V : Type 0} (R : K → K → Ordering) (f : K → Meaning) (o : MeaningOrder)
+    (h : Follows R f o) (g : V → Meaning) where
+  below_pairs : (x : K) (es : List (K × V)) → below_all R x es
+      ≡ below_all o.cmp (f x) ((pairs_of R f o h g) es)
+  below_pairs x [] = refl
+  below_pairs x (e ∷ es) = λ i. is_lt (h x e.0 i) && below_pairs x es i
+
+  sorted_pairs : (es : List (K × V)) → is_sorted R es ≡ is_sorted o.cmp ((pairs_of R f o h g) es)
+  sorted_pairs [] = refl
+  sorted_pairs (e ∷ es) = λ i. below_pairs e.0 es i && sorted_pairs es i
+
+  seen : (es : List (K × V)) → seen_map o (ordered_map_means R f g es)
+      ≡ map paired ((pairs_of R f o h g) es)
+  unfolding seen_map
+  seen es =
+      let ps = (pairs_of R f o h g) es in
+      elim (is_sorted R es) as (λ b. is_sorted R es ≡ b
+      → seen_map o (cond b (table_means (table_of f g es)) (unordered (map paired ps))) ≡ map paired
+      ps) [
+        | true ↦ λ e.
+            let Z = ascending meaning_cmp ps in
+            let items = map paired Z in
+            ap (λ b. cond b (map paired (ascending o.cmp (map parts_of (items_of (listed items)))))
+            (items_of (listed items))) (listed_is_list items)
+            ∙ (ap (λ l. map paired (ascending o.cmp (map parts_of l))) (seen_items R f o h items)
+            ∙ (ap (λ l. map paired (ascending o.cmp l)) (seen_parts Z)
+            ∙ ap (map paired) (reordered o ps (subst T (sorted_pairs es) (subst T (sym e) tt)))))
+        | false ↦ λ e. ap (λ b. cond b (map paired (ascending o.cmp (map parts_of (items_of
+            (unordered (map paired ps)))))) (items_of (unordered (map paired ps))))
+            (unordered_is_none (map paired ps)) ∙ seen_unordered (map paired ps)
+      ] refl
+
+  module _ (S : V → V → Ordering) (p : MeaningOrder) (k : Follows S g p) where
+    each_paired : (es : List (K × V)) → map (λ x. paired (pair_map f g x)) es ≡ map paired
+        ((pairs_of R f o h g) es)
+    each_paired [] = refl
+    each_paired (e ∷ es) = ap (λ l. paired (pair_map f g e) ∷ l) (each_paired es)
+
+    pub maps_follow : Follows (slice_cmp (entry_cmp R f o h g S p k)) (ordered_map_means R f g)
+        (maps o p)
+    maps_follow xs ys =
+        let o' = pairs o p in
+        let means = λ (x : K × V). paired (pair_map f g x) in
+        let entries : slice_cmp (entry_cmp R f o h g S p k) xs ys
+        ≡ slice_cmp o'.cmp (map paired ((pairs_of R f o h g) xs))
+        (map paired ((pairs_of R f o h g) ys)) =
+        lists_map (entry_cmp R f o h g S p k) means o' (pairs_follow R f o S g p h k) xs ys
+        ∙ (λ i. slice_cmp o'.cmp (each_paired xs i) (each_paired ys i)) in
+        let shown : slice_cmp (entry_cmp R f o h g S p k) xs ys ≡ slice_cmp o'.cmp
+        (seen_map o (ordered_map_means R f g xs)) (seen_map o (ordered_map_means R f g ys)) =
+        entries ∙ (λ i. slice_cmp o'.cmp (sym (seen xs) i) (sym (seen ys) i)) in
+        let order = subst (λ C. IsOrderOf f C) (followed R f f o h refl) (by_meaning-orders f o) in
+        shown ∙ order_by-is (seen_map o) (slice_cmp o'.cmp) (lists_total o'.total)
+        (ordered_map_means R f g xs) (ordered_map_means R f g ys) (λ e.
+        from_pairs R f g order xs ys
+        (pairs_injective ((pairs_of R f o h g) xs) ((pairs_of R f o h g) ys)
+        (slice_cmp-IsAntisymmetric o'.same (map paired ((pairs_of R f o h g) xs))
+        (map paired ((pairs_of R f o h g) ys))
+        (sym entries ∙ (shown ∙ e)))))

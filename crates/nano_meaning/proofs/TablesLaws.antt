@@ -13,14 +13,12 @@ use Rattle.std.specs.FinMap.Entries.{by_order}
 use Rattle.std.proofs.lemmas.Map.Keys.{IsDistinct-head, IsDistinct-tail}
 use Rattle.std.proofs.Common.{ap, sym, ◌∙◌, subst, arith}
 use Rattle.std.proofs.lemmas.List.{length-map}
-use Rattle.nano_meaning.specs.Meaning.{Meaning, paired, pair_map}
-use Rattle.nano_meaning.proofs.MeaningLaws.{both_injective, listed_injective}
+use Rattle.nano_meaning.specs.Meaning.{Meaning, paired, pair_map, BothOfPair, AllOfList, EqAgrees}
+use Rattle.nano_meaning.proofs.MeaningLaws.{both_injective, listed_injective, image_of, all-map}
+use Rattle.nano_meaning.proofs.MeaningLaws.{all_weaker}
 use Rattle.nano_meaning.specs.Order.{meaning_cmp}
-use Rattle.nano_meaning.proofs.OrderLaws.{meaning_cmp-total, meaning_cmp-antisymmetric, same_meaning}
-use Rattle.nano_meaning.proofs.OrderLaws.{same_meaning-decides}
-use Rattle.nano_meaning.specs.Legal.{BothOfPair, AllOfList}
-use Rattle.nano_meaning.proofs.LegalLaws.{image_of, all-map, all_weaker}
-use Rattle.nano_meaning.specs.Exact.{EqAgrees}
+use Rattle.nano_meaning.proofs.OrderLaws.{meaning_cmp-total, meaning_cmp-antisymmetric}
+use Rattle.nano_meaning.proofs.OrderLaws.{same_meaning, same_meaning-decides}
 use Rattle.nano_meaning.specs.Tables.{insert_all, last_values, Table, table_of, table_means}
 use Rattle.nano_meaning.specs.Tables.{AllOfTable, LegalMap}
 

@@ -1,9 +1,10 @@
 -- What sets mean: tables with nothing at each item.
 use Rattle.std.specs.Prelude.{List, map}
 use Rattle.std.specs.FinMap as table
-use Rattle.nano_meaning.specs.Meaning.{Meaning, listed}
-use Rattle.nano_meaning.specs.Legal.{IsImage}
-use Rattle.nano_meaning.specs.Tables.{Table, last_values, table_of, AllOfTable}
+use Rattle.std.specs.declared.cmp.Ordering.{Ordering}
+use Rattle.std.specs.Map.{keys_of}
+use Rattle.nano_meaning.specs.Meaning.{Meaning, listed, IsImage}
+use Rattle.nano_meaning.specs.Tables.{Table, last_values, table_of, AllOfTable, ascending}
 
 -- items with nothing at each
 abbrev pub marked : {K : Type 0} → List K → List (K × Unit {0})
@@ -31,3 +32,9 @@ AllOfSet P = AllOfTable P (λ _. Unit {0})
 
 abbrev pub LegalSet : (Meaning → Type 0) → Meaning → Type 0
 LegalSet P = IsImage set_means (AllOfSet P)
+
+-- ==== items in order
+
+-- the items in order, each once
+abbrev pub ascending_items : {K : Type 0} → (K → K → Ordering) → List K → List K
+ascending_items R ks = keys_of (ascending R (marked ks))

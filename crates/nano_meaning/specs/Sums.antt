@@ -1,7 +1,6 @@
 -- Enums: a variant means its place among the others and what its content means, in every format.
 use Rattle.std.specs.Prelude.{◌⊎◌, ℕ, suc}
-use Rattle.nano_meaning.specs.Meaning.{Meaning, whole, paired}
-use Rattle.nano_meaning.specs.Legal.{IsImage}
+use Rattle.nano_meaning.specs.Meaning.{Meaning, whole, paired, IsImage}
 
 -- the variants of an enum in their order, each by what is legal for its content
 pub data Variants : Type 1 where

@@ -1,12 +1,16 @@
 -- What maps mean: tables from the meanings of keys, each with the last value that was put at it.
-use Rattle.std.specs.Prelude.{◌<◌, List, [], ◌∷◌, map}
+use Rattle.std.specs.Prelude.{◌<◌, List, [], ◌∷◌, map, ◌≡◌, ◌≢◌, ◌++◌, Some}
 use Rattle.std.specs.declared.cmp.Ordering.{Ordering}
 use Rattle.std.specs.List.{AllByRecursion}
 use Rattle.std.specs.FinMap as table
 use Rattle.std.specs.FinMap.{FinMap}
-use Rattle.nano_meaning.specs.Meaning.{Meaning, listed, paired, pair_map, usize_bound}
+use Rattle.std.specs.Ordering.{eq_by_cmp}
+use Rattle.std.specs.Cmp.{IsTotalOrder}
+use Rattle.std.specs.List.Sorted.{IsPermutation, IsStrictlySortedBy}
+use Rattle.std.specs.Map.{keys_of}
+use Rattle.nano_meaning.specs.Meaning.{Meaning, listed, paired, pair_map, usize_bound, IsImage}
+use Rattle.nano_meaning.specs.Meaning.{BothOfPair, EqAgrees}
 use Rattle.nano_meaning.specs.Order.{meaning_cmp}
-use Rattle.nano_meaning.specs.Legal.{IsImage, BothOfPair}
 
 -- entries put into a table, one after the other
 abbrev pub insert_all : {K X : Type 0} {R : K → K → Ordering} → FinMap R X → List (K × X)
@@ -42,3 +46,36 @@ pub record AllOfTable {X : Type 0} (P : Meaning → Type 0) (Q : X → Type 0) (
 
 abbrev pub LegalMap : (Meaning → Type 0) → (Meaning → Type 0) → Meaning → Type 0
 LegalMap P Q = IsImage table_means (AllOfTable P Q)
+
+-- ==== the entries of a map in the order of the keys, as they are written
+
+-- the entries in the order of the keys: of each key the last value
+abbrev pub ascending : {K X : Type 0} → (K → K → Ordering) → List (K × X) → List (K × X)
+ascending R es = table.entries (last_values {R = R} es)
+
+-- a total order of keys, in which two are equal where they mean the same
+pub record IsOrderOf {K : Type 0} (means : K → Meaning) (R : K → K → Ordering) : Type 0 where
+  pub total : IsTotalOrder R
+  pub decides : EqAgrees (eq_by_cmp R) means
+
+-- ==== the last value of a key
+
+-- the value of the last pair that has the key
+pub record IsLastValue {X : Type 0} (pairs : List (Meaning × X)) (key : Meaning) (value : X) : Type
+    0 where
+  pub before : List (Meaning × X)
+  pub following : List (Meaning × X)
+  pub whole : pairs ≡ before ++ (key, value) ∷ following
+  pub none_after : AllByRecursion (λ e. e.0 ≢ key) following
+
+-- the table has each key that occurs, with the key's last value, and no other
+pub record HoldsLastValues {X : Type 0} (pairs : List (Meaning × X)) (t : Table X) : Type 0 where
+  pub has : (key : Meaning) (value : X) → IsLastValue pairs key value → table.get t key ≡ Some value
+  pub only : (key : Meaning) (value : X) → table.get t key ≡ Some value
+      → IsLastValue pairs key value
+
+-- the pairs strictly ascend by their keys, and are those of the list
+pub record IsInOrder {K X : Type 0} (R : K → K → Ordering) (pairs sorted : List (K × X)) : Type 0
+  where
+    pub ascends : IsStrictlySortedBy R (keys_of sorted)
+    pub same : IsPermutation sorted pairs

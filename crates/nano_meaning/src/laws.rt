@@ -2,8 +2,7 @@
 ghost use Rattle.std.specs.Prelude.{◌≡◌, ◌↔◌, List};
 ghost use Rattle.std.specs.List.{IsDistinct};
 ghost use Rattle.std.specs.Map.{keys_of};
-ghost use Rattle.nano_meaning.specs.Ascending.{ascending};
-ghost use Rattle.nano_meaning.specs.LastValues.{IsInOrder};
+ghost use Rattle.nano_meaning.specs.Tables.{ascending, IsInOrder};
 
 /// Of entries with different keys, the ascending list is the one that strictly ascends and has the
 /// same entries.

@@ -1,6 +1,6 @@
 -- What loops over items and entries have written: indents, lines, and the brackets of lists.
-use Rattle.std.proofs.Common.{◌≡◌, ℕ, zero, suc, codes, Bool, cond, true, false, List, [], ◌∷◌, ◌++◌}
-use Rattle.std.proofs.Common.{refl, sym, ◌∙◌, ap, encode_utf8, encode_utf8_all}
+use Rattle.std.proofs.Common.{◌≡◌, ℕ, zero, suc, codes, Bool, cond, true, false, List, [], ◌∷◌}
+use Rattle.std.proofs.Common.{◌++◌, refl, sym, ◌∙◌, ap, encode_utf8, encode_utf8_all}
 use Rattle.std.proofs.Math.Utf8.{encode}
 use Rattle.nano_text.specs.Place.{saturating_next}
 use Rattle.nano_grammar.proofs.WrittenLists.{both_written, one_written}

@@ -1,32 +1,28 @@
 -- What the readers of RON know of its tokens.
 use Rattle.std.specs.declared.str.Chars.{Chars}
 use Rattle.std.specs.Str.Iter.{chars_rest}
-use Rattle.std.proofs.Common.{chars, ℕ, ◌≡◌, ◌≢◌, ◌<◌, ◌≤◌, ◌^◌, Bool, true, false, cond, [], length, List, codes, inl, refl, ap, sym, subst, ◌∙◌, arith}
+use Rattle.std.proofs.Common.{chars, ℕ, ◌≡◌, ◌≢◌, ◌<◌, ◌≤◌, ◌^◌, Bool, true, false, cond, []}
+use Rattle.std.proofs.Common.{length, List, codes, inl, refl, ap, sym, subst, ◌∙◌, arith}
 use Rattle.std.proofs.lemmas.Slice.Eq.{bytes_eq-Decides}
 use Rattle.nano_text.specs.Place.{held, tail, before_nul, remaining, Passes}
-use Rattle.nano_text.proofs.PlaceInTextLaws.{stands_in}
+use Rattle.nano_text.proofs.PlaceLaws.{stands_in}
 use Rattle.nano_text.proofs.RemainingText.{remaining_fewer}
-use Rattle.nano_grammar.proofs.TextCalls.{Begun}
-use Rattle.nano_value.specs.Meaning.{Meaning, usize_bound}
-use Rattle.nano_value.specs.Agrees.{Agrees}
-use Rattle.nano_value.specs.Legal.{BothOfPair}
-use Rattle.nano_grammar.specs.Encoding.{IsEncoding}
-use Rattle.nano_grammar.specs.Maps.{EncodesEntry}
+use Rattle.nano_grammar.proofs.WholeInputs.{Begun}
+use Rattle.nano_value.specs.Meaning.{Meaning, usize_bound, Agrees, BothOfPair}
+use Rattle.nano_grammar.specs.Codec.{IsEncoding}
+use Rattle.nano_grammar.specs.Items.{EncodedPair}
 use Rattle.nano_grammar.proofs.MapsLaws.{entry_encoding}
-use Rattle.nano_grammar.proofs.CutLaws.{CutLaws}
-use Rattle.nano_grammar.proofs.TokensLeft.{tokens_left}
-use Rattle.nano_ron_tokens.specs.Cut.{Cut, nothing}
-use Rattle.nano_ron_tokens.specs.Ron.{MayBegin, none, ron_grammar}
-use Rattle.nano_ron_tokens.specs.Brackets.{curlies}
+use Rattle.nano_grammar.proofs.TokensLaws.{CutLaws, tokens_left}
+use Rattle.nano_ron_tokens.specs.Cut.{Cut, nothing, MayBegin, none, ron_grammar}
+use Rattle.nano_ron_tokens.specs.Token.{curlies, is_none, is_block_close, is_curly_close, Token}
+use Rattle.nano_ron_tokens.specs.Token.{ident, colon, curly_close, block_close, end}
 use Rattle.nano_ron_tokens.proofs.RonLaws.{ron, no_gap, curly_brackets}
-use Rattle.nano_ron_tokens.specs.Punctuation.{is_none, is_block_close, is_curly_close}
-use Rattle.nano_ron_tokens.proofs.PunctuationLaws.{is_end}
+use Rattle.nano_ron_tokens.proofs.WrittenTextLaws.{is_end}
 use Rattle.nano_ron_tokens.specs.Outcomes.{position}
 use Rattle.nano_ron_tokens.specs.State.{at, place_of}
-use Rattle.nano_ron_tokens.specs.Token.{Token, ident, colon, curly_close, block_close, end}
 use Rattle.nano_ron_tokens.specs.declared.state.DeRonState.{DeRonState}
 use Rattle.nano_ron_tokens.proofs.Cuts.{cut_one_way}
-use Rattle.nano_ron_tokens.proofs.Shorter.{cut_takes}
+use Rattle.nano_ron_tokens.proofs.Capacity.{cut_takes}
 use Rattle.nano_ron.specs.Codec.{Codec}
 
 pub begins_no_end : (t : Token) → MayBegin t → is_end t ≡ false
@@ -60,7 +56,7 @@ few_left s i few = omega (arith, few, remaining_fewer s.cur i, zero_or_one (is_e
 -- of an entry
 abbrev pub entry_laws : {P Q : Meaning → Type 0} {S R : List Token → Meaning → Type 0}
     → IsEncoding ron_grammar P S → IsEncoding ron_grammar Q R
-    → IsEncoding ron_grammar (BothOfPair P Q) (EncodesEntry colon S R)
+    → IsEncoding ron_grammar (BothOfPair P Q) (EncodedPair colon S R)
 entry_laws s t = entry_encoding ron_grammar curlies curly_brackets colon s t
 
 -- ---- what the tests of the pending token say

@@ -6,15 +6,16 @@
 use Rattle.std.specs.Prelude.{ℕ, Bool, List, [], ◌∷◌, ◌++◌}
 use Rattle.nano_text.specs.Place.{saturating_next}
 use Rattle.nano_value.specs.Meaning.{Meaning}
-use Rattle.nano_grammar.specs.Layouts.{item_in_list}
+use Rattle.nano_grammar.specs.Items.{item_in_list, with_punctuator}
 use Rattle.nano_grammar.specs.Lists.{list_text, EncodesAll as EncodesAllIn}
-use Rattle.nano_grammar.specs.Canonical.{ListStyle}
-use Rattle.nano_ron_tokens.specs.Brackets.{blocks, block_punctuation, paren_punctuation}
+use Rattle.nano_grammar.specs.Codec.{ListStyle}
+use Rattle.nano_ron_tokens.specs.Token.{blocks, block_punctuation, paren_punctuation, Token}
+use Rattle.nano_ron_tokens.specs.Token.{curlies, colon}
 use Rattle.nano_ron_tokens.proofs.RonLaws.{ron}
-use Rattle.nano_ron_tokens.specs.Styles.{indents, spaces}
-use Rattle.nano_ron_tokens.specs.Token.{Token}
-use Rattle.nano_ron_tokens.specs.Written.{indent}
+use Rattle.nano_ron_tokens.specs.Written.{indents, spaces, indent}
 use Rattle.nano_text.specs.Characters.{line_feed}
+use Rattle.nano_grammar.specs.Items.{EncodedPair}
+use Rattle.nano_ron_tokens.proofs.StylesLaws.{curly_style}
 
 -- an item of a list at a level, on a line of its own, with a comma after it
 abbrev pub on_a_line : ℕ → List ℕ → List ℕ
@@ -36,3 +37,25 @@ written_in style d W xs = list_text style d W xs
 abbrev pub EncodesAll : (List Meaning → Meaning) → (List Token → Meaning → Type 0) → List Token
     → Meaning → Type 0
 EncodesAll whole S = EncodesAllIn blocks whole S
+
+-- ==== maps
+
+-- a key, a colon and a value
+abbrev pub EncodesEntry : (List Token → Meaning → Type 0) → (List Token → Meaning → Type 0)
+    → List Token → Meaning × Meaning → Type 0
+EncodesEntry S R = EncodedPair colon S R
+
+-- a collection of entries between braces, by what they come to
+abbrev pub EncodesAllEntries : (List (Meaning × Meaning) → Meaning)
+    → (List Token → Meaning → Type 0) → (List Token → Meaning → Type 0) → List Token → Meaning
+    → Type 0
+EncodesAllEntries whole S R = EncodesAllIn curlies whole (EncodesEntry S R)
+
+-- a key, a colon and its value, as they are written
+abbrev pub written_entry : {K V : Type 0} → (K → List ℕ) → (V → List ℕ) → K × V → List ℕ
+written_entry A B = with_punctuator 58 [] A B
+
+-- entries between braces, as they are written at a level
+abbrev pub written_entries : {K V : Type 0} → ℕ → (K → List ℕ) → (V → List ℕ) → List (K × V)
+    → List ℕ
+written_entries d A B es = written_in curly_style d (written_entry A B) es

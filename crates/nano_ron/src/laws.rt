@@ -4,14 +4,13 @@ ghost use Rattle.std.specs.Prelude.{◌≡◌, ◌↔◌, ◌++◌, ℕ, List, t
 ghost use Rattle.nano_value.specs.Meaning.{Meaning};
 ghost use Rattle.nano_value.specs.Sets.{item_set};
 ghost use Rattle.nano_value.specs.Tables.{table_of};
-ghost use Rattle.nano_ron.specs.Cut.{Cut};
-ghost use Rattle.nano_ron.specs.Items.{OneValue};
-ghost use Rattle.nano_ron.specs.SameText.{EntriesDecideText, ItemsDecideText};
-ghost use Rattle.nano_ron.specs.Encoding.{BeginsValue, StartsWith};
-ghost use Rattle.nano_ron.specs.Ron.{none};
+ghost use Rattle.nano_ron.specs.Cut.{Cut, none};
+ghost use Rattle.nano_grammar.specs.Items.{OneValue};
+ghost use Rattle.nano_ron.specs.Readers.{EntriesDecideText, ItemsDecideText};
+ghost use Rattle.nano_ron.specs.Codec.{BeginsValue, StartsWith};
 ghost use Rattle.nano_ron.specs.Token.{Token, end};
-ghost use Rattle.nano_ron.specs.Tokens.{At, Cuts, DecodesTo, NoneBeginsAnother};
-ghost use Rattle.nano_ron.specs.Whole.{WholeDecodesTo};
+ghost use Rattle.nano_grammar.specs.Tokens.{At, Cuts, DecodesTo, NoneBeginsAnother};
+ghost use Rattle.nano_grammar.specs.Outcomes.{WholeDecodesTo};
 ghost use Rattle.nano_ron.specs.Written.{MayFollow};
 
 use crate::traits::{BothRon, RonCodec};

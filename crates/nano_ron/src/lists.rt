@@ -6,7 +6,7 @@ ghost use Rattle.nano_meaning.proofs.AgreesLaws.{seen_agrees, list_agrees};
 ghost use Rattle.nano_ron.specs.Codec.{codec_as};
 ghost use Rattle.nano_text.specs.Outcomes.{Appends, AppendsPart};
 ghost use Rattle.nano_ron.specs.Lists.{on_a_line, after_indent, written_in, EncodesAll};
-ghost use Rattle.nano_ron.specs.ListCodecs.{vector_codec, linked_codec};
+ghost use Rattle.nano_ron.specs.ContainerCodecs.{vector_codec, linked_codec};
 ghost use Rattle.nano_ron_tokens.proofs.StylesLaws.{line_style, indent_style};
 ghost use Rattle.nano_ron.specs.Outcomes.{position, Reads};
 

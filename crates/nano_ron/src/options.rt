@@ -1,7 +1,7 @@
 //! Options: the word `None`, or the item.
 
 ghost use Rattle.nano_meaning.proofs.AgreesLaws.{option_agrees};
-ghost use Rattle.nano_ron.specs.OptionCodecs.{option_codec};
+ghost use Rattle.nano_ron.specs.ContainerCodecs.{option_codec};
 
 use crate::traits::{DeRon, RonCodec, SerRon};
 use nano_ron_tokens::{DeRonErr, DeRonState, SerRonState};

@@ -4,8 +4,8 @@
 ghost use Rattle.std.specs.Prelude.{OnOk, OnErr};
 ghost use Rattle.nano_meaning.proofs.AgreesLaws.{seen_agrees, ordered_map_agrees};
 ghost use Rattle.nano_ron.specs.Codec.{codec_as};
-ghost use Rattle.nano_ron.specs.Maps.{written_entries};
-ghost use Rattle.nano_ron.specs.MapCodecs.{ordered_map_codec};
+ghost use Rattle.nano_ron.specs.Lists.{written_entries};
+ghost use Rattle.nano_ron.specs.ContainerCodecs.{ordered_map_codec};
 ghost use Rattle.nano_text.specs.Place.{saturating_next};
 ghost use Rattle.nano_text.specs.Outcomes.{Appends, AppendsPart};
 

@@ -4,7 +4,7 @@
 ghost use Rattle.std.specs.Prelude.{◌++◌, ◌∷◌, [], OnOk, OnErr};
 ghost use Rattle.nano_text.specs.Outcomes.{Appends, AppendsPart};
 ghost use Rattle.nano_ron.specs.Outcomes.{position, Reads};
-ghost use Rattle.nano_ron.specs.TupleCodecs.{last_codec};
+ghost use Rattle.nano_ron.specs.ContainerCodecs.{last_codec};
 
 use crate::traits::{DeRon, SerRon};
 use nano_ron_tokens::{DeRonErr, DeRonState, SerRonState};

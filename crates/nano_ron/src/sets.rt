@@ -9,7 +9,7 @@ ghost use Rattle.nano_ron.specs.Lists.{written_in};
 ghost use Rattle.nano_ron_tokens.proofs.StylesLaws.{indent_style};
 ghost use Rattle.nano_text.specs.Place.{saturating_next};
 ghost use Rattle.nano_text.specs.Outcomes.{Appends, AppendsPart};
-ghost use Rattle.nano_ron.specs.SetCodecs.{set_codec, ordered_codec};
+ghost use Rattle.nano_ron.specs.ContainerCodecs.{set_codec, ordered_codec};
 
 use crate::lists::{append_indented, read_list};
 use crate::traits::{DeRon, RonCodec, SerRon};

@@ -5,8 +5,8 @@
 ghost use Rattle.std.specs.Int.{w8, w16, w32, w64};
 ghost use Rattle.nano_value.specs.Meaning.{number};
 ghost use Rattle.nano_meaning.proofs.AgreesLaws.{agreed};
-ghost use Rattle.nano_ron.specs.NumberCodecs.{IsRangeOf, signed, signed_codec, within_8, within_16};
-ghost use Rattle.nano_ron.specs.NumberCodecs.{within_32, within_64};
+ghost use Rattle.nano_ron.specs.ScalarCodecs.{IsRangeOf, signed, signed_codec, within_8, within_16};
+ghost use Rattle.nano_ron.specs.ScalarCodecs.{within_32, within_64};
 ghost use Rattle.nano_ron.specs.Outcomes.{position, Reads};
 
 use crate::traits::{DeRon, RonCodec, SerRon};

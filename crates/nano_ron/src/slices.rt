@@ -6,9 +6,8 @@ ghost use Rattle.nano_value.specs.Meaning.{listed};
 ghost use Rattle.nano_meaning.proofs.AgreesLaws.{seen_agrees, list_agrees, array_agrees};
 ghost use Rattle.nano_ron.specs.Codec.{codec_as};
 ghost use Rattle.nano_text.specs.Outcomes.{Appends, AppendsPart};
-ghost use Rattle.nano_ron.specs.ListCodecs.{array_of, slice_codec};
+ghost use Rattle.nano_ron.specs.ContainerCodecs.{array_of, slice_codec, array_codec};
 ghost use Rattle.nano_ron.specs.Lists.{after_space, written_in};
-ghost use Rattle.nano_ron.specs.ListCodecs.{array_codec};
 ghost use Rattle.nano_ron_tokens.proofs.StylesLaws.{paren_style};
 ghost use Rattle.nano_ron.specs.Outcomes.{position, Reads};
 

@@ -7,7 +7,7 @@ use std::str::Chars;
 
 /// A type that has a RON codec. A type that is only written has one too.
 pub trait RonCodec: Value {
-    ghost use Rattle.nano_value.specs.Agrees.{Agrees};
+    ghost use Rattle.nano_value.specs.Meaning.{Agrees};
     ghost use Rattle.nano_ron.specs.Codec.{Codec};
 
     /// The canonical text of each value, the tokens that it splits into, and which tokens

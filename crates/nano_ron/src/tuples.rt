@@ -6,8 +6,8 @@ ghost use Rattle.nano_value.specs.Meaning.{paired};
 ghost use Rattle.nano_meaning.proofs.AgreesLaws.{seen_agrees, pair_agrees};
 ghost use Rattle.nano_text.specs.Outcomes.{Appends, AppendsPart};
 ghost use Rattle.nano_ron.specs.Outcomes.{position, Reads};
-ghost use Rattle.nano_ron.specs.TupleCodecs.{two_parts, three_parts, four_parts};
-ghost use Rattle.nano_ron.specs.TupleCodecs.{pair_codec, triple_codec, quadruple_codec};
+ghost use Rattle.nano_ron.specs.ContainerCodecs.{two_parts, three_parts, four_parts, pair_codec};
+ghost use Rattle.nano_ron.specs.ContainerCodecs.{triple_codec, quadruple_codec};
 
 use crate::parts::{append_last, append_part, read_last};
 use crate::traits::{DeRon, RonCodec, SerRon};

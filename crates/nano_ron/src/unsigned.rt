@@ -6,8 +6,8 @@ ghost use Rattle.std.specs.Prelude.{◌≡◌, ◌+◌, ◌^◌};
 ghost use Rattle.nano_value.specs.Meaning.{whole};
 ghost use Rattle.nano_meaning.proofs.AgreesLaws.{agreed};
 ghost use Rattle.nano_ron.specs.Outcomes.{position, Reads};
-ghost use Rattle.nano_ron.specs.NumberCodecs.{unsigned, unsigned_codec, below_8, below_16, below_32};
-ghost use Rattle.nano_ron.specs.NumberCodecs.{below_64};
+ghost use Rattle.nano_ron.specs.ScalarCodecs.{unsigned, unsigned_codec, below_8, below_16};
+ghost use Rattle.nano_ron.specs.ScalarCodecs.{below_32, below_64};
 
 use crate::traits::{DeRon, RonCodec, SerRon};
 use nano_ron_tokens::{DeRonErr, DeRonState, SerRonState, end_on_error};

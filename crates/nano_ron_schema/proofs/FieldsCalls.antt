@@ -5,25 +5,24 @@ use Rattle.nano_text.proofs.PlaceLaws.{moves_append}
 use Rattle.nano_grammar.specs.Outcomes.{Position, Moved, Report, IsMadeAt, Fails, Took, TookComma}
 use Rattle.nano_grammar.specs.Outcomes.{Read, ReadsNone}
 use Rattle.nano_grammar.specs.Tokens.{At, Leaves, Spans}
-use Rattle.nano_grammar.proofs.Outcomes.{fails_as, fails_after, fails_here}
-use Rattle.nano_grammar.proofs.TokensLeft.{tokens_left}
+use Rattle.nano_grammar.proofs.TokenCalls.{fails_as, fails_after, fails_here}
+use Rattle.nano_grammar.proofs.TokensLaws.{tokens_left}
 use Rattle.nano_grammar.specs.UserOutcomes.{ReadField, NoField, HeldFields}
-use Rattle.nano_grammar.specs.Struct.{Struct}
+use Rattle.nano_grammar.specs.Fields.{Struct}
 use Rattle.nano_grammar.proofs.FieldReading.{field_rejected, named_found, colon_rejected}
-use Rattle.nano_grammar.proofs.FieldReading.{value_rejected}
-use Rattle.nano_grammar.proofs.KnownNames.{second_of}
-use Rattle.nano_grammar.proofs.StructReading.{FieldsSoFar, fields_start, fields_next}
-use Rattle.nano_grammar.proofs.StructReading.{field_shorter, struct_found, struct_missing}
-use Rattle.nano_grammar.proofs.StructReading.{struct_open_rejected, struct_field_rejected}
-use Rattle.nano_grammar.proofs.StructReading.{struct_comma_rejected, struct_close_rejected}
+use Rattle.nano_grammar.proofs.FieldReading.{value_rejected, second_of}
+use Rattle.nano_grammar.proofs.StructReading.{FieldsSoFar, fields_start, fields_next, field_shorter}
+use Rattle.nano_grammar.proofs.StructReading.{struct_found, struct_missing, struct_open_rejected}
+use Rattle.nano_grammar.proofs.StructReading.{struct_field_rejected, struct_comma_rejected}
+use Rattle.nano_grammar.proofs.StructReading.{struct_close_rejected}
 use Rattle.nano_ron_tokens.specs.Cut.{Cut}
 use Rattle.nano_ron_tokens.specs.Token.{Token, ident, colon, comma, paren_open, paren_close}
 use Rattle.nano_ron.proofs.Ron.{ron_laws}
-use Rattle.nano_ron_schema.specs.FieldReading.{Field, Shape, Allowed, head, EncodesField}
-use Rattle.nano_ron_schema.specs.FieldReading.{EncodesNamed, EncodesFields}
+use Rattle.nano_ron_schema.specs.Reading.{Field, Shape, Allowed, head, EncodesField, EncodesNamed}
+use Rattle.nano_ron_schema.specs.Reading.{EncodesFields}
 use Rattle.nano_ron_schema.specs.FieldCodecs.{ron_fields}
-use Rattle.nano_ron_schema.specs.Punctuation.{is_ident}
-use Rattle.nano_ron_schema.proofs.Pending.{name_goes_on, no_name_pending, closes_or_not}
+use Rattle.nano_ron_schema.specs.Outcomes.{is_ident}
+use Rattle.nano_ron_schema.proofs.Calls.{name_goes_on, no_name_pending, closes_or_not}
 
 -- ---- one field
 

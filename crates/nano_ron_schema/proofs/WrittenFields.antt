@@ -1,22 +1,19 @@
 -- What is written of fields, one below the other, in bytes.
 use Rattle.std.proofs.Common.{◌≡◌, ℕ, List, [], ◌∷◌, ◌++◌, IsUtf8, chars, codes, encode_utf8_all}
-use Rattle.std.proofs.Common.{Result, Ok, Err, OnOk, if◌then◌else◌}
+use Rattle.std.proofs.Common.{Result, Ok, Err, OnOk, if◌then◌else◌, refl, sym, ◌∙◌, ap}
+use Rattle.std.proofs.Common.{append_assoc, lit<}
 use Rattle.std.specs.Result.{is_ok}
-use Rattle.std.proofs.Common.{refl, sym, ◌∙◌, ap, append_assoc, lit<}
 use Rattle.std.proofs.Math.Utf8.{encode}
 use Rattle.std.proofs.lemmas.Grind.{flat_map-append}
 use Rattle.std.proofs.lemmas.Str.{encodes-append, encode_ascii, encodes-chars}
-use Rattle.nano_grammar.proofs.WrittenItems.{items_are_ended}
-use Rattle.nano_grammar.specs.FieldCanonical.{WrittenField, field_text, fields_text}
+use Rattle.nano_grammar.proofs.WrittenLists.{items_are_ended, both_written}
+use Rattle.nano_grammar.specs.FieldCodec.{WrittenField, field_text, fields_text}
 use Rattle.nano_text.specs.Place.{saturating_next}
-use Rattle.nano_ron_tokens.specs.Brackets.{paren_punctuation}
-use Rattle.nano_ron_tokens.specs.Styles.{lines}
-use Rattle.nano_ron_tokens.specs.Token.{Token}
-use Rattle.nano_ron_tokens.specs.Written.{indent}
-use Rattle.nano_grammar.proofs.WrittenLists.{both_written}
+use Rattle.nano_ron_tokens.specs.Token.{paren_punctuation, Token}
+use Rattle.nano_ron_tokens.specs.Written.{lines, indent}
 use Rattle.nano_ron.proofs.Canonical.{indent_written, closed_written}
 use Rattle.nano_ron_schema.specs.FieldCodecs.{ron_fields}
-use Rattle.nano_ron_schema.specs.FieldTexts.{on_a_line, on_lines}
+use Rattle.nano_ron_schema.specs.Outcomes.{on_a_line, on_lines}
 
 -- the bytes of an indent, a name and a colon
 label_bytes : (d : ℕ) (name : List ℕ) → IsUtf8 name

@@ -1,19 +1,15 @@
 -- Which defaults that hold nothing are sound.
 use Rattle.std.specs.declared.cmp.Ordering.{Ordering}
 use Rattle.nano_value.specs.Meaning.{nothing}
-use Rattle.nano_value.specs.MeaningOrder.{MeaningOrder}
-use Rattle.nano_grammar.specs.Defaults.{IsSoundDefault}
-use Rattle.nano_grammar.proofs.EmptyDefaultsLaws.{encoded_default, none_default}
-use Rattle.nano_grammar.proofs.EmptyDefaultsLaws.{no_list, no_map, no_set}
+use Rattle.nano_value.specs.Order.{MeaningOrder}
+use Rattle.nano_grammar.specs.Fields.{IsSoundDefault}
+use Rattle.nano_grammar.proofs.DefaultsLaws.{encoded_default, none_default, no_list, no_map, no_set}
 use Rattle.nano_ron.specs.Codec.{Codec}
-use Rattle.nano_ron.specs.MapCodecs.{map_codec, ordered_map_codec}
-use Rattle.nano_ron.specs.OptionCodecs.{option_codec}
-use Rattle.nano_ron.specs.SetCodecs.{set_codec, ordered_codec}
-use Rattle.nano_ron.specs.ListCodecs.{vector_codec, linked_codec}
-use Rattle.nano_ron_tokens.specs.Brackets.{blocks, curlies}
+use Rattle.nano_ron.specs.ContainerCodecs.{map_codec, ordered_map_codec, option_codec, set_codec}
+use Rattle.nano_ron.specs.ContainerCodecs.{ordered_codec, vector_codec, linked_codec}
+use Rattle.nano_ron_tokens.specs.Token.{blocks, curlies, colon}
 use Rattle.nano_ron_tokens.proofs.RonLaws.{block_brackets, curly_brackets}
 use Rattle.nano_ron_tokens.proofs.ScalarsLaws.{none_style}
-use Rattle.nano_ron_tokens.specs.Token.{colon}
 
 -- an absent item
 pub none_is_sound : {A : Type 0} (f : Codec A) → IsSoundDefault (option_codec f) nothing

@@ -1,24 +1,29 @@
--- What is proved of Fields.
-use Rattle.std.specs.Prelude.{◌≡◌, ℕ, true, List, Option, chars}
+-- Codecs of structs in RON: named fields between parentheses.
+use Rattle.std.specs.Prelude.{List, ◌≡◌, ℕ, true, Option, chars}
+use Rattle.nano_ron_tokens.specs.Token.{Token, parens, paren_punctuation, ident}
+pub use Rattle.nano_grammar.proofs.StructCodecLaws.{fields_codec}
 use Rattle.nano_value.specs.Meaning.{Meaning}
-use Rattle.nano_grammar.specs.Codec.{Codec}
-use Rattle.nano_grammar.specs.Canonical.{ListStyle}
+use Rattle.nano_grammar.specs.Codec.{Codec, ListStyle}
 use Rattle.nano_grammar.proofs.BothFieldsLaws.{also_fields}
 use Rattle.nano_grammar.proofs.DefaultsLaws.{default_field}
 use Rattle.nano_grammar.specs.FieldCodec.{AreNames, FieldsCodec}
 use Rattle.nano_grammar.proofs.FieldCodecLaws.{must_field, may_field}
 use Rattle.nano_grammar.specs.Fields.{FieldStyle}
-use Rattle.nano_ron_tokens.specs.Brackets.{parens, paren_punctuation}
-use Rattle.nano_ron_tokens.specs.Cut.{IsName}
+use Rattle.nano_ron_tokens.specs.Cut.{IsName, ron_grammar}
 use Rattle.nano_ron_tokens.proofs.RonLaws.{ron, parens_are, paren_brackets}
-use Rattle.nano_ron_tokens.specs.Ron.{ron_grammar}
 use Rattle.nano_ron_tokens.proofs.ScalarsLaws.{none_style}
-use Rattle.nano_ron_tokens.specs.Styles.{lines}
+use Rattle.nano_ron_tokens.specs.Written.{lines}
 use Rattle.nano_ron_tokens.proofs.StylesLaws.{lines_written, entry_style}
-use Rattle.nano_ron_tokens.specs.Token.{ident}
-use Rattle.nano_ron_schema.specs.Names.{are_names}
-use Rattle.nano_ron_schema.specs.NamesLaws.{name_is_written, good_names}
-use Rattle.nano_ron_schema.specs.Fields.{NothingSkipped}
+use Rattle.nano_ron_tokens.specs.Names.{are_names}
+use Rattle.nano_ron_tokens.proofs.NamesLaws.{name_is_written, good_names}
+
+-- ==== fields in a row
+
+-- nothing may come after a name that is not known
+abbrev pub NothingSkipped : List Token → Type 0
+NothingSkipped us = ⊥
+
+-- ==== codecs of structs
 
 -- each field on a line of its own, with a comma after it
 abbrev pub field_lines : ListStyle ron

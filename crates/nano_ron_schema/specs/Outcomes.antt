@@ -1,24 +1,31 @@
 -- What the calls of RON's readers of user-defined types come to.
-use Rattle.std.specs.Prelude.{◌≡◌, ℕ, Bool, List, Result, MatchResult, String, string_bytes}
+use Rattle.std.specs.Prelude.{◌≡◌, ℕ, Bool, List, Result, MatchResult, String, string_bytes, true}
+use Rattle.std.specs.Prelude.{false, [], ◌∷◌, ◌++◌}
+use Rattle.std.specs.List.{flat_map}
 use Rattle.nano_value.specs.Meaning.{Meaning}
 use Rattle.nano_grammar.specs.Outcomes.{Position, Fails, Took}
 use Rattle.nano_ron_tokens.specs.Cut.{Cut}
-use Rattle.nano_ron_tokens.specs.Outcomes.{report}
+use Rattle.nano_ron_tokens.specs.Outcomes.{report, Says}
 use Rattle.nano_ron_tokens.specs.State.{ended, pending, place_of}
 use Rattle.nano_ron_tokens.specs.Token.{Token, ident, IsIdent}
 use Rattle.nano_ron_tokens.specs.declared.error.DeRonErr.{DeRonErr}
 use Rattle.nano_ron_tokens.specs.declared.state.DeRonState.{DeRonState}
-use Rattle.nano_grammar.specs.Defaults.{HasEncoding}
+use Rattle.nano_grammar.specs.Fields.{HasEncoding, unknown_message}
 use Rattle.nano_grammar.specs.UserOutcomes.{ReadsField as ReadsFieldBy}
 use Rattle.nano_grammar.specs.UserOutcomes.{GivesValues as GivesValuesBy}
 use Rattle.nano_grammar.specs.UserOutcomes.{HoldsFields as HoldsFieldsBy}
-use Rattle.nano_grammar.specs.UserOutcomes.{ReadsChoice as ReadsChoiceBy}
-use Rattle.nano_grammar.specs.UserOutcomes.{ReadsEnum as ReadsEnumBy, FailsAndEnds, Misses}
-use Rattle.nano_grammar.specs.UserOutcomes.{NoField, ReadField}
-use Rattle.nano_ron_schema.specs.FieldReading.{Field, Shape, Allowed, head}
+use Rattle.nano_grammar.specs.UserOutcomes.{ReadsChoice as ReadsChoiceBy, ReadsEnum as ReadsEnumBy}
+use Rattle.nano_grammar.specs.UserOutcomes.{FailsAndEnds, Misses, NoField, ReadField}
+use Rattle.nano_ron_schema.specs.Reading.{Field, Shape, Allowed, head, Encodings}
 use Rattle.nano_ron_schema.specs.FieldCodecs.{ron_fields}
-use Rattle.nano_ron_schema.specs.VariantReading.{Encodings}
 use Rattle.nano_ron_schema.specs.VariantCodecs.{ron_variants}
+use Rattle.nano_grammar.specs.Promises.{LastFieldCounts as Counts, MissingNameHasNoField as Missing}
+use Rattle.nano_grammar.specs.Promises.{OtherNamesAreSeen as Seen}
+use Rattle.nano_text.specs.Characters.{line_feed}
+use Rattle.nano_grammar.specs.FieldCodec.{WrittenField, field_text as field_text_of}
+use Rattle.nano_grammar.specs.FieldCodec.{fields_text as fields_text_of}
+use Rattle.nano_ron_tokens.specs.Written.{indent}
+use Rattle.nano_ron_tokens.specs.declared.token.DeRonTok.TheVariants.{Eof}
 
 -- ---- tokens
 
@@ -88,3 +95,49 @@ abbrev pub ReadsEnum : {A : Type 0} → Encodings → (A → Meaning) → Positi
     → Result A DeRonErr → Type 0
 ReadsEnum variants means start end result =
     ReadsEnumBy ron_variants variants start end report means ended result
+
+-- ==== laws of the definitions, over RON's tokens
+
+-- if a name occurs more than once, its last field counts
+abbrev pub LastFieldCounts : Type 0
+LastFieldCounts = Counts Token
+
+-- a name is missing where no field has it
+abbrev pub MissingNameHasNoField : Type 0
+MissingNameHasNoField = Missing Token
+
+-- of a name that the first fields do not know, the second see the last field of all
+abbrev pub OtherNamesAreSeen : Type 0
+OtherNamesAreSeen = Seen Token
+
+-- ==== tests of the pending token
+
+abbrev pub is_ident : Token → Bool
+is_ident (ident name) = true
+is_ident _ = false
+
+-- ==== fields as they are written: one below the other, between parentheses
+
+-- after the indent of a level, with a comma and a line feed after it
+abbrev pub on_a_line : ℕ → List ℕ → List ℕ
+on_a_line d text = indent d ++ (text ++ 44 ∷ (line_feed ∷ []))
+
+-- items one below the other, each on a line of its own
+abbrev pub on_lines : {A : Type 0} → ℕ → (A → List ℕ) → List A → List ℕ
+on_lines d W xs = flat_map (λ x. on_a_line d (W x)) xs
+
+-- a name, a colon and a value at this level
+abbrev pub field_text : ℕ → WrittenField Token → List ℕ
+field_text = field_text_of ron_fields
+
+-- fields between parentheses at this level
+abbrev pub fields_text : ℕ → List (WrittenField Token) → List ℕ
+fields_text = fields_text_of ron_fields
+
+-- ==== the error for a name that no variant of an enum has
+
+-- the error for this name stands where the state stood, and has this message unless it is out of
+-- memory. The state is at the end of the text
+pub record GivesUnknown (old new : DeRonState) (name : List ℕ) (e : DeRonErr) : Type 0 where
+  pub says : Says old (unknown_message name) e
+  pub state : new ≡ record old { tok = Eof; cur = 0 }

@@ -3,13 +3,12 @@ use Rattle.std.specs.Prelude.{◌≡◌, ◌&&◌, true}
 use Rattle.std.proofs.Common.{sym}
 use Rattle.std.proofs.lemmas.Bool.{and_parts}
 use Rattle.nano_grammar.specs.FieldCodec.{FieldsCodec}
-use Rattle.nano_grammar.specs.Names.{are_distinct}
+use Rattle.nano_grammar.specs.Fields.{are_distinct}
 use Rattle.nano_ron.specs.Codec.{Codec}
 -- what a struct without names needs, passed on
 pub use Rattle.nano_ron.specs.Codec.{codec_as}
-use Rattle.nano_ron_schema.specs.FieldCodecs.{ron_fields, word_names}
-use Rattle.nano_ron_schema.specs.Fields.{fields_codec}
-use Rattle.nano_ron_schema.specs.Names.{are_names}
+use Rattle.nano_ron_schema.specs.FieldCodecs.{ron_fields, word_names, fields_codec}
+use Rattle.nano_ron_tokens.specs.Names.{are_names}
 
 -- a struct as the values of its fields, and their format. The last is `refl`: it checks that the
 -- names are words but `true` and `false`, and that none occurs twice

@@ -1,10 +1,10 @@
 -- Enums in RON: a variant is its name, and its content comes directly after it: the parts of a
 -- tuple or named fields, between parentheses.
 use Rattle.std.specs.Prelude.{◌≡◌, ℕ, ◌==◌, true, List, [], ◌∷◌, ◌++◌, chars}
-use Rattle.nano_text.specs.Prefix.{first_is}
+use Rattle.nano_text.specs.Characters.{first_is}
 use Rattle.nano_ron_tokens.specs.Token.{Token, ident}
 pub use Rattle.nano_grammar.specs.Variants.{Variants, no_variants, unit_variant, variant}
-pub use Rattle.nano_grammar.specs.VariantCanonical.{Seen, encodings}
+pub use Rattle.nano_grammar.specs.VariantCodec.{Seen, encodings}
 pub use Rattle.nano_grammar.proofs.VariantCodecLaws.{variants_codec}
 
 -- the name of a variant

@@ -5,7 +5,7 @@ ghost use Rattle.nano_text.specs.Outcomes.{Appends, AppendsPart};
 ghost use Rattle.nano_meaning.proofs.AgreesLaws.{seen_agrees};
 ghost use Rattle.nano_ron.specs.Codec.{codec_as};
 ghost use Rattle.nano_ron.specs.Outcomes.{position, Reads};
-ghost use Rattle.nano_ron.specs.TupleCodecs.{last_codec};
+ghost use Rattle.nano_ron.specs.ContainerCodecs.{last_codec};
 ghost use Rattle.nano_ron_schema.specs.VariantCodecs.{single_codec};
 
 use nano_ron::{

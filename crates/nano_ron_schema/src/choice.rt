@@ -5,7 +5,7 @@ ghost use Rattle.nano_schema.specs.Views.{SeesAs};
 ghost use Rattle.nano_text.specs.Outcomes.{Appends, Unchanged};
 ghost use Rattle.nano_ron.specs.Outcomes.{position, ReadsOrEnds};
 ghost use Rattle.nano_ron_schema.specs.Outcomes.{ReadsEnum};
-ghost use Rattle.nano_ron_schema.specs.VariantReading.{EncodesVariant};
+ghost use Rattle.nano_ron_schema.specs.Reading.{EncodesVariant};
 
 use crate::choices::{RonChoiceRefs, RonChoices};
 use crate::variants::read_variant_name;

@@ -5,9 +5,9 @@ ghost use Rattle.nano_value.specs.Meaning.{Meaning, nothing};
 ghost use Rattle.nano_text.specs.Outcomes.{Appends, Unchanged};
 ghost use Rattle.nano_ron.specs.Outcomes.{position, ReadsOrEnds};
 ghost use Rattle.nano_grammar.specs.Choices.{Content, stands_alone};
-ghost use Rattle.nano_ron_schema.specs.ContentCodecs.{no_content, content_as, fields_content};
-ghost use Rattle.nano_ron_schema.specs.VariantReading.{EncodesRest};
+ghost use Rattle.nano_ron_schema.specs.VariantCodecs.{no_content, content_as, fields_content};
 ghost use Rattle.nano_ron_schema.specs.VariantCodecs.{ron_variants, single_codec};
+ghost use Rattle.nano_ron_schema.specs.Reading.{EncodesRest};
 
 use crate::brackets::InBrackets;
 use crate::fields::{RonFields, RonRefs, RonShape};

@@ -3,8 +3,8 @@
 ghost use Rattle.std.specs.Option.{option_map};
 ghost use Rattle.nano_ron_schema.specs.FieldCodecs.{defaulted_field};
 ghost use Rattle.nano_ron_schema.specs.Outcomes.{GivesDefault};
-ghost use Rattle.nano_grammar.specs.Slots.{Holds};
-ghost use Rattle.nano_grammar.proofs.SlotsLaws.{holds_skips};
+ghost use Rattle.nano_grammar.specs.Fields.{Holds};
+ghost use Rattle.nano_grammar.proofs.FieldsLaws.{holds_skips};
 
 use crate::fields::{RonFields, RonRefs, RonShape};
 use crate::read::read_named;
@@ -16,7 +16,7 @@ use std::str::Chars;
 
 /// A default that is read back from RON.
 pub trait RonDefaultOf<T: RonCodec>: DefaultOf<T> {
-    ghost use Rattle.nano_grammar.specs.Defaults.{IsSoundDefault};
+    ghost use Rattle.nano_grammar.specs.Fields.{IsSoundDefault};
 
     /// It is sound: nowhere inside it a `Some` stands around what is written as an absent value.
     ghost is_sound: { IsSoundDefault T.ron Self.DefaultOf.missing };

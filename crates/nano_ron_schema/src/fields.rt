@@ -1,13 +1,11 @@
 //! The fields of a struct: what reads the field of a name, makes the values of all, and writes
 //! them.
 
-ghost use Rattle.std.specs.Prelude.{◌≡◌, List, [], ◌∷◌, ◌++◌, false, OnOk, OnErr};
-ghost use Rattle.std.specs.Prelude.{string_bytes};
+ghost use Rattle.std.specs.Prelude.{◌≡◌, List, [], ◌∷◌, ◌++◌, false, OnOk, OnErr, string_bytes};
 ghost use Rattle.nano_text.specs.Outcomes.{Appends, AppendsPart};
 ghost use Rattle.nano_grammar.specs.FieldCodec.{FieldsCodec};
-ghost use Rattle.nano_ron_schema.specs.FieldReading.{Field};
-ghost use Rattle.nano_ron_schema.specs.Outcomes.{ReadsField, GivesValues};
-ghost use Rattle.nano_ron_schema.specs.FieldTexts.{on_lines, field_text};
+ghost use Rattle.nano_ron_schema.specs.Reading.{Field};
+ghost use Rattle.nano_ron_schema.specs.Outcomes.{ReadsField, GivesValues, on_lines, field_text};
 ghost use Rattle.nano_ron_schema.specs.FieldCodecs.{ron_fields};
 ghost use Rattle.nano_ron.specs.Outcomes.{position, Keeps};
 ghost use Rattle.nano_ron.specs.State.{pending};

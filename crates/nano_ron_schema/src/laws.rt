@@ -1,7 +1,7 @@
 //! Laws of the definitions that the contracts cite: each function does nothing, and its contract is
 //! the law.
-ghost use Rattle.nano_ron_schema.specs.Promises.{LastFieldCounts, MissingNameHasNoField};
-ghost use Rattle.nano_ron_schema.specs.Promises.{OtherNamesAreSeen};
+ghost use Rattle.nano_ron_schema.specs.Outcomes.{LastFieldCounts, MissingNameHasNoField};
+ghost use Rattle.nano_ron_schema.specs.Outcomes.{OtherNamesAreSeen};
 
 /// If a name occurs more than once, its last field counts.
 pub fn the_last_field_counts()

@@ -4,7 +4,7 @@ ghost use Rattle.std.specs.Option.{option_map};
 ghost use Rattle.nano_value.specs.Meaning.{optional};
 ghost use Rattle.nano_grammar.proofs.StructLaws.{may_read};
 ghost use Rattle.nano_ron_schema.specs.FieldCodecs.{optional_field};
-ghost use Rattle.nano_grammar.proofs.SlotsLaws.{optional_skips};
+ghost use Rattle.nano_grammar.proofs.FieldsLaws.{optional_skips};
 
 use crate::fields::{RonFields, RonRefs, RonShape};
 use crate::read::read_named;

@@ -2,7 +2,7 @@
 
 ghost use Rattle.nano_grammar.specs.Fields.{others};
 ghost use Rattle.nano_ron_schema.specs.FieldCodecs.{fields_pair};
-ghost use Rattle.nano_grammar.proofs.SlotsLaws.{both_skip};
+ghost use Rattle.nano_grammar.proofs.FieldsLaws.{both_skip};
 
 use crate::fields::{RonFields, RonRefs, RonShape};
 use nano_ron::{DeRonErr, DeRonState, SerRonState};

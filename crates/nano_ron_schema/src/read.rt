@@ -4,9 +4,8 @@ ghost use Rattle.std.specs.Prelude.{◌≡◌, [], string_bytes};
 ghost use Rattle.nano_ron.specs.Outcomes.{position, Reads, ReadsOrEnds};
 ghost use Rattle.nano_ron.specs.State.{pending};
 ghost use Rattle.nano_ron.specs.Token.{IsIdent};
-ghost use Rattle.nano_ron_schema.specs.FieldReading.{EncodesFields, EncodesNamed};
-ghost use Rattle.nano_ron_schema.specs.Outcomes.{HoldsFields, TakesField};
-ghost use Rattle.nano_ron_schema.specs.Punctuation.{is_ident};
+ghost use Rattle.nano_ron_schema.specs.Reading.{EncodesFields, EncodesNamed};
+ghost use Rattle.nano_ron_schema.specs.Outcomes.{HoldsFields, TakesField, is_ident};
 
 use crate::fields::RonFields;
 use nano_ron::{DeRon, DeRonErr, DeRonState, DeRonTok, end_on_error};

@@ -4,8 +4,8 @@ ghost use Rattle.std.specs.Prelude.{OnOk, OnErr};
 ghost use Rattle.nano_text.specs.Outcomes.{Appends, Unchanged};
 ghost use Rattle.nano_ron.specs.Outcomes.{position, ReadsOrEnds};
 ghost use Rattle.nano_schema.specs.Views.{SeesAs};
-ghost use Rattle.nano_ron_schema.specs.FieldReading.{EncodesFields};
-ghost use Rattle.nano_ron_schema.specs.FieldTexts.{fields_text};
+ghost use Rattle.nano_ron_schema.specs.Reading.{EncodesFields};
+ghost use Rattle.nano_ron_schema.specs.Outcomes.{fields_text};
 
 use crate::fields::{RonFields, RonRefs};
 use crate::read::read_fields;

@@ -2,8 +2,8 @@
 
 ghost use Rattle.std.specs.Option.{option_map};
 ghost use Rattle.nano_ron_schema.specs.FieldCodecs.{required_field};
-ghost use Rattle.nano_grammar.specs.Slots.{Holds};
-ghost use Rattle.nano_grammar.proofs.SlotsLaws.{holds_skips};
+ghost use Rattle.nano_grammar.specs.Fields.{Holds};
+ghost use Rattle.nano_grammar.proofs.FieldsLaws.{holds_skips};
 
 use crate::fields::{RonFields, RonRefs, RonShape};
 use crate::read::read_named;

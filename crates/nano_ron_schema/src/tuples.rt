@@ -1,8 +1,8 @@
 //! Two, three or four parts without names, as the content of a variant.
 
 ghost use Rattle.std.specs.Prelude.{refl};
-ghost use Rattle.nano_ron.specs.TupleCodecs.{pair_codec, triple_codec, quadruple_codec};
-ghost use Rattle.nano_ron_schema.specs.ContentCodecs.{content_as};
+ghost use Rattle.nano_ron.specs.ContainerCodecs.{pair_codec, triple_codec, quadruple_codec};
+ghost use Rattle.nano_ron_schema.specs.VariantCodecs.{content_as};
 
 use crate::contents::{ReadContent, RonContent, WriteContent};
 use crate::part::Part;

@@ -1,7 +1,7 @@
 //! The variants of enums, written: a name, with content directly after it or without.
 
 ghost use Rattle.std.specs.Prelude.{OnOk, OnErr, chars};
-ghost use Rattle.nano_ron_schema.specs.FieldTexts.{fields_text};
+ghost use Rattle.nano_ron_schema.specs.Outcomes.{fields_text};
 ghost use Rattle.nano_ron_schema.specs.Variants.{content_text};
 ghost use Rattle.nano_text.specs.Outcomes.{Appends, AppendsPart, Unchanged};
 

@@ -4,10 +4,9 @@ ghost use Rattle.std.specs.Prelude.{ℕ, List, string_bytes};
 ghost use Rattle.nano_ron.specs.Outcomes.{position, ReadsOrEnds, NoneHere};
 ghost use Rattle.nano_ron.specs.State.{pending};
 ghost use Rattle.nano_ron.specs.Token.{IsIdent};
-ghost use Rattle.nano_ron_schema.specs.FieldReading.{EncodesFields};
+ghost use Rattle.nano_ron_schema.specs.Reading.{EncodesFields, Closed};
 ghost use Rattle.nano_ron_schema.specs.Outcomes.{GivesWord, TakesTokens, TakesTokensOrEnds};
-ghost use Rattle.nano_ron_schema.specs.UnknownNames.{GivesUnknown};
-ghost use Rattle.nano_ron_schema.specs.VariantReading.{Closed};
+ghost use Rattle.nano_ron_schema.specs.Outcomes.{GivesUnknown};
 ghost use Rattle.nano_ron_schema.specs.Variants.{named};
 
 use crate::fields::RonFields;

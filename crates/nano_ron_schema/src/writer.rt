@@ -1,8 +1,8 @@
 //! Named fields, as they are written.
 
 ghost use Rattle.std.specs.Prelude.{OnOk, OnErr};
-ghost use Rattle.nano_grammar.proofs.FieldCanonicalLaws.{written_field};
-ghost use Rattle.nano_ron_schema.specs.FieldTexts.{on_a_line, field_text, fields_text};
+ghost use Rattle.nano_grammar.proofs.FieldCodecLaws.{written_field};
+ghost use Rattle.nano_ron_schema.specs.Outcomes.{on_a_line, field_text, fields_text};
 ghost use Rattle.nano_text.specs.Outcomes.{Appends, AppendsPart, Unchanged};
 
 use crate::fields::RonRefs;

@@ -1,8 +1,7 @@
 -- What is cut after a gap.
 use Rattle.std.proofs.Common.{◌≡◌, ℕ, List, ◌++◌, inl, inr, sym, ◌∙◌, subst}
 use Rattle.nano_ron_tokens.specs.Token.{Token}
-use Rattle.nano_ron_tokens.specs.Cut.{IsLexeme, Cut}
-use Rattle.nano_ron_tokens.specs.Gaps.{IsGap}
+use Rattle.nano_ron_tokens.specs.Cut.{IsLexeme, Cut, IsGap}
 use Rattle.nano_ron_tokens.specs.Outcomes.{NothingCut}
 use Rattle.nano_ron_tokens.specs.Scan.{IsStop, BeginsNoComment, AfterGap}
 use Rattle.nano_ron_tokens.proofs.Cuts.{end_elsewhere, is_unended}

@@ -1,5 +1,6 @@
 -- What one call comes to, from what the calls inside it come to.
-use Rattle.std.proofs.Common.{◌≡◌, ◌≢◌, ◌⊎◌, inl, inr, ℕ, List, [], ◌∷◌, Result, refl, sym, subst, ap, ◌∙◌}
+use Rattle.std.proofs.Common.{◌≡◌, ◌≢◌, ◌⊎◌, inl, inr, ℕ, List, [], ◌∷◌, Result, refl, sym, subst}
+use Rattle.std.proofs.Common.{ap, ◌∙◌}
 use Rattle.std.proofs.lemmas.Result.{MatchResult-weaker}
 use Rattle.std.specs.declared.str.Chars.{Chars}
 use Rattle.nano_text.specs.Place.{remaining}
@@ -7,11 +8,14 @@ use Rattle.nano_text.proofs.PlaceLaws.{moves_append}
 use Rattle.nano_text.proofs.RemainingText.{remaining_end}
 use Rattle.nano_grammar.specs.Tokens.{At, Leaves}
 use Rattle.nano_grammar.specs.Outcomes.{Position, Fails, Stops, TookNext, given_up}
-use Rattle.nano_grammar.proofs.Tokens.{same_at}
-use Rattle.nano_grammar.proofs.Outcomes.{fails_after, fails_as, fails_ended, ended_read as ended_read_by, took, rejects_next, rejects_here, took_comma}
+use Rattle.nano_grammar.proofs.TokensLaws.{same_at}
+use Rattle.nano_grammar.proofs.TokenCalls.{fails_after, fails_as, fails_ended}
+use Rattle.nano_grammar.proofs.TokenCalls.{ended_read as ended_read_by, took, rejects_next}
+use Rattle.nano_grammar.proofs.TokenCalls.{rejects_here, took_comma}
 use Rattle.nano_ron_tokens.specs.Cut.{Cut}
-use Rattle.nano_ron_tokens.specs.Outcomes.{report, position, IsMadeAt, NothingCut, NoneHere, NoCapacity}
-use Rattle.nano_ron_tokens.specs.Outcomes.{Taken, NotTaken, NoColon, TakesNext, TakesOne, TakesComma, Reads, ReadsOrEnds, EndsOnError}
+use Rattle.nano_ron_tokens.specs.Outcomes.{report, position, IsMadeAt, NothingCut, NoneHere}
+use Rattle.nano_ron_tokens.specs.Outcomes.{NoCapacity, Taken, NotTaken, NoColon, TakesNext}
+use Rattle.nano_ron_tokens.specs.Outcomes.{TakesOne, TakesComma, Reads, ReadsOrEnds, EndsOnError}
 use Rattle.nano_ron_tokens.specs.State.{at, ended, pending, KeepsOtherBuffers}
 use Rattle.nano_ron_tokens.specs.Token.{Token, IsStr, IsNumeric, IsLiteral, colon, comma}
 use Rattle.nano_ron_tokens.specs.declared.error.DeRonErr.{DeRonErr}

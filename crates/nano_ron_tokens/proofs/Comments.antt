@@ -1,9 +1,14 @@
 -- What is passed over, a character or a part at a time.
-use Rattle.std.proofs.Common.{◌≡◌, ◌≢◌, ℕ, ◌<◌, ◌≤◌, ◌==◌, Bool, true, false, cond, List, [], ◌∷◌, ◌++◌, refl, sym, ◌∙◌, subst, ap, inl, inr, append_assoc, length, length-append, arith}
-use Rattle.nano_text.specs.Prefix.{first_is, following}
-use Rattle.nano_ron_tokens.specs.Gaps.{is_space, IsOneLine, HoldsNoEnd, Skip, space, line, block, IsSkip, skip_text, IsUnended}
+use Rattle.std.proofs.Common.{◌≡◌, ◌≢◌, ℕ, ◌<◌, ◌==◌, Bool, true, false, cond, List, [], ◌∷◌}
+use Rattle.std.proofs.Common.{◌++◌, refl, sym, ◌∙◌, subst, ap, inl, inr, append_assoc, length}
+use Rattle.std.proofs.Common.{length-append, arith, ◌+◌, ◌-◌}
+use Rattle.nano_text.specs.Characters.{first_is, following, prefix}
+use Rattle.nano_text.specs.Characters.{is_space}
+use Rattle.nano_ron_tokens.specs.Cut.{IsOneLine, HoldsNoEnd, Skip, space, line, block}
+use Rattle.nano_ron_tokens.specs.Cut.{IsSkip, skip_text, IsUnended}
 use Rattle.nano_ron_tokens.proofs.RonLaws.{no_gap}
-use Rattle.nano_ron_tokens.specs.Scan.{IsStop, AfterLine, AfterBlock, AfterComment, BeginsNoComment, AfterGap}
+use Rattle.nano_ron_tokens.specs.Scan.{IsStop, AfterLine, AfterBlock, AfterComment, BeginsNoComment}
+use Rattle.nano_ron_tokens.specs.Scan.{AfterGap}
 use Rattle.nano_ron_tokens.proofs.Skipping.{slash_is_no_space, line_is, block_is}
 
 abbrev pub is_slash : ℕ → Bool
@@ -118,13 +123,6 @@ pub comment_shorter : (text rest : List ℕ) → 0 < length text → AfterCommen
 comment_shorter text rest some h = elim h [
   | inl c ↦ omega (arith, skip_longer c.0 rest, ap length c.1)
   | inr u ↦ omega (arith, some, ap length u.1)
-]
-
-pub after_fewer : (test : ℕ → Bool) (text : List ℕ) → length (following test text) ≤ length text
-after_fewer test [] = omega arith
-after_fewer test (c ∷ cs) = elim (test c) as (λ (b : Bool). length (cond b (following test cs) (c ∷ cs)) ≤ length (c ∷ cs)) [
-  | true ↦ omega (arith, after_fewer test cs)
-  | false ↦ omega arith
 ]
 
 -- ---- a gap

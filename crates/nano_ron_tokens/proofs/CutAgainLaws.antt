@@ -10,17 +10,15 @@ use Rattle.std.proofs.Common.{sym, subst, ap, inl, inr, append-nil, length-appen
 use Rattle.std.proofs.lemmas.Bool.{and_parts, or_cases, and_from, or_left, or_right}
 use Rattle.std.proofs.lemmas.Bool.Decides.{nat_tests}
 use Rattle.std.proofs.lemmas.Fmt.{decimal_by_steps, decimal_is_IsNumeral}
-use Rattle.nano_text.specs.Prefix.{first_is}
+use Rattle.nano_text.specs.Characters.{first_is}
 use Rattle.nano_text.specs.Number.{IsNumber, Run, is_sign, continues}
 use Rattle.nano_text.specs.declared.number.Number.TheVariants.{U64, I64}
-use Rattle.nano_grammar.specs.Textual.{is_textual, AllTextual}
-use Rattle.nano_grammar.specs.Tokens.{IsCutInto}
-use Rattle.nano_ron_tokens.specs.Cut.{is_word, starts_number, IsName, Cut, word, number}
-use Rattle.nano_ron_tokens.specs.Ron.{none}
+use Rattle.nano_grammar.specs.Tokens.{is_textual, AllTextual, IsCutInto}
+use Rattle.nano_ron_tokens.specs.Cut.{is_word, starts_number, IsName, Cut, word, number, none}
 use Rattle.nano_ron_tokens.proofs.RonLaws.{cut_at_once}
 use Rattle.nano_ron_tokens.specs.Token.{u64, i64, bool}
 use Rattle.nano_ron_tokens.specs.Written.{MayFollow, may_follow, written_truth}
-use Rattle.nano_ron_tokens.proofs.WrittenLaws.{signed_token}
+use Rattle.nano_ron_tokens.proofs.WrittenTextLaws.{signed_token}
 
 -- ---- what follows goes on with no word and no number
 

@@ -1,5 +1,7 @@
 -- A token is cut exactly where its lexeme comes after a gap, and in one way.
-use Rattle.std.proofs.Common.{◌≡◌, ◌≢◌, ℕ, List, [], ◌∷◌, ◌++◌, ◌⊎◌, inl, inr, Bool, true, false, cond, refl, ap, sym, ◌∙◌, subst, Some, codes, bytes_eq, nat_eq, eqb-true, encode_utf8_all, ◌↔◌}
+use Rattle.std.proofs.Common.{◌≡◌, ◌≢◌, ℕ, List, [], ◌∷◌, ◌++◌, ◌⊎◌, inl, inr, Bool, true, false}
+use Rattle.std.proofs.Common.{cond, refl, ap, sym, ◌∙◌, subst, Some, codes, bytes_eq, nat_eq}
+use Rattle.std.proofs.Common.{eqb-true, encode_utf8_all, ◌↔◌}
 use Rattle.std.proofs.lemmas.Bool.{or_left}
 use Rattle.std.proofs.lemmas.Slice.Eq.{bytes_eq-Decides}
 use Rattle.std.specs.List.{AllByRecursion}
@@ -8,15 +10,21 @@ use Rattle.nano_text.proofs.Numbers.{IsNumber-unique}
 use Rattle.nano_text.proofs.Strings.{IsString-unique}
 use Rattle.nano_text.specs.declared.number.Number.{Number}
 use Rattle.nano_text.specs.declared.number.Number.TheVariants.{U64, I64, Dec}
-use Rattle.nano_text.specs.Prefix.{first_is, prefix, following}
+use Rattle.nano_text.specs.Characters.{first_is, prefix, following}
 use Rattle.nano_text.specs.Number.{IsNumber}
 use Rattle.nano_text.specs.String.{IsString}
 use Rattle.nano_grammar.specs.Tokens.{IsOneWay}
-use Rattle.nano_ron_tokens.specs.Token.{Token, ident, str, u64, i64, f64, bool, character, colon, curly_open, curly_close, paren_open, paren_close, block_open, block_close, comma, end}
-use Rattle.nano_ron_tokens.specs.Cut.{is_word, starts_word, BeginsWithWord, IsPunctuator, IsWord, IsRunOf, IsQuoted, IsCharacter, IsEnd, IsLexeme, punctuator, word, number, quoted, single, nothing, Cut}
-use Rattle.nano_ron_tokens.specs.Gaps.{IsGap, IsUnended}
+use Rattle.nano_ron_tokens.specs.Token.{Token, ident, str, u64, i64, f64, bool, character, colon}
+use Rattle.nano_ron_tokens.specs.Token.{curly_open, curly_close, paren_open, paren_close}
+use Rattle.nano_ron_tokens.specs.Token.{block_open, block_close, comma, end}
+use Rattle.nano_ron_tokens.specs.Cut.{is_word, starts_word, BeginsWithWord, IsPunctuator, IsWord}
+use Rattle.nano_ron_tokens.specs.Cut.{IsRunOf, IsQuoted, IsCharacter, IsEnd, IsLexeme, punctuator}
+use Rattle.nano_ron_tokens.specs.Cut.{word, number, quoted, single, nothing, Cut, IsGap, IsUnended}
 use Rattle.nano_ron_tokens.specs.Scan.{punctuator_of, word_token}
-use Rattle.nano_ron_tokens.proofs.LexemeKinds.{punctuator_kind, word_kind, number_kind, quoted_kind, single_kind, end_kind, unended_kind, only_punctuator, only_word, only_number, only_quoted, only_single, only_end, lexeme_stops}
+use Rattle.nano_ron_tokens.proofs.LexemeKinds.{punctuator_kind, word_kind, number_kind, quoted_kind}
+use Rattle.nano_ron_tokens.proofs.LexemeKinds.{single_kind, end_kind, unended_kind, only_punctuator}
+use Rattle.nano_ron_tokens.proofs.LexemeKinds.{only_word, only_number, only_quoted, only_single}
+use Rattle.nano_ron_tokens.proofs.LexemeKinds.{only_end, lexeme_stops}
 use Rattle.nano_ron_tokens.proofs.Skipping.{skips_one_way}
 use Rattle.nano_grammar.proofs.OptionsLaws.{some_injective}
 

@@ -1,16 +1,22 @@
 -- What the first character of a text says of the lexeme that the text begins with.
-use Rattle.std.proofs.Common.{◌≡◌, ◌≢◌, ℕ, List, [], ◌∷◌, ◌++◌, inl, inr, Bool, true, false, cond, refl, ap, sym, ◌∙◌, None, is_some, arith, nat_eq, ◌==◌, ◌≤◌, eqb-true, ne_eqb, subst}
+use Rattle.std.proofs.Common.{◌≡◌, ◌≢◌, ℕ, List, [], ◌∷◌, ◌++◌, inl, inr, Bool, true, false, cond}
+use Rattle.std.proofs.Common.{refl, ap, sym, ◌∙◌, None, is_some, arith, nat_eq, ◌==◌, ◌≤◌, eqb-true}
+use Rattle.std.proofs.Common.{ne_eqb, subst}
 use Rattle.std.specs.Char.{is_ascii_digit}
 use Rattle.std.specs.declared.str.Chars.{Chars}
 use Rattle.std.proofs.lemmas.Bool.{or_cases}
 use Rattle.std.proofs.lemmas.Bool.Decides.{nat_tests}
 use Rattle.nano_text.proofs.Runs.{digit_range}
-use Rattle.nano_text.specs.Prefix.{first_is}
+use Rattle.nano_text.specs.Characters.{first_is}
 use Rattle.nano_text.specs.Number.{is_sign}
 use Rattle.nano_text.specs.Place.{held, remaining, before_nul}
-use Rattle.nano_ron_tokens.specs.Token.{Token, ident, str, bool, character, colon, curly_open, curly_close, paren_open, paren_close, block_open, block_close, comma, end}
-use Rattle.nano_ron_tokens.specs.Cut.{starts_word, starts_number, IsPunctuator, IsWord, IsRunOf, IsQuoted, IsCharacter, IsEnd, IsLexeme, punctuator, word, number, quoted, single, nothing}
-use Rattle.nano_ron_tokens.specs.Gaps.{is_space, IsUnended}
+use Rattle.nano_ron_tokens.specs.Token.{Token, ident, str, bool, character, colon, curly_open}
+use Rattle.nano_ron_tokens.specs.Token.{curly_close, paren_open, paren_close, block_open}
+use Rattle.nano_ron_tokens.specs.Token.{block_close, comma, end}
+use Rattle.nano_ron_tokens.specs.Cut.{starts_word, starts_number, IsPunctuator, IsWord, IsRunOf}
+use Rattle.nano_ron_tokens.specs.Cut.{IsQuoted, IsCharacter, IsEnd, IsLexeme, punctuator, word}
+use Rattle.nano_text.specs.Characters.{is_space}
+use Rattle.nano_ron_tokens.specs.Cut.{number, quoted, single, nothing, IsUnended}
 use Rattle.nano_ron_tokens.specs.Scan.{punctuator_of, starts_gap, IsStop}
 use Rattle.nano_ron_tokens.proofs.Skipping.{first_stops, unended_stops}
 

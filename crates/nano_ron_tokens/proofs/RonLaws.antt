@@ -2,19 +2,16 @@
 use Rattle.std.specs.Prelude.{◌≡◌, ℕ, zero, suc, true, List, [], ◌∷◌, ◌++◌, codes, refl}
 use Rattle.std.proofs.Common.{sym, ◌∙◌, ap, append_assoc}
 use Rattle.std.proofs.lemmas.Grind.{flat_map-append}
-use Rattle.nano_text.proofs.EachLaws.{all_append}
-use Rattle.nano_grammar.specs.Cutting.{Cutting, IsPunctuator, IsWrittenGap}
-use Rattle.nano_grammar.specs.Layouts.{PunctuationIs}
-use Rattle.nano_grammar.specs.Encoding.{AreBrackets}
-use Rattle.nano_grammar.specs.Textual.{is_textual}
-use Rattle.nano_grammar.proofs.TextualLaws.{textual_append}
-use Rattle.nano_ron_tokens.specs.Brackets.{blocks, curlies, parens, block_punctuation}
-use Rattle.nano_ron_tokens.specs.Brackets.{curly_punctuation, paren_punctuation}
+use Rattle.nano_text.proofs.LaneMasks.{all_append}
+use Rattle.nano_grammar.specs.Tokens.{Cutting, IsPunctuator, IsWrittenGap, is_textual}
+use Rattle.nano_grammar.specs.Items.{PunctuationIs}
+use Rattle.nano_grammar.specs.Codec.{AreBrackets}
+use Rattle.nano_grammar.proofs.TokensLaws.{textual_append}
+use Rattle.nano_ron_tokens.specs.Token.{blocks, curlies, parens, block_punctuation}
+use Rattle.nano_ron_tokens.specs.Token.{curly_punctuation, paren_punctuation, Token, colon, comma}
 use Rattle.nano_ron_tokens.specs.Cut.{Cut, IsLexeme, IsPunctuator as IsPunctuatorOf, punctuator}
-use Rattle.nano_ron_tokens.specs.Gaps.{IsGap, IsSkip, space, skip_text}
-use Rattle.nano_ron_tokens.specs.Token.{Token, colon, comma}
+use Rattle.nano_ron_tokens.specs.Cut.{IsGap, IsSkip, space, skip_text, ron_grammar}
 use Rattle.nano_ron_tokens.specs.Written.{indent, MayFollow}
-use Rattle.nano_ron_tokens.specs.Ron.{ron_grammar}
 
 -- ---- how a text is cut
 

@@ -5,20 +5,17 @@ use Rattle.std.specs.Prelude.{codes, refl}
 use Rattle.std.specs.Fmt.{decimal, signed_decimal}
 use Rattle.std.specs.Int.{Width, w64}
 use Rattle.std.proofs.Common.{sym, ◌∙◌}
-use Rattle.nano_value.specs.Legal.{IsText}
-use Rattle.nano_value.specs.Meaning.{number, truth, whole, text}
+use Rattle.nano_value.specs.Meaning.{IsText, number, truth, whole, text}
 use Rattle.nano_meaning.proofs.MeaningLaws.{number_injective, truth_injective, whole_injective}
 use Rattle.nano_meaning.proofs.MeaningLaws.{text_injective}
-use Rattle.nano_grammar.specs.Options.{NoneStyle}
-use Rattle.nano_grammar.specs.Scalars.{Carries, OneCanonical}
+use Rattle.nano_grammar.specs.Scalars.{NoneStyle, Carries, OneCanonical}
 use Rattle.nano_ron_tokens.proofs.CutAgainLaws.{unsigned_is_cut, signed_is_cut, truth_is_cut}
 use Rattle.nano_ron_tokens.proofs.CutAgainLaws.{unsigned_textual, signed_textual, truth_textual}
 use Rattle.nano_ron_tokens.proofs.CutAgainLaws.{none_is_cut, none_textual}
-use Rattle.nano_ron_tokens.proofs.WrittenTextLaws.{text_is_cut, text_textual}
-use Rattle.nano_ron_tokens.specs.Ron.{MayBegin, none, ron_grammar}
+use Rattle.nano_ron_tokens.proofs.WrittenTextLaws.{text_is_cut, text_textual, signed_token}
+use Rattle.nano_ron_tokens.specs.Cut.{MayBegin, none, ron_grammar}
 use Rattle.nano_ron_tokens.proofs.RonLaws.{ron}
 use Rattle.nano_ron_tokens.specs.Token.{Token, str, u64, i64, bool, integer_of, truth_of}
-use Rattle.nano_ron_tokens.proofs.WrittenLaws.{signed_token}
 use Rattle.nano_ron_tokens.specs.Written.{written_text, written_truth}
 use Rattle.nano_grammar.proofs.OptionsLaws.{some_injective}
 

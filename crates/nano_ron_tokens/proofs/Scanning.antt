@@ -1,12 +1,17 @@
 -- What one scan comes to, from what the scans inside it come to.
 use Rattle.std.proofs.Common.{◌≡◌, ◌≢◌, ℕ, List, true, Result, string_bytes, sym, subst, ap, ◌∙◌}
+use Rattle.std.proofs.Common.{◌<◌, ◌≤◌, [], ◌∷◌, ◌++◌, Bool, false, cond, IsUtf8, encode_utf8_all}
+use Rattle.std.proofs.Common.{refl, arith}
 use Rattle.std.proofs.lemmas.Result.{MatchResult-weaker}
 use Rattle.std.specs.declared.str.Chars.{Chars}
-use Rattle.nano_text.specs.Place.{remaining, Moves}
+use Rattle.std.specs.List.{AllByRecursion}
+use Rattle.std.proofs.lemmas.Bool.Decides.{nat_tests}
+use Rattle.std.proofs.lemmas.Str.{encode_ascii}
+use Rattle.nano_text.specs.Place.{remaining, Moves, IsInLine}
 use Rattle.nano_text.proofs.PlaceLaws.{moves_none, moves_append, moves_advance}
 use Rattle.nano_text.specs.declared.place.Place.{Place}
 use Rattle.nano_grammar.specs.Outcomes.{Stops}
-use Rattle.nano_ron_tokens.specs.Cut.{Cut, IsLexeme}
+use Rattle.nano_ron_tokens.specs.Cut.{Cut, IsLexeme, is_word}
 use Rattle.nano_ron_tokens.specs.Outcomes.{report, position, Reports, Moved, NothingCut, NoCapacity}
 use Rattle.nano_ron_tokens.specs.Scan.{NotScanned, Scans, Passed, SkipsGaps}
 use Rattle.nano_ron_tokens.specs.State.{ended, pending, place_of}
@@ -20,6 +25,9 @@ use Rattle.nano_ron_tokens.proofs.Calling.{gives_up, fails_ended_there, made_the
 use Rattle.nano_ron_tokens.proofs.Capacity.{by_rejection, outgrows_same}
 use Rattle.nano_ron_tokens.proofs.AfterGaps.{lexeme_cut, cut_lexeme}
 use Rattle.nano_ron_tokens.proofs.Skipping.{first_stops}
+use Rattle.nano_text.specs.Characters.{prefix}
+use Rattle.nano_text.proofs.InLine.{prefix_in_line}
+use Rattle.nano_text.proofs.Utf8Prefixes.{CutAfterPrefix, cut_narrow}
 
 -- nothing is passed
 pub moved_none : (s : DeRonState) (i : Chars) → Moved s i s i
@@ -85,3 +93,47 @@ scans_spaced old mid new i j k passed gap r h =
       capacity = λ memory t rest l. outgrows_same old mid t passed.strbuf passed.numbuf passed.identbuf (x.capacity memory t rest (from t rest l));
       place = moves_append passed.place x.place;
     })
+
+-- ==== runs of a word
+
+narrow : (n : ℕ) → 128 ≤ n → is_word n ≡ false
+narrow n h = grind (arith, nat_tests)
+
+-- a text is cut after its prefix of such characters
+pub word_cut : (bytes : List ℕ) → IsUtf8 bytes → CutAfterPrefix is_word bytes
+word_cut bytes utf8 = cut_narrow is_word narrow bytes utf8
+
+pub word_in_line : (bytes : List ℕ) → AllByRecursion IsInLine (prefix is_word bytes)
+word_in_line bytes = prefix_in_line is_word in_line bytes where
+  in_line : (b : ℕ) → is_word b ≡ true → IsInLine b
+  in_line b h = (grind (arith, nat_tests), grind (arith, nat_tests))
+
+-- its characters are its bytes
+pub word_bytes : (text : List ℕ) → encode_utf8_all (prefix is_word text) ≡ prefix is_word text
+word_bytes [] = refl
+word_bytes (c ∷ cs) = elim (is_word c) as (λ (b : Bool). is_word c ≡ b → encode_utf8_all (cond b (c ∷ prefix is_word cs) []) ≡ cond b (c ∷ prefix is_word cs) []) [
+  | true ↦ λ e.
+      let small : c < 128 = grind (arith, nat_tests) in
+      ap (λ (l : List ℕ). l ++ encode_utf8_all (prefix is_word cs)) (encode_ascii c small) ∙ ap (λ (l : List ℕ). c ∷ l) (word_bytes cs)
+  | false ↦ λ e. refl
+] refl
+
+-- ==== passing
+
+pub passed_none : (s : DeRonState) (i : Chars) → Passed s i s i
+passed_none s i = record { place = moves_none (place_of s) i; tok = refl; strbuf = refl; numbuf = refl; identbuf = refl }
+
+pub passed_next : {old new : DeRonState} {i j : Chars} → Moved old i new j
+    → new.tok ≡ old.tok → new.strbuf ≡ old.strbuf → new.numbuf ≡ old.numbuf → new.identbuf ≡ old.identbuf
+    → Passed old i new j
+passed_next place tok strbuf numbuf identbuf =
+    record { place = place; tok = tok; strbuf = strbuf; numbuf = numbuf; identbuf = identbuf }
+
+pub passed_append : {old mid new : DeRonState} {i j k : Chars} → Passed old i mid j → Passed mid j new k → Passed old i new k
+passed_append h g = record {
+  place = moves_append h.place g.place;
+  tok = g.tok ∙ h.tok;
+  strbuf = g.strbuf ∙ h.strbuf;
+  numbuf = g.numbuf ∙ h.numbuf;
+  identbuf = g.identbuf ∙ h.identbuf;
+}

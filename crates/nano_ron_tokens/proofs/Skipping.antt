@@ -1,10 +1,13 @@
 -- Skipping ends in one place: what is skipped begins a text in one way, and no lexeme begins so.
-use Rattle.std.proofs.Common.{◌≡◌, ◌≢◌, ◌⊎◌, ℕ, true, false, List, [], ◌∷◌, ◌++◌, codes, refl, sym, ◌∙◌, subst, ap, inl, inr, append_assoc, arith}
+use Rattle.std.proofs.Common.{◌≡◌, ◌≢◌, ◌⊎◌, ℕ, true, false, List, [], ◌∷◌, ◌++◌, codes, refl, sym}
+use Rattle.std.proofs.Common.{◌∙◌, subst, ap, inl, inr, append_assoc, arith}
 use Rattle.std.specs.List.{AllByRecursion, flat_map}
 use Rattle.std.proofs.lemmas.Bool.Decides.{nat_tests}
-use Rattle.nano_text.proofs.EachLaws.{all_split}
-use Rattle.nano_text.specs.Prefix.{first_is}
-use Rattle.nano_ron_tokens.specs.Gaps.{is_space, IsOneLine, HoldsNoEnd, Skip, space, line, block, IsSkip, skip_text, IsGap, IsUnended}
+use Rattle.nano_text.proofs.LaneMasks.{all_split}
+use Rattle.nano_text.specs.Characters.{first_is}
+use Rattle.nano_text.specs.Characters.{is_space}
+use Rattle.nano_ron_tokens.specs.Cut.{IsOneLine, HoldsNoEnd, Skip, space, line, block}
+use Rattle.nano_ron_tokens.specs.Cut.{IsSkip, skip_text, IsGap, IsUnended}
 use Rattle.nano_ron_tokens.specs.Scan.{starts_gap, IsStop}
 
 -- of two prefixes of one list, one goes on where the other ends

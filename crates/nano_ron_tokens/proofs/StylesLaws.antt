@@ -1,18 +1,17 @@
 -- What is proved of Styles.
 use Rattle.std.specs.Prelude.{ℕ, true, false, [], ◌∷◌, codes, refl}
+use Rattle.std.proofs.Common.{◌≡◌, ◌+◌, ◌++◌, List, zero, suc, sym, ◌∙◌, ap, append_assoc, arith}
 use Rattle.nano_text.specs.Place.{saturating_next}
-use Rattle.nano_grammar.specs.Cutting.{IsValueText}
-use Rattle.nano_grammar.specs.Items.{ListPunctuation}
-use Rattle.nano_grammar.specs.Layouts.{AreGaps}
-use Rattle.nano_grammar.specs.Units.{UnitStyle}
-use Rattle.nano_grammar.specs.Canonical.{ListStyle, PairStyle, TupleStyle}
-use Rattle.nano_ron_tokens.specs.Brackets.{blocks, curlies, parens, block_punctuation}
-use Rattle.nano_ron_tokens.specs.Brackets.{curly_punctuation, paren_punctuation}
+use Rattle.nano_grammar.specs.Tokens.{IsValueText}
+use Rattle.nano_grammar.specs.Items.{ListPunctuation, AreGaps}
+use Rattle.nano_grammar.specs.Scalars.{UnitStyle}
+use Rattle.nano_grammar.specs.Codec.{ListStyle, PairStyle, TupleStyle}
+use Rattle.nano_ron_tokens.specs.Token.{blocks, curlies, parens, block_punctuation}
+use Rattle.nano_ron_tokens.specs.Token.{curly_punctuation, paren_punctuation, colon}
 use Rattle.nano_ron_tokens.proofs.RonLaws.{ron, no_gap_written, space_written, indent_written}
 use Rattle.nano_ron_tokens.proofs.RonLaws.{colon_is, blocks_are, parens_are, curlies_are}
-use Rattle.nano_ron_tokens.specs.Ron.{ron_grammar}
-use Rattle.nano_ron_tokens.specs.Token.{colon}
-use Rattle.nano_ron_tokens.specs.Styles.{lines, indents, spaces}
+use Rattle.nano_ron_tokens.specs.Cut.{ron_grammar}
+use Rattle.nano_ron_tokens.specs.Written.{lines, indents, spaces, indent}
 
 pub lines_written : (punctuation : ListPunctuation ℕ) (d : ℕ)
     → AreGaps ron true punctuation (lines d)
@@ -123,3 +122,14 @@ unit_style = record {
   begins = tt;
   is_written = unit_written;
 }
+
+-- ==== indents
+
+four_after : (d : ℕ) → indent (suc d) ≡ indent d ++ codes "    "
+four_after zero = refl
+four_after (suc d) = ap (λ (l : List ℕ). codes "    " ++ l) (four_after d) ∙ sym (append_assoc (codes "    ") (indent d) (codes "    "))
+
+pub indent_more : (d : ℕ) (before now more : List ℕ) → now ≡ before ++ indent d → more ≡ now ++ codes "    " → more ≡ before ++ indent (d + 1)
+indent_more d before now more e f =
+    let same : d + 1 ≡ suc d = omega arith in
+    rw same (f ∙ (ap (λ (l : List ℕ). l ++ codes "    ") e ∙ (append_assoc before (indent d) (codes "    ") ∙ ap (λ (l : List ℕ). before ++ l) (sym (four_after d)))))

@@ -1,17 +1,16 @@
 -- What is written of a text is cut into its token.
 use Rattle.std.specs.Prelude.{◌≡◌, ◌≢◌, ℕ, ◌==◌, not, Bool, true, false, cond, List, [], ◌∷◌, ◌++◌}
-use Rattle.std.specs.Prelude.{map, chars, refl}
+use Rattle.std.specs.Prelude.{map, chars, refl, ℤ, pos, negsuc}
 use Rattle.std.specs.List.{AllByRecursion, flat_map}
 use Rattle.std.proofs.Common.{sym, ◌∙◌, ap, append_assoc, eqb-true, ne_eqb, arith}
 use Rattle.std.proofs.Math.Utf8.{scalar, scalars}
 use Rattle.std.proofs.lemmas.Bool.{eqb-false, and_parts}
 use Rattle.std.proofs.lemmas.Str.{encodes-chars, scalars-chars}
-use Rattle.nano_value.specs.Legal.{IsText}
+use Rattle.nano_value.specs.Meaning.{IsText}
 use Rattle.nano_text.specs.String.{Piece, escaped, IsPiece, IsString, piece_text, piece_char}
-use Rattle.nano_grammar.specs.Textual.{is_textual, AllTextual}
-use Rattle.nano_grammar.proofs.TextualLaws.{textual_append}
-use Rattle.nano_grammar.specs.Tokens.{IsCutInto}
-use Rattle.nano_ron_tokens.specs.Token.{str}
+use Rattle.nano_grammar.specs.Tokens.{is_textual, AllTextual, IsCutInto}
+use Rattle.nano_grammar.proofs.TokensLaws.{textual_append}
+use Rattle.nano_ron_tokens.specs.Token.{str, Token, u64, i64, end}
 use Rattle.nano_ron_tokens.specs.Cut.{quoted, Cut}
 use Rattle.nano_ron_tokens.proofs.RonLaws.{cut_at_once}
 use Rattle.nano_ron_tokens.specs.Written.{MayFollow, written_piece, written_characters}
@@ -94,3 +93,18 @@ pub text_textual : (bytes : List ℕ) → IsText bytes → AllTextual (written_t
 text_textual bytes is =
     let content = (pieces_stand (chars bytes) (scalars-chars bytes is.utf8)).3 in
     (refl, textual_append _ (34 ∷ []) content (refl, tt))
+
+-- ==== signed numbers
+
+-- ---- scalars
+
+-- a number is one token, with a minus sign or without
+abbrev pub signed_token : ℤ → Token
+signed_token (pos n) = u64 n
+signed_token (negsuc n) = i64 (negsuc n)
+
+-- ==== punctuation
+
+abbrev pub is_end : Token → Bool
+is_end end = true
+is_end _ = false

@@ -1,16 +1,57 @@
 -- Which token is cut from a text, and what is left: a gap, one lexeme, the rest.
-use Rattle.std.specs.Prelude.{◌≡◌, ◌≢◌, ◌⊎◌, ℕ, ◌==◌, ◌||◌, Bool, true, false, List, [], ◌∷◌, ◌++◌}
-use Rattle.std.specs.Prelude.{codes, encode_utf8_all}
+use Rattle.std.specs.Prelude.{◌≡◌, ◌≢◌, ◌⊎◌, ℕ, ◌==◌, ◌||◌, Bool, true, List, [], ◌∷◌, ◌++◌, codes}
+use Rattle.std.specs.Prelude.{false, encode_utf8_all}
+use Rattle.std.specs.List.{AllByRecursion, flat_map}
 use Rattle.std.specs.Char.{is_ascii_uppercase, is_ascii_lowercase, is_ascii_digit}
-use Rattle.std.specs.List.{AllByRecursion}
-use Rattle.nano_text.specs.Prefix.{first_is}
+use Rattle.nano_text.specs.Characters.{line_feed, first_is, is_space}
 use Rattle.nano_text.specs.Number.{is_sign, IsNumber}
 use Rattle.nano_text.specs.String.{IsString}
 use Rattle.nano_text.specs.declared.number.Number.TheVariants.{U64, I64, Dec}
-use Rattle.nano_ron_tokens.specs.Gaps.{IsGap, IsUnended}
 use Rattle.nano_ron_tokens.specs.Token.{Token, ident, str, u64, i64, f64, bool, character, colon}
 use Rattle.nano_ron_tokens.specs.Token.{comma, curly_open, curly_close, paren_open, paren_close}
-use Rattle.nano_ron_tokens.specs.Token.{block_open, block_close, end}
+use Rattle.nano_ron_tokens.specs.Token.{block_open, block_close, end, bof}
+use Rattle.nano_grammar.specs.Codec.{Grammar}
+
+-- ==== what stands between tokens: white space and comments
+
+-- no line feed stands in the characters
+abbrev pub IsOneLine : List ℕ → Type 0
+IsOneLine = AllByRecursion (λ c. c ≢ line_feed)
+
+-- no `*/` stands in the characters
+abbrev pub HoldsNoEnd : List ℕ → Type 0
+HoldsNoEnd cs = (prefix back : List ℕ) → cs ≡ prefix ++ (codes "*/" ++ back) → ⊥
+
+-- what is skipped: a character of white space; a comment from `//` to the line feed, which is
+-- skipped with it; one from `/*` to the first `*/` after it
+pub data Skip : Type 0 where
+  space : ℕ → Skip
+  line : List ℕ → Skip
+  block : List ℕ → Skip
+
+abbrev pub IsSkip : Skip → Type 0
+IsSkip (space c) = is_space c ≡ true
+IsSkip (line cs) = IsOneLine cs
+IsSkip (block cs) = HoldsNoEnd cs
+
+abbrev pub skip_text : Skip → List ℕ
+skip_text (space c) = c ∷ []
+skip_text (line cs) = codes "//" ++ (cs ++ line_feed ∷ [])
+skip_text (block cs) = codes "/*" ++ (cs ++ codes "*/")
+
+-- any number of these
+pub record IsGap (gap : List ℕ) : Type 0 where
+  pub skips : List Skip
+  pub good : AllByRecursion IsSkip skips
+  pub is : gap ≡ flat_map skip_text skips
+
+-- nothing is left, or a comment that has no end
+abbrev pub IsUnended : List ℕ → Type 0
+IsUnended text = (text ≡ [])
+    ⊎ (((cs : List ℕ) × (text ≡ codes "//" ++ cs) × IsOneLine cs)
+    ⊎ ((cs : List ℕ) × (text ≡ codes "/*" ++ cs) × HoldsNoEnd cs))
+
+-- ==== which token is cut, and what is left
 
 -- a word starts at a letter or `_`
 abbrev pub starts_word : ℕ → Bool
@@ -94,3 +135,23 @@ pub record Cut (text : List ℕ) (token : Token) (rest : List ℕ) : Type 0 wher
   pub split : text ≡ gap ++ body
   pub skipped : IsGap gap
   pub lexeme : IsLexeme token body rest
+
+-- ==== what may begin a value
+
+-- no comma, colon, closing bracket, `Bof` or end
+abbrev pub MayBegin : Token → Type 0
+MayBegin comma = ⊥
+MayBegin colon = ⊥
+MayBegin curly_close = ⊥
+MayBegin paren_close = ⊥
+MayBegin block_close = ⊥
+MayBegin bof = ⊥
+MayBegin end = ⊥
+MayBegin _ = Unit {0}
+
+-- the word that stands for what is absent
+abbrev pub none : Token
+none = ident (codes "None")
+
+abbrev pub ron_grammar : Grammar Token
+ron_grammar = record { may_begin = MayBegin; none = none; none_begins = tt }

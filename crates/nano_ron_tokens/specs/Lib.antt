@@ -1,14 +1,8 @@
 pub mod Token
-pub mod Gaps
 pub mod Cut
 pub mod State
-pub mod Messages
 pub mod Outcomes
 pub mod Scan
-pub mod Input
 pub mod Promises
-pub mod Punctuation
-pub mod Brackets
 pub mod Written
-pub mod Ron
-pub mod Styles
+pub mod Names

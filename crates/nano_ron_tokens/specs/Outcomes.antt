@@ -5,18 +5,19 @@ use Rattle.std.specs.Prelude.{MatchResult, String, string_bytes, string_capacity
 use Rattle.std.specs.declared.str.Chars.{Chars}
 use Rattle.nano_text.specs.Place.{remaining, Moves}
 use Rattle.nano_grammar.specs.Tokens.{At, Leaves}
-use Rattle.nano_grammar.specs.Outcomes.{Report, Position, IsMadeAt as MadeAt, Fails, Stops, RejectsToken}
-use Rattle.nano_grammar.specs.Outcomes.{TookNext, Took, TookComma, NothingCut as NothingCutBy}
-use Rattle.nano_grammar.specs.Outcomes.{Reads as ReadsBy, ReadsOrEnds as ReadsOrEndsBy}
+use Rattle.nano_grammar.specs.Outcomes.{Report, Position, IsMadeAt as MadeAt, Fails, Stops}
+use Rattle.nano_grammar.specs.Outcomes.{RejectsToken, TookNext, Took, TookComma}
+use Rattle.nano_grammar.specs.Outcomes.{NothingCut as NothingCutBy, Reads as ReadsBy}
+use Rattle.nano_grammar.specs.Outcomes.{ReadsOrEnds as ReadsOrEndsBy}
 use Rattle.nano_ron_tokens.specs.declared.error.DeRonErr.{DeRonErr}
 use Rattle.nano_ron_tokens.specs.declared.state.DeRonState.{DeRonState}
 use Rattle.nano_ron_tokens.specs.declared.token.DeRonTok.TheVariants.{Eof}
 use Rattle.nano_ron_tokens.specs.declared.writer.SerRonState.{SerRonState}
-use Rattle.nano_ron_tokens.specs.Messages.{out_of_range, below_range, above_range}
+use Rattle.nano_ron_tokens.specs.State.{out_of_range, below_range, above_range, at, ended, pending}
+use Rattle.nano_ron_tokens.specs.State.{place_of, KeepsOtherBuffers}
 use Rattle.nano_ron_tokens.specs.Token.{Token, str, u64, f64, bool, colon, comma, ident, integer_of}
 use Rattle.nano_ron_tokens.specs.Token.{truth_of, IsStr, IsIdent}
 use Rattle.nano_ron_tokens.specs.Cut.{Cut}
-use Rattle.nano_ron_tokens.specs.State.{at, ended, pending, place_of, KeepsOtherBuffers}
 
 -- ---- errors
 

@@ -2,8 +2,7 @@
 use Rattle.std.specs.Prelude.{◌≡◌, ◌↔◌, ℕ, List, [], ◌∷◌, ◌++◌}
 use Rattle.nano_grammar.specs.Tokens.{At, BeginsAt, Leaves, IsOneWay}
 use Rattle.nano_ron_tokens.specs.Token.{Token, end}
-use Rattle.nano_ron_tokens.specs.Cut.{Cut}
-use Rattle.nano_ron_tokens.specs.Gaps.{IsGap, IsUnended}
+use Rattle.nano_ron_tokens.specs.Cut.{Cut, IsGap, IsUnended}
 
 -- a text is cut in one way: one token, one rest
 abbrev pub CutsOneWay : Type 0

@@ -3,20 +3,22 @@ use Rattle.std.specs.Prelude.{◌≡◌, ◌≢◌, ◌⊎◌, ◌==◌, ◌<◌
 use Rattle.std.specs.Prelude.{◌++◌, length, codes, Option, Some, None, bytes_eq, if◌then◌else◌}
 use Rattle.std.specs.Prelude.{Result, MatchResult, string_capacity}
 use Rattle.std.specs.declared.str.Chars.{Chars}
-use Rattle.nano_text.specs.Characters.{line_feed}
+use Rattle.nano_text.specs.Characters.{line_feed, prefix, following, first_is}
 use Rattle.nano_text.specs.Place.{remaining}
-use Rattle.nano_text.specs.Prefix.{prefix, following, first_is}
-use Rattle.nano_grammar.specs.Outcomes.{NothingCut, TookNext}
+use Rattle.nano_grammar.specs.Outcomes.{NothingCut, TookNext, IsValueError as IsValueErrorOf}
+use Rattle.nano_grammar.specs.Outcomes.{HoldsNul, end_message}
 use Rattle.nano_ron_tokens.specs.declared.scan.Rejection.{Rejection}
 use Rattle.nano_ron_tokens.specs.declared.scan.Rejection.TheVariants.{Memory}
 use Rattle.nano_ron_tokens.specs.declared.state.DeRonState.{DeRonState}
-use Rattle.nano_ron_tokens.specs.Cut.{Cut, is_word}
-use Rattle.nano_ron_tokens.specs.Gaps.{Skip, IsSkip, skip_text, IsGap, IsUnended, IsOneLine}
-use Rattle.nano_ron_tokens.specs.Gaps.{HoldsNoEnd, is_space}
-use Rattle.nano_ron_tokens.specs.Outcomes.{Outgrows, Moved, position}
-use Rattle.nano_ron_tokens.specs.State.{KeepsOtherBuffers}
+use Rattle.nano_ron_tokens.specs.Cut.{Cut, is_word, Skip, IsSkip, skip_text, IsGap, IsUnended}
+use Rattle.nano_text.specs.Characters.{is_space}
+use Rattle.nano_ron_tokens.specs.Cut.{IsOneLine, HoldsNoEnd}
+use Rattle.nano_ron_tokens.specs.Outcomes.{Outgrows, Moved, position, report, Says}
+use Rattle.nano_ron_tokens.specs.State.{KeepsOtherBuffers, pending}
 use Rattle.nano_ron_tokens.specs.Token.{Token, ident, bool, colon, curly_open, curly_close}
 use Rattle.nano_ron_tokens.specs.Token.{block_open, block_close, comma, paren_open, paren_close}
+use Rattle.nano_ron_tokens.specs.Token.{end}
+use Rattle.nano_ron_tokens.specs.declared.error.DeRonErr.{DeRonErr}
 
 -- the token that a word is
 abbrev pub word_token : List ℕ → Token
@@ -80,10 +82,6 @@ punctuator_of c =
 
 -- ---- what is passed over
 
--- what indents are made of: a space
-abbrev pub is_blank : ℕ → Bool
-is_blank c = c == 32
-
 -- a gap begins here, or a comment that has no end
 abbrev pub starts_gap : ℕ → Bool
 starts_gap c = is_space c || (c == 47)
@@ -129,3 +127,19 @@ SkipsComment text rest false = BeginsNoComment text
 abbrev pub SkipsGaps : List ℕ → List ℕ → Bool → Type 0
 SkipsGaps text rest true = AfterGap text rest × (first_is starts_gap rest ≡ false)
 SkipsGaps text rest false = NothingCut Cut text
+
+-- ==== the characters that are still to be read
+
+-- the input ends here
+pub record IsWholeInput (s : DeRonState) (input : List ℕ) : Type 0 where
+  pub ends : pending s ≡ end
+  pub no_nul : HoldsNul input → ⊥
+
+-- another token is pending, or a NUL stands somewhere
+pub record GoesOn (s : DeRonState) (input : List ℕ) (e : DeRonErr) : Type 0 where
+  pub goes_on : (pending s ≢ end) ⊎ HoldsNul input
+  pub says : Says s end_message e
+
+-- the message is not that of a value that goes on; all else is the same
+abbrev pub IsValueError : DeRonErr → DeRonErr → Type 0
+IsValueError error result = IsValueErrorOf (report error) (report result)

@@ -1,5 +1,7 @@
 -- The tokens of RON, each with the text that it carries, as bytes of UTF-8.
-use Rattle.std.specs.Prelude.{ℕ, ℤ, pos, Bool, ◌==◌, not, List, Option, Some, None}
+use Rattle.std.specs.Prelude.{ℕ, ℤ, pos, Bool, ◌==◌, not, List, Option, Some, None, true, false}
+use Rattle.std.specs.Prelude.{codes, bytes_eq}
+use Rattle.nano_grammar.specs.Items.{ListPunctuation}
 
 pub data Token : Type 0 where
   -- a word of any meaning but a boolean, with its characters
@@ -59,3 +61,48 @@ abbrev pub IsLiteral : Token → Type 0
 IsLiteral (ident name) = Unit {0}
 IsLiteral (bool b) = Unit {0}
 IsLiteral _ = ⊥
+
+-- ==== the brackets and the comma of lists, as tokens and as characters
+
+-- square brackets
+abbrev pub blocks : ListPunctuation Token
+blocks = record { opening = block_open; closing = block_close; comma = comma }
+
+-- braces
+abbrev pub curlies : ListPunctuation Token
+curlies = record { opening = curly_open; closing = curly_close; comma = comma }
+
+-- parentheses
+abbrev pub parens : ListPunctuation Token
+parens = record { opening = paren_open; closing = paren_close; comma = comma }
+
+-- [ ] ,
+abbrev pub block_punctuation : ListPunctuation ℕ
+block_punctuation = record { opening = 91; closing = 93; comma = 44 }
+
+-- { } ,
+abbrev pub curly_punctuation : ListPunctuation ℕ
+curly_punctuation = record { opening = 123; closing = 125; comma = 44 }
+
+-- ( ) ,
+abbrev pub paren_punctuation : ListPunctuation ℕ
+paren_punctuation = record { opening = 40; closing = 41; comma = 44 }
+
+-- ==== tests of the pending token
+
+-- the word that stands for what is absent
+abbrev pub is_none : Token → Bool
+is_none (ident name) = bytes_eq name (codes "None")
+is_none _ = false
+
+abbrev pub is_block_close : Token → Bool
+is_block_close block_close = true
+is_block_close _ = false
+
+abbrev pub is_curly_close : Token → Bool
+is_curly_close curly_close = true
+is_curly_close _ = false
+
+abbrev pub is_paren_close : Token → Bool
+is_paren_close paren_close = true
+is_paren_close _ = false

@@ -3,9 +3,11 @@ use Rattle.std.specs.Prelude.{◌≡◌, ℕ, ◌==◌, ◌||◌, ◌&&◌, not,
 use Rattle.std.specs.Prelude.{◌∷◌, ◌++◌, if◌then◌else◌, codes, chars}
 use Rattle.std.specs.List.{flat_map}
 use Rattle.nano_text.specs.String.{Piece, plain, escaped, piece_text}
-use Rattle.nano_ron_tokens.specs.Gaps.{is_space}
+use Rattle.nano_text.specs.Characters.{is_space}
 use Rattle.nano_text.specs.Characters.{backslash, carriage_return, digit_0, letter_n, letter_r}
 use Rattle.nano_text.specs.Characters.{letter_t, line_feed, quote, tab}
+use Rattle.nano_text.specs.Place.{saturating_next}
+use Rattle.nano_grammar.specs.Items.{Gaps}
 
 -- what may follow a written value: white space , : ) ] }
 abbrev pub may_follow : ℕ → Bool
@@ -52,3 +54,27 @@ written_characters cs = flat_map (λ c. piece_text (written_piece c)) cs
 -- UTF-8
 abbrev pub written_text : List ℕ → List ℕ
 written_text bytes = quote ∷ (written_characters (chars bytes) ++ quote ∷ [])
+
+-- ==== the gaps of lists and tuples
+
+-- each item on a line of its own, with a comma after it
+abbrev pub lines : ℕ → Gaps ℕ
+lines d = record {
+  after_opening = line_feed ∷ [];
+  before_item = indent (saturating_next d);
+  after_comma = line_feed ∷ [];
+  before_closing = indent d;
+}
+
+-- an indent before each item
+abbrev pub indents : ℕ → Gaps ℕ
+indents d = record {
+  after_opening = [];
+  before_item = indent (saturating_next d);
+  after_comma = [];
+  before_closing = [];
+}
+
+-- a space after each comma
+abbrev pub spaces : Gaps ℕ
+spaces = record { after_opening = []; before_item = []; after_comma = 32 ∷ []; before_closing = [] }

@@ -1,7 +1,7 @@
 //! Errors of a reader, and the calls of a state that make them.
 
 ghost use Rattle.std.specs.Prelude.{◌≡◌, ◌++◌, true, IfOk, codes};
-ghost use Rattle.nano_ron_tokens.specs.Messages.{IsSameError, below_range, above_range};
+ghost use Rattle.nano_ron_tokens.specs.State.{IsSameError, below_range, above_range};
 ghost use Rattle.nano_ron_tokens.specs.Outcomes.{IsMadeAt, Says, SaysIt};
 
 use crate::state::DeRonState;
@@ -39,7 +39,7 @@ impl DeRonErr {
 
 impl fmt::Display for DeRonErr {
     ghost use Rattle.std.specs.Prelude.{Some};
-    ghost use Rattle.nano_ron_tokens.specs.Messages.{error_text};
+    ghost use Rattle.nano_ron_tokens.specs.State.{error_text};
 
     ghost output = { λ e. Some (error_text e) };
 
@@ -53,7 +53,7 @@ impl fmt::Display for DeRonErr {
 
 impl fmt::Debug for DeRonErr {
     ghost use Rattle.std.specs.Prelude.{Some};
-    ghost use Rattle.nano_ron_tokens.specs.Messages.{error_text};
+    ghost use Rattle.nano_ron_tokens.specs.State.{error_text};
 
     ghost debug_output = { λ e. Some (error_text e) };
 

@@ -1,13 +1,12 @@
 //! How a reader's state passes over what stands between tokens: white space and comments.
 
-ghost use Rattle.std.specs.Prelude.{◌≡◌, ◌≢◌, length};
-ghost use Rattle.nano_text.specs.Prefix.{prefix, following};
-ghost use Rattle.nano_text.specs.Place.{held, remaining, before_nul};
-ghost use Rattle.nano_ron_tokens.specs.Gaps.{is_space};
-ghost use Rattle.nano_ron_tokens.specs.Scan.{is_blank, AfterLine, AfterBlock, Passed, SkipsComment};
-ghost use Rattle.nano_ron_tokens.specs.Scan.{SkipsGaps};
+ghost use Rattle.std.specs.Prelude.{◌≡◌};
+ghost use Rattle.nano_text.specs.Characters.{following, is_space};
+ghost use Rattle.nano_text.specs.Place.{remaining};
+ghost use Rattle.nano_ron_tokens.specs.Scan.{AfterLine, AfterBlock, Passed, SkipsComment, SkipsGaps};
 
 use crate::state::DeRonState;
+use nano_text::is_space;
 use std::str::Chars;
 
 impl DeRonState {
@@ -29,33 +28,18 @@ impl DeRonState {
         true
     }
 
-    /// Passes over white space.
+    /// Passes over white space, of which many tokens have none before them.
     #[inline]
     fn skip_space(&mut self, i: &mut Chars<'_>)
         ensures remaining { remaining self.new.cur i.new
             ≡ following is_space (remaining self.old.cur i.old) }
         ensures passed { Passed self.old i.old self.new i.new }
     {
-        'space: while is_space(self.cur) {
-            self.skip_blanks(i);
+        if is_space(self.cur) {
+            let mut place = self.place();
+            place.skip_space(i);
+            self.stand_at(place);
         }
-    }
-
-    /// Passes over the current character and the blanks after it.
-    ///
-    /// The current character may never have been in `i`. The blanks are spaces, the white space
-    /// of indents, and are counted at once: each is one byte and one column.
-    #[inline]
-    fn skip_blanks(&mut self, i: &mut Chars<'_>)
-        ensures remaining { remaining self.new.cur i.new
-            ≡ following is_blank (before_nul (held i.old)) }
-        ensures passed { self.old.cur ≢ 0 → Passed self.old i.old self.new i.new }
-    {
-        let text = i.as_str();
-        let len = blanks_len(text.as_bytes());
-        self.col = self.col.saturating_add(len);
-        *i = text.split_at(len).1.chars();
-        self.next(i);
     }
 
     /// Passes over the comment that begins here, where a `/` stands. Answers whether one does.
@@ -109,32 +93,4 @@ impl DeRonState {
             }
         }
     }
-}
-
-#[inline]
-fn is_space(c: char) -> bool
-    ensures { result ≡ is_space c }
-{
-    c == '\n' || c == '\r' || c == '\t' || c == ' '
-}
-
-/// How many of these bytes are blanks.
-#[inline]
-fn blanks_len(bytes: &[u8]) -> usize
-    ensures { result ≡ length (prefix is_blank bytes.now) }
-{
-    for (len, byte) in bytes.iter().enumerate() {
-        if !is_blank(*byte) {
-            return len;
-        }
-    }
-    bytes.len()
-}
-
-/// Whether a byte is what indents are made of.
-#[inline]
-fn is_blank(byte: u8) -> bool
-    ensures { result ≡ is_blank byte }
-{
-    byte == b' '
 }

@@ -2,8 +2,8 @@
 
 ghost use Rattle.std.specs.Prelude.{◌≡◌};
 ghost use Rattle.nano_ron_tokens.specs.State.{pending};
-ghost use Rattle.nano_ron_tokens.specs.Punctuation.{is_none, is_block_close, is_curly_close};
-ghost use Rattle.nano_ron_tokens.specs.Punctuation.{is_paren_close};
+ghost use Rattle.nano_ron_tokens.specs.Token.{is_none, is_block_close, is_curly_close};
+ghost use Rattle.nano_ron_tokens.specs.Token.{is_paren_close};
 
 use crate::state::DeRonState;
 use crate::token::DeRonTok;

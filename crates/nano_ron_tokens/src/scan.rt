@@ -2,7 +2,7 @@
 
 ghost use Rattle.std.specs.Prelude.{◌≡◌, ℕ, List, MatchResult, IfSome, Some, false};
 ghost use Rattle.std.specs.Option.{option_map};
-ghost use Rattle.nano_text.specs.Prefix.{first_is};
+ghost use Rattle.nano_text.specs.Characters.{first_is};
 ghost use Rattle.nano_text.specs.Place.{remaining};
 ghost use Rattle.nano_grammar.specs.Outcomes.{NothingCut};
 ghost use Rattle.nano_ron_tokens.specs.Cut.{starts_number, Cut, IsLexeme, IsRunOf, IsQuoted};

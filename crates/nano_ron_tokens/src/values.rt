@@ -1,8 +1,8 @@
 //! The calls of a reader's state that give the value of the pending token.
 
 ghost use Rattle.std.specs.Prelude.{◌≡◌, [], IsSome, ◌↔◌, MatchResult, string_bytes};
-ghost use Rattle.nano_ron_tokens.specs.Outcomes.{GivesTruth, GivesUnsigned, GivesSigned};
-ghost use Rattle.nano_ron_tokens.specs.Outcomes.{TookText, LacksText};
+ghost use Rattle.nano_ron_tokens.specs.Outcomes.{GivesTruth, GivesUnsigned, GivesSigned, TookText};
+ghost use Rattle.nano_ron_tokens.specs.Outcomes.{LacksText};
 ghost use Rattle.nano_ron_tokens.specs.State.{pending};
 ghost use Rattle.nano_ron_tokens.specs.Token.{integer_of, IsIdent};
 

@@ -1,7 +1,7 @@
 //! How a reader's state takes a word.
 
 ghost use Rattle.std.specs.Prelude.{◌≡◌, MatchResult, true, length, string_bytes};
-ghost use Rattle.nano_text.specs.Prefix.{prefix};
+ghost use Rattle.nano_text.specs.Characters.{prefix};
 ghost use Rattle.nano_text.specs.Place.{remaining};
 ghost use Rattle.nano_ron_tokens.specs.Cut.{is_word, starts_word};
 ghost use Rattle.nano_ron_tokens.specs.Scan.{word_token, FoundWord, NoCapacityForWord};

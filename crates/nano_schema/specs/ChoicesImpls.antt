@@ -1,11 +1,9 @@
 -- What is proved of Choices.
 use Rattle.std.specs.Prelude.{◌≡◌, ℕ, suc}
 use Rattle.std.proofs.Common.{inl, inr}
-use Rattle.nano_value.specs.Meaning.{Meaning}
-use Rattle.nano_meaning.proofs.LegalLaws.{image_of}
+use Rattle.nano_value.specs.Meaning.{Meaning, IsImage, Agrees}
+use Rattle.nano_meaning.proofs.MeaningLaws.{image_of}
 use Rattle.nano_value.specs.Sums.{Variants, no_variants, variant, tagged, LegalFrom, LegalVariant}
-use Rattle.nano_value.specs.Legal.{IsImage}
-use Rattle.nano_value.specs.Agrees.{Agrees}
 use Rattle.nano_schema.specs.Choices.{either_is}
 
 -- ---- legal content

@@ -2,8 +2,7 @@
 
 ghost use Rattle.std.specs.Prelude.{ℕ, suc};
 ghost use Rattle.nano_value.specs.Meaning.{Meaning};
-ghost use Rattle.nano_value.specs.Sums.{Variants, no_variants, variant as sum};
-ghost use Rattle.nano_value.specs.Sums.{tagged, LegalFrom};
+ghost use Rattle.nano_value.specs.Sums.{Variants, no_variants, variant as sum, tagged, LegalFrom};
 ghost use Rattle.nano_schema.specs.Choices.{either_is, either_map};
 
 use crate::fields::{Borrowed, Shape};

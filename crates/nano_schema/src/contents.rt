@@ -1,7 +1,6 @@
 //! What a variant holds: nothing, one part, a tuple of parts, or named fields.
 
-ghost use Rattle.nano_value.specs.Meaning.{nothing};
-ghost use Rattle.nano_value.specs.Legal.{LegalUnit};
+ghost use Rattle.nano_value.specs.Meaning.{nothing, LegalUnit};
 
 use crate::fields::{Borrowed, Shape};
 use nano_value::Value;
@@ -121,7 +120,7 @@ impl<'a, A: Value + 'a, B: Value + 'a> Borrowed<'a> for Tupled<(A, B)> {
 
     ghost legal = { ⟦<(A, B) as Value>⟧.legal };
 
-    #[tactic(auto, using(nano_meaning::proofs::LegalLaws::pair_is_legal))]
+    #[tactic(auto, using(nano_meaning::proofs::MeaningLaws::pair_is_legal))]
     fn known(refs: &(&'a A, &'a B)) {
         refs.0.known();
         refs.1.known();
@@ -139,7 +138,7 @@ impl<'a, A: Value + 'a, B: Value + 'a, C: Value + 'a> Borrowed<'a> for Tupled<(A
 
     ghost legal = { ⟦<(A, B, C) as Value>⟧.legal };
 
-    #[tactic(auto, using(nano_meaning::proofs::LegalLaws::pair_is_legal))]
+    #[tactic(auto, using(nano_meaning::proofs::MeaningLaws::pair_is_legal))]
     fn known(refs: &(&'a A, &'a B, &'a C)) {
         refs.0.known();
         refs.1.known();
@@ -159,7 +158,7 @@ impl<'a, A: Value + 'a, B: Value + 'a, C: Value + 'a, D: Value + 'a> Borrowed<'a
 
     ghost legal = { ⟦<(A, B, C, D) as Value>⟧.legal };
 
-    #[tactic(auto, using(nano_meaning::proofs::LegalLaws::pair_is_legal))]
+    #[tactic(auto, using(nano_meaning::proofs::MeaningLaws::pair_is_legal))]
     fn known(refs: &(&'a A, &'a B, &'a C, &'a D)) {
         refs.0.known();
         refs.1.known();

@@ -1,8 +1,8 @@
 //! Fields by their names and types.
 
 ghost use Rattle.std.specs.Option.{option_map};
-ghost use Rattle.nano_value.specs.Meaning.{Meaning, optional, paired, pair_map};
-ghost use Rattle.nano_value.specs.Legal.{LegalOption, LegalPair};
+ghost use Rattle.nano_value.specs.Meaning.{Meaning, optional, paired, pair_map, LegalOption};
+ghost use Rattle.nano_value.specs.Meaning.{LegalPair};
 
 use nano_value::Value;
 use std::marker::PhantomData;
@@ -163,7 +163,7 @@ impl<'a, A: Borrowed<'a>, B: Borrowed<'a>> Borrowed<'a> for (A, B) {
 
     ghost legal = { LegalPair A.legal B.legal };
 
-    #[tactic(auto, using(nano_meaning::proofs::LegalLaws::pair_is_legal))]
+    #[tactic(auto, using(nano_meaning::proofs::MeaningLaws::pair_is_legal))]
     fn known(refs: &(A::Refs, B::Refs)) {
         A::known(&refs.0);
         B::known(&refs.1);

@@ -4,7 +4,7 @@ use Rattle.std.proofs.Common.{take-append-drop, Option, Some, None, IfSome, unwr
 use Rattle.std.specs.Io.KnownBytes.{Appends, Keeps}
 use Rattle.std.proofs.KnownBytes.{Appends-trans, Appends-kept}
 use Rattle.nano_show_answers.specs.Requests.{Request, code_of_u16s, code_of_text, normal_of_input}
-use Rattle.nano_show_answers.specs.Requests.{listing_of_input}
+use Rattle.nano_show_answers.specs.Requests.{listing_of_input, request_of}
 use Rattle.nano_show_answers.proofs.WordLemmas.{one_request}
 use Rattle.nano_json.proofs.Json.{json_laws}
 use Rattle.nano_ron.proofs.Ron.{ron_laws}
@@ -16,24 +16,23 @@ use Rattle.nanoserde.specs.Meaning.{Meaning}
 use Rattle.nanoserde.specs.Normal.{NormalForm}
 use Rattle.nanoserde.proofs.Forms.{texts_are_forms, bytes_are_forms, one_form}
 use Rattle.nano_show_answers.specs.declared.words.Form.{Form}
-use Rattle.nano_show_answers.specs.declared.words.Form.TheVariants.{Json, Ron, Bin}
-use Rattle.nano_show_answers.specs.declared.words.Form.TheVariants.{JsonWhole, RonWhole, BinWhole}
+use Rattle.nano_show_answers.specs.declared.words.Form.TheVariants.{Json, Ron, Bin, JsonWhole}
+use Rattle.nano_show_answers.specs.declared.words.Form.TheVariants.{RonWhole, BinWhole}
 use Rattle.nano_show_answers.specs.declared.words.Kind.{Kind}
-use Rattle.nano_show_answers.specs.declared.words.Kind.TheVariants.{U8, U32, U64, I32, I64, Bool, Text}
-use Rattle.nano_show_answers.specs.declared.words.Kind.TheVariants.{Bytes, Set, Map, Tree, Item, Choice}
+use Rattle.nano_show_answers.specs.declared.words.Kind.TheVariants.{U8, U32, U64, I32, I64, Bool}
+use Rattle.nano_show_answers.specs.declared.words.Kind.TheVariants.{Text, Bytes, Set, Map, Tree}
+use Rattle.nano_show_answers.specs.declared.words.Kind.TheVariants.{Item, Choice}
 use Rattle.nano_show_answers.specs.declared.words.Command.{Command}
 use Rattle.nano_show_answers.specs.declared.fault.ShowFault.{ShowFault}
-use Rattle.nano_show_answers.specs.Commands.{request_of}
 use Rattle.std.specs.Prelude.{Result, Vec}
 use Rattle.std.specs.Global.{Global}
 use Rattle.nano_show_answers.specs.Shown.{Shown, IsAgreed, OfEachKind}
-use Rattle.nano_show_answers.specs.Pairs.{line, hex_pairs}
-use Rattle.nano_show_answers.specs.Listing.{listing}
-use Rattle.nano_toml.specs.RemainingText.{remaining_text}
+use Rattle.nano_show_answers.specs.Listing.{line, hex_pairs, listing}
+use Rattle.nano_toml.specs.Place.{remaining_text}
 use Rattle.nano_toml.proofs.OneTable.{encodes_one_table}
-use Rattle.nano_show_answers.specs.Answer.{AnswersInput, Answers, IsListing, IsTextLine, IsBytesLine}
-use Rattle.nano_show_answers.specs.Answer.{IsNormalLine, IsAnswerTo}
-use Rattle.nano_show_answers.specs.Answer.{WritesUpTo, OneAnswer, AnswerOrRejection}
+use Rattle.nano_show_answers.specs.Answer.{AnswersInput, Answers, IsListing, IsTextLine}
+use Rattle.nano_show_answers.specs.Answer.{IsBytesLine, IsNormalLine, IsAnswerTo, WritesUpTo}
+use Rattle.nano_show_answers.specs.Answer.{OneAnswer, AnswerOrRejection}
 
 module _ (a b c : Option (List ℕ)) (bytes rest : List ℕ) (so_far : WritesUpTo rest a b bytes) where
   -- one more write took so many bytes of the rest

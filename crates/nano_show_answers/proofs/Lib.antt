@@ -1,5 +1,4 @@
-pub mod PairLemmas
+pub mod ListingLemmas
 pub mod WordLemmas
 pub mod AnswerLemmas
-pub mod ListingLemmas
 pub mod TableOrder

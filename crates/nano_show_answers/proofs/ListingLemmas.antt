@@ -2,20 +2,20 @@
 use Rattle.std.proofs.Common.{◌≡◌, ℕ, zero, suc, ◌+◌, ◌<◌, ◌/◌, ◌%◌, ◌==◌, cond, List, [], ◌∷◌}
 use Rattle.std.proofs.Common.{◌++◌, length, length-append, append-nil, append_assoc, subst, codes}
 use Rattle.std.proofs.Common.{Bool, true, false, String, string_bytes, Global, Vec, vec_len, rules}
-use Rattle.std.proofs.Common.{ℤ, refl, ap, sym, ◌∙◌, arith, pos, negsuc, take, get_or}
-use Rattle.std.proofs.Common.{chars, encode_utf8_all}
+use Rattle.std.proofs.Common.{ℤ, refl, ap, sym, ◌∙◌, arith, pos, negsuc, take, get_or, chars}
+use Rattle.std.proofs.Common.{encode_utf8_all}
 use Rattle.std.proofs.lemmas.List.{take_all, take_more}
 use Rattle.std.specs.Fmt.{decimal, digits_onto, digit_glyph}
 use Rattle.nano_toml.specs.Data.{Data, text, boolean, number, nan, infinity, date, tables, values}
+use Rattle.nano_toml.specs.Data.{view, values_view, tables_view}
 use Rattle.nano_toml.specs.Data as value
-use Rattle.nano_toml.specs.View.{view, values_view, tables_view}
 use Rattle.nano_toml.proofs.TableViews.{Map}
 use Rattle.nano_toml.specs.declared.value.Toml.{Toml, the_lemmas, Str, Bool as Truth, Num, Dec, Nan}
 use Rattle.nano_toml.specs.declared.value.Toml.{Inf, Date}
 use Rattle.nano_json_tokens.specs.Written.{written_characters, written_truth}
-use Rattle.nano_show_answers.specs.Listing.{count, listed, more_listed}
-use Rattle.nano_show_answers.specs.Listing.{quoted}
-use Rattle.nano_show_answers.specs.OpenLists.{before_next, closed_list, closed_lists}
+use Rattle.nano_show_answers.specs.Listing.{count, listed, more_listed, quoted, before_next}
+use Rattle.nano_show_answers.specs.Listing.{closed_list, closed_lists, hex_digit, hex_pair}
+use Rattle.nano_show_answers.specs.Listing.{hex_pairs}
 use Rattle.nano_show_answers.specs.declared.listed.OpenList.{OpenList}
 
 some_digits_onto : (k base n : ℕ) (upper : Bool) (following : List ℕ) → 0 < length following
@@ -184,3 +184,43 @@ pub popped : (items rest : List OpenList) (l : OpenList) (place : ℕ) → place
 popped items rest l place count prefix last =
     sym (take_all (place + 1) items (omega (arith, count)))
     ∙ (take_more items place l (omega (arith, count)) ∙ (λ i. sym prefix i ++ sym last i ∷ []))
+
+-- ==== pair lemmas
+
+some_pairs : (byte : ℕ) (bytes : List ℕ) → 0 < length (hex_pairs (byte ∷ bytes))
+some_pairs byte [] = omega arith
+some_pairs byte (next ∷ bytes) = omega arith
+
+-- the first pair stands alone
+first_pair : (bytes : List ℕ) (byte : ℕ) → length (hex_pairs bytes) ≡ 0
+    → hex_pairs (bytes ++ byte ∷ []) ≡ hex_pairs bytes ++ hex_pair byte
+first_pair [] byte none = refl
+first_pair (head ∷ bytes) byte none = absurd (omega (arith, some_pairs head bytes))
+
+-- a later one comes after a space
+later_pair : (bytes : List ℕ) (byte : ℕ) → 0 < length (hex_pairs bytes)
+    → hex_pairs (bytes ++ byte ∷ []) ≡ (hex_pairs bytes ++ 32 ∷ []) ++ hex_pair byte
+later_pair [] byte some = absurd (omega arith)
+later_pair (head ∷ []) byte some = refl
+later_pair (head ∷ next ∷ bytes) byte some =
+    ap (λ rest. hex_digit (head / 16) ∷ hex_digit (head % 16) ∷ 32 ∷ rest)
+    (later_pair (next ∷ bytes) byte (some_pairs next bytes))
+
+module _ (bytes : List ℕ) (place : ℕ) (below : place < length bytes) (text : List ℕ)
+    (is : text ≡ hex_pairs (take place bytes)) where
+  -- where the text was empty
+  pub pair_first : length text ≡ 0 → (new : List ℕ) → new ≡ text ++ hex_pair (get_or bytes place 0)
+      → new ≡ hex_pairs (take (place + 1) bytes)
+  pair_first none new e =
+      e ∙ (ap (λ l. l ++ hex_pair (get_or bytes place 0)) is
+      ∙ (sym (first_pair (take place bytes) (get_or bytes place 0) (ap length (sym is) ∙ none))
+      ∙ ap hex_pairs (sym (take_more bytes place 0 below))))
+
+  -- where it was not
+  pub pair_later : 0 < length text → (new : List ℕ)
+      → new ≡ (text ++ 32 ∷ []) ++ hex_pair (get_or bytes place 0)
+      → new ≡ hex_pairs (take (place + 1) bytes)
+  pair_later some new e =
+      e ∙ (ap (λ l. (l ++ 32 ∷ []) ++ hex_pair (get_or bytes place 0)) is
+      ∙ (sym (later_pair (take place bytes) (get_or bytes place 0) (omega (arith, ap length is)))
+      ∙ ap hex_pairs (sym (take_more bytes place 0 below))))

@@ -1,8 +1,7 @@
 -- The table that a map means is the chain of its entries in the order of their keys.
-use Rattle.std.proofs.Common.{◌≡◌, ℕ, List, [], ◌∷◌, cond, Bool, true, false, Option, Some}
-use Rattle.std.proofs.Common.{None, String, Global, string_bytes, bytes_eq}
-use Rattle.std.proofs.Common.{Less, Equal, Greater, refl, sym, ap, ◌∙◌, map, Vec, Bor, Result, Ok}
-use Rattle.std.proofs.Common.{Err, IfOk}
+use Rattle.std.proofs.Common.{◌≡◌, ℕ, List, [], ◌∷◌, cond, Bool, true, false, Option, Some, None}
+use Rattle.std.proofs.Common.{String, Global, string_bytes, bytes_eq, Less, Equal, Greater, refl}
+use Rattle.std.proofs.Common.{sym, ap, ◌∙◌, map, Vec, Bor, Result, Ok, Err, IfOk}
 use Rattle.std.specs.List.{AllByRecursion, IsDistinct}
 use Rattle.std.specs.Map.{keys_of}
 use Rattle.std.specs.Map.Iter.{deref_pair}
@@ -15,13 +14,11 @@ use Rattle.std.specs.FinMap.Entries as entries
 use Rattle.std.specs.Ordering.{match_ordering}
 use Rattle.std.proofs.lemmas.Map.Keys.{IsDistinct-head, IsDistinct-tail}
 use Rattle.std.proofs.lemmas.Slice.Eq.{bytes_eq-Decides}
-use Rattle.nano_value.specs.Ascending.{ascending}
-use Rattle.nano_value.specs.Tables.{insert_all}
+use Rattle.nano_value.specs.Tables.{ascending, insert_all}
 use Rattle.nano_meaning.proofs.TablesLaws.{no_entries}
-use Rattle.nano_toml.specs.Data.{Data, Table, no_pairs, more_pairs, put, at}
-use Rattle.nano_toml.specs.View.{view, table_view}
+use Rattle.nano_toml.specs.Data.{Data, Table, no_pairs, more_pairs, put, at, view, table_view}
 use Rattle.nano_toml.specs.declared.value.Toml.{Toml}
-use Rattle.nano_show_answers.specs.Chains.{chain}
+use Rattle.nano_show_answers.specs.Answer.{chain}
 use Rattle.nano_toml.proofs.TableViews.{Entry, Ascending, ascending_put, ascending_table, at-put}
 use Rattle.nano_toml.proofs.TableViews.{same_table_from_at}
 

@@ -1,21 +1,23 @@
 -- The words of a command line, one by one.
-use Rattle.std.proofs.Common.{◌≡◌, ℕ, ◌<◌, List, [], ◌∷◌, cond, length, get_or, map, codes}
-use Rattle.std.proofs.Common.{refl, sym, ap, ◌∙◌, arith, Option, Some, None, true, false}
-use Rattle.std.proofs.Common.{String, string_bytes, option_to_list}
+use Rattle.std.proofs.Common.{◌≡◌, ℕ, ◌<◌, List, [], ◌∷◌, cond, length, get_or, map, codes, refl}
+use Rattle.std.proofs.Common.{sym, ap, ◌∙◌, arith, Option, Some, None, true, false, String}
+use Rattle.std.proofs.Common.{string_bytes, option_to_list}
 use Rattle.std.specs.List.{slice_index}
 use Rattle.std.specs.Option.{SomeIff, is_some, IsSome}
 use Rattle.std.specs.Str.Parse.{digits_value}
 use Rattle.std.proofs.Math.ListN.{length-map}
 use Rattle.std.proofs.lemmas.List.{get_or-map}
 use Rattle.std.specs.Prelude.{bytes_eq}
-use Rattle.nano_show_answers.specs.Requests.{texts, Request, code_of_u16s, code_of_text, normal_of_input}
-use Rattle.nano_show_answers.specs.Requests.{listing_of_input, form_name, kind_name, AskFor}
+use Rattle.nano_show_answers.specs.Requests.{texts, Request, code_of_u16s, code_of_text}
+use Rattle.nano_show_answers.specs.Requests.{normal_of_input, listing_of_input, form_name}
+use Rattle.nano_show_answers.specs.Requests.{kind_name, AskFor}
 use Rattle.nano_show_answers.specs.declared.words.Form.{Form}
-use Rattle.nano_show_answers.specs.declared.words.Form.TheVariants.{Json, Ron, Bin}
-use Rattle.nano_show_answers.specs.declared.words.Form.TheVariants.{JsonWhole, RonWhole, BinWhole}
+use Rattle.nano_show_answers.specs.declared.words.Form.TheVariants.{Json, Ron, Bin, JsonWhole}
+use Rattle.nano_show_answers.specs.declared.words.Form.TheVariants.{RonWhole, BinWhole}
 use Rattle.nano_show_answers.specs.declared.words.Kind.{Kind}
-use Rattle.nano_show_answers.specs.declared.words.Kind.TheVariants.{U8, U32, U64, I32, I64, Bool, Text}
-use Rattle.nano_show_answers.specs.declared.words.Kind.TheVariants.{Bytes, Set, Map, Tree, Item, Choice}
+use Rattle.nano_show_answers.specs.declared.words.Kind.TheVariants.{U8, U32, U64, I32, I64, Bool}
+use Rattle.nano_show_answers.specs.declared.words.Kind.TheVariants.{Text, Bytes, Set, Map, Tree}
+use Rattle.nano_show_answers.specs.declared.words.Kind.TheVariants.{Item, Choice}
 
 pub SomeIff-none : {T : Type 0} (o : Option T) (P : Type 0) (v : T) → SomeIff o P v
     → is_some o ≡ false → P → ⊥

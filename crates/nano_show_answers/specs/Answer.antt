@@ -1,16 +1,13 @@
 -- What the program answers to its words and its input.
 use Rattle.std.specs.Prelude.{◌≡◌, ℕ, List, ◌++◌, Option, Some, IfSome, IsUtf8, Result, MatchResult}
-use Rattle.std.specs.Prelude.{Vec}
+use Rattle.std.specs.Prelude.{Vec, codes, string_bytes, [], ◌∷◌}
 use Rattle.std.specs.Global.{Global}
 use Rattle.std.specs.Io.KnownBytes.{Appends, IsAtEnd}
-use Rattle.nano_bin.specs.LittleEndian.{little_endian}
-use Rattle.nano_bin.specs.Lists.{written_list}
-use Rattle.nano_bin.specs.Options.{written_option}
-use Rattle.nano_bin.specs.Texts.{written_text}
-use Rattle.nano_toml.specs.RemainingText.{remaining_text}
-use Rattle.nano_toml.specs.OneTable.{Pairs}
-use Rattle.nano_toml.specs.StatementTable.{EncodesTable}
-use Rattle.nano_toml.specs.View.{table_view}
+use Rattle.nano_bin.specs.Scalars.{little_endian}
+use Rattle.nano_bin.specs.Containers.{written_list, written_option, written_text}
+use Rattle.nano_toml.specs.Place.{remaining_text}
+use Rattle.nano_toml.specs.StatementTable.{Pairs, EncodesTable}
+use Rattle.nano_toml.specs.Data.{table_view, Table, no_pairs, more_pairs, view}
 use Rattle.nano_show_answers.specs.declared.words.Form.{Form}
 use Rattle.nano_show_answers.specs.declared.words.Form.TheVariants.{Json, Ron, Bin, JsonWhole}
 use Rattle.nano_show_answers.specs.declared.words.Form.TheVariants.{RonWhole, BinWhole}
@@ -20,8 +17,7 @@ use Rattle.nano_show_answers.specs.declared.fault.ShowFault.TheVariants.{Refused
 use Rattle.nano_show_answers.specs.declared.fault.ShowFault.TheVariants.{Stream}
 use Rattle.nano_show_answers.specs.Requests.{Request, code_of_u16s, code_of_text, normal_of_input}
 use Rattle.nano_show_answers.specs.Requests.{listing_of_input, AskFor, AskForNoInput}
-use Rattle.nano_show_answers.specs.Listing.{listing}
-use Rattle.nano_show_answers.specs.Pairs.{hex_pairs, line}
+use Rattle.nano_show_answers.specs.Listing.{listing, hex_pairs, line}
 use Rattle.nano_show_answers.specs.Shown.{Shown, IsNormal}
 
 -- the normal form that the input has, with a line feed after it: where the input is a text,
@@ -144,3 +140,27 @@ module _ (types : Kind → Shown) where
   AnswerOrRejection =
       (words : List (List ℕ)) (input answer : List ℕ) → IsAnswer types words (Some input) answer
       → HasNoAnswer types words (Some input) → ⊥
+
+-- ==== how the program ends at a fault
+
+-- the exit status
+abbrev pub status_of : ShowFault → ℕ
+status_of (Refused reason) = 1
+status_of Usage = 2
+status_of Memory = 3
+status_of Stream = 3
+
+-- the line on standard error, without its line feed
+abbrev pub message_of : ShowFault → List ℕ
+message_of (Refused reason) = string_bytes reason
+message_of Usage =
+    codes "usage: nano_show code u16s N.. | code text [WORD] | json TYPE | ron TYPE | bin TYPE"
+    ++ codes " | toml | json-whole TYPE | ron-whole TYPE | bin-whole TYPE"
+message_of Memory = codes "no memory"
+message_of Stream = codes "stream fault"
+
+-- ==== calls in a row
+
+abbrev pub chain : Pairs → Table
+chain [] = no_pairs
+chain (e ∷ es) = more_pairs (string_bytes e.0) (view e.1) (chain es)

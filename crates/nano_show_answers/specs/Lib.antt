@@ -1,10 +1,4 @@
 pub mod Requests
-pub mod Pairs
-pub mod Whole
-pub mod Shown
 pub mod Listing
-pub mod OpenLists
-pub mod Chains
+pub mod Shown
 pub mod Answer
-pub mod Ending
-pub mod Commands

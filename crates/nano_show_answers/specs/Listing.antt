@@ -1,12 +1,35 @@
 -- The listing of a table: its keys in ascending order, each with its value.
-use Rattle.std.specs.Prelude.{ℕ, ◌+◌, List, [], ◌++◌, Bool, true, false, codes, encode_utf8_all}
+use Rattle.std.specs.Prelude.{ℕ, ◌/◌, ◌%◌, List, [], ◌∷◌, ◌++◌, map, codes, slice_index, ◌+◌, Bool}
+use Rattle.std.specs.Prelude.{true, false, encode_utf8_all, Option, Some, None}
+use Rattle.std.specs.List.{join_with_byte}
 use Rattle.std.specs.Fmt.{decimal, signed_decimal}
 use Rattle.nano_json_tokens.specs.Written.{written_text, written_truth}
 use Rattle.nano_toml.specs.Data.{Data, text, boolean, number, nan, infinity, date, tables, values}
 use Rattle.nano_toml.specs.Data.{Values, no_values, more_values, Tables, no_tables, more_tables}
-use Rattle.nano_toml.specs.Data.{Table, no_pairs, more_pairs}
+use Rattle.nano_toml.specs.Data.{Table, no_pairs, more_pairs, values_view}
 use Rattle.nano_toml.specs.Data as value
-use Rattle.nano_show_answers.specs.Pairs.{line}
+use Rattle.nano_toml.specs.declared.value.Toml.{Toml}
+use Rattle.nano_show_answers.specs.declared.listed.OpenList.{OpenList}
+
+-- ==== pairs
+
+-- a hexadecimal digit
+abbrev pub hex_digit : ℕ → ℕ
+hex_digit n = slice_index (codes "0123456789abcdef") n
+
+-- the two digits of a byte, the higher first
+abbrev pub hex_pair : ℕ → List ℕ
+hex_pair byte = hex_digit (byte / 16) ∷ hex_digit (byte % 16) ∷ []
+
+-- a pair for each byte, with one space between
+abbrev pub hex_pairs : List ℕ → List ℕ
+hex_pairs bytes = join_with_byte 32 (map hex_pair bytes)
+
+-- a text with a line feed after it
+abbrev pub line : List ℕ → List ℕ
+line bytes = bytes ++ 10 ∷ []
+
+-- ==== the listing of a table
 
 -- a text as a JSON string
 abbrev pub quoted : List ℕ → List ℕ
@@ -70,3 +93,29 @@ lines_after key d = []
 abbrev pub listing : Table → List ℕ
 listing no_pairs = []
 listing (more_pairs key d pairs) = pair_line key d ++ (lines_after key d ++ listing pairs)
+
+-- ==== lists that are open
+
+-- what stands before the next value of a list: nothing before the first of all
+abbrev pub before_next : Bool → List ℕ
+before_next true = []
+before_next false = codes ", "
+
+-- what is listed of the values that are left of a list
+abbrev pub left_listed : Bool → Values → List ℕ
+left_listed true vs = listed_values vs
+left_listed false vs = more_listed vs
+
+-- and its closing bracket after them
+abbrev pub closed_list : Bool → List Toml → List ℕ
+closed_list is_first values = left_listed is_first (values_view values) ++ codes "]"
+
+-- what is still to be listed of lists in lists, the innermost last, with `more` after it
+abbrev pub closed_lists : List OpenList → List ℕ → List ℕ
+closed_lists [] more = more
+closed_lists (l ∷ ls) more = closed_lists ls (closed_list l.is_first l.values.now ++ more)
+
+-- of a list that was just opened, or of none
+abbrev pub closed_if_opened : Option (List Toml) → List ℕ
+closed_if_opened None = []
+closed_if_opened (Some values) = closed_list true values

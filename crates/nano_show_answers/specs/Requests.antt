@@ -1,6 +1,6 @@
 -- What the words of a command line ask for.
 use Rattle.std.specs.Prelude.{◌≡◌, ℕ, ◌<◌, ◌^◌, List, [], ◌∷◌, map, All, codes, Option}
-use Rattle.std.specs.Prelude.{option_to_list, String, string_bytes}
+use Rattle.std.specs.Prelude.{option_to_list, String, string_bytes, option_map}
 use Rattle.std.specs.Str.Parse.{IsNumeral, digits_value}
 use Rattle.nano_show_answers.specs.declared.words.Form.{Form}
 use Rattle.nano_show_answers.specs.declared.words.Form.TheVariants.{Json, Ron, Bin, JsonWhole}
@@ -9,6 +9,19 @@ use Rattle.nano_show_answers.specs.declared.words.Kind.{Kind}
 use Rattle.nano_show_answers.specs.declared.words.Kind.TheVariants.{U8, U32, U64, I32, I64, Bool}
 use Rattle.nano_show_answers.specs.declared.words.Kind.TheVariants.{Text, Bytes, Set, Map, Tree}
 use Rattle.nano_show_answers.specs.declared.words.Kind.TheVariants.{Item, Choice}
+use Rattle.nano_show_answers.specs.declared.words.Command.{Command}
+use Rattle.nano_show_answers.specs.declared.words.Command.TheVariants.{CodeU16s, CodeText, Normal}
+use Rattle.nano_show_answers.specs.declared.words.Command.TheVariants.{Listing}
+use Rattle.nanoserde.specs.Meaning.{Meaning}
+use Rattle.nanoserde.specs.BinCodec.{Codec as BinCodec}
+use Rattle.nanoserde.specs.JsonCodec.{Codec as JsonCodec}
+use Rattle.nanoserde.specs.RonCodec.{Codec as RonCodec}
+use Rattle.nanoserde.specs.Normal.{NormalForm, text_bytes}
+use Rattle.nano_json.specs.Cut.{Cut as JsonCut}
+use Rattle.nano_json.specs.Token.{end as json_end}
+use Rattle.nano_grammar.specs.Outcomes.{WholeDecodesTo}
+use Rattle.nano_ron.specs.Cut.{Cut as RonCut}
+use Rattle.nano_ron.specs.Token.{end as ron_end}
 
 -- the bytes of each word
 abbrev pub texts : {Z : Type 0} → List (String Z) → List (List ℕ)
@@ -84,3 +97,51 @@ DependsOnInput listing_of_input = Unit {0}
 -- the words ask for nothing that depends on the input
 abbrev pub AskForNoInput : List (List ℕ) → Type 0
 AskForNoInput words = (request : Request) → AskFor words request → DependsOnInput request → ⊥
+
+-- ==== words that were understood, as the program holds them
+
+-- what is asked for
+abbrev pub request_of : Command → Request
+request_of (CodeU16s numerals) = code_of_u16s (map (digits_value 10) (texts numerals.now))
+request_of (CodeText text) = code_of_text (option_map (λ word. word.now) text)
+request_of (Normal form kind) = normal_of_input form kind
+request_of Listing = listing_of_input
+
+-- its numerals are numerals
+abbrev pub IsSound : Command → Type 0
+IsSound (CodeU16s numerals) = All IsU16 (texts numerals.now)
+IsSound (CodeText text) = Unit {0}
+IsSound (Normal form kind) = Unit {0}
+IsSound Listing = Unit {0}
+
+-- it takes no input
+abbrev pub TakesNoInput : Command → Type 0
+TakesNoInput (CodeU16s numerals) = Unit {0}
+TakesNoInput (CodeText text) = Unit {0}
+TakesNoInput (Normal form kind) = ⊥
+TakesNoInput Listing = ⊥
+
+-- ==== whole inputs
+
+-- a value that the whole input encodes
+abbrev pub IsBytes : {A : Type 0} → BinCodec A → List ℕ → Meaning → Type 0
+IsBytes codec input m = codec.encoding.encodes input m
+
+abbrev pub IsJson : {A : Type 0} → JsonCodec A → List ℕ → Meaning → Type 0
+IsJson codec input m = WholeDecodesTo JsonCut codec.encoding.encodes json_end input m
+
+abbrev pub IsRon : {A : Type 0} → RonCodec A → List ℕ → Meaning → Type 0
+IsRon codec input m = WholeDecodesTo RonCut codec.encoding.encodes ron_end input m
+
+-- its normal form
+abbrev pub WholeBytes : {A : Type 0} → (A → Meaning) → BinCodec A → List ℕ → List ℕ → Type 0
+WholeBytes means codec input bytes =
+    NormalForm means (IsBytes codec input) codec.canonical.written bytes
+
+abbrev pub WholeJson : {A : Type 0} → (A → Meaning) → JsonCodec A → List ℕ → List ℕ → Type 0
+WholeJson means codec input text =
+    NormalForm means (IsJson codec input) (text_bytes codec) text
+
+abbrev pub WholeRon : {A : Type 0} → (A → Meaning) → RonCodec A → List ℕ → List ℕ → Type 0
+WholeRon means codec input text =
+    NormalForm means (IsRon codec input) (text_bytes codec) text

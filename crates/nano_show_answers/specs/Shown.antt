@@ -1,7 +1,6 @@
 -- A type of values that are shown: what they mean, and how they stand in each format.
 use Rattle.std.specs.Prelude.{◌≡◌, ℕ, List, true}
-use Rattle.nanoserde.specs.Meaning.{Meaning}
-use Rattle.nanoserde.specs.Agrees.{Agrees}
+use Rattle.nanoserde.specs.Meaning.{Meaning, Agrees}
 use Rattle.nanoserde.specs.BinCodec.{Codec as BinCodec}
 use Rattle.nanoserde.specs.JsonCodec.{Codec as JsonCodec}
 use Rattle.nanoserde.specs.RonCodec.{Codec as RonCodec}
@@ -13,7 +12,7 @@ use Rattle.nano_show_answers.specs.declared.words.Kind.{Kind}
 use Rattle.nano_show_answers.specs.declared.words.Kind.TheVariants.{U8, U32, U64, I32, I64, Bool}
 use Rattle.nano_show_answers.specs.declared.words.Kind.TheVariants.{Text, Bytes, Set, Map, Tree}
 use Rattle.nano_show_answers.specs.declared.words.Kind.TheVariants.{Item, Choice}
-use Rattle.nano_show_answers.specs.Whole.{WholeBytes, WholeJson, WholeRon}
+use Rattle.nano_show_answers.specs.Requests.{WholeBytes, WholeJson, WholeRon}
 
 pub record Shown : Type 1 where
   pub Value : Type 0

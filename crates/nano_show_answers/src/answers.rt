@@ -1,18 +1,16 @@
 //! From words and input to the answer that is written.
 
-ghost use Rattle.std.specs.Prelude.{◌⊎◌, ◌≡◌, ◌≢◌, ◌↔◌, ℕ, List, All, map, option_map};
-ghost use Rattle.std.specs.Prelude.{IfSome, IfOk, IfErr, OnOk, OnErr, IsErrOf};
+ghost use Rattle.std.specs.Prelude.{◌⊎◌, ◌≡◌, ◌≢◌, ◌↔◌, ℕ, List, All, map, option_map, IfSome};
+ghost use Rattle.std.specs.Prelude.{IfOk, IfErr, OnOk, OnErr, IsErrOf};
 ghost use Rattle.std.specs.Io.KnownBytes.{Appends, IsAtEnd};
 ghost use Rattle.std.specs.Str.Parse.{digits_value};
-ghost use Rattle.nano_bin.specs.LittleEndian.{little_endian};
-ghost use Rattle.nano_bin.specs.Lists.{written_list};
-ghost use Rattle.nano_bin.specs.Options.{written_option};
-ghost use Rattle.nano_bin.specs.Texts.{written_text};
+ghost use Rattle.nano_bin.specs.Scalars.{little_endian};
+ghost use Rattle.nano_bin.specs.Containers.{written_list, written_option, written_text};
 ghost use Rattle.nano_show_answers.specs.Requests.{texts, IsU16, AskForNothing, AskForNoInput};
+ghost use Rattle.nano_show_answers.specs.Requests.{request_of, IsSound, TakesNoInput};
 ghost use Rattle.nano_show_answers.specs.Answer.{IsAnswerTo, HasNoAnswerTo, IsFaultOf, HasNoAnswer};
 ghost use Rattle.nano_show_answers.specs.Answer.{WritesAnswer, WritesUpTo, WritesBeginning};
-ghost use Rattle.nano_show_answers.specs.Pairs.{hex_pairs, line};
-ghost use Rattle.nano_show_answers.specs.Commands.{request_of, IsSound, TakesNoInput};
+ghost use Rattle.nano_show_answers.specs.Listing.{hex_pairs, line};
 
 use crate::fault::ShowFault;
 use crate::listing::listing_of;

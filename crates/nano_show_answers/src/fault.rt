@@ -1,7 +1,7 @@
 //! Why the program ends without its answer, and how.
 
 ghost use Rattle.std.specs.Prelude.{◌≡◌};
-ghost use Rattle.nano_show_answers.specs.Ending.{status_of, message_of};
+ghost use Rattle.nano_show_answers.specs.Answer.{status_of, message_of};
 
 use std::alloc::AllocError;
 use std::error::Error;

@@ -3,9 +3,9 @@
 ghost use Rattle.std.specs.Prelude.{◌≡◌, ◌++◌, ◌<◌, [], ◌∷◌, length, IfOk, OnOk, option_map};
 ghost use Rattle.std.specs.Prelude.{string_bytes, codes};
 ghost use Rattle.std.specs.Fmt.{decimal, signed_decimal};
-ghost use Rattle.nano_toml.specs.View.{view};
-ghost use Rattle.nano_show_answers.specs.Listing.{listed, minus_sign};
-ghost use Rattle.nano_show_answers.specs.OpenLists.{before_next, closed_if_opened, closed_lists};
+ghost use Rattle.nano_toml.specs.Data.{view};
+ghost use Rattle.nano_show_answers.specs.Listing.{listed, minus_sign, before_next};
+ghost use Rattle.nano_show_answers.specs.Listing.{closed_if_opened, closed_lists};
 
 use nanoserde::{SerJson, SerJsonState, Toml};
 use std::alloc::{AllocError, Global};

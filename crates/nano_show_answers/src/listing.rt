@@ -3,9 +3,8 @@
 ghost use Rattle.std.specs.Prelude.{◌≡◌, ◌++◌, map, IfOk, OnOk, option_map, string_bytes};
 ghost use Rattle.std.specs.Map.Iter.{deref_pair};
 ghost use Rattle.nano_toml.specs.Kinds.{as_tables};
-ghost use Rattle.nano_toml.specs.View.{view, table_view, tables_view};
-ghost use Rattle.nano_show_answers.specs.Answer.{AnswersInput, IsListing};
-ghost use Rattle.nano_show_answers.specs.Chains.{chain};
+ghost use Rattle.nano_toml.specs.Data.{view, table_view, tables_view};
+ghost use Rattle.nano_show_answers.specs.Answer.{AnswersInput, IsListing, chain};
 ghost use Rattle.nano_show_answers.specs.Listing.{element_lines, element_name, elements_lines};
 ghost use Rattle.nano_show_answers.specs.Listing.{lines_after, listing, pair_line};
 

@@ -1,8 +1,8 @@
 //! The line of a normal form.
 
 ghost use Rattle.nanoserde.specs.Normal.{NormalBytes, NormalJson, NormalRon};
-ghost use Rattle.nano_show_answers.specs.Answer.{AnswersInput, Answers, IsNormalLine};
-ghost use Rattle.nano_show_answers.specs.Answer.{IsTextLine, IsBytesLine};
+ghost use Rattle.nano_show_answers.specs.Answer.{AnswersInput, Answers, IsNormalLine, IsTextLine};
+ghost use Rattle.nano_show_answers.specs.Answer.{IsBytesLine};
 ghost use Rattle.nano_show_answers.specs.Requests.{normal_of_input};
 
 use crate::fault::ShowFault;

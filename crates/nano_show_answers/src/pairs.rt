@@ -1,7 +1,7 @@
 //! Bytes as hexadecimal digits.
 
 ghost use Rattle.std.specs.Prelude.{◌≡◌, ◌++◌, IfOk, OnOk};
-ghost use Rattle.nano_show_answers.specs.Pairs.{hex_pair, hex_pairs, line};
+ghost use Rattle.nano_show_answers.specs.Listing.{hex_pair, hex_pairs, line};
 
 use std::alloc::{AllocError, Global};
 

@@ -2,7 +2,7 @@
 
 ghost use Rattle.std.specs.Prelude.{◌≡◌, IfOk, MatchResult, IsUtf8, string_bytes};
 ghost use Rattle.nano_show_answers.specs.Answer.{IsFaultOf};
-ghost use Rattle.nano_show_answers.specs.Pairs.{line};
+ghost use Rattle.nano_show_answers.specs.Listing.{line};
 
 use crate::fault::ShowFault;
 use std::alloc::{AllocError, Global};

@@ -1,7 +1,7 @@
 //! The line of the normal form of an input that is one value and nothing else.
 
 ghost use Rattle.nano_show_answers.specs.Answer.{AnswersInput, IsTextLine, IsBytesLine};
-ghost use Rattle.nano_show_answers.specs.Whole.{WholeBytes, WholeJson, WholeRon};
+ghost use Rattle.nano_show_answers.specs.Requests.{WholeBytes, WholeJson, WholeRon};
 
 use crate::fault::ShowFault;
 use crate::pairs::hex_line;

@@ -4,9 +4,8 @@ ghost use Rattle.std.specs.Prelude.{◌≡◌, ◌≢◌, ◌↔◌, ℕ, List, 
 ghost use Rattle.std.specs.Prelude.{IfSome, IfNone, codes};
 ghost use Rattle.std.specs.Option.{SomeIff};
 ghost use Rattle.std.specs.Str.Parse.{digits_value};
-ghost use Rattle.nano_show_answers.specs.Requests.{texts, IsU16, AskFor, AskForNothing};
-ghost use Rattle.nano_show_answers.specs.Requests.{form_name, kind_name};
-ghost use Rattle.nano_show_answers.specs.Commands.{request_of, IsSound};
+ghost use Rattle.nano_show_answers.specs.Requests.{texts, IsU16, AskFor, AskForNothing, form_name};
+ghost use Rattle.nano_show_answers.specs.Requests.{kind_name, request_of, IsSound};
 
 use std::alloc::{AllocError, Global};
 

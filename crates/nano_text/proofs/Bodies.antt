@@ -1,23 +1,29 @@
 -- Strings that are read at once: plain characters in their line, and short escapes.
-use Rattle.std.proofs.Common.{◌≡◌, ◌≢◌, ℕ, zero, suc, ◌+◌, ◌-◌, ◌^◌, ◌<◌, ◌≤◌, min, List, [], ◌∷◌, ◌++◌, Bool, true, false, cond, drop, take, length, length-append, chars, encode_utf8, encode_utf8_all, IsUtf8, add-one, get_or, count_by, nat_le, refl, ap, sym, ◌∙◌, subst, ne_eqb, arith}
+use Rattle.std.proofs.Common.{◌≡◌, ◌≢◌, ℕ, zero, suc, ◌+◌, ◌-◌, ◌^◌, ◌<◌, ◌≤◌, min, List, [], ◌∷◌}
+use Rattle.std.proofs.Common.{◌++◌, Bool, true, false, cond, drop, take, length, length-append}
+use Rattle.std.proofs.Common.{chars, encode_utf8, encode_utf8_all, IsUtf8, add-one, get_or}
+use Rattle.std.proofs.Common.{count_by, nat_le, refl, ap, sym, ◌∙◌, subst, ne_eqb, arith}
 use Rattle.std.proofs.Math.Seq.{drop-cons}
 use Rattle.std.proofs.lemmas.Bool.{and_parts}
 use Rattle.std.proofs.lemmas.Bool.Decides.{nat_tests}
-use Rattle.std.proofs.lemmas.Str.{IsUtf8-past_char, IsUtf8-take, IsCharBoundary-at_seam, chars-append, chars_past_char, encode_ascii}
+use Rattle.std.proofs.lemmas.Str.{IsUtf8-past_char, IsUtf8-take, IsCharBoundary-at_seam}
+use Rattle.std.proofs.lemmas.Str.{chars-append, chars_past_char, encode_ascii}
 use Rattle.std.proofs.lemmas.List.{take-append-drop}
 use Rattle.std.specs.Str.{IsCharBoundary}
 use Rattle.std.specs.Str.Iter.{chars_rest}
 use Rattle.std.specs.declared.str.Chars.{Chars}
 use Rattle.nano_text.specs.declared.place.Place.{Place}
-use Rattle.nano_text.specs.Prefix.{prefix, following}
-use Rattle.nano_text.specs.Place.{before_nul, held, remaining, tail, text_at, begins_character, is_line_feed, Passes, Moves}
+use Rattle.nano_text.specs.Characters.{prefix, following}
+use Rattle.nano_text.specs.Place.{before_nul, held, remaining, tail, text_at, begins_character}
+use Rattle.nano_text.specs.Place.{is_line_feed, Passes, Moves}
 use Rattle.nano_text.proofs.PlaceLaws.{passes_append, passes_none, moves_none, tail_len}
 use Rattle.nano_text.specs.String.{IsString, escaped, escaped_char, is_plain, is_plain_in_line}
 use Rattle.nano_text.proofs.RemainingText.{remaining_more}
 use Rattle.nano_text.proofs.Passing.{begins_ascii, count_first, passed_line_unchanged, passed_col}
 use Rattle.nano_text.proofs.Strings.{HasRead, nothing_read, reads_piece, reads_plain, string_read}
-use Rattle.nano_text.proofs.TakenPrefix.{drop_prefix, prefix_boundary, take_prefix}
-use Rattle.nano_text.proofs.Utf8Prefixes.{CutAfterPrefix, cut_wide, prefix-append-following, prefix-before_nul, following-before_nul}
+use Rattle.nano_text.proofs.Prefixes.{drop_prefix, prefix_boundary, take_prefix}
+use Rattle.nano_text.proofs.Utf8Prefixes.{CutAfterPrefix, cut_wide, prefix-append-following}
+use Rattle.nano_text.proofs.Utf8Prefixes.{prefix-before_nul, following-before_nul}
 
 -- ---- characters that stand for themselves in their line
 

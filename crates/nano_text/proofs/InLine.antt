@@ -1,6 +1,8 @@
 -- Bytes in a line: none is a control character, and each is one character and one column.
-use Rattle.std.proofs.Common.{◌≡◌, ℕ, suc, ◌+◌, ◌-◌, ◌%◌, ◌^◌, ◌<◌, min, List, [], ◌∷◌, ◌++◌, Bool, true, false, cond}
-use Rattle.std.proofs.Common.{ltb, length, get_or, chars, encode_utf8_all, IsUtf8, ne_eqb, refl, ap, sym, ◌∙◌, subst, arith, count_by, bit_or}
+use Rattle.std.proofs.Common.{◌≡◌, ℕ, suc, ◌+◌, ◌-◌, ◌%◌, ◌^◌, ◌<◌, min, List, [], ◌∷◌, ◌++◌, Bool}
+use Rattle.std.proofs.Common.{true, false, cond, ltb, length, get_or, chars, encode_utf8_all}
+use Rattle.std.proofs.Common.{IsUtf8, ne_eqb, refl, ap, sym, ◌∙◌, subst, arith, count_by, bit_or}
+use Rattle.std.proofs.Common.{None, ◌||◌}
 use Rattle.std.proofs.Math.Utf8.{encode}
 use Rattle.std.specs.List.{AllByRecursion, AllWithin}
 use Rattle.std.proofs.lemmas.Bool.{ltb-false, ltb-true}
@@ -9,10 +11,14 @@ use Rattle.std.proofs.lemmas.List.Elements.{AllWithin-more}
 use Rattle.std.proofs.lemmas.Nat.{le_or_l, le_or_r}
 use Rattle.std.proofs.lemmas.Str.{encode_ascii, encodes-chars}
 use Rattle.nano_text.specs.declared.place.Place.{Place}
-use Rattle.nano_text.proofs.EachLaws.{all_split}
-use Rattle.nano_text.specs.Prefix.{prefix}
+use Rattle.nano_text.proofs.LaneMasks.{all_split}
+use Rattle.nano_text.specs.Characters.{prefix, first_is}
 use Rattle.nano_text.specs.Place.{IsInLine, begins_character, is_line_feed, passed}
-use Rattle.nano_text.proofs.Passing.{wide, count_first, begins_ascii, passed_line_unchanged, passed_col}
+use Rattle.nano_text.proofs.Passing.{wide, count_first, begins_ascii, passed_line_unchanged}
+use Rattle.nano_text.proofs.Passing.{passed_col}
+use Rattle.nano_text.specs.Number.{is_point, is_letter_e}
+use Rattle.nano_text.specs.Scan.{first_if, after_one, fraction_at, after_fraction, exponent_at}
+use Rattle.nano_text.specs.Scan.{after_exponent}
 
 -- ---- bits that are taken together by `|`
 
@@ -87,3 +93,33 @@ prefix_in_line test is (b ∷ bs) =
       | true ↦ λ e. (is b e, prefix_in_line test is bs)
       | false ↦ λ e. tt
     ] refl
+
+-- ==== where a run stops
+
+pub first_stop : (p : ℕ → Bool) (t : List ℕ) → first_is p t ≡ false → first_if p t ≡ None
+first_stop p [] e = refl
+first_stop p (c ∷ cs) e = rw e refl
+
+pub one_stop : (p : ℕ → Bool) (t : List ℕ) → first_is p t ≡ false → after_one p t ≡ t
+one_stop p [] e = refl
+one_stop p (c ∷ cs) e = rw e refl
+
+pub fraction_stop : (t : List ℕ) → first_is is_point t ≡ false → fraction_at t ≡ None
+fraction_stop [] e = refl
+fraction_stop (c ∷ cs) e = rw e refl
+
+pub after_fraction_stop : (t : List ℕ) → first_is is_point t ≡ false → after_fraction t ≡ t
+after_fraction_stop [] e = refl
+after_fraction_stop (c ∷ cs) e = rw e refl
+
+pub exponent_stop : (t : List ℕ) → first_is is_letter_e t ≡ false → exponent_at t ≡ None
+exponent_stop [] e = refl
+exponent_stop (c ∷ cs) e = rw e refl
+
+pub after_exponent_stop : (t : List ℕ) → first_is is_letter_e t ≡ false → after_exponent t ≡ t
+after_exponent_stop [] e = refl
+after_exponent_stop (c ∷ cs) e = rw e refl
+
+pub or_false : (a b : Bool) → a || b ≡ false → b ≡ false
+or_false true b e = cc
+or_false false b e = e

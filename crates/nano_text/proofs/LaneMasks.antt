@@ -1,12 +1,24 @@
 -- From the mask of bytes looked at together to those that pass a test.
-use Rattle.std.proofs.Common.{◌≡◌, ℕ, ◌+◌, ◌-◌, ◌%◌, ◌^◌, ◌<◌, ◌≤◌, Bool, true, false, not, ◌||◌, List, [], ◌∷◌, map, length, get_or, replicate, Fits, w8, refl, sym, ap, ap₂, ◌∙◌, subst, arith, inl, inr}
-use Rattle.std.proofs.lemmas.Bool.{agree_below, agree_below_at, not-true, cases_eq, eq-eqb, ne_eqb, cond-true, cond-false}
-use Rattle.std.proofs.lemmas.Simd.{map-map, mask_l-mod, length-chunk, get_or-chunk, leading_from_mask_l, trailing_mask_l}
+use Rattle.std.proofs.Common.{◌≡◌, ℕ, ◌+◌, ◌-◌, ◌%◌, ◌^◌, ◌<◌, ◌≤◌, Bool, true, false, not, ◌||◌}
+use Rattle.std.proofs.Common.{List, [], ◌∷◌, map, length, get_or, replicate, Fits, w8, refl, sym}
+use Rattle.std.proofs.Common.{ap, ap₂, ◌∙◌, subst, arith, inl, inr}
+use Rattle.std.proofs.lemmas.Bool.{agree_below, agree_below_at, not-true, cases_eq, eq-eqb, ne_eqb}
+use Rattle.std.proofs.lemmas.Bool.{cond-true, cond-false}
+use Rattle.std.proofs.lemmas.Simd.{map-map, mask_l-mod, length-chunk, get_or-chunk}
+use Rattle.std.proofs.lemmas.Simd.{leading_from_mask_l, trailing_mask_l}
 use Rattle.std.proofs.lemmas.List.{length-map}
 use Rattle.std.proofs.lemmas.List.Sums.{prefix_len-le-length, prefix_len_passes}
 use Rattle.std.specs.List.{prefix_len}
+use Rattle.std.proofs.Common.{zero, suc, ◌*◌, ◌/◌, ◌&&◌, ltb, take, drop, IsAscii}
+use Rattle.std.specs.Str.{bytes_eq}
+use Rattle.std.proofs.lemmas.Bool.Decides.{Decides-below_and, Decides-by_and, Decides-ltb}
+use Rattle.std.proofs.lemmas.Slice.Eq.{bytes_eq-Decides}
+use Rattle.std.proofs.lemmas.Str.Ascii.{IsAscii-from_all}
+use Rattle.std.specs.Prelude.{◌++◌}
+use Rattle.std.specs.List.{AllByRecursion}
 use lib.Lanes.{chunk, zip2, mask_l, top}
-use Rattle.nano_text.specs.Lanes.{first_set}
+use Rattle.nano_text.specs.Characters.{first_set, three_digits}
+use Rattle.nano_text.specs.declared.triples.TheConstants.{TRIPLES}
 
 zip2-map : (h : ℕ → ℕ → ℕ) (f g : ℕ → ℕ) (xs : List ℕ) → zip2 h (map f xs) (map g xs) ≡ map (λ x. h (f x) (g x)) xs
 zip2-map h f g [] = refl
@@ -59,3 +71,52 @@ module _ (q : ℕ → Bool) (d : List ℕ) (i n r : ℕ) (z : List ℕ) (inside 
     omega (arith, counted, long, prefix_len-le-length (λ x. not (stops x)) (chunk i n d)),
     λ k from to. sym (ap (λ b. b || q (get_or d k 0)) (goes_on k from to)) ∙ agree_below_at (λ x. stops x || q x) (λ _. true) 256 (get_or d k 0) all (fits k).fits,
   )
+
+-- ==== triple text
+
+-- so many bytes from a number's place on are its digits
+module _ (digits : ℕ → List ℕ) (place : ℕ → ℕ) (count : ℕ) where
+  abbrev entry : ℕ → List ℕ
+  entry n = take count (drop (place n) TRIPLES.now)
+
+  abbrev entries_match : ℕ → Bool
+  entries_match zero = true
+  entries_match (suc n) = bytes_eq (entry n) (digits n) && entries_match n
+
+  entries_are : (most : ℕ) → entries_match most ≡ true → (n : ℕ) → n < most → entry n ≡ digits n
+  entries_are most checked =
+      (Decides-below_and (λ n. bytes_eq (entry n) (digits n)) (λ n. entry n ≡ digits n) entries_match (λ n. bytes_eq-Decides _ _) refl (λ _. refl) most).0 checked
+
+-- the three bytes after the first are its digits
+pub triple_entry : (n : ℕ) → n < 1000 → take 3 (drop (n * 4 + 1) TRIPLES.now) ≡ three_digits n
+triple_entry = entries_are three_digits (λ n. n * 4 + 1) 3 1000 refl
+
+-- the first is a zero
+pub padded_entry : (n : ℕ) → n < 1000 → take 4 (drop (n * 4) TRIPLES.now) ≡ 48 ∷ three_digits n
+padded_entry = entries_are (λ n. 48 ∷ three_digits n) (λ n. n * 4) 4 1000 refl
+
+-- the last two are the digits of a number below 100
+pub pair_entry : (n : ℕ) → n < 100 → take 2 (drop (n * 4 + 2) TRIPLES.now) ≡ (48 + n / 10) ∷ (48 + n % 10) ∷ []
+pair_entry = entries_are (λ n. (48 + n / 10) ∷ (48 + n % 10) ∷ []) (λ n. n * 4 + 2) 2 100 refl
+
+abbrev all_ascii : List ℕ → Bool
+all_ascii [] = true
+all_ascii (b ∷ bs) = ltb b 128 && all_ascii bs
+
+pub triples_ascii : IsAscii TRIPLES.now
+triples_ascii =
+    IsAscii-from_all TRIPLES.now ((Decides-by_and (λ b. ltb b 128) (λ b. b < 128) all_ascii (λ b. Decides-ltb b 128) refl (λ _ _. refl) TRIPLES.now).0 refl)
+
+-- ==== each
+
+pub all_append : {A : Type 0} (P : A → Type 0) (xs ys : List A)
+    → AllByRecursion P xs → AllByRecursion P ys → AllByRecursion P (xs ++ ys)
+all_append P [] ys h k = k
+all_append P (x ∷ xs) ys h k = (h.0, all_append P xs ys h.1 k)
+
+pub all_split : {A : Type 0} (P : A → Type 0) (xs ys : List A)
+    → AllByRecursion P (xs ++ ys) → AllByRecursion P xs × AllByRecursion P ys
+all_split P [] ys h = (tt, h)
+all_split P (x ∷ xs) ys h =
+    let rest = all_split P xs ys h.1 in
+    ((h.0, rest.0), rest.1)

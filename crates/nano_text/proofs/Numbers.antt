@@ -1,12 +1,17 @@
 -- From the parts that were taken to the number that stands there, and back.
-use Rattle.std.proofs.Common.{◌≡◌, ℕ, ◌+◌, ◌<◌, ◌||◌, inl, inr, List, [], ◌∷◌, ◌++◌, Bool, true, false, cond, nat_lt, refl, ap, sym, ◌∙◌, subst, Option, Some, None, length, length-append, arith, option_map}
+use Rattle.std.proofs.Common.{◌≡◌, ℕ, ◌+◌, ◌<◌, ◌||◌, inl, inr, List, [], ◌∷◌, ◌++◌, Bool, true}
+use Rattle.std.proofs.Common.{false, cond, nat_lt, refl, ap, sym, ◌∙◌, subst, Option, Some, None}
+use Rattle.std.proofs.Common.{length, length-append, arith, option_map}
 use Rattle.std.proofs.lemmas.Bool.{ltb-false, ltb-true, and_parts, and_cases}
 use Rattle.std.proofs.lemmas.Bool.Decides.{nat_tests}
 use Rattle.nano_text.specs.declared.number.Number.{Number}
 use Rattle.nano_text.specs.declared.number.Number.TheVariants.{Dec}
-use Rattle.nano_text.specs.Number.{Exponent, is_minus, sign_text, fraction_text, exponent_text, run_text, IsGood, AreGoodParts, number_of, number_from_parts, IsNumber}
+use Rattle.nano_text.specs.Number.{Exponent, is_minus, sign_text, fraction_text, exponent_text}
+use Rattle.nano_text.specs.Number.{run_text, IsGood, AreGoodParts, number_of, number_from_parts}
+use Rattle.nano_text.specs.Number.{IsNumber}
 use Rattle.nano_text.specs.ScanLaws.{run_at}
-use Rattle.nano_text.specs.Scan.{after_run, exponent_len, minus_capacity, fraction_capacity, exponent_capacity, decimal_len}
+use Rattle.nano_text.specs.Scan.{after_run, exponent_len, minus_capacity, fraction_capacity}
+use Rattle.nano_text.specs.Scan.{exponent_capacity, decimal_len}
 use Rattle.nano_text.proofs.Runs.{run_split, run_is_run, run_ends, run_again}
 
 -- ---- an integer

@@ -1,6 +1,7 @@
 -- A run that is passed at once: its bytes count the lines and columns that its characters do.
-use Rattle.std.proofs.Common.{◌≡◌, ◌≢◌, ℕ, suc, ◌+◌, ◌-◌, ◌%◌, ◌^◌, ◌<◌, ◌≤◌, min, List, [], ◌∷◌, ◌++◌, Bool, true, false, cond}
-use Rattle.std.proofs.Common.{ltb, length, get_or, chars, encode_utf8_all, IsUtf8, ne_eqb, refl, ap, sym, ◌∙◌, arith, count_by}
+use Rattle.std.proofs.Common.{◌≡◌, ◌≢◌, ℕ, suc, ◌+◌, ◌-◌, ◌%◌, ◌^◌, ◌<◌, ◌≤◌, min, List, [], ◌∷◌}
+use Rattle.std.proofs.Common.{◌++◌, Bool, true, false, cond, ltb, length, get_or, chars}
+use Rattle.std.proofs.Common.{encode_utf8_all, IsUtf8, ne_eqb, refl, ap, sym, ◌∙◌, arith, count_by}
 use Rattle.std.proofs.Math.Utf8.{encode}
 use Rattle.std.specs.List.{AllByRecursion}
 use Rattle.std.proofs.lemmas.Bool.{ltb-false, ltb-true, le-ltb}
@@ -9,7 +10,8 @@ use Rattle.std.proofs.lemmas.List.Sums.{sum_by-cons}
 use Rattle.std.proofs.lemmas.Str.{encode_ascii, encodes-chars}
 use Rattle.std.proofs.Math.Nat.{min-le_right}
 use Rattle.nano_text.specs.declared.place.Place.{Place}
-use Rattle.nano_text.specs.Place.{begins_character, saturating_next, is_line_feed, passed, place_after}
+use Rattle.nano_text.specs.Place.{begins_character, saturating_next, is_line_feed, passed}
+use Rattle.nano_text.specs.Place.{place_after}
 use Rattle.nano_text.proofs.Utf8Prefixes.{of_each}
 
 -- ---- line and column after bytes that are taken one by one

@@ -1,14 +1,16 @@
 -- Strings in one line with no escape: what is read at once, and nothing else.
-use Rattle.std.proofs.Common.{◌≡◌, ◌≢◌, ℕ, List, [], ◌∷◌, ◌++◌, Bool, true, false, cond, nat_eq, drop, length, chars, encode_utf8_all, IsUtf8, refl, ap, sym, ◌∙◌, subst, arith}
+use Rattle.std.proofs.Common.{◌≡◌, ◌≢◌, ℕ, List, [], ◌∷◌, ◌++◌, Bool, true, false, cond, nat_eq}
+use Rattle.std.proofs.Common.{drop, length, chars, encode_utf8_all, IsUtf8, refl, ap, sym, ◌∙◌}
+use Rattle.std.proofs.Common.{subst, arith}
 use Rattle.std.proofs.lemmas.Str.{encode_ascii, encodes-chars}
 use Rattle.std.specs.Str.Iter.{chars_rest}
 use Rattle.std.specs.declared.str.Chars.{Chars}
-use Rattle.nano_text.specs.Prefix.{prefix, following}
+use Rattle.nano_text.specs.Characters.{prefix, following}
 use Rattle.nano_text.specs.Place.{before_nul, held, remaining}
 use Rattle.nano_text.specs.String.{IsString, IsPlainString, is_plain_in_line}
 use Rattle.nano_text.proofs.RemainingText.{remaining-tail}
 use Rattle.nano_text.proofs.Strings.{nothing_read, reads_plain, string_read}
-use Rattle.nano_text.proofs.TakenPrefix.{drop_prefix}
+use Rattle.nano_text.proofs.Prefixes.{drop_prefix}
 use Rattle.nano_text.proofs.Utf8Prefixes.{after_passing, following-before_nul}
 use Rattle.nano_text.proofs.Bodies.{in_line_cut, in_line_plain}
 

@@ -1,12 +1,14 @@
 -- What `next` does to the text that is still to be read.
-use Rattle.std.proofs.Common.{◌≡◌, ◌≢◌, ℕ, List, [], ◌∷◌, ◌++◌, Bool, true, false, cond, length, encode_utf8, IsUtf8, refl, ap, sym, ◌∙◌, ne_eqb, eqb-true, nat_eq, ◌+◌, ◌*◌, ◌-◌, ◌≤◌, zero, suc, arith}
+use Rattle.std.proofs.Common.{◌≡◌, ◌≢◌, ℕ, List, [], ◌∷◌, ◌++◌, Bool, true, false, cond, length}
+use Rattle.std.proofs.Common.{encode_utf8, IsUtf8, refl, ap, sym, ◌∙◌, ne_eqb, eqb-true, nat_eq}
+use Rattle.std.proofs.Common.{◌+◌, ◌*◌, ◌-◌, ◌≤◌, zero, suc, arith}
 use Rattle.std.proofs.lemmas.Str.{chars_past_char}
 use Rattle.std.proofs.StrCases.{chars_of_empty}
 use Rattle.std.specs.Str.Iter.{chars_rest}
 use Rattle.std.specs.declared.str.Chars.{Chars}
 use Rattle.std.specs.Str.{chars, chars_after, continuation_len, lead_bits}
 use Rattle.nano_text.specs.Place.{held, remaining, before_nul}
-use Rattle.nano_text.specs.Prefix.{first_is}
+use Rattle.nano_text.specs.Characters.{first_is}
 
 -- one character is taken from the start
 pub held_next : (s t : Chars) (c : ℕ) → IsUtf8 (chars_rest s) → chars_rest s ≡ encode_utf8 c ++ chars_rest t → held s ≡ c ∷ held t

@@ -1,14 +1,20 @@
 -- The run that a text begins with is the only good one that it can begin with.
-use Rattle.std.proofs.Common.{◌≡◌, ℕ, ◌<◌, ◌≤◌, ◌||◌, inl, inr, List, [], ◌∷◌, ◌++◌, Bool, true, false, cond, refl, ap, ◌∙◌, subst, Option, Some, None, IfSome, append_assoc, length, arith, eqb-true, ne_eqb, leb-true}
+use Rattle.std.proofs.Common.{◌≡◌, ℕ, ◌<◌, ◌≤◌, ◌||◌, inl, inr, List, [], ◌∷◌, ◌++◌, Bool, true}
+use Rattle.std.proofs.Common.{false, cond, refl, ap, ◌∙◌, subst, Option, Some, None, IfSome}
+use Rattle.std.proofs.Common.{append_assoc, length, arith, eqb-true, ne_eqb, leb-true}
 use Rattle.std.specs.Char.{is_ascii_digit}
 use Rattle.std.specs.Str.{all_ascii_digits}
 use Rattle.std.proofs.lemmas.Bool.{and_parts, or_cases, or_parts}
-use Rattle.nano_text.specs.Prefix.{first_is, prefix, following}
-use Rattle.nano_text.specs.Number.{Run, Exponent, is_sign, is_point, is_letter_e, is_minus, sign_text, fraction_text, exponent_text, run_text, IsRun, IsGood, AreGoodParts, continues}
-use Rattle.nano_text.specs.Scan.{first_if, after_one, is_minus_char, fraction_at, after_fraction, exponent_at, after_exponent, after_sign, after_whole, after_run}
+use Rattle.nano_text.specs.Characters.{first_is, prefix, following}
+use Rattle.nano_text.specs.Number.{Run, Exponent, is_sign, is_point, is_letter_e, is_minus}
+use Rattle.nano_text.specs.Number.{sign_text, fraction_text, exponent_text, run_text, IsRun, IsGood}
+use Rattle.nano_text.specs.Number.{AreGoodParts, continues}
+use Rattle.nano_text.specs.Scan.{first_if, after_one, is_minus_char, fraction_at, after_fraction}
+use Rattle.nano_text.specs.Scan.{exponent_at, after_exponent, after_sign, after_whole, after_run}
 use Rattle.nano_text.specs.ScanLaws.{run_at}
 use Rattle.nano_text.proofs.Prefixes.{prefix_stop, after_stop}
-use Rattle.nano_text.proofs.Stops.{first_stop, one_stop, fraction_stop, after_fraction_stop, exponent_stop, after_exponent_stop, or_false}
+use Rattle.nano_text.proofs.InLine.{first_stop, one_stop, fraction_stop, after_fraction_stop}
+use Rattle.nano_text.proofs.InLine.{exponent_stop, after_exponent_stop, or_false}
 
 -- ---- what is taken and what is left are the text
 

@@ -1,12 +1,15 @@
 -- The prefix of a text and the prefix of its bytes, for a test that every number from 128 on
 -- passes, or none.
-use Rattle.std.proofs.Common.{◌≡◌, ℕ, ◌+◌, ◌/◌, ◌≤◌, List, [], ◌∷◌, ◌++◌, Bool, true, false, cond, ltb, chars, encode_utf8_all, IsUtf8, nat_eq, eqb-true, refl, ap, sym, ◌∙◌, arith, length}
+use Rattle.std.proofs.Common.{◌≡◌, ℕ, ◌+◌, ◌/◌, ◌≤◌, List, [], ◌∷◌, ◌++◌, Bool, true, false, cond}
+use Rattle.std.proofs.Common.{ltb, chars, encode_utf8_all, IsUtf8, nat_eq, eqb-true, refl, ap, sym}
+use Rattle.std.proofs.Common.{◌∙◌, arith, length}
 use Rattle.std.proofs.Math.Utf8.{encode, scalars, scalar}
 use Rattle.std.specs.List.{AllByRecursion}
 use Rattle.std.specs.Str.{IsCharBoundary}
 use Rattle.std.proofs.lemmas.Bool.{ltb-false, ltb-true, le-ltb, and_parts}
-use Rattle.std.proofs.lemmas.Str.{encode_ascii, encodes-chars, scalars-chars, chars-encodes, IsCharBoundary-at_seam}
-use Rattle.nano_text.specs.Prefix.{prefix, following}
+use Rattle.std.proofs.lemmas.Str.{encode_ascii, encodes-chars, scalars-chars, chars-encodes}
+use Rattle.std.proofs.lemmas.Str.{IsCharBoundary-at_seam}
+use Rattle.nano_text.specs.Characters.{prefix, following}
 use Rattle.nano_text.specs.Place.{before_nul}
 
 -- what a prefix and what is after it make

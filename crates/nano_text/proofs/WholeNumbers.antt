@@ -1,9 +1,13 @@
 -- Whole numbers of few digits: what is taken at once, and that it is a number.
-use Rattle.std.proofs.Common.{◌≡◌, ◌≢◌, ℕ, ◌+◌, ◌-◌, ◌<◌, ◌≤◌, ◌^◌, min, List, [], ◌∷◌, ◌++◌, true, false, Some, None, pos, neg_ℤ, arith, refl, ap, sym, ◌∙◌, subst, append_assoc, append-nil, add-one, drop, take, length, length-append, get_or, chars, IsUtf8}
+use Rattle.std.proofs.Common.{◌≡◌, ◌≢◌, ℕ, ◌+◌, ◌-◌, ◌<◌, ◌≤◌, ◌^◌, min, List, [], ◌∷◌, ◌++◌, true}
+use Rattle.std.proofs.Common.{false, Some, None, pos, neg_ℤ, arith, refl, ap, sym, ◌∙◌, subst}
+use Rattle.std.proofs.Common.{append_assoc, append-nil, add-one, drop, take, length, length-append}
+use Rattle.std.proofs.Common.{get_or, chars, IsUtf8}
 use Rattle.std.proofs.Math.Nat.{pow-le-pow_right}
 use Rattle.std.proofs.Math.Seq.{drop-cons}
 use Rattle.std.proofs.lemmas.List.{take_at, take-append-drop}
-use Rattle.std.proofs.lemmas.Str.{IsUtf8-take, IsUtf8-past_char, chars-append, chars_past_char, encode_ascii, IsCharBoundary-at_seam}
+use Rattle.std.proofs.lemmas.Str.{IsUtf8-take, IsUtf8-past_char, chars-append, chars_past_char}
+use Rattle.std.proofs.lemmas.Str.{encode_ascii, IsCharBoundary-at_seam}
 use Rattle.std.specs.Char.{is_ascii_digit, digit_value}
 use Rattle.std.specs.List.{AllByRecursion}
 use Rattle.std.specs.Str.{IsCharBoundary, all_ascii_digits}
@@ -13,16 +17,17 @@ use Rattle.std.specs.declared.str.Chars.{Chars}
 use Rattle.nano_text.specs.declared.number.Number.{Number}
 use Rattle.nano_text.specs.declared.number.Number.TheVariants.{U64, I64}
 use Rattle.nano_text.specs.declared.place.Place.{Place}
-use Rattle.nano_text.proofs.EachLaws.{all_append}
-use Rattle.nano_text.specs.Prefix.{first_is, prefix, following}
+use Rattle.nano_text.proofs.LaneMasks.{all_append}
+use Rattle.nano_text.specs.Characters.{first_is, prefix, following}
 use Rattle.nano_text.specs.Number.{Run, IsNumber, continues, run_text}
 use Rattle.nano_text.specs.Place.{held, remaining, text_at, before_nul, IsInLine, Passes, Moves}
 use Rattle.nano_text.proofs.DigitValues.{digits-chars}
 use Rattle.nano_text.proofs.InLine.{in_line_line, in_line_col}
 use Rattle.nano_text.proofs.RemainingText.{remaining_more}
 use Rattle.nano_text.proofs.Runs.{digits_split}
-use Rattle.nano_text.proofs.TakenPrefix.{digits_cut, digits_in_line, drop_prefix}
-use Rattle.nano_text.proofs.Utf8Prefixes.{prefix-append-following, prefix-before_nul, following-before_nul}
+use Rattle.nano_text.proofs.Prefixes.{digits_cut, digits_in_line, drop_prefix}
+use Rattle.nano_text.proofs.Utf8Prefixes.{prefix-append-following, prefix-before_nul}
+use Rattle.nano_text.proofs.Utf8Prefixes.{following-before_nul}
 
 -- nineteen digits write no number that 64 bits don't hold
 pub few_digits : (value len : ℕ) → value < 10 ^ (len + 1) → len < 18 → value < 10 ^ 18

@@ -1,12 +1,8 @@
 pub mod Characters
-pub mod Digits
-pub mod Prefix
 pub mod Promises
-pub mod Lanes
 pub mod Number
 pub mod Outcomes
 pub mod Place
-pub mod PlaceInText
 pub mod Scan
 pub mod ScanLaws
 pub mod String

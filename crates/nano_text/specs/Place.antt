@@ -86,3 +86,19 @@ begins_character b = nat_lt b 128 || nat_le 192 b
 -- a byte that is no control character and begins none beyond ASCII
 abbrev pub IsInLine : ℕ → Type 0
 IsInLine b = (32 ≤ b) × (b < 160)
+
+-- ==== where an error stands in a text
+
+-- before the first character
+abbrev pub beginning : Place
+beginning = record { cur = 0; line = 0; col = 0 }
+
+-- this line and column count the characters that were taken before a fault: they begin the text,
+-- and all but the last of them stand before its first NUL
+pub record StandsIn (text : List ℕ) (line column : ℕ) : Type 0 where
+  pub taken : List ℕ
+  pub after : List ℕ
+  pub split : text ≡ taken ++ after
+  pub lines : line ≡ (passed beginning taken).line
+  pub columns : column ≡ (passed beginning taken).col
+  pub within : length taken ≤ length (before_nul text) + 1

@@ -3,7 +3,7 @@ use Rattle.std.specs.Prelude.{ℕ, ◌+◌, ◌==◌, ◌||◌, ◌&&◌, nat_lt
 use Rattle.std.specs.Prelude.{Some, None, if◌then◌else◌}
 use Rattle.std.specs.Char.{is_ascii_digit}
 use Rattle.nano_text.specs.declared.run.ExponentLen.{ExponentLen}
-use Rattle.nano_text.specs.Prefix.{first_is, prefix, following}
+use Rattle.nano_text.specs.Characters.{first_is, prefix, following}
 use Rattle.nano_text.specs.Number.{Exponent, is_sign, is_point, is_letter_e}
 
 abbrev pub is_minus_char : ℕ → Bool
@@ -82,3 +82,9 @@ decimal_len whole (Some digits) (Some e) =
     if (nat_lt 0 whole || nat_lt 0 digits) && nat_lt 0 e.digits
     then Some (digits + 1 + minus_capacity e.minus + e.digits)
     else None
+
+-- ---- white space
+
+-- what indents are made of: a space
+abbrev pub is_blank : ℕ → Bool
+is_blank c = c == 32

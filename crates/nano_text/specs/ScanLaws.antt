@@ -1,7 +1,7 @@
 -- What is proved of Scan.
 use Rattle.std.specs.Prelude.{ℕ, List}
 use Rattle.std.specs.Char.{is_ascii_digit}
-use Rattle.nano_text.specs.Prefix.{prefix}
+use Rattle.nano_text.specs.Characters.{prefix}
 use Rattle.nano_text.specs.Number.{Run, is_sign}
 use Rattle.nano_text.specs.Scan.{first_if, fraction_at, after_fraction, exponent_at, after_sign}
 use Rattle.nano_text.specs.Scan.{after_whole}

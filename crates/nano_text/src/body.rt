@@ -1,10 +1,10 @@
 //! Strings of plain characters and short escapes in one line, which nearly all are: they are read at
 //! once. Anything else falls back to `string`; no input is consumed.
 
-ghost use Rattle.std.specs.Prelude.{◌≡◌, ◌≢◌, ◌++◌, ◌∷◌, ◌<◌, ◌≤◌, true, false, IfSome, None};
-ghost use Rattle.std.specs.Prelude.{List, ℕ, count_by, string_bytes, string_capacity};
-ghost use Rattle.std.specs.Prelude.{◌+◌, drop, encode_utf8_all, length};
-ghost use Rattle.nano_text.specs.Prefix.{prefix};
+ghost use Rattle.std.specs.Prelude.{◌≡◌, ◌≢◌, ◌++◌, ◌∷◌, ◌<◌, ◌≤◌, true, false, IfSome, None, List};
+ghost use Rattle.std.specs.Prelude.{ℕ, count_by, string_bytes, string_capacity, ◌+◌, drop};
+ghost use Rattle.std.specs.Prelude.{encode_utf8_all, length};
+ghost use Rattle.nano_text.specs.Characters.{prefix};
 ghost use Rattle.nano_text.specs.Outcomes.{Counts};
 ghost use Rattle.nano_text.specs.Place.{begins_character, text_at};
 ghost use Rattle.nano_text.specs.String.{IsPlainString, IsString, escaped_char, is_plain_in_line};

@@ -1,9 +1,9 @@
 //! Decimal digits of integers.
 
-ghost use Rattle.std.specs.Prelude.{◌≡◌, ◌+◌, ◌-◌, ◌/◌, ◌%◌, ◌^◌, ◌<◌, ◌≤◌, ◌++◌, ◌∷◌, []};
-ghost use Rattle.std.specs.Prelude.{OnOk, OnErr, string_bytes, IsAscii, length, take, drop};
+ghost use Rattle.std.specs.Prelude.{◌≡◌, ◌+◌, ◌-◌, ◌/◌, ◌%◌, ◌^◌, ◌<◌, ◌≤◌, ◌++◌, ◌∷◌, [], OnOk};
+ghost use Rattle.std.specs.Prelude.{OnErr, string_bytes, IsAscii, length, take, drop};
 ghost use Rattle.std.specs.Fmt.{decimal, signed_decimal};
-ghost use Rattle.nano_text.specs.Digits.{three_digits};
+ghost use Rattle.nano_text.specs.Characters.{three_digits};
 ghost use Rattle.nano_text.specs.Outcomes.{Appends, Unchanged};
 
 use crate::triples::{padded_triple, pair, triple};

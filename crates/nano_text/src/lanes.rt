@@ -1,7 +1,7 @@
 //! Bytes looked at sixteen at a time.
 
 ghost use Rattle.std.specs.Prelude.{◌≡◌, ◌≢◌, ◌<◌, ◌≤◌, ◌+◌, ℕ, true, length, slice_index};
-ghost use Rattle.nano_text.specs.Lanes.{first_set};
+ghost use Rattle.nano_text.specs.Characters.{first_set};
 ghost use Rattle.nano_text.specs.String.{is_plain_in_line};
 
 use std::simd::prelude::*;

@@ -1,8 +1,7 @@
 //! Number lexemes.
 
-ghost use Rattle.std.specs.Prelude.{◌≡◌, ◌+◌, ◌^◌, ◌<◌, ◌≤◌, IfOk, List, ℕ, pos, neg_ℤ};
-ghost use Rattle.std.specs.Prelude.{length, string_bytes, string_capacity, MatchOption, SomeIff};
-ghost use Rattle.std.specs.Prelude.{IfSome};
+ghost use Rattle.std.specs.Prelude.{◌≡◌, ◌+◌, ◌^◌, ◌<◌, ◌≤◌, IfOk, List, ℕ, pos, neg_ℤ, length};
+ghost use Rattle.std.specs.Prelude.{string_bytes, string_capacity, MatchOption, SomeIff, IfSome};
 ghost use Rattle.std.specs.Str.Parse.{digits_value};
 ghost use Rattle.nano_text.specs.Number.{IsNumber, AreGoodParts, number_from_parts, is_minus};
 ghost use Rattle.nano_text.specs.Number.{sign_text};

@@ -4,14 +4,14 @@ ghost use Rattle.std.specs.Prelude.{◌≡◌, ◌+◌, ◌*◌, ◌<◌, ℕ, l
 ghost use Rattle.std.specs.Char.{is_ascii_digit};
 ghost use Rattle.std.specs.Option.{option_map};
 ghost use Rattle.std.specs.Str.Parse.{digits_value, digits_value_after};
-ghost use Rattle.nano_text.specs.Prefix.{prefix, following, first_is};
+ghost use Rattle.nano_text.specs.Characters.{prefix, following, first_is};
 ghost use Rattle.nano_text.specs.Number.{is_sign, is_letter_e};
 ghost use Rattle.nano_text.specs.Outcomes.{Counts, IsWord};
 ghost use Rattle.nano_text.specs.Place.{text_at};
-ghost use Rattle.nano_text.specs.Scan.{first_if, after_one, is_minus_char, after_sign};
-ghost use Rattle.nano_text.specs.Scan.{fraction_at, after_fraction, exponent_at, after_exponent};
+ghost use Rattle.nano_text.specs.Scan.{first_if, after_one, is_minus_char, after_sign, fraction_at};
+ghost use Rattle.nano_text.specs.Scan.{after_fraction, exponent_at, after_exponent, after_run};
+ghost use Rattle.nano_text.specs.Scan.{exponent_len};
 ghost use Rattle.nano_text.specs.ScanLaws.{run_at};
-ghost use Rattle.nano_text.specs.Scan.{after_run, exponent_len};
 
 use crate::place::Place;
 use std::str::Chars;

@@ -5,11 +5,11 @@ ghost use Rattle.std.specs.Prelude.{IfSome, List, ℕ, string_bytes, string_capa
 ghost use Rattle.std.specs.Prelude.{encode_utf8_all, length};
 ghost use Rattle.std.specs.Char.{digit_value, is_ascii_hexdigit};
 ghost use Rattle.std.specs.List.{AllWithin};
-ghost use Rattle.nano_text.specs.Prefix.{prefix, following};
+ghost use Rattle.nano_text.specs.Characters.{prefix, following};
 ghost use Rattle.nano_text.specs.Outcomes.{Appends, Counts};
 ghost use Rattle.nano_text.specs.Place.{IsInLine, text_at};
-ghost use Rattle.nano_text.specs.String.{CodeUnit, IsHex, IsPiece, IsString, Piece};
-ghost use Rattle.nano_text.specs.String.{is_plain, piece_char, piece_text, unit_text, unit_value};
+ghost use Rattle.nano_text.specs.String.{CodeUnit, IsHex, IsPiece, IsString, Piece, is_plain};
+ghost use Rattle.nano_text.specs.String.{piece_char, piece_text, unit_text, unit_value};
 
 use crate::body::{escaped_char, read_at_once};
 use crate::number::Fault;

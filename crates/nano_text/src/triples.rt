@@ -1,7 +1,7 @@
 //! Numbers below 1,000 as three digits, and those below 100 as two.
 
 ghost use Rattle.std.specs.Prelude.{◌≡◌, ◌+◌, ◌/◌, ◌%◌, ◌<◌, ◌∷◌, []};
-ghost use Rattle.nano_text.specs.Digits.{three_digits};
+ghost use Rattle.nano_text.specs.Characters.{three_digits};
 
 /// The three digits of each number below 1,000 with a zero before them, one number after the
 /// other: four bytes are copied at once, three are not.

@@ -1,12 +1,12 @@
 //! Whole numbers of few digits, which nearly all numbers are: their digits are looked at in one
 //! loop, and taken at once. Anything else falls back to `run`; no input is consumed.
 
-ghost use Rattle.std.specs.Prelude.{◌≡◌, ◌≢◌, ◌<◌, ◌≤◌, ◌^◌, true, false, IfSome};
-ghost use Rattle.std.specs.Prelude.{length, get_or, pos, neg_ℤ};
+ghost use Rattle.std.specs.Prelude.{◌≡◌, ◌≢◌, ◌<◌, ◌≤◌, ◌^◌, true, false, IfSome, length, get_or};
+ghost use Rattle.std.specs.Prelude.{pos, neg_ℤ};
 ghost use Rattle.std.specs.Char.{is_ascii_digit, digit_value};
 ghost use Rattle.std.specs.Str.Iter.{chars_rest};
 ghost use Rattle.std.specs.Str.Parse.{digits_value, digits_value_after};
-ghost use Rattle.nano_text.specs.Prefix.{prefix, following};
+ghost use Rattle.nano_text.specs.Characters.{prefix, following};
 ghost use Rattle.nano_text.specs.Number.{continues};
 ghost use Rattle.nano_text.specs.Outcomes.{Counts};
 ghost use Rattle.nano_text.specs.Place.{held, before_nul, text_at};

@@ -1,9 +1,10 @@
 //! Texts that are written with escapes: a run of characters that stand for themselves is appended
 //! at once.
 
-ghost use Rattle.std.specs.Prelude.{◌≡◌, ◌≢◌, ◌≤◌, ◌<◌, ◌++◌, ◌∷◌, [], true, Bool, List, ℕ, IfOk, OnOk};
-ghost use Rattle.std.specs.Prelude.{OnErr, chars, flat_map, encode_utf8_all, string_bytes, length};
-ghost use Rattle.nano_text.specs.Prefix.{prefix};
+ghost use Rattle.std.specs.Prelude.{◌≡◌, ◌≢◌, ◌≤◌, ◌<◌, ◌++◌, ◌∷◌, [], true, Bool, List, ℕ, IfOk};
+ghost use Rattle.std.specs.Prelude.{OnOk, OnErr, chars, flat_map, encode_utf8_all, string_bytes};
+ghost use Rattle.std.specs.Prelude.{length};
+ghost use Rattle.nano_text.specs.Characters.{prefix};
 ghost use Rattle.nano_text.specs.Outcomes.{Appends, AppendsPart};
 ghost use Rattle.nano_text.specs.String.{is_plain_in_line};
 

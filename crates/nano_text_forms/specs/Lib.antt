@@ -1,3 +1,1 @@
 pub mod Forms
-pub mod Rejections
-pub mod Shown

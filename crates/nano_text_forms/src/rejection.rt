@@ -3,8 +3,7 @@
 ghost use Rattle.std.specs.Prelude.{◌≡◌, OnOk, take};
 ghost use Rattle.std.specs.Str.{chars};
 ghost use Rattle.std.specs.Io.KnownBytes.{Appends};
-ghost use Rattle.nano_text_forms.specs.Rejections.{IsOf};
-ghost use Rattle.nano_text_forms.specs.Shown.{row_of, before_of, line_of, pointer, shown};
+ghost use Rattle.nano_text_forms.specs.Forms.{IsOf, row_of, before_of, line_of, pointer, shown};
 
 use nano_json::DeJsonErr;
 use nano_ron::DeRonErr;

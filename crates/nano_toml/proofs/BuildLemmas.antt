@@ -1,11 +1,35 @@
 -- The table of statements, one statement further.
-use Rattle.std.proofs.Common.{◌≡◌, ℕ, List, [], ◌∷◌, ◌++◌, Bool, true, false, cond, Option, Some, None, bytes_eq, sym, refl, ap, ◌∙◌, subst, append_assoc, append-nil}
+use Rattle.std.proofs.Common.{◌≡◌, ℕ, List, [], ◌∷◌, ◌++◌, Bool, true, false, cond, Option, Some}
+use Rattle.std.proofs.Common.{None, bytes_eq, sym, refl, ap, ◌∙◌, subst, append_assoc, append-nil}
+use Rattle.std.proofs.Common.{is_some, Bor, ◌≢◌, ◌==◌, not, ne_eqb, option_map, Result, Ok, Err}
+use Rattle.std.proofs.Common.{IfOk, IfErr}
 use Rattle.std.proofs.lemmas.Slice.Eq.{bytes_eq-Decides}
-use Rattle.nano_toml.specs.Built.{Puts, pushed, IsTables, CanPush, NoElement, NoneNamed, IsPlain, ArePlain, Stands}
+use Rattle.nano_toml.specs.StatementTable.{Puts, pushed, IsTables, CanPush, NoElement, NoneNamed}
+use Rattle.nano_toml.specs.StatementTable.{IsPlain, ArePlain, Stands, Pair, or_else, last_value}
+use Rattle.nano_toml.specs.StatementTable.{HasLast, scope_of, full_key, pairs, until_element}
+use Rattle.nano_toml.specs.StatementTable.{root_pairs, element_pairs, IsFound, IsTableOf, IsLawful}
+use Rattle.nano_toml.specs.StatementTable.{key_of}
 use Rattle.nano_toml.specs.Data.{Data, tables, Table, no_pairs, at}
 use Rattle.nano_toml.specs.Statements.{Statement, scope, element, pair}
-use Rattle.nano_toml.specs.StatementTable.{Pair, or_else, last_value, HasLast, scope_of, full_key, pairs, until_element, root_pairs, element_pairs, IsFound, IsTableOf, IsLawful}
-use Rattle.nano_toml.proofs.StatementLists.{pairs-append, root_pairs-element, NoElement-append, element_pairs-none, HasLast-push, NoneNamed-append, NoneNamed-none, NoneNamed-at, IsTableOf-pair, IsTableOf-element}
+use Rattle.nano_toml.proofs.StatementLists.{pairs-append, root_pairs-element, NoElement-append}
+use Rattle.nano_toml.proofs.StatementLists.{element_pairs-none, HasLast-push, NoneNamed-append}
+use Rattle.nano_toml.proofs.StatementLists.{NoneNamed-none, NoneNamed-at, IsTableOf-pair}
+use Rattle.nano_toml.proofs.StatementLists.{IsTableOf-element}
+use Rattle.nano_toml.specs.declared.token.TomlTok.{TomlTok}
+use Rattle.nano_toml.specs.declared.fault.Fault.{Fault}
+use Rattle.nano_toml.specs.declared.fault.Fault.TheVariants.{Memory}
+use Rattle.nano_toml.specs.Characters.{IsByteTest, starts_word, starts_number, is_quote, is_in_word}
+use Rattle.nano_toml.specs.Token.{begins, prefix, following, Token, word_token}
+use Rattle.nano_toml.specs.Reading.{Next, a_token, token_of, Took}
+use Rattle.nano_toml.specs.Cut.{punctuator_token, CutsNothing}
+use Rattle.nano_toml.specs.Scan.{Taken, after_one_quote, number_at}
+use Rattle.nano_toml.proofs.ByteTests.{next_after_gaps, next_at, start_test, number_test}
+use Rattle.nano_toml.proofs.ByteTests.{quote_test, comma_test, open_test, close_test, equals_test}
+use Rattle.nano_toml.proofs.ByteTests.{some_test}
+use Rattle.nano_toml.proofs.GapCut.{at_word}
+use Rattle.nano_toml.proofs.LexemeCut.{at_number, at_quote, at_other, string_taken}
+use Rattle.nano_toml.proofs.LexemeCut.{punctuator_taken}
+use Rattle.nano_toml.proofs.CutLaws.{scanned_cut, scanned_nothing}
 
 -- ---- a key that a header names
 
@@ -175,3 +199,76 @@ Stands-can_push done root table key (before, following, e, none, is, has) n = ca
 pub Stands-whole : (done : List Statement) (old new table : Table) (key : List ℕ) → Stands done old (Some key) table → NoneNamed done (root_pairs done) → Puts old key (pushed (at key old) table) new → IsTableOf done new
 Stands-whole done old new table key (before, following, e, none, is, has) n puts =
     subst (λ (ss : List Statement). IsTableOf ss new) (sym e) (IsTableOf-element before following key old new table none is has (free_before done before following key e n) puts)
+
+-- ==== builder steps
+
+pub Stands-at_key : (done : List Statement) (root table : Table) (one other : Option (Bor (List ℕ))) → one ≡ other → Stands done root (key_of one) table → Stands done root (key_of other) table
+Stands-at_key done root table one other e stands = subst (λ (key : Option (Bor (List ℕ))). Stands done root (key_of key) table) e stands
+
+-- a pair in an element
+pub Stands-in_element : (done : List Statement) (root old new : Table) (key : Option (Bor (List ℕ))) (name : List ℕ) (d : Data) → is_some key ≡ true → Stands done root (key_of key) old
+    → Puts old (full_key (scope_of done) name) d new → Stands (done ++ pair name d ∷ []) root (key_of key) new
+Stands-in_element done root old new None name d e stands puts = absurd (cc)
+Stands-in_element done root old new (Some key) name d e stands puts = Stands-element_pair done root old new key.now name d stands puts
+
+-- a pair in the root
+pub Stands-in_root : (done : List Statement) (old new table : Table) (key : Option (Bor (List ℕ))) (name : List ℕ) (d : Data) → is_some key ≡ false → Stands done old (key_of key) table
+    → Puts old (full_key (scope_of done) name) d new → Stands (done ++ pair name d ∷ []) new (key_of key) table
+Stands-in_root done old new table None name d e stands puts = Stands-root_pair done old new table name d stands puts
+Stands-in_root done old new table (Some key) name d e stands puts = absurd (cc)
+
+-- ==== next steps
+
+-- ---- what comes after the gaps
+
+pub word_next : (text word rest : List ℕ) (next : Next) → begins starts_word text ≡ true → word ≡ prefix is_in_word text → rest ≡ following is_in_word text → next ≡ a_token (word_token word)
+    → next_after_gaps text ≡ Some (record { next = next; rest = rest })
+word_next [] word rest next h w r n = cc h
+word_next (c ∷ cs) word rest next h w r n = at_word c cs h ∙ rw (n, w, r) refl
+
+pub number_next : (text : List ℕ) → begins starts_number text ≡ true → next_after_gaps text ≡ number_at text
+number_next [] h = cc h
+number_next (c ∷ cs) h = at_number c cs h
+
+pub string_next : (text now : List ℕ) (c : ℕ) → text ≡ c ∷ now → c ≡ 34 → next_after_gaps text ≡ string_taken (after_one_quote now)
+string_next text now c e q = ap next_after_gaps e ∙ at_quote c now q
+
+pub punctuator_next : (text rest : List ℕ) (c : ℕ) → text ≡ c ∷ rest → starts_word c ≡ false → starts_number c ≡ false → is_quote c ≡ false → next_after_gaps text ≡ punctuator_taken (punctuator_token c) rest
+punctuator_next text rest c e w n q = ap next_after_gaps e ∙ at_other c rest w n q
+
+pub punctuator_none : (token : Option Token) (rest : List ℕ) → None ≡ option_map (λ t. a_token t) token → punctuator_taken token rest ≡ None
+punctuator_none None rest h = refl
+punctuator_none (Some t) rest h = cc h
+
+pub punctuator_some : (token : Option Token) (rest : List ℕ) (next : Next) → Some next ≡ option_map (λ t. a_token t) token → punctuator_taken token rest ≡ Some (record { next = next; rest = rest })
+punctuator_some None rest next h = cc h
+punctuator_some (Some t) rest next h = let same : next ≡ a_token t = cc h in ap (λ (n : Next). Some (record { next = n; rest = rest })) (sym same)
+
+-- a punctuator, or none, found by the first byte
+same_punctuator : (r b : ℕ) → (r == 44) ≡ (b == 44) → (r == 91) ≡ (b == 91) → (r == 93) ≡ (b == 93) → (r == 61) ≡ (b == 61) → punctuator_token r ≡ punctuator_token b
+same_punctuator r b c o s e = rw (c, o, s, e) refl
+
+pub punctuator_step : (text rest : List ℕ) (r b : ℕ) → text ≡ r ∷ rest → ((p : ℕ → Bool) → IsByteTest p → begins p text ≡ p b) → starts_word b ≡ false → starts_number b ≡ false → is_quote b ≡ false
+    → next_after_gaps text ≡ punctuator_taken (punctuator_token b) rest
+punctuator_step text rest r b e test w n q =
+    let at : (p : ℕ → Bool) → IsByteTest p → p r ≡ p b = λ p h. sym (ap (begins p) e) ∙ test p h in
+    punctuator_next text rest r e (at starts_word start_test ∙ w) (at starts_number number_test ∙ n) (at is_quote quote_test ∙ q)
+    ∙ ap (λ (m : Option Token). punctuator_taken m rest) (same_punctuator r b (at (λ c. c == 44) comma_test) (at (λ c. c == 91) open_test) (at (λ c. c == 93) close_test) (at (λ c. c == 61) equals_test))
+
+pub no_punctuator_step : (text : List ℕ) (b : ℕ) → ((p : ℕ → Bool) → IsByteTest p → begins p text ≡ p b) → b ≢ 0 → starts_word b ≡ false → starts_number b ≡ false → is_quote b ≡ false
+    → None ≡ option_map (λ t. a_token t) (punctuator_token b) → next_after_gaps text ≡ None
+no_punctuator_step [] b test some w n q m =
+    let here : false ≡ not (b == 0) = test (λ c. not (c == 0)) some_test in
+    let clash : false ≡ true = here ∙ rw (ne_eqb b 0 some) refl in
+    cc clash
+no_punctuator_step (r ∷ rest) b test some w n q m = punctuator_step (r ∷ rest) rest r b refl test w n q ∙ punctuator_none (punctuator_token b) rest m
+
+-- ---- a result, and what it says of the cut
+
+pub found_cut : (r : Result TomlTok Fault) (text rest : List ℕ) (scan : Option Taken) → next_at text ≡ scan → IfOk r (λ t. scan ≡ Some (record { next = token_of t; rest = rest })) → IfOk r (λ t. Took text (token_of t) rest)
+found_cut (Ok t) text rest scan e h = scanned_cut text (record { next = token_of t; rest = rest }) (e ∙ h)
+found_cut (Err f) text rest scan e h = tt
+
+pub rejected_cut : (r : Result TomlTok Fault) (text : List ℕ) (scan : Option Taken) → next_at text ≡ scan → IfErr r (λ f. f ≢ Memory → scan ≡ None) → IfErr r (λ f. f ≢ Memory → CutsNothing text)
+rejected_cut (Ok t) text scan e h = tt
+rejected_cut (Err f) text scan e h = λ n. scanned_nothing text (e ∙ h n)

@@ -1,15 +1,20 @@
 -- The cut and the scan are one; so a text is cut in one way.
-use Rattle.std.proofs.Common.{◌≡◌, ℕ, List, [], ◌∷◌, false, Option, Some, None, refl, ap, sym, ◌∙◌, subst}
-use Rattle.nano_toml.specs.Token.{Token}
-use Rattle.nano_toml.specs.Taken.{Next, a_token, the_end, Took}
-use Rattle.nano_toml.specs.Skipped.{last_comment_text, IsLastComment}
-use Rattle.nano_toml.specs.Cut.{Cut, CutEnd, CutsNothing, IsCutInOneWay}
+use Rattle.std.proofs.Common.{◌≡◌, ℕ, List, [], ◌∷◌, false, Option, Some, None, refl, ap, sym, ◌∙◌}
+use Rattle.std.proofs.Common.{subst, ◌<◌, ◌++◌, length, arith, length-append}
+use Rattle.nano_toml.specs.Token.{Token, IsWord}
+use Rattle.nano_toml.specs.Reading.{Next, a_token, the_end, Took}
+use Rattle.nano_toml.specs.Cut.{last_comment_text, IsLastComment, Cut, CutEnd, CutsNothing}
+use Rattle.nano_toml.specs.Cut.{IsCutInOneWay, Lexeme, a_punctuator, a_word, a_string, a_number}
+use Rattle.nano_toml.specs.Cut.{gaps_text}
 use Rattle.nano_toml.specs.Scan.{Taken, taken, after_gaps}
-use Rattle.nano_toml.proofs.Scans.{lexeme_at, next_after_gaps, next_at}
+use Rattle.nano_toml.proofs.ByteTests.{lexeme_at, next_after_gaps, next_at}
 use Rattle.nano_toml.proofs.Gaps.{gaps_stop}
-use Rattle.nano_toml.proofs.GapCut.{gaps_scanned, last_comment_scanned, Skips, to_rest, to_end, skips}
+use Rattle.nano_toml.proofs.GapCut.{gaps_scanned, last_comment_scanned, Skips, to_rest, to_end}
+use Rattle.nano_toml.proofs.GapCut.{skips}
 use Rattle.nano_toml.proofs.LexemeCut.{lexeme_scanned, scanned_lexeme, lexeme_no_gap}
-use Rattle.nano_toml.proofs.NumberCut.{same_taken}
+use Rattle.nano_toml.proofs.NumberCut.{same_taken, body_some}
+use Rattle.nano_toml.specs.Number.{body_text, is_minus, IsNumber, sign_text}
+use Rattle.nano_toml.specs.Quoted.{IsString, empty, short, triple, pieces_text}
 
 -- ---- what is cut is scanned
 
@@ -72,3 +77,27 @@ cut_not_end text token rest h k =
 
 pub cut_in_one_way : (text : List ℕ) → IsCutInOneWay text
 cut_in_one_way text = (cut_one_way text, cut_not_end text)
+
+-- ==== cut length
+
+IsWord-length : (word : List ℕ) → IsWord word → 0 < length word
+IsWord-length [] h = absurd h
+IsWord-length (c ∷ cs) h = omega arith
+
+IsString-shorter : (text chars rest : List ℕ) → IsString text chars rest → length rest < length text
+IsString-shorter text chars rest (empty e n m) = omega (arith, ap length e)
+IsString-shorter text chars rest (short pieces some are e m) = omega (arith, ap length e, length-append (pieces_text pieces) (34 ∷ rest))
+IsString-shorter text chars rest (triple pieces are e n m) = omega (arith, ap length e, length-append (pieces_text pieces) (34 ∷ (34 ∷ (34 ∷ rest))))
+
+IsNumber-shorter : (text : List ℕ) (token : Token) (rest : List ℕ) → IsNumber text token rest → length rest < length text
+IsNumber-shorter text token rest n =
+    omega (arith, ap length n.split, length-append (sign_text n.sign) (body_text n.body ++ rest), length-append (body_text n.body) rest, body_some (is_minus n.sign) n.body n.good)
+
+Lexeme-shorter : (text : List ℕ) (token : Token) (rest : List ℕ) → Lexeme text token rest → length rest < length text
+Lexeme-shorter text token rest (a_punctuator c m e) = omega (arith, ap length e)
+Lexeme-shorter text token rest (a_word word i n e t) = omega (arith, ap length e, length-append word rest, IsWord-length word i)
+Lexeme-shorter text token rest (a_string chars s t) = IsString-shorter text chars rest s
+Lexeme-shorter text token rest (a_number n) = IsNumber-shorter text token rest n
+
+pub Cut-shorter : (text : List ℕ) (token : Token) (rest : List ℕ) → Cut text token rest → length rest < length text
+Cut-shorter text token rest c = omega (arith, ap length c.split, length-append (gaps_text c.gaps) c.from, Lexeme-shorter c.from token rest c.lexeme)

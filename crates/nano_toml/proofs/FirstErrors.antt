@@ -1,26 +1,31 @@
 -- The first error of a text, found by reading one statement after another.
-use Rattle.std.proofs.Common.{◌≡◌, ◌≢◌, ℕ, ◌+◌, ◌≤◌, List, [], ◌∷◌, ◌++◌, length, take, chars, Bool, true, false, cond, nat_eq, sym, refl, ap, ◌∙◌, subst, arith, append_assoc, append-nil, length-append, inl, inr, min}
+use Rattle.std.proofs.Common.{◌≡◌, ◌≢◌, ℕ, ◌+◌, ◌≤◌, List, [], ◌∷◌, ◌++◌, length, take, chars, Bool}
+use Rattle.std.proofs.Common.{true, false, cond, nat_eq, sym, refl, ap, ◌∙◌, subst, arith}
+use Rattle.std.proofs.Common.{append_assoc, append-nil, length-append, inl, inr, min}
 use Rattle.std.proofs.lemmas.List.{nil_from_length, take_min}
 use Rattle.nano_toml.specs.Cut.{Cut, CutEnd, Lexeme, a_punctuator, a_word, a_string, a_number}
-use Rattle.nano_toml.specs.ErrorText.{Reports}
-use Rattle.nano_toml.specs.FirstError.{AreClosedStatements, CanBeginStatement, IsRejected, lexeme, token, end, IsFirstError, in_tokens, in_header, IsErrorAt}
-use Rattle.nano_toml.specs.Prefixes.{closed, is_open, nothing, Begins, Parses, statement_prefix}
-use Rattle.nano_toml.specs.RemainingText.{before_nul, remaining_text, taken_count, taken}
+use Rattle.nano_toml.specs.Cut.{gaps_text}
+use Rattle.nano_toml.specs.Outcomes.{Reports}
+use Rattle.nano_toml.specs.FirstError.{AreClosedStatements, CanBeginStatement, IsRejected, lexeme}
+use Rattle.nano_toml.specs.FirstError.{token, end, IsFirstError, in_tokens, in_header, IsErrorAt}
+use Rattle.nano_toml.specs.Stops.{Fails, Rejects, CanFind, Stops}
+use Rattle.nano_toml.specs.Place.{closed, is_open, nothing, Begins, Parses, statement_prefix}
+use Rattle.nano_toml.specs.Place.{before_nul, remaining_text, taken_count, taken, line_of}
+use Rattle.nano_toml.specs.Place.{column_of}
 use Rattle.nano_toml.specs.Number.{sign_text, body_text}
-use Rattle.nano_toml.specs.Place.{line_of, column_of}
 use Rattle.nano_toml.specs.Quoted.{IsString, empty, short, triple, pieces_text}
-use Rattle.nano_toml.specs.Reading.{EncodesNothing}
-use Rattle.nano_toml.specs.Skipped.{gaps_text}
+use Rattle.nano_toml.specs.Reading.{EncodesNothing, Next, a_token, the_end, nothing_yet, token_of}
+use Rattle.nano_toml.specs.Reading.{Took}
 use Rattle.nano_toml.specs.Statements.{Statement, element, IsClosed, IsStatement, AreStatements}
 use Rattle.nano_toml.specs.StatementTable.{IsLawful}
-use Rattle.nano_toml.specs.Stops.{Fails, Rejects, CanFind, Stops}
-use Rattle.nano_toml.specs.Taken.{Next, a_token, the_end, nothing_yet, token_of, Took}
 use Rattle.nano_toml.specs.Token.{Token}
 use Rattle.nano_toml.specs.declared.fault.Fault.{Fault}
 use Rattle.nano_toml.specs.declared.fault.Fault.TheVariants as fault
-use Rattle.nano_toml.proofs.CutLength.{Cut-shorter}
+use Rattle.nano_toml.proofs.CutLaws.{Cut-shorter}
 use Rattle.nano_toml.proofs.ReadLemmas.{Begins-push, Parses-shorter, empty_end, no_tokens}
-use Rattle.nano_toml.proofs.StatementLemmas.{AreStatements-closed, AreStatements-nothing, prefix_open_element, closed_statement, statement_prefix-closed}
+use Rattle.nano_toml.proofs.StatementLemmas.{AreStatements-closed, AreStatements-nothing}
+use Rattle.nano_toml.proofs.StatementLemmas.{prefix_open_element, closed_statement}
+use Rattle.nano_toml.proofs.StatementLemmas.{statement_prefix-closed}
 
 -- ---- the statements that were read, as tokens
 

@@ -1,11 +1,12 @@
 -- White space and comments.
-use Rattle.std.proofs.Common.{◌≡◌, ℕ, ◌<◌, List, [], ◌∷◌, length, true, false, not, eqb, eqb-true, refl, ap, sym, ◌∙◌, inl, inr, true≢false, arith, Bool, cond, ◌||◌}
+use Rattle.std.proofs.Common.{◌≡◌, ℕ, ◌<◌, List, [], ◌∷◌, length, true, false, not, eqb, eqb-true}
+use Rattle.std.proofs.Common.{refl, ap, sym, ◌∙◌, inl, inr, true≢false, arith, Bool, cond, ◌||◌}
 use Rattle.std.proofs.lemmas.Bool.Decides.{eqb_tells}
 use Rattle.nano_toml.specs.Characters.{is_space, is_line_feed}
-use Rattle.nano_toml.specs.Skipped.{begins_gap}
-use Rattle.nano_toml.specs.Span.{begins, following}
+use Rattle.nano_toml.specs.Cut.{begins_gap}
+use Rattle.nano_toml.specs.Token.{begins, following}
 use Rattle.nano_toml.specs.Scan.{after_gaps}
-use Rattle.nano_toml.proofs.Spans.{after_not_longer}
+use Rattle.nano_toml.proofs.Places.{after_not_longer}
 
 at_feed : (c : ℕ) (cs : List ℕ) → c ≡ 10 → after_gaps true (c ∷ cs) ≡ after_gaps false (following (λ d. not (is_line_feed d)) (c ∷ cs))
 at_feed c cs e = rw e refl

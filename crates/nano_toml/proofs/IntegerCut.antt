@@ -1,9 +1,11 @@
 -- Digits and integers, and how they are scanned: one is the other.
-use Rattle.std.proofs.Common.{◌≡◌, ℕ, ◌<◌, ◌≤◌, ◌^◌, List, [], ◌∷◌, ◌++◌, length, length-append, Bool, true, false, cond, ◌||◌, nat_le, nat_lt, Some, None, refl, arith, pos, neg_ℤ}
+use Rattle.std.proofs.Common.{◌≡◌, ℕ, ◌<◌, ◌≤◌, ◌^◌, List, [], ◌∷◌, ◌++◌, length, length-append}
+use Rattle.std.proofs.Common.{Bool, true, false, cond, ◌||◌, nat_le, nat_lt, Some, None, refl}
+use Rattle.std.proofs.Common.{arith, pos, neg_ℤ}
 use Rattle.std.proofs.lemmas.Bool.Decides.{nat_tests}
 use Rattle.nano_toml.specs.Characters.{is_digit}
 use Rattle.nano_toml.specs.Token.{signed}
-use Rattle.nano_toml.specs.Taken.{Next, a_token}
+use Rattle.nano_toml.specs.Reading.{Next, a_token}
 use Rattle.nano_toml.specs.Number.{digits, IsInRange, integer_token}
 use Rattle.nano_toml.specs.Scan.{any_digit, fitting, integer_from}
 

@@ -1,16 +1,16 @@
 -- One lexeme, and how it is scanned: one is the other.
-use Rattle.std.proofs.Common.{◌≡◌, ℕ, ◌≤◌, List, [], ◌∷◌, Bool, true, false, ◌==◌, Option, Some, None, option_map, refl, ap, sym, ◌∙◌, subst, inl, inr, ◌⊎◌, arith}
+use Rattle.std.proofs.Common.{◌≡◌, ℕ, ◌≤◌, List, [], ◌∷◌, Bool, true, false, ◌==◌, Option, Some}
+use Rattle.std.proofs.Common.{None, option_map, refl, ap, sym, ◌∙◌, subst, inl, inr, ◌⊎◌, arith}
 use Rattle.std.proofs.lemmas.Bool.Decides.{eqb_tells, nat_tests}
-use Rattle.nano_toml.specs.Characters.{is_space, is_quote, is_sign, starts_word, starts_number, is_in_word}
-use Rattle.nano_toml.specs.Span.{begins, prefix, following}
-use Rattle.nano_toml.specs.Token.{Token, string}
-use Rattle.nano_toml.specs.Taken.{a_token}
-use Rattle.nano_toml.specs.Word.{word_token}
+use Rattle.nano_toml.specs.Characters.{is_space, is_quote, is_sign, starts_word, starts_number}
+use Rattle.nano_toml.specs.Characters.{is_in_word}
+use Rattle.nano_toml.specs.Token.{begins, prefix, following, Token, string, word_token}
+use Rattle.nano_toml.specs.Reading.{a_token}
 use Rattle.nano_toml.specs.Quoted.{IsString, empty, short, triple}
 use Rattle.nano_toml.specs.Cut.{punctuator_token, Lexeme, a_punctuator, a_word, a_string, a_number}
 use Rattle.nano_toml.specs.Scan.{Taken, taken, Content, after_one_quote, number_at}
-use Rattle.nano_toml.proofs.Scans.{lexeme_at}
-use Rattle.nano_toml.proofs.WordCut.{word_scanned, scanned_word, at_word}
+use Rattle.nano_toml.proofs.ByteTests.{lexeme_at}
+use Rattle.nano_toml.proofs.GapCut.{word_scanned, scanned_word, at_word}
 use Rattle.nano_toml.proofs.StringCut.{string_scanned, scanned_string}
 use Rattle.nano_toml.proofs.NumberCut.{number_scanned, scanned_number, same_taken}
 

@@ -1,22 +1,22 @@
 -- Where the tokenizer stops in a text that begins with no lexeme.
-use Rattle.std.proofs.Common.{◌≡◌, ℕ, List, [], ◌∷◌, ◌++◌, Bool, true, false, Option, Some, None, refl, ap, sym, ◌∙◌, subst, append_assoc, append-nil, inl, inr, if◌then◌else◌}
+use Rattle.std.proofs.Common.{◌≡◌, ℕ, List, [], ◌∷◌, ◌++◌, Bool, true, false, Option, Some, None}
+use Rattle.std.proofs.Common.{refl, ap, sym, ◌∙◌, subst, append_assoc, append-nil, inl, inr}
+use Rattle.std.proofs.Common.{if◌then◌else◌}
 use Rattle.std.proofs.lemmas.Bool.Decides.{eqb_tells}
 use Rattle.nano_toml.specs.Characters.{is_quote, starts_word, starts_number}
-use Rattle.nano_toml.specs.Cut.{Lexeme, CutsNothing, punctuator_token}
+use Rattle.nano_toml.specs.Cut.{Lexeme, CutsNothing, punctuator_token, begins_gap, gaps_text}
 use Rattle.nano_toml.specs.FirstError.{CanBeginLexeme, IsMalformed}
-use Rattle.nano_toml.specs.Remaining.{number_remaining}
+use Rattle.nano_toml.specs.Place.{number_remaining}
 use Rattle.nano_toml.specs.Scan.{taken, Content, after_one_quote, after_gaps}
-use Rattle.nano_toml.proofs.Scans.{lexeme_at}
-use Rattle.nano_toml.specs.Skipped.{begins_gap, gaps_text}
-use Rattle.nano_toml.specs.Span.{begins}
-use Rattle.nano_toml.specs.Taken.{Next, a_token}
-use Rattle.nano_toml.specs.Token.{Token, string, comma}
+use Rattle.nano_toml.proofs.ByteTests.{lexeme_at}
+use Rattle.nano_toml.specs.Token.{begins, Token, string, comma}
+use Rattle.nano_toml.specs.Reading.{Next, a_token}
 use Rattle.nano_toml.proofs.Gaps.{after_no_gap}
-use Rattle.nano_toml.proofs.GapCut.{Skips, to_rest, to_end, skips}
-use Rattle.nano_toml.proofs.LexemeCut.{at_number, at_quote, at_other, number_lexeme, string_taken, punctuator_taken, lexeme_scanned, scanned_lexeme}
+use Rattle.nano_toml.proofs.GapCut.{Skips, to_rest, to_end, skips, at_word}
+use Rattle.nano_toml.proofs.LexemeCut.{at_number, at_quote, at_other, number_lexeme, string_taken}
+use Rattle.nano_toml.proofs.LexemeCut.{punctuator_taken, lexeme_scanned, scanned_lexeme}
 use Rattle.nano_toml.proofs.NumberHalts.{number_halts, first_unchanged}
 use Rattle.nano_toml.proofs.StringHalts.{string_completes}
-use Rattle.nano_toml.proofs.WordCut.{at_word}
 
 -- a string that is none goes up to the end of the text
 abbrev pub lexeme_remaining : List ℕ → List ℕ

@@ -1,15 +1,16 @@
 -- Where no name is cut from a text.
-use Rattle.std.proofs.Common.{◌≡◌, ℕ, List, [], ◌∷◌, ◌++◌, ◌⊎◌, inl, inr, Bool, true, false, Option, Some, None, IsSome, IfNone, Bor, String, Global, string_bytes, ap, sym, ◌∙◌, subst, true≢false}
+use Rattle.std.proofs.Common.{◌≡◌, ℕ, List, [], ◌∷◌, ◌++◌, ◌⊎◌, inl, inr, Bool, true, false, Option}
+use Rattle.std.proofs.Common.{Some, None, IsSome, IfNone, Bor, String, Global, string_bytes, ap}
+use Rattle.std.proofs.Common.{sym, ◌∙◌, subst, true≢false}
 use Rattle.nano_toml.specs.Characters.{starts_word}
-use Rattle.nano_toml.specs.Cut.{Cut, Lexeme, a_punctuator, a_word, a_string, a_number, punctuator_token}
-use Rattle.nano_toml.specs.Number.{Body, is_nan, is_infinity, is_decimal, is_date, is_integer, body_token, is_minus}
-use Rattle.nano_toml.specs.Reading.{scalar_at}
+use Rattle.nano_toml.specs.Cut.{Cut, Lexeme, a_punctuator, a_word, a_string, a_number}
+use Rattle.nano_toml.specs.Cut.{punctuator_token}
+use Rattle.nano_toml.specs.Number.{Body, is_nan, is_infinity, is_decimal, is_date, is_integer}
+use Rattle.nano_toml.specs.Number.{body_token, is_minus}
+use Rattle.nano_toml.specs.Reading.{scalar_at, Next, a_token, token_of, Took}
 use Rattle.nano_toml.specs.Scan.{Taken, after_gaps}
-use Rattle.nano_toml.proofs.Scans.{next_after_gaps}
-use Rattle.nano_toml.specs.Span.{begins}
-use Rattle.nano_toml.specs.Taken.{Next, a_token, token_of, Took}
-use Rattle.nano_toml.specs.Token.{ident, comma, open_bracket, close_bracket, equals}
-use Rattle.nano_toml.specs.Word.{IsWord}
+use Rattle.nano_toml.proofs.ByteTests.{next_after_gaps}
+use Rattle.nano_toml.specs.Token.{begins, ident, comma, open_bracket, close_bracket, equals, IsWord}
 use Rattle.nano_toml.specs.declared.token.TomlTok.{TomlTok}
 use Rattle.nano_toml.specs.declared.token.TomlTok.TheVariants as tok
 use Rattle.nano_toml.proofs.CutLaws.{at_lexeme, cut_scanned}

@@ -1,16 +1,24 @@
 -- Numbers, and how they are scanned: one is the other.
-use Rattle.std.proofs.Common.{◌≡◌, ℕ, ◌<◌, List, [], ◌∷◌, ◌++◌, length, length-append, Bool, true, false, cond, ◌==◌, ◌||◌, Option, Some, None, option_map, refl, ap, sym, ◌∙◌, subst, inl, inr, append_assoc, true≢false, arith}
+use Rattle.std.proofs.Common.{◌≡◌, ℕ, ◌<◌, List, [], ◌∷◌, ◌++◌, length, length-append, Bool, true}
+use Rattle.std.proofs.Common.{false, cond, ◌==◌, ◌||◌, Option, Some, None, option_map, refl, ap}
+use Rattle.std.proofs.Common.{sym, ◌∙◌, subst, inl, inr, append_assoc, true≢false, arith}
 use Rattle.std.proofs.lemmas.Bool.Decides.{eqb_tells}
 use Rattle.std.proofs.Math.Bool.{or-true}
-use Rattle.nano_toml.specs.Characters.{is_sign, is_digit, starts_number, is_in_digits, is_in_date, goes_on_integer, Each}
-use Rattle.nano_toml.specs.Span.{begins, prefix, following}
-use Rattle.nano_toml.specs.Token.{Token, decimal, nan, infinity, date}
-use Rattle.nano_toml.specs.Taken.{Next, a_token}
-use Rattle.nano_toml.specs.Number.{Body, is_nan, is_infinity, is_decimal, is_date, is_integer, body_text, digits, value, IsBody, goes_on, unchanged_sign, body_token, sign_text, is_minus, SignFits, IsNumber}
-use Rattle.nano_toml.specs.Scan.{Taken, taken, any_digit, fitting, integer_from, integer_at, decimal_at, date_at, after_digits, after_word, after_sign, number_at}
-use Rattle.nano_toml.proofs.Spans.{prefix_again, after_again, span_split, after_stops, prefix_passes}
-use Rattle.nano_toml.proofs.Signs.{at_digits, at_nan, at_infinity, past_sign}
-use Rattle.nano_toml.proofs.IntegerCut.{any_if_some, some_if_any, both_any, both_some, integer_in_range, integer_of}
+use Rattle.nano_toml.specs.Characters.{is_sign, is_digit, starts_number, is_in_digits, is_in_date}
+use Rattle.nano_toml.specs.Characters.{goes_on_integer, Each}
+use Rattle.nano_toml.specs.Token.{begins, prefix, following, Token, decimal, nan, infinity, date}
+use Rattle.nano_toml.specs.Reading.{Next, a_token}
+use Rattle.nano_toml.specs.Number.{Body, is_nan, is_infinity, is_decimal, is_date, is_integer}
+use Rattle.nano_toml.specs.Number.{body_text, digits, value, IsBody, goes_on, unchanged_sign}
+use Rattle.nano_toml.specs.Number.{body_token, sign_text, is_minus, SignFits, IsNumber}
+use Rattle.nano_toml.specs.Scan.{Taken, taken, any_digit, fitting, integer_from, integer_at}
+use Rattle.nano_toml.specs.Scan.{decimal_at, date_at, after_digits, after_word, after_sign}
+use Rattle.nano_toml.specs.Scan.{number_at}
+use Rattle.nano_toml.proofs.Places.{prefix_again, after_again, span_split, after_stops}
+use Rattle.nano_toml.proofs.Places.{prefix_passes}
+use Rattle.nano_toml.proofs.ByteTests.{at_digits, at_nan, at_infinity, past_sign}
+use Rattle.nano_toml.proofs.IntegerCut.{any_if_some, some_if_any, both_any, both_some}
+use Rattle.nano_toml.proofs.IntegerCut.{integer_in_range, integer_of}
 
 -- ---- a body is scanned
 

@@ -1,11 +1,17 @@
 -- A text has one first error at most.
-use Rattle.std.proofs.Common.{◌≡◌, ℕ, List, [], ◌∷◌, ◌++◌, false, sym, refl, ap, ◌∙◌, subst, append_assoc, append-nil, inl}
+use Rattle.std.proofs.Common.{◌≡◌, ℕ, List, [], ◌∷◌, ◌++◌, false, sym, refl, ap, ◌∙◌, subst}
+use Rattle.std.proofs.Common.{append_assoc, append-nil, inl}
 use Rattle.nano_toml.specs.Cut.{Cut, Lexeme, Tokens}
-use Rattle.nano_toml.specs.FirstError.{CanBeginLexeme, IsMalformed, CanBeginStatements, CanBeginStatement, IsRejected, lexeme, token, end, AreClosedStatements, IsFirstError, in_tokens, in_header, HasOneFirstError}
-use Rattle.nano_toml.specs.Prefixes.{closed, Begins, statement_prefix}
+use Rattle.nano_toml.specs.FirstError.{CanBeginLexeme, IsMalformed, CanBeginStatements}
+use Rattle.nano_toml.specs.FirstError.{CanBeginStatement, IsRejected, lexeme, token, end}
+use Rattle.nano_toml.specs.FirstError.{AreClosedStatements, IsFirstError, in_tokens, in_header}
+use Rattle.nano_toml.specs.FirstError.{HasOneFirstError}
+use Rattle.nano_toml.specs.Place.{closed, Begins, statement_prefix}
 use Rattle.nano_toml.specs.Scan.{after_gaps}
-use Rattle.nano_toml.specs.Statements.{Statement, scope, element, pair, IsClosed, IsStatement, AreStatements}
-use Rattle.nano_toml.specs.StatementTable.{IsLawful, EncodesNoTable, last_value, until_element, pairs}
+use Rattle.nano_toml.specs.Statements.{Statement, scope, element, pair, IsClosed, IsStatement}
+use Rattle.nano_toml.specs.Statements.{AreStatements}
+use Rattle.nano_toml.specs.StatementTable.{IsLawful, EncodesNoTable, last_value, until_element}
+use Rattle.nano_toml.specs.StatementTable.{pairs}
 use Rattle.nano_toml.specs.Token.{Token, open_bracket, close_bracket, ident}
 use Rattle.nano_toml.proofs.CutLaws.{cut_in_one_way}
 use Rattle.nano_toml.proofs.FirstErrors.{closed_joins, closed_splits, not_nil}

@@ -1,11 +1,14 @@
 -- The tokens of a value or of a statement have it as their prefix, and what is found as a
 -- prefix is one.
-use Rattle.std.proofs.Common.{◌≡◌, pos, List, [], ◌∷◌, ◌++◌, Some, sym, refl, ap, ◌∙◌, subst, inl, inr, append_assoc, append-nil}
+use Rattle.std.proofs.Common.{◌≡◌, pos, List, [], ◌∷◌, ◌++◌, Some, sym, refl, ap, ◌∙◌, subst, inl}
+use Rattle.std.proofs.Common.{inr, append_assoc, append-nil}
 use Rattle.nano_toml.specs.Data.{Data, Values, no_values, more_values}
 use Rattle.nano_toml.specs.Data as value
-use Rattle.nano_toml.specs.Prefixes.{Prefix, closed, is_open, nothing, push_value, close_all, array_prefix, value_prefix}
+use Rattle.nano_toml.specs.Place.{Prefix, closed, is_open, nothing, push_value, close_all}
+use Rattle.nano_toml.specs.Place.{array_prefix, value_prefix}
 use Rattle.nano_toml.specs.Statements.{scalar_of, Commas, IsClosed, AreClosed, IsOpen, AreOpen}
-use Rattle.nano_toml.specs.Token.{Token, ident, string, unsigned, signed, decimal, boolean, nan, infinity, date, equals, open_bracket, close_bracket, comma}
+use Rattle.nano_toml.specs.Token.{Token, ident, string, unsigned, signed, decimal, boolean, nan}
+use Rattle.nano_toml.specs.Token.{infinity, date, equals, open_bracket, close_bracket, comma}
 
 -- ---- lists of values
 

@@ -1,21 +1,25 @@
 -- Reading on from one token to the next.
-use Rattle.std.proofs.Common.{◌≡◌, ℕ, ◌≤◌, List, [], ◌∷◌, ◌++◌, length, Some, None, sym, refl, ap, ◌∙◌, subst, arith, append_assoc, append-nil, inl, inr}
-use Rattle.nano_toml.specs.Built.{IsPlain}
+use Rattle.std.proofs.Common.{◌≡◌, ℕ, ◌≤◌, List, [], ◌∷◌, ◌++◌, length, Some, None, sym, refl, ap}
+use Rattle.std.proofs.Common.{◌∙◌, subst, arith, append_assoc, append-nil, inl, inr}
+use Rattle.nano_toml.specs.StatementTable.{IsPlain, IsLawful, EncodesNoTable}
 use Rattle.nano_toml.specs.Cut.{Cut, CutEnd, CutsNothing, Tokens}
 use Rattle.nano_toml.specs.Data.{Data, Values}
-use Rattle.nano_toml.specs.Prefixes.{Prefix, closed, is_open, nothing, push_value, Begins, Parses, ParsesNothing, ClosesNothing, array_prefix, value_prefix, pair_of, statement_prefix, closing}
-use Rattle.nano_toml.specs.Reading.{scalar_at, IsNext, EncodesNothing}
+use Rattle.nano_toml.specs.Place.{Prefix, closed, is_open, nothing, push_value, Begins, Parses}
+use Rattle.nano_toml.specs.Place.{ParsesNothing, ClosesNothing, array_prefix, value_prefix, pair_of}
+use Rattle.nano_toml.specs.Place.{statement_prefix, closing}
+use Rattle.nano_toml.specs.Reading.{scalar_at, IsNext, EncodesNothing, Next, a_token, the_end}
+use Rattle.nano_toml.specs.Reading.{nothing_yet, token_of, Took}
 use Rattle.nano_toml.specs.Statements.{Statement, pair, Encodes, AreStatements}
-use Rattle.nano_toml.specs.StatementTable.{IsLawful, EncodesNoTable}
 use Rattle.nano_toml.specs.Stops.{Fails}
-use Rattle.nano_toml.specs.Taken.{Next, a_token, the_end, nothing_yet, token_of, Took}
 use Rattle.nano_toml.specs.Token.{Token, close_bracket}
 use Rattle.nano_toml.specs.declared.token.TomlTok.{TomlTok}
 use Rattle.nano_toml.specs.declared.token.TomlTok.TheVariants as tok
-use Rattle.nano_toml.proofs.CutLength.{Cut-shorter}
+use Rattle.nano_toml.proofs.CutLaws.{Cut-shorter, cut_in_one_way}
 use Rattle.nano_toml.proofs.PrefixLemmas.{scalar_prefix, scalar_value}
-use Rattle.nano_toml.proofs.CutLaws.{cut_in_one_way}
-use Rattle.nano_toml.proofs.StatementLemmas.{AreStatements-cons, AreStatements-open, AreStatements-closed, AreStatements-is_open, AreStatements-nothing, AreStatements-nil, one_list, prefix_plain, prefix_open_plain}
+use Rattle.nano_toml.proofs.StatementLemmas.{AreStatements-cons, AreStatements-open}
+use Rattle.nano_toml.proofs.StatementLemmas.{AreStatements-closed, AreStatements-is_open}
+use Rattle.nano_toml.proofs.StatementLemmas.{AreStatements-nothing, AreStatements-nil, one_list}
+use Rattle.nano_toml.proofs.StatementLemmas.{prefix_plain, prefix_open_plain}
 
 -- ---- tokens of a text
 

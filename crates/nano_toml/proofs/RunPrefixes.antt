@@ -1,21 +1,27 @@
 -- The first byte of what is left, and runs of it that are taken at once.
-use Rattle.std.proofs.Common.{◌≡◌, ℕ, List, [], ◌∷◌, ◌==◌, ◌||◌, Bool, true, false, cond, not, Some, None, nat_eq, drop, take, length, chars, encode_utf8_all, IsUtf8, refl, ap, sym, ◌∙◌, subst, eqb-true, true≢false}
+use Rattle.std.proofs.Common.{◌≡◌, ℕ, List, [], ◌∷◌, ◌==◌, ◌||◌, Bool, true, false, cond, not, Some}
+use Rattle.std.proofs.Common.{None, nat_eq, drop, take, length, chars, encode_utf8_all, IsUtf8}
+use Rattle.std.proofs.Common.{refl, ap, sym, ◌∙◌, subst, eqb-true, true≢false, ◌++◌, encode_utf8}
+use Rattle.std.proofs.Common.{ne_eqb, eqb, append_assoc, append-nil}
 use Rattle.std.proofs.Math.Seq.{drop-append_seam}
 use Rattle.std.proofs.StrCases.{chars_of_empty}
 use Rattle.std.proofs.lemmas.List.{take_at}
-use Rattle.std.proofs.lemmas.Str.{encodes-chars}
+use Rattle.std.proofs.lemmas.Str.{encodes-chars, scalars-chars, chars-encodes}
 use Rattle.std.specs.List.{slice_get}
 use Rattle.std.specs.Str.{IsCharBoundary}
 use Rattle.std.specs.Str.Iter.{chars_rest}
 use Rattle.std.specs.declared.str.Chars.{Chars}
+use Rattle.std.proofs.Math.Utf8.{scalars, scalar}
+use Rattle.std.proofs.lemmas.Bool.{and_parts}
 use Rattle.nano_toml.specs.Characters.{IsByteTest, is_line_feed}
-use Rattle.nano_toml.specs.RemainingText.{held, remaining_of, before_nul}
-use Rattle.nano_toml.specs.Plain.{is_in_line}
-use Rattle.nano_toml.specs.Span.{begins, prefix, following}
-use Rattle.nano_toml.proofs.RemainingText.{remaining_none}
-use Rattle.nano_toml.proofs.Spans.{span_split}
+use Rattle.nano_toml.specs.Place.{held, remaining_of, before_nul}
+use Rattle.nano_toml.specs.Scan.{is_in_line, is_plain, short_at, triple_at, some_quotes}
+use Rattle.nano_toml.specs.Scan.{is_remaining}
+use Rattle.nano_toml.specs.Token.{begins, prefix, following}
+use Rattle.nano_toml.proofs.Places.{remaining_none, span_split}
 use Rattle.nano_toml.proofs.ByteTests.{some_test}
-use Rattle.nano_toml.proofs.Utf8Prefixes.{begins_encodes, cut_after_prefix, prefix_before_nul, after_before_nul}
+use Rattle.nano_toml.proofs.Utf8Prefixes.{begins_encodes, cut_after_prefix, prefix_before_nul}
+use Rattle.nano_toml.proofs.Utf8Prefixes.{after_before_nul}
 
 -- ---- the first byte
 
@@ -122,3 +128,50 @@ to_feed (c ∷ cs) = elim (nat_eq c 0) as (λ (b : Bool). nat_eq c 0 ≡ b → f
 pub line_after : (s : Chars) → following is_in_line (remaining_of s) ≡ following (λ c. not (is_line_feed c)) (remaining_of s)
 unfolding remaining_of
 line_after s = to_feed (held s)
+
+-- ==== plain prefixes
+
+plain_no_quote : (c : ℕ) → is_plain c ≡ true → (eqb c 34 ≡ false) × (eqb c 92 ≡ false)
+plain_no_quote c h = (ne_eqb c 34 (λ e. clash 34 e refl), ne_eqb c 92 (λ e. clash 92 e refl)) where
+  clash : (n : ℕ) → c ≡ n → is_plain n ≡ false → ⊥
+  clash n e f = let x : true ≡ false = sym h ∙ (ap is_plain e ∙ f) in cc x
+
+pub short_run : (bytes text : List ℕ) → short_at bytes false text ≡ short_at (bytes ++ encode_utf8_all (prefix is_plain text)) false (following is_plain text)
+short_run bytes [] = refl
+short_run bytes (c ∷ cs) = elim (is_plain c) as (λ (b : Bool). is_plain c ≡ b → short_at bytes false (c ∷ cs) ≡ short_at (bytes ++ encode_utf8_all (cond b (c ∷ prefix is_plain cs) [])) false (cond b (following is_plain cs) (c ∷ cs))) [
+  | true ↦ λ e.
+      let n = plain_no_quote c e in
+      rw (n.0, n.1) (short_run (bytes ++ encode_utf8 c) cs ∙ ap (λ (bs : List ℕ). short_at bs false (following is_plain cs)) (append_assoc bytes (encode_utf8 c) (encode_utf8_all (prefix is_plain cs))))
+  | false ↦ λ e. ap (λ (bs : List ℕ). short_at bs false (c ∷ cs)) (sym (append-nil bytes))
+] refl
+
+pub triple_run : (bytes text : List ℕ) → triple_at bytes (some_quotes []) text ≡ triple_at (bytes ++ encode_utf8_all (prefix is_plain text)) (some_quotes []) (following is_plain text)
+triple_run bytes [] = ap (λ (bs : List ℕ). triple_at bs (some_quotes []) []) (sym (append-nil bytes))
+triple_run bytes (c ∷ cs) = elim (is_plain c) as (λ (b : Bool). is_plain c ≡ b → triple_at bytes (some_quotes []) (c ∷ cs) ≡ triple_at (bytes ++ encode_utf8_all (cond b (c ∷ prefix is_plain cs) [])) (some_quotes []) (cond b (following is_plain cs) (c ∷ cs))) [
+  | true ↦ λ e.
+      let n = plain_no_quote c e in
+      rw (n.0, n.1, append-nil bytes) (triple_run (bytes ++ encode_utf8 c) cs ∙ ap (λ (bs : List ℕ). triple_at bs (some_quotes []) (following is_plain cs)) (append_assoc bytes (encode_utf8 c) (encode_utf8_all (prefix is_plain cs))))
+  | false ↦ λ e. ap (λ (bs : List ℕ). triple_at bs (some_quotes []) (c ∷ cs)) (sym (append-nil bytes))
+] refl
+
+-- ==== remaining prefixes
+
+prefix_all : (cs : List ℕ) → prefix is_remaining (before_nul cs) ≡ before_nul cs
+prefix_all [] = refl
+prefix_all (c ∷ cs) = elim (nat_eq c 0) as (λ (b : Bool). nat_eq c 0 ≡ b → prefix is_remaining (cond b [] (c ∷ before_nul cs)) ≡ cond b [] (c ∷ before_nul cs)) [
+  | true ↦ λ e. refl
+  | false ↦ λ e. rw e (ap (λ (t : List ℕ). c ∷ t) (prefix_all cs))
+] refl
+
+scalars_remaining : (cs : List ℕ) → scalars cs ≡ true → scalars (before_nul cs) ≡ true
+scalars_remaining [] h = refl
+scalars_remaining (c ∷ cs) h = elim (nat_eq c 0) as (λ (b : Bool). scalars (cond b [] (c ∷ before_nul cs)) ≡ true) [
+  | true ↦ refl
+  | false ↦ let p = and_parts (scalar c) (scalars cs) h in rw (p.0, scalars_remaining cs p.1) refl
+]
+
+-- the characters of the live text, from its bytes
+pub remaining_chars : (s : Chars) → IsUtf8 (chars_rest s) → chars (encode_utf8_all (prefix is_remaining (remaining_of s))) ≡ remaining_of s
+unfolding remaining_of
+remaining_chars s utf8 =
+    ap (λ (cs : List ℕ). chars (encode_utf8_all cs)) (prefix_all (held s)) ∙ chars-encodes (before_nul (held s)) (scalars_remaining (held s) (scalars-chars (chars_rest s) utf8))

@@ -1,21 +1,24 @@
 -- Where a bracket or an equals sign is cut from a text, and where none is.
-use Rattle.std.proofs.Common.{◌≡◌, ℕ, List, [], ◌∷◌, ◌==◌, ◌⊎◌, inl, inr, Bool, true, false, if◌then◌else◌, eqb-true, codes, bytes_eq, Option, Some, option_map, refl, ap, sym, ◌∙◌, subst, true≢false}
+use Rattle.std.proofs.Common.{◌≡◌, ℕ, List, [], ◌∷◌, ◌==◌, ◌⊎◌, inl, inr, Bool, true, false}
+use Rattle.std.proofs.Common.{if◌then◌else◌, eqb-true, codes, bytes_eq, Option, Some, option_map}
+use Rattle.std.proofs.Common.{refl, ap, sym, ◌∙◌, subst, true≢false}
 use Rattle.nano_toml.specs.Characters.{starts_word, starts_number, is_quote}
-use Rattle.nano_toml.specs.Cut.{Cut, Lexeme, a_punctuator, a_word, a_string, a_number, punctuator_token}
-use Rattle.nano_toml.specs.Number.{Body, is_nan, is_infinity, is_decimal, is_date, is_integer, body_token, is_minus}
+use Rattle.nano_toml.specs.Cut.{Cut, Lexeme, a_punctuator, a_word, a_string, a_number}
+use Rattle.nano_toml.specs.Cut.{punctuator_token}
+use Rattle.nano_toml.specs.Number.{Body, is_nan, is_infinity, is_decimal, is_date, is_integer}
+use Rattle.nano_toml.specs.Number.{body_token, is_minus}
 use Rattle.nano_toml.specs.Scan.{tail, after_gaps}
-use Rattle.nano_toml.proofs.Scans.{next_after_gaps}
-use Rattle.nano_toml.specs.Span.{begins}
-use Rattle.nano_toml.specs.Taken.{a_token, token_of, Took}
-use Rattle.nano_toml.specs.Token.{Token, nan, infinity, boolean, ident, comma, open_bracket, close_bracket, equals}
-use Rattle.nano_toml.specs.Word.{word_token}
+use Rattle.nano_toml.proofs.ByteTests.{next_after_gaps}
+use Rattle.nano_toml.specs.Token.{begins, Token, nan, infinity, boolean, ident, comma, open_bracket}
+use Rattle.nano_toml.specs.Token.{close_bracket, equals, word_token}
+use Rattle.nano_toml.specs.Reading.{a_token, token_of, Took}
 use Rattle.nano_toml.specs.declared.token.TomlTok.{TomlTok}
 use Rattle.nano_toml.specs.declared.token.TomlTok.TheVariants as tok
 use Rattle.nano_toml.proofs.CutLaws.{at_lexeme, scanned_cut}
 use Rattle.nano_toml.proofs.GapCut.{gaps_scanned}
 use Rattle.nano_toml.proofs.LexemeCut.{lexeme_scanned, punctuator_cases}
 use Rattle.nano_toml.proofs.NameCut.{NoName, Took-no_name}
-use Rattle.nano_toml.proofs.NextSteps.{punctuator_next, punctuator_some}
+use Rattle.nano_toml.proofs.BuildLemmas.{punctuator_next, punctuator_some}
 
 -- ---- one that was taken
 

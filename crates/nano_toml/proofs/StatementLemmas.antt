@@ -1,11 +1,17 @@
 -- Tokens are the statements of one list at most.
-use Rattle.std.proofs.Common.{◌≡◌, ℕ, Some, List, [], ◌∷◌, ◌++◌, sym, refl, ap, ◌∙◌, subst, inl, inr, ◌⊎◌, append-nil}
-use Rattle.nano_toml.specs.Built.{IsPlain}
+use Rattle.std.proofs.Common.{◌≡◌, ℕ, Some, List, [], ◌∷◌, ◌++◌, sym, refl, ap, ◌∙◌, subst, inl}
+use Rattle.std.proofs.Common.{inr, ◌⊎◌, append-nil}
+use Rattle.nano_toml.specs.StatementTable.{IsPlain}
 use Rattle.nano_toml.specs.Data.{Data, Tables, tables}
-use Rattle.nano_toml.specs.Prefixes.{Prefix, closed, is_open, nothing, value_prefix, pair_of, pair_prefix, scope_prefix, element_prefix, header_prefix, statement_prefix}
-use Rattle.nano_toml.specs.Statements.{scalar_of, IsClosed, IsOpen, Statement, scope, element, pair, IsName, IsStatement, AreStatements}
-use Rattle.nano_toml.specs.Token.{Token, ident, string, unsigned, signed, decimal, boolean, nan, infinity, date, equals, open_bracket, close_bracket}
-use Rattle.nano_toml.proofs.PrefixLemmas.{value_prefix-closed, value_prefix-open, value_prefix_found, IsPrefix}
+use Rattle.nano_toml.specs.Place.{Prefix, closed, is_open, nothing, value_prefix, pair_of}
+use Rattle.nano_toml.specs.Place.{pair_prefix, scope_prefix, element_prefix, header_prefix}
+use Rattle.nano_toml.specs.Place.{statement_prefix}
+use Rattle.nano_toml.specs.Statements.{scalar_of, IsClosed, IsOpen, Statement, scope, element, pair}
+use Rattle.nano_toml.specs.Statements.{IsName, IsStatement, AreStatements}
+use Rattle.nano_toml.specs.Token.{Token, ident, string, unsigned, signed, decimal, boolean, nan}
+use Rattle.nano_toml.specs.Token.{infinity, date, equals, open_bracket, close_bracket}
+use Rattle.nano_toml.proofs.PrefixLemmas.{value_prefix-closed, value_prefix-open}
+use Rattle.nano_toml.proofs.PrefixLemmas.{value_prefix_found, IsPrefix}
 
 -- ---- tokens of statements have them as their prefix
 

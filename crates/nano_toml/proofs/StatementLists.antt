@@ -1,10 +1,14 @@
 -- Lists of statements, and their tables where one statement comes after them.
-use Rattle.std.proofs.Common.{◌≡◌, ℕ, List, [], ◌∷◌, ◌++◌, Bool, true, false, cond, Option, Some, None, bytes_eq, sym, refl, ap, ◌∙◌, subst, unwrap_or, append_assoc, append-nil}
+use Rattle.std.proofs.Common.{◌≡◌, ℕ, List, [], ◌∷◌, ◌++◌, Bool, true, false, cond, Option, Some}
+use Rattle.std.proofs.Common.{None, bytes_eq, sym, refl, ap, ◌∙◌, subst, unwrap_or, append_assoc}
+use Rattle.std.proofs.Common.{append-nil}
 use Rattle.std.proofs.lemmas.Slice.Eq.{bytes_eq-Decides}
-use Rattle.nano_toml.specs.Built.{Puts, push, pushed, NoElement, NoneNamed, IsPlain, ArePlain}
+use Rattle.nano_toml.specs.StatementTable.{Puts, push, pushed, NoElement, NoneNamed, IsPlain}
+use Rattle.nano_toml.specs.StatementTable.{ArePlain, Pair, or_else, last_value, HasLast, last_scope}
+use Rattle.nano_toml.specs.StatementTable.{scope_of, full_key, pairs, until_element, root_pairs}
+use Rattle.nano_toml.specs.StatementTable.{element_pairs, HaveLast, IsFound, IsTableOf, IsLawful}
 use Rattle.nano_toml.specs.Data.{Data, Tables, no_tables, more_tables, Table, at}
 use Rattle.nano_toml.specs.Statements.{Statement, scope, element, pair}
-use Rattle.nano_toml.specs.StatementTable.{Pair, or_else, last_value, HasLast, last_scope, scope_of, full_key, pairs, until_element, root_pairs, element_pairs, HaveLast, IsFound, IsTableOf, IsLawful}
 
 -- ---- places in a list of statements
 

@@ -1,12 +1,16 @@
 -- Where the reader stops, read on from one token to the next.
-use Rattle.std.proofs.Common.{◌≡◌, ◌≢◌, ℕ, List, [], ◌∷◌, ◌++◌, sym, refl, ap, ◌∙◌, subst, append_assoc, true}
+use Rattle.std.proofs.Common.{◌≡◌, ◌≢◌, ℕ, List, [], ◌∷◌, ◌++◌, sym, refl, ap, ◌∙◌, subst}
+use Rattle.std.proofs.Common.{append_assoc, true}
 use Rattle.nano_toml.specs.Cut.{Cut}
 use Rattle.nano_toml.specs.Data.{Values, values}
-use Rattle.nano_toml.specs.Prefixes.{Prefix, closed, nothing, push_value, ClosesNothing, ParsesNothing, array_prefix, value_prefix, pair_of, pair_prefix, element_prefix, header_prefix, statement_prefix, closing, close_prefix}
+use Rattle.nano_toml.specs.Place.{Prefix, closed, nothing, push_value, ClosesNothing, ParsesNothing}
+use Rattle.nano_toml.specs.Place.{array_prefix, value_prefix, pair_of, pair_prefix, element_prefix}
+use Rattle.nano_toml.specs.Place.{header_prefix, statement_prefix, closing, close_prefix}
 use Rattle.nano_toml.specs.Statements.{pair}
 use Rattle.nano_toml.specs.Stops.{Fails, StandsNext, Breaks, Rejects, CanFind, Stops}
-use Rattle.nano_toml.specs.Taken.{Next, a_token, the_end, nothing_yet, token_of, Took}
-use Rattle.nano_toml.specs.Token.{Token, ident, string, boolean, equals, close_bracket, open_bracket}
+use Rattle.nano_toml.specs.Reading.{Next, a_token, the_end, nothing_yet, token_of, Took}
+use Rattle.nano_toml.specs.Token.{Token, ident, string, boolean, equals, close_bracket}
+use Rattle.nano_toml.specs.Token.{open_bracket}
 use Rattle.nano_toml.specs.declared.fault.Fault.{Fault}
 use Rattle.nano_toml.specs.declared.fault.Fault.TheVariants as fault
 use Rattle.nano_toml.specs.declared.token.TomlTok.{TomlTok}

@@ -1,13 +1,19 @@
 -- Strings, and how they are scanned: one is the other.
-use Rattle.std.proofs.Common.{◌≡◌, ◌≢◌, ℕ, ◌<◌, List, [], ◌∷◌, ◌++◌, length, true, false, Some, refl, ap, sym, ◌∙◌, inl, inr, append_assoc, append-nil, ne_eqb, eqb-true, true≢false, subst, encode_utf8, encode_utf8_all, arith, lit<}
+use Rattle.std.proofs.Common.{◌≡◌, ◌≢◌, ℕ, ◌<◌, List, [], ◌∷◌, ◌++◌, length, true, false, Some}
+use Rattle.std.proofs.Common.{refl, ap, sym, ◌∙◌, inl, inr, append_assoc, append-nil, ne_eqb}
+use Rattle.std.proofs.Common.{eqb-true, true≢false, subst, encode_utf8, encode_utf8_all, arith}
+use Rattle.std.proofs.Common.{lit<}
 use Rattle.std.proofs.lemmas.Str.{encode_ascii}
 use Rattle.std.proofs.lemmas.Bool.Decides.{eqb_tells}
 use Rattle.nano_toml.specs.Characters.{is_quote, Each}
-use Rattle.nano_toml.specs.Span.{begins}
-use Rattle.nano_toml.specs.Quoted.{Piece, plain, escaped, quotes, pieces_text, pieces_chars, AreShortPieces, StopsQuotes, AreTriplePieces, IsString, empty, short, triple}
-use Rattle.nano_toml.specs.Scan.{Content, a_backslash, some_quotes, short_at, triple_at, after_one_quote, after_two_quotes}
-use Rattle.nano_toml.proofs.Spans.{prefix_again, after_again}
-use Rattle.nano_toml.proofs.Quotes.{run_gathered, run_settled, run_ended}
+use Rattle.nano_toml.specs.Token.{begins}
+use Rattle.nano_toml.specs.Quoted.{Piece, plain, escaped, quotes, pieces_text, pieces_chars}
+use Rattle.nano_toml.specs.Quoted.{AreShortPieces, StopsQuotes, AreTriplePieces, IsString, empty}
+use Rattle.nano_toml.specs.Quoted.{short, triple}
+use Rattle.nano_toml.specs.Scan.{Content, a_backslash, some_quotes, short_at, triple_at}
+use Rattle.nano_toml.specs.Scan.{after_one_quote, after_two_quotes}
+use Rattle.nano_toml.proofs.Places.{prefix_again, after_again}
+use Rattle.nano_toml.proofs.ByteTests.{run_gathered, run_settled, run_ended}
 
 -- ---- between single quotes
 

@@ -1,6 +1,8 @@
 -- A text that begins as a string and ends before it can be gone on with to a string.
-use Rattle.std.proofs.Common.{◌≡◌, ℕ, List, [], ◌∷◌, ◌++◌, Bool, true, false, ◌==◌, length, Option, Some, None, encode_utf8, refl, sym, ◌∙◌}
-use Rattle.nano_toml.specs.Scan.{Content, After, a_backslash, some_quotes, short_at, triple_at, after_one_quote, after_two_quotes}
+use Rattle.std.proofs.Common.{◌≡◌, ℕ, List, [], ◌∷◌, ◌++◌, Bool, true, false, ◌==◌, length, Option}
+use Rattle.std.proofs.Common.{Some, None, encode_utf8, refl, sym, ◌∙◌}
+use Rattle.nano_toml.specs.Scan.{Content, After, a_backslash, some_quotes, short_at, triple_at}
+use Rattle.nano_toml.specs.Scan.{after_one_quote, after_two_quotes}
 
 -- the scan goes on to a string that ends with the text
 abbrev pub Completes : (List ℕ → Option Content) → List ℕ → Type 0

@@ -1,5 +1,9 @@
 -- Tables as look-ups, and the walk over one map beside another.
-use Rattle.std.proofs.Common.{◌≡◌, ℕ, zero, suc, ◌<◌, List, [], ◌∷◌, length, get_or, Option, Some, None, option_map, IsSome, is_some, String, Vec, Global, Ordering, Less, Equal, Greater, string_bytes, nat_cmp, is_eq, cond, Bool, true, false, bytes_eq, true≢false, map, refl, sym, ap, ◌∙◌, subst, arith, rules}
+use Rattle.std.proofs.Common.{◌≡◌, ℕ, zero, suc, ◌<◌, List, [], ◌∷◌, length, get_or, Option, Some}
+use Rattle.std.proofs.Common.{None, option_map, IsSome, is_some, String, Vec, Global, Ordering}
+use Rattle.std.proofs.Common.{Less, Equal, Greater, string_bytes, nat_cmp, is_eq, cond, Bool, true}
+use Rattle.std.proofs.Common.{false, bytes_eq, true≢false, map, refl, sym, ap, ◌∙◌, subst, arith}
+use Rattle.std.proofs.Common.{rules}
 use Rattle.std.proofs.lemmas.Cmp.{nat_list_cmp_total, tied_itself}
 use Rattle.std.proofs.lemmas.Map.Text.{is_eq-slice_cmp}
 use Rattle.std.proofs.lemmas.Slice.Eq.{bytes_eq-Decides}
@@ -9,9 +13,10 @@ use Rattle.std.specs.declared.hash.FoldHasher.{FoldHasher}
 use Rattle.std.specs.declared.hash.BuildHasherDefault.{BuildHasherDefault}
 use Rattle.std.specs.Map.{lookup}
 use Rattle.std.specs.Ordering.{match_ordering, ordering_reverse}
-use Rattle.nano_toml.specs.Data.{Data, tables, values, more_tables, Table, no_pairs, more_pairs, put, at}
+use Rattle.nano_toml.specs.Data.{Data, tables, values, more_tables, Table, no_pairs, more_pairs}
+use Rattle.nano_toml.specs.Data.{put, at, view, values_view, tables_view, table_view, table_of}
+use Rattle.nano_toml.specs.Data.{tables_of}
 use Rattle.nano_toml.specs.Kinds.{table_at}
-use Rattle.nano_toml.specs.View.{view, values_view, tables_view, table_view, table_of, tables_of}
 use Rattle.nano_toml.specs.declared.value.Toml.{Toml, the_lemmas, Array, SimpleArray}
 use Rattle.nano_toml.specs.declared.value.Toml.TheShapes.{former-Toml-Array-0-at-1}
 

@@ -1,13 +1,16 @@
 -- The prefix of a text and the prefix of its bytes, for a test that can be made of bytes.
-use Rattle.std.proofs.Common.{◌≡◌, ℕ, ◌≤◌, List, [], ◌∷◌, ◌++◌, Bool, true, false, cond, ltb, chars, encode_utf8_all, IsUtf8, nat_eq, eqb-true, refl, ap, sym, ◌∙◌, arith, length}
+use Rattle.std.proofs.Common.{◌≡◌, ℕ, ◌≤◌, List, [], ◌∷◌, ◌++◌, Bool, true, false, cond, ltb, chars}
+use Rattle.std.proofs.Common.{encode_utf8_all, IsUtf8, nat_eq, eqb-true, refl, ap, sym, ◌∙◌, arith}
+use Rattle.std.proofs.Common.{length}
 use Rattle.std.proofs.Math.Utf8.{encode, scalars, scalar}
 use Rattle.std.specs.Str.{IsCharBoundary}
 use Rattle.std.proofs.lemmas.Bool.{ltb-false, ltb-true, le-ltb, and_parts}
-use Rattle.std.proofs.lemmas.Str.{encode_ascii, encodes-chars, scalars-chars, chars-encodes, IsCharBoundary-at_seam}
+use Rattle.std.proofs.lemmas.Str.{encode_ascii, encodes-chars, scalars-chars, chars-encodes}
+use Rattle.std.proofs.lemmas.Str.{IsCharBoundary-at_seam}
 use Rattle.nano_toml.specs.Characters.{Each, IsByteTest}
-use Rattle.nano_toml.specs.RemainingText.{before_nul}
-use Rattle.nano_toml.specs.Span.{begins, prefix, following}
-use Rattle.nano_toml.proofs.Spans.{span_split, prefix_stop, after_stop}
+use Rattle.nano_toml.specs.Place.{before_nul}
+use Rattle.nano_toml.specs.Token.{begins, prefix, following}
+use Rattle.nano_toml.proofs.Places.{span_split, prefix_stop, after_stop}
 
 -- characters that all pass are taken into the prefix
 prefix_passing : (test : ℕ → Bool) (xs ys : List ℕ) → Each test xs → prefix test (xs ++ ys) ≡ xs ++ prefix test ys

@@ -9,9 +9,8 @@ use Rattle.std.proofs.lemmas.Slice.Eq.{bytes_eq-Decides}
 use Rattle.std.proofs.lemmas.Bool.{and_parts, and_from}
 use Rattle.nano_toml.specs.Data.{Data, text, boolean, number, decimal, nan, infinity, date, tables}
 use Rattle.nano_toml.specs.Data.{values, Values, no_values, more_values, Tables, no_tables}
-use Rattle.nano_toml.specs.Data.{more_tables, Table, no_pairs, more_pairs}
-use Rattle.nano_toml.specs.View.{view}
-use Rattle.nano_toml.specs.SameData.{data_eq, values_eq, tables_eq, table_eq, view_eq}
+use Rattle.nano_toml.specs.Data.{more_tables, Table, no_pairs, more_pairs, view, data_eq, values_eq}
+use Rattle.nano_toml.specs.Data.{tables_eq, table_eq, view_eq}
 
 -- what passes the test is the same
 mutual

@@ -1,14 +1,12 @@
 -- The first error of a text, and its place. A text is a list of characters.
 use Rattle.std.specs.Prelude.{◌≡◌, ℕ, ◌+◌, false, List, [], ◌∷◌, ◌++◌, length, take}
-use Rattle.nano_toml.specs.Cut.{Lexeme, Cut, CutEnd, CutsNothing}
-use Rattle.nano_toml.specs.Prefixes.{Begins}
-use Rattle.nano_toml.specs.RemainingText.{before_nul}
-use Rattle.nano_toml.specs.Place.{line_of, column_of}
-use Rattle.nano_toml.specs.Skipped.{Gap, AreGaps, begins_gap, gaps_text}
-use Rattle.nano_toml.specs.Span.{begins}
+use Rattle.nano_toml.specs.Cut.{Lexeme, Cut, CutEnd, CutsNothing, Gap, AreGaps, begins_gap}
+use Rattle.nano_toml.specs.Cut.{gaps_text}
+use Rattle.nano_toml.specs.Place.{Begins, before_nul, line_of, column_of, nothing}
+use Rattle.nano_toml.specs.Token.{begins, Token}
 use Rattle.nano_toml.specs.Statements.{Statement, element, IsClosed, IsStatement, AreStatements}
 use Rattle.nano_toml.specs.StatementTable.{IsLawful}
-use Rattle.nano_toml.specs.Token.{Token}
+use Rattle.nano_toml.specs.declared.fault.Fault.TheVariants as fault
 
 -- with more characters after them, the characters are one lexeme
 abbrev pub CanBeginLexeme : List ℕ → Type 0

@@ -5,8 +5,7 @@ use Rattle.std.specs.Prelude.{false, cond, List, [], ◌∷◌, ◌++◌, length
 use Rattle.std.specs.Prelude.{None}
 use Rattle.nano_toml.specs.Characters.{is_sign, is_digit, is_in_digits, is_in_date, goes_on_integer}
 use Rattle.nano_toml.specs.Characters.{Each}
-use Rattle.nano_toml.specs.Span.{begins}
-use Rattle.nano_toml.specs.Token.{Token, unsigned, signed, decimal, nan, infinity, date}
+use Rattle.nano_toml.specs.Token.{begins, Token, unsigned, signed, decimal, nan, infinity, date}
 
 -- what comes after the sign. Digits are written with underscores in any place
 pub data Body : Type 0 where

@@ -2,7 +2,7 @@
 use Rattle.std.specs.Prelude.{◌≡◌, ◌≢◌, ℕ, ◌<◌, false, List, [], ◌∷◌, ◌++◌, length, flat_map}
 use Rattle.std.specs.List.{AllByRecursion}
 use Rattle.nano_toml.specs.Characters.{is_quote, Each}
-use Rattle.nano_toml.specs.Span.{begins}
+use Rattle.nano_toml.specs.Token.{begins}
 
 -- the pieces that stand between the quotes
 pub data Piece : Type 0 where

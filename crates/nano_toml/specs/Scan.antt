@@ -2,13 +2,13 @@
 -- functions name it; lemmas prove that it agrees with the cut.
 use Rattle.std.specs.Prelude.{ℕ, ◌+◌, ◌-◌, ◌*◌, ◌^◌, ◌==◌, ◌||◌, nat_lt, nat_le, pos, neg_ℤ, Bool}
 use Rattle.std.specs.Prelude.{true, false, List, [], ◌∷◌, ◌++◌, length, encode_utf8, Option, Some}
-use Rattle.std.specs.Prelude.{None, option_map, if◌then◌else◌, codes}
+use Rattle.std.specs.Prelude.{None, option_map, if◌then◌else◌, codes, not}
 use Rattle.nano_toml.specs.Characters.{is_space, is_line_feed, is_quote, is_digit, is_sign}
 use Rattle.nano_toml.specs.Characters.{is_in_digits, is_in_date}
-use Rattle.nano_toml.specs.Span.{prefix, following, begins}
-use Rattle.nano_toml.specs.Token.{Token, unsigned, signed, decimal, nan, infinity, date}
+use Rattle.nano_toml.specs.Token.{prefix, following, begins, Token, unsigned, signed, decimal, nan}
+use Rattle.nano_toml.specs.Token.{infinity, date}
 use Rattle.nano_toml.specs.Number.{digits, value, unchanged_sign}
-use Rattle.nano_toml.specs.Taken.{Next, a_token}
+use Rattle.nano_toml.specs.Reading.{Next, a_token}
 
 pub record Taken : Type 0 where
   pub next : Next
@@ -147,3 +147,17 @@ after_sign minus text =
 abbrev pub number_at : List ℕ → Option Taken
 number_at text =
     after_sign (begins (λ c. c == 45) text) (if begins is_sign text then tail text else text)
+
+-- ==== plain characters
+
+-- no quote, no backslash, no NUL
+abbrev pub is_plain : ℕ → Bool
+is_plain c = not ((c == 34) || ((c == 92) || (c == 0)))
+
+-- no line feed, no NUL
+abbrev pub is_in_line : ℕ → Bool
+is_in_line c = not ((c == 10) || (c == 0))
+
+-- no NUL
+abbrev pub is_remaining : ℕ → Bool
+is_remaining c = not (c == 0)

@@ -1,8 +1,8 @@
 -- Where the reader stops at an error of the text. Contracts of private functions alone name it.
 use Rattle.std.specs.Prelude.{◌≡◌, ◌≢◌, ℕ, List, [], ◌∷◌, ◌++◌, Result, IfErr}
 use Rattle.nano_toml.specs.FirstError.{IsMalformed}
-use Rattle.nano_toml.specs.Prefixes.{Prefix, closed, nothing, Begins}
-use Rattle.nano_toml.specs.Taken.{Next, a_token, the_end, nothing_yet, token_of, Took}
+use Rattle.nano_toml.specs.Place.{Prefix, closed, nothing, Begins}
+use Rattle.nano_toml.specs.Reading.{Next, a_token, the_end, nothing_yet, token_of, Took}
 use Rattle.nano_toml.specs.Token.{Token}
 use Rattle.nano_toml.specs.declared.fault.Fault.{Fault}
 use Rattle.nano_toml.specs.declared.fault.Fault.TheVariants as fault

@@ -1,14 +1,12 @@
 //! Reads values: scalars and arrays.
 
 ghost use Rattle.std.specs.Prelude.{◌≡◌, [], IfOk, IfErr, Some, None};
-ghost use Rattle.nano_toml.specs.Data.{no_values};
-ghost use Rattle.nano_toml.specs.Prefixes.{ParsesNothing, close_all, array_prefix, value_prefix};
-ghost use Rattle.nano_toml.specs.RemainingText.{remaining};
+ghost use Rattle.nano_toml.specs.Data.{no_values, view, values_view};
+ghost use Rattle.nano_toml.specs.Place.{ParsesNothing, close_all, array_prefix, value_prefix};
+ghost use Rattle.nano_toml.specs.Place.{remaining};
 ghost use Rattle.nano_toml.specs.Outcomes.{OnFault, ParsesValue};
-ghost use Rattle.nano_toml.specs.Reading.{scalar_at, arrays_view};
+ghost use Rattle.nano_toml.specs.Reading.{scalar_at, arrays_view, token_of};
 ghost use Rattle.nano_toml.specs.Stops.{StopsAt};
-ghost use Rattle.nano_toml.specs.Taken.{token_of};
-ghost use Rattle.nano_toml.specs.View.{view, values_view};
 
 use crate::fault::Fault;
 use crate::statements::Reader;

@@ -49,7 +49,7 @@ impl TomlErr {
 /// Prints the message, and the line and the column counted from 1.
 impl fmt::Display for TomlErr {
     ghost use Rattle.std.specs.Prelude.{Some, string_bytes};
-    ghost use Rattle.nano_toml.specs.ErrorText.{error_text};
+    ghost use Rattle.nano_toml.specs.Outcomes.{error_text};
 
     ghost output = { λ e. Some (error_text (string_bytes e.msg) e.line e.col) };
 
@@ -64,7 +64,7 @@ impl fmt::Display for TomlErr {
 /// Prints the same as `Display`.
 impl fmt::Debug for TomlErr {
     ghost use Rattle.std.specs.Prelude.{Some, string_bytes};
-    ghost use Rattle.nano_toml.specs.ErrorText.{error_text};
+    ghost use Rattle.nano_toml.specs.Outcomes.{error_text};
 
     ghost debug_output = { λ e. Some (error_text (string_bytes e.msg) e.line e.col) };
 

@@ -1,7 +1,7 @@
 //! Why the reader stopped.
 
 ghost use Rattle.std.specs.Prelude.{◌≡◌};
-ghost use Rattle.nano_toml.specs.ErrorText.{word_of};
+ghost use Rattle.nano_toml.specs.Outcomes.{word_of};
 ghost use Rattle.nano_toml.specs.declared.fault.Fault.TheVariants.{Memory};
 
 use crate::token::TomlTok;

@@ -4,9 +4,9 @@
 ghost use Rattle.std.specs.Prelude.{ℕ, List};
 ghost use Rattle.nano_toml.specs.Cut.{IsCutInOneWay};
 ghost use Rattle.nano_toml.specs.FirstError.{HasOneFirstError, IsFirstError};
-ghost use Rattle.nano_toml.specs.OneTable.{HasOneTable, EncodesOneTable};
-ghost use Rattle.nano_toml.specs.SameData.{EqIsReflexive, EqIsSymmetric, EqIsTransitive};
-ghost use Rattle.nano_toml.specs.StatementTable.{EncodesOneList, EncodesNoTable};
+ghost use Rattle.nano_toml.specs.StatementTable.{HasOneTable, EncodesOneTable, EncodesOneList};
+ghost use Rattle.nano_toml.specs.StatementTable.{EncodesNoTable};
+ghost use Rattle.nano_toml.specs.Data.{EqIsReflexive, EqIsSymmetric, EqIsTransitive};
 ghost use Rattle.nano_toml.specs.Statements.{Statement};
 
 /// Each value equals itself by `==`, `Nan` included.

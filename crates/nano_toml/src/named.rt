@@ -1,9 +1,8 @@
 //! The numbers that words name: `nan` and `inf`.
 
 ghost use Rattle.std.specs.Prelude.{◌≡◌, ◌≢◌, None, codes};
-ghost use Rattle.nano_toml.specs.RemainingText.{remaining};
+ghost use Rattle.nano_toml.specs.Place.{remaining, word_remaining};
 ghost use Rattle.nano_toml.specs.Outcomes.{OnFault, FaultIs, Takes, ReportsLexeme};
-ghost use Rattle.nano_toml.specs.Remaining.{word_remaining};
 ghost use Rattle.nano_toml.specs.Scan.{word_at};
 ghost use Rattle.nano_toml.specs.Token.{nan, infinity};
 

@@ -1,19 +1,16 @@
 //! Numbers and dates.
 
-ghost use Rattle.std.specs.Prelude.{◌≡◌, ◌==◌, ◌^◌, ◌++◌, pos, neg_ℤ, nat_le, true, length};
-ghost use Rattle.std.specs.Prelude.{Some, None, OnOk, OnErr, IfOk, IfErr, string_bytes};
-ghost use Rattle.std.specs.Prelude.{if◌then◌else◌};
+ghost use Rattle.std.specs.Prelude.{◌≡◌, ◌==◌, ◌^◌, ◌++◌, pos, neg_ℤ, nat_le, true, length, Some};
+ghost use Rattle.std.specs.Prelude.{None, OnOk, OnErr, IfOk, IfErr, string_bytes, if◌then◌else◌};
 ghost use Rattle.nano_toml.specs.Characters.{is_sign, is_digit, starts_number, is_in_digits};
 ghost use Rattle.nano_toml.specs.Characters.{is_in_date};
-ghost use Rattle.nano_toml.specs.RemainingText.{remaining};
+ghost use Rattle.nano_toml.specs.Place.{remaining, point_remaining, number_remaining};
 ghost use Rattle.nano_toml.specs.Number.{digits, value, unchanged_sign};
 ghost use Rattle.nano_toml.specs.Outcomes.{OnFault, FaultIs, Appends, Takes, ReportsLexeme};
-ghost use Rattle.nano_toml.specs.Remaining.{point_remaining, number_remaining};
-ghost use Rattle.nano_toml.specs.Scan.{number_from};
-ghost use Rattle.nano_toml.specs.Scan.{tail, any_digit, fitting, more_value, decimal_at, date_at};
-ghost use Rattle.nano_toml.specs.Scan.{integer_from, number_at};
-ghost use Rattle.nano_toml.specs.Span.{prefix, following, begins};
-ghost use Rattle.nano_toml.specs.Taken.{token_of};
+ghost use Rattle.nano_toml.specs.Scan.{number_from, tail, any_digit, fitting, more_value};
+ghost use Rattle.nano_toml.specs.Scan.{decimal_at, date_at, integer_from, number_at};
+ghost use Rattle.nano_toml.specs.Token.{prefix, following, begins};
+ghost use Rattle.nano_toml.specs.Reading.{token_of};
 
 use crate::fault::{Fault, Lexeme};
 use crate::state::Cursor;

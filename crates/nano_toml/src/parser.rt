@@ -1,13 +1,12 @@
 //! Reads a whole text.
 
 ghost use Rattle.std.specs.Prelude.{◌≡◌, [], true, false, IfOk, IfErr, chars, string_bytes};
-ghost use Rattle.nano_toml.specs.ErrorText.{Reports, IsMessage};
+ghost use Rattle.nano_toml.specs.Outcomes.{Reports, IsMessage, OnFault};
 ghost use Rattle.nano_toml.specs.FirstError.{IsErrorAt, IsFirstError};
-ghost use Rattle.nano_toml.specs.RemainingText.{remaining, remaining_text, taken};
-ghost use Rattle.nano_toml.specs.Outcomes.{OnFault};
-ghost use Rattle.nano_toml.specs.Place.{IsPlaceIn, line_of, column_of};
+ghost use Rattle.nano_toml.specs.Place.{remaining, remaining_text, taken, IsPlaceIn, line_of};
+ghost use Rattle.nano_toml.specs.Place.{column_of};
 ghost use Rattle.nano_toml.specs.StatementTable.{EncodesTable, EncodesNoTable};
-ghost use Rattle.nano_toml.specs.View.{table_view};
+ghost use Rattle.nano_toml.specs.Data.{table_view};
 
 use crate::error::TomlErr;
 use crate::fault::Fault;

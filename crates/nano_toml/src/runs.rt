@@ -2,9 +2,9 @@
 
 ghost use Rattle.std.specs.Prelude.{◌≡◌, ℕ, Bool, length, encode_utf8_all};
 ghost use Rattle.nano_toml.specs.Characters.{IsByteTest};
-ghost use Rattle.nano_toml.specs.RemainingText.{remaining};
-ghost use Rattle.nano_toml.specs.Plain.{is_plain, is_in_line, is_remaining};
-ghost use Rattle.nano_toml.specs.Span.{prefix, following, IsTest};
+ghost use Rattle.nano_toml.specs.Place.{remaining};
+ghost use Rattle.nano_toml.specs.Scan.{is_plain, is_in_line, is_remaining};
+ghost use Rattle.nano_toml.specs.Token.{prefix, following, IsTest};
 
 use crate::state::Cursor;
 

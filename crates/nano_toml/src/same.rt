@@ -1,7 +1,7 @@
 //! Whether two values are the same.
 
 ghost use Rattle.std.specs.Prelude.{◌≡◌, ◌↔◌, IsTrue};
-ghost use Rattle.nano_toml.specs.View.{view, values_view, tables_view, table_view};
+ghost use Rattle.nano_toml.specs.Data.{view, values_view, tables_view, table_view};
 
 use crate::value::Toml;
 use std::collections::HashMap;

@@ -1,17 +1,16 @@
 //! The place in a text, and the steps to the next character and to the next token.
 
-ghost use Rattle.std.specs.Prelude.{◌≡◌, ◌≢◌, ℕ, Bool, List, [], ◌∷◌, ◌<◌, ◌==◌, ◌-◌, ◌⊎◌};
-ghost use Rattle.std.specs.Prelude.{Some, true, false, chars, length, IfOk, IfErr, option_map, not};
+ghost use Rattle.std.specs.Prelude.{◌≡◌, ◌≢◌, ℕ, Bool, List, [], ◌∷◌, ◌<◌, ◌==◌, ◌-◌, ◌⊎◌, Some};
+ghost use Rattle.std.specs.Prelude.{true, false, chars, length, IfOk, IfErr, option_map, not};
 ghost use Rattle.std.specs.Prelude.{if◌then◌else◌};
 ghost use Rattle.nano_toml.specs.Characters.{is_space, is_line_feed, IsByteTest};
 ghost use Rattle.nano_toml.specs.Cut.{punctuator_token, Cut, CutsNothing};
-ghost use Rattle.nano_toml.specs.RemainingText.{remaining, remaining_text, taken_count};
+ghost use Rattle.nano_toml.specs.Place.{remaining, remaining_text, taken_count};
 ghost use Rattle.nano_toml.specs.Outcomes.{OnFault};
 ghost use Rattle.nano_toml.specs.Scan.{after_gaps, tail};
-ghost use Rattle.nano_toml.specs.Span.{begins, following};
+ghost use Rattle.nano_toml.specs.Token.{begins, following, Token};
 ghost use Rattle.nano_toml.specs.Stops.{Breaks};
-ghost use Rattle.nano_toml.specs.Taken.{a_token, token_of, Took};
-ghost use Rattle.nano_toml.specs.Token.{Token};
+ghost use Rattle.nano_toml.specs.Reading.{a_token, token_of, Took};
 ghost use Rattle.nano_toml.specs.declared.fault.Fault.TheVariants.{Memory};
 
 use crate::fault::{Fault, Lexeme};

@@ -1,17 +1,15 @@
 //! Reads statements, token by token.
 
-ghost use Rattle.std.specs.Prelude.{◌≡◌, ◌≢◌, ◌<◌, IfOk, IfErr, IfSome, OnOk};
-ghost use Rattle.std.specs.Prelude.{option_map, length};
-ghost use Rattle.nano_toml.specs.Built.{IsPlain};
+ghost use Rattle.std.specs.Prelude.{◌≡◌, ◌≢◌, ◌<◌, IfOk, IfErr, IfSome, OnOk, option_map, length};
+ghost use Rattle.nano_toml.specs.StatementTable.{IsPlain};
 ghost use Rattle.nano_toml.specs.Cut.{Cut, CutsNothing};
-ghost use Rattle.nano_toml.specs.Prefixes.{Parses, ParsesNothing, ClosesNothing, close_prefix};
-ghost use Rattle.nano_toml.specs.Prefixes.{pair_prefix, scope_prefix, element_prefix};
-ghost use Rattle.nano_toml.specs.Prefixes.{header_prefix, statement_prefix};
-ghost use Rattle.nano_toml.specs.RemainingText.{remaining, remaining_text};
+ghost use Rattle.nano_toml.specs.Place.{Parses, ParsesNothing, ClosesNothing, close_prefix};
+ghost use Rattle.nano_toml.specs.Place.{pair_prefix, scope_prefix, element_prefix, header_prefix};
+ghost use Rattle.nano_toml.specs.Place.{statement_prefix, remaining, remaining_text};
 ghost use Rattle.nano_toml.specs.Outcomes.{OnFault, ParsesStatement};
 ghost use Rattle.nano_toml.specs.Reading.{name_view, statement_view, IsNext, EncodesNothing};
+ghost use Rattle.nano_toml.specs.Reading.{token_of, Took};
 ghost use Rattle.nano_toml.specs.Stops.{Breaks, Rejects, StandsNext, StopsAt};
-ghost use Rattle.nano_toml.specs.Taken.{token_of, Took};
 ghost use Rattle.nano_toml.specs.Token.{close_bracket};
 ghost use Rattle.nano_toml.specs.declared.fault.Fault.TheVariants.{Memory};
 

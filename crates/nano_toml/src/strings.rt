@@ -1,14 +1,13 @@
 //! Strings.
 
 ghost use Rattle.std.specs.Prelude.{◌≡◌, ◌≢◌, ℕ, ◌<◌, ◌^◌, ◌-◌, min, ◌==◌, ◌++◌, ◌∷◌, [], length};
-ghost use Rattle.std.specs.Prelude.{true, false, None, OnOk, IfOk, string_bytes};
-ghost use Rattle.std.specs.Prelude.{encode_utf8, encode_utf8_all, if◌then◌else◌};
+ghost use Rattle.std.specs.Prelude.{true, false, None, OnOk, IfOk, string_bytes, encode_utf8};
+ghost use Rattle.std.specs.Prelude.{encode_utf8_all, if◌then◌else◌};
 ghost use Rattle.nano_toml.specs.Characters.{is_quote};
-ghost use Rattle.nano_toml.specs.RemainingText.{remaining};
+ghost use Rattle.nano_toml.specs.Place.{remaining};
 ghost use Rattle.nano_toml.specs.Outcomes.{OnFault, FaultIs, Appends, content};
-ghost use Rattle.nano_toml.specs.Plain.{is_plain};
-ghost use Rattle.nano_toml.specs.Scan.{short_at, triple_at, some_quotes, after_one_quote};
-ghost use Rattle.nano_toml.specs.Span.{begins, prefix, following};
+ghost use Rattle.nano_toml.specs.Scan.{is_plain, short_at, triple_at, some_quotes, after_one_quote};
+ghost use Rattle.nano_toml.specs.Token.{begins, prefix, following};
 
 use crate::fault::{Fault, Lexeme};
 use crate::runs::is_plain;

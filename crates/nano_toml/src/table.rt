@@ -2,14 +2,13 @@
 
 ghost use Rattle.std.specs.Prelude.{◌≡◌, ◌≢◌, ◌↔◌, ℕ, List, [], ◌∷◌, ◌++◌, IsTrue, Some, OnOk};
 ghost use Rattle.std.specs.Prelude.{IfOk, IfErr, string_bytes};
-ghost use Rattle.nano_toml.specs.Built.{IsBuilt, IsWhole, IsPlain, IsTables, CanPush, Puts, pushed};
-ghost use Rattle.nano_toml.specs.Data.{at};
-ghost use Rattle.nano_toml.specs.ErrorText.{IsOtherKind};
-ghost use Rattle.nano_toml.specs.Outcomes.{OnFault};
+ghost use Rattle.nano_toml.specs.StatementTable.{IsBuilt, IsWhole, IsPlain, IsTables, CanPush};
+ghost use Rattle.nano_toml.specs.StatementTable.{Puts, pushed, IsLawful, IsTableOf};
+ghost use Rattle.nano_toml.specs.StatementTable.{full_key as key_in};
+ghost use Rattle.nano_toml.specs.Data.{at, view, table_view};
+ghost use Rattle.nano_toml.specs.Outcomes.{IsOtherKind, OnFault};
 ghost use Rattle.nano_toml.specs.Reading.{statement_view};
-ghost use Rattle.nano_toml.specs.StatementTable.{IsLawful, IsTableOf, full_key as key_in};
 ghost use Rattle.nano_toml.specs.Statements.{Statement as Stated, element, pair};
-ghost use Rattle.nano_toml.specs.View.{view, table_view};
 ghost use Rattle.nano_toml.specs.declared.fault.Fault.TheVariants.{Memory};
 
 use crate::fault::Fault;

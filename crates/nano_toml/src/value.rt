@@ -1,10 +1,10 @@
 //! A value of a TOML text.
 
 ghost use Rattle.std.specs.Prelude.{◌≡◌, ◌↔◌, IsTrue, IsSome, IfSome, Some, IfOk, string_bytes};
-ghost use Rattle.nano_toml.specs.Built.{IsTables, pushed};
+ghost use Rattle.nano_toml.specs.StatementTable.{IsTables, pushed};
 ghost use Rattle.nano_toml.specs.Kinds.{as_text, as_boolean, as_number, as_decimal, as_date};
 ghost use Rattle.nano_toml.specs.Kinds.{as_tables, as_values, index_of};
-ghost use Rattle.nano_toml.specs.View.{view, values_view, tables_view, table_view};
+ghost use Rattle.nano_toml.specs.Data.{view, values_view, tables_view, table_view};
 
 use crate::same::same_value;
 use std::alloc::{AllocError, Global};
@@ -42,8 +42,7 @@ pub enum Toml {
 
 impl PartialEq for Toml {
     ghost use Rattle.std.specs.Prelude.{◌≡◌, ◌↔◌, IsTrue};
-    ghost use Rattle.nano_toml.specs.View.{view};
-    ghost use Rattle.nano_toml.specs.SameData.{view_eq};
+    ghost use Rattle.nano_toml.specs.Data.{view, view_eq};
     ghost use Rattle.nano_toml.specs.EqImpls.{view_eq_laws};
 
     ghost eq = { view_eq };

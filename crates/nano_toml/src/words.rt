@@ -3,12 +3,9 @@
 ghost use Rattle.std.specs.Prelude.{◌≡◌, ℕ, List, IfOk, IfSome, IfNone, IsSome};
 ghost use Rattle.nano_toml.specs.Characters.{starts_word, is_in_word};
 ghost use Rattle.nano_toml.specs.Cut.{Cut};
-ghost use Rattle.nano_toml.specs.RemainingText.{remaining};
-ghost use Rattle.nano_toml.specs.Reading.{scalar_at};
-ghost use Rattle.nano_toml.specs.Span.{prefix, following};
-ghost use Rattle.nano_toml.specs.Taken.{token_of, a_token};
-ghost use Rattle.nano_toml.specs.Token.{ident};
-ghost use Rattle.nano_toml.specs.Word.{word_token};
+ghost use Rattle.nano_toml.specs.Place.{remaining};
+ghost use Rattle.nano_toml.specs.Reading.{scalar_at, token_of, a_token};
+ghost use Rattle.nano_toml.specs.Token.{prefix, following, ident, word_token};
 
 use crate::state::Cursor;
 use crate::token::TomlTok;

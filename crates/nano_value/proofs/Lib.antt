@@ -1,4 +1,2 @@
-pub mod Results
 pub mod ByRank
-mod NumberRanks
 pub mod TextRanks

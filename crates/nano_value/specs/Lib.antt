@@ -1,19 +1,8 @@
 -- what values mean, passed on
-pub use Rattle.nano_meaning.specs.Agrees
-pub use Rattle.nano_meaning.specs.Ascending
-pub use Rattle.nano_meaning.specs.Collected
-pub use Rattle.nano_meaning.specs.Exact
-pub use Rattle.nano_meaning.specs.InOrder
-pub use Rattle.nano_meaning.specs.LastValues
-pub use Rattle.nano_meaning.specs.Legal
-pub use Rattle.nano_meaning.specs.MapOrder
 pub use Rattle.nano_meaning.specs.Meaning
-pub use Rattle.nano_meaning.specs.MeaningOrder
-pub use Rattle.nano_meaning.specs.Order
-pub use Rattle.nano_meaning.specs.OrderedMaps
-pub use Rattle.nano_meaning.specs.OrderedSets
-pub use Rattle.nano_meaning.specs.Ranks
-pub use Rattle.nano_meaning.specs.SetOrder
-pub use Rattle.nano_meaning.specs.Sets
-pub use Rattle.nano_meaning.specs.Sums
 pub use Rattle.nano_meaning.specs.Tables
+pub use Rattle.nano_meaning.specs.Collected
+pub use Rattle.nano_meaning.specs.Sets
+pub use Rattle.nano_meaning.specs.Ordered
+pub use Rattle.nano_meaning.specs.Order
+pub use Rattle.nano_meaning.specs.Sums

@@ -1,8 +1,7 @@
 //! Booleans, and the unit.
 
-ghost use Rattle.nano_value.specs.Meaning.{nothing, truth};
-ghost use Rattle.nano_value.specs.Legal.{LegalTruth, LegalUnit};
-ghost use Rattle.nano_meaning.proofs.MeaningOrderLaws.{meanings, wholes, truths_follow, units_follow};
+ghost use Rattle.nano_value.specs.Meaning.{nothing, truth, LegalTruth, LegalUnit};
+ghost use Rattle.nano_meaning.proofs.OrderLaws.{meanings, wholes, truths_follow, units_follow};
 ghost use Rattle.nano_meaning.proofs.ExactLaws.{truths_tell, units_tell};
 
 use crate::value::{Key, OrderedKey, Value};

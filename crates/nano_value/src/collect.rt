@@ -6,10 +6,10 @@ ghost use Rattle.std.proofs.Common.{ap};
 ghost use Rattle.nano_value.specs.Meaning.{listed};
 ghost use Rattle.nano_value.specs.Sets.{items_mean};
 ghost use Rattle.nano_value.specs.Tables.{map_means};
-ghost use Rattle.nano_value.specs.Collected.{HoldsSet, HoldsOrderedSet};
-ghost use Rattle.nano_value.specs.Collected.{HoldsTable, HoldsOrderedTable};
-ghost use Rattle.nano_meaning.proofs.CollectedLaws.{set_is_whole, ordered_set_is_whole};
-ghost use Rattle.nano_meaning.proofs.CollectedLaws.{table_is_whole, ordered_table_is_whole};
+ghost use Rattle.nano_value.specs.Collected.{HoldsSet, HoldsOrderedSet, HoldsTable};
+ghost use Rattle.nano_value.specs.Collected.{HoldsOrderedTable};
+ghost use Rattle.nano_meaning.proofs.LastValuesLaws.{set_is_whole, ordered_set_is_whole};
+ghost use Rattle.nano_meaning.proofs.LastValuesLaws.{table_is_whole, ordered_table_is_whole};
 
 use crate::value::{Key, Value};
 use std::alloc::{AllocError, Global};

@@ -4,8 +4,7 @@
 //! anything else.
 ghost use Rattle.std.specs.Prelude.{◌≡◌, ◌↔◌, List, map};
 ghost use Rattle.nano_value.specs.Meaning.{Meaning, pair_map};
-ghost use Rattle.nano_value.specs.Tables.{Table, table_of};
-ghost use Rattle.nano_value.specs.LastValues.{HoldsLastValues};
+ghost use Rattle.nano_value.specs.Tables.{Table, table_of, HoldsLastValues};
 
 use crate::value::Value;
 pub use nano_meaning::laws::ascending_is_in_order;

@@ -1,9 +1,8 @@
 //! Lists, slices and arrays: the meanings of the items, in order.
 
 ghost use Rattle.std.specs.Prelude.{◌≡◌, ◌<◌, length, map};
-ghost use Rattle.nano_value.specs.Meaning.{listed, usize_bound};
-ghost use Rattle.nano_value.specs.Legal.{LegalArray, LegalList};
-ghost use Rattle.nano_meaning.proofs.MeaningOrderLaws.{lists, lists_follow};
+ghost use Rattle.nano_value.specs.Meaning.{listed, usize_bound, LegalArray, LegalList};
+ghost use Rattle.nano_meaning.proofs.OrderLaws.{lists, lists_follow};
 ghost use Rattle.nano_meaning.proofs.ExactLaws.{lists_tell};
 
 use crate::value::{Key, OrderedKey, Value};

@@ -1,9 +1,8 @@
 //! Options: absent, or what the item means.
 
 ghost use Rattle.std.specs.Option.{option_map};
-ghost use Rattle.nano_value.specs.Meaning.{optional};
-ghost use Rattle.nano_value.specs.Legal.{LegalOption};
-ghost use Rattle.nano_meaning.proofs.MeaningOrderLaws.{options, options_follow};
+ghost use Rattle.nano_value.specs.Meaning.{optional, LegalOption};
+ghost use Rattle.nano_meaning.proofs.OrderLaws.{options, options_follow};
 ghost use Rattle.nano_meaning.proofs.ExactLaws.{options_tell};
 
 use crate::value::{Key, OrderedKey, Value};
@@ -13,7 +12,7 @@ impl<T: Value> Value for Option<T> {
 
     ghost legal = { LegalOption T.legal };
 
-    #[tactic(auto, using(nano_meaning::proofs::LegalLaws::some_is_legal, nano_meaning::proofs::LegalLaws::none_is_legal))]
+    #[tactic(auto, using(nano_meaning::proofs::MeaningLaws::some_is_legal, nano_meaning::proofs::MeaningLaws::none_is_legal))]
     fn known(&self) {
         if let Some(value) = self {
             value.known();

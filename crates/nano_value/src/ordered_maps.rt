@@ -1,9 +1,8 @@
 //! Ordered maps: each means the table of its entries, as a hash map of them does.
 
 ghost use Rattle.nano_value.specs.Tables.{LegalMap};
-ghost use Rattle.nano_meaning.proofs.MapOrderLaws.{maps, maps_follow};
-ghost use Rattle.nano_value.specs.OrderedMaps.{ordered_map_means};
-ghost use Rattle.nano_meaning.proofs.OrderedMapsLaws.{ordered_maps_tell};
+ghost use Rattle.nano_meaning.proofs.OrderedMapsLaws.{maps, maps_follow, ordered_maps_tell};
+ghost use Rattle.nano_value.specs.Ordered.{ordered_map_means};
 
 use crate::value::{Key, OrderedKey, Value};
 use std::collections::BTreeMap;

@@ -1,9 +1,8 @@
 //! Ordered sets: each means its items, as a hash set of them does.
 
 ghost use Rattle.nano_value.specs.Sets.{LegalSet};
-ghost use Rattle.nano_meaning.proofs.SetOrderLaws.{sets, sets_follow};
-ghost use Rattle.nano_value.specs.OrderedSets.{ordered_means};
-ghost use Rattle.nano_meaning.proofs.OrderedSetsLaws.{ordered_tell};
+ghost use Rattle.nano_meaning.proofs.OrderedSetsLaws.{sets, sets_follow, ordered_tell};
+ghost use Rattle.nano_value.specs.Ordered.{ordered_means};
 
 use crate::value::{Key, OrderedKey, Value};
 use std::collections::BTreeSet;

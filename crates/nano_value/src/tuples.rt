@@ -1,10 +1,9 @@
 //! Tuples: a pair means the meanings of its parts, and a longer tuple its first part and the tuple
 //! of the others.
 
-ghost use Rattle.nano_value.specs.Meaning.{paired, pair_map};
-ghost use Rattle.nano_value.specs.Legal.{LegalPair};
-ghost use Rattle.nano_meaning.proofs.MeaningOrderLaws.{pairs, pairs_follow, triples_follow};
-ghost use Rattle.nano_meaning.proofs.MeaningOrderLaws.{quadruples_follow};
+ghost use Rattle.nano_value.specs.Meaning.{paired, pair_map, LegalPair};
+ghost use Rattle.nano_meaning.proofs.OrderLaws.{pairs, pairs_follow, triples_follow};
+ghost use Rattle.nano_meaning.proofs.OrderLaws.{quadruples_follow};
 ghost use Rattle.nano_meaning.proofs.ExactLaws.{pairs_tell, triples_tell, quadruples_tell};
 
 use crate::value::{Key, OrderedKey, Value};
@@ -14,7 +13,7 @@ impl<A: Value, B: Value> Value for (A, B) {
 
     ghost legal = { LegalPair A.legal B.legal };
 
-    #[tactic(auto, using(nano_meaning::proofs::LegalLaws::pair_is_legal))]
+    #[tactic(auto, using(nano_meaning::proofs::MeaningLaws::pair_is_legal))]
     fn known(&self) {
         self.0.known();
         self.1.known();
@@ -32,7 +31,7 @@ impl<A: Value, B: Value, C: Value> Value for (A, B, C) {
 
     ghost legal = { LegalPair A.legal (LegalPair B.legal C.legal) };
 
-    #[tactic(auto, using(nano_meaning::proofs::LegalLaws::pair_is_legal))]
+    #[tactic(auto, using(nano_meaning::proofs::MeaningLaws::pair_is_legal))]
     fn known(&self) {
         self.0.known();
         self.1.known();
@@ -52,7 +51,7 @@ impl<A: Value, B: Value, C: Value, D: Value> Value for (A, B, C, D) {
 
     ghost legal = { LegalPair A.legal (LegalPair B.legal (LegalPair C.legal D.legal)) };
 
-    #[tactic(auto, using(nano_meaning::proofs::LegalLaws::pair_is_legal))]
+    #[tactic(auto, using(nano_meaning::proofs::MeaningLaws::pair_is_legal))]
     fn known(&self) {
         self.0.known();
         self.1.known();

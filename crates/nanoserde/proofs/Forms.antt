@@ -1,15 +1,13 @@
 -- What forms say of their values, in any format where what is written of a value decodes to
 -- it.
-use Rattle.std.proofs.Common.{◌≡◌, ◌↔◌, ℕ, List, ◌++◌, [], sym, ◌∙◌, subst, refl, append-nil, true}
-use Rattle.nano_value.specs.Meaning.{Meaning}
-use Rattle.nano_value.specs.Agrees.{Agrees}
+use Rattle.std.proofs.Common.{◌≡◌, ℕ, List, [], sym, ◌∙◌, subst, refl, append-nil, true}
+use Rattle.nano_value.specs.Meaning.{Meaning, Agrees}
 use Rattle.nano_bin.specs.Codec.{Codec as BinCodec}
 use Rattle.nano_bin_bytes.proofs.CodecLaws.{encodes_written, writes_same}
-use Rattle.nano_grammar.proofs.CutLaws.{CutLaws}
-use Rattle.nano_grammar.specs.Cutting.{Cutting}
-use Rattle.nano_grammar.specs.Codec.{Codec as TextCodec}
-use Rattle.nano_grammar.specs.Encoding.{Grammar}
-use Rattle.nano_grammar.proofs.RoundTrip.{written_decodes, one_text_decodes}
+use Rattle.nano_grammar.proofs.TokensLaws.{CutLaws}
+use Rattle.nano_grammar.specs.Tokens.{Cutting}
+use Rattle.nano_grammar.specs.Codec.{Codec as TextCodec, Grammar}
+use Rattle.nano_grammar.proofs.EncodingLaws.{written_decodes, one_text_decodes}
 use Rattle.nanoserde.specs.Promises.{OneForm, FormsTellValues, FormOfForm, ReadBack}
 use Rattle.nanoserde.specs.Normal.{NormalForm, BeginsBytes, BeginsText, text_bytes}
 

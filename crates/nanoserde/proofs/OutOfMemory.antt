@@ -1,6 +1,7 @@
 -- A converter whose writer ran out of memory: its error stands at the beginning of the text, and says
 -- nothing of it.
-use Rattle.std.proofs.Common.{◌≡◌, ℕ, List, [], Result, Ok, Err, IfOk, IfErr, OnErr, IsErrAnd, true, false, chars, refl, sym, subst, ◌∙◌, arith}
+use Rattle.std.proofs.Common.{◌≡◌, ℕ, List, [], Result, Ok, Err, IfOk, IfErr, OnErr, IsErrAnd, true}
+use Rattle.std.proofs.Common.{chars, refl, sym, subst, ◌∙◌, arith}
 use Rattle.nano_grammar.specs.Outcomes.{Report, ReadsNoText}
 
 pub no_text_of_memory : {T V : Type 0} (cut : List ℕ → T → List ℕ → Type 0) (encodes : List T → V → Type 0)

@@ -1,15 +1,15 @@
 -- The normal form of an input: what is written of the value that it begins with.
-use Rattle.std.specs.Prelude.{◌≡◌, ℕ, List, encode_utf8_all}
+use Rattle.std.specs.Prelude.{◌≡◌, ℕ, List, encode_utf8_all, true, [], string_bytes}
 use Rattle.nano_value.specs.Meaning.{Meaning}
 use Rattle.nano_text.specs.Place.{remaining_text}
 use Rattle.nano_bin.specs.Codec.{Codec as BinCodec}
 use Rattle.nano_bin_bytes.specs.Reading.{DecodesTo}
-use Rattle.nano_grammar.specs.Cutting.{Cutting}
-use Rattle.nano_grammar.specs.Codec.{Codec as TextCodec}
-use Rattle.nano_grammar.specs.Encoding.{Grammar}
-use Rattle.nano_grammar.specs.Tokens.{TextDecodesTo}
+use Rattle.nano_grammar.specs.Tokens.{Cutting, TextDecodesTo}
+use Rattle.nano_grammar.specs.Codec.{Codec as TextCodec, Grammar}
 use Rattle.nano_json.specs.Codec.{Codec as JsonCodec}
 use Rattle.nano_ron.specs.Codec.{Codec as RonCodec}
+use Rattle.nano_json_tokens.specs.declared.error.DeJsonErr.{DeJsonErr}
+use Rattle.nano_ron_tokens.specs.declared.error.DeRonErr.{DeRonErr}
 
 -- these bytes are the canonical encoding of a value that is decoded
 pub record NormalForm {A : Type 0} (means : A → Meaning) (fits : Meaning → Type 0)
@@ -63,3 +63,17 @@ JsonAsBytes means codec binary input bytes = TextAsBytes means codec binary inpu
 abbrev pub RonAsBytes : {A : Type 0} → (A → Meaning) → RonCodec A → BinCodec A → List ℕ
     → List ℕ → Type 0
 RonAsBytes means codec binary input bytes = TextAsBytes means codec binary input bytes
+
+-- ==== what is written
+
+pub record IsJsonMemory (error : DeJsonErr) : Type 0 where
+  pub memory : error.memory ≡ true
+  pub words : string_bytes error.msg ≡ []
+  pub line : error.line ≡ 0
+  pub col : error.col ≡ 0
+
+pub record IsRonMemory (error : DeRonErr) : Type 0 where
+  pub memory : error.memory ≡ true
+  pub words : string_bytes error.msg ≡ []
+  pub line : error.line ≡ 0
+  pub col : error.col ≡ 0

@@ -2,8 +2,8 @@
 
 ghost use Rattle.std.specs.Prelude.{◌≡◌, IfOk, OnErr, IsErrOf, IsErrAnd};
 ghost use Rattle.nano_bin_bytes.specs.declared.error.DeBinKind.TheVariants.{Memory};
-ghost use Rattle.nano_bin_bytes.specs.Errors.{rejection};
-ghost use Rattle.nanoserde.specs.Written.{IsJsonMemory, IsRonMemory};
+ghost use Rattle.nano_bin_bytes.specs.Reading.{rejection};
+ghost use Rattle.nanoserde.specs.Normal.{IsJsonMemory, IsRonMemory};
 
 use crate::{DeBinErr, DeJsonErr, DeJsonState, DeRonErr, DeRonState};
 use nano_bin_bytes::no_memory;

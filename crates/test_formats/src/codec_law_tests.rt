@@ -7,7 +7,7 @@ struct Characters;
 
 impl laws::AnyCodec<u32, u32> for Characters {
     ghost use Rattle.std.specs.Prelude.{◌≡◌, [], ◌∷◌};
-    ghost use Rattle.nano_json_tokens.specs.Brackets.{block_punctuation};
+    ghost use Rattle.nano_json_tokens.specs.Token.{block_punctuation};
 
     ghost cut = { λ text token rest. text ≡ token ∷ rest };
 

@@ -22,6 +22,8 @@ mod json_tests;
 #[cfg(test)]
 mod key_tests;
 #[cfg(test)]
+mod line_tests;
+#[cfg(test)]
 mod ron_tests;
 #[cfg(test)]
 mod text_tests;

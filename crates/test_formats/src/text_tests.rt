@@ -4,7 +4,7 @@
 use crate::checks::{holds, is_made, is_so};
 use nano_text::{
     Escaping, Fault, Number, Place, append_characters, append_signed, append_unsigned, bytes_left,
-    laws, plain_string, read_number, read_string, rollback_on_error,
+    is_space, laws, plain_string, read_number, read_string, rollback_on_error,
 };
 use std::alloc::{AllocError, Global};
 use std::str::Chars;
@@ -93,6 +93,31 @@ fn is_in_place(text: &str, string: Option<&str>, col: usize) -> bool {
         col: 1,
     };
     plain_string(&mut place, &mut input) == string && place.col == col
+}
+
+/// White space before a text, and the line and column of what follows it.
+const SPACES: &[(&str, usize, usize)] = &[
+    ("x", 0, 1),
+    (" x", 0, 2),
+    ("\n    x", 1, 5),
+    ("\r\n\tx", 1, 2),
+    ("\n\n  \n x", 3, 2),
+    ("\n        \t x", 1, 11),
+];
+
+/// Whether what follows the white space is `x`, at this line and column.
+fn is_passed(text: &str, line: usize, col: usize) -> bool {
+    let (mut place, mut input) = first_place(text);
+    place.skip_space(&mut input);
+    place.cur == 'x' && place.line == line && place.col == col && input.next().is_none()
+}
+
+#[test]
+fn white_space(rt: HostRuntime) {
+    for (text, line, col) in SPACES {
+        holds(&rt, is_passed(text, *line, *col), text);
+    }
+    holds(&rt, is_space('\t') && !is_space('\u{a0}'), "a tab");
 }
 
 #[test]

@@ -1,13 +1,11 @@
 -- A command by its tag and its content.
 use Rattle.test_types.specs.declared.command.Command.{Command}
 use Rattle.test_types.specs.declared.command.Command.TheVariants.{Stop, Move, Wait}
-use Rattle.nano_bin.specs.BoolCodecs.{unit_codec}
-use Rattle.nano_bin.specs.Codec.{Codec, codec_as}
-use Rattle.nano_bin.specs.NumberCodecs.{u32_codec, u64_codec}
-use Rattle.nano_bin.specs.TextCodecs.{string_codec}
-use Rattle.nano_bin.specs.TupleCodecs.{pair_codec}
+use Rattle.nano_bin.specs.ScalarCodecs.{unit_codec, u32_codec, u64_codec, string_codec}
+use Rattle.nano_bin.specs.Codec.{Codec}
+use Rattle.nano_bin.specs.BaseCodecs.{codec_as}
+use Rattle.nano_bin.specs.ContainerCodecs.{pair_codec, tagged_codec}
 use Rattle.nano_bin.specs.Variants.{Variants, no_variants, variant, body, Tagged}
-use Rattle.nano_bin.specs.VariantCodecs.{tagged_codec}
 use Rattle.std.proofs.Common.{lit≤}
 
 -- what comes after the tags 0, 1 and 2

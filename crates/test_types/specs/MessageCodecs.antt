@@ -5,9 +5,9 @@ use Rattle.std.specs.Prelude.{ℕ, ℤ, List, [], ◌∷◌, String, codes, refl
 use Rattle.std.specs.Global.{Global}
 use Rattle.std.proofs.Common.{inl, inr}
 use Rattle.nano_json.specs.Codec.{Codec, codec_as}
-use Rattle.nano_json_schema.specs.FieldCodecs.{required_field, fields_pair, ascii_names, fields_codec}
-use Rattle.nano_json_schema.specs.PartCodecs.{i32_codec, u32_codec, u64_codec, string_codec}
-use Rattle.nano_json_schema.specs.PartCodecs.{pair_codec, array_codec}
+use Rattle.nano_json_schema.specs.FieldCodecs.{required_field, fields_pair, ascii_names}
+use Rattle.nano_json_schema.specs.FieldCodecs.{fields_codec, i32_codec, u32_codec, u64_codec}
+use Rattle.nano_json_schema.specs.FieldCodecs.{string_codec, pair_codec, array_codec}
 use Rattle.nano_json_schema.specs.VariantCodecs.{JsonVariants, body}
 use Rattle.nano_json_schema.specs.Variants.{Seen, no_variants, unit_variant, variant}
 use Rattle.nano_json_schema.specs.Variants.{variants_codec}

@@ -2,9 +2,9 @@
 
 ghost use Rattle.std.specs.Prelude.{refl};
 ghost use Rattle.nano_meaning.proofs.ExactLaws.{signed_tell};
-ghost use Rattle.nano_meaning.proofs.MeaningOrderLaws.{signed_follow};
+ghost use Rattle.nano_meaning.proofs.OrderLaws.{signed_follow};
 ghost use Rattle.nano_meaning.proofs.AgreesLaws.{agreed};
-ghost use Rattle.nano_bin.specs.Codec.{codec_as};
+ghost use Rattle.nano_bin.specs.BaseCodecs.{codec_as};
 ghost use Rattle.nano_json.specs.Codec.{codec_as as json_as};
 ghost use Rattle.nano_ron.specs.Codec.{codec_as as ron_as};
 

@@ -3,7 +3,7 @@
 
 ghost use Rattle.std.specs.Prelude.{[], ◌∷◌, refl};
 ghost use Rattle.nano_meaning.proofs.AgreesLaws.{agreed};
-ghost use Rattle.nano_bin.specs.Codec.{codec_as};
+ghost use Rattle.nano_bin.specs.BaseCodecs.{codec_as};
 ghost use Rattle.nano_json.specs.Codec.{codec_as as json_as};
 ghost use Rattle.nano_ron.specs.Codec.{codec_as as ron_as};
 

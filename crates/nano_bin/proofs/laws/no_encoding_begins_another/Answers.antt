@@ -1,6 +1,6 @@
 use Rattle.std.proofs.Common.{[], ◌++◌, sym}
 use Rattle.std.proofs.lemmas.List.{append-nil}
-use Rattle.nano_bin_bytes.proofs.EncodingLaws.{same_prefixes}
+use Rattle.nano_bin_bytes.proofs.CodecLaws.{same_prefixes}
 use Rattle.nano_bin.proofs.laws.no_encoding_begins_another.Goals as goal
 
 pub returns : goal.returns

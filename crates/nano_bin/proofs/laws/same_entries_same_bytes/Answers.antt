@@ -1,4 +1,4 @@
-use Rattle.nano_bin.proofs.SameBytes.{same_entries}
+use Rattle.nano_bin.proofs.RoundTrip.{same_entries}
 use Rattle.nano_bin.proofs.laws.same_entries_same_bytes.Goals as goal
 
 pub returns : goal.returns

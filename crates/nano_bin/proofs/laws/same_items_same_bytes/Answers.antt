@@ -1,4 +1,4 @@
-use Rattle.nano_bin.proofs.SameBytes.{same_items}
+use Rattle.nano_bin.proofs.RoundTrip.{same_items}
 use Rattle.nano_bin.proofs.laws.same_items_same_bytes.Goals as goal
 
 pub returns-clause-written : goal.returns-clause-written

@@ -2,7 +2,7 @@ use Rattle.std.proofs.Common.{◌∙◌, ap, sym}
 use Rattle.nano_meaning.proofs.OrderedMapsLaws.{ordered_map_means-sorted}
 use Rattle.nano_value.specs.Tables.{table_means}
 use Rattle.nano_meaning.proofs.TablesLaws.{table_means-injective}
-use Rattle.nano_bin.proofs.SameBytes.{same_entries}
+use Rattle.nano_bin.proofs.RoundTrip.{same_entries}
 use Rattle.nano_bin.proofs.laws.same_map_same_bytes.Goals as goal
 
 pub returns-clause-written : goal.returns-clause-written

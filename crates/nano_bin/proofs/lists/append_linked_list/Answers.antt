@@ -1,5 +1,6 @@
 use Rattle.std.proofs.Common.{◌∙◌}
-use Rattle.nano_bin_bytes.proofs.Writers.{write_start, write_step, write_end, cut_back, on_err_always}
+use Rattle.nano_bin_bytes.proofs.CodecLaws.{write_start, write_step, write_end, cut_back}
+use Rattle.nano_bin_bytes.proofs.CodecLaws.{on_err_always}
 use Rattle.nano_bin.proofs.lists.append_linked_list.Goals as goal
 
 pub loop-item-init : goal.loop-item-init

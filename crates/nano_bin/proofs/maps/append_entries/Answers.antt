@@ -1,8 +1,9 @@
 use Rattle.std.proofs.Common.{◌∙◌, ◌++◌, sym, ap, append_assoc, refl}
 use Rattle.std.specs.Map.Iter.{deref_pair}
 use Rattle.std.proofs.lemmas.List.Folds.{flat_map-map}
-use Rattle.nano_bin_bytes.proofs.Writers.{write_start, write_place, write_places, cut_back, cut_back_after, on_err_always}
-use Rattle.nano_bin_bytes.specs.Tuples.{written_pair}
+use Rattle.nano_bin_bytes.proofs.CodecLaws.{write_start, write_place, write_places, cut_back}
+use Rattle.nano_bin_bytes.proofs.CodecLaws.{cut_back_after, on_err_always}
+use Rattle.nano_bin_bytes.specs.Containers.{written_pair}
 use Rattle.nano_bin.proofs.maps.append_entries.Goals as goal
 
 pub loop-key-init : goal.loop-key-init

@@ -1,8 +1,8 @@
 -- what is appended, and the entries that are left, are all
 use Rattle.std.proofs.Common.{drop}
 use Rattle.std.specs.Map.Iter.{deref_pair}
-use Rattle.nano_bin_bytes.proofs.Writers.{WritesSoFar}
-use Rattle.nano_bin_bytes.specs.Tuples.{written_pair}
+use Rattle.nano_bin_bytes.proofs.CodecLaws.{WritesSoFar}
+use Rattle.nano_bin_bytes.specs.Containers.{written_pair}
 use Rattle.nano_bin.proofs.maps.append_entries.Given as goal
 
 abbrev pub invariant-loop-key : goal.invariant-loop-key

@@ -1,6 +1,6 @@
 use Rattle.std.proofs.Common.{refl}
 use Rattle.std.proofs.lemmas.Result.{err_from_is_err_and}
-use Rattle.nano_bin_bytes.specs.Tuples.{EncodesPair}
+use Rattle.nano_bin_bytes.specs.Containers.{EncodesPair}
 use Rattle.nano_bin_bytes.proofs.TuplesLaws.{pair_encoding}
 use Rattle.nano_bin.proofs.Collecting.{collected_none, collected_put, collected_all, pair_parts}
 use Rattle.nano_bin.proofs.Collecting.{uncounted_rejected, collected_rejected, no_pair}

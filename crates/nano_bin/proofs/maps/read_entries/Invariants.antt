@@ -1,5 +1,5 @@
 -- so many entries stand between the count and the offset, and the collection holds them
-use Rattle.nano_bin_bytes.specs.Tuples.{EncodesPair}
+use Rattle.nano_bin_bytes.specs.Containers.{EncodesPair}
 use Rattle.nano_bin.proofs.Collecting.{Collected}
 use Rattle.nano_bin.proofs.maps.read_entries.Given as goal
 

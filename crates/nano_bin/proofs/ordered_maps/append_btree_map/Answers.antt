@@ -1,8 +1,9 @@
 use Rattle.std.proofs.Common.{◌∙◌, ◌++◌, ap, append_assoc}
 use Rattle.nano_meaning.proofs.AscendingLaws.{ascending-sorted}
 use Rattle.nano_meaning.proofs.OrderedMapsLaws.{sorted_entries}
-use Rattle.nano_bin_bytes.proofs.Writers.{write_start, write_step, write_end, cut_back, cut_back_after, on_err_always}
-use Rattle.nano_bin_bytes.specs.Tuples.{written_pair}
+use Rattle.nano_bin_bytes.proofs.CodecLaws.{write_start, write_step, write_end, cut_back}
+use Rattle.nano_bin_bytes.proofs.CodecLaws.{cut_back_after, on_err_always}
+use Rattle.nano_bin_bytes.specs.Containers.{written_pair}
 use Rattle.nano_bin.proofs.ordered_maps.append_btree_map.Goals as goal
 
 pub loop-key-init : goal.loop-key-init

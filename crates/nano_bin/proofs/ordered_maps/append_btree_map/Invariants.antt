@@ -1,6 +1,6 @@
 -- what is appended, and the entries that are left, are all
-use Rattle.nano_bin_bytes.proofs.Writers.{WritesSoFar}
-use Rattle.nano_bin_bytes.specs.Tuples.{written_pair}
+use Rattle.nano_bin_bytes.proofs.CodecLaws.{WritesSoFar}
+use Rattle.nano_bin_bytes.specs.Containers.{written_pair}
 use Rattle.nano_bin.proofs.ordered_maps.append_btree_map.Given as goal
 
 abbrev pub invariant-loop-key : goal.invariant-loop-key

@@ -4,7 +4,8 @@ use Rattle.nano_meaning.proofs.AscendingLaws.{ascending-sorted}
 use Rattle.nano_meaning.proofs.OrderedSetsLaws.{sorted_marked}
 use Rattle.nano_value.specs.Sets.{marked}
 use Rattle.nano_meaning.proofs.SetsLaws.{keys_of-marked}
-use Rattle.nano_bin_bytes.proofs.Writers.{write_start, write_step, write_end, cut_back, on_err_always}
+use Rattle.nano_bin_bytes.proofs.CodecLaws.{write_start, write_step, write_end, cut_back}
+use Rattle.nano_bin_bytes.proofs.CodecLaws.{on_err_always}
 use Rattle.nano_bin.proofs.sets.append_btree_set.Goals as goal
 
 pub loop-item-init : goal.loop-item-init

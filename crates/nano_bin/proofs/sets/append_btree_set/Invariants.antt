@@ -1,5 +1,5 @@
 -- what is appended, and the items that are left, are all
-use Rattle.nano_bin_bytes.proofs.Writers.{WritesSoFar}
+use Rattle.nano_bin_bytes.proofs.CodecLaws.{WritesSoFar}
 use Rattle.nano_bin.proofs.sets.append_btree_set.Given as goal
 
 abbrev pub invariant-loop-item : goal.invariant-loop-item

@@ -1,7 +1,8 @@
 use Rattle.std.proofs.Common.{◌∙◌, ◌++◌, sym, ap, refl}
 use Rattle.std.specs.Map.Iter.{deref}
 use Rattle.std.proofs.lemmas.List.Folds.{flat_map-map}
-use Rattle.nano_bin_bytes.proofs.Writers.{write_start, write_place, write_places, cut_back, on_err_always}
+use Rattle.nano_bin_bytes.proofs.CodecLaws.{write_start, write_place, write_places, cut_back}
+use Rattle.nano_bin_bytes.proofs.CodecLaws.{on_err_always}
 use Rattle.nano_bin.proofs.sets.append_hash_set.Goals as goal
 
 pub loop-item-init : goal.loop-item-init

@@ -1,7 +1,7 @@
 use Rattle.std.proofs.Common.{◌≡◌, ◌++◌, ◌∙◌, take, sym, ap}
 use Rattle.std.proofs.lemmas.List.{take-append-drop}
-use Rattle.nano_bin_bytes.proofs.Writers.{write_block}
-use Rattle.nano_bin_bytes.specs.Texts.{written_string}
+use Rattle.nano_bin_bytes.proofs.CodecLaws.{write_block}
+use Rattle.nano_bin_bytes.specs.Containers.{written_string}
 use Rattle.nano_bin.proofs.text_lists.append_blocks.Goals as goal
 
 pub loop-rest-preserved : goal.loop-rest-preserved

@@ -1,7 +1,7 @@
 -- what is appended, and the texts that are left, are all
 use Rattle.std.proofs.Common.{drop}
-use Rattle.nano_bin_bytes.proofs.Writers.{WritesSoFar}
-use Rattle.nano_bin_bytes.specs.Texts.{written_string}
+use Rattle.nano_bin_bytes.proofs.CodecLaws.{WritesSoFar}
+use Rattle.nano_bin_bytes.specs.Containers.{written_string}
 use Rattle.nano_bin.proofs.text_lists.append_each.Given as goal
 
 abbrev pub invariant-loop-text : goal.invariant-loop-text

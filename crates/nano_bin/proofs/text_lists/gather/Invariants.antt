@@ -1,7 +1,7 @@
 -- the texts so far are gathered
 use Rattle.std.proofs.Common.{◌≡◌, ◌≤◌, take}
 use Rattle.std.specs.List.{flat_map}
-use Rattle.nano_bin_bytes.specs.Texts.{written_string}
+use Rattle.nano_bin_bytes.specs.Containers.{written_string}
 use Rattle.nano_bin.proofs.text_lists.gather.Given as goal
 
 abbrev pub invariant-loop-count : goal.invariant-loop-count

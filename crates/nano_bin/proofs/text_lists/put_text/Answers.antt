@@ -1,7 +1,8 @@
-use Rattle.std.proofs.Common.{rules, ◌≡◌, ◌+◌, ◌≤◌, ◌++◌, ◌∙◌, ℕ, List, take, length, ap, arith, append_assoc}
+use Rattle.std.proofs.Common.{rules, ◌≡◌, ◌+◌, ◌≤◌, ◌++◌, ◌∙◌, ℕ, List, take, length, ap, arith}
+use Rattle.std.proofs.Common.{append_assoc}
 use Rattle.std.proofs.lemmas.Slice.{take-put_mid, overwrites}
 use borrow.Rule.Slice.PartMut.{put_mid}
-use Rattle.nano_bin_bytes.specs.LittleEndian.{little_endian}
+use Rattle.nano_bin_bytes.specs.Scalars.{little_endian}
 use Rattle.nano_bin_bytes.specs.NumberImpls.{length-little_endian}
 use Rattle.nano_bin.proofs.text_lists.put_text.Goals as goal
 

@@ -2,7 +2,7 @@ use Rattle.std.proofs.Common.{ap, sym, ◌∙◌, ◌≡◌, ◌++◌}
 use Rattle.std.specs.List.{flat_map}
 use Rattle.std.proofs.lemmas.List.{take-append-drop}
 use Rattle.std.proofs.lemmas.List.Folds.{flat_map-map}
-use Rattle.nano_bin_bytes.proofs.Writers.{write_block}
+use Rattle.nano_bin_bytes.proofs.CodecLaws.{write_block}
 use Rattle.nano_bin_bytes.proofs.numbers.append_run.Goals as goal
 
 pub loop-rest-preserved : goal.loop-rest-preserved

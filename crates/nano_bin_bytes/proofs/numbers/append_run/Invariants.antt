@@ -1,6 +1,6 @@
 -- what is appended, and the numbers that are left, are all
 use Rattle.std.proofs.Common.{length}
-use Rattle.nano_bin_bytes.proofs.Writers.{WritesSoFar}
+use Rattle.nano_bin_bytes.proofs.CodecLaws.{WritesSoFar}
 use Rattle.nano_bin_bytes.proofs.numbers.append_run.Given as goal
 
 abbrev pub invariant-loop-rest : goal.invariant-loop-rest

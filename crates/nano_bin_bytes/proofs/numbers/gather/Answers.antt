@@ -1,5 +1,5 @@
 use Rattle.std.proofs.Common.{arith}
-use Rattle.nano_bin_bytes.proofs.Writers.{gather_step}
+use Rattle.nano_bin_bytes.proofs.CodecLaws.{gather_step}
 use Rattle.nano_bin_bytes.proofs.numbers.gather.Goals as goal
 
 pub loop-place-preserved : goal.loop-place-preserved

@@ -3,7 +3,7 @@ use Rattle.std.proofs.lemmas.Grind.{common_steps}
 use Rattle.std.proofs.lemmas.Simd.{map-map}
 use Rattle.std.proofs.lemmas.Result.{err_from_is_err_and}
 use Rattle.nano_bin_bytes.specs.declared.error.DeBinKind.TheVariants.{Memory}
-use Rattle.nano_bin_bytes.specs.Errors.{rejection}
+use Rattle.nano_bin_bytes.specs.Reading.{rejection}
 use Rattle.nano_bin_bytes.proofs.Runs.{run_reads, run_rejected}
 use Rattle.nano_bin_bytes.proofs.numbers.read_run.Goals as goal
 

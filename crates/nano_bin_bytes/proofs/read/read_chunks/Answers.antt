@@ -1,4 +1,5 @@
-use Rattle.std.proofs.Common.{◌≡◌, ℕ, List, ◌<◌, ◌≤◌, ◌/◌, length, take, subst, ap, ◌∙◌, refl, arith, rules}
+use Rattle.std.proofs.Common.{◌≡◌, ℕ, List, ◌<◌, ◌≤◌, ◌/◌, length, take, subst, ap, ◌∙◌, refl}
+use Rattle.std.proofs.Common.{arith, rules}
 use Rattle.std.proofs.lemmas.Grind.{common_steps}
 use Rattle.std.specs.Simd.{first_chunks}
 use Rattle.nano_bin_bytes.proofs.Runs.{chunks_read, chunks_rejected, take-first_chunks}

@@ -2,11 +2,10 @@ use Rattle.std.proofs.Common.{◌≡◌, ◌+◌, ◌≤◌, refl, Err, drop, sy
 use Rattle.std.proofs.lemmas.Result.{err_from_is_err_and}
 use Rattle.nano_value.specs.Sums.{tagged, count_variants}
 use Rattle.nano_bin_bytes.specs.Reading.{Decodes}
-use Rattle.nano_bin_bytes.specs.Variants.{legal_bodies}
-use Rattle.nano_bin_bytes.specs.Variants.{EncodesEnum}
+use Rattle.nano_bin_bytes.specs.Variants.{legal_bodies, EncodesEnum}
 use Rattle.nano_bin.proofs.Readers.{unsigned_reads, unsigned_rejected}
 use Rattle.nano_bin.proofs.Variants.{variant_reads, content_rejected, tag_rejected}
-use Rattle.nano_bin_schema.proofs.Tags.{one_tag, unknown_content}
+use Rattle.nano_bin_schema.proofs.ChoiceReaders.{one_tag, unknown_content}
 use Rattle.nano_bin_schema.proofs.choice.read_choice_bin.Goals as goal
 
 pub returns-in_err-tag-clause-err : goal.returns-in_err-tag-clause-err

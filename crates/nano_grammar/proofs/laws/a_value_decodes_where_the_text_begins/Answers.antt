@@ -1,4 +1,4 @@
-use Rattle.nano_grammar.proofs.TokenLaws.{decodes_where_text_begins}
+use Rattle.nano_grammar.proofs.TokensLaws.{decodes_where_text_begins}
 use Rattle.nano_grammar.proofs.laws.a_value_decodes_where_the_text_begins.Goals as goal
 
 pub returns : goal.returns

@@ -1,4 +1,4 @@
-use Rattle.nano_grammar.proofs.TokenLaws.{spans_once}
+use Rattle.nano_grammar.proofs.TokensLaws.{spans_once}
 use Rattle.nano_grammar.proofs.laws.a_value_spans_to_one_place.Goals as goal
 
 pub returns : goal.returns

@@ -1,4 +1,4 @@
-use Rattle.nano_grammar.proofs.JoinedLists.{lists_are_joined}
+use Rattle.nano_grammar.proofs.LayoutsLaws.{lists_are_joined}
 use Rattle.nano_grammar.proofs.laws.encoded_lists_are_joined.Goals as goal
 
 pub returns : goal.returns

@@ -1,4 +1,4 @@
-use Rattle.nano_grammar.proofs.RoundTrip.{one_decodes}
+use Rattle.nano_grammar.proofs.EncodingLaws.{one_decodes}
 use Rattle.nano_json.proofs.Json.{json_laws}
 use Rattle.nano_json.proofs.laws.at_most_one_decodes.Goals as goal
 

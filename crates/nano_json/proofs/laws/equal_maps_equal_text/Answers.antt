@@ -2,7 +2,7 @@ use Rattle.std.proofs.Common.{◌∙◌, ap, sym}
 use Rattle.nano_meaning.proofs.OrderedMapsLaws.{ordered_map_means-sorted}
 use Rattle.nano_value.specs.Tables.{table_of, table_means}
 use Rattle.nano_meaning.proofs.TablesLaws.{table_means-injective}
-use Rattle.nano_json.specs.MapCodecs.{map_codec}
+use Rattle.nano_json.specs.ContainerCodecs.{map_codec}
 use Rattle.nano_json.proofs.laws.equal_maps_equal_text.Goals as goal
 
 pub returns-clause-written : goal.returns-clause-written

@@ -1,6 +1,6 @@
 use Rattle.std.proofs.Common.{◌∙◌, ap, sym}
 use Rattle.nano_value.specs.Sets.{item_set, set_means}
-use Rattle.nano_json.specs.SetCodecs.{set_codec}
+use Rattle.nano_json.specs.ContainerCodecs.{set_codec}
 use Rattle.nano_json.proofs.laws.equal_sets_equal_text.Goals as goal
 
 pub returns-clause-written : goal.returns-clause-written

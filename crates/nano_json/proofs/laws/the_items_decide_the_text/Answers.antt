@@ -1,6 +1,6 @@
 use Rattle.std.proofs.Common.{◌∙◌, ap, sym}
 use Rattle.nano_value.specs.Sets.{item_set, set_means}
-use Rattle.nano_json.specs.SetCodecs.{set_codec}
+use Rattle.nano_json.specs.ContainerCodecs.{set_codec}
 use Rattle.nano_json.proofs.laws.the_items_decide_the_text.Goals as goal
 
 pub returns : goal.returns

@@ -1,9 +1,8 @@
 use Rattle.std.proofs.Common.{◌≡◌, rules, false, string_bytes, encode_utf8, refl}
 use Rattle.std.proofs.lemmas.Result.{on_ok_weaker}
-use Rattle.nano_grammar.specs.Layouts.{no_gaps}
-use Rattle.nano_grammar.proofs.WrittenLists.{list_begun, list_ended}
-use Rattle.nano_grammar.proofs.WrittenItems.{write_step, pushed}
-use Rattle.nano_json_tokens.specs.Brackets.{block_punctuation}
+use Rattle.nano_grammar.specs.Items.{no_gaps}
+use Rattle.nano_grammar.proofs.WrittenLists.{list_begun, list_ended, write_step, pushed}
+use Rattle.nano_json_tokens.specs.Token.{block_punctuation}
 use Rattle.nano_json.proofs.lists.append_linked_list.Goals as goal
 
 pub loop-item-init : goal.loop-item-init

@@ -1,8 +1,8 @@
 -- what is written and what is left of the list make all of it
 use Rattle.std.proofs.Common.{false, string_bytes}
-use Rattle.nano_json_tokens.specs.Brackets.{block_punctuation}
-use Rattle.nano_grammar.specs.Layouts.{no_gaps}
-use Rattle.nano_grammar.proofs.WrittenItems.{WritesSoFar}
+use Rattle.nano_json_tokens.specs.Token.{block_punctuation}
+use Rattle.nano_grammar.specs.Items.{no_gaps}
+use Rattle.nano_grammar.proofs.WrittenLists.{WritesSoFar}
 use Rattle.nano_json.proofs.lists.append_linked_list.Given as goal
 
 abbrev pub invariant-loop-item : goal.invariant-loop-item

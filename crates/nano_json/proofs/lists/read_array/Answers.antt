@@ -1,4 +1,4 @@
-use Rattle.nano_grammar.proofs.Outcomes.{passed_on}
+use Rattle.nano_grammar.proofs.TokenCalls.{passed_on}
 use Rattle.nano_json.proofs.lists.read_array.Goals as goal
 
 pub returns-in_err-items : goal.returns-in_err-items

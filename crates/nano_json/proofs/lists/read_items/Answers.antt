@@ -1,11 +1,13 @@
-use Rattle.std.proofs.Common.{◌≡◌, ◌<◌, List, [], ◌∷◌, ◌++◌, map, length, refl, sym, ◌∙◌, ap, subst, arith}
+use Rattle.std.proofs.Common.{◌≡◌, ◌<◌, List, [], ◌∷◌, ◌++◌, map, length, refl, sym, ◌∙◌, ap, subst}
+use Rattle.std.proofs.Common.{arith}
 use Rattle.std.proofs.lemmas.Grind.{common_steps}
 use Rattle.std.proofs.lemmas.List.{map-append, length-map, length-append}
 use Rattle.nano_value.specs.Meaning.{Meaning, listed}
-use Rattle.nano_grammar.proofs.CollectingCalls.{filled_none, filled_next, filled_no_more, array_read}
-use Rattle.nano_grammar.proofs.CollectingCalls.{array_opening_not, array_item_not, array_comma_not, array_closing_not}
-use Rattle.nano_grammar.proofs.Outcomes.{passed_on}
-use Rattle.nano_json_tokens.specs.Brackets.{blocks}
+use Rattle.nano_grammar.proofs.CollectingCalls.{filled_none, filled_next, filled_no_more}
+use Rattle.nano_grammar.proofs.CollectingCalls.{array_read, array_opening_not, array_item_not}
+use Rattle.nano_grammar.proofs.CollectingCalls.{array_comma_not, array_closing_not}
+use Rattle.nano_grammar.proofs.TokenCalls.{passed_on}
+use Rattle.nano_json_tokens.specs.Token.{blocks}
 use Rattle.nano_json_tokens.proofs.JsonLaws.{block_brackets}
 use Rattle.nano_json.proofs.Json.{json_laws}
 use Rattle.nano_json.proofs.lists.read_items.Invariants.{mean}

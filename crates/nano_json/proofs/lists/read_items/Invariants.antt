@@ -1,7 +1,7 @@
 use Rattle.std.specs.Prelude.{◌≡◌, List, map, length}
 use Rattle.nano_value.specs.Meaning.{Meaning}
 use Rattle.nano_grammar.proofs.CollectingCalls.{Filled}
-use Rattle.nano_json_tokens.specs.Brackets.{blocks}
+use Rattle.nano_json_tokens.specs.Token.{blocks}
 use Rattle.nano_json_tokens.proofs.JsonLaws.{block_brackets}
 use Rattle.nano_json_tokens.specs.Outcomes.{position}
 use Rattle.nano_json.proofs.Json.{json_laws}

@@ -1,6 +1,6 @@
 use Rattle.nano_grammar.proofs.CollectingCalls.{Filled}
-use Rattle.nano_grammar.proofs.TokensLeft.{tokens_left}
-use Rattle.nano_json_tokens.specs.Brackets.{blocks}
+use Rattle.nano_grammar.proofs.TokensLaws.{tokens_left}
+use Rattle.nano_json_tokens.specs.Token.{blocks}
 use Rattle.nano_json_tokens.proofs.JsonLaws.{block_brackets}
 use Rattle.nano_json_tokens.specs.Outcomes.{position}
 use Rattle.nano_json_tokens.specs.Scan.{is_end}

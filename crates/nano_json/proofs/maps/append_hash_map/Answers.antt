@@ -1,12 +1,13 @@
-use Rattle.std.proofs.Common.{false, drop, arith, ap, ◌∙◌, ◌++◌, string_bytes, encode_utf8, encode_utf8_all, refl}
+use Rattle.std.proofs.Common.{false, drop, arith, ap, ◌∙◌, ◌++◌, string_bytes, encode_utf8}
+use Rattle.std.proofs.Common.{encode_utf8_all, refl}
 use Rattle.std.proofs.lemmas.List.{drop_all}
 use Rattle.std.proofs.lemmas.Result.{on_ok_weaker}
 use Rattle.std.specs.Map.Iter.{deref_pair}
-use Rattle.nano_grammar.specs.Layouts.{no_gaps}
-use Rattle.nano_grammar.proofs.WrittenLists.{list_begun, list_ended}
-use Rattle.nano_grammar.proofs.WrittenItems.{write_next, mapped_laid_out, pushed}
-use Rattle.nano_json_tokens.specs.Brackets.{curly_punctuation}
-use Rattle.nano_json.specs.Maps.{written_entry}
+use Rattle.nano_grammar.specs.Items.{no_gaps}
+use Rattle.nano_grammar.proofs.WrittenLists.{list_begun, list_ended, write_next, mapped_laid_out}
+use Rattle.nano_grammar.proofs.WrittenLists.{pushed}
+use Rattle.nano_json_tokens.specs.Token.{curly_punctuation}
+use Rattle.nano_json.specs.Lists.{written_entry}
 use Rattle.nano_json.proofs.maps.append_hash_map.Goals as goal
 
 pub loop-key-init : goal.loop-key-init

@@ -1,10 +1,10 @@
 -- what is written and what is left of the entries make all of them
 use Rattle.std.proofs.Common.{false, drop, string_bytes}
 use Rattle.std.specs.Map.Iter.{deref_pair}
-use Rattle.nano_json_tokens.specs.Brackets.{curly_punctuation}
-use Rattle.nano_json.specs.Maps.{written_entry}
-use Rattle.nano_grammar.specs.Layouts.{no_gaps}
-use Rattle.nano_grammar.proofs.WrittenItems.{WritesSoFar}
+use Rattle.nano_json_tokens.specs.Token.{curly_punctuation}
+use Rattle.nano_json.specs.Lists.{written_entry}
+use Rattle.nano_grammar.specs.Items.{no_gaps}
+use Rattle.nano_grammar.proofs.WrittenLists.{WritesSoFar}
 use Rattle.nano_json.proofs.maps.append_hash_map.Given as goal
 
 abbrev pub invariant-loop-key : goal.invariant-loop-key

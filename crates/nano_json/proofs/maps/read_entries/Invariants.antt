@@ -1,11 +1,11 @@
 use Rattle.nano_grammar.proofs.CollectingCalls.{Filled}
-use Rattle.nano_grammar.proofs.TokensLeft.{tokens_left}
-use Rattle.nano_json_tokens.specs.Brackets.{curlies}
+use Rattle.nano_grammar.proofs.TokensLaws.{tokens_left}
+use Rattle.nano_json_tokens.specs.Token.{curlies}
 use Rattle.nano_json_tokens.proofs.JsonLaws.{curly_brackets}
 use Rattle.nano_json_tokens.specs.Outcomes.{position}
 use Rattle.nano_json_tokens.specs.Scan.{is_end}
 use Rattle.nano_json_tokens.specs.State.{at}
-use Rattle.nano_json.specs.Maps.{EncodesEntry}
+use Rattle.nano_json.specs.Lists.{EncodesEntry}
 use Rattle.nano_json.proofs.Json.{json_laws}
 use Rattle.nano_json.proofs.maps.read_entries.Given as goal
 

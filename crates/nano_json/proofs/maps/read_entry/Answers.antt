@@ -1,4 +1,4 @@
-use Rattle.nano_grammar.proofs.Outcomes.{passed_on}
+use Rattle.nano_grammar.proofs.TokenCalls.{passed_on}
 use Rattle.nano_grammar.proofs.ReadingCalls.{entry_read, key_not, colon_not, value_not}
 use Rattle.nano_json_tokens.specs.Token.{colon}
 use Rattle.nano_json.proofs.Json.{json_laws}

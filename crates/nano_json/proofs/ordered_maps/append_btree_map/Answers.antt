@@ -1,10 +1,9 @@
 use Rattle.std.proofs.Common.{false, string_bytes, encode_utf8, refl}
 use Rattle.std.proofs.lemmas.Result.{on_ok_weaker}
-use Rattle.nano_grammar.specs.Layouts.{no_gaps}
-use Rattle.nano_grammar.proofs.WrittenLists.{list_begun, list_ended}
-use Rattle.nano_grammar.proofs.WrittenItems.{write_step, pushed}
-use Rattle.nano_json_tokens.specs.Brackets.{curly_punctuation}
-use Rattle.nano_json.specs.Maps.{written_entry}
+use Rattle.nano_grammar.specs.Items.{no_gaps}
+use Rattle.nano_grammar.proofs.WrittenLists.{list_begun, list_ended, write_step, pushed}
+use Rattle.nano_json_tokens.specs.Token.{curly_punctuation}
+use Rattle.nano_json.specs.Lists.{written_entry}
 use Rattle.nano_json.proofs.ordered_maps.append_btree_map.Goals as goal
 
 pub loop-key-init : goal.loop-key-init

@@ -3,14 +3,14 @@ use Rattle.std.specs.Int.{w64}
 use Rattle.std.proofs.lemmas.Int.{to_z-of_z}
 use Rattle.nano_value.specs.Meaning.{number}
 use Rattle.nano_grammar.specs.Outcomes.{Read}
-use Rattle.nano_grammar.proofs.Integers.{inside, range_fits, fits_range}
-use Rattle.nano_grammar.proofs.Outcomes.{passed_on}
+use Rattle.nano_grammar.proofs.ScalarsLaws.{inside, range_fits, fits_range}
+use Rattle.nano_grammar.proofs.TokenCalls.{passed_on}
 use Rattle.nano_grammar.proofs.ReadingCalls.{one_read, one_not, one_stopped}
 use Rattle.nano_json_tokens.specs.Cut.{Cut}
 use Rattle.nano_json_tokens.proofs.JsonLaws.{json}
 use Rattle.nano_json_tokens.specs.Outcomes.{position}
 use Rattle.nano_json_tokens.proofs.ScalarsLaws.{signed_tokens}
-use Rattle.nano_json.specs.NumberCodecs.{signed}
+use Rattle.nano_json.specs.ScalarCodecs.{signed}
 use Rattle.nano_json.proofs.signed.read_signed.Goals as goal
 
 pub narrow-requires : goal.narrow-requires

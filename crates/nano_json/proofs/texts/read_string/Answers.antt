@@ -2,11 +2,10 @@ use Rattle.std.proofs.Common.{rules, ◌≡◌, sym, subst, ◌<◌, length, str
 use Rattle.std.proofs.lemmas.Str.{IsUtf8-string_bytes}
 use Rattle.std.specs.declared.str.Chars.{Chars}
 use Rattle.nano_text.specs.Place.{remaining, Advances, Moves}
-use Rattle.nano_value.specs.Legal.{IsText}
-use Rattle.nano_value.specs.Meaning.{text, usize_bound}
+use Rattle.nano_value.specs.Meaning.{IsText, text, usize_bound}
 use Rattle.nano_grammar.specs.Outcomes.{Position, Report, Fails, TookNext}
 use Rattle.nano_grammar.specs.Tokens.{DecodesToNothing}
-use Rattle.nano_grammar.proofs.Outcomes.{passed_on}
+use Rattle.nano_grammar.proofs.TokenCalls.{passed_on}
 use Rattle.nano_grammar.proofs.ReadingCalls.{one_read, one_not, one_stopped}
 use Rattle.nano_json_tokens.specs.Cut.{Cut}
 use Rattle.nano_json_tokens.proofs.JsonLaws.{json}
@@ -15,7 +14,7 @@ use Rattle.nano_json_tokens.specs.Outcomes.{NothingCut, position, report}
 use Rattle.nano_json_tokens.specs.State.{place_of}
 use Rattle.nano_json_tokens.specs.Token.{Token, IsStr}
 use Rattle.nano_json_tokens.specs.declared.state.DeJsonState.{DeJsonState}
-use Rattle.nano_json.specs.TextCodecs.{texts}
+use Rattle.nano_json.specs.ScalarCodecs.{texts}
 use Rattle.nano_json.proofs.texts.read_string.Goals as goal
 
 -- the next token is taken as it was before the text was taken out of its buffer

@@ -1,6 +1,6 @@
-use Rattle.nano_grammar.proofs.Outcomes.{passed_on}
+use Rattle.nano_grammar.proofs.TokenCalls.{passed_on}
 use Rattle.nano_grammar.proofs.TupleCalls.{last_read, last_not, last_comma_not, close_not}
-use Rattle.nano_json_tokens.specs.Brackets.{blocks}
+use Rattle.nano_json_tokens.specs.Token.{blocks}
 use Rattle.nano_json_tokens.proofs.JsonLaws.{block_brackets}
 use Rattle.nano_json.proofs.Json.{json_laws}
 use Rattle.nano_json.proofs.tuples.read_last.Goals as goal

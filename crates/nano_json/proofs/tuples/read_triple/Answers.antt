@@ -1,9 +1,9 @@
 use Rattle.std.proofs.lemmas.Result.{MatchResult-weaker}
-use Rattle.nano_grammar.proofs.Outcomes.{passed_on}
+use Rattle.nano_grammar.proofs.TokenCalls.{passed_on}
 use Rattle.nano_grammar.proofs.TupleCalls.{tuple_read, open_not, parts_not}
-use Rattle.nano_json_tokens.specs.Brackets.{blocks}
+use Rattle.nano_json_tokens.specs.Token.{blocks}
 use Rattle.nano_json_tokens.proofs.JsonLaws.{block_brackets}
-use Rattle.nano_json.specs.TupleCodecs.{three_parts}
+use Rattle.nano_json.specs.ContainerCodecs.{three_parts}
 use Rattle.nano_json.proofs.Json.{json_laws}
 use Rattle.nano_json.proofs.tuples.read_triple.Goals as goal
 

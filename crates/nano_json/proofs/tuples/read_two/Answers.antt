@@ -1,8 +1,8 @@
-use Rattle.nano_grammar.proofs.Outcomes.{passed_on}
+use Rattle.nano_grammar.proofs.TokenCalls.{passed_on}
 use Rattle.nano_grammar.proofs.TupleCalls.{parts_read, first_not, comma_not, others_not}
-use Rattle.nano_json_tokens.specs.Brackets.{blocks}
+use Rattle.nano_json_tokens.specs.Token.{blocks}
 use Rattle.nano_json_tokens.proofs.JsonLaws.{block_brackets}
-use Rattle.nano_json.specs.TupleCodecs.{last_codec}
+use Rattle.nano_json.specs.ContainerCodecs.{last_codec}
 use Rattle.nano_json.proofs.Json.{json_laws}
 use Rattle.nano_json.proofs.tuples.read_two.Goals as goal
 

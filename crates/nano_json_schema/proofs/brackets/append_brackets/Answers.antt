@@ -1,7 +1,6 @@
 use Rattle.std.proofs.Common.{[], ◌∷◌, ◌++◌, string_bytes, encode_utf8}
 use Rattle.std.proofs.lemmas.Result.{on_ok_weaker}
-use Rattle.nano_grammar.proofs.WrittenItems.{pushed}
-use Rattle.nano_grammar.proofs.WrittenLists.{after_punctuator, both_written, one_written}
+use Rattle.nano_grammar.proofs.WrittenLists.{pushed, after_punctuator, both_written, one_written}
 use Rattle.nano_json_schema.proofs.brackets.append_brackets.Goals as goal
 
 pub returns-clause-ok : goal.returns-clause-ok

@@ -1,6 +1,6 @@
 use Rattle.std.proofs.Common.{sym}
-use Rattle.nano_grammar.proofs.Outcomes.{passed_on}
-use Rattle.nano_json_schema.proofs.ChoiceCalls.{name_not, enum_read, enum_not}
+use Rattle.nano_grammar.proofs.TokenCalls.{passed_on}
+use Rattle.nano_json_schema.proofs.Calls.{name_not, enum_read, enum_not}
 use Rattle.nano_json_schema.proofs.choice.read_choice_json.Goals as goal
 
 pub returns-in_err-name-clause-reads : goal.returns-in_err-name-clause-reads

@@ -1,4 +1,4 @@
-use Rattle.nano_grammar.proofs.LastFields.{last_field}
+use Rattle.nano_grammar.proofs.StructLaws.{last_field}
 use Rattle.nano_json_tokens.specs.Token.{Token}
 use Rattle.nano_json_schema.proofs.laws.the_last_field_counts.Goals as goal
 

@@ -1,5 +1,5 @@
 use Rattle.std.proofs.Common.{inl, sym, ◌∙◌}
-use Rattle.nano_grammar.proofs.Outcomes.{passed_on}
+use Rattle.nano_grammar.proofs.TokenCalls.{passed_on}
 use Rattle.nano_json_tokens.specs.Token.{comma}
 use Rattle.nano_json_schema.proofs.Calls.{still_there}
 use Rattle.nano_json_schema.proofs.FieldNames.{name_reached, none_reached, went_on, not_on}

@@ -1,5 +1,5 @@
 use Rattle.std.proofs.Common.{sym, ◌∙◌}
-use Rattle.nano_grammar.proofs.Outcomes.{passed_on}
+use Rattle.nano_grammar.proofs.TokenCalls.{passed_on}
 use Rattle.nano_json_tokens.specs.Token.{curly_open}
 use Rattle.nano_json_schema.proofs.FieldNames.{name_reached, none_reached, opened, not_opened}
 use Rattle.nano_json_schema.proofs.names.open_fields.Goals as goal

@@ -1,6 +1,6 @@
 use Rattle.std.proofs.Common.{string_bytes}
 use Rattle.std.proofs.lemmas.Result.{MatchResult-weaker}
-use Rattle.nano_grammar.proofs.Outcomes.{passed_on, fails_as}
+use Rattle.nano_grammar.proofs.TokenCalls.{passed_on, fails_as}
 use Rattle.nano_json_schema.proofs.FieldNames.{pending_taken, pending_not}
 use Rattle.nano_json_schema.proofs.names.take_name.Goals as goal
 

@@ -1,6 +1,6 @@
 use Rattle.std.proofs.lemmas.Result.{MatchResult-weaker}
-use Rattle.nano_grammar.proofs.Outcomes.{passed_on}
-use Rattle.nano_json_schema.specs.NameReading.{name_bytes}
+use Rattle.nano_grammar.proofs.TokenCalls.{passed_on}
+use Rattle.nano_json_schema.specs.Reading.{name_bytes}
 use Rattle.nano_json_schema.proofs.FieldsCalls.{field_taken, value_not, colon_not}
 use Rattle.nano_json_schema.proofs.read.read_any.Goals as goal
 

@@ -1,5 +1,5 @@
 use Rattle.std.proofs.lemmas.Result.{MatchResult-weaker}
-use Rattle.nano_grammar.proofs.Outcomes.{passed_on}
+use Rattle.nano_grammar.proofs.TokenCalls.{passed_on}
 use Rattle.nano_json_schema.proofs.FieldsCalls.{none_so_far, more_so_far, turn_shorter, fields_held}
 use Rattle.nano_json_schema.proofs.FieldsCalls.{opening_not, field_not, comma_not, closing_not}
 use Rattle.nano_json_schema.proofs.read.read_list.Goals as goal

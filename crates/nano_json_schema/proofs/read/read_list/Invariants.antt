@@ -1,4 +1,4 @@
-use Rattle.nano_grammar.proofs.TokensLeft.{tokens_left}
+use Rattle.nano_grammar.proofs.TokensLaws.{tokens_left}
 use Rattle.nano_json_tokens.specs.Outcomes.{position}
 use Rattle.nano_json_tokens.specs.State.{at}
 use Rattle.nano_json.proofs.Json.{json_laws}

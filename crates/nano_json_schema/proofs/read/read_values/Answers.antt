@@ -1,5 +1,5 @@
 use Rattle.std.proofs.lemmas.Result.{MatchResult-weaker}
-use Rattle.nano_grammar.proofs.StructCalls.{values_read, values_not}
+use Rattle.nano_grammar.proofs.UserCalls.{values_read, values_not}
 use Rattle.nano_json_schema.specs.FieldCodecs.{json_fields}
 use Rattle.nano_json_schema.proofs.read.read_values.Goals as goal
 

@@ -1,6 +1,7 @@
 use Rattle.std.proofs.Common.{string_bytes}
-use Rattle.nano_grammar.proofs.Outcomes.{passed_on}
-use Rattle.nano_json_schema.proofs.FieldNames.{colon_in_place, no_colon_in_place, colon_taken, no_colon_taken}
+use Rattle.nano_grammar.proofs.TokenCalls.{passed_on}
+use Rattle.nano_json_schema.proofs.FieldNames.{colon_in_place, no_colon_in_place, colon_taken}
+use Rattle.nano_json_schema.proofs.FieldNames.{no_colon_taken}
 use Rattle.nano_json_schema.proofs.read.take_colon.Goals as goal
 
 pub returns-in_ok-colon-in-Some : goal.returns-in_ok-colon-in-Some

@@ -1,5 +1,5 @@
 use Rattle.std.proofs.Common.{[]}
-use Rattle.nano_grammar.proofs.Outcomes.{passed_on}
+use Rattle.nano_grammar.proofs.TokenCalls.{passed_on}
 use Rattle.nano_json_schema.proofs.Calls.{text_taken, text_not, no_text}
 use Rattle.nano_json_schema.proofs.variants.read_alone.Goals as goal
 

@@ -1,5 +1,5 @@
-use Rattle.nano_grammar.proofs.Outcomes.{passed_on}
-use Rattle.nano_grammar.proofs.StructCalls.{content_read, content_not, closing_not}
+use Rattle.nano_grammar.proofs.TokenCalls.{passed_on}
+use Rattle.nano_grammar.proofs.UserCalls.{content_read, content_not, closing_not}
 use Rattle.nano_json.proofs.Json.{json_laws}
 use Rattle.nano_json_schema.specs.VariantCodecs.{json_variants}
 use Rattle.nano_json_schema.proofs.variants.read_content.Goals as goal

@@ -1,5 +1,5 @@
 use Rattle.std.proofs.Common.{[], ◌∷◌, ap, not, sym, ◌∙◌, subst}
-use Rattle.nano_grammar.proofs.Outcomes.{passed_on, fails_here}
+use Rattle.nano_grammar.proofs.TokenCalls.{passed_on, fails_here}
 use Rattle.nano_json_tokens.specs.Token.{colon, IsStr}
 use Rattle.nano_json_schema.proofs.Calls.{key_taken, key_not, no_text}
 use Rattle.nano_json_schema.proofs.variants.read_key.Goals as goal

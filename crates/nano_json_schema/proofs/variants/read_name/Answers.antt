@@ -1,6 +1,6 @@
 use Rattle.std.proofs.Common.{ap, sym, string_bytes, rules}
 use Rattle.std.proofs.lemmas.Result.{MatchResult-weaker}
-use Rattle.nano_grammar.proofs.Outcomes.{fails_as, fails_here}
+use Rattle.nano_grammar.proofs.TokenCalls.{fails_as, fails_here}
 use Rattle.nano_json_tokens.specs.State.{at, token_of}
 use Rattle.nano_json_schema.proofs.VariantReaders.{no_bracket, no_string}
 use Rattle.nano_json_schema.proofs.variants.read_name.Goals as goal

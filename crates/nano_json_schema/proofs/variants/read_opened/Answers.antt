@@ -1,6 +1,6 @@
 use Rattle.std.proofs.Common.{[], ◌∷◌, string_bytes}
-use Rattle.nano_grammar.proofs.Outcomes.{passed_on, fails_as, fails_after}
-use Rattle.nano_grammar.proofs.TokenCalls.{taken_both, left, first_of_all_not}
+use Rattle.nano_grammar.proofs.TokenCalls.{passed_on, fails_as, fails_after, taken_both, left}
+use Rattle.nano_grammar.proofs.TokenCalls.{first_of_all_not}
 use Rattle.nano_json_tokens.specs.Cut.{Cut}
 use Rattle.nano_json_tokens.specs.State.{at}
 use Rattle.nano_json_tokens.specs.Token.{str, colon, curly_open}

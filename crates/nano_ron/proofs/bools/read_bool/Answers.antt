@@ -1,5 +1,5 @@
 use Rattle.nano_value.specs.Meaning.{truth}
-use Rattle.nano_grammar.proofs.Outcomes.{passed_on}
+use Rattle.nano_grammar.proofs.TokenCalls.{passed_on}
 use Rattle.nano_grammar.proofs.ReadingCalls.{one_read, one_not, one_stopped}
 use Rattle.nano_ron_tokens.proofs.RonLaws.{ron}
 use Rattle.nano_ron_tokens.proofs.ScalarsLaws.{truth_tokens}

@@ -2,12 +2,11 @@ use Rattle.std.proofs.Common.{◌≡◌, List, [], ◌∷◌, refl, ◌∙◌, s
 use Rattle.std.proofs.lemmas.Result.{MatchResult-weaker}
 use Rattle.nano_text.proofs.PlaceLaws.{moves_append}
 use Rattle.nano_grammar.specs.Tokens.{At, Leaves}
-use Rattle.nano_grammar.proofs.Outcomes.{passed_on, fails_as, fails_after}
-use Rattle.nano_grammar.proofs.Tokens.{same_at, leaves_append}
-use Rattle.nano_ron_tokens.specs.Brackets.{parens}
+use Rattle.nano_grammar.proofs.TokenCalls.{passed_on, fails_as, fails_after}
+use Rattle.nano_grammar.proofs.TokensLaws.{same_at, leaves_append}
+use Rattle.nano_ron_tokens.specs.Token.{parens, Token}
 use Rattle.nano_ron_tokens.specs.Cut.{Cut}
 use Rattle.nano_ron_tokens.specs.State.{at}
-use Rattle.nano_ron_tokens.specs.Token.{Token}
 use Rattle.nano_ron_tokens.proofs.Cuts.{cut_one_way}
 use Rattle.nano_ron.proofs.bools.read_unit.Goals as goal
 

@@ -1,4 +1,4 @@
-use Rattle.nano_grammar.proofs.Outcomes.{passed_on, fails_for_memory}
+use Rattle.nano_grammar.proofs.TokenCalls.{passed_on, fails_for_memory}
 use Rattle.nano_ron.proofs.boxes.read_box.Goals as goal
 
 pub returns-in_err-value : goal.returns-in_err-value

@@ -1,4 +1,4 @@
-use Rattle.nano_grammar.proofs.RoundTrip.{one_decodes}
+use Rattle.nano_grammar.proofs.EncodingLaws.{one_decodes}
 use Rattle.nano_ron.proofs.Ron.{ron_laws}
 use Rattle.nano_ron.proofs.laws.at_most_one_decodes.Goals as goal
 

@@ -1,7 +1,7 @@
 use Rattle.std.proofs.Common.{◌∙◌}
 use Rattle.std.proofs.lemmas.Bool.{true_from_ne_false}
 use Rattle.std.proofs.lemmas.Result.{MatchResult-weaker}
-use Rattle.nano_grammar.proofs.RoundTrip.{written_decodes, one_text_decodes}
+use Rattle.nano_grammar.proofs.EncodingLaws.{written_decodes, one_text_decodes}
 use Rattle.nano_ron.proofs.Ron.{ron_laws, legal_there}
 use Rattle.nano_ron.proofs.laws.read_back.Goals as goal
 

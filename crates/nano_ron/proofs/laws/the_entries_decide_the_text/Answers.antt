@@ -1,6 +1,6 @@
 use Rattle.std.proofs.Common.{◌∙◌, ap, sym}
 use Rattle.nano_value.specs.Tables.{table_of, table_means}
-use Rattle.nano_ron.specs.MapCodecs.{map_codec}
+use Rattle.nano_ron.specs.ContainerCodecs.{map_codec}
 use Rattle.nano_ron.proofs.laws.the_entries_decide_the_text.Goals as goal
 
 pub returns : goal.returns

@@ -2,10 +2,9 @@ use Rattle.std.proofs.Common.{true, drop, arith, string_bytes, encode_utf8, refl
 use Rattle.std.proofs.lemmas.Result.{on_ok_weaker}
 use Rattle.std.proofs.lemmas.List.{drop_all}
 use Rattle.nano_text.specs.Place.{saturating_next}
-use Rattle.nano_grammar.proofs.WrittenItems.{write_start, write_end, pushed}
-use Rattle.nano_ron_tokens.specs.Brackets.{block_punctuation}
-use Rattle.nano_ron_tokens.specs.Styles.{lines}
-use Rattle.nano_grammar.proofs.WrittenLists.{write_next_line}
+use Rattle.nano_grammar.proofs.WrittenLists.{write_start, write_end, pushed, write_next_line}
+use Rattle.nano_ron_tokens.specs.Token.{block_punctuation}
+use Rattle.nano_ron_tokens.specs.Written.{lines}
 use Rattle.nano_ron.proofs.Canonical.{block_opened, closed_written}
 use Rattle.nano_ron.proofs.lists.append_vec.Goals as goal
 

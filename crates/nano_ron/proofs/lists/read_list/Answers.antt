@@ -1,8 +1,9 @@
 use Rattle.std.proofs.Common.{sym, rules}
-use Rattle.nano_grammar.proofs.CollectingCalls.{turn_shorter, filled_none, filled_next, filled_no_more, all_read}
-use Rattle.nano_grammar.proofs.CollectingCalls.{opening_not, item_not, comma_not, closing_not}
-use Rattle.nano_grammar.proofs.Outcomes.{passed_on}
-use Rattle.nano_ron_tokens.specs.Brackets.{blocks}
+use Rattle.nano_grammar.proofs.CollectingCalls.{turn_shorter, filled_none, filled_next}
+use Rattle.nano_grammar.proofs.CollectingCalls.{filled_no_more, all_read, opening_not, item_not}
+use Rattle.nano_grammar.proofs.CollectingCalls.{comma_not, closing_not}
+use Rattle.nano_grammar.proofs.TokenCalls.{passed_on}
+use Rattle.nano_ron_tokens.specs.Token.{blocks}
 use Rattle.nano_ron_tokens.proofs.RonLaws.{block_brackets}
 use Rattle.nano_ron_tokens.specs.State.{pending}
 use Rattle.nano_ron.proofs.Ron.{ron_laws, few_left, close_is, not_close}

@@ -1,9 +1,9 @@
 use Rattle.nano_grammar.proofs.CollectingCalls.{Filled}
-use Rattle.nano_grammar.proofs.TokensLeft.{tokens_left}
-use Rattle.nano_ron_tokens.specs.Brackets.{blocks}
+use Rattle.nano_grammar.proofs.TokensLaws.{tokens_left}
+use Rattle.nano_ron_tokens.specs.Token.{blocks}
 use Rattle.nano_ron_tokens.proofs.RonLaws.{block_brackets}
 use Rattle.nano_ron_tokens.specs.Outcomes.{position}
-use Rattle.nano_ron_tokens.proofs.PunctuationLaws.{is_end}
+use Rattle.nano_ron_tokens.proofs.WrittenTextLaws.{is_end}
 use Rattle.nano_ron_tokens.specs.State.{at}
 use Rattle.nano_ron.proofs.Ron.{ron_laws}
 use Rattle.nano_ron.proofs.lists.read_list.Given as goal

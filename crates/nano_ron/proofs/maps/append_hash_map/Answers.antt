@@ -1,13 +1,14 @@
-use Rattle.std.proofs.Common.{true, drop, arith, ap, ◌∙◌, ◌++◌, string_bytes, encode_utf8, encode_utf8_all, refl}
+use Rattle.std.proofs.Common.{true, drop, arith, ap, ◌∙◌, ◌++◌, string_bytes, encode_utf8}
+use Rattle.std.proofs.Common.{encode_utf8_all, refl}
 use Rattle.std.proofs.lemmas.List.{drop_all}
 use Rattle.std.proofs.lemmas.Result.{on_ok_weaker}
 use Rattle.std.specs.Map.Iter.{deref_pair}
 use Rattle.nano_text.specs.Place.{saturating_next}
-use Rattle.nano_grammar.proofs.WrittenItems.{write_start, write_end, mapped_laid_out, pushed}
-use Rattle.nano_ron_tokens.specs.Brackets.{curly_punctuation}
-use Rattle.nano_ron_tokens.specs.Styles.{lines}
-use Rattle.nano_ron.specs.Maps.{written_entry}
+use Rattle.nano_grammar.proofs.WrittenLists.{write_start, write_end, mapped_laid_out, pushed}
 use Rattle.nano_grammar.proofs.WrittenLists.{write_next_line}
+use Rattle.nano_ron_tokens.specs.Token.{curly_punctuation}
+use Rattle.nano_ron_tokens.specs.Written.{lines}
+use Rattle.nano_ron.specs.Lists.{written_entry}
 use Rattle.nano_ron.proofs.Canonical.{curly_opened, closed_written}
 use Rattle.nano_ron.proofs.maps.append_hash_map.Goals as goal
 

@@ -2,10 +2,10 @@
 use Rattle.std.proofs.Common.{true, drop, string_bytes}
 use Rattle.std.specs.Map.Iter.{deref_pair}
 use Rattle.nano_text.specs.Place.{saturating_next}
-use Rattle.nano_grammar.proofs.WrittenItems.{WritesSoFar}
-use Rattle.nano_ron_tokens.specs.Brackets.{curly_punctuation}
-use Rattle.nano_ron_tokens.specs.Styles.{lines}
-use Rattle.nano_ron.specs.Maps.{written_entry}
+use Rattle.nano_grammar.proofs.WrittenLists.{WritesSoFar}
+use Rattle.nano_ron_tokens.specs.Token.{curly_punctuation}
+use Rattle.nano_ron_tokens.specs.Written.{lines}
+use Rattle.nano_ron.specs.Lists.{written_entry}
 use Rattle.nano_ron.proofs.maps.append_hash_map.Given as goal
 
 abbrev pub invariant-loop-key : goal.invariant-loop-key

@@ -1,11 +1,11 @@
 use Rattle.nano_grammar.proofs.CollectingCalls.{Filled}
-use Rattle.nano_grammar.proofs.TokensLeft.{tokens_left}
-use Rattle.nano_ron_tokens.specs.Brackets.{curlies}
+use Rattle.nano_grammar.proofs.TokensLaws.{tokens_left}
+use Rattle.nano_ron_tokens.specs.Token.{curlies}
 use Rattle.nano_ron_tokens.proofs.RonLaws.{curly_brackets}
 use Rattle.nano_ron_tokens.specs.Outcomes.{position}
-use Rattle.nano_ron_tokens.proofs.PunctuationLaws.{is_end}
+use Rattle.nano_ron_tokens.proofs.WrittenTextLaws.{is_end}
 use Rattle.nano_ron_tokens.specs.State.{at}
-use Rattle.nano_ron.specs.Maps.{EncodesEntry}
+use Rattle.nano_ron.specs.Lists.{EncodesEntry}
 use Rattle.nano_ron.proofs.Ron.{ron_laws}
 use Rattle.nano_ron.proofs.maps.read_entries.Given as goal
 

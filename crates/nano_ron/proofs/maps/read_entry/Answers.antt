@@ -1,4 +1,4 @@
-use Rattle.nano_grammar.proofs.Outcomes.{passed_on}
+use Rattle.nano_grammar.proofs.TokenCalls.{passed_on}
 use Rattle.nano_grammar.proofs.ReadingCalls.{entry_read, key_not, colon_not, value_not}
 use Rattle.nano_ron_tokens.specs.Token.{colon}
 use Rattle.nano_ron.proofs.Ron.{ron_laws}

@@ -1,11 +1,10 @@
 use Rattle.std.proofs.Common.{true, string_bytes, encode_utf8}
 use Rattle.std.proofs.lemmas.Result.{on_ok_weaker}
 use Rattle.nano_text.specs.Place.{saturating_next}
-use Rattle.nano_grammar.proofs.WrittenItems.{write_start, write_end, pushed}
-use Rattle.nano_ron_tokens.specs.Brackets.{curly_punctuation}
-use Rattle.nano_ron_tokens.specs.Styles.{lines}
-use Rattle.nano_ron.specs.Maps.{written_entry}
-use Rattle.nano_grammar.proofs.WrittenLists.{write_line}
+use Rattle.nano_grammar.proofs.WrittenLists.{write_start, write_end, pushed, write_line}
+use Rattle.nano_ron_tokens.specs.Token.{curly_punctuation}
+use Rattle.nano_ron_tokens.specs.Written.{lines}
+use Rattle.nano_ron.specs.Lists.{written_entry}
 use Rattle.nano_ron.proofs.Canonical.{curly_opened, closed_written}
 use Rattle.nano_ron.proofs.ordered_maps.append_btree_map.Goals as goal
 

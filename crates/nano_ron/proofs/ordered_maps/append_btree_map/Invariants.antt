@@ -1,10 +1,10 @@
 -- what is written and what is left of the entries make all of them
 use Rattle.std.proofs.Common.{true, string_bytes}
 use Rattle.nano_text.specs.Place.{saturating_next}
-use Rattle.nano_grammar.proofs.WrittenItems.{WritesSoFar}
-use Rattle.nano_ron_tokens.specs.Brackets.{curly_punctuation}
-use Rattle.nano_ron_tokens.specs.Styles.{lines}
-use Rattle.nano_ron.specs.Maps.{written_entry}
+use Rattle.nano_grammar.proofs.WrittenLists.{WritesSoFar}
+use Rattle.nano_ron_tokens.specs.Token.{curly_punctuation}
+use Rattle.nano_ron_tokens.specs.Written.{lines}
+use Rattle.nano_ron.specs.Lists.{written_entry}
 use Rattle.nano_ron.proofs.ordered_maps.append_btree_map.Given as goal
 
 abbrev pub invariant-loop-key : goal.invariant-loop-key

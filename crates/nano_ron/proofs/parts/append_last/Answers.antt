@@ -1,7 +1,6 @@
 use Rattle.std.proofs.Common.{[], ◌∷◌, string_bytes, encode_utf8}
 use Rattle.std.proofs.lemmas.Result.{on_ok_weaker}
-use Rattle.nano_grammar.proofs.WrittenItems.{pushed}
-use Rattle.nano_grammar.proofs.WrittenLists.{both_written, one_written}
+use Rattle.nano_grammar.proofs.WrittenLists.{pushed, both_written, one_written}
 use Rattle.nano_ron.proofs.parts.append_last.Goals as goal
 
 pub returns-clause-ok : goal.returns-clause-ok

@@ -1,6 +1,6 @@
 use Rattle.std.proofs.Common.{string_bytes, codes}
 use Rattle.std.proofs.lemmas.Result.{on_ok_weaker}
-use Rattle.nano_grammar.proofs.WrittenItems.{pushed}
+use Rattle.nano_grammar.proofs.WrittenLists.{pushed}
 use Rattle.nano_ron.proofs.Canonical.{part_written}
 use Rattle.nano_ron.proofs.parts.append_part.Goals as goal
 

@@ -1,6 +1,6 @@
-use Rattle.nano_grammar.proofs.Outcomes.{passed_on}
+use Rattle.nano_grammar.proofs.TokenCalls.{passed_on}
 use Rattle.nano_grammar.proofs.TupleCalls.{last_read, last_not, last_comma_not, close_not}
-use Rattle.nano_ron_tokens.specs.Brackets.{parens}
+use Rattle.nano_ron_tokens.specs.Token.{parens}
 use Rattle.nano_ron_tokens.proofs.RonLaws.{paren_brackets}
 use Rattle.nano_ron.proofs.Ron.{ron_laws}
 use Rattle.nano_ron.proofs.parts.read_last.Goals as goal

@@ -1,10 +1,10 @@
 use Rattle.std.proofs.Common.{◌≡◌, rules, false, string_bytes, encode_utf8, refl}
 use Rattle.std.proofs.lemmas.Result.{on_ok_weaker}
 use Rattle.nano_text.specs.Place.{saturating_next}
-use Rattle.nano_grammar.proofs.WrittenItems.{write_start, write_step, pushed}
-use Rattle.nano_ron_tokens.specs.Brackets.{block_punctuation}
-use Rattle.nano_ron_tokens.specs.Styles.{indents}
-use Rattle.nano_grammar.proofs.WrittenLists.{one_written, list_ended}
+use Rattle.nano_grammar.proofs.WrittenLists.{write_start, write_step, pushed, one_written}
+use Rattle.nano_grammar.proofs.WrittenLists.{list_ended}
+use Rattle.nano_ron_tokens.specs.Token.{block_punctuation}
+use Rattle.nano_ron_tokens.specs.Written.{indents}
 use Rattle.nano_ron.proofs.sets.append_btree_set.Goals as goal
 
 pub loop-item-init : goal.loop-item-init

@@ -1,9 +1,9 @@
 -- what is written and what is left of the list make all of it
 use Rattle.std.proofs.Common.{false, string_bytes}
 use Rattle.nano_text.specs.Place.{saturating_next}
-use Rattle.nano_grammar.proofs.WrittenItems.{WritesSoFar}
-use Rattle.nano_ron_tokens.specs.Brackets.{block_punctuation}
-use Rattle.nano_ron_tokens.specs.Styles.{indents}
+use Rattle.nano_grammar.proofs.WrittenLists.{WritesSoFar}
+use Rattle.nano_ron_tokens.specs.Token.{block_punctuation}
+use Rattle.nano_ron_tokens.specs.Written.{indents}
 use Rattle.nano_ron.proofs.sets.append_btree_set.Given as goal
 
 abbrev pub invariant-loop-item : goal.invariant-loop-item

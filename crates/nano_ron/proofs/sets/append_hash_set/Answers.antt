@@ -1,12 +1,13 @@
-use Rattle.std.proofs.Common.{false, drop, arith, ap, ◌∙◌, ◌++◌, string_bytes, encode_utf8, encode_utf8_all, refl}
+use Rattle.std.proofs.Common.{false, drop, arith, ap, ◌∙◌, ◌++◌, string_bytes, encode_utf8}
+use Rattle.std.proofs.Common.{encode_utf8_all, refl}
 use Rattle.std.proofs.lemmas.List.{drop_all}
 use Rattle.std.proofs.lemmas.Result.{on_ok_weaker}
 use Rattle.std.specs.Map.Iter.{deref}
 use Rattle.nano_text.specs.Place.{saturating_next}
-use Rattle.nano_grammar.proofs.WrittenItems.{write_start, write_next, mapped_laid_out, pushed}
-use Rattle.nano_ron_tokens.specs.Brackets.{block_punctuation}
-use Rattle.nano_ron_tokens.specs.Styles.{indents}
+use Rattle.nano_grammar.proofs.WrittenLists.{write_start, write_next, mapped_laid_out, pushed}
 use Rattle.nano_grammar.proofs.WrittenLists.{one_written, list_ended}
+use Rattle.nano_ron_tokens.specs.Token.{block_punctuation}
+use Rattle.nano_ron_tokens.specs.Written.{indents}
 use Rattle.nano_ron.proofs.sets.append_hash_set.Goals as goal
 
 pub loop-item-init : goal.loop-item-init

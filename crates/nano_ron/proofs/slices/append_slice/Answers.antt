@@ -1,12 +1,13 @@
-use Rattle.std.proofs.Common.{ℕ, false, drop, arith, ap, ◌∙◌, ◌++◌, string_bytes, encode_utf8, encode_utf8_all, refl}
+use Rattle.std.proofs.Common.{ℕ, false, drop, arith, ap, ◌∙◌, ◌++◌, string_bytes, encode_utf8}
+use Rattle.std.proofs.Common.{encode_utf8_all, refl}
 use Rattle.std.proofs.lemmas.Result.{on_ok_weaker}
 use Rattle.std.proofs.lemmas.List.{drop_all}
 use Rattle.nano_text.specs.Place.{saturating_next}
-use Rattle.nano_grammar.specs.Layouts.{item_in_list}
-use Rattle.nano_grammar.proofs.WrittenItems.{write_start, write_next, pushed}
-use Rattle.nano_ron_tokens.specs.Brackets.{paren_punctuation}
-use Rattle.nano_ron_tokens.specs.Styles.{spaces}
-use Rattle.nano_grammar.proofs.WrittenLists.{one_written, list_ended}
+use Rattle.nano_grammar.specs.Items.{item_in_list}
+use Rattle.nano_grammar.proofs.WrittenLists.{write_start, write_next, pushed, one_written}
+use Rattle.nano_grammar.proofs.WrittenLists.{list_ended}
+use Rattle.nano_ron_tokens.specs.Token.{paren_punctuation}
+use Rattle.nano_ron_tokens.specs.Written.{spaces}
 use Rattle.nano_ron.proofs.slices.append_slice.Goals as goal
 
 pub loop-item-init : goal.loop-item-init

@@ -1,9 +1,9 @@
 -- what is written and what is left of the list make all of it
 use Rattle.std.proofs.Common.{false, drop, string_bytes}
 use Rattle.nano_text.specs.Place.{saturating_next}
-use Rattle.nano_grammar.proofs.WrittenItems.{WritesSoFar}
-use Rattle.nano_ron_tokens.specs.Brackets.{paren_punctuation}
-use Rattle.nano_ron_tokens.specs.Styles.{spaces}
+use Rattle.nano_grammar.proofs.WrittenLists.{WritesSoFar}
+use Rattle.nano_ron_tokens.specs.Token.{paren_punctuation}
+use Rattle.nano_ron_tokens.specs.Written.{spaces}
 use Rattle.nano_ron.proofs.slices.append_slice.Given as goal
 
 abbrev pub invariant-loop-item : goal.invariant-loop-item

@@ -1,7 +1,7 @@
 use Rattle.std.specs.Prelude.{◌≡◌, List, map, length}
 use Rattle.nano_value.specs.Meaning.{Meaning}
 use Rattle.nano_grammar.proofs.CollectingCalls.{Filled}
-use Rattle.nano_ron_tokens.specs.Brackets.{parens}
+use Rattle.nano_ron_tokens.specs.Token.{parens}
 use Rattle.nano_ron_tokens.proofs.RonLaws.{paren_brackets}
 use Rattle.nano_ron_tokens.specs.Outcomes.{position}
 use Rattle.nano_ron.proofs.Ron.{ron_laws}

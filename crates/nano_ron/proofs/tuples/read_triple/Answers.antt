@@ -1,9 +1,9 @@
 use Rattle.std.proofs.lemmas.Result.{MatchResult-weaker}
-use Rattle.nano_grammar.proofs.Outcomes.{passed_on}
+use Rattle.nano_grammar.proofs.TokenCalls.{passed_on}
 use Rattle.nano_grammar.proofs.TupleCalls.{tuple_read, open_not, parts_not}
-use Rattle.nano_ron_tokens.specs.Brackets.{parens}
+use Rattle.nano_ron_tokens.specs.Token.{parens}
 use Rattle.nano_ron_tokens.proofs.RonLaws.{paren_brackets}
-use Rattle.nano_ron.specs.TupleCodecs.{three_parts}
+use Rattle.nano_ron.specs.ContainerCodecs.{three_parts}
 use Rattle.nano_ron.proofs.Ron.{ron_laws}
 use Rattle.nano_ron.proofs.tuples.read_triple.Goals as goal
 

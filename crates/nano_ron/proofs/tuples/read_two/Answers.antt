@@ -1,8 +1,8 @@
-use Rattle.nano_grammar.proofs.Outcomes.{passed_on}
+use Rattle.nano_grammar.proofs.TokenCalls.{passed_on}
 use Rattle.nano_grammar.proofs.TupleCalls.{parts_read, first_not, comma_not, others_not}
-use Rattle.nano_ron_tokens.specs.Brackets.{parens}
+use Rattle.nano_ron_tokens.specs.Token.{parens}
 use Rattle.nano_ron_tokens.proofs.RonLaws.{paren_brackets}
-use Rattle.nano_ron.specs.TupleCodecs.{last_codec}
+use Rattle.nano_ron.specs.ContainerCodecs.{last_codec}
 use Rattle.nano_ron.proofs.Ron.{ron_laws}
 use Rattle.nano_ron.proofs.tuples.read_two.Goals as goal
 

@@ -1,13 +1,13 @@
 use Rattle.std.proofs.Common.{◌<◌, ◌^◌, arith, subst, sym}
 use Rattle.nano_value.specs.Meaning.{whole}
 use Rattle.nano_grammar.specs.Outcomes.{Read}
-use Rattle.nano_grammar.proofs.Outcomes.{passed_on}
+use Rattle.nano_grammar.proofs.TokenCalls.{passed_on}
 use Rattle.nano_grammar.proofs.ReadingCalls.{one_read, one_not, one_stopped}
 use Rattle.nano_ron_tokens.specs.Cut.{Cut}
 use Rattle.nano_ron_tokens.proofs.RonLaws.{ron}
 use Rattle.nano_ron_tokens.specs.Outcomes.{position}
 use Rattle.nano_ron_tokens.proofs.ScalarsLaws.{unsigned_tokens}
-use Rattle.nano_ron.specs.NumberCodecs.{unsigned}
+use Rattle.nano_ron.specs.ScalarCodecs.{unsigned}
 use Rattle.nano_ron.proofs.unsigned.read_unsigned.Goals as goal
 
 pub narrow-requires : goal.narrow-requires

@@ -1,4 +1,4 @@
-use Rattle.nano_grammar.proofs.LastFields.{missing_name}
+use Rattle.nano_grammar.proofs.StructLaws.{missing_name}
 use Rattle.nano_ron_tokens.specs.Token.{Token}
 use Rattle.nano_ron_schema.proofs.laws.a_missing_name_has_no_field.Goals as goal
 

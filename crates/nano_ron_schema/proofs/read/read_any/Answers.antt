@@ -1,7 +1,7 @@
 use Rattle.std.proofs.Common.{string_bytes, sym, ◌∙◌}
-use Rattle.nano_grammar.proofs.Outcomes.{passed_on}
+use Rattle.nano_grammar.proofs.TokenCalls.{passed_on}
 use Rattle.nano_grammar.proofs.FieldCalls.{known_read, known_not}
-use Rattle.nano_ron_schema.specs.FieldReading.{head}
+use Rattle.nano_ron_schema.specs.Reading.{head}
 use Rattle.nano_ron_schema.specs.FieldCodecs.{ron_fields}
 use Rattle.nano_ron_schema.proofs.Calls.{still_there}
 use Rattle.nano_ron_schema.proofs.FieldsCalls.{unknown_not}

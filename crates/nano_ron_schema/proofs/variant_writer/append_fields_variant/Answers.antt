@@ -1,6 +1,6 @@
 use Rattle.std.proofs.Common.{string_bytes, chars}
 use Rattle.std.proofs.lemmas.Result.{on_ok_weaker}
-use Rattle.nano_grammar.specs.FieldCanonical.{fields_text}
+use Rattle.nano_grammar.specs.FieldCodec.{fields_text}
 use Rattle.nano_ron_schema.specs.FieldCodecs.{ron_fields}
 use Rattle.nano_grammar.proofs.WrittenLists.{both_written}
 use Rattle.nano_ron_schema.proofs.variant_writer.append_fields_variant.Goals as goal

@@ -1,6 +1,6 @@
 use Rattle.std.proofs.Common.{sym, ◌∙◌, ap}
 use Rattle.nano_ron_tokens.specs.Token.{ident}
-use Rattle.nano_ron_schema.proofs.Pending.{pending_name}
+use Rattle.nano_ron_schema.proofs.Calls.{pending_name}
 use Rattle.nano_ron_schema.proofs.variants.copied_word.Goals as goal
 
 pub returns-in-Ok : goal.returns-in-Ok

@@ -1,5 +1,5 @@
 use Rattle.std.proofs.lemmas.Result.{MatchResult-weaker}
-use Rattle.nano_ron_schema.proofs.ChoiceCalls.{closed_read, closed_not}
+use Rattle.nano_ron_schema.proofs.Calls.{closed_read, closed_not}
 use Rattle.nano_ron_schema.proofs.variants.read_fields_content.Goals as goal
 
 pub returns : goal.returns

@@ -1,6 +1,6 @@
 use Rattle.std.proofs.Common.{refl, sym, subst}
 use Rattle.nano_text.proofs.PlaceLaws.{advances_none}
-use Rattle.nano_grammar.proofs.Outcomes.{passed_on, fails_as}
+use Rattle.nano_grammar.proofs.TokenCalls.{passed_on, fails_as}
 use Rattle.nano_ron_tokens.specs.Token.{IsIdent}
 use Rattle.nano_ron_tokens.specs.Outcomes.{position}
 use Rattle.nano_ron_schema.proofs.variants.read_name.Goals as goal

@@ -1,4 +1,4 @@
-use Rattle.nano_grammar.proofs.Tokens.{begins_from_leaves, leaves_from_begins}
+use Rattle.nano_grammar.proofs.TokensLaws.{begins_from_leaves, leaves_from_begins}
 use Rattle.nano_ron_tokens.specs.Cut.{Cut}
 use Rattle.nano_ron_tokens.proofs.laws.taken_tokens_begin_the_text.Goals as goal
 

@@ -1,5 +1,5 @@
 use Rattle.std.proofs.Common.{◌≡◌, ◌+◌, length, drop}
-use Rattle.nano_text.specs.Prefix.{prefix}
+use Rattle.nano_text.specs.Characters.{prefix}
 use Rattle.nano_ron_tokens.specs.Cut.{is_word}
 use Rattle.nano_ron_tokens.proofs.words.word_len.Given as goal
 

@@ -1,5 +1,5 @@
 use Rattle.std.proofs.Common.{string_bytes}
-use Rattle.nano_ron_tokens.proofs.Indents.{indent_more}
+use Rattle.nano_ron_tokens.proofs.StylesLaws.{indent_more}
 use Rattle.nano_ron_tokens.proofs.writer.append_indent.Goals as goal
 
 pub loop-level-preserved : goal.loop-level-preserved

@@ -1,6 +1,6 @@
-use Rattle.std.proofs.Common.{ap, ◌<◌, ◌∙◌, ◌≡◌, ◌++◌, ◌∷◌, ◌-◌, [], sym, arith, vec_len}
-use Rattle.std.proofs.Common.{unwrap_or, string_bytes}
-use Rattle.nano_show_answers.specs.OpenLists.{closed_lists}
+use Rattle.std.proofs.Common.{ap, ◌<◌, ◌∙◌, ◌≡◌, ◌++◌, ◌∷◌, ◌-◌, [], sym, arith, vec_len, unwrap_or}
+use Rattle.std.proofs.Common.{string_bytes}
+use Rattle.nano_show_answers.specs.Listing.{closed_lists}
 use Rattle.nano_show_answers.proofs.ListingLemmas.{less_left, popped}
 use Rattle.nano_show_answers.proofs.listed.append_listed.Goals as goal
 

@@ -1,8 +1,7 @@
 -- what is written and what is still to be listed make the value
 use Rattle.std.proofs.Common.{◌≡◌, ◌++◌, [], string_bytes, length}
-use Rattle.nano_toml.specs.View.{view}
-use Rattle.nano_show_answers.specs.Listing.{listed}
-use Rattle.nano_show_answers.specs.OpenLists.{closed_lists}
+use Rattle.nano_toml.specs.Data.{view}
+use Rattle.nano_show_answers.specs.Listing.{listed, closed_lists}
 use Rattle.nano_show_answers.proofs.listed.append_listed.Given as goal
 
 abbrev pub invariant-lists : goal.invariant-lists

@@ -1,6 +1,6 @@
 use Rattle.std.proofs.Common.{ap, ◌∙◌, ◌++◌, ◌∷◌, [], true, option_map, refl, string_bytes}
 use Rattle.nano_show_answers.specs.declared.listed.OpenList.{OpenList}
-use Rattle.nano_show_answers.specs.OpenLists.{closed_lists, closed_if_opened}
+use Rattle.nano_show_answers.specs.Listing.{closed_lists, closed_if_opened}
 use Rattle.nano_show_answers.proofs.ListingLemmas.{list_closed, single_listed, list_opened}
 use Rattle.nano_show_answers.proofs.listed.append_next.Goals as goal
 

@@ -1,10 +1,10 @@
 use Rattle.std.proofs.Common.{ap, ◌∙◌, ◌++◌, codes, string_bytes}
 use Rattle.std.specs.Fmt.{decimal}
-use Rattle.nano_toml.specs.View.{view}
+use Rattle.nano_toml.specs.Data.{view}
 use Rattle.nano_toml.proofs.TableViews.{view-Array}
 use Rattle.nano_show_answers.proofs.ListingLemmas.{table_count, written_truth-ascii, listed_whole}
-use Rattle.nano_show_answers.proofs.ListingLemmas.{listed_longer, view-Str, view-Bool, view-Num, view-Dec}
-use Rattle.nano_show_answers.proofs.ListingLemmas.{view-Nan, view-Inf, view-Date}
+use Rattle.nano_show_answers.proofs.ListingLemmas.{listed_longer, view-Str, view-Bool, view-Num}
+use Rattle.nano_show_answers.proofs.ListingLemmas.{view-Dec, view-Nan, view-Inf, view-Date}
 use Rattle.nano_show_answers.proofs.listed.append_start.Goals as goal
 use Rattle.nano_show_answers.proofs.listed.append_start.Goals.{in-Str+in_ok-ser_json-in-Str}
 use Rattle.nano_show_answers.proofs.listed.append_start.Goals.{in-Bool+in_ok-ser_json-in-Bool}

@@ -1,9 +1,9 @@
 -- the lines so far and those of the entries that are left make the element's
 use Rattle.std.proofs.Common.{◌≡◌, ◌++◌, drop, map, string_bytes}
 use Rattle.std.specs.Map.Iter.{deref_pair}
-use Rattle.nano_toml.specs.View.{table_view}
+use Rattle.nano_toml.specs.Data.{table_view}
 use Rattle.nano_show_answers.specs.Listing.{element_lines}
-use Rattle.nano_show_answers.specs.Chains.{chain}
+use Rattle.nano_show_answers.specs.Answer.{chain}
 use Rattle.nano_show_answers.proofs.listing.append_element.Given as goal
 
 abbrev pub invariant-loop-key : goal.invariant-loop-key

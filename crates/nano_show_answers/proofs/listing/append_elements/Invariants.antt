@@ -1,6 +1,6 @@
 -- the lines so far and those of the elements that are left make all of them
 use Rattle.std.proofs.Common.{◌≡◌, ◌++◌, drop, string_bytes}
-use Rattle.nano_toml.specs.View.{tables_view}
+use Rattle.nano_toml.specs.Data.{tables_view}
 use Rattle.nano_show_answers.specs.Listing.{elements_lines}
 use Rattle.nano_show_answers.proofs.listing.append_elements.Given as goal
 

@@ -1,9 +1,9 @@
 -- the lines so far and those of the entries that are left make the listing
 use Rattle.std.proofs.Common.{◌≡◌, ◌++◌, drop, map, string_bytes}
 use Rattle.std.specs.Map.Iter.{deref_pair}
-use Rattle.nano_toml.specs.View.{table_view}
+use Rattle.nano_toml.specs.Data.{table_view}
 use Rattle.nano_show_answers.specs.Listing.{listing}
-use Rattle.nano_show_answers.specs.Chains.{chain}
+use Rattle.nano_show_answers.specs.Answer.{chain}
 use Rattle.nano_show_answers.proofs.listing.listing.Given as goal
 
 abbrev pub invariant-loop-key : goal.invariant-loop-key

@@ -1,7 +1,7 @@
 use Rattle.std.proofs.Common.{subst, sym}
-use Rattle.nano_toml.specs.RemainingText.{remaining_text}
+use Rattle.nano_toml.specs.Place.{remaining_text}
 use Rattle.nano_toml.specs.StatementTable.{EncodesTable}
-use Rattle.nano_toml.specs.View.{table_view}
+use Rattle.nano_toml.specs.Data.{table_view}
 use Rattle.nano_show_answers.proofs.listing.listing_of.Goals as goal
 
 pub returns-in_ok-to_string-in-Err-2 : goal.returns-in_ok-to_string-in-Err-2

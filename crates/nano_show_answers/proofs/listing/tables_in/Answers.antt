@@ -1,9 +1,9 @@
 use Rattle.std.proofs.Common.{ap, ◌∙◌}
 use Rattle.nano_toml.specs.Kinds.{as_tables}
-use Rattle.nano_toml.specs.View.{view}
+use Rattle.nano_toml.specs.Data.{view}
 use Rattle.nano_toml.proofs.TableViews.{view-Array, view-SimpleArray}
-use Rattle.nano_show_answers.proofs.ListingLemmas.{view-Str, view-Bool, view-Num, view-Dec, view-Nan}
-use Rattle.nano_show_answers.proofs.ListingLemmas.{view-Inf, view-Date}
+use Rattle.nano_show_answers.proofs.ListingLemmas.{view-Str, view-Bool, view-Num, view-Dec}
+use Rattle.nano_show_answers.proofs.ListingLemmas.{view-Nan, view-Inf, view-Date}
 use Rattle.nano_show_answers.proofs.listing.tables_in.Goals as goal
 
 pub returns-in-Array : goal.returns-in-Array

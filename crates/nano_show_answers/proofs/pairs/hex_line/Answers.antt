@@ -1,9 +1,10 @@
 use Rattle.std.proofs.Common.{◌≡◌, ◌++◌, ◌<◌, ap, ◌∙◌, arith, length, get_or}
 use Rattle.std.proofs.lemmas.Grind.{common_steps}
-use Rattle.nano_show_answers.specs.Pairs.{hex_pair}
-use Rattle.nano_show_answers.proofs.PairLemmas.{pair_first, pair_later}
+use Rattle.nano_show_answers.specs.Listing.{hex_pair}
+use Rattle.nano_show_answers.proofs.ListingLemmas.{pair_first, pair_later}
 use Rattle.nano_show_answers.proofs.pairs.hex_line.Goals as goal
-use Rattle.nano_show_answers.proofs.pairs.hex_line.Goals.{then-not-is_empty+in_ok-push, else-not-is_empty}
+use Rattle.nano_show_answers.proofs.pairs.hex_line.Goals.{then-not-is_empty+in_ok-push}
+use Rattle.nano_show_answers.proofs.pairs.hex_line.Goals.{else-not-is_empty}
 
 pub loop-byte-preserved : goal.loop-byte-preserved
 loop-byte-preserved c =

@@ -1,5 +1,5 @@
 use Rattle.std.proofs.Common.{subst, sym}
-use Rattle.nano_show_answers.specs.Whole.{IsJson}
+use Rattle.nano_show_answers.specs.Requests.{IsJson}
 use Rattle.nano_show_answers.proofs.whole_inputs.whole_json_line.Goals as goal
 
 pub returns-in_ok-to_string-in-Err-2 : goal.returns-in_ok-to_string-in-Err-2

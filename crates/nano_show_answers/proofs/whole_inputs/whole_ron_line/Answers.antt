@@ -1,5 +1,5 @@
 use Rattle.std.proofs.Common.{subst, sym}
-use Rattle.nano_show_answers.specs.Whole.{IsRon}
+use Rattle.nano_show_answers.specs.Requests.{IsRon}
 use Rattle.nano_show_answers.proofs.whole_inputs.whole_ron_line.Goals as goal
 
 pub returns-in_ok-to_string-in-Err-2 : goal.returns-in_ok-to_string-in-Err-2

@@ -1,5 +1,5 @@
 use Rattle.std.proofs.Common.{◌≡◌, ◌+◌, ◌≤◌, count_by, drop, length}
-use Rattle.nano_text.specs.Prefix.{prefix}
+use Rattle.nano_text.specs.Characters.{prefix}
 use Rattle.nano_text.specs.Place.{begins_character}
 use Rattle.nano_text.specs.String.{is_plain_in_line}
 use Rattle.nano_text.proofs.body.line_run.Given as goal

@@ -1,7 +1,8 @@
 use Rattle.std.proofs.Common.{List, ℕ, refl, sym, ◌∙◌, subst, chars, arith, []}
 use Rattle.nano_text.specs.Place.{Passes, held, text_at}
 use Rattle.nano_text.proofs.PlaceLaws.{passes_append, moves_none}
-use Rattle.nano_text.proofs.Bodies.{at_column, nothing_yet, run_boundary, reads_run, quote_boundary, string_read_at_once, passes_quote, advances_quote}
+use Rattle.nano_text.proofs.Bodies.{at_column, nothing_yet, run_boundary, reads_run, quote_boundary}
+use Rattle.nano_text.proofs.Bodies.{string_read_at_once, passes_quote, advances_quote}
 use Rattle.nano_text.proofs.PlainStrings.{no_plain_string}
 use Rattle.nano_text.proofs.RemainingText.{remaining-first}
 use Rattle.nano_text.proofs.body.plain_string.Goals as goal

@@ -1,8 +1,11 @@
-use Rattle.std.proofs.Common.{ℕ, List, refl, sym, ◌∙◌, ap, subst, arith, string_bytes, chars, encode_utf8, ◌++◌}
+use Rattle.std.proofs.Common.{ℕ, List, refl, sym, ◌∙◌, ap, subst, arith, string_bytes, chars}
+use Rattle.std.proofs.Common.{encode_utf8, ◌++◌}
 use Rattle.nano_text.specs.declared.place.Place.{Place}
 use Rattle.nano_text.specs.Place.{Passes, held, text_at}
 use Rattle.nano_text.proofs.PlaceLaws.{passes_append, moves_none}
-use Rattle.nano_text.proofs.Bodies.{at_column, nothing_yet, run_boundary, reads_run, quote_boundary, string_read_at_once, passes_quote, advances_quote, unmoved, escape_boundary, reads_escape}
+use Rattle.nano_text.proofs.Bodies.{at_column, nothing_yet, run_boundary, reads_run, quote_boundary}
+use Rattle.nano_text.proofs.Bodies.{string_read_at_once, passes_quote, advances_quote, unmoved}
+use Rattle.nano_text.proofs.Bodies.{escape_boundary, reads_escape}
 use Rattle.nano_text.proofs.body.read_at_once.Goals as goal
 
 -- where nothing is taken

@@ -1,8 +1,7 @@
 use Rattle.std.proofs.Common.{arith, sym, string_bytes}
 use Rattle.std.proofs.lemmas.Fmt.{IsAscii-decimal, length-decimal-le}
 use Rattle.std.specs.Fmt.{decimal}
-use Rattle.nano_text.proofs.Decimals.{appended_as}
-use Rattle.nano_text.proofs.DigitBuffers.{written_ascii, written_taken}
+use Rattle.nano_text.proofs.DigitValues.{appended_as, written_ascii, written_taken}
 use Rattle.nano_text.proofs.digits.append_long.Goals as goal
 
 pub write_digits-start-requires : goal.write_digits-start-requires

@@ -2,8 +2,7 @@ use Rattle.std.proofs.Common.{◌∷◌, ◌-◌, replicate, length-set, arith, 
 use Rattle.std.proofs.lemmas.Fmt.{IsAscii-decimal, length-decimal-le}
 use Rattle.std.proofs.lemmas.Str.Ascii.{IsAscii-cons}
 use Rattle.std.specs.Fmt.{decimal}
-use Rattle.nano_text.proofs.Decimals.{appended_as}
-use Rattle.nano_text.proofs.DigitBuffers.{minus_written, written_ascii, written_taken}
+use Rattle.nano_text.proofs.DigitValues.{appended_as, minus_written, written_ascii, written_taken}
 use Rattle.nano_text.proofs.digits.append_negative.Goals as goal
 
 pub write_digits-first-requires : goal.write_digits-first-requires

@@ -1,6 +1,6 @@
 use Rattle.std.proofs.Common.{arith, string_bytes}
 use Rattle.std.proofs.lemmas.Fmt.{decimal_digit}
-use Rattle.nano_text.proofs.Decimals.{appended_as, decimal_two, decimal_three}
+use Rattle.nano_text.proofs.DigitValues.{appended_as, decimal_two, decimal_three}
 use Rattle.nano_text.proofs.digits.append_short.Goals as goal
 
 pub returns-then-number-ge100-clause-ok : goal.returns-then-number-ge100-clause-ok

@@ -1,4 +1,5 @@
-use Rattle.std.proofs.Common.{◌≡◌, pos, true, false, [], ◌∷◌, ◌++◌, ◌∙◌, sym, ap, subst, string_bytes, encode_utf8_all}
+use Rattle.std.proofs.Common.{◌≡◌, pos, true, false, [], ◌∷◌, ◌++◌, ◌∙◌, sym, ap, subst}
+use Rattle.std.proofs.Common.{string_bytes, encode_utf8_all}
 use Rattle.std.specs.Fmt.{decimal}
 use Rattle.std.specs.Int.{w64}
 use Rattle.std.specs.Int.Signed.{lt_z}
@@ -6,7 +7,7 @@ use Rattle.std.proofs.Math.IntN.{nat_abs}
 use Rattle.std.proofs.lemmas.Fmt.{IsAscii-signed}
 use Rattle.std.proofs.lemmas.Int.{to_z-of_z}
 use Rattle.std.proofs.lemmas.Str.{encodes-IsAscii}
-use Rattle.nano_text.proofs.Decimals.{appended_as, with_sign, no_sign}
+use Rattle.nano_text.proofs.DigitValues.{appended_as, with_sign, no_sign}
 use Rattle.nano_text.proofs.digits.append_signed.Goals as goal
 
 pub returns-then-value-lt0-clause-ok : goal.returns-then-value-lt0-clause-ok

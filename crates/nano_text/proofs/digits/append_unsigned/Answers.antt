@@ -1,7 +1,7 @@
 use Rattle.std.proofs.Common.{string_bytes}
 use Rattle.std.proofs.lemmas.Fmt.{IsAscii-decimal}
 use Rattle.std.proofs.lemmas.Str.{encodes-IsAscii}
-use Rattle.nano_text.proofs.Decimals.{appended_as}
+use Rattle.nano_text.proofs.DigitValues.{appended_as}
 use Rattle.nano_text.proofs.digits.append_unsigned.Goals as goal
 
 pub returns-then-value-lt1000-clause-ok : goal.returns-then-value-lt1000-clause-ok

@@ -1,5 +1,5 @@
 use Rattle.std.proofs.Common.{sym, arith}
-use Rattle.nano_text.proofs.DigitBuffers.{length_one, length_two, length_three}
+use Rattle.nano_text.proofs.DigitValues.{length_one, length_two, length_three}
 use Rattle.nano_text.proofs.digits.digit_count.Goals as goal
 
 pub returns-then-number-ge100 : goal.returns-then-number-ge100

@@ -1,8 +1,7 @@
 use Rattle.std.proofs.Common.{◌/◌, ◌++◌, List, ℕ, drop, append_assoc, ap, sym, ◌∙◌, arith}
 use Rattle.std.proofs.lemmas.Fmt.{decimal_nonempty}
 use Rattle.std.specs.Fmt.{decimal}
-use Rattle.nano_text.proofs.Decimals.{decimal_thousand}
-use Rattle.nano_text.proofs.DigitBuffers.{length_thousand, short_written}
+use Rattle.nano_text.proofs.DigitValues.{decimal_thousand, length_thousand, short_written}
 use Rattle.nano_text.proofs.digits.write_digits.Goals as goal
 
 pub write_triple-requires-clause-within : goal.write_triple-requires-clause-within

@@ -1,6 +1,6 @@
 use Rattle.std.proofs.Common.{◌≡◌, ◌∷◌, ◌∙◌}
-use Rattle.nano_text.specs.Digits.{three_digits}
-use Rattle.nano_text.proofs.DigitBuffers.{triple_written}
+use Rattle.nano_text.specs.Characters.{three_digits}
+use Rattle.nano_text.proofs.DigitValues.{triple_written}
 use Rattle.nano_text.proofs.digits.write_triple.Goals as goal
 
 pub returns : goal.returns

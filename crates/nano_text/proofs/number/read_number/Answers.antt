@@ -1,7 +1,7 @@
 use Rattle.std.proofs.Common.{List, ℕ, None, ◌∙◌, ap, refl, arith}
 use Rattle.std.specs.Char.{is_ascii_digit, digit_value}
 use Rattle.std.specs.Str.Parse.{digits_value_after}
-use Rattle.nano_text.specs.Prefix.{prefix}
+use Rattle.nano_text.specs.Characters.{prefix}
 use Rattle.nano_text.specs.Number.{continues}
 use Rattle.nano_text.specs.Place.{text_at}
 use Rattle.nano_text.proofs.RemainingText.{first_is-remaining, not_nul}

@@ -1,8 +1,9 @@
-use Rattle.std.proofs.Common.{◌<◌, ◌≤◌, ◌^◌, neg_ℤ, pos, ◌≡◌, List, ℕ, None, sym, ◌∙◌, ap, refl, length, arith}
+use Rattle.std.proofs.Common.{◌<◌, ◌≤◌, ◌^◌, neg_ℤ, pos, ◌≡◌, List, ℕ, None, sym, ◌∙◌, ap, refl}
+use Rattle.std.proofs.Common.{length, arith}
 use Rattle.std.specs.Char.{is_ascii_digit}
 use Rattle.std.specs.Str.Parse.{digits_value}
 use Rattle.nano_text.specs.declared.number.Number.TheVariants.{I64}
-use Rattle.nano_text.specs.Prefix.{prefix}
+use Rattle.nano_text.specs.Characters.{prefix}
 use Rattle.nano_text.specs.Number.{continues}
 use Rattle.nano_text.specs.Place.{text_at}
 use Rattle.nano_text.proofs.RemainingText.{first_is-remaining}

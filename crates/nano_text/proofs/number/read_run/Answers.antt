@@ -1,13 +1,17 @@
-use Rattle.std.proofs.Common.{◌≡◌, ◌+◌, ℕ, Option, Some, None, Bool, true, false, is_some, option_map, refl, sym, ◌∙◌, ap, subst, arith, length, length-append, encode_utf8, take}
+use Rattle.std.proofs.Common.{◌≡◌, ◌+◌, ℕ, Option, Some, None, Bool, true, false, is_some}
+use Rattle.std.proofs.Common.{option_map, refl, sym, ◌∙◌, ap, subst, arith, length, length-append}
+use Rattle.std.proofs.Common.{encode_utf8, take}
 use Rattle.nano_text.specs.Number.{is_minus, run_text, AreGoodParts}
 use Rattle.nano_text.specs.declared.run.ExponentLen.{ExponentLen}
 use Rattle.nano_text.specs.Place.{text_at}
 use Rattle.nano_text.specs.ScanLaws.{run_at}
 use Rattle.nano_text.specs.Scan.{exponent_len, decimal_len, fraction_capacity, exponent_capacity}
-use Rattle.nano_text.proofs.Numbers.{none_mapped, integer_found, integer_good, number_good, integer_not_decimal, decimal_not}
+use Rattle.nano_text.proofs.Numbers.{none_mapped, integer_found, integer_good, number_good}
+use Rattle.nano_text.proofs.Numbers.{integer_not_decimal, decimal_not}
 use Rattle.nano_text.proofs.RunBytes.{run_length, run_capacity, decimal_taken}
 use Rattle.nano_text.proofs.number.read_run.Goals as goal
-use Rattle.nano_text.proofs.number.read_run.Goals.{else-is_none-via-then-is_none+else-is_none-2, else-is_none-via-else-is_none}
+use Rattle.nano_text.proofs.number.read_run.Goals.{else-is_none-via-then-is_none+else-is_none-2}
+use Rattle.nano_text.proofs.number.read_run.Goals.{else-is_none-via-else-is_none}
 
 none_from : {T : Type 0} (o : Option T) → is_some o ≡ false → o ≡ None
 none_from None e = refl

@@ -1,7 +1,8 @@
-use Rattle.std.proofs.Common.{◌≡◌, ◌<◌, ◌^◌, ◌+◌, ◌*◌, ℕ, SomeIff, sym, ◌∙◌, ap, subst, arith, true, length, drop, get_or}
+use Rattle.std.proofs.Common.{◌≡◌, ◌<◌, ◌^◌, ◌+◌, ◌*◌, ℕ, SomeIff, sym, ◌∙◌, ap, subst, arith, true}
+use Rattle.std.proofs.Common.{length, drop, get_or}
 use Rattle.std.specs.Char.{is_ascii_digit, digit_value}
 use Rattle.std.specs.Str.Parse.{digits_value_after}
-use Rattle.nano_text.specs.Prefix.{prefix}
+use Rattle.nano_text.specs.Characters.{prefix}
 use Rattle.nano_text.proofs.DigitValues.{digit_is, prefix_at_digit, prefix_at_other, prefix_at_end}
 use Rattle.nano_text.proofs.run.digits_after.Goals as goal
 

@@ -1,13 +1,14 @@
 use Rattle.std.proofs.Common.{◌<◌, ◌^◌, ℕ, List, SomeIff, refl, sym, ◌∙◌, ap, subst, arith, length}
 use Rattle.std.specs.Char.{is_ascii_digit}
 use Rattle.std.specs.Str.Parse.{digits_value, digits_value_after}
-use Rattle.nano_text.specs.Prefix.{prefix}
+use Rattle.nano_text.specs.Characters.{prefix}
 use Rattle.nano_text.specs.Place.{held, text_at}
 use Rattle.nano_text.proofs.PlaceLaws.{moves_none}
-use Rattle.nano_text.proofs.DigitValues.{digit_from_value, no_digit_from_value, digits-remaining, digits_value-remaining}
-use Rattle.nano_text.proofs.Prefixes.{prefix_stop, after_stop}
+use Rattle.nano_text.proofs.DigitValues.{digit_from_value, no_digit_from_value, digits-remaining}
+use Rattle.nano_text.proofs.DigitValues.{digits_value-remaining}
+use Rattle.nano_text.proofs.Prefixes.{prefix_stop, after_stop, prefix_boundary, remaining_after}
+use Rattle.nano_text.proofs.Prefixes.{digits_cut, digits_in_line, passes_in_line, advances_over}
 use Rattle.nano_text.proofs.RemainingText.{remaining_stop, not_nul}
-use Rattle.nano_text.proofs.TakenPrefix.{prefix_boundary, remaining_after, digits_cut, digits_in_line, passes_in_line, advances_over}
 use Rattle.nano_text.proofs.run.take_digits.Goals as goal
 
 pub returns-in_default-clause-len : goal.returns-in_default-clause-len

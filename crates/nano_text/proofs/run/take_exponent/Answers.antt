@@ -2,7 +2,7 @@ use Rattle.std.proofs.Common.{sym, refl}
 use Rattle.nano_text.specs.Number.{is_letter_e}
 use Rattle.nano_text.specs.Place.{text_at}
 use Rattle.nano_text.proofs.RemainingText.{remaining_stop, not_nul}
-use Rattle.nano_text.proofs.Stops.{exponent_stop, after_exponent_stop}
+use Rattle.nano_text.proofs.InLine.{exponent_stop, after_exponent_stop}
 use Rattle.nano_text.proofs.PlaceLaws.{moves_none, moves_append}
 use Rattle.nano_text.proofs.run.take_exponent.Goals as goal
 

@@ -2,7 +2,7 @@ use Rattle.std.proofs.Common.{sym, refl, ne_eqb, arith}
 use Rattle.nano_text.specs.Number.{is_point}
 use Rattle.nano_text.specs.Place.{text_at}
 use Rattle.nano_text.proofs.RemainingText.{remaining_stop}
-use Rattle.nano_text.proofs.Stops.{fraction_stop, after_fraction_stop}
+use Rattle.nano_text.proofs.InLine.{fraction_stop, after_fraction_stop}
 use Rattle.nano_text.proofs.PlaceLaws.{moves_none, moves_append}
 use Rattle.nano_text.proofs.run.take_fraction.Goals as goal
 

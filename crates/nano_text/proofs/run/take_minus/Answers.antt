@@ -3,7 +3,7 @@ use Rattle.nano_text.specs.Place.{text_at}
 use Rattle.nano_text.proofs.PlaceLaws.{moves_none}
 use Rattle.nano_text.specs.Scan.{is_minus_char}
 use Rattle.nano_text.proofs.RemainingText.{remaining_stop}
-use Rattle.nano_text.proofs.Stops.{one_stop}
+use Rattle.nano_text.proofs.InLine.{one_stop}
 use Rattle.nano_text.proofs.run.take_minus.Goals as goal
 
 pub returns-then-p-ne45-clause-minus : goal.returns-then-p-ne45-clause-minus

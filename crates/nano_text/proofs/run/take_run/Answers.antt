@@ -2,8 +2,9 @@ use Rattle.std.proofs.Common.{rules, ◌<◌, ◌^◌, ℕ, List, SomeIff, ◌�
 use Rattle.std.specs.Char.{is_ascii_digit}
 use Rattle.std.specs.Option.{option_map}
 use Rattle.std.specs.Str.Parse.{digits_value}
-use Rattle.nano_text.specs.Prefix.{prefix, following}
-use Rattle.nano_text.specs.Scan.{after_whole, after_fraction, after_exponent, fraction_at, exponent_at, exponent_len, after_run}
+use Rattle.nano_text.specs.Characters.{prefix, following}
+use Rattle.nano_text.specs.Scan.{after_whole, after_fraction, after_exponent, fraction_at}
+use Rattle.nano_text.specs.Scan.{exponent_at, exponent_len, after_run}
 use Rattle.nano_text.specs.ScanLaws.{run_at}
 use Rattle.nano_text.proofs.PlaceLaws.{moves_append}
 use Rattle.nano_text.proofs.run.take_run.Goals as goal

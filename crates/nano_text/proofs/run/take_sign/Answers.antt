@@ -4,7 +4,7 @@ use Rattle.nano_text.specs.Place.{text_at}
 use Rattle.nano_text.proofs.PlaceLaws.{moves_none}
 use Rattle.nano_text.specs.Scan.{after_one, after_sign}
 use Rattle.nano_text.proofs.RemainingText.{remaining_stop, not_nul}
-use Rattle.nano_text.proofs.Stops.{first_stop, one_stop}
+use Rattle.nano_text.proofs.InLine.{first_stop, one_stop}
 use Rattle.nano_text.proofs.run.take_sign.Goals as goal
 
 pub returns-then-not-is_sign-clause-sign : goal.returns-then-not-is_sign-clause-sign

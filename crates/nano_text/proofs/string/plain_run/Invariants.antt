@@ -1,6 +1,6 @@
 use Rattle.std.proofs.Common.{◌≡◌, ◌+◌, ◌<◌, length, drop}
 use Rattle.std.specs.List.{AllWithin}
-use Rattle.nano_text.specs.Prefix.{prefix}
+use Rattle.nano_text.specs.Characters.{prefix}
 use Rattle.nano_text.specs.Place.{IsInLine}
 use Rattle.nano_text.specs.String.{is_plain}
 use Rattle.nano_text.proofs.string.plain_run.Given as goal

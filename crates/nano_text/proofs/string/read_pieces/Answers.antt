@@ -1,10 +1,11 @@
-use Rattle.std.proofs.Common.{◌≡◌, ◌≢◌, ◌∷◌, ◌++◌, ℕ, [], refl, sym, ◌∙◌, ap, arith, length, length-append, string_bytes, encode_utf8, true, ne_eqb}
+use Rattle.std.proofs.Common.{◌≡◌, ◌≢◌, ◌∷◌, ◌++◌, ℕ, [], refl, sym, ◌∙◌, ap, arith, length}
+use Rattle.std.proofs.Common.{length-append, string_bytes, encode_utf8, true, ne_eqb}
 use Rattle.nano_text.specs.Place.{text_at}
 use Rattle.nano_text.specs.String.{is_plain}
 use Rattle.nano_text.proofs.RemainingText.{remaining_end, remaining-first}
-use Rattle.nano_text.proofs.Escapes.{piece_some}
-use Rattle.nano_text.proofs.TakenPrefix.{after_shorter, plain_cut}
-use Rattle.nano_text.proofs.Strings.{nothing_read, reads_piece, reads_plain, no_string, written_le}
+use Rattle.nano_text.proofs.Strings.{piece_some, nothing_read, reads_piece, reads_plain, no_string}
+use Rattle.nano_text.proofs.Strings.{written_le}
+use Rattle.nano_text.proofs.Prefixes.{after_shorter, plain_cut}
 use Rattle.nano_text.proofs.PlaceLaws.{moves_none, moves_append}
 use Rattle.nano_text.proofs.string.read_pieces.Goals as goal
 

@@ -1,5 +1,5 @@
 use Rattle.std.proofs.Common.{refl}
-use Rattle.nano_text.proofs.Escapes.{same_after_first}
+use Rattle.nano_text.proofs.Strings.{same_after_first}
 use Rattle.nano_text.proofs.PlaceLaws.{moves_append}
 use Rattle.nano_text.proofs.string.take_code_unit.Goals as goal
 

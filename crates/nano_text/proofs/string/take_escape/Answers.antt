@@ -2,7 +2,7 @@ use Rattle.std.proofs.Common.{◌≡◌, ◌≢◌, ◌∷◌, [], refl, sym, �
 use Rattle.nano_text.specs.Place.{text_at}
 use Rattle.nano_text.specs.String.{escaped}
 use Rattle.nano_text.proofs.RemainingText.{remaining_end}
-use Rattle.nano_text.proofs.Escapes.{piece_longer}
+use Rattle.nano_text.proofs.Strings.{piece_longer}
 use Rattle.nano_text.proofs.PlaceLaws.{moves_append}
 use Rattle.nano_text.proofs.string.take_escape.Goals as goal
 

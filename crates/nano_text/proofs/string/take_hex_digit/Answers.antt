@@ -1,7 +1,7 @@
 use Rattle.std.proofs.Common.{◌≡◌, ℕ, true, sym, subst}
 use Rattle.std.specs.Char.{is_ascii_hexdigit}
 use Rattle.nano_text.proofs.PlaceLaws.{moves_none}
-use Rattle.nano_text.proofs.Escapes.{hex_value, value_some}
+use Rattle.nano_text.proofs.Strings.{hex_value, value_some}
 use Rattle.nano_text.proofs.RemainingText.{remaining-first}
 use Rattle.nano_text.proofs.string.take_hex_digit.Goals as goal
 

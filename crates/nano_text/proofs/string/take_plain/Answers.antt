@@ -1,11 +1,14 @@
-use Rattle.std.proofs.Common.{◌≡◌, ◌++◌, List, ℕ, ◌∙◌, ap, subst, chars, refl, append_assoc, length, length-append, string_bytes, encode_utf8_all, arith}
+use Rattle.std.proofs.Common.{◌≡◌, ◌++◌, List, ℕ, ◌∙◌, ap, subst, chars, refl, append_assoc, length}
+use Rattle.std.proofs.Common.{length-append, string_bytes, encode_utf8_all, arith}
 use Rattle.std.proofs.lemmas.Result.{err_from_is_err_and}
 use Rattle.std.specs.List.{AllWithin}
 use Rattle.nano_text.specs.declared.place.Place.{Place}
 use Rattle.nano_text.specs.Place.{IsInLine, Passes, held, passed, text_at}
-use Rattle.nano_text.specs.Prefix.{prefix}
+use Rattle.nano_text.specs.Characters.{prefix}
 use Rattle.nano_text.specs.String.{is_plain}
-use Rattle.nano_text.proofs.TakenPrefix.{prefix_boundary, remaining_after, prefix_bytes, prefix_capacity, plain_cut, passes_prefix, passes_in_line, advances_over}
+use Rattle.nano_text.proofs.Prefixes.{prefix_boundary, remaining_after, prefix_bytes}
+use Rattle.nano_text.proofs.Prefixes.{prefix_capacity, plain_cut, passes_prefix, passes_in_line}
+use Rattle.nano_text.proofs.Prefixes.{advances_over}
 use Rattle.nano_text.proofs.RemainingText.{not_nul}
 use Rattle.nano_text.proofs.PlaceLaws.{moves_none}
 use Rattle.nano_text.proofs.InLine.{taken_in_line}

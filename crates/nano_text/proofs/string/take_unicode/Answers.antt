@@ -1,10 +1,13 @@
 use Rattle.std.proofs.Common.{◌≢◌, ◌<◌, ◌≤◌, ◌⊎◌, inl, inr, refl, arith}
 use Rattle.nano_text.specs.String.{scalar, pair, unit_value}
 use Rattle.nano_text.proofs.RemainingText.{remaining-first}
-use Rattle.nano_text.proofs.Escapes.{IfSome-from_SomeIff, unit_of_piece, paired, same_after_first}
+use Rattle.nano_text.proofs.Strings.{IfSome-from_SomeIff, unit_of_piece, paired, same_after_first}
 use Rattle.nano_text.proofs.PlaceLaws.{moves_append}
 use Rattle.nano_text.proofs.string.take_unicode.Goals as goal
-use Rattle.nano_text.proofs.string.take_unicode.Goals.{then-lead-lt55296-via-then-lead-lt55296, then-lead-lt55296-via-else-lead-lt55296+then-lead-gt57343, then-lead-gt56319-via-then-lead-gt56319, then-lead-gt56319-via-else-lead-gt56319+then-p-ne92}
+use Rattle.nano_text.proofs.string.take_unicode.Goals.{then-lead-lt55296-via-then-lead-lt55296}
+use Rattle.nano_text.proofs.string.take_unicode.Goals.{then-lead-lt55296-via-else-lead-lt55296+then-lead-gt57343}
+use Rattle.nano_text.proofs.string.take_unicode.Goals.{then-lead-gt56319-via-then-lead-gt56319}
+use Rattle.nano_text.proofs.string.take_unicode.Goals.{then-lead-gt56319-via-else-lead-gt56319+then-p-ne92}
 
 pub returns-in_err-lead-clause-none : goal.returns-in_err-lead-clause-none
 returns-in_err-lead-clause-none c none piece rest good text =

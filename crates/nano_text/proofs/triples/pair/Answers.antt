@@ -1,7 +1,7 @@
 use Rattle.std.proofs.Common.{◌≡◌, ◌+◌, ◌-◌, ◌*◌, arith}
 use Rattle.std.proofs.lemmas.Str.{IsCharBoundary-from_ascii}
 use Rattle.nano_text.specs.declared.triples.TheConstants.{TRIPLES}
-use Rattle.nano_text.proofs.TripleText.{pair_entry, triples_ascii}
+use Rattle.nano_text.proofs.LaneMasks.{pair_entry, triples_ascii}
 use Rattle.nano_text.proofs.triples.pair.Goals as goal
 
 pub range-requires-clause-start_boundary : goal.range-requires-clause-start_boundary

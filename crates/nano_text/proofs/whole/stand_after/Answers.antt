@@ -2,7 +2,7 @@ use Rattle.std.proofs.Common.{List, ℕ, ◌∷◌, sym, ◌∙◌, ap, subst, a
 use Rattle.std.specs.Char.{is_ascii_digit}
 use Rattle.std.specs.Str.Iter.{chars_rest}
 use Rattle.nano_text.specs.declared.place.Place.{Place}
-use Rattle.nano_text.specs.Prefix.{prefix, following}
+use Rattle.nano_text.specs.Characters.{prefix, following}
 use Rattle.nano_text.specs.Place.{remaining, before_nul, held, Passes}
 use Rattle.nano_text.proofs.WholeNumbers.{chars_after, run_boundary, run_passes, advances_number}
 use Rattle.nano_text.proofs.whole.stand_after.Goals as goal

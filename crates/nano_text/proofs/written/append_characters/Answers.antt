@@ -1,5 +1,5 @@
 use Rattle.std.proofs.Common.{rules, string_bytes, eqb-true, sym}
-use Rattle.nano_text.proofs.WrittenRuns.{runs_more, runs_done}
+use Rattle.nano_text.proofs.RunBytes.{runs_more, runs_done}
 use Rattle.nano_text.proofs.written.append_characters.Goals as goal
 
 pub runs-preserved : goal.runs-preserved

@@ -1,4 +1,5 @@
-use Rattle.std.proofs.Common.{◌≡◌, ◌++◌, List, ℕ, chars, length, string_bytes, encode_utf8_all, flat_map}
+use Rattle.std.proofs.Common.{◌≡◌, ◌++◌, List, ℕ, chars, length, string_bytes, encode_utf8_all}
+use Rattle.std.proofs.Common.{flat_map}
 use denote.Text.{Utf8}
 use denote.Shadow.{shadow}
 use Rattle.nano_text.proofs.written.append_characters.Given as goal

@@ -1,8 +1,8 @@
 use Rattle.std.proofs.Common.{sym, ◌∙◌, ap, subst, length, string_bytes}
 use Rattle.std.specs.Str.{IsCharBoundary}
-use Rattle.nano_text.specs.Prefix.{prefix}
+use Rattle.nano_text.specs.Characters.{prefix}
 use Rattle.std.specs.Str.Iter.{chars_rest}
-use Rattle.nano_text.proofs.WrittenRuns.{cut_run, run_more, run_last}
+use Rattle.nano_text.proofs.RunBytes.{cut_run, run_more, run_last}
 use Rattle.nano_text.proofs.written.append_run.Goals as goal
 use Rattle.nano_text.proofs.written.append_run.Goals.{in-Some+in_ok-append_character, in_default}
 

@@ -1,5 +1,5 @@
 use Rattle.std.proofs.Common.{◌≡◌, ◌-◌, ◌∙◌, ap, arith, length, length-drop, take, drop, take_all}
-use Rattle.nano_text.specs.Prefix.{prefix}
+use Rattle.nano_text.specs.Characters.{prefix}
 use Rattle.nano_text.proofs.Prefixes.{prefix_fits, prefix_past}
 use Rattle.nano_text.proofs.written.plain_len.Goals as goal
 

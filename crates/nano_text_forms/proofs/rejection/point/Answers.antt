@@ -1,9 +1,10 @@
-use Rattle.std.proofs.Common.{◌≡◌, List, [], ◌∷◌, ℕ, Option, Result, Ok, Err, OnOk, map, refl, ap, sym, subst, ◌∙◌}
+use Rattle.std.proofs.Common.{◌≡◌, List, [], ◌∷◌, ℕ, Option, Result, Ok, Err, OnOk, map, refl, ap}
+use Rattle.std.proofs.Common.{sym, subst, ◌∙◌}
 use Rattle.std.proofs.KnownBytes.{Appends-trans}
 use Rattle.std.proofs.lemmas.Iterator.{YieldsList-from_chars, YieldsList-from_take}
 use Rattle.std.proofs.lemmas.Iterator.Consumers.{YieldsList-end}
 use Rattle.std.specs.Io.KnownBytes.{Appends}
-use Rattle.nano_text_forms.specs.Shown.{blank, pointer}
+use Rattle.nano_text_forms.specs.Forms.{blank, pointer}
 use Rattle.nano_text_forms.proofs.rejection.point.Goals as goal
 
 itself : (xs : List ℕ) → map (λ x. x) xs ≡ xs

@@ -1,7 +1,7 @@
 -- white space is written under the characters so far
 use Rattle.std.proofs.Common.{map}
 use Rattle.std.specs.Io.KnownBytes.{Appends}
-use Rattle.nano_text_forms.specs.Shown.{blank}
+use Rattle.nano_text_forms.specs.Forms.{blank}
 use Rattle.nano_text_forms.proofs.rejection.point.Given as goal
 
 abbrev pub invariant-loop-c : goal.invariant-loop-c

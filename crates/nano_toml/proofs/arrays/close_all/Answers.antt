@@ -1,8 +1,8 @@
 use Rattle.std.proofs.Common.{[], ap, ◌∙◌, sym}
-use Rattle.nano_toml.specs.Prefixes.{close_all as all_closed}
+use Rattle.nano_toml.specs.Place.{close_all as all_closed}
 use Rattle.nano_toml.specs.Reading.{arrays_view}
-use Rattle.nano_toml.specs.View.{values_view}
-use Rattle.nano_toml.proofs.ArrayViews.{arrays_view-push, values_view-push_array}
+use Rattle.nano_toml.specs.Data.{values_view}
+use Rattle.nano_toml.proofs.OneTable.{arrays_view-push, values_view-push_array}
 use Rattle.nano_toml.proofs.arrays.close_all.Goals as goal
 
 pub arrays-preserved : goal.arrays-preserved

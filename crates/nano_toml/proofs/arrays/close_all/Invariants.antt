@@ -1,7 +1,7 @@
 use Rattle.std.proofs.Common.{◌≡◌, [], vec_len}
-use Rattle.nano_toml.specs.Prefixes.{close_all as all_closed}
+use Rattle.nano_toml.specs.Place.{close_all as all_closed}
 use Rattle.nano_toml.specs.Reading.{arrays_view}
-use Rattle.nano_toml.specs.View.{values_view}
+use Rattle.nano_toml.specs.Data.{values_view}
 use Rattle.nano_toml.proofs.arrays.close_all.Given as goal
 
 abbrev pub invariant-arrays : goal.invariant-arrays

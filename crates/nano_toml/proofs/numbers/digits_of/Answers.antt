@@ -2,8 +2,8 @@ use Rattle.std.proofs.Common.{◌≡◌, Some, ◌∙◌, arith}
 use Rattle.std.proofs.lemmas.Grind.{common_steps}
 use Rattle.nano_toml.specs.Characters.{is_in_digits}
 use Rattle.nano_toml.specs.Number.{digits}
-use Rattle.nano_toml.proofs.Values.{value_at, value_fitting}
-use Rattle.nano_toml.specs.Span.{prefix}
+use Rattle.nano_toml.proofs.OneTable.{value_at, value_fitting}
+use Rattle.nano_toml.specs.Token.{prefix}
 use Rattle.nano_toml.proofs.numbers.digits_of.Goals as goal
 
 pub returns-then-byte-ne95-clause-value : goal.returns-then-byte-ne95-clause-value

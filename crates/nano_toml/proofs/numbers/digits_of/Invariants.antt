@@ -2,8 +2,8 @@ use Rattle.std.proofs.Common.{◌≡◌, ◌||◌, ◌+◌, Some, drop, length}
 use Rattle.nano_toml.specs.Characters.{is_in_digits}
 use Rattle.nano_toml.specs.Number.{digits}
 use Rattle.nano_toml.specs.Scan.{any_digit}
-use Rattle.nano_toml.proofs.Values.{value_at}
-use Rattle.nano_toml.specs.Span.{prefix}
+use Rattle.nano_toml.proofs.OneTable.{value_at}
+use Rattle.nano_toml.specs.Token.{prefix}
 use Rattle.nano_toml.proofs.numbers.digits_of.Given as goal
 
 abbrev pub invariant-loop-len : goal.invariant-loop-len

@@ -1,13 +1,14 @@
 use Rattle.std.proofs.Common.{◌++◌, ◌∷◌, [], Some, None, Option, option_map, IfSome, subst}
 use Rattle.std.proofs.lemmas.Result.{err_from_is_err_and}
-use Rattle.nano_toml.specs.Built.{IsPlain}
-use Rattle.nano_toml.specs.Prefixes.{Parses, statement_prefix}
-use Rattle.nano_toml.specs.RemainingText.{remaining}
+use Rattle.nano_toml.specs.StatementTable.{IsPlain}
+use Rattle.nano_toml.specs.Place.{Parses, statement_prefix, remaining}
 use Rattle.nano_toml.specs.Reading.{statement_view, IsNext}
 use Rattle.nano_toml.specs.declared.statements.Statement.{Statement as Read}
 use Rattle.nano_toml.proofs.StatementLists.{IsLawful-from}
-use Rattle.nano_toml.proofs.FirstErrors.{ReadTokens-start, ReadTokens-next, first_error, header_error}
-use Rattle.nano_toml.proofs.ReadLemmas.{ReadSoFar-start, ReadSoFar-next, ReadSoFar-end, ReadSoFar-nothing, ReadSoFar-unlawful}
+use Rattle.nano_toml.proofs.FirstErrors.{ReadTokens-start, ReadTokens-next, first_error}
+use Rattle.nano_toml.proofs.FirstErrors.{header_error}
+use Rattle.nano_toml.proofs.ReadLemmas.{ReadSoFar-start, ReadSoFar-next, ReadSoFar-end}
+use Rattle.nano_toml.proofs.ReadLemmas.{ReadSoFar-nothing, ReadSoFar-unlawful}
 use Rattle.nano_toml.proofs.parser.read_table.Goals as goal
 
 pub statements-init : goal.statements-init

@@ -1,6 +1,6 @@
 use Rattle.std.proofs.Common.{List, length}
-use Rattle.nano_toml.specs.Built.{IsBuilt}
-use Rattle.nano_toml.specs.RemainingText.{remaining}
+use Rattle.nano_toml.specs.StatementTable.{IsBuilt}
+use Rattle.nano_toml.specs.Place.{remaining}
 use Rattle.nano_toml.specs.Statements.{Statement}
 use Rattle.nano_toml.proofs.FirstErrors.{ReadTokens}
 use Rattle.nano_toml.proofs.ReadLemmas.{ReadSoFar}

@@ -1,5 +1,5 @@
 use Rattle.std.proofs.Common.{◌≡◌, ◌+◌, ℕ, Bool, length, drop}
-use Rattle.nano_toml.specs.Span.{prefix, IsTest}
+use Rattle.nano_toml.specs.Token.{prefix, IsTest}
 use Rattle.nano_toml.proofs.runs.run_len.Given as goal
 
 abbrev pub invariant-loop-len : goal.invariant-loop-len

@@ -1,17 +1,23 @@
-use Rattle.std.proofs.Common.{◌≡◌, ◌+◌, ◌<◌, List, [], ◌∷◌, ◌++◌, length, Vec, Global, vec_len, eq-eqb, subst, ap, sym, ◌∙◌, arith, Some, None, option_map, string_bytes, true≢false, is_some, refl}
+use Rattle.std.proofs.Common.{◌≡◌, ◌+◌, ◌<◌, List, [], ◌∷◌, ◌++◌, length, Vec, Global, vec_len}
+use Rattle.std.proofs.Common.{eq-eqb, subst, ap, sym, ◌∙◌, arith, Some, None, option_map}
+use Rattle.std.proofs.Common.{string_bytes, true≢false, is_some, refl}
 use Rattle.std.proofs.lemmas.Bool.{eqb-true}
 use Rattle.std.proofs.lemmas.Map.Iter.{hash_map_turn}
 use Rattle.std.specs.Map.Iter.{deref_pair}
 use Rattle.std.specs.Option.{option_copied}
 use Rattle.std.specs.String.{string_eq_equiv}
 use Rattle.std.proofs.lemmas.List.{nil_from_length}
-use Rattle.nano_toml.specs.View.{view, values_view, tables_view, table_view}
+use Rattle.nano_toml.specs.Data.{view, values_view, tables_view, table_view, at, tables, Tables}
+use Rattle.nano_toml.specs.Data.{values, Values}
 use Rattle.nano_toml.specs.declared.value.Toml.{Toml, SimpleArray}
 use Rattle.nano_toml.proofs.value.Toml.TheLaws.{the_size}
-use Rattle.nano_toml.proofs.ArrayViews.{values_view-push, values_view-push_same, size-last}
-use Rattle.nano_toml.specs.Prefixes.{push_value}
-use Rattle.nano_toml.proofs.TableViews.{at-table_view, same_tables_from_entries, values_view-from_places, length-from_values_view, tables_view-from_places, length-from_tables_view, view-Array, view-SimpleArray, Map, value_here, table_here, is_some-at, has_key}
-use Rattle.nano_toml.specs.Data.{at, tables, Tables, values, Values}
+use Rattle.nano_toml.proofs.OneTable.{values_view-push, values_view-push_same, size-last}
+use Rattle.nano_toml.specs.Place.{push_value}
+use Rattle.nano_toml.proofs.TableViews.{at-table_view, same_tables_from_entries}
+use Rattle.nano_toml.proofs.TableViews.{values_view-from_places, length-from_values_view}
+use Rattle.nano_toml.proofs.TableViews.{tables_view-from_places, length-from_tables_view}
+use Rattle.nano_toml.proofs.TableViews.{view-Array, view-SimpleArray, Map, value_here, table_here}
+use Rattle.nano_toml.proofs.TableViews.{is_some-at, has_key}
 use Rattle.nano_toml.proofs.same.+same.Goals as goal
 
 pub same_table-loop-key-preserved : goal.same_table-loop-key-preserved

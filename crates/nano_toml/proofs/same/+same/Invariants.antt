@@ -1,5 +1,5 @@
 use Rattle.std.proofs.Common.{◌≡◌, ◌↔◌, ℕ, ◌<◌, ◌≤◌, get_or}
-use Rattle.nano_toml.specs.View.{table_view, view}
+use Rattle.nano_toml.specs.Data.{table_view, view}
 use Rattle.nano_toml.specs.declared.value.Toml.{Toml}
 use Rattle.nano_toml.proofs.value.Toml.TheLaws.{the_size}
 use Rattle.nano_toml.proofs.TableViews.{Agree, Present, Map}

@@ -1,7 +1,6 @@
 use Rattle.std.proofs.Common.{◌≡◌, Some, None, option_map, ap, sym, ◌∙◌, refl}
 use Rattle.std.specs.Option.{option_copied}
-use Rattle.nano_toml.specs.Data.{at}
-use Rattle.nano_toml.specs.View.{view, table_view}
+use Rattle.nano_toml.specs.Data.{at, view, table_view}
 use Rattle.nano_toml.proofs.TableViews.{at-table_view}
 use Rattle.nano_toml.proofs.table.is_free.Goals as goal
 

@@ -1,11 +1,11 @@
-use Rattle.std.proofs.Common.{◌≡◌, Some, None, Option, option_map, ap, ◌∙◌, sym, subst, rules, List, ℕ, [], ◌∷◌, ◌++◌}
+use Rattle.std.proofs.Common.{◌≡◌, Some, None, Option, option_map, ap, ◌∙◌, sym, subst, rules, List}
+use Rattle.std.proofs.Common.{ℕ, [], ◌∷◌, ◌++◌}
 use Rattle.std.specs.Option.{option_copied_mut}
-use Rattle.nano_toml.specs.Data.{Data, at, tables}
-use Rattle.nano_toml.specs.View.{view, table_view, tables_view}
+use Rattle.nano_toml.specs.Data.{Data, at, tables, view, table_view, tables_view}
 use Rattle.nano_toml.specs.declared.value.Toml.{Array}
 use Rattle.nano_toml.proofs.TableViews.{at-table_view, view-Array, Map}
-use Rattle.nano_toml.specs.Built.{CanPush, Puts, pushed}
-use Rattle.nano_toml.proofs.TableChanges.{Puts-from_updates, OnOk-map}
+use Rattle.nano_toml.specs.StatementTable.{CanPush, Puts, pushed}
+use Rattle.nano_toml.proofs.OneTable.{Puts-from_updates, OnOk-map}
 use Rattle.nano_toml.proofs.table.push_table.Goals as goal
 
 pub push_into-requires : goal.push_into-requires

@@ -1,5 +1,5 @@
 use Rattle.std.proofs.Common.{string_bytes}
-use Rattle.nano_toml.proofs.TableChanges.{Puts-from_updates}
+use Rattle.nano_toml.proofs.OneTable.{Puts-from_updates}
 use Rattle.nano_toml.proofs.table.put.Goals as goal
 
 pub returns : goal.returns

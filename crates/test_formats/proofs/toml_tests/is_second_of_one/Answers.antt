@@ -1,7 +1,7 @@
-use Rattle.std.proofs.Common.{◌≡◌, ℕ, ◌<◌, zero, suc, List, [], ◌∷◌, length, IsSome, ap, ◌∙◌, subst, sym, arith, rules}
-use Rattle.nano_toml.specs.Data.{Data, tables}
+use Rattle.std.proofs.Common.{◌≡◌, ℕ, ◌<◌, zero, suc, List, [], ◌∷◌, length, IsSome, ap, ◌∙◌, subst}
+use Rattle.std.proofs.Common.{sym, arith, rules}
+use Rattle.nano_toml.specs.Data.{Data, tables, view, tables_view}
 use Rattle.nano_toml.specs.Kinds.{index_of, table_at}
-use Rattle.nano_toml.specs.View.{view, tables_view}
 use Rattle.nano_toml.proofs.TableViews.{view-Array, Map}
 use Rattle.test_formats.proofs.toml_tests.is_second_of_one.Goals as goal
 

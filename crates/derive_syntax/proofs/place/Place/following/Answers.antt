@@ -3,7 +3,8 @@ use Rattle.std.proofs.lemmas.Iterator.{YieldsList-from_chars}
 use Rattle.std.proofs.lemmas.Iterator.Consumers.{YieldsList-turn, YieldsList-end}
 use Rattle.std.proofs.lemmas.List.{map-id}
 use Rattle.derive_syntax.specs.Place.{line_of, column_of}
-use Rattle.derive_syntax.proofs.Places.{line_of-feed, line_of-other, column_of-feed, column_of-other, line_fits, column_fits, length_chars}
+use Rattle.derive_syntax.proofs.Places.{line_of-feed, line_of-other, column_of-feed}
+use Rattle.derive_syntax.proofs.Places.{column_of-other, line_fits, column_fits, length_chars}
 use Rattle.derive_syntax.proofs.place.Place.following.Goals as goal
 
 pub overflow_add-line : goal.overflow_add-line

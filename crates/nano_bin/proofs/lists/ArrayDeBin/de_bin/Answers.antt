@@ -1,6 +1,6 @@
 use Rattle.std.proofs.lemmas.Result.{err_from_is_err_and}
 use Rattle.nano_value.specs.Meaning.{listed}
-use Rattle.nano_bin_bytes.specs.Items.{EncodesCount}
+use Rattle.nano_bin_bytes.specs.Containers.{EncodesCount}
 use Rattle.nano_bin.proofs.Readers.{image_rejected}
 use Rattle.nano_bin.proofs.lists.ArrayDeBin.de_bin.Goals as goal
 

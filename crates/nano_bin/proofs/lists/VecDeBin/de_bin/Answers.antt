@@ -1,8 +1,9 @@
 use Rattle.std.proofs.Common.{refl}
 use Rattle.std.proofs.lemmas.Result.{err_from_is_err_and}
 use Rattle.nano_value.specs.Meaning.{listed}
-use Rattle.nano_bin_bytes.specs.Lists.{EncodesList}
-use Rattle.nano_bin.proofs.Readers.{list_reads, list_rejected, list_items_rejected, image_reads, image_rejected}
+use Rattle.nano_bin_bytes.specs.Containers.{EncodesList}
+use Rattle.nano_bin.proofs.Readers.{list_reads, list_rejected, list_items_rejected, image_reads}
+use Rattle.nano_bin.proofs.Readers.{image_rejected}
 use Rattle.nano_bin.proofs.lists.VecDeBin.de_bin.Goals as goal
 
 pub returns-clause-ok : goal.returns-clause-ok

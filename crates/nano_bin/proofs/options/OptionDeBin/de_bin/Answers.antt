@@ -1,8 +1,9 @@
 use Rattle.std.proofs.Common.{refl}
 use Rattle.std.proofs.lemmas.Result.{err_from_is_err_and}
 use Rattle.nano_value.specs.Meaning.{optional}
-use Rattle.nano_bin_bytes.specs.Options.{EncodesOption}
-use Rattle.nano_bin.proofs.Readers.{option_rejected, some_rejected, some_reads, none_reads, unsigned_reads, unsigned_rejected, image_reads, image_rejected}
+use Rattle.nano_bin_bytes.specs.Containers.{EncodesOption}
+use Rattle.nano_bin.proofs.Readers.{option_rejected, some_rejected, some_reads, none_reads}
+use Rattle.nano_bin.proofs.Readers.{unsigned_reads, unsigned_rejected, image_reads, image_rejected}
 use Rattle.nano_bin.proofs.options.OptionDeBin.de_bin.Goals as goal
 
 pub returns-clause-ok : goal.returns-clause-ok

@@ -2,8 +2,8 @@
 use Rattle.std.proofs.lemmas.Grind.{common_steps}
 use Rattle.std.proofs.Common.{arith, ◌≡◌, ◌++◌, OnOk, sym, subst}
 use Rattle.std.specs.declared.cmp.Ordering.{Ordering}
-use Rattle.nano_meaning.proofs.MeaningOrderLaws.{followed}
-use Rattle.nano_bin_bytes.specs.Sets.{written_set}
+use Rattle.nano_meaning.proofs.OrderLaws.{followed}
+use Rattle.nano_bin_bytes.specs.Containers.{written_set}
 use Rattle.nano_bin.proofs.sets.HashSetSerBin.ser_bin.Goals as goal
 
 pub returns-clause-ok : goal.returns-clause-ok

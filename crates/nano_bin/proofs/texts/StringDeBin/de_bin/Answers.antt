@@ -2,8 +2,9 @@ use Rattle.std.proofs.Common.{arith, rules, refl}
 use Rattle.std.proofs.lemmas.Grind.{common_steps}
 use Rattle.std.proofs.lemmas.Result.{err_from_is_err_and}
 use Rattle.nano_value.specs.Meaning.{text}
-use Rattle.nano_bin_bytes.specs.Texts.{EncodesText}
-use Rattle.nano_bin.proofs.Readers.{text_reads, text_rejected, text_bytes_rejected, image_reads, image_rejected}
+use Rattle.nano_bin_bytes.specs.Containers.{EncodesText}
+use Rattle.nano_bin.proofs.Readers.{text_reads, text_rejected, text_bytes_rejected, image_reads}
+use Rattle.nano_bin.proofs.Readers.{image_rejected}
 use Rattle.nano_bin.proofs.texts.StringDeBin.de_bin.Goals as goal
 
 pub returns-clause-ok : goal.returns-clause-ok

@@ -4,7 +4,7 @@ use Rattle.std.proofs.lemmas.List.{map-append}
 use Rattle.std.proofs.lemmas.Result.{err_from_is_err_and}
 use Rattle.nano_bin.proofs.Readers.{count_rejected, count_reads_push}
 use Rattle.nano_bin_bytes.specs.Reading.{Decodes}
-use Rattle.nano_bin_bytes.specs.Items.{EncodesCount}
+use Rattle.nano_bin_bytes.specs.Containers.{EncodesCount}
 use Rattle.nano_bin.proofs.traits.DeBin.de_bin_items.Goals as goal
 
 pub loop-preserved : goal.loop-preserved

@@ -1,4 +1,4 @@
-use Rattle.nano_bin.proofs.Whole.{whole_decodes, read_before_end, read_trailing, not_for_memory}
+use Rattle.nano_bin.proofs.RoundTrip.{whole_decodes, read_before_end, read_trailing, not_for_memory}
 use Rattle.nano_bin.proofs.traits.DeBin.deserialize_bin_whole.Goals as goal
 
 pub returns-then-end-d-clause-err : goal.returns-then-end-d-clause-err

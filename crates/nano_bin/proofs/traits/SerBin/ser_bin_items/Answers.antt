@@ -1,9 +1,10 @@
-use Rattle.std.proofs.Common.{◌≡◌, ◌≤◌, ◌∙◌, Result, Ok, Err, OnOk, true, length, take, refl, sym, ap, arith}
+use Rattle.std.proofs.Common.{◌≡◌, ◌≤◌, ◌∙◌, Result, Ok, Err, OnOk, true, length, take, refl, sym}
+use Rattle.std.proofs.Common.{ap, arith}
 use Rattle.std.specs.Result.{is_err}
 use Rattle.std.proofs.lemmas.List.{take_all}
 use Rattle.std.proofs.lemmas.Result.{on_err_weaker}
-use Rattle.nano_value.proofs.Results.{was_ok}
-use Rattle.nano_bin_bytes.proofs.Writers.{write_start, write_place, write_places, cut_back}
+use Rattle.nano_value.proofs.ByRank.{was_ok}
+use Rattle.nano_bin_bytes.proofs.CodecLaws.{write_start, write_place, write_places, cut_back}
 use Rattle.nano_bin.proofs.traits.SerBin.ser_bin_items.Goals as goal
 
 pub loop-item-init : goal.loop-item-init

@@ -1,6 +1,6 @@
 -- what is appended, and the items that are left, are all
 use Rattle.std.proofs.Common.{drop}
-use Rattle.nano_bin_bytes.proofs.Writers.{WritesSoFar}
+use Rattle.nano_bin_bytes.proofs.CodecLaws.{WritesSoFar}
 use Rattle.nano_bin.proofs.traits.SerBin.ser_bin_items.Given as goal
 
 abbrev pub invariant-loop-item : goal.invariant-loop-item

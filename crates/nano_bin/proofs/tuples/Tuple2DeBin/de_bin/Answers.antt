@@ -1,8 +1,9 @@
 use Rattle.std.proofs.Common.{refl}
 use Rattle.std.proofs.lemmas.Result.{err_from_is_err_and}
 use Rattle.nano_value.specs.Meaning.{paired}
-use Rattle.nano_bin_bytes.specs.Tuples.{EncodesPair}
-use Rattle.nano_bin.proofs.Readers.{pair_reads, pair_rejected, second_rejected, image_reads, image_rejected}
+use Rattle.nano_bin_bytes.specs.Containers.{EncodesPair}
+use Rattle.nano_bin.proofs.Readers.{pair_reads, pair_rejected, second_rejected, image_reads}
+use Rattle.nano_bin.proofs.Readers.{image_rejected}
 use Rattle.nano_bin.proofs.tuples.Tuple2DeBin.de_bin.Goals as goal
 
 pub returns-clause-ok : goal.returns-clause-ok

@@ -1,8 +1,8 @@
 use Rattle.std.proofs.Common.{List, ℕ, drop, subst}
 use Rattle.nano_bin_bytes.specs.Reading.{DecodesToNothing}
 use Rattle.nano_value.specs.Meaning.{listed}
-use Rattle.nano_bin_bytes.specs.Lists.{EncodesAll}
-use Rattle.nano_bin_bytes.specs.Numbers.{EncodesUnsigned}
+use Rattle.nano_bin_bytes.specs.Containers.{EncodesAll}
+use Rattle.nano_bin_bytes.specs.Scalars.{EncodesUnsigned}
 use Rattle.nano_bin_frames.proofs.FrameLemmas.{no_frame}
 use Rattle.nano_bin_frames.proofs.frames.Messages.frame.Goals as goal
 

@@ -4,7 +4,8 @@ use Rattle.std.proofs.lemmas.Result.{err_from_is_err_and}
 use Rattle.nano_bin_frames.specs.declared.error.Fault.TheVariants.{Cut, Bad}
 use Rattle.nano_bin_frames.specs.Frames.{DecodesAfter, RejectsCode}
 use Rattle.nano_bin_frames.specs.Left.{left}
-use Rattle.nano_bin_frames.proofs.FrameLemmas.{holds_no_message, rejects_frame, refilled, is_cut, drop_some}
+use Rattle.nano_bin_frames.proofs.FrameLemmas.{holds_no_message, rejects_frame, refilled, is_cut}
+use Rattle.nano_bin_frames.proofs.FrameLemmas.{drop_some}
 use Rattle.nano_bin_frames.proofs.frames.Messages.next.Goals as goal
 
 pub returns-in_err-message-clause-err : goal.returns-in_err-message-clause-err

@@ -1,6 +1,7 @@
 use Rattle.std.proofs.Common.{◌≡◌, ◌≢◌, arith, rules}
 use Rattle.std.proofs.lemmas.Bool.Decides.{nat_tests}
-use Rattle.nano_bin_schema.proofs.ChoiceReaders.{reads_first, reads_later, first_unread, later_unread}
+use Rattle.nano_bin_schema.proofs.ChoiceReaders.{reads_first, reads_later, first_unread}
+use Rattle.nano_bin_schema.proofs.ChoiceReaders.{later_unread}
 use Rattle.nano_bin_schema.proofs.choices.Tuple2VariantBinChoices.read.Goals as goal
 
 pub returns-in-Ok-clause-ok : goal.returns-in-Ok-clause-ok

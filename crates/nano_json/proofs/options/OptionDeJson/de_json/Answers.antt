@@ -1,5 +1,5 @@
 use Rattle.std.proofs.Common.{sym}
-use Rattle.nano_grammar.proofs.Outcomes.{passed_on}
+use Rattle.nano_grammar.proofs.TokenCalls.{passed_on}
 use Rattle.nano_grammar.proofs.ReadingCalls.{none_read, none_stopped, some_read, some_not}
 use Rattle.nano_json_tokens.specs.State.{pending}
 use Rattle.nano_json.proofs.Json.{json_laws, is_the_null, not_null}

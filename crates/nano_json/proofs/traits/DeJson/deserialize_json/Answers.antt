@@ -1,6 +1,6 @@
 use Rattle.std.proofs.lemmas.Result.{MatchResult-weaker}
-use Rattle.nano_grammar.proofs.Outcomes.{passed_on}
-use Rattle.nano_grammar.proofs.TextCalls.{text_uncut, text_read, text_not}
+use Rattle.nano_grammar.proofs.TokenCalls.{passed_on}
+use Rattle.nano_grammar.proofs.WholeInputs.{text_uncut, text_read, text_not}
 use Rattle.nano_json.proofs.Json.{json_laws, begun}
 use Rattle.nano_json.proofs.traits.DeJson.deserialize_json.Goals as goal
 

@@ -1,5 +1,6 @@
-use Rattle.nano_grammar.proofs.Outcomes.{passed_on}
-use Rattle.nano_grammar.proofs.TextCalls.{text_uncut, text_not, whole_read, whole_goes_on, whole_not}
+use Rattle.nano_grammar.proofs.TokenCalls.{passed_on}
+use Rattle.nano_grammar.proofs.WholeInputs.{text_uncut, text_not, whole_read, whole_goes_on}
+use Rattle.nano_grammar.proofs.WholeInputs.{whole_not}
 use Rattle.nano_json_tokens.specs.Token.{end}
 use Rattle.nano_json.proofs.Json.{json_laws, begun}
 use Rattle.nano_json.proofs.traits.DeJson.deserialize_json_whole.Goals as goal

@@ -1,7 +1,7 @@
 use Rattle.std.proofs.Common.{subst}
 use Rattle.nano_json_tokens.specs.Outcomes.{position, ReadsOrEnds}
 use Rattle.nano_json_tokens.proofs.Calling.{ended_read}
-use Rattle.nano_json_schema.specs.PartCodecs.{single_codec}
+use Rattle.nano_json_schema.specs.FieldCodecs.{single_codec}
 use Rattle.nano_json_schema.proofs.brackets.InBracketsDeJson.de_json.Goals as goal
 
 pub returns-in-Ok : goal.returns-in-Ok

@@ -1,6 +1,6 @@
 use Rattle.std.proofs.Common.{sym, ◌∙◌}
-use Rattle.nano_grammar.proofs.ChoiceCalls.{first_read, first_not, later_read, later_not}
-use Rattle.nano_json_schema.specs.Contents.{is_alone, bytes_of}
+use Rattle.nano_grammar.proofs.UserCalls.{first_read, first_not, later_read, later_not}
+use Rattle.nano_json_schema.specs.Variants.{is_alone, bytes_of}
 use Rattle.nano_json_schema.specs.VariantCodecs.{json_variants}
 use Rattle.nano_json_schema.proofs.choices.Tuple2VariantJsonChoices.read.Goals as goal
 

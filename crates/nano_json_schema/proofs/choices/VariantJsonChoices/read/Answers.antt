@@ -1,9 +1,9 @@
 use Rattle.std.proofs.Common.{sym, ◌∙◌}
 use Rattle.std.proofs.lemmas.Result.{MatchResult-weaker}
 use Rattle.nano_grammar.specs.Variants.{no_variants}
-use Rattle.nano_grammar.proofs.ChoiceCalls.{first_read, first_not, none_has_it}
+use Rattle.nano_grammar.proofs.UserCalls.{first_read, first_not, none_has_it}
 use Rattle.nano_json_tokens.proofs.Calling.{gives_up}
-use Rattle.nano_json_schema.specs.Contents.{is_alone, bytes_of}
+use Rattle.nano_json_schema.specs.Variants.{is_alone, bytes_of}
 use Rattle.nano_json_schema.specs.VariantCodecs.{json_variants}
 use Rattle.nano_json_schema.proofs.choices.VariantJsonChoices.read.Goals as goal
 

@@ -1,6 +1,6 @@
 use Rattle.std.proofs.Common.{string_bytes}
 use Rattle.std.proofs.lemmas.Result.{on_ok_weaker}
-use Rattle.nano_grammar.specs.FieldCanonical.{field_text}
+use Rattle.nano_grammar.specs.FieldCodec.{field_text}
 use Rattle.nano_json_schema.specs.FieldCodecs.{json_fields}
 use Rattle.nano_json_schema.proofs.WrittenFields.{more_fields}
 use Rattle.nano_json_schema.proofs.pairs.Tuple2JsonRefs.append_fields.Goals as goal

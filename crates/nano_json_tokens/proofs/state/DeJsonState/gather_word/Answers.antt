@@ -1,11 +1,12 @@
-use Rattle.std.proofs.Common.{sym, ◌∙◌, refl, rules, arith, append-nil, ap, length, length-append, string_bytes}
+use Rattle.std.proofs.Common.{sym, ◌∙◌, refl, rules, arith, append-nil, ap, length, length-append}
+use Rattle.std.proofs.Common.{string_bytes}
 use Rattle.std.proofs.lemmas.Grind.{common_steps}
 use Rattle.nano_text.proofs.RemainingText.{first_is-remaining, not_nul}
 use Rattle.nano_text.proofs.Prefixes.{after_stop, prefix_stop}
 use Rattle.nano_text.proofs.PlaceLaws.{moves_append}
-use Rattle.nano_text.specs.Prefix.{prefix}
+use Rattle.nano_text.specs.Characters.{prefix}
 use Rattle.nano_text.specs.Place.{remaining}
-use Rattle.nano_grammar.proofs.Outcomes.{passed_on}
+use Rattle.nano_grammar.proofs.TokenCalls.{passed_on}
 use Rattle.nano_json_tokens.proofs.Capacity.{word_has_one, word_is_one_byte}
 use Rattle.nano_json_tokens.specs.Cut.{is_word}
 use Rattle.nano_json_tokens.proofs.Scanning.{moved_none}

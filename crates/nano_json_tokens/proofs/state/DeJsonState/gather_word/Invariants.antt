@@ -1,6 +1,6 @@
 use Rattle.std.proofs.Common.{◌≡◌, ◌≤◌, ◌++◌, length, string_bytes, string_capacity}
 use Rattle.nano_text.specs.Place.{remaining}
-use Rattle.nano_text.specs.Prefix.{prefix, following}
+use Rattle.nano_text.specs.Characters.{prefix, following}
 use Rattle.nano_json_tokens.specs.Cut.{is_word}
 use Rattle.nano_json_tokens.specs.Outcomes.{Moved}
 use Rattle.nano_json_tokens.proofs.state.DeJsonState.gather_word.Given as goal

@@ -3,8 +3,9 @@ use Rattle.std.specs.declared.str.Chars.{Chars}
 use Rattle.nano_text.proofs.Prefixes.{after_stop}
 use Rattle.nano_text.proofs.RemainingText.{first_is-remaining}
 use Rattle.nano_text.specs.Place.{remaining}
-use Rattle.nano_text.specs.Prefix.{following}
-use Rattle.nano_json_tokens.specs.Cut.{is_space, IsLexeme, Cut}
+use Rattle.nano_text.specs.Characters.{following}
+use Rattle.nano_text.specs.Characters.{is_space}
+use Rattle.nano_json_tokens.specs.Cut.{IsLexeme, Cut}
 use Rattle.nano_json_tokens.proofs.Cuts.{lexeme_cut, cut_lexeme}
 use Rattle.nano_json_tokens.proofs.Scanning.{scans_as}
 use Rattle.nano_json_tokens.proofs.state.DeJsonState.scan_value.Goals as goal

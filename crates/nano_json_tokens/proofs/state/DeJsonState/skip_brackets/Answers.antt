@@ -1,10 +1,12 @@
 use Rattle.std.proofs.Common.{◌≡◌, ℕ, arith, sym, subst}
 use Rattle.nano_text.proofs.RemainingText.{remaining_fewer}
 use Rattle.nano_text.proofs.PlaceLaws.{moves_append}
-use Rattle.nano_grammar.proofs.Outcomes.{passed_on}
+use Rattle.nano_grammar.proofs.TokenCalls.{passed_on}
 use Rattle.nano_json_tokens.specs.State.{at, pending}
-use Rattle.nano_json_tokens.proofs.BracketCounts.{Counting, start, step, found, goes_on, bracket_cut, end_is, end_not, capacity_start, capacity_step, capacity_below}
-use Rattle.nano_json_tokens.proofs.Shorter.{token_shorter}
+use Rattle.nano_json_tokens.proofs.BracketCounts.{Counting, start, step, found, goes_on}
+use Rattle.nano_json_tokens.proofs.BracketCounts.{bracket_cut, end_is, end_not, capacity_start}
+use Rattle.nano_json_tokens.proofs.BracketCounts.{capacity_step, capacity_below}
+use Rattle.nano_json_tokens.proofs.Capacity.{token_shorter}
 use Rattle.nano_json_tokens.proofs.state.DeJsonState.skip_brackets.Goals as goal
 
 pub returns-in_err-scan_after_value : goal.returns-in_err-scan_after_value

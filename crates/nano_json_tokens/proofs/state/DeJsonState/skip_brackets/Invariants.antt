@@ -1,7 +1,7 @@
 use Rattle.nano_json_tokens.specs.State.{at}
 use Rattle.nano_json_tokens.specs.Outcomes.{Moved}
 use Rattle.nano_json_tokens.proofs.BracketCounts.{Counting, Capacity}
-use Rattle.nano_json_tokens.proofs.Shorter.{left}
+use Rattle.nano_json_tokens.proofs.Capacity.{left}
 use Rattle.nano_json_tokens.proofs.state.DeJsonState.skip_brackets.Given as goal
 
 abbrev pub invariant-tokens : goal.invariant-tokens

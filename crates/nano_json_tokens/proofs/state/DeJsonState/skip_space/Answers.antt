@@ -1,7 +1,7 @@
 use Rattle.std.proofs.Common.{sym, ◌∙◌, refl}
 use Rattle.nano_text.proofs.RemainingText.{first_is-remaining}
 use Rattle.nano_text.proofs.Prefixes.{after_stop}
-use Rattle.nano_json_tokens.specs.Cut.{is_space}
+use Rattle.nano_text.specs.Characters.{is_space}
 use Rattle.nano_json_tokens.proofs.Scanning.{moved_none}
 use Rattle.nano_json_tokens.proofs.state.DeJsonState.skip_space.Goals as goal
 

@@ -1,6 +1,6 @@
 use Rattle.std.proofs.Common.{ap, sym, subst, refl, string_bytes, rules}
 use Rattle.std.proofs.lemmas.Result.{MatchResult-weaker}
-use Rattle.nano_grammar.proofs.Outcomes.{took, rejects_next, rejects_here}
+use Rattle.nano_grammar.proofs.TokenCalls.{took, rejects_next, rejects_here}
 use Rattle.nano_json_tokens.specs.State.{token_of}
 use Rattle.nano_json_tokens.specs.Token.{str, IsStr}
 use Rattle.nano_json_tokens.proofs.state.DeJsonState.string.Goals as goal

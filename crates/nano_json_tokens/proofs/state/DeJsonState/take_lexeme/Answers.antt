@@ -1,8 +1,10 @@
 use Rattle.std.proofs.Common.{sym, ◌∙◌, refl, ap, [], string_bytes, rules}
 use Rattle.nano_text.proofs.RemainingText.{first_is-remaining}
 use Rattle.nano_text.specs.Place.{remaining}
-use Rattle.nano_json_tokens.specs.Cut.{starts_number, IsLexeme, IsRunOf, IsQuoted, punctuator, number, quoted}
-use Rattle.nano_json_tokens.proofs.LexemeKinds.{kind_of, kind_remaining, kind_number, kind_string, only_number, only_quoted}
+use Rattle.nano_json_tokens.specs.Cut.{starts_number, IsLexeme, IsRunOf, IsQuoted, punctuator}
+use Rattle.nano_json_tokens.specs.Cut.{number, quoted}
+use Rattle.nano_json_tokens.proofs.LexemeKinds.{kind_of, kind_remaining, kind_number, kind_string}
+use Rattle.nano_json_tokens.proofs.LexemeKinds.{only_number, only_quoted}
 use Rattle.nano_json_tokens.proofs.Cuts.{punctuator_lexeme, punctuator_some}
 use Rattle.nano_json_tokens.proofs.Scanning.{scans_as}
 use Rattle.nano_json_tokens.proofs.state.DeJsonState.take_lexeme.Goals as goal

@@ -2,11 +2,12 @@ use Rattle.std.proofs.Common.{sym, ◌∙◌, ap, subst, ne_eqb, List, ℕ, rule
 use Rattle.std.proofs.lemmas.Result.{MatchResult-weaker}
 use Rattle.nano_text.proofs.RemainingText.{remaining_end}
 use Rattle.nano_text.specs.Place.{remaining}
-use Rattle.nano_text.specs.Prefix.{following}
+use Rattle.nano_text.specs.Characters.{following}
 use Rattle.nano_json_tokens.specs.Cut.{is_word, IsWord, word, nothing}
 use Rattle.nano_json_tokens.specs.State.{pending}
 use Rattle.nano_json_tokens.proofs.Cuts.{word_lexeme, word_prefix}
-use Rattle.nano_json_tokens.proofs.LexemeKinds.{kind_remaining, kind_word, kind_none, only_word, only_none}
+use Rattle.nano_json_tokens.proofs.LexemeKinds.{kind_remaining, kind_word, kind_none, only_word}
+use Rattle.nano_json_tokens.proofs.LexemeKinds.{only_none}
 use Rattle.nano_json_tokens.proofs.Capacity.{word_outgrows, word_keeps}
 use Rattle.nano_json_tokens.proofs.Scanning.{moved_none}
 use Rattle.nano_json_tokens.proofs.state.DeJsonState.take_other.Goals as goal

@@ -1,9 +1,10 @@
 use Rattle.std.proofs.Common.{sym, ◌∙◌, ap, refl, inl, inr, [], ◌∷◌}
 use Rattle.std.proofs.lemmas.Result.{MatchResult-weaker}
 use Rattle.nano_text.proofs.PlaceLaws.{moves_advance}
-use Rattle.nano_grammar.proofs.Outcomes.{fails_as, fails_here}
+use Rattle.nano_grammar.proofs.TokenCalls.{fails_as, fails_here}
 use Rattle.nano_json_tokens.specs.State.{at}
-use Rattle.nano_json_tokens.proofs.BracketCounts.{skipped_cut, skipped_begins, skipped_bracket, scalar_is, opening_one, field_begins}
+use Rattle.nano_json_tokens.proofs.BracketCounts.{skipped_cut, skipped_begins, skipped_bracket}
+use Rattle.nano_json_tokens.proofs.BracketCounts.{scalar_is, opening_one, field_begins}
 use Rattle.nano_json_tokens.proofs.Calling.{gives_up, fails_ended_there, made_there}
 use Rattle.nano_json_tokens.proofs.state.DeJsonState.whole_field.Goals as goal
 

@@ -2,11 +2,11 @@
 use Rattle.std.specs.Map.Iter.{deref_pair}
 use Rattle.std.proofs.Common.{arith, ◌≡◌, ◌∙◌, ap, map, ◌++◌, string_bytes, OnOk, sym, subst}
 use Rattle.std.specs.Str.{encode_utf8_all}
-use Rattle.nano_value.specs.Ascending.{ascending}
-use Rattle.nano_value.specs.MeaningOrder.{by_meaning}
-use Rattle.nano_meaning.proofs.MeaningOrderLaws.{followed}
+use Rattle.nano_value.specs.Tables.{ascending}
+use Rattle.nano_value.specs.Order.{by_meaning}
+use Rattle.nano_meaning.proofs.OrderLaws.{followed}
 use Rattle.nano_text.specs.Place.{saturating_next}
-use Rattle.nano_ron.specs.Maps.{written_entries}
+use Rattle.nano_ron.specs.Lists.{written_entries}
 use Rattle.nano_text.proofs.RollbackLaws.{unchanged_by, unchanged_ok, cut_back_err}
 use Rattle.nano_ron.proofs.maps.HashMapSerRon.ser_ron.Goals as goal
 

@@ -1,5 +1,5 @@
 use Rattle.std.proofs.Common.{sym}
-use Rattle.nano_grammar.proofs.Outcomes.{passed_on}
+use Rattle.nano_grammar.proofs.TokenCalls.{passed_on}
 use Rattle.nano_grammar.proofs.ReadingCalls.{none_read, none_stopped, some_read, some_not}
 use Rattle.nano_ron_tokens.specs.State.{pending}
 use Rattle.nano_ron.proofs.Ron.{ron_laws, is_the_none, not_none}

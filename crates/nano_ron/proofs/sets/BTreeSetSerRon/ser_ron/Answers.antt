@@ -1,9 +1,9 @@
 use Rattle.std.proofs.Common.{arith, ◌≡◌, ◌∙◌, ap, ◌++◌, string_bytes, OnOk, sym, subst}
 use Rattle.std.specs.Str.{encode_utf8_all}
 use Rattle.nano_grammar.proofs.WrittenLists.{in_order}
-use Rattle.nano_value.specs.InOrder.{ascending_items}
-use Rattle.nano_value.specs.MeaningOrder.{by_meaning}
-use Rattle.nano_meaning.proofs.MeaningOrderLaws.{followed}
+use Rattle.nano_value.specs.Sets.{ascending_items}
+use Rattle.nano_value.specs.Order.{by_meaning}
+use Rattle.nano_meaning.proofs.OrderLaws.{followed}
 use Rattle.nano_text.specs.Place.{saturating_next}
 use Rattle.nano_ron_tokens.proofs.StylesLaws.{indent_style}
 use Rattle.nano_ron.specs.Lists.{written_in}

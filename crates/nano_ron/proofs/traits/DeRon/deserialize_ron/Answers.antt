@@ -1,6 +1,6 @@
 use Rattle.std.proofs.lemmas.Result.{MatchResult-weaker}
-use Rattle.nano_grammar.proofs.Outcomes.{passed_on}
-use Rattle.nano_grammar.proofs.TextCalls.{text_uncut, text_read, text_not}
+use Rattle.nano_grammar.proofs.TokenCalls.{passed_on}
+use Rattle.nano_grammar.proofs.WholeInputs.{text_uncut, text_read, text_not}
 use Rattle.nano_ron.proofs.Ron.{ron_laws, begun}
 use Rattle.nano_ron.proofs.traits.DeRon.deserialize_ron.Goals as goal
 

@@ -1,5 +1,6 @@
-use Rattle.nano_grammar.proofs.Outcomes.{passed_on}
-use Rattle.nano_grammar.proofs.TextCalls.{text_uncut, text_not, whole_read, whole_goes_on, whole_not}
+use Rattle.nano_grammar.proofs.TokenCalls.{passed_on}
+use Rattle.nano_grammar.proofs.WholeInputs.{text_uncut, text_not, whole_read, whole_goes_on}
+use Rattle.nano_grammar.proofs.WholeInputs.{whole_not}
 use Rattle.nano_ron_tokens.specs.Token.{end}
 use Rattle.nano_ron.proofs.Ron.{ron_laws, begun}
 use Rattle.nano_ron.proofs.traits.DeRon.deserialize_ron_whole.Goals as goal

@@ -1,5 +1,5 @@
 use Rattle.std.proofs.Common.{sym, ◌∙◌}
-use Rattle.nano_grammar.proofs.ChoiceCalls.{first_read, first_not, later_read, later_not}
+use Rattle.nano_grammar.proofs.UserCalls.{first_read, first_not, later_read, later_not}
 use Rattle.nano_ron_schema.specs.VariantCodecs.{ron_variants}
 use Rattle.nano_ron_schema.proofs.choices.Tuple2VariantRonChoices.read.Goals as goal
 

@@ -1,7 +1,7 @@
 use Rattle.std.proofs.Common.{sym, ◌∙◌}
 use Rattle.std.proofs.lemmas.Result.{MatchResult-weaker}
 use Rattle.nano_grammar.specs.Variants.{no_variants}
-use Rattle.nano_grammar.proofs.ChoiceCalls.{first_read, first_not, none_has_it}
+use Rattle.nano_grammar.proofs.UserCalls.{first_read, first_not, none_has_it}
 use Rattle.nano_ron_tokens.proofs.Calling.{gives_up}
 use Rattle.nano_ron_schema.specs.VariantCodecs.{ron_variants}
 use Rattle.nano_ron_schema.proofs.choices.VariantRonChoices.read.Goals as goal

@@ -1,9 +1,9 @@
 use Rattle.std.proofs.Common.{string_bytes, refl, sym, ◌∙◌}
 use Rattle.std.proofs.lemmas.Result.{MatchResult-weaker}
-use Rattle.nano_grammar.proofs.Outcomes.{passed_on}
+use Rattle.nano_grammar.proofs.TokenCalls.{passed_on}
 use Rattle.nano_grammar.proofs.FieldCalls.{first_found, first_not, second_found, second_not}
 use Rattle.nano_ron_tokens.specs.Cut.{Cut}
-use Rattle.nano_ron_schema.specs.FieldReading.{head}
+use Rattle.nano_ron_schema.specs.Reading.{head}
 use Rattle.nano_ron_schema.proofs.pairs.Tuple2RonFields.read_field.Goals as goal
 
 pub returns-in_err-read_field : goal.returns-in_err-read_field

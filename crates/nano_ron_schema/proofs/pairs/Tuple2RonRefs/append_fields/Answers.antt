@@ -1,6 +1,6 @@
 use Rattle.std.proofs.Common.{string_bytes}
 use Rattle.std.proofs.lemmas.Result.{on_ok_weaker}
-use Rattle.nano_grammar.specs.FieldCanonical.{field_text}
+use Rattle.nano_grammar.specs.FieldCodec.{field_text}
 use Rattle.nano_ron_schema.specs.FieldCodecs.{ron_fields}
 use Rattle.nano_ron_schema.proofs.WrittenFields.{more_lines}
 use Rattle.nano_ron_schema.proofs.pairs.Tuple2RonRefs.append_fields.Goals as goal

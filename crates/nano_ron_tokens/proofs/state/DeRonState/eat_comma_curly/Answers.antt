@@ -1,5 +1,5 @@
 use Rattle.std.proofs.Common.{ap, refl, string_bytes, rules}
-use Rattle.nano_grammar.proofs.Outcomes.{took_no_comma}
+use Rattle.nano_grammar.proofs.TokenCalls.{took_no_comma}
 use Rattle.nano_ron_tokens.specs.State.{token_of}
 use Rattle.nano_ron_tokens.specs.Token.{comma, curly_close}
 use Rattle.nano_ron_tokens.proofs.Calling.{keeps_all, takes_comma, rejects_comma}

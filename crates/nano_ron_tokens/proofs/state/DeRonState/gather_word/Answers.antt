@@ -1,14 +1,15 @@
-use Rattle.std.proofs.Common.{◌≡◌, ◌++◌, List, ℕ, ◌∙◌, ap, refl, length, length-append, string_bytes, arith}
-use Rattle.nano_text.specs.Prefix.{prefix}
+use Rattle.std.proofs.Common.{◌≡◌, ◌++◌, List, ℕ, ◌∙◌, ap, refl, length, length-append}
+use Rattle.std.proofs.Common.{string_bytes, arith}
+use Rattle.nano_text.specs.Characters.{prefix}
 use Rattle.nano_text.specs.Place.{held, remaining}
-use Rattle.nano_text.proofs.TakenPrefix.{prefix_boundary, remaining_after, prefix_bytes, prefix_capacity, passes_in_line, advances_over}
+use Rattle.nano_text.proofs.Prefixes.{prefix_boundary, remaining_after, prefix_bytes}
+use Rattle.nano_text.proofs.Prefixes.{prefix_capacity, passes_in_line, advances_over}
 use Rattle.nano_text.proofs.RemainingText.{not_nul}
-use Rattle.nano_grammar.proofs.Outcomes.{passed_on}
-use Rattle.nano_ron_tokens.proofs.Scanning.{moved_none}
+use Rattle.nano_grammar.proofs.TokenCalls.{passed_on}
+use Rattle.nano_ron_tokens.proofs.Scanning.{moved_none, word_cut, word_in_line, word_bytes}
 use Rattle.nano_ron_tokens.specs.Cut.{is_word}
 use Rattle.nano_ron_tokens.specs.State.{place_of}
 use Rattle.nano_ron_tokens.proofs.Cuts.{starts_is_word}
-use Rattle.nano_ron_tokens.proofs.WordRuns.{word_cut, word_in_line, word_bytes}
 use Rattle.nano_ron_tokens.proofs.state.DeRonState.gather_word.Goals as goal
 
 pub split_at-requires : goal.split_at-requires

@@ -1,6 +1,6 @@
 use Rattle.std.proofs.Common.{ap, sym, subst, refl, string_bytes, rules}
 use Rattle.std.proofs.lemmas.Result.{MatchResult-weaker}
-use Rattle.nano_grammar.proofs.Outcomes.{took, rejects_next, rejects_here}
+use Rattle.nano_grammar.proofs.TokenCalls.{took, rejects_next, rejects_here}
 use Rattle.nano_ron_tokens.specs.State.{token_of}
 use Rattle.nano_ron_tokens.specs.Token.{ident, IsIdent}
 use Rattle.nano_ron_tokens.proofs.state.DeRonState.ident.Goals as goal

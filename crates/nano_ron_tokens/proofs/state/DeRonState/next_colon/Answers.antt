@@ -1,5 +1,5 @@
 use Rattle.std.proofs.lemmas.Result.{MatchResult-weaker}
-use Rattle.nano_grammar.proofs.Outcomes.{passed_on}
+use Rattle.nano_grammar.proofs.TokenCalls.{passed_on}
 use Rattle.nano_ron_tokens.proofs.Calling.{colon_after, no_colon_after, no_colon_uncut}
 use Rattle.nano_ron_tokens.proofs.state.DeRonState.next_colon.Goals as goal
 

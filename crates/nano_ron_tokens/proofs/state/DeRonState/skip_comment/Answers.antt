@@ -1,8 +1,9 @@
 use Rattle.std.proofs.Common.{arith, refl, ne_eqb}
 use Rattle.nano_text.proofs.RemainingText.{remaining_stop}
 use Rattle.nano_text.specs.Place.{remaining}
-use Rattle.nano_ron_tokens.proofs.Comments.{line_comment_at, block_comment_at, no_comment_at, is_slash, is_star}
-use Rattle.nano_ron_tokens.proofs.Passing.{passed_next, passed_append}
+use Rattle.nano_ron_tokens.proofs.Comments.{line_comment_at, block_comment_at, no_comment_at}
+use Rattle.nano_ron_tokens.proofs.Comments.{is_slash, is_star}
+use Rattle.nano_ron_tokens.proofs.Scanning.{passed_next, passed_append}
 use Rattle.nano_ron_tokens.proofs.state.DeRonState.skip_comment.Goals as goal
 
 pub returns-then-self-eq47-clause-skipped : goal.returns-then-self-eq47-clause-skipped

@@ -2,12 +2,12 @@ use Rattle.std.proofs.Common.{◌∙◌, ℕ, List, ap, refl, subst, ne_eqb, ari
 use Rattle.std.proofs.lemmas.Bool.{or_from}
 use Rattle.nano_text.proofs.RemainingText.{remaining_stop, remaining_more}
 use Rattle.nano_text.specs.Place.{remaining}
-use Rattle.nano_ron_tokens.specs.Gaps.{is_space}
+use Rattle.nano_text.specs.Characters.{is_space}
 use Rattle.nano_ron_tokens.specs.Scan.{starts_gap, AfterGap}
-use Rattle.nano_ron_tokens.proofs.Blanks.{no_space}
-use Rattle.nano_ron_tokens.proofs.Comments.{gap_over, spaces_more, comment_more, comment_shorter, after_fewer}
+use Rattle.nano_text.proofs.Spaces.{no_space, after_fewer}
+use Rattle.nano_ron_tokens.proofs.Comments.{gap_over, spaces_more, comment_more, comment_shorter}
 use Rattle.nano_ron_tokens.proofs.AfterGaps.{none_cut}
-use Rattle.nano_ron_tokens.proofs.Passing.{passed_append}
+use Rattle.nano_ron_tokens.proofs.Scanning.{passed_append}
 use Rattle.nano_ron_tokens.proofs.LexemeKinds.{kind_of, kind_remaining, kind_slash}
 use Rattle.nano_ron_tokens.proofs.state.DeRonState.skip_gaps.Goals as goal
 

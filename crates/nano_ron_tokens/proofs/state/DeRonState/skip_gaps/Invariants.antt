@@ -1,8 +1,7 @@
 use Rattle.std.proofs.Common.{◌≡◌, ℕ, List, false, length}
 use Rattle.nano_text.specs.Place.{remaining}
-use Rattle.nano_ron_tokens.specs.Gaps.{is_space}
-use Rattle.nano_ron_tokens.specs.Scan.{Passed}
-use Rattle.nano_ron_tokens.specs.Scan.{AfterGap}
+use Rattle.nano_text.specs.Characters.{is_space}
+use Rattle.nano_ron_tokens.specs.Scan.{Passed, AfterGap}
 use Rattle.nano_ron_tokens.proofs.state.DeRonState.skip_gaps.Given as goal
 
 abbrev pub invariant-comments : goal.invariant-comments

@@ -2,7 +2,7 @@ use Rattle.std.proofs.Common.{◌∙◌, ap}
 use Rattle.nano_text.proofs.RemainingText.{remaining_end}
 use Rattle.nano_text.specs.Place.{remaining}
 use Rattle.nano_ron_tokens.proofs.Comments.{line_step, line_ends, line_over}
-use Rattle.nano_ron_tokens.proofs.Passing.{passed_none, passed_next, passed_append}
+use Rattle.nano_ron_tokens.proofs.Scanning.{passed_none, passed_next, passed_append}
 use Rattle.nano_ron_tokens.proofs.state.DeRonState.skip_line.Goals as goal
 
 pub returns-then-ends-clause-skipped : goal.returns-then-ends-clause-skipped

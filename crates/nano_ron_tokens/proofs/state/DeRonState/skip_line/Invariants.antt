@@ -1,7 +1,6 @@
 use Rattle.std.proofs.Common.{ℕ, List, length}
 use Rattle.nano_text.specs.Place.{remaining}
-use Rattle.nano_ron_tokens.specs.Scan.{Passed}
-use Rattle.nano_ron_tokens.specs.Scan.{AfterLine}
+use Rattle.nano_ron_tokens.specs.Scan.{Passed, AfterLine}
 use Rattle.nano_ron_tokens.proofs.state.DeRonState.skip_line.Given as goal
 
 abbrev pub invariant-line : goal.invariant-line

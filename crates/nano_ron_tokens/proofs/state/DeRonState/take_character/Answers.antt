@@ -1,7 +1,8 @@
 use Rattle.std.proofs.Common.{arith}
 use Rattle.nano_text.proofs.PlaceLaws.{moves_append}
 use Rattle.nano_ron_tokens.specs.Outcomes.{Moved}
-use Rattle.nano_ron_tokens.proofs.state.DeRonState.take_character.Goals.{then-self-eq92, else-self-eq92}
+use Rattle.nano_ron_tokens.proofs.state.DeRonState.take_character.Goals.{then-self-eq92}
+use Rattle.nano_ron_tokens.proofs.state.DeRonState.take_character.Goals.{else-self-eq92}
 use Rattle.nano_ron_tokens.proofs.state.DeRonState.take_character.Goals as goal
 
 pub returns-then-c-eq0-clause-place : goal.returns-then-c-eq0-clause-place

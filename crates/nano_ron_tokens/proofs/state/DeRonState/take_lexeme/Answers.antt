@@ -1,14 +1,20 @@
-use Rattle.std.proofs.Common.{sym, ◌∙◌, refl, ap, subst, ne_eqb, List, ℕ, [], inl, string_bytes, rules}
+use Rattle.std.proofs.Common.{sym, ◌∙◌, refl, ap, subst, ne_eqb, List, ℕ, [], inl, string_bytes}
+use Rattle.std.proofs.Common.{rules}
 use Rattle.std.proofs.lemmas.Result.{MatchResult-weaker}
 use Rattle.nano_text.proofs.RemainingText.{first_is-remaining, remaining_end}
-use Rattle.nano_text.specs.Prefix.{following}
+use Rattle.nano_text.specs.Characters.{following}
 use Rattle.nano_text.specs.Place.{remaining}
-use Rattle.nano_ron_tokens.specs.Cut.{starts_number, starts_word, is_word, IsWord, IsLexeme, IsRunOf, IsQuoted, punctuator, word, number, quoted, single, nothing}
+use Rattle.nano_ron_tokens.specs.Cut.{starts_number, starts_word, is_word, IsWord, IsLexeme}
+use Rattle.nano_ron_tokens.specs.Cut.{IsRunOf, IsQuoted, punctuator, word, number, quoted, single}
+use Rattle.nano_ron_tokens.specs.Cut.{nothing}
 use Rattle.nano_ron_tokens.specs.Scan.{starts_gap}
 use Rattle.nano_ron_tokens.specs.State.{pending}
 use Rattle.nano_ron_tokens.specs.Token.{Token}
 use Rattle.nano_ron_tokens.proofs.Cuts.{word_lexeme, punctuator_lexeme, punctuator_some}
-use Rattle.nano_ron_tokens.proofs.LexemeKinds.{kind_of, kind_remaining, kind_number, kind_string, kind_single, kind_word, kind_none, no_slash, only_number, only_quoted, only_single, only_word, only_none}
+use Rattle.nano_ron_tokens.proofs.LexemeKinds.{kind_of, kind_remaining, kind_number, kind_string}
+use Rattle.nano_ron_tokens.proofs.LexemeKinds.{kind_single, kind_word, kind_none, no_slash}
+use Rattle.nano_ron_tokens.proofs.LexemeKinds.{only_number, only_quoted, only_single, only_word}
+use Rattle.nano_ron_tokens.proofs.LexemeKinds.{only_none}
 use Rattle.nano_ron_tokens.proofs.Capacity.{word_outgrows, word_keeps}
 use Rattle.nano_ron_tokens.proofs.Scanning.{moved_none, scans_as}
 use Rattle.nano_ron_tokens.proofs.state.DeRonState.take_lexeme.Goals as goal

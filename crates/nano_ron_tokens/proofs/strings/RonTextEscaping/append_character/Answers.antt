@@ -1,7 +1,7 @@
 use Rattle.std.proofs.Common.{◌≡◌, ◌∷◌, [], List, ℕ, encode_utf8_all, refl, arith}
 use Rattle.std.proofs.lemmas.Str.{encode_ascii}
 use Rattle.nano_text.specs.String.{piece_text}
-use Rattle.nano_text.proofs.WrittenRuns.{escape_appended}
+use Rattle.nano_text.proofs.RunBytes.{escape_appended}
 use Rattle.nano_ron_tokens.specs.Written.{written_piece}
 use Rattle.nano_ron_tokens.proofs.strings.RonTextEscaping.append_character.Goals as goal
 

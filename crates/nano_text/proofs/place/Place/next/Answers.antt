@@ -1,7 +1,8 @@
 use Rattle.std.proofs.Common.{◌≡◌, rules, refl, subst, IsUtf8, ne_eqb}
 use Rattle.nano_text.specs.Place.{held, tail, place_after}
 use Rattle.nano_text.proofs.PlaceLaws.{passes_next, moves_next}
-use Rattle.nano_text.proofs.RemainingText.{held_next, held_none, remaining_next, remaining_last, remaining_taken, remaining_none}
+use Rattle.nano_text.proofs.RemainingText.{held_next, held_none, remaining_next, remaining_last}
+use Rattle.nano_text.proofs.RemainingText.{remaining_taken, remaining_none}
 use Rattle.nano_text.proofs.place.Place.next.Goals as goal
 
 pub returns-then-c-eq10-clause-place : goal.returns-then-c-eq10-clause-place

@@ -1,6 +1,7 @@
 use Rattle.std.proofs.Common.{◌≡◌, ◌+◌, ◌-◌, ◌^◌, ◌<◌, ℕ, List, count_by, min, sym, ◌∙◌, ap, arith}
 use Rattle.nano_text.specs.Place.{is_line_feed, begins_character}
-use Rattle.nano_text.proofs.Passing.{passed_line, passed_line_unchanged, passed_col, passed_col_anew}
+use Rattle.nano_text.proofs.Passing.{passed_line, passed_line_unchanged, passed_col}
+use Rattle.nano_text.proofs.Passing.{passed_col_anew}
 use Rattle.nano_text.proofs.place.Place.pass.Goals as goal
 
 -- the counts of the text's bytes

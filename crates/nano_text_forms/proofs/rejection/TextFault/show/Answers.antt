@@ -1,11 +1,13 @@
-use Rattle.std.proofs.Common.{◌≡◌, List, [], ◌∷◌, ◌++◌, ℕ, Option, Result, Ok, Err, OnOk, take, length, ap, subst, ◌∙◌}
+use Rattle.std.proofs.Common.{◌≡◌, List, [], ◌∷◌, ◌++◌, ℕ, Option, Result, Ok, Err, OnOk, take}
+use Rattle.std.proofs.Common.{length, ap, subst, ◌∙◌}
 use Rattle.std.proofs.KnownBytes.{Appends-trans}
 use Rattle.std.proofs.lemmas.Iterator.{YieldsList-from_chars}
 use Rattle.std.proofs.lemmas.Iterator.Consumers.{count_from_yields_List}
 use Rattle.std.specs.Io.KnownBytes.{Appends}
 use Rattle.std.specs.Str.{chars}
 use Rattle.nano_text_forms.specs.declared.rejection.TextFault.{TextFault}
-use Rattle.nano_text_forms.specs.Shown.{row_of, before_of, line_of, pointer, from_one, headline, shown}
+use Rattle.nano_text_forms.specs.Forms.{row_of, before_of, line_of, pointer, from_one, headline}
+use Rattle.nano_text_forms.specs.Forms.{shown}
 use Rattle.nano_text_forms.proofs.rejection.TextFault.show.Goals as goal
 
 -- three writes, one after the other

@@ -1,5 +1,5 @@
 use Rattle.std.proofs.Common.{ap, sym}
-use Rattle.nano_toml.specs.ErrorText.{word_of}
+use Rattle.nano_toml.specs.Outcomes.{word_of}
 use Rattle.nano_toml.proofs.fault.Lexeme.word.Goals as goal
 
 pub returns-in-Nan : goal.returns-in-Nan

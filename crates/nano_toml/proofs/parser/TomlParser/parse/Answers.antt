@@ -1,8 +1,8 @@
 use Rattle.std.proofs.Common.{List, ℕ, sym, subst, take, drop, take-append-drop, chars}
 use Rattle.nano_toml.specs.FirstError.{IsFirstError}
-use Rattle.nano_toml.specs.RemainingText.{remaining, taken_count}
+use Rattle.nano_toml.specs.Place.{remaining, taken_count}
 use Rattle.nano_toml.specs.StatementTable.{EncodesTable, EncodesNoTable}
-use Rattle.nano_toml.specs.View.{table_view}
+use Rattle.nano_toml.specs.Data.{table_view}
 use Rattle.nano_toml.proofs.FirstErrors.{error_place, reported_no_memory}
 use Rattle.nano_toml.proofs.parser.TomlParser.parse.Goals as goal
 

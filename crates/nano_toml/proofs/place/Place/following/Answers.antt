@@ -3,7 +3,8 @@ use Rattle.std.proofs.lemmas.Iterator.{YieldsList-from_chars, YieldsList-from_ta
 use Rattle.std.proofs.lemmas.Iterator.Consumers.{YieldsList-turn, YieldsList-end}
 use Rattle.std.proofs.lemmas.List.{map-id}
 use Rattle.nano_toml.specs.Place.{line_of, column_of}
-use Rattle.nano_toml.proofs.Places.{line_of-feed, line_of-other, column_of-feed, column_of-other, line_fits, column_fits}
+use Rattle.nano_toml.proofs.Places.{line_of-feed, line_of-other, column_of-feed, column_of-other}
+use Rattle.nano_toml.proofs.Places.{line_fits, column_fits}
 use Rattle.nano_toml.proofs.place.Place.following.Goals as goal
 
 pub overflow_add-line : goal.overflow_add-line

@@ -1,5 +1,5 @@
 use Rattle.std.proofs.Common.{◌∙◌}
-use Rattle.nano_toml.proofs.RemainingText.{remaining_same}
+use Rattle.nano_toml.proofs.Places.{remaining_same}
 use Rattle.nano_toml.proofs.state.Cursor.again.Goals as goal
 
 pub returns : goal.returns

@@ -1,8 +1,8 @@
 use Rattle.std.proofs.Common.{ap, refl, length, arith}
-use Rattle.nano_toml.specs.RemainingText.{remaining}
-use Rattle.nano_toml.specs.Plain.{is_plain}
+use Rattle.nano_toml.specs.Place.{remaining}
+use Rattle.nano_toml.specs.Scan.{is_plain}
 use Rattle.nano_toml.proofs.ByteTests.{plain_test}
-use Rattle.nano_toml.proofs.Spans.{after_shorter}
+use Rattle.nano_toml.proofs.Places.{after_shorter}
 use Rattle.nano_toml.proofs.state.Cursor.append_plain.Goals as goal
 
 pub take_while-plain-requires-clause-by_bytes : goal.take_while-plain-requires-clause-by_bytes

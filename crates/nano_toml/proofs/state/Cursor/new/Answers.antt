@@ -1,4 +1,4 @@
-use Rattle.nano_toml.proofs.RemainingText.{remaining_whole}
+use Rattle.nano_toml.proofs.Places.{remaining_whole}
 use Rattle.nano_toml.proofs.state.Cursor.new.Goals as goal
 
 pub returns : goal.returns

@@ -1,5 +1,6 @@
 use Rattle.std.proofs.Common.{subst, IsUtf8, sym, ◌∙◌}
-use Rattle.nano_toml.proofs.RemainingText.{held_next, held_none, remaining_next, remaining_nul, remaining_none, remaining_same}
+use Rattle.nano_toml.proofs.Places.{held_next, held_none, remaining_next, remaining_nul}
+use Rattle.nano_toml.proofs.Places.{remaining_none, remaining_same}
 use Rattle.nano_toml.proofs.state.Cursor.next.Goals as goal
 
 pub returns-then-c-ne0-clause-taken : goal.returns-then-c-ne0-clause-taken

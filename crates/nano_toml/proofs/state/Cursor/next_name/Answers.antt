@@ -1,16 +1,14 @@
 use Rattle.std.proofs.Common.{◌≡◌, Option, IfNone, ap, sym, ◌∙◌, subst, false}
 use Rattle.nano_toml.specs.Characters.{starts_word}
-use Rattle.nano_toml.specs.RemainingText.{remaining}
-use Rattle.nano_toml.proofs.Scans.{next_after_gaps}
+use Rattle.nano_toml.specs.Place.{remaining}
+use Rattle.nano_toml.proofs.ByteTests.{next_after_gaps, start_test}
 use Rattle.nano_toml.specs.Scan.{after_gaps}
-use Rattle.nano_toml.specs.Taken.{a_token}
-use Rattle.nano_toml.specs.Token.{Token, ident}
-use Rattle.nano_toml.specs.Word.{word_token}
+use Rattle.nano_toml.specs.Reading.{a_token}
+use Rattle.nano_toml.specs.Token.{Token, ident, word_token}
 use Rattle.nano_toml.specs.declared.token.TomlTok.{TomlTok}
-use Rattle.nano_toml.proofs.ByteTests.{start_test}
 use Rattle.nano_toml.proofs.CutLaws.{scanned_cut}
 use Rattle.nano_toml.proofs.NameCut.{no_word_no_name, value_no_name}
-use Rattle.nano_toml.proofs.NextSteps.{word_next}
+use Rattle.nano_toml.proofs.BuildLemmas.{word_next}
 use Rattle.nano_toml.proofs.state.Cursor.next_name.Goals as goal
 
 pub returns-then-not-starts_word-clause-no_name : goal.returns-then-not-starts_word-clause-no_name

@@ -1,5 +1,5 @@
 use Rattle.std.proofs.Common.{ap, sym, ◌∙◌, false}
-use Rattle.nano_toml.specs.RemainingText.{remaining}
+use Rattle.nano_toml.specs.Place.{remaining}
 use Rattle.nano_toml.specs.Scan.{after_gaps}
 use Rattle.nano_toml.proofs.SeparatorCut.{taken_separator, no_separator_cut}
 use Rattle.nano_toml.proofs.state.Cursor.next_separator.Goals as goal

@@ -1,16 +1,18 @@
 use Rattle.std.proofs.Common.{◌==◌, [], not, ap, sym, ◌∙◌, refl, ne_eqb, eq-eqb, ℕ}
 use Rattle.std.proofs.lemmas.Result.{err_from_is_err_and}
 use Rattle.nano_toml.specs.Characters.{starts_word, starts_number, is_quote}
-use Rattle.nano_toml.specs.RemainingText.{remaining}
-use Rattle.nano_toml.proofs.Scans.{next_after_gaps}
+use Rattle.nano_toml.specs.Place.{remaining}
+use Rattle.nano_toml.proofs.ByteTests.{next_after_gaps, start_test, number_test, quote_test}
+use Rattle.nano_toml.proofs.ByteTests.{some_test}
 use Rattle.nano_toml.specs.Scan.{number_at}
-use Rattle.nano_toml.specs.Taken.{the_end, token_of}
+use Rattle.nano_toml.specs.Reading.{the_end, token_of}
 use Rattle.nano_toml.specs.Cut.{punctuator_token}
-use Rattle.nano_toml.proofs.ByteTests.{start_test, number_test, quote_test, some_test}
 use Rattle.nano_toml.proofs.CutLaws.{scanned_cut, scanned_nothing}
 use Rattle.nano_toml.proofs.LexemeCut.{string_taken}
-use Rattle.nano_toml.proofs.RemainingText.{past_first, past_this}
-use Rattle.nano_toml.proofs.NextSteps.{word_next, number_next, string_next, punctuator_step, no_punctuator_step, punctuator_some, found_cut, rejected_cut}
+use Rattle.nano_toml.proofs.Places.{past_first, past_this}
+use Rattle.nano_toml.proofs.BuildLemmas.{word_next, number_next, string_next, punctuator_step}
+use Rattle.nano_toml.proofs.BuildLemmas.{no_punctuator_step, punctuator_some, found_cut}
+use Rattle.nano_toml.proofs.BuildLemmas.{rejected_cut}
 use Rattle.nano_toml.proofs.Broken.{broken_number, broken_string, broken_other}
 use Rattle.nano_toml.proofs.state.Cursor.next_tok.Goals as goal
 

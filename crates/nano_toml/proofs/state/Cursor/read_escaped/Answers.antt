@@ -1,6 +1,6 @@
 use Rattle.std.proofs.Common.{◌∙◌, ◌∷◌, ap, List, ℕ}
-use Rattle.nano_toml.specs.RemainingText.{remaining}
-use Rattle.nano_toml.proofs.RemainingText.{past_this}
+use Rattle.nano_toml.specs.Place.{remaining}
+use Rattle.nano_toml.proofs.Places.{past_this}
 use Rattle.nano_toml.proofs.state.Cursor.read_escaped.Goals as goal
 
 pub returns-then-escaped-eq0-clause-rejected : goal.returns-then-escaped-eq0-clause-rejected

@@ -1,7 +1,7 @@
 use Rattle.std.proofs.Common.{ℕ, List, ap, drop, take, sym, ◌∙◌, subst, refl}
 use Rattle.std.specs.Str.{IsCharBoundary}
 use Rattle.nano_toml.specs.Characters.{is_in_digits}
-use Rattle.nano_toml.specs.RemainingText.{remaining}
+use Rattle.nano_toml.specs.Place.{remaining}
 use Rattle.nano_toml.specs.Number.{value}
 use Rattle.nano_toml.specs.Scan.{any_digit, fitting}
 use Rattle.nano_toml.proofs.ByteTests.{digits_test}

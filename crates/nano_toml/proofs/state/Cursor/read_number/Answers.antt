@@ -1,7 +1,6 @@
 use Rattle.std.proofs.Common.{◌==◌, ℕ, ◌∙◌, eq-eqb, ne_eqb}
-use Rattle.nano_toml.specs.RemainingText.{remaining}
-use Rattle.nano_toml.proofs.ByteTests.{n_test, i_test}
-use Rattle.nano_toml.proofs.Signs.{past_sign, at_nan, at_infinity, at_digits}
+use Rattle.nano_toml.specs.Place.{remaining}
+use Rattle.nano_toml.proofs.ByteTests.{n_test, i_test, past_sign, at_nan, at_infinity, at_digits}
 use Rattle.nano_toml.proofs.state.Cursor.read_number.Goals as goal
 
 pub returns-then-first-eq110-clause-rejected : goal.returns-then-first-eq110-clause-rejected

@@ -1,10 +1,10 @@
 use Rattle.std.proofs.Common.{sym, ◌∙◌, ap, false, string_bytes, eq-eqb, ◌==◌, ℕ}
-use Rattle.nano_toml.specs.RemainingText.{remaining}
+use Rattle.nano_toml.specs.Place.{remaining}
 use Rattle.nano_toml.specs.Characters.{is_quote}
 use Rattle.nano_toml.specs.Scan.{short_at}
 use Rattle.nano_toml.proofs.ByteTests.{quote_test, backslash_test}
-use Rattle.nano_toml.proofs.RemainingText.{past_this}
-use Rattle.nano_toml.proofs.PlainPrefixes.{short_run}
+use Rattle.nano_toml.proofs.Places.{past_this}
+use Rattle.nano_toml.proofs.RunPrefixes.{short_run}
 use Rattle.nano_toml.proofs.state.Cursor.read_short_string.Goals as goal
 
 pub returns-in-0-clause-rejected : goal.returns-in-0-clause-rejected

@@ -1,5 +1,5 @@
 use Rattle.std.proofs.Common.{◌≡◌, false, string_bytes, length}
-use Rattle.nano_toml.specs.RemainingText.{remaining}
+use Rattle.nano_toml.specs.Place.{remaining}
 use Rattle.nano_toml.specs.Scan.{short_at}
 use Rattle.nano_toml.proofs.state.Cursor.read_short_string.Given as goal
 

@@ -1,8 +1,8 @@
 use Rattle.std.proofs.Common.{◌==◌, ℕ, sym, ◌∙◌, refl}
 use Rattle.nano_toml.specs.Characters.{is_sign}
-use Rattle.nano_toml.specs.RemainingText.{remaining}
+use Rattle.nano_toml.specs.Place.{remaining}
 use Rattle.nano_toml.proofs.ByteTests.{minus_test, sign_test}
-use Rattle.nano_toml.proofs.RemainingText.{tail_past}
+use Rattle.nano_toml.proofs.Places.{tail_past}
 use Rattle.nano_toml.proofs.state.Cursor.read_sign.Goals as goal
 
 pub returns-then-is_sign-clause-minus : goal.returns-then-is_sign-clause-minus

@@ -1,5 +1,5 @@
-use Rattle.nano_toml.specs.RemainingText.{remaining}
-use Rattle.nano_toml.proofs.Quotes.{after_three_quotes}
+use Rattle.nano_toml.specs.Place.{remaining}
+use Rattle.nano_toml.proofs.ByteTests.{after_three_quotes}
 use Rattle.nano_toml.proofs.state.Cursor.read_string.Goals as goal
 
 pub returns-clause-found : goal.returns-clause-found

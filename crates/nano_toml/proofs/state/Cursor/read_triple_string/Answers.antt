@@ -1,11 +1,10 @@
 use Rattle.std.proofs.Common.{ap, sym, ◌∙◌, ◌==◌, ℕ, [], length, arith, string_bytes, eq-eqb}
 use Rattle.nano_toml.specs.Characters.{is_quote}
-use Rattle.nano_toml.specs.RemainingText.{remaining}
+use Rattle.nano_toml.specs.Place.{remaining}
 use Rattle.nano_toml.specs.Scan.{triple_at, some_quotes}
-use Rattle.nano_toml.proofs.ByteTests.{quote_test, backslash_test}
-use Rattle.nano_toml.proofs.PlainPrefixes.{triple_run}
-use Rattle.nano_toml.proofs.Quotes.{run_is_content, run_closes}
-use Rattle.nano_toml.proofs.Spans.{after_shorter}
+use Rattle.nano_toml.proofs.ByteTests.{quote_test, backslash_test, run_is_content, run_closes}
+use Rattle.nano_toml.proofs.RunPrefixes.{triple_run}
+use Rattle.nano_toml.proofs.Places.{after_shorter}
 use Rattle.nano_toml.proofs.state.Cursor.read_triple_string.Goals as goal
 
 pub returns-in-0-clause-rejected : goal.returns-in-0-clause-rejected

@@ -1,5 +1,5 @@
 use Rattle.std.proofs.Common.{◌≡◌, [], string_bytes, length}
-use Rattle.nano_toml.specs.RemainingText.{remaining}
+use Rattle.nano_toml.specs.Place.{remaining}
 use Rattle.nano_toml.specs.Scan.{triple_at, some_quotes}
 use Rattle.nano_toml.proofs.state.Cursor.read_triple_string.Given as goal
 

@@ -1,6 +1,6 @@
 use Rattle.std.proofs.Common.{refl, ◌∙◌}
 use Rattle.nano_toml.specs.Characters.{is_in_word}
-use Rattle.nano_toml.specs.RemainingText.{remaining}
+use Rattle.nano_toml.specs.Place.{remaining}
 use Rattle.nano_toml.proofs.ByteTests.{word_test}
 use Rattle.nano_toml.proofs.Utf8Prefixes.{prefix_ascii}
 use Rattle.nano_toml.proofs.state.Cursor.read_word.Goals as goal

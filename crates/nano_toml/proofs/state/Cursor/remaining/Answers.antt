@@ -1,9 +1,9 @@
 use Rattle.std.proofs.Common.{ap, ◌∙◌, length, chars, IsUtf8, subst, List, ℕ}
 use Rattle.std.proofs.lemmas.Iterator.{YieldsList-from_chars}
 use Rattle.std.proofs.lemmas.Iterator.Consumers.{count_from_yields_List}
-use Rattle.nano_toml.specs.Plain.{is_remaining}
+use Rattle.nano_toml.specs.Scan.{is_remaining}
 use Rattle.nano_toml.proofs.ByteTests.{some_test}
-use Rattle.nano_toml.proofs.RemainingPrefixes.{remaining_chars}
+use Rattle.nano_toml.proofs.RunPrefixes.{remaining_chars}
 use Rattle.nano_toml.proofs.state.Cursor.remaining.Goals as goal
 
 pub take_while-requires-clause-by_bytes : goal.take_while-requires-clause-by_bytes

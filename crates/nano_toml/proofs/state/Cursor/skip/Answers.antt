@@ -1,10 +1,10 @@
 use Rattle.std.proofs.Common.{ap, sym, ◌∙◌, length, arith, ne_eqb, eq-eqb, ◌==◌, ℕ, false}
 use Rattle.nano_toml.specs.Characters.{is_space}
-use Rattle.nano_toml.specs.RemainingText.{remaining}
+use Rattle.nano_toml.specs.Place.{remaining}
 use Rattle.nano_toml.specs.Scan.{after_gaps}
 use Rattle.nano_toml.proofs.ByteTests.{comment_test, space_test}
 use Rattle.nano_toml.proofs.Gaps.{comment_shorter, gaps_from_comment, gaps_at_space, gaps_stop}
-use Rattle.nano_toml.proofs.RemainingText.{past_first}
+use Rattle.nano_toml.proofs.Places.{past_first}
 use Rattle.nano_toml.proofs.state.Cursor.skip.Goals as goal
 
 pub gaps-smaller-then-first-eq35 : goal.gaps-smaller-then-first-eq35

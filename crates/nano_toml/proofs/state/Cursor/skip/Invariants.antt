@@ -1,5 +1,5 @@
 use Rattle.std.proofs.Common.{◌≡◌, false, length}
-use Rattle.nano_toml.specs.RemainingText.{remaining}
+use Rattle.nano_toml.specs.Place.{remaining}
 use Rattle.nano_toml.specs.Scan.{after_gaps}
 use Rattle.nano_toml.proofs.state.Cursor.skip.Given as goal
 

@@ -1,5 +1,5 @@
 use Rattle.std.proofs.Common.{◌∙◌}
-use Rattle.nano_toml.specs.Plain.{is_in_line}
+use Rattle.nano_toml.specs.Scan.{is_in_line}
 use Rattle.nano_toml.proofs.ByteTests.{line_test}
 use Rattle.nano_toml.proofs.RunPrefixes.{line_after}
 use Rattle.nano_toml.proofs.state.Cursor.skip_line.Goals as goal

@@ -1,8 +1,8 @@
 use Rattle.std.proofs.Common.{◌≡◌, ◌==◌, ℕ, true, sym, ◌∙◌, arith}
 use Rattle.std.proofs.lemmas.Bool.Decides.{nat_tests}
-use Rattle.nano_toml.specs.RemainingText.{remaining}
+use Rattle.nano_toml.specs.Place.{remaining}
 use Rattle.nano_toml.proofs.ByteTests.{char_test}
-use Rattle.nano_toml.proofs.RemainingText.{tail_past}
+use Rattle.nano_toml.proofs.Places.{tail_past}
 use Rattle.nano_toml.proofs.state.Cursor.take.Goals as goal
 
 pub returns-then-found-clause-found : goal.returns-then-found-clause-found

@@ -1,18 +1,17 @@
 use Rattle.std.proofs.Common.{◌≡◌, ap, sym, refl, ◌∙◌, [], ◌∷◌, arith}
 use Rattle.std.proofs.lemmas.Result.{err_from_is_err_and}
 use Rattle.std.proofs.lemmas.List.{nil_from_length}
-use Rattle.nano_toml.specs.Data.{no_values, values}
-use Rattle.nano_toml.specs.Prefixes.{closed, is_open, push_value, array_prefix}
-use Rattle.nano_toml.specs.RemainingText.{remaining}
-use Rattle.nano_toml.specs.Reading.{arrays_view}
-use Rattle.nano_toml.specs.Taken.{token_of}
+use Rattle.nano_toml.specs.Data.{no_values, values, view, values_view}
+use Rattle.nano_toml.specs.Place.{closed, is_open, push_value, array_prefix, remaining}
+use Rattle.nano_toml.specs.Reading.{arrays_view, token_of}
 use Rattle.nano_toml.specs.Token.{open_bracket, close_bracket, comma}
-use Rattle.nano_toml.specs.View.{view, values_view}
 use Rattle.nano_toml.specs.declared.token.TomlTok.TheVariants as tok
-use Rattle.nano_toml.proofs.ArrayViews.{arrays_view-push, values_view-push, values_view-push_array}
-use Rattle.nano_toml.proofs.ReadLemmas.{Took-at, GoesOn-scalar, GoesOn-token, Parses-closed, Parses-open, ParsesNothing-on, ParsesNothing-cut, ParsesNothing-fails}
+use Rattle.nano_toml.proofs.OneTable.{arrays_view-push, values_view-push, values_view-push_array}
+use Rattle.nano_toml.proofs.ReadLemmas.{Took-at, GoesOn-scalar, GoesOn-token, Parses-closed}
+use Rattle.nano_toml.proofs.ReadLemmas.{Parses-open, ParsesNothing-on, ParsesNothing-cut}
+use Rattle.nano_toml.proofs.ReadLemmas.{ParsesNothing-fails}
 use Rattle.nano_toml.proofs.TableViews.{view-SimpleArray}
-use Rattle.nano_toml.proofs.Unexpected.{no_item}
+use Rattle.nano_toml.proofs.Broken.{no_item}
 use Rattle.nano_toml.specs.declared.fault.Fault.TheVariants.{Unexpected}
 use Rattle.nano_toml.proofs.StopLemmas.{Stops-on, Stops-broken, Stops-reported, can_find_array}
 use Rattle.nano_toml.proofs.statements.Reader.read_array.Goals as goal

@@ -1,9 +1,7 @@
 use Rattle.std.proofs.Common.{[], length}
-use Rattle.nano_toml.specs.Data.{no_values}
-use Rattle.nano_toml.specs.Prefixes.{array_prefix}
-use Rattle.nano_toml.specs.RemainingText.{remaining}
+use Rattle.nano_toml.specs.Data.{no_values, values_view}
+use Rattle.nano_toml.specs.Place.{array_prefix, remaining}
 use Rattle.nano_toml.specs.Reading.{arrays_view}
-use Rattle.nano_toml.specs.View.{values_view}
 use Rattle.nano_toml.proofs.ReadLemmas.{GoesOn}
 use Rattle.nano_toml.proofs.statements.Reader.read_array.Given as goal
 

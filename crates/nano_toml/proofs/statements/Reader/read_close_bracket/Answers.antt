@@ -1,5 +1,5 @@
 use Rattle.std.proofs.Common.{refl, ℕ, List, subst}
-use Rattle.nano_toml.specs.RemainingText.{remaining}
+use Rattle.nano_toml.specs.Place.{remaining}
 use Rattle.nano_toml.specs.Stops.{StandsNext}
 use Rattle.nano_toml.specs.Token.{close_bracket}
 use Rattle.nano_toml.proofs.StopLemmas.{Rejects-close}

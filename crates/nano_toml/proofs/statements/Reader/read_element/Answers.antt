@@ -1,15 +1,17 @@
 use Rattle.std.proofs.Common.{refl, subst, [], ◌∷◌}
 use Rattle.std.proofs.lemmas.Result.{err_from_is_err_and}
 use Rattle.nano_toml.specs.Cut.{CutsNothing}
-use Rattle.nano_toml.specs.Prefixes.{closed, closing, element_prefix}
-use Rattle.nano_toml.specs.RemainingText.{remaining}
+use Rattle.nano_toml.specs.Place.{closed, closing, element_prefix, remaining}
 use Rattle.nano_toml.specs.Statements.{element}
-use Rattle.nano_toml.specs.Taken.{token_of}
+use Rattle.nano_toml.specs.Reading.{token_of}
 use Rattle.nano_toml.specs.Token.{ident, close_bracket}
 use Rattle.nano_toml.proofs.NameCut.{NoName-from, Took-no_name, not_name}
-use Rattle.nano_toml.proofs.ReadLemmas.{GoesOn-first, GoesOn-token, Parses-closed, ParsesNothing-on, ParsesNothing-cut, ParsesNothing-fails, ParsesNothing-token, ParsesNothing-closing}
-use Rattle.nano_toml.proofs.Unexpected.{no_element}
-use Rattle.nano_toml.proofs.StopLemmas.{Stops-on, Stops-token, Stops-looked, Stops-fails, Stops-closing, can_find_element}
+use Rattle.nano_toml.proofs.ReadLemmas.{GoesOn-first, GoesOn-token, Parses-closed, ParsesNothing-on}
+use Rattle.nano_toml.proofs.ReadLemmas.{ParsesNothing-cut, ParsesNothing-fails, ParsesNothing-token}
+use Rattle.nano_toml.proofs.ReadLemmas.{ParsesNothing-closing}
+use Rattle.nano_toml.proofs.Broken.{no_element}
+use Rattle.nano_toml.proofs.StopLemmas.{Stops-on, Stops-token, Stops-looked, Stops-fails}
+use Rattle.nano_toml.proofs.StopLemmas.{Stops-closing, can_find_element}
 use Rattle.nano_toml.proofs.statements.Reader.read_element.Goals as goal
 
 pub returns-in_err-read_token-clause-rejected : goal.returns-in_err-read_token-clause-rejected

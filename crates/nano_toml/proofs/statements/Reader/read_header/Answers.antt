@@ -1,16 +1,15 @@
 use Rattle.std.proofs.Common.{ℕ, List, refl, string_bytes, subst}
 use Rattle.std.proofs.lemmas.Result.{err_from_is_err_and, IfOk-weaker, IfErr-weaker}
 use Rattle.nano_toml.specs.Cut.{Cut, CutsNothing}
-use Rattle.nano_toml.specs.Prefixes.{scope_prefix, element_prefix, header_prefix}
-use Rattle.nano_toml.specs.RemainingText.{remaining}
-use Rattle.nano_toml.specs.Reading.{statement_view}
-use Rattle.nano_toml.specs.Taken.{token_of}
+use Rattle.nano_toml.specs.Place.{scope_prefix, element_prefix, header_prefix, remaining}
+use Rattle.nano_toml.specs.Reading.{statement_view, token_of}
 use Rattle.nano_toml.specs.Token.{ident, string, open_bracket}
 use Rattle.nano_toml.specs.declared.token.TomlTok.TheVariants as tok
 use Rattle.nano_toml.proofs.SeparatorCut.{NoOpening-from, not_open}
 use Rattle.nano_toml.proofs.NameCut.{NoName-from, Took-no_name, not_name}
-use Rattle.nano_toml.proofs.ReadLemmas.{Took-at, Parses-token, ParsesNothing-cut, ParsesNothing-fails, ParsesNothing-token}
-use Rattle.nano_toml.proofs.Unexpected.{no_header}
+use Rattle.nano_toml.proofs.ReadLemmas.{Took-at, Parses-token, ParsesNothing-cut}
+use Rattle.nano_toml.proofs.ReadLemmas.{ParsesNothing-fails, ParsesNothing-token}
+use Rattle.nano_toml.proofs.Broken.{no_header}
 use Rattle.nano_toml.proofs.StopLemmas.{Stops-token, Stops-looked, Stops-fails, can_find_header}
 use Rattle.nano_toml.proofs.statements.Reader.read_header.Goals as goal
 

@@ -1,13 +1,13 @@
 use Rattle.std.proofs.Common.{refl, ℕ, List, subst}
 use Rattle.std.proofs.lemmas.Result.{err_from_is_err_and}
-use Rattle.nano_toml.specs.Prefixes.{value_prefix, pair_of, pair_prefix}
-use Rattle.nano_toml.specs.RemainingText.{remaining}
+use Rattle.nano_toml.specs.Place.{value_prefix, pair_of, pair_prefix, remaining}
 use Rattle.nano_toml.specs.Reading.{name_view}
 use Rattle.nano_toml.specs.Statements.{pair}
 use Rattle.nano_toml.specs.Stops.{StandsNext}
 use Rattle.nano_toml.specs.Token.{equals}
-use Rattle.nano_toml.specs.View.{view}
-use Rattle.nano_toml.proofs.ReadLemmas.{Parses-token, Parses-pair, ParsesNothing-token, ParsesNothing-pair}
+use Rattle.nano_toml.specs.Data.{view}
+use Rattle.nano_toml.proofs.ReadLemmas.{Parses-token, Parses-pair, ParsesNothing-token}
+use Rattle.nano_toml.proofs.ReadLemmas.{ParsesNothing-pair}
 use Rattle.nano_toml.proofs.StopLemmas.{Stops-equals, ParsesNothing-equals, Stops-token, Stops-pair}
 use Rattle.nano_toml.proofs.statements.Reader.read_pair.Goals as goal
 

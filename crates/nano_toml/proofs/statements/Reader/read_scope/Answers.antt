@@ -1,7 +1,6 @@
 use Rattle.std.proofs.Common.{refl, []}
 use Rattle.std.proofs.lemmas.Result.{err_from_is_err_and}
-use Rattle.nano_toml.specs.Prefixes.{closed, scope_prefix}
-use Rattle.nano_toml.specs.RemainingText.{remaining}
+use Rattle.nano_toml.specs.Place.{closed, scope_prefix, remaining}
 use Rattle.nano_toml.specs.Reading.{name_view}
 use Rattle.nano_toml.specs.Statements.{scope}
 use Rattle.nano_toml.specs.Token.{close_bracket}

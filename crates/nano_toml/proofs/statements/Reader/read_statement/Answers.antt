@@ -1,20 +1,22 @@
-use Rattle.std.proofs.Common.{◌≡◌, ◌<◌, ◌≤◌, ℕ, List, Some, ◌∷◌, length, refl, string_bytes, subst, arith}
+use Rattle.std.proofs.Common.{◌≡◌, ◌<◌, ◌≤◌, ℕ, List, Some, ◌∷◌, length, refl, string_bytes, subst}
+use Rattle.std.proofs.Common.{arith}
 use Rattle.std.proofs.lemmas.Result.{err_from_is_err_and}
-use Rattle.nano_toml.specs.Built.{IsPlain}
+use Rattle.nano_toml.specs.StatementTable.{IsPlain}
 use Rattle.nano_toml.specs.Cut.{Cut, CutsNothing}
-use Rattle.nano_toml.specs.Prefixes.{Prefix, Parses, ParsesNothing, pair_prefix, header_prefix, statement_prefix}
-use Rattle.nano_toml.specs.RemainingText.{remaining}
-use Rattle.nano_toml.specs.Reading.{statement_view, IsNext, EncodesNothing}
+use Rattle.nano_toml.specs.Place.{Prefix, Parses, ParsesNothing, pair_prefix, header_prefix}
+use Rattle.nano_toml.specs.Place.{statement_prefix, remaining}
+use Rattle.nano_toml.specs.Reading.{statement_view, IsNext, EncodesNothing, token_of}
 use Rattle.nano_toml.specs.Statements.{Statement}
-use Rattle.nano_toml.specs.Taken.{token_of}
 use Rattle.nano_toml.specs.Token.{Token, ident, string, open_bracket}
 use Rattle.nano_toml.specs.declared.token.TomlTok.TheVariants as tok
-use Rattle.nano_toml.proofs.CutLength.{Cut-shorter}
-use Rattle.nano_toml.proofs.CutLaws.{cut_in_one_way}
+use Rattle.nano_toml.proofs.CutLaws.{Cut-shorter, cut_in_one_way}
 use Rattle.nano_toml.proofs.SeparatorCut.{NoOpening-from, not_open}
 use Rattle.nano_toml.proofs.NameCut.{NoName-from, Took-no_name, not_name}
-use Rattle.nano_toml.proofs.ReadLemmas.{Took-at, token_not_at_end, Parses-token, Parses-shorter, ParsesNothing-fails, ParsesNothing-token, IsNext-some, IsNext-none, EncodesNothing-some, EncodesNothing-cut, Parses-plain}
-use Rattle.nano_toml.proofs.Unexpected.{no_statement}
+use Rattle.nano_toml.proofs.ReadLemmas.{Took-at, token_not_at_end, Parses-token, Parses-shorter}
+use Rattle.nano_toml.proofs.ReadLemmas.{ParsesNothing-fails, ParsesNothing-token, IsNext-some}
+use Rattle.nano_toml.proofs.ReadLemmas.{IsNext-none, EncodesNothing-some, EncodesNothing-cut}
+use Rattle.nano_toml.proofs.ReadLemmas.{Parses-plain}
+use Rattle.nano_toml.proofs.Broken.{no_statement}
 use Rattle.nano_toml.proofs.StopLemmas.{Stops-token, Stops-looked, Stops-fails, can_find_statement}
 use Rattle.nano_toml.proofs.statements.Reader.read_statement.Goals as goal
 

@@ -1,14 +1,13 @@
 use Rattle.std.proofs.Common.{refl, []}
 use Rattle.std.proofs.lemmas.Result.{err_from_is_err_and, IfOk-weaker, IfErr-weaker}
-use Rattle.nano_toml.specs.Data.{no_values}
-use Rattle.nano_toml.specs.Prefixes.{array_prefix, value_prefix}
-use Rattle.nano_toml.specs.RemainingText.{remaining}
-use Rattle.nano_toml.specs.Taken.{token_of}
+use Rattle.nano_toml.specs.Data.{no_values, view}
+use Rattle.nano_toml.specs.Place.{array_prefix, value_prefix, remaining}
+use Rattle.nano_toml.specs.Reading.{token_of}
 use Rattle.nano_toml.specs.Token.{open_bracket}
-use Rattle.nano_toml.specs.View.{view}
 use Rattle.nano_toml.specs.declared.token.TomlTok.TheVariants as tok
-use Rattle.nano_toml.proofs.ReadLemmas.{Took-at, Parses-scalar, Parses-token, ParsesNothing-cut, ParsesNothing-fails, ParsesNothing-token}
-use Rattle.nano_toml.proofs.Unexpected.{no_value}
+use Rattle.nano_toml.proofs.ReadLemmas.{Took-at, Parses-scalar, Parses-token, ParsesNothing-cut}
+use Rattle.nano_toml.proofs.ReadLemmas.{ParsesNothing-fails, ParsesNothing-token}
+use Rattle.nano_toml.proofs.Broken.{no_value}
 use Rattle.nano_toml.proofs.StopLemmas.{Stops-token, Stops-broken, Stops-reported, can_find_value}
 use Rattle.nano_toml.proofs.statements.Reader.read_value.Goals as goal
 

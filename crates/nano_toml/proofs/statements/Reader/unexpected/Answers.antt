@@ -1,4 +1,4 @@
-use Rattle.nano_toml.specs.RemainingText.{remaining}
+use Rattle.nano_toml.specs.Place.{remaining}
 use Rattle.nano_toml.proofs.StopLemmas.{StandsNext-broken}
 use Rattle.nano_toml.proofs.statements.Reader.unexpected.Goals as goal
 

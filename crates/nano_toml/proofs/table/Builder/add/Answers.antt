@@ -1,8 +1,8 @@
 use Rattle.std.proofs.Common.{List, ℕ, ◌++◌, ap, sym, ◌∙◌}
-use Rattle.nano_toml.specs.Built.{key_of}
+use Rattle.nano_toml.specs.StatementTable.{key_of}
 use Rattle.nano_toml.specs.Reading.{name_view}
 use Rattle.nano_toml.specs.Statements.{scope}
-use Rattle.nano_toml.specs.View.{table_view}
+use Rattle.nano_toml.specs.Data.{table_view}
 use Rattle.nano_toml.proofs.BuildLemmas.{Stands-scope, NoneNamed-scope}
 use Rattle.nano_toml.proofs.StatementLists.{plain_push, scope_of-scope}
 use Rattle.nano_toml.proofs.table.Builder.add.Goals as goal

@@ -1,12 +1,10 @@
 use Rattle.std.proofs.Common.{◌≡◌, string_bytes, ap, sym, ◌∙◌, subst, List, ℕ}
-use Rattle.nano_toml.specs.Built.{Puts, key_of}
+use Rattle.nano_toml.specs.StatementTable.{Puts, key_of, scope_of, full_key}
 use Rattle.nano_toml.specs.Statements.{pair}
-use Rattle.nano_toml.specs.StatementTable.{scope_of, full_key}
-use Rattle.nano_toml.specs.View.{view, table_view}
-use Rattle.nano_toml.proofs.BuildLemmas.{NoneNamed-pair}
+use Rattle.nano_toml.specs.Data.{view, table_view}
+use Rattle.nano_toml.proofs.BuildLemmas.{NoneNamed-pair, Stands-in_element, Stands-in_root}
 use Rattle.nano_toml.proofs.StatementLists.{plain_push, scope_of-pair}
-use Rattle.nano_toml.proofs.BuilderSteps.{Stands-in_element, Stands-in_root}
-use Rattle.nano_toml.proofs.TableChanges.{OnOk-map}
+use Rattle.nano_toml.proofs.OneTable.{OnOk-map}
 use Rattle.nano_toml.proofs.table.Builder.add_pair.Goals as goal
 
 pub returns-then-is_some : goal.returns-then-is_some

@@ -1,9 +1,7 @@
 use Rattle.std.proofs.Common.{◌≡◌, Some, None, ap, sym, ◌∙◌, subst}
-use Rattle.nano_toml.specs.Built.{Puts, pushed}
-use Rattle.nano_toml.specs.Data.{Table, at}
-use Rattle.nano_toml.specs.View.{table_view}
-use Rattle.nano_toml.proofs.BuildLemmas.{Stands-can_push, Stands-whole}
-use Rattle.nano_toml.proofs.BuilderSteps.{Stands-at_key}
+use Rattle.nano_toml.specs.StatementTable.{Puts, pushed}
+use Rattle.nano_toml.specs.Data.{Table, at, table_view}
+use Rattle.nano_toml.proofs.BuildLemmas.{Stands-can_push, Stands-whole, Stands-at_key}
 use Rattle.nano_toml.proofs.TableViews.{Map}
 use Rattle.nano_toml.proofs.table.Builder.end_element.Goals as goal
 

@@ -1,6 +1,6 @@
 use Rattle.std.proofs.Common.{true≢false, sym, ◌∙◌}
 use Rattle.nano_toml.specs.Statements.{element}
-use Rattle.nano_toml.specs.View.{table_view}
+use Rattle.nano_toml.specs.Data.{table_view}
 use Rattle.nano_toml.proofs.BuildLemmas.{Stands-element, NoneNamed-element, key_free, key_taken}
 use Rattle.nano_toml.proofs.StatementLists.{plain_push, scope_of-element}
 use Rattle.nano_toml.proofs.table.Builder.start_element.Goals as goal

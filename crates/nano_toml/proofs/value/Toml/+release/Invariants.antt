@@ -1,5 +1,5 @@
 use Rattle.std.proofs.Common.{sum_by}
-use Rattle.nano_toml.proofs.ValueCount.{count}
+use Rattle.nano_toml.proofs.OneTable.{count}
 use Rattle.nano_toml.proofs.value.Toml.+release.Given as goal
 
 abbrev pub decreases-release-values : goal.decreases-release-values

@@ -1,6 +1,6 @@
 use Rattle.std.proofs.Common.{ap, ◌∙◌}
 use Rattle.nano_toml.specs.Kinds.{as_tables}
-use Rattle.nano_toml.specs.View.{view}
+use Rattle.nano_toml.specs.Data.{view}
 use Rattle.nano_toml.proofs.TableViews.{view-Array}
 use Rattle.nano_toml.proofs.value.Toml.arr.Goals as goal
 

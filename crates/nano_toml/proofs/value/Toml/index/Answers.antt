@@ -1,7 +1,6 @@
 use Rattle.std.proofs.Common.{◌≡◌, IsSome, Some, ap, ◌∙◌, sym, subst, arith}
-use Rattle.nano_toml.specs.Data.{Data, tables}
+use Rattle.nano_toml.specs.Data.{Data, tables, view, table_view, tables_view}
 use Rattle.nano_toml.specs.Kinds.{index_of}
-use Rattle.nano_toml.specs.View.{view, table_view, tables_view}
 use Rattle.nano_toml.proofs.TableViews.{view-Array, within-table_at, table_at-tables_view, Map}
 use Rattle.nano_toml.proofs.value.Toml.index.Goals as goal
 

@@ -1,9 +1,8 @@
 use Rattle.std.proofs.Common.{◌≡◌, ap, sym, ◌∙◌, Some}
-use Rattle.nano_toml.specs.View.{view, table_view, tables_view}
-use Rattle.nano_toml.specs.Data.{Data, tables}
+use Rattle.nano_toml.specs.Data.{view, table_view, tables_view, Data, tables}
 use Rattle.nano_toml.proofs.TableViews.{view-Array}
-use Rattle.nano_toml.specs.Built.{pushed}
-use Rattle.nano_toml.proofs.TableChanges.{tables_view-push}
+use Rattle.nano_toml.specs.StatementTable.{pushed}
+use Rattle.nano_toml.proofs.OneTable.{tables_view-push}
 use Rattle.nano_toml.proofs.value.Toml.with_table.Goals as goal
 
 pub returns : goal.returns

@@ -1,6 +1,5 @@
 use Rattle.std.proofs.lemmas.Bool.Decides.{same_from_decides}
-use Rattle.nano_toml.specs.View.{view}
-use Rattle.nano_toml.specs.SameData.{data_eq}
+use Rattle.nano_toml.specs.Data.{view, data_eq}
 use Rattle.nano_toml.specs.EqImpls.{data_eq-Decides}
 use Rattle.nano_toml.proofs.value.TomlPartialEq.eq.Goals as goal
 

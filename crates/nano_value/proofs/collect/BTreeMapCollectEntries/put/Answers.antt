@@ -5,7 +5,7 @@ use Rattle.std.specs.Ordering.{eq_by_cmp}
 use Rattle.nano_meaning.proofs.AscendingLaws.{key_order}
 use Rattle.nano_value.specs.Tables.{table_of}
 use Rattle.nano_meaning.proofs.TablesLaws.{table_of-insert}
-use Rattle.nano_meaning.proofs.CollectedLaws.{one_more_entry}
+use Rattle.nano_meaning.proofs.LastValuesLaws.{one_more_entry}
 use Rattle.nano_value.proofs.collect.BTreeMapCollectEntries.put.Goals as goal
 
 pub returns : goal.returns

@@ -4,7 +4,7 @@ use Rattle.std.specs.Ordering.{eq_by_cmp}
 use Rattle.nano_meaning.proofs.AscendingLaws.{key_order}
 use Rattle.nano_value.specs.Sets.{item_set}
 use Rattle.nano_meaning.proofs.SetsLaws.{item_set-insert}
-use Rattle.nano_meaning.proofs.CollectedLaws.{one_more_item}
+use Rattle.nano_meaning.proofs.LastValuesLaws.{one_more_item}
 use Rattle.nano_value.proofs.collect.BTreeSetCollect.put.Goals as goal
 
 pub returns : goal.returns

@@ -1,6 +1,6 @@
 use Rattle.nano_value.specs.Tables.{table_of}
 use Rattle.nano_meaning.proofs.TablesLaws.{table_of-insert}
-use Rattle.nano_meaning.proofs.CollectedLaws.{one_more_entry}
+use Rattle.nano_meaning.proofs.LastValuesLaws.{one_more_entry}
 use Rattle.nano_value.proofs.collect.HashMapCollectEntries.put.Goals as goal
 
 pub returns : goal.returns

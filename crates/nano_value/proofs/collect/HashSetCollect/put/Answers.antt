@@ -1,6 +1,6 @@
 use Rattle.nano_value.specs.Sets.{item_set}
 use Rattle.nano_meaning.proofs.SetsLaws.{item_set-insert}
-use Rattle.nano_meaning.proofs.CollectedLaws.{one_more_item}
+use Rattle.nano_meaning.proofs.LastValuesLaws.{one_more_item}
 use Rattle.nano_value.proofs.collect.HashSetCollect.put.Goals as goal
 
 pub returns : goal.returns

@@ -1,4 +1,4 @@
-use Rattle.nano_meaning.proofs.CollectedLaws.{one_more_listed}
+use Rattle.nano_meaning.proofs.LastValuesLaws.{one_more_listed}
 use Rattle.nano_value.proofs.collect.VecCollect.put.Goals as goal
 
 pub returns : goal.returns

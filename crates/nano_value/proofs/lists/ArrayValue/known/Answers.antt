@@ -1,5 +1,5 @@
 use Rattle.std.proofs.Common.{◌≤◌, sym, subst}
-use Rattle.nano_meaning.proofs.LegalLaws.{array_is_legal, all_walked}
+use Rattle.nano_meaning.proofs.MeaningLaws.{array_is_legal, all_walked}
 use Rattle.nano_value.proofs.lists.ArrayValue.known.Goals as goal
 
 pub returns : goal.returns

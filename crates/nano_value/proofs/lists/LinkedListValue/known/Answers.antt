@@ -1,6 +1,6 @@
 use Rattle.std.proofs.Common.{arith, sym, subst}
 use Rattle.std.specs.List.{AllByRecursion}
-use Rattle.nano_meaning.proofs.LegalLaws.{list_is_legal}
+use Rattle.nano_meaning.proofs.MeaningLaws.{list_is_legal}
 use Rattle.nano_value.proofs.lists.LinkedListValue.known.Goals as goal
 
 pub returns : goal.returns

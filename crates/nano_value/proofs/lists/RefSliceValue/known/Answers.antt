@@ -1,4 +1,4 @@
-use Rattle.nano_meaning.proofs.LegalLaws.{list_is_legal, all_walked}
+use Rattle.nano_meaning.proofs.MeaningLaws.{list_is_legal, all_walked}
 use Rattle.nano_value.proofs.lists.RefSliceValue.known.Goals as goal
 
 pub returns : goal.returns

@@ -1,7 +1,6 @@
 use Rattle.std.proofs.Common.{subst, map}
-use Rattle.nano_value.specs.Meaning.{listed}
-use Rattle.nano_value.specs.Legal.{LegalList}
-use Rattle.nano_meaning.proofs.LegalLaws.{list_is_legal, all_walked}
+use Rattle.nano_value.specs.Meaning.{listed, LegalList}
+use Rattle.nano_meaning.proofs.MeaningLaws.{list_is_legal, all_walked}
 use Rattle.nano_value.proofs.lists.VecValue.known.Goals as goal
 
 pub returns : goal.returns

@@ -7,7 +7,8 @@ use Rattle.nano_bin.proofs.Readers.{unit_reads}
 use Rattle.nano_bin.proofs.Variants.{variant_reads, content_rejected, tag_rejected}
 use Rattle.test_types.specs.CommandCodecs.{variants}
 use Rattle.test_types.proofs.command.CommandDeBin.de_bin.Goals as goal
-use Rattle.test_types.proofs.command.CommandDeBin.de_bin.Goals.{in-0, in-1+in_ok-steps-in-1, in-2+in_ok-time-in-2}
+use Rattle.test_types.proofs.command.CommandDeBin.de_bin.Goals.{in-0, in-1+in_ok-steps-in-1}
+use Rattle.test_types.proofs.command.CommandDeBin.de_bin.Goals.{in-2+in_ok-time-in-2}
 
 pub returns-in_err-de_bin-clause-err : goal.returns-in_err-de_bin-clause-err
 returns-in_err-de_bin-clause-err c =

@@ -1,4 +1,4 @@
-use Rattle.nano_meaning.proofs.LegalLaws.{pair_is_legal}
+use Rattle.nano_meaning.proofs.MeaningLaws.{pair_is_legal}
 use Rattle.nano_meaning.proofs.SumsLaws.{variant_is_legal}
 use Rattle.nano_bin.specs.Variants.{legal_bodies}
 use Rattle.test_types.specs.CommandCodecs.{variants}

@@ -2,10 +2,11 @@ use Rattle.std.proofs.Common.{◌≡◌, refl, length, sym, ◌∙◌, string_by
 use Rattle.std.proofs.lemmas.Int.{to_z-of_z}
 use Rattle.std.specs.Int.{w32}
 use Rattle.std.specs.Prelude.{codes}
-use Rattle.nano_grammar.proofs.Outcomes.{passed_on}
+use Rattle.nano_grammar.proofs.TokenCalls.{passed_on}
 use Rattle.nano_json_schema.specs.Variants.{encodings}
-use Rattle.nano_json_schema.proofs.ChoiceCalls.{name_not}
-use Rattle.nano_json_schema.proofs.VariantCalls.{is_another, one_part, unit_read, content_read, content_not, unit_not_known, content_not_known}
+use Rattle.nano_json_schema.proofs.Calls.{name_not}
+use Rattle.nano_json_schema.proofs.VariantCalls.{is_another, one_part, unit_read, content_read}
+use Rattle.nano_json_schema.proofs.VariantCalls.{content_not, unit_not_known, content_not_known}
 use Rattle.test_types.specs.MessageCodecs.{variants, moved, waited, said}
 use Rattle.test_types.proofs.message.MessageDeJson.de_json.Goals as goal
 

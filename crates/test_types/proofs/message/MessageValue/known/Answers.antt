@@ -1,7 +1,6 @@
 use Rattle.std.proofs.Common.{inl, inr, refl, [], ◌∷◌}
-use Rattle.nano_value.specs.Legal.{LegalUnit}
-use Rattle.nano_meaning.proofs.LegalLaws.{pair_is_legal, array_is_legal, image_of}
-use Rattle.nano_value.specs.Meaning.{whole, nothing}
+use Rattle.nano_value.specs.Meaning.{LegalUnit, whole, nothing}
+use Rattle.nano_meaning.proofs.MeaningLaws.{pair_is_legal, array_is_legal, image_of}
 use Rattle.nano_value.specs.Sums.{tagged}
 use Rattle.test_types.proofs.message.MessageValue.known.Goals as goal
 

@@ -1,0 +1,4 @@
+pub mod Documents
+pub mod Reading
+pub mod Sound
+pub mod Numbers

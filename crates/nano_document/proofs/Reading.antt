@@ -1,0 +1,138 @@
+-- What the readers of documents come to, by the kind of the pending token.
+use Rattle.std.proofs.Common.{◌≡◌, ℕ, suc, ◌-◌, ℤ, Bool, List, [], ◌∷◌, map, String, Vec, Global, string_bytes, refl, sym, ◌∙◌, ap, subst, arith}
+use Rattle.nano_text.proofs.PlaceLaws.{moves_append}
+use Rattle.nano_value.specs.Meaning.{Meaning, paired}
+use Rattle.nano_meaning.specs.Sums.{tagged}
+use Rattle.nano_grammar.specs.Codec.{BeginsValue, Encoding, IsEncoding}
+use Rattle.nano_json.specs.Lists.{EncodesEntry}
+use Rattle.nano_grammar.specs.Outcomes.{Report, Position, IsMadeAt, Fails, Took, Read}
+use Rattle.nano_grammar.specs.Tokens.{At, Leaves, DecodesToNothing}
+use Rattle.nano_grammar.proofs.ReadingCalls.{value_rejected}
+use Rattle.nano_grammar.proofs.TokenCalls.{fails_after, fails_as, fails_here}
+use Rattle.nano_grammar.proofs.Reading.{image_spans, image_rejected}
+use Rattle.nano_json_tokens.specs.Cut.{Cut}
+use Rattle.nano_json_tokens.specs.Cut.{json_grammar}
+use Rattle.nano_json_tokens.proofs.JsonLaws.{json}
+use Rattle.nano_json_tokens.specs.State.{pending, token_of}
+use Rattle.nano_json_tokens.specs.Token.{Token, colon}
+use Rattle.nano_json_tokens.specs.declared.state.DeJsonState.{DeJsonState}
+use Rattle.nano_json_tokens.specs.declared.token.DeJsonTok.{DeJsonTok}
+use Rattle.nano_json_tokens.specs.declared.token.DeJsonTok.TheVariants as T
+use Rattle.nano_json.proofs.Json.{json_laws}
+use Rattle.nano_levels.specs.Kinds.{kind_of, EncodesKind, codecs_at}
+use Rattle.nano_levels.proofs.KindsLaws.{of_kind}
+use Rattle.nano_levels.proofs.LevelsLaws.{level_holds, level_content, level_none}
+use Rattle.nano_document.specs.Documents.{kind, json_means, entry_means}
+use Rattle.nano_document.specs.DocumentCodecs.{layers, kind_is, json_nested, level_codec, string_codec, entry_at}
+use Rattle.nano_document.specs.declared.json.Json.{Json}
+
+-- what the alternative at a place encodes, around so many levels
+abbrev pub content_at : ℕ → ℕ → Encoding json_grammar
+content_at n place = (codecs_at layers (level_codec n) place).encoding
+
+-- what a document of one level more encodes
+abbrev Encodes : ℕ → List Token → Meaning → Type 0
+Encodes levels = (level_codec levels).encoding.encodes
+
+pub one_below : (levels : ℕ) → (levels ≡ 0 → ⊥) → levels ≡ suc (levels - 1)
+one_below levels h = omega (arith, h)
+
+-- ---- one alternative
+
+pub read_at : (levels n : ℕ) → levels ≡ suc n → (place : ℕ) (x : Json) (m : Meaning) → json_means x ≡ tagged place m
+    → {start end : Position Token} → Read Cut (content_at n place).encodes start end m
+    → Read Cut (Encodes levels) start end (json_means x)
+read_at levels n is place x m e h =
+    let ts = h.decodes.0 in
+    let codecs = codecs_at layers (level_codec n) in
+    let of = of_kind kind codecs (kind_is (level_codec n)) place ts m h.decodes.1 in
+    let there = level_holds json_nested n (json_means x) ts (subst (EncodesKind kind codecs ts) (sym e) of) in
+    record {
+      decodes = (ts, subst (λ k. Encodes k ts (json_means x)) (sym is) there, h.decodes.2);
+      place = h.place;
+    }
+
+first_kind : (ts : List Token) (start end : At Token) → BeginsValue json_grammar ts → Leaves Cut ts start end
+    → kind_of kind ts ≡ kind start.token
+first_kind [] start end b h = absurd b
+first_kind (t ∷ ts) start end b h = ap kind h.0
+
+-- where the pending token is of a kind, and no content of this kind is encoded, nothing is
+pub not_at : (levels n : ℕ) → levels ≡ suc n → (place : ℕ) → {start end : Position Token} {e : Report}
+    → kind start.at.token ≡ place → Fails (DecodesToNothing Cut (content_at n place).encodes start.at) start end e
+    → Fails (DecodesToNothing Cut (Encodes levels) start.at) start end e
+not_at levels n is place {start} same h = fails_as (λ none m f.
+    let u = level_content json_nested n m f.0 (subst (λ k. Encodes k f.0 m) is f.2) in
+    let begins = (level_codec levels).encoding.laws.begins f.0 m f.2 in
+    let kinds = first_kind f.0 start.at f.1 begins f.3 ∙ same in
+    none u.content (f.0, f.1, subst (λ k. (content_at n k).encodes f.0 u.content) kinds u.encodes, f.3)) h
+
+-- where it begins no document
+pub not_begun : (levels n : ℕ) → levels ≡ suc n → {start : Position Token} {e : Report} → kind start.at.token ≡ 6
+    → IsMadeAt start.place e → Fails (DecodesToNothing Cut (Encodes levels) start.at) start start e
+not_begun levels n is same made = not_at levels n is 6 same (fails_here (λ m f. f.2) made)
+
+-- where no level is left
+pub no_level : (levels : ℕ) → levels ≡ 0 → {start : Position Token} {e : Report} → IsMadeAt start.place e
+    → Fails (DecodesToNothing Cut (Encodes levels) start.at) start start e
+no_level levels is made =
+    fails_here (λ m f. level_none json_nested m f.0 (subst (λ k. Encodes k f.0 m) is f.2)) made
+
+-- ---- the kind of the pending token
+
+pub pending_is : (s : DeJsonState) (t : DeJsonTok) → s.tok ≡ t
+    → pending s ≡ token_of t (string_bytes s.strbuf) (string_bytes s.numbuf)
+pending_is s t e = ap (λ u. token_of u (string_bytes s.strbuf) (string_bytes s.numbuf)) e
+
+pub pending_kind : (s : DeJsonState) (t : DeJsonTok) → s.tok ≡ t
+    → kind (pending s) ≡ kind (token_of t (string_bytes s.strbuf) (string_bytes s.numbuf))
+pending_kind s t e = ap kind (pending_is s t e)
+
+-- a token that begins no document
+pub other_kind : (t : DeJsonTok) (strbuf numbuf : List ℕ) → (t ≡ T.Null → ⊥) → ((b : Bool) → t ≡ T.Bool b → ⊥)
+    → ((n : ℕ) → t ≡ T.U64 n → ⊥) → ((z : ℤ) → t ≡ T.I64 z → ⊥) → (t ≡ T.Str → ⊥) → (t ≡ T.BlockOpen → ⊥)
+    → (t ≡ T.CurlyOpen → ⊥) → kind (token_of t strbuf numbuf) ≡ 6
+other_kind T.Null s n null bool u64 i64 str block curly = absurd (null refl)
+other_kind (T.Bool b) s n null bool u64 i64 str block curly = absurd (bool b refl)
+other_kind (T.U64 k) s n null bool u64 i64 str block curly = absurd (u64 k refl)
+other_kind (T.I64 z) s n null bool u64 i64 str block curly = absurd (i64 z refl)
+other_kind T.Str s n null bool u64 i64 str block curly = absurd (str refl)
+other_kind T.BlockOpen s n null bool u64 i64 str block curly = absurd (block refl)
+other_kind T.CurlyOpen s n null bool u64 i64 str block curly = absurd (curly refl)
+other_kind _ s n null bool u64 i64 str block curly = refl
+
+-- ---- lists and entries
+
+abbrev pub level_laws : (levels : ℕ) → IsEncoding json_grammar (level_codec levels).encoding.legal (Encodes levels)
+level_laws levels = (level_codec levels).encoding.laws
+
+abbrev pub entry_laws_at : (levels : ℕ) → IsEncoding json_grammar (entry_at levels).legal (entry_at levels).encodes
+entry_laws_at levels = (entry_at levels).laws
+
+abbrev pub ItemsHold : Vec Json Global → List Meaning → Type 0
+ItemsHold items ms = map json_means items.items ≡ ms
+
+abbrev pub EntriesHold : Vec (String Global × Json) Global → List Meaning → Type 0
+EntriesHold entries ms = map (entry_means json_means) entries.items ≡ ms
+
+module _ (levels : ℕ) where
+  abbrev Entry : List Token → Meaning × Meaning → Type 0
+  Entry = EncodesEntry string_codec.encoding.encodes (Encodes levels)
+
+  -- a name and a document, seen as one meaning
+  pub entry_read_whole : {start end : Position Token} (x y : Meaning) → Read Cut Entry start end (x, y)
+      → Read Cut (entry_at levels).encodes start end (paired (x, y))
+  entry_read_whole {start} {end} x y h =
+      record { decodes = image_spans json paired start.at end.at (x, y) h.decodes; place = h.place }
+
+  pub no_entry_whole : {start end : Position Token} {e : Report} → Fails (DecodesToNothing Cut Entry start.at) start end e
+      → Fails (DecodesToNothing Cut (entry_at levels).encodes start.at) start end e
+  no_entry_whole {start} h = fails_as (image_rejected json paired start.at) h
+
+  pub document_not : {buffered : Type 0} {start m k end : Position Token} {x : Meaning} {e : Report}
+      → Read Cut string_codec.encoding.encodes start m x → Took Cut buffered m k (colon ∷ [])
+      → Fails (DecodesToNothing Cut (Encodes levels) k.at) k end e
+      → Fails (DecodesToNothing Cut Entry start.at) start end e
+  document_not {start = start} {m} {k} {x = x} key colon_taken h =
+      fails_after (value_rejected json_laws colon string_codec.encoding.laws (Encodes levels) start.at m.at k.at x key.decodes colon_taken.taken)
+      (moves_append key.place colon_taken.place) h

@@ -1,0 +1,16 @@
+-- what is written and what is left of the list make all of it
+use Rattle.std.proofs.Common.{false, drop, string_bytes}
+use Rattle.nano_json_tokens.specs.Token.{block_punctuation, curly_punctuation}
+use Rattle.nano_grammar.specs.Items.{no_gaps}
+use Rattle.nano_grammar.proofs.WrittenLists.{WritesSoFar}
+use Rattle.nano_json.specs.Lists.{written_entry}
+use Rattle.nano_document.specs.DocumentCodecs.{json_codec, string_codec}
+use Rattle.nano_document.proofs.write.+write.Given as goal
+
+abbrev pub invariant-append_items-loop-item : goal.invariant-append_items-loop-item
+invariant-append_items-loop-item l =
+    WritesSoFar false no_gaps block_punctuation (json_codec.canonical.text l.fn.d) (string_bytes l.fn.s.out) (string_bytes l.s.out) l.first (drop l.item-index l.item-items) l.item-items
+
+abbrev pub invariant-append_entries-loop-entry : goal.invariant-append_entries-loop-entry
+invariant-append_entries-loop-entry l =
+    WritesSoFar false no_gaps curly_punctuation (written_entry (string_codec.canonical.text l.fn.d) (json_codec.canonical.text l.fn.d)) (string_bytes l.fn.s.out) (string_bytes l.s.out) l.first (drop l.entry-index l.entry-items) l.entry-items

@@ -1,0 +1,47 @@
+//! The type of documents.
+
+ghost use Rattle.nano_meaning.proofs.AgreesLaws.{agreed};
+ghost use Rattle.nano_document.specs.Documents.{json_means};
+ghost use Rattle.nano_document.specs.DocumentCodecs.{json_codec};
+
+use crate::known::known_json;
+use nano_json::JsonCodec;
+use nano_value::Value;
+
+/// A document of JSON.
+///
+/// A number that is read is a `U64` unless it is below 0. A number with a point or an exponent is
+/// not read.
+#[derive(PartialEq, Debug, Drop)]
+pub enum Json {
+    /// `null`.
+    Null,
+    /// `true` or `false`.
+    Bool(bool),
+    /// A whole number that is not negative.
+    U64(u64),
+    /// A whole number.
+    I64(i64),
+    /// A text.
+    Text(String),
+    /// Documents between square brackets, in order.
+    List(Vec<Json>),
+    /// Names with their documents between braces, in order. A name may stand more than once.
+    Object(Vec<(String, Json)>),
+}
+
+impl Value for Json {
+    ghost means = { json_means };
+
+    ghost legal = { json_codec.encoding.legal };
+
+    fn known(&self) {
+        known_json(self);
+    }
+}
+
+impl JsonCodec for Json {
+    ghost json = { json_codec };
+
+    ghost agrees = { agreed };
+}

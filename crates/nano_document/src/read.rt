@@ -1,0 +1,150 @@
+//! Reads documents.
+
+ghost use Rattle.std.specs.Prelude.{◌≡◌, map};
+ghost use Rattle.nano_value.specs.Meaning.{number, listed};
+ghost use Rattle.nano_meaning.specs.Sums.{tagged};
+ghost use Rattle.nano_json.specs.Outcomes.{position, Reads};
+ghost use Rattle.nano_document.specs.Documents.{json_means, entry_means};
+ghost use Rattle.nano_document.specs.DocumentCodecs.{level_codec, items_at, entry_at, entries_at};
+
+use crate::json::Json;
+use nano_json::{DeJson, DeJsonErr, DeJsonState, DeJsonTok, end_on_error};
+use nano_json_tokens::bytes_left;
+use std::alloc::Global;
+use std::str::Chars;
+
+/// How many levels a document may have that is read. Each takes stack.
+const MOST_LEVELS: usize = 128;
+
+/// A number that was written with a minus sign.
+fn signed(value: i64) -> Json
+    ensures { json_means result ≡ tagged 2 (number value) }
+{
+    if value < 0 {
+        Json::I64(value)
+    } else {
+        Json::U64(value as u64)
+    }
+}
+
+/// Reads a document of at most so many levels. On error, the state may be anywhere.
+#[cycle(read)]
+fn read_json(
+    alloc: Global,
+    levels: usize,
+    state: &mut DeJsonState,
+    input: &mut Chars<'_>,
+) -> Result<Json, DeJsonErr>
+    ensures { Reads (level_codec levels).encoding.encodes json_means
+        (position state.old input.old) (position state.new input.new) result }
+{
+    if levels == 0 {
+        return Err(state.err_range(alloc, "levels>128"));
+    }
+    match state.tok {
+        DeJsonTok::Null => {
+            state.next_tok(alloc, input)?;
+            Ok(Json::Null)
+        }
+        DeJsonTok::Bool(truth) => {
+            state.next_tok(alloc, input)?;
+            Ok(Json::Bool(truth))
+        }
+        DeJsonTok::U64(value) => {
+            state.next_tok(alloc, input)?;
+            Ok(Json::U64(value))
+        }
+        DeJsonTok::I64(value) => {
+            state.next_tok(alloc, input)?;
+            Ok(signed(value))
+        }
+        DeJsonTok::Str => Ok(Json::Text(String::de_json(alloc, state, input)?)),
+        DeJsonTok::BlockOpen => Ok(Json::List(read_items(alloc, levels - 1, state, input)?)),
+        DeJsonTok::CurlyOpen => Ok(Json::Object(read_entries(alloc, levels - 1, state, input)?)),
+        _ => Err(state.err_token(alloc, "value")),
+    }
+}
+
+/// Reads documents between square brackets, each of at most so many levels. On error, the state
+/// may be anywhere.
+#[cycle(read)]
+fn read_items(
+    alloc: Global,
+    levels: usize,
+    state: &mut DeJsonState,
+    input: &mut Chars<'_>,
+) -> Result<Vec<Json>, DeJsonErr>
+    ensures { Reads (items_at levels).encodes (λ items. listed (map json_means items.items))
+        (position state.old input.old) (position state.new input.new) result }
+{
+    // A text has fewer than 2^63 bytes, so a `usize` counts its items.
+    let _capacity = bytes_left(input);
+    let mut items = Vec::new(alloc);
+    state.block_open(alloc, input)?;
+    'items: while !state.is_block_close() {
+        let item = read_json(alloc, levels, state, input)?;
+        let Ok(()) = items.push(item) else {
+            return Err(state.err_memory(alloc));
+        };
+        state.eat_comma_block(alloc, input)?;
+    }
+    state.block_close(alloc, input)?;
+    Ok(items)
+}
+
+/// Reads names with their documents between braces, each of at most so many levels. On error, the
+/// state may be anywhere.
+#[cycle(read)]
+fn read_entries(
+    alloc: Global,
+    levels: usize,
+    state: &mut DeJsonState,
+    input: &mut Chars<'_>,
+) -> Result<Vec<(String, Json)>, DeJsonErr>
+    ensures { Reads (entries_at levels).encodes
+        (λ entries. listed (map (entry_means json_means) entries.items))
+        (position state.old input.old) (position state.new input.new) result }
+{
+    // A text has fewer than 2^63 bytes, so a `usize` counts its entries.
+    let _capacity = bytes_left(input);
+    let mut entries = Vec::new(alloc);
+    state.curly_open(alloc, input)?;
+    'entries: while !state.is_curly_close() {
+        let entry = read_entry(alloc, levels, state, input)?;
+        let Ok(()) = entries.push(entry) else {
+            return Err(state.err_memory(alloc));
+        };
+        state.eat_comma_curly(alloc, input)?;
+    }
+    state.curly_close(alloc, input)?;
+    Ok(entries)
+}
+
+/// Reads a name, a colon and a document of at most so many levels. On error, the state may be
+/// anywhere.
+#[cycle(read)]
+fn read_entry(
+    alloc: Global,
+    levels: usize,
+    state: &mut DeJsonState,
+    input: &mut Chars<'_>,
+) -> Result<(String, Json), DeJsonErr>
+    ensures { Reads (entry_at levels).encodes (entry_means json_means)
+        (position state.old input.old) (position state.new input.new) result }
+{
+    let name = String::de_json(alloc, state, input)?;
+    state.colon(alloc, input)?;
+    let value = read_json(alloc, levels, state, input)?;
+    Ok((name, value))
+}
+
+impl DeJson for Json {
+    fn de_json(
+        alloc: Global,
+        state: &mut DeJsonState,
+        input: &mut Chars<'_>,
+    ) -> Result<Json, DeJsonErr> {
+        let read = read_json(alloc, MOST_LEVELS, state, input);
+        end_on_error(state, read)
+    }
+}

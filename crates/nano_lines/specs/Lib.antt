@@ -1,0 +1,10 @@
+pub mod Buffers
+pub mod Chunks
+pub mod Faults
+pub mod Left
+pub mod Lines
+pub mod Outcomes
+pub mod Promises
+pub mod Reads
+pub mod Steps
+pub mod Writes

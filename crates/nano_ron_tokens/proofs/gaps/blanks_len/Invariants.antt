@@ -1,9 +1,0 @@
-use Rattle.std.proofs.Common.{◌≡◌, ◌+◌, length, drop}
-use Rattle.nano_text.specs.Prefix.{prefix}
-use Rattle.nano_ron_tokens.specs.Scan.{is_blank}
-use Rattle.nano_ron_tokens.proofs.gaps.blanks_len.Given as goal
-
-abbrev pub invariant-loop-len : goal.invariant-loop-len
-invariant-loop-len l = record {
-  len : length (prefix is_blank l.bytes) ≡ l.len + length (prefix is_blank (drop l.len l.bytes));
-}

@@ -1,0 +1,57 @@
+#!/bin/sh
+# What the merge gate runs after `rt ci`, at the top: all that is checked and proves nothing.
+#
+#     sh tools/check.sh
+#
+# Each step is printed with its seconds; the first that fails ends it with status 1 and is named. The steps
+# are tools/check_*.py, list_calls.py and what_to_read.py; whether each generated file is what derive_files
+# writes; 20,000 drawn cases (fuzz.py), always the same; and worked.tsv with memory refused. It takes some
+# two minutes, and runs the programs that `rt ci` left in crates/conformance_run/out and
+# crates/derive_files/out; it wants cc and Python too.
+set -u
+cd "$(dirname "$0")/.." || exit 2
+program=crates/conformance_run/out/conformance_run
+derive=crates/derive_files/out/derive_files
+log=$(mktemp)
+trap 'rm -f "$log"' EXIT
+
+# step NAME COMMAND..: runs it; what it prints is shown where it fails
+step() {
+    name=$1
+    shift
+    start=$(date +%s)
+    if "$@" > "$log" 2>&1; then
+        echo "$name: $(($(date +%s) - start)) s, $(tail -n 1 "$log" | cut -c1-200)"
+    else
+        tail -n 200 "$log"
+        echo "FAILED: $name, after $(($(date +%s) - start)) s"
+        exit 1
+    fi
+}
+
+# is_fresh FILE..: derive_files would write each file as it is
+is_fresh() {
+    "$derive" --check "$@" && echo "$# files"
+}
+
+for script in tools/check_*.py tools/list_calls.py tools/what_to_read.py; do
+    step "$(basename "$script")" python3 "$script"
+done
+if [ ! -f tools/check_tables.py ]; then
+    echo "check_tables.py: skipped, since tools/check_tables.py is not there"
+fi
+if [ -x "$derive" ]; then
+    # shellcheck disable=SC2046
+    step "derive --check" is_fresh $(grep -lx -e '// ---- written by derive_files' -r crates/*/src |
+        grep -v -e '^crates/derive_' -e '^crates/test_derive/' | sort)
+else
+    echo "derive --check: skipped, since $derive is not there"
+fi
+[ -x "$program" ] || { echo "FAILED: $program is not there; rt ci builds it"; exit 1; }
+if [ -d tools/model ]; then
+    step "fuzz.py" python3 tools/fuzz.py "$program" --seed 1 --cases 20000
+else
+    echo "fuzz.py: skipped, since tools/model is not there"
+fi
+step "refuse_memory.sh" env PROGRAM="$PWD/$program" sh tools/measure/refuse_memory.sh worked.tsv
+echo "all steps passed"

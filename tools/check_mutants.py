@@ -1,0 +1,152 @@
+#!/usr/bin/env python3
+"""Compares tools/mutants.tsv with the clauses of public functions and with the mutants of the gate.
+
+A line of the table has a crate, modules of it, clauses, their count, the mutants that break them, and a
+reason. The clauses of a module are those of its `pub fn` and of the methods of its public traits: `NAME`
+for `ensures NAME`, `-` for one without a name, and the same after `requires ` for a condition. `*` stands
+for each module, or for each clause that no line of the crate names. Mutants are the files of the crate's
+folder must-fail without their ending, or of another one as CRATE/NAME. Where none stands, the reason says
+what rejects a body that breaks the clause.
+
+The script fails on a clause without a line, or with two; on a line without a clause, and on one with
+another count; on a mutant that no line names, and on a name of none; on a line with neither mutant nor
+reason; and on a mutant whose old text does not stand exactly once in its file. Usage, at the top of the
+repository: python3 tools/check_mutants.py
+"""
+import pathlib
+import re
+import sys
+from collections import Counter
+from typing import NamedTuple
+
+TABLE = pathlib.Path("tools/mutants.tsv")
+ITEM = re.compile(r"^(\s*)(pub |pub\(crate\) )?(?:(?:const|final|default) )*(fn|trait|impl)\b\s*(\w*)")
+CLAUSE = re.compile(r"^\s*(ensures|requires) (\w+ )?\{")
+
+
+class Line(NamedTuple):
+    """A line of the table."""
+
+    number: int
+    crate: str
+    modules: list
+    clauses: list
+    count: int
+    mutants: list
+    reason: str
+
+
+def libraries():
+    """The crates above the tests in crates.txt."""
+    head = pathlib.Path("crates.txt").read_text().split("# tests", 1)[0]
+    return re.findall(r"^(\w+)[^:\n#]*:", head, re.M)
+
+
+def clauses():
+    """Crate, module and clause of each contract of a public function, and how often they stand."""
+    found = Counter()
+    for crate in libraries():
+        for path in sorted(pathlib.Path("crates", crate, "src").glob("**/*.rt")):
+            is_open = is_public = False
+            for line in path.read_text().splitlines():
+                item, clause = ITEM.match(line), CLAUSE.match(line)
+                if item and item.group(3) == "fn":
+                    is_public = item.group(2) == "pub " or bool(item.group(1)) and is_open
+                elif item and not item.group(1):
+                    is_open = item.group(3) == "trait" and item.group(2) == "pub "
+                if clause and is_public:
+                    name = (clause.group(2) or "-").strip()
+                    name = name if clause.group(1) == "ensures" else f"requires {name}"
+                    found[crate, path.stem, name] += 1
+    return found
+
+
+def lines():
+    """The lines of the table."""
+    for number, line in enumerate(TABLE.read_text().splitlines(), 1):
+        if line and not line.startswith("#"):
+            crate, modules, names, count, mutants, reason = line.split("\t")
+            yield Line(number, crate, modules.split(", "), names.split(", "), int(count),
+                       mutants.split() if mutants != "-" else [], reason)
+
+
+def mutants():
+    """Each mutant, as CRATE/NAME, with its file."""
+    return {f"{path.parts[1]}/{path.stem}": path
+            for path in sorted(pathlib.Path("crates").glob("*/must-fail/*.edit"))}
+
+
+def is_of(line, clause, named):
+    """Whether a clause belongs to a line."""
+    crate, module, name = clause
+    if line.crate != crate or module not in line.modules and line.modules != ["*"]:
+        return False
+    return name in line.clauses or line.clauses == ["*"] and (crate, module, name) not in named
+
+
+def faults_of_lines(table):
+    """Clauses without a line, or with two, and lines whose count is another."""
+    found = clauses()
+    named = {clause for clause in found for line in table
+             if line.clauses != ["*"] and is_of(line, clause, set())}
+    counts = Counter()
+    for clause, count in found.items():
+        owners = [line for line in table if is_of(line, clause, named)]
+        counts.update({line.number: count for line in owners})
+        if len(owners) != 1:
+            places = ", ".join(str(line.number) for line in owners) or "none"
+            yield f"{' '.join(clause)}: it has the lines {places}"
+    for line in table:
+        if not counts[line.number]:
+            yield f"{TABLE}:{line.number}: it has no clause"
+        elif counts[line.number] != line.count:
+            yield f"{TABLE}:{line.number}: {counts[line.number]} clauses, and not {line.count}"
+
+
+def faults_of_mutants(table):
+    """Mutants that no line names, names of none, and lines with neither mutant nor reason."""
+    known, named = mutants(), set()
+    for line in table:
+        for name in line.mutants:
+            name = name if "/" in name else f"{line.crate}/{name}"
+            named.add(name)
+            if name not in known:
+                yield f"{TABLE}:{line.number}: no mutant {name}"
+        if not line.mutants and not line.reason:
+            yield f"{TABLE}:{line.number}: neither mutant nor reason"
+    for name in sorted(set(known) - named):
+        yield f"{known[name]}: no line of {TABLE} names it"
+
+
+def faults_of_edit(path):
+    """Old texts that do not stand exactly once in their file."""
+    source, old = None, None
+    for line in path.read_text().splitlines():
+        word, _, text = line.partition(":")
+        text = text.removeprefix(" ")
+        if word == "file":
+            source = path.parents[1] / text
+        elif word == "old":
+            old = text
+            times = source.read_text().count(text) if source.exists() else 0
+            if times != 1:
+                yield f"{path}: the old text stands {times} times in {source}"
+        elif word != "new" or old is None:
+            yield f"{path}: what is {line[:60]!r}?"
+
+
+def main():
+    table = list(lines())
+    faults = [*faults_of_lines(table), *faults_of_mutants(table)]
+    for path in mutants().values():
+        faults += faults_of_edit(path)
+    for fault in faults:
+        print(fault)
+    count = sum(line.count for line in table)
+    broken = sum(line.count for line in table if line.mutants)
+    print(f"{count} clauses, {broken} in lines with a mutant, {len(mutants())} mutants, {len(faults)} faults")
+    return 1 if faults else 0
+
+
+if __name__ == "__main__":
+    sys.exit(main())

@@ -1,0 +1,114 @@
+"""A case drawn at random: the columns FORMAT, TYPE and INPUT of a row. Its type is one that a table names."""
+import pathlib
+
+from . import binary_code, damage, kinds, states, texts, toml_text
+
+DATA = pathlib.Path(__file__).resolve().parents[2] / "crates/conformance_run/data"
+BYTES_ALONE = ["u128", "i128", "Vec<u128>", "Vec<i128>", "Command"]
+JSON_ALONE = ["Message"]
+
+
+def types_of_tables():
+    """The types that have three formats, of those that the tables name."""
+    found = set()
+    for path in DATA.glob("*.tsv"):
+        rows = path.read_text(encoding="ascii").splitlines() if path.name != "wrong.tsv" else []
+        for row in rows:
+            form, _, rest = row.partition("\t")
+            kind = rest.partition("\t")[0]
+            if form.split("-")[0] in ("bin", "json", "ron") and kind[:1] != ".":
+                found.add(kind)
+    return sorted(found - set(BYTES_ALONE + JSON_ALONE))
+
+
+TYPES = types_of_tables()
+# What is said of an input in each format, and of how many cases.
+FORMATS = [("json", 20), ("json-whole", 8), ("json-bin", 3), ("ron", 20), ("ron-whole", 8), ("ron-bin", 3),
+           ("bin", 12), ("bin-whole", 6), ("bin-json", 2), ("bin-ron", 2), ("run", 16),
+           ("json-state", 4), ("ron-state", 4), ("bin-at", 2)]
+DRAWN = [form for form, count in FORMATS for _ in range(count)]
+WORDS = {"u8": "u8", "u32": "u32", "u64": "u64", "i32": "i32", "i64": "i64", "bool": "bool",
+         "string": "String", "bytes": "Vec<u8>", "set": "HashSet<i32>", "map": "HashMap<String, i32>",
+         "tree": "BTreeMap<String, i32>", "item": "Item", "choice": "Choice"}
+
+
+def case(draw):
+    """Format, type and input."""
+    form = draw.pick(DRAWN)
+    if form == "run":
+        return ("run", *run_case(draw))
+    source = form.split("-")[0]
+    alone = {"bin": BYTES_ALONE, "bin-whole": BYTES_ALONE, "json": JSON_ALONE, "json-whole": JSON_ALONE}
+    name = draw.pick(alone[form]) if form in alone and draw.chance(0.04) else draw.pick(TYPES)
+    data = given(draw, source, lambda: good(draw, source, kinds.parse(name)))
+    if source == "bin" and name == "Vec<()>":
+        # Items without bytes: the count alone says how long it takes.
+        data = data[:2] + bytes(min(len(data), 8) - 2) + data[8:] if len(data) > 2 else data
+        form = "bin" if form == "bin-at" else form
+    if form == "bin-at":
+        return form, name, states.offset(draw, data)
+    if form.endswith("-state"):
+        kind = name if draw.chance(0.3) else states.calls(draw, source)
+        return form, kind, states.state(draw, source, data)
+    return form, name, data
+
+
+def good(draw, source, kind):
+    """A good input, now and then with something after it."""
+    if source == "bin":
+        data = binary_code.code(draw, kind)
+        return data + damage.noise(draw) if draw.chance(0.05) else data
+    spelling = texts.Json(draw) if source == "json" else texts.Ron(draw)
+    text = spelling.value(kind) + spelling.gap()
+    if draw.chance(0.06):
+        text += draw.pick(("]", "1", ",", "\0", "\0x", " x", '"', "@", "//", "/*", "-"))
+    return text.encode()
+
+
+def given(draw, source, good):
+    """A good input, or what is left of one, or one that is none."""
+    way = draw.random()
+    if way < 0.5:
+        return good()
+    if way < 0.72:
+        return damage.damaged(draw, good(), source)
+    if way < 0.82:
+        return damage.cut(draw, good())
+    if way < 0.9:
+        return damage.cut(draw, good()) + damage.cut(draw, good())
+    if way < 0.97 and source != "bin":
+        return damage.soup(draw, source)
+    return damage.noise(draw)
+
+
+def run_case(draw):
+    """The words of nano_show, and its input."""
+    way = draw.random()
+    if way < 0.6:
+        return "toml", given(draw, "toml", lambda: toml_text.text(draw).encode())
+    if way < 0.8:
+        form = draw.pick(("json", "ron", "bin"))
+        word = draw.pick(list(WORDS))
+        data = given(draw, form, lambda: good(draw, form, kinds.parse(WORDS[word])))
+        return form + draw.pick(("", "-whole")) + " " + word, data
+    words = code_words(draw) if way < 0.95 else wrong_words(draw)
+    return " ".join([escape_word(word) for word in words]), damage.noise(draw)
+
+
+def code_words(draw):
+    if draw.chance(0.3):
+        return ["code", "text", *(draw.text().replace("\0", "") for _ in range(draw.below(3)))]
+    numerals = [str(draw.integer(0, 65535)) for _ in range(draw.below(4))]
+    if draw.chance(0.2):
+        numerals.append(draw.pick(("+1", "-0", "0x1", "", "65536", "00000000065535", "1_0", "\u0663", " 1")))
+    return ["code", "u16s", *numerals]
+
+
+def wrong_words(draw):
+    known = ["json", "ron", "bin", "toml", "code", "u16s", "text", "item", "u8", "json-whole", "x", "", "set"]
+    return [draw.pick(known) for _ in range(draw.below(4))]
+
+
+def escape_word(word):
+    """A word as the column TYPE has it."""
+    return "".join([chr(b) if 0x21 <= b <= 0x7E and b != 0x25 else f"%{b:02X}" for b in word.encode()]) or "%_"

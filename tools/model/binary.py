@@ -1,0 +1,135 @@
+"""Bytes: how a value is read and written. Section Binary of docs/FORMATS.md."""
+from .type_tree import last_values, ordered
+
+
+class BinFault(Exception):
+    """An error. Its arguments are its kind, `o`, `l` and `s`."""
+
+    def column(self):
+        """As the tables have it."""
+        return "{} o {} l {} s {}".format(*self.args)
+
+    def printed(self):
+        """As it is printed."""
+        return "Bin deserialize error at:{1} wanted:{2} bytes but max size is {3}".format(*self.args)
+
+
+def take(data, at, count):
+    """The place after `count` bytes; fewer are TooShort, and past the end there are none."""
+    if at + count > len(data):
+        raise BinFault("TooShort", at, count, len(data))
+    return at + count
+
+
+def number(data, at, size, signed=False):
+    """An integer, little endian, and the place after it."""
+    end = take(data, at, size)
+    return int.from_bytes(data[at:end], "little", signed=signed), end
+
+
+def text(data, length, at):
+    """So many bytes of UTF-8: in an error `o` is the first of them, and `l` their number."""
+    end = take(data, at, length)
+    try:
+        return data[at:end].decode(), end
+    except UnicodeDecodeError:
+        raise BinFault("NotUtf8", at, length, len(data)) from None
+
+
+def counted(_, count, at):
+    """The count of a container of this type, with which nothing is done before its items are read."""
+    return count, at
+
+
+def read(type, data, at):
+    """The value of the code at a place, and the place after it."""
+    kind = type.kind
+    if kind == "int":
+        return number(data, at, type.size, type.low < 0)
+    if kind == "bool":  # 0 is false, any other true
+        value, at = number(data, at, 1)
+        return value != 0, at
+    if kind == "unit":
+        return (), at
+    if kind == "String":
+        return text(data, *number(data, at, 8))
+    if kind == "option":  # 1 and an item, and any other byte is none
+        value, at = number(data, at, 1)
+        if value != 1:
+            return (), at
+        item, at = read(type.parts[0], data, at)
+        return (item,), at
+    if kind == "box":
+        return read(type.parts[0], data, at)
+    if kind in ("tuple", "array", "struct"):
+        return read_parts(type.parts, data, at)
+    if kind == "enum":  # the place of the variant as a u16; another is the kind Own
+        index, end = number(data, at, 2)
+        if index >= len(type.variants):
+            raise BinFault("Own", at, 0, len(data))
+        content, at = read_parts(type.variants[index].parts, data, end)
+        return (index, content), at
+    count, at = counted(type, *number(data, at, 8))
+    if kind == "map":
+        pairs = []
+        for _ in range(count):
+            pair, at = read_parts(type.parts, data, at)
+            pairs.append(pair)
+        return last_values(pairs), at
+    items = []
+    for _ in range(count):
+        item, at = read(type.parts[0], data, at)
+        items.append(item)
+    return (ordered(items) if kind == "set" else tuple(items)), at
+
+
+def read_parts(parts, data, at):
+    """The parts, one after another."""
+    values = []
+    for part in parts:
+        value, at = read(part, data, at)
+        values.append(value)
+    return tuple(values), at
+
+
+def write(type, value):
+    """The code of a value."""
+    kind = type.kind
+    if kind == "int":
+        return value.to_bytes(type.size, "little", signed=type.low < 0)
+    if kind == "bool":
+        return bytes([value])
+    if kind == "unit":
+        return b""
+    if kind == "String":
+        return size(value.encode()) + value.encode()
+    if kind == "option":
+        return b"\1" + write(type.parts[0], value[0]) if value else b"\0"
+    if kind == "box":
+        return write(type.parts[0], value)
+    if kind in ("tuple", "array", "struct"):
+        return write_parts(type.parts, value)
+    if kind == "enum":
+        index, content = value
+        return index.to_bytes(2, "little") + write_parts(type.variants[index].parts, content)
+    if kind == "map":
+        return size(value) + b"".join(write_parts(type.parts, pair) for pair in value)
+    return size(value) + b"".join(write(type.parts[0], item) for item in value)
+
+
+def size(items):
+    """A count or a length, as a usize."""
+    return len(items).to_bytes(8, "little")
+
+
+def write_parts(parts, values):
+    """The parts, one after another."""
+    return b"".join(write(part, value) for part, value in zip(parts, values))
+
+
+def deserialize(type, data, whole):
+    """The value that the bytes begin with, or that they are."""
+    value, at = read(type, data, 0)
+    if whole and at != len(data):
+        raise BinFault("TrailingBytes", at, 0, len(data))
+    return value

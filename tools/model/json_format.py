@@ -1,0 +1,93 @@
+"""JSON: its tokens, and how it reads and writes what RON does otherwise.
+
+The sections JSON tokens and JSON types of docs/FORMATS.md.
+"""
+import re
+
+from . import values
+from .reader import BLOCK, CURLY, Reader
+
+WORD = re.compile("[A-Za-z_]+")
+WORDS = {"true": ("Bool", True), "false": ("Bool", False), "null": ("Null", None)}
+ESCAPES = {8: "\\b", 12: "\\f", 10: "\\n", 13: "\\r", 9: "\\t", 92: "\\\\", 34: '\\"'}
+ESCAPES = {**{code: f"\\u{code:04x}" for code in (*range(32), 127)}, **ESCAPES}
+
+
+class JsonReader(Reader):
+    """A reader of JSON."""
+
+    PARTS, FIELDS, NAME = BLOCK, CURLY, "Str"
+
+    def cut_word(self, at, end):
+        """A word as long as it goes, which is one of three. Any other character is no token."""
+        word = WORD.match(self.text, at, end)
+        if word is None:
+            raise self.err_token("tokenizer")
+        self.at = word.end()
+        if word.group() not in WORDS:
+            self.tok = "BareIdent"
+            raise self.err_token(f"Got ##{word.group()}## needed true, false, null")
+        return (*WORDS[word.group()], self.at)
+
+    def whole_field(self):
+        """Takes a skipped field: a token, or as many closing as opening brackets."""
+        if self.tok in ("Str", "U64", "I64", "F64", "Bool", "Null"):
+            self.next_tok()
+            return
+        if self.tok not in ("BlockOpen", "CurlyOpen"):
+            raise self.err_token("field")
+        depth = 0
+        while True:
+            depth += self.tok in ("BlockOpen", "CurlyOpen")
+            depth -= self.tok in ("BlockClose", "CurlyClose")
+            if self.tok == "Eof":
+                fault = self.err_parse("field")
+                self.fail()
+                raise fault
+            self.next_tok()
+            if depth == 0:
+                return
+
+    def unknown_field(self, _):
+        """A name that the struct does not have."""
+        self.next_colon()
+        self.whole_field()
+
+    def unit(self):
+        """The unit is Null."""
+        self.ask("Null", "null")
+        return ()
+
+    def is_absent(self):
+        """Null is `None`."""
+        return self.tok == "Null"
+
+    def variant(self, variants):
+        """Str with a name; or `{` Str with a name, Colon, the content, `}` with no comma before it."""
+        has_content = self.tok == "CurlyOpen"
+        if has_content:
+            self.next_tok()
+        elif self.tok != "Str":
+            raise self.err_token("String or {")
+        name = self.value
+        self.ask("Str", "String")
+        if has_content:
+            self.ask("Colon", ":")
+        for index, variant in enumerate(variants):
+            if variant.name == name and bool(variant.parts) == has_content:
+                content = values.read_content(self, variant) if has_content else ()
+                if has_content:
+                    self.close(CURLY)
+                return index, content
+        raise self.error(f"Enum not defined {name}")
+
+
+class JsonForm:
+    """What is written. It is the same at every level."""
+
+    UNIT = NONE = "null"
+    quoted = staticmethod(lambda text: '"' + text.translate(ESCAPES) + '"')
+    name = key = staticmethod(lambda name: f'"{name}"')  # of a variant, of a field
+    content = staticmethod(lambda name, content: f'{{"{name}":{content}}}')  # a variant with content
+    parts = items = lines = staticmethod(lambda texts, level=0: "[" + ",".join(texts) + "]")
+    pairs = fields = staticmethod(lambda texts, level: "{" + ",".join(texts) + "}")

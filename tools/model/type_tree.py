@@ -1,0 +1,194 @@
+"""The types by the names that the tables use, as small trees.
+
+A value is an int, a bool, a str, or a tuple: of the items of a list, of the parts of a tuple, of
+the fields of a struct; `(v,)` is Some(v), and `()` both None and the unit; a set is the tuple of
+its items ascending, a map that of its pairs ascending by key; an enum is its index and its
+content. So two values of a type compare as they do in Rust.
+"""
+import functools
+import re
+from typing import Any, NamedTuple
+
+
+class Type(NamedTuple):
+    """A type: what kind it is, and what that kind needs to be said."""
+
+    kind: str
+    parts: tuple = ()  # the types of its items, parts or fields, one after another
+    fields: tuple = ()  # of a struct
+    variants: tuple = ()  # of an enum
+    size: int = 0  # an integer's bytes
+    low: int = 0  # the range of an integer
+    high: int = 0
+
+
+class Field(NamedTuple):
+    """A named field. `kind` says what a missing one is: `required`, `optional`, which is `None`
+    and then is not written, or `default`."""
+
+    name: str
+    type: Type
+    kind: str
+    default: Any
+
+
+class Variant(NamedTuple):
+    """A variant: its name, the types of its parts or fields, and its fields."""
+
+    name: str
+    parts: tuple = ()
+    fields: tuple = ()
+
+
+class Unknown(Exception):
+    """The name of no type."""
+
+
+BITS = {"8": 8, "16": 16, "32": 32, "64": 64, "128": 128, "size": 64}
+ALIASES = {
+    "Lists": "(Vec<i32>, LinkedList<i32>, HashSet<i32>, BTreeSet<i32>)",
+    "Pair": "Option<([u32; 4], String)>",
+    "Limits": "HashMap<String, u64>",
+    "Tags": "BTreeMap<String, Vec<String>>",
+    "Test": "[i32; 1]",
+    "Plain": "i32",
+    "Point": "(i32, i32, String)",
+    "Entry": "(u64, Option<String>, Point, bool)",
+    "Tagged": "Tagged<i32, String>",
+    "Reply": "Reply<i32, String>",
+}
+
+# The types of the tables in docs/FORMATS.md. A field is `name: type`, and its default if it has
+# one. A skipped field is neither read nor written, so it is no field here. A variant is a name, its
+# parts or its fields.
+STRUCTS = {
+    "Item": ["value: i32", "note: Option<String>"],
+    "Holder": ["x: A"],
+    "Server": ["host: String", "port: u16", "tags: Tags", "limits: Limits", "note: Option<String>"],
+    "Site": ["host: String", ("port: u16", 8080), ("first: String", "index"),
+             ("tags: Vec<String>", ()), ("owner: Option<String>", ())],
+    "Clock": [("offset: i32", -5), ("running: bool", True)],
+    "Tagged": ["first: A", "other: Option<B>", "more: Vec<A>", ("times: u32", 1)],
+}
+ENUMS = {
+    "Choice": ["A", "B(i32, String)", {"C": ["a: i32", "b: String"]}],
+    "Event": ["Stop", "Move(u32, String)", {"Say": ["text: String", "times: u32"]}],
+    "Signal": ["Wait(u64)", "Move(u16, u16, u16)", "Light(u8, u8, u8, bool)"],
+    "Command": ["Stop", "Move(u32, String)", "Wait(u64)"],
+    "Message": ["Hello", "Move(i32, String)", "Wait(u64)", {"Say": ["text: String", "times: u32"]}],
+    "Notice": ["gone", "Move(i32, String)", {"said": ["text: String", ("times: u32", 1)]}],
+    "Reply": ["Found(A)", "Failed(B, u32)", {"Listed": ["items: Vec<A>", "next: Option<B>"]}],
+}
+PARAMETERS = {"Holder": 1, "Tagged": 2, "Reply": 2}
+# These have one format alone.
+ONLY = {"Command": "bin", "Message": "json", "u128": "bin", "i128": "bin"}
+
+NAME = re.compile(r"\s*([A-Za-z]\w*|[()\[\]<>,;]|\d+)")
+CONTAINERS = {"Option": "option", "Box": "box", "Vec": "list", "LinkedList": "linked",
+              "HashSet": "set", "BTreeSet": "set", "HashMap": "map", "BTreeMap": "map"}
+
+
+@functools.lru_cache(maxsize=None)
+def parse(name):
+    """The type with this name, as `Vec<Option<u8>>`."""
+    words = NAME.findall(name)
+    if "".join(words) != re.sub(r"\s", "", name):
+        raise Unknown(name)
+    try:
+        type, rest = read(words, {})
+    except (IndexError, ValueError):
+        rest = words
+    if rest:
+        raise Unknown(name)
+    return type
+
+
+def has(name, format):
+    """Whether the type with this name has a format."""
+    return all(ONLY.get(word, format) == format for word in NAME.findall(name))
+
+
+def read(words, given):
+    """The type that the words begin with, and the other words."""
+    word, rest = words[0], words[1:]
+    if word == "(":
+        parts, rest = read_list(rest, ")", given)
+        if len(parts) == 1 or len(parts) > 4:
+            raise Unknown("a tuple of two to four parts is known")
+        return (Type("tuple", parts) if parts else Type("unit")), rest
+    if word == "[":
+        item, rest = read(rest, given)
+        if rest[0] != ";" or rest[2] != "]":
+            raise Unknown("an array has its count")
+        return Type("array", (item,) * int(rest[1])), rest[3:]
+    parts = ()
+    if rest[:1] == ["<"]:
+        parts, rest = read_list(rest[1:], ">", given)
+    return named(word, parts, given), rest
+
+
+def read_list(words, close, given):
+    """Types with commas between, up to the closing word."""
+    parts = []
+    while words[0] != close:
+        part, words = read(words, given)
+        parts.append(part)
+        if words[0] == ",":
+            words = words[1:]
+    return tuple(parts), words[1:]
+
+
+def named(word, parts, given):
+    """The type of this name and these parameters."""
+    if word in given:
+        return given[word]
+    if word[1:] in BITS and word[0] in "ui" and not parts and word != "isize":
+        bits = BITS[word[1:]]
+        low, high = (0, 2**bits - 1) if word[0] == "u" else (-(2 ** (bits - 1)), 2 ** (bits - 1) - 1)
+        return Type("int", size=bits // 8, low=low, high=high)
+    if word in ("bool", "String") and not parts:
+        return Type(word)
+    if word in CONTAINERS and len(parts) == (2 if word.endswith("Map") else 1):
+        return Type(CONTAINERS[word], parts)
+    if word in ALIASES and not parts:
+        return parse(ALIASES[word])
+    if len(parts) != PARAMETERS.get(word, 0):
+        raise Unknown(word)
+    given = dict(zip("AB", parts))
+    if word in STRUCTS:
+        found = fields(STRUCTS[word], given)
+        return Type("struct", tuple(field.type for field in found), found)
+    if word in ENUMS:
+        return Type("enum", variants=tuple(variant(line, given) for line in ENUMS[word]))
+    raise Unknown(word)
+
+
+def fields(lines, given):
+    """The fields of a struct or of a variant. One whose type is written `Option<..>` may be missing."""
+    found = []
+    for line in lines:
+        line, *default = line if isinstance(line, tuple) else (line,)
+        name, written = line.split(": ")
+        kind = "default" if default else "optional" if written.startswith("Option<") else "required"
+        found.append(Field(name, read(NAME.findall(written), given)[0], kind, *default or [()]))
+    return tuple(found)
+
+
+def variant(line, given):
+    """A variant of an enum."""
+    if isinstance(line, dict):
+        ((name, lines),) = line.items()
+        found = fields(lines, given)
+        return Variant(name, tuple(field.type for field in found), found)
+    name, _, parts = line.partition("(")
+    return Variant(name, read_list(NAME.findall(parts), ")", given)[0] if parts else ())
+
+
+def ordered(items):
+    """The value of a set: each item once, ascending."""
+    return tuple(sorted(set(items)))
+
+
+def last_values(pairs):
+    """The value of a map: each key with its last value, ascending by key."""
+    return tuple(sorted(dict(pairs).items()))
