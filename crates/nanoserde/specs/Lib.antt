@@ -4,7 +4,6 @@ pub use Rattle.nano_value.specs.Sums
 pub use Rattle.nano_text.specs.Place
 pub use Rattle.nano_bin_bytes.specs.Reading as BinReading
 pub use Rattle.nano_bin.specs.Codec as BinCodec
-pub use Rattle.nano_bin.specs.Reading as BinWhole
 pub use Rattle.nano_json.specs.Codec as JsonCodec
 pub use Rattle.nano_json.specs.Readers as JsonReaders
 pub use Rattle.nano_ron.specs.Codec as RonCodec
