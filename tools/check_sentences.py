@@ -13,7 +13,7 @@ import sys
 MOST = 40
 # The lines that each document is planned for; none where its length is that of its subject.
 PLANNED = {
-    "README.md": 100,
+    "README.md": 102,
     "CONTRIBUTING.md": 85,
     "docs/ARCHITECTURE.md": 170,
     "docs/DECISIONS.md": 165,

@@ -36,4 +36,4 @@ def escape(data):
 
 def words_of(field):
     """The words of a program: a space between two, and `%_` for the empty word."""
-    return [unescape(word.replace("%_", "")).decode() for word in field.split(" ") if word]
+    return [unescape(word.replace("%_", "")).decode() for word in field.split(" ")] if field else []
