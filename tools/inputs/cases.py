@@ -22,10 +22,12 @@ def types_of_tables():
 
 
 TYPES = types_of_tables()
-# What is said of an input in each format, and of how many cases.
-FORMATS = [("json", 20), ("json-whole", 8), ("json-bin", 3), ("ron", 20), ("ron-whole", 8), ("ron-bin", 3),
-           ("bin", 12), ("bin-whole", 6), ("bin-json", 2), ("bin-ron", 2), ("run", 16),
+# What is said of an input in each format, and of how many cases. Of an accepted input the program reads each
+# prefix too, but where its bytes, or the text of bytes, are asked for; so most are drawn in these formats.
+FORMATS = [("json", 7), ("json-whole", 6), ("json-bin", 18), ("ron", 7), ("ron-whole", 6), ("ron-bin", 18),
+           ("bin", 10), ("bin-whole", 5), ("bin-json", 6), ("bin-ron", 6), ("run", 16),
            ("json-state", 4), ("ron-state", 4), ("bin-at", 2)]
+ALSO_LONG = 0.1  # of how many long texts each prefix is read
 DRAWN = [form for form, count in FORMATS for _ in range(count)]
 WORDS = {"u8": "u8", "u32": "u32", "u64": "u64", "i32": "i32", "i64": "i64", "bool": "bool",
          "string": "String", "bytes": "Vec<u8>", "set": "HashSet<i32>", "map": "HashMap<String, i32>",
@@ -50,6 +52,8 @@ def case(draw):
     if form.endswith("-state"):
         kind = name if draw.chance(0.3) else states.calls(draw, source)
         return form, kind, states.state(draw, source, data)
+    if len(data) > 80 and form in ("json", "json-whole", "ron", "ron-whole") and not draw.chance(ALSO_LONG):
+        form = form if name in JSON_ALONE else source + "-bin"
     return form, name, data
 
 

@@ -108,7 +108,7 @@ left_listed false vs = more_listed vs
 
 -- and its closing bracket after them
 abbrev pub closed_list : Bool → List Toml → List ℕ
-closed_list is_first values = left_listed is_first (values_view values) ++ codes "]"
+closed_list is_first list = left_listed is_first (values_view list) ++ codes "]"
 
 -- what is still to be listed of lists in lists, the innermost last, with `more` after it
 abbrev pub closed_lists : List OpenList → List ℕ → List ℕ
@@ -118,4 +118,4 @@ closed_lists (l ∷ ls) more = closed_lists ls (closed_list l.is_first l.values.
 -- of a list that was just opened, or of none
 abbrev pub closed_if_opened : Option (List Toml) → List ℕ
 closed_if_opened None = []
-closed_if_opened (Some values) = closed_list true values
+closed_if_opened (Some list) = closed_list true list
