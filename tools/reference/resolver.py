@@ -18,8 +18,11 @@ PRELUDE = set("""
 # Words of the language itself, and of clauses without an import.
 LANGUAGE = set("""
     Type Unit tt absurd refl record let in if then else elim with where unfolding data pub abbrev
-    unfoldable do mutual ruleset as cc _
+    unfoldable do mutual ruleset as cc grind omega search rw _
 """.split())
+
+# The modules that the kit makes of a type: its variants, one level of it, its views and its folds.
+GENERATED = {"TheVariants", "TheOpen", "TheViews", "TheFolds"}
 
 
 class Resolver:
@@ -110,7 +113,7 @@ class Resolver:
     def declared(self, crate, rest, name):
         """The target of a name that stands for a Rust type or for a variant of one."""
         is_variant = rest[-1] == "TheVariants"
-        names = [part for part in rest if part not in ("TheVariants", "TheOpen")]
+        names = [part for part in rest if part not in GENERATED]
         one = self.library.rust.get((crate, tuple(names[:-1]), names[-1]))
         return self.type_target(one, name if is_variant else "") if one else None
 
