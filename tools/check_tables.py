@@ -5,7 +5,8 @@ Each row of each table is judged by tools/model, which is written from docs/FORM
 docs/ERRORS.md. A fault is an answer that differs, a wrong count of fields, a field that is written
 as none can be, a verdict `rejected` (the pages give the text of every error), and a row that the
 model cannot judge, but for those of NOT_JUDGED. Each row of wrong.tsv has a fault, and where it is
-judged the program's stored output has the model's answer. The counts there are those of the tables.
+judged the program's stored output has the model's answer; rows whose format ends in `-written` are
+about the program's own questions alone. The counts there are those of the tables.
 
 Of rust_crate.tsv it is looked at what the Rust crate did. The model is asked again with each named
 difference undone (rust_crate.py): then it does what the column RUST_CRATE says, each name changes
@@ -87,7 +88,8 @@ def main():
             if verbose and not (outcomes and outcomes[0].verdict != "unknown"):
                 print(f"{place}: not judged")
             if path.name == WRONG:
-                got = f"{outcomes[0].verdict} {outcomes[0].answer}" if outcomes else None
+                judges = outcomes and not fields[0].endswith("-written")
+                got = f"{outcomes[0].verdict} {outcomes[0].answer}" if judges else None
                 found = [] if found else ["nothing is wrong with it"]
                 if got is not None and came.get(place.rpartition(":")[2], got) != got:
                     found.append(f"the stored output has another answer than {got}")

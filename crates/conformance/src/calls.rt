@@ -1,12 +1,11 @@
 //! The outcome of a case's input: a value of a type, a call in a state, or the words of a program.
 
 use crate::dates::date_at;
-use crate::format::Format;
-use crate::outcome::Outcome;
-use crate::types::outcome_of_type;
+use crate::json_calls::json_calls;
+use crate::ron_calls::ron_calls;
 use crate::words::run_words;
 use crate::writer::{json_call, ron_call};
-use crate::{json_state, ron_state};
+use conformance_types::{Format, Outcome, outcome_of_type};
 use std::alloc::{AllocError, Global};
 use std::str;
 
@@ -31,8 +30,8 @@ fn called(alloc: Global, format: Format, call: &str, input: &[u8]) -> Result<Out
         return Ok(Outcome::Unknown);
     };
     match format {
-        Format::JsonState => json_state::call_at(alloc, call, text),
-        Format::RonState => ron_state::call_at(alloc, call, text),
+        Format::JsonState => json_calls(alloc, call, text),
+        Format::RonState => ron_calls(alloc, call, text),
         Format::JsonWrite => json_call(alloc, call, text),
         Format::RonWrite => ron_call(alloc, call, text),
         Format::TomlDate => date_at(alloc, call, text),

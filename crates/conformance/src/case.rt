@@ -1,11 +1,11 @@
-//! A case, and what differs where it is run.
+//! A case, and what comes of it.
 
+use crate::asked::Asked;
 use crate::calls::outcome_of;
-use crate::fields::unescape;
-use crate::format::Format;
+use crate::findings::{Difference, Findings, reported};
 use crate::names::is_named;
-use crate::outcome::Outcome;
 use crate::questions::ask_further;
+use conformance_types::{Format, Outcome, unescape};
 use std::alloc::{AllocError, Global};
 
 /// A line of a table.
@@ -27,61 +27,66 @@ pub struct Case<'a> {
     pub names: &'a str,
 }
 
-/// Something of a case that differs.
-#[derive(Drop)]
-pub struct Difference {
-    /// What was asked.
-    pub question: &'static str,
-    /// What was wanted.
-    pub wanted: String,
-    /// What the case gave.
-    pub got: String,
+/// Why a line is no case.
+#[derive(Clone, Copy)]
+pub enum NoCase {
+    /// It has not as many fields as a case.
+    Fields,
+    /// There is no format of this name.
+    Format,
+    /// A `%` of the input has no two digits after it.
+    Input,
 }
 
-impl Difference {
-    /// A difference from what is wanted in words.
-    pub(crate) fn new(
-        alloc: Global,
-        question: &'static str,
-        wanted: &str,
-        outcome: &Outcome,
-    ) -> Result<Difference, AllocError> {
-        Ok(Difference {
-            question,
-            wanted: String::from_str(alloc, wanted)?,
-            got: reported(alloc, outcome.verdict(), outcome.answer(alloc)?.as_str())?,
-        })
+impl NoCase {
+    /// The reason, as it is reported.
+    pub fn reason(self) -> &'static str {
+        match self {
+            NoCase::Fields => "a case has 5 fields, or 7 with the Rust crate",
+            NoCase::Format => "no format has this name",
+            NoCase::Input => "a % of the input has no two digits after it",
+        }
     }
 }
 
-/// A verdict and an answer in one text.
-pub(crate) fn reported(alloc: Global, verdict: &str, answer: &str) -> Result<String, AllocError> {
-    format!(in alloc; "{verdict} {answer}")
-}
-
 impl<'a> Case<'a> {
-    /// The case of a line, or `None` where the line is none.
-    pub fn of_line(alloc: Global, line: &'a str) -> Result<Option<Case<'a>>, AllocError> {
+    /// The case of a line, or why the line is none.
+    pub fn of_line(alloc: Global, line: &'a str) -> Result<Result<Case<'a>, NoCase>, AllocError> {
         let fields: Vec<&str> = line.split('\t').collect(alloc)?;
-        let (rust_crate, names) = match fields.as_slice() {
-            [_, _, _, _, _, rust_crate, names] => (*rust_crate, *names),
-            _ => ("", ""),
+        match fields.as_slice() {
+            [format, kind, input, verdict, answer] => {
+                let given = (*verdict, *answer, "", "");
+                Case::of_fields(alloc, (*format, *kind, *input), given)
+            }
+            [format, kind, input, verdict, answer, rust_crate, names] => {
+                let given = (*verdict, *answer, *rust_crate, *names);
+                Case::of_fields(alloc, (*format, *kind, *input), given)
+            }
+            _ => Ok(Err(NoCase::Fields)),
+        }
+    }
+
+    /// The case of these fields.
+    fn of_fields(
+        alloc: Global,
+        (format, kind, input): (&'a str, &'a str, &'a str),
+        (verdict, answer, rust_crate, names): (&'a str, &'a str, &'a str, &'a str),
+    ) -> Result<Result<Case<'a>, NoCase>, AllocError> {
+        let Some(format) = Format::of(format) else {
+            return Ok(Err(NoCase::Format));
         };
-        let [format, kind, input, verdict, answer, ..] = fields.as_slice() else {
-            return Ok(None);
-        };
-        let (Some(format), Some(input)) = (Format::of(format), unescape(alloc, input)?) else {
-            return Ok(None);
-        };
-        Ok(Some(Case {
-            format,
-            kind: *kind,
-            input,
-            verdict: *verdict,
-            answer: *answer,
-            rust_crate,
-            names,
-        }))
+        match unescape(alloc, input)? {
+            None => Ok(Err(NoCase::Input)),
+            Some(input) => Ok(Ok(Case {
+                format,
+                kind,
+                input,
+                verdict,
+                answer,
+                rust_crate,
+                names,
+            })),
+        }
     }
 
     /// The outcome of the case's input.
@@ -89,25 +94,28 @@ impl<'a> Case<'a> {
         outcome_of(alloc, self.format, self.kind, &self.input)
     }
 
-    /// What differs: the answer, and where it is accepted what else is asked of it.
-    pub fn differences(&self, alloc: Global) -> Result<Vec<Difference>, AllocError> {
+    /// What differs, in the answer and where it is accepted in what else is asked of it, which is
+    /// counted after what was asked of other cases.
+    pub fn findings(&self, alloc: Global, asked: Asked) -> Result<Findings, AllocError> {
         let outcome = self.run(alloc)?;
-        let mut found = Vec::new(alloc);
+        let mut findings = Findings::new(alloc, asked);
         if !self.is_wanted(alloc, &outcome)? {
             let wanted = reported(alloc, self.verdict, self.answer)?;
-            found.push(Difference::new(alloc, "answer", wanted.as_str(), &outcome)?)?;
+            let difference = Difference::new(alloc, "answer", wanted.as_str(), &outcome)?;
+            findings.differences.push(difference)?;
         }
         if !is_named(self.rust_crate, self.names, &outcome) {
-            found.push(Difference::new(alloc, "the name", self.names, &outcome)?)?;
+            let difference = Difference::new(alloc, "the name", self.names, &outcome)?;
+            findings.differences.push(difference)?;
         }
-        ask_further(alloc, self, &outcome, &mut found)?;
-        Ok(found)
+        ask_further(alloc, self, &outcome, &mut findings)?;
+        Ok(findings)
     }
 
     /// Whether this is the wanted answer.
     fn is_wanted(&self, alloc: Global, outcome: &Outcome) -> Result<bool, AllocError> {
         if self.verdict == "rejected" {
-            return Ok(outcome.verdict() == "error");
+            return Ok(outcome.is_error());
         }
         let answer = outcome.answer(alloc)?;
         Ok(outcome.verdict() == self.verdict && answer.as_str() == self.answer)

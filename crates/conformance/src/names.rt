@@ -1,6 +1,6 @@
 //! The intended differences from the Rust crate, by the names that docs/DIFFERENCES.md gives them.
 
-use crate::outcome::Outcome;
+use conformance_types::Outcome;
 
 /// The names, as they stand in docs/DIFFERENCES.md.
 const NAMES: &[&str] = &[
@@ -19,16 +19,16 @@ const NAMES: &[&str] = &[
 ];
 
 /// Whether an answer is what the Rust crate did, or differs from it by names that are known. Where
-/// there is no word on the Rust crate, it is.
+/// there is no word on the Rust crate, it is; where it stopped, or the word is no word, it is not.
 pub(crate) fn is_named(rust_crate: &str, names: &str, outcome: &Outcome) -> bool {
     if !names.is_empty() {
         return are_known(names);
     }
     match rust_crate {
         "answered" => outcome.verdict() == "is",
-        "rejected" => outcome.verdict() == "error",
-        "stopped" => false,
-        _ => true,
+        "rejected" => outcome.is_error(),
+        "" => true,
+        _ => false,
     }
 }
 

@@ -1,10 +1,11 @@
 //! What is asked of an accepted input beside its answer, with no line of data.
 
+use crate::asked::Question;
 use crate::calls::outcome_of;
-use crate::case::{Case, Difference};
-use crate::counterpart::counterpart;
-use crate::format::Format;
-use crate::outcome::Outcome;
+use crate::case::Case;
+use crate::counterparts::counterpart;
+use crate::findings::Findings;
+use conformance_types::{Format, Outcome};
 use std::alloc::{AllocError, Global};
 
 /// Asks what each accepted input is to answer, and adds what differs.
@@ -12,59 +13,49 @@ pub(crate) fn ask_further(
     alloc: Global,
     case: &Case<'_>,
     outcome: &Outcome,
-    found: &mut Vec<Difference>,
+    findings: &mut Findings,
 ) -> Result<(), AllocError> {
-    ask_counterpart(alloc, case, outcome, found)?;
+    ask_other_order(alloc, case, outcome, findings)?;
     let Some(whole) = case.format.whole() else {
         return Ok(());
     };
     match outcome {
-        Outcome::Code(code) => ask_code(alloc, case.kind, code, found),
+        Outcome::Code(code) => ask_code(alloc, case.kind, code, findings),
         Outcome::Text(text) => {
-            ask_text(alloc, case.kind, whole, text, found)?;
-            ask_input(alloc, case, whole, found)?;
-            ask_bytes(alloc, case, whole, found)
+            ask_text(alloc, case.kind, whole, text, findings)?;
+            ask_input(alloc, case, whole, findings)?;
+            ask_bytes(alloc, case, whole, findings)
         }
         _ => Ok(()),
     }
 }
 
 /// A hashed and an ordered set or map answer alike. A type without a counterpart in the table of
-/// types is passed over.
-fn ask_counterpart(
+/// types is passed over. What is reported names the counterpart.
+fn ask_other_order(
     alloc: Global,
     case: &Case<'_>,
     outcome: &Outcome,
-    found: &mut Vec<Difference>,
+    findings: &mut Findings,
 ) -> Result<(), AllocError> {
     let Some(other) = counterpart(alloc, case.kind)? else {
         return Ok(());
     };
-    match outcome_of(alloc, case.format, other.as_str(), &case.input)? {
+    match outcome_of(alloc, case.format.read(), other.as_str(), &case.input)? {
         Outcome::Unknown => Ok(()),
-        same => differ(
-            alloc,
-            "the same entries in the other order",
-            outcome,
-            &same,
-            found,
-        ),
+        same => {
+            let answer = outcome.answer(alloc)?;
+            let wanted = format!(in alloc; "{answer} as {other}")?;
+            let is_right = outcome.is_same(&same);
+            findings.ask(
+                alloc,
+                Question::OtherOrder,
+                is_right,
+                wanted.as_str(),
+                &same,
+            )
+        }
     }
-}
-
-/// The two are the same.
-fn differ(
-    alloc: Global,
-    question: &'static str,
-    wanted: &Outcome,
-    outcome: &Outcome,
-    found: &mut Vec<Difference>,
-) -> Result<(), AllocError> {
-    if *wanted != *outcome {
-        let answer = wanted.answer(alloc)?;
-        found.push(Difference::new(alloc, question, answer.as_str(), outcome)?)?;
-    }
-    Ok(())
 }
 
 /// A written code is its own normal form, as a whole input too, and every proper prefix of it is
@@ -73,34 +64,37 @@ fn ask_code(
     alloc: Global,
     kind: &str,
     code: &[u8],
-    found: &mut Vec<Difference>,
+    findings: &mut Findings,
 ) -> Result<(), AllocError> {
     let wanted = Outcome::Code(Vec::from_slice(alloc, code)?);
-    let again = outcome_of(alloc, Format::Bin, kind, code)?;
-    differ(alloc, "the written code, read", &wanted, &again, found)?;
-    let again = outcome_of(alloc, Format::BinWhole, kind, code)?;
-    differ(
+    let answer = wanted.answer(alloc)?;
+    let read = outcome_of(alloc, Format::Bin, kind, code)?;
+    findings.ask(
         alloc,
-        "the written code, read whole",
-        &wanted,
-        &again,
-        found,
+        Question::Code,
+        wanted.is_same(&read),
+        answer.as_str(),
+        &read,
+    )?;
+    let read = outcome_of(alloc, Format::BinWhole, kind, code)?;
+    findings.ask(
+        alloc,
+        Question::WholeCode,
+        wanted.is_same(&read),
+        answer.as_str(),
+        &read,
     )?;
     for end in 0..code.len() {
         let cut = outcome_of(alloc, Format::Bin, kind, &code[..end])?;
-        if !is_too_short(&cut) {
-            found.push(Difference::new(alloc, "a prefix of the code", "TooShort", &cut)?)?;
-        }
+        findings.ask(
+            alloc,
+            Question::CodePrefix,
+            cut.is_too_short(),
+            "TooShort",
+            &cut,
+        )?;
     }
     Ok(())
-}
-
-/// Whether the bytes were reported to be too short.
-fn is_too_short(outcome: &Outcome) -> bool {
-    match outcome {
-        Outcome::Error(text) => text.starts_with(b"TooShort o "),
-        _ => false,
-    }
 }
 
 /// A written text is its own normal form, as a whole input too, and every proper prefix is
@@ -110,20 +104,27 @@ fn ask_text(
     kind: &str,
     whole: Format,
     text: &[u8],
-    found: &mut Vec<Difference>,
+    findings: &mut Findings,
 ) -> Result<(), AllocError> {
     let wanted = Outcome::Text(Vec::from_slice(alloc, text)?);
-    let again = outcome_of(alloc, whole.prefix(), kind, text)?;
-    differ(alloc, "the written text, read", &wanted, &again, found)?;
-    let again = outcome_of(alloc, whole, kind, text)?;
-    differ(
+    let answer = wanted.answer(alloc)?;
+    let read = outcome_of(alloc, whole.prefix(), kind, text)?;
+    findings.ask(
         alloc,
-        "the written text, read whole",
-        &wanted,
-        &again,
-        found,
+        Question::Text,
+        wanted.is_same(&read),
+        answer.as_str(),
+        &read,
     )?;
-    ask_prefixes(alloc, kind, whole, text, found)
+    let read = outcome_of(alloc, whole, kind, text)?;
+    findings.ask(
+        alloc,
+        Question::WholeText,
+        wanted.is_same(&read),
+        answer.as_str(),
+        &read,
+    )?;
+    ask_prefixes(alloc, kind, whole, text, findings)
 }
 
 /// An input that is a value ends where its bracket or quote closes, once white space is left out.
@@ -132,14 +133,14 @@ fn ask_input(
     alloc: Global,
     case: &Case<'_>,
     whole: Format,
-    found: &mut Vec<Difference>,
+    findings: &mut Findings,
 ) -> Result<(), AllocError> {
     let text = case.input.trim_ascii_end();
-    if whole == Format::RonWhole && text.contains(&b'/') {
+    if whole.has_comments() && text.contains(&b'/') {
         return Ok(());
     }
     match outcome_of(alloc, whole, case.kind, &case.input)? {
-        Outcome::Text(_) => ask_prefixes(alloc, case.kind, whole, text, found),
+        Outcome::Text(_) => ask_prefixes(alloc, case.kind, whole, text, findings),
         _ => Ok(()),
     }
 }
@@ -151,7 +152,7 @@ fn ask_prefixes(
     kind: &str,
     whole: Format,
     text: &[u8],
-    found: &mut Vec<Difference>,
+    findings: &mut Findings,
 ) -> Result<(), AllocError> {
     let is_open = match text.first() {
         Some(b'[' | b'{' | b'(' | b'"') => true,
@@ -161,56 +162,41 @@ fn ask_prefixes(
         return Ok(());
     }
     for end in 0..text.len() {
-        let prefix = &text[..end];
-        rejected(
+        let cut = outcome_of(alloc, whole.prefix(), kind, &text[..end])?;
+        findings.ask(
             alloc,
-            "a prefix of the text",
-            whole.prefix(),
-            kind,
-            prefix,
-            found,
+            Question::TextPrefix,
+            cut.is_error(),
+            "an error",
+            &cut,
         )?;
-        rejected(
+        let second = outcome_of(alloc, whole.again(), kind, &text[..end])?;
+        findings.ask(
             alloc,
-            "a prefix, read twice",
-            whole.again(),
-            kind,
-            prefix,
-            found,
+            Question::SecondReading,
+            second.is_error(),
+            "an error",
+            &second,
         )?;
     }
     Ok(())
 }
 
-/// The input is rejected.
-fn rejected(
-    alloc: Global,
-    question: &'static str,
-    format: Format,
-    kind: &str,
-    input: &[u8],
-    found: &mut Vec<Difference>,
-) -> Result<(), AllocError> {
-    let outcome = outcome_of(alloc, format, kind, input)?;
-    if outcome.verdict() != "error" {
-        found.push(Difference::new(alloc, question, "an error", &outcome)?)?;
-    }
-    Ok(())
-}
-
-/// The bytes of a text's value are their own normal form. A type that has no bytes is passed over.
+/// The value of a text has bytes, and these are their own normal form. A type that has no bytes is
+/// passed over.
 fn ask_bytes(
     alloc: Global,
     case: &Case<'_>,
     whole: Format,
-    found: &mut Vec<Difference>,
+    findings: &mut Findings,
 ) -> Result<(), AllocError> {
-    match outcome_of(alloc, whole.as_bytes(), case.kind, &case.input)? {
-        Outcome::Code(code) => ask_code(alloc, case.kind, &code, found),
-        Outcome::Unknown => Ok(()),
-        outcome => {
-            found.push(Difference::new(alloc, "the text's bytes", "is", &outcome)?)?;
-            Ok(())
+    let read = outcome_of(alloc, whole.as_bytes(), case.kind, &case.input)?;
+    match &read {
+        Outcome::Code(code) => {
+            findings.ask(alloc, Question::TextAsBytes, true, "bytes", &read)?;
+            ask_code(alloc, case.kind, code, findings)
         }
+        Outcome::Unknown => Ok(()),
+        _ => findings.ask(alloc, Question::TextAsBytes, false, "bytes", &read),
     }
 }

@@ -1,14 +1,16 @@
 //! A line of a table: its case is run, and what differs is reported.
 
+use crate::asked::Asked;
 use crate::case::Case;
 use crate::repeat::write_out;
 use std::alloc::{AllocError, Global};
 
-/// The number of questions of a line that answer otherwise, each reported in a line of `report`, or
-/// `None` where the line is a comment.
+/// The number of questions of a line that answer otherwise, each reported in a line of `report`,
+/// or `None` where the line is a comment. What is asked with no line of data is counted in `asked`.
 pub fn differences_of(
     alloc: Global,
     line: &str,
+    asked: &mut Asked,
     report: &mut String,
 ) -> Result<Option<usize>, AllocError> {
     if line.is_empty() || line.starts_with('#') {
@@ -16,18 +18,20 @@ pub fn differences_of(
     }
     let line = write_out(alloc, line)?;
     match Case::of_line(alloc, line.as_str())? {
-        Some(case) => {
-            let found = case.differences(alloc)?;
-            for difference in &found {
+        Ok(case) => {
+            let findings = case.findings(alloc, *asked)?;
+            *asked = findings.asked;
+            for difference in &findings.differences {
                 let question = difference.question;
                 let wanted = difference.wanted.as_str();
                 let got = difference.got.as_str();
                 write!(report, "  {question}: wanted {wanted}, got {got}\n")?;
             }
-            Ok(Some(found.len()))
+            Ok(Some(findings.differences.len()))
         }
-        None => {
-            report.push_str("  no case\n")?;
+        Err(no_case) => {
+            let reason = no_case.reason();
+            write!(report, "  no case: {reason}\n")?;
             Ok(Some(1))
         }
     }

@@ -1,7 +1,6 @@
 //! What the words of `nano_show` answer.
 
-use crate::fields::unescape;
-use crate::outcome::Outcome;
+use conformance_types::{Outcome, unescape};
 use nano_show_answers::{ShowFault, ending, run};
 use std::alloc::{AllocError, Global};
 

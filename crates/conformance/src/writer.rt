@@ -1,7 +1,6 @@
 //! Calls of a writer's state, and the text afterwards.
 
-use crate::outcome::Outcome;
-use crate::start::OUT_OF_MEMORY;
+use conformance_types::{OUT_OF_MEMORY, Outcome};
 use nanoserde::{SerJsonState, SerRonState};
 use std::alloc::{AllocError, Global};
 

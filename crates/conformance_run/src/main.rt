@@ -1,14 +1,19 @@
-//! Runs tables of cases over the library's formats, and prints each case that differs.
+//! Runs tables of cases over the library's formats, and prints each case that differs, and of each
+//! table how often each question was asked.
 //!
 //! `conformance_run` runs its own tables, `conformance_run tables FILE..` these, and
-//! `conformance_run one LINE` prints the outcome of the case of a table's line.
+//! `conformance_run one LINE` prints the outcome of the case of a table's line. The status is 0, 1
+//! where a table is not as it should be, and 3 where memory ran out.
 #![tactic(auto)]
 
-use conformance::{Case, differences_of, write_out};
+use conformance::{Asked, Case, differences_of, write_out};
 use std::alloc::{AllocError, Global};
 use std::io::{self, ErrorKind};
 use std::process::ExitCode;
 use std::{env, fs};
+
+/// The status where memory ran out.
+const OUT_OF_MEMORY: u8 = 3;
 
 /// The tables, each with whether its cases are wrong on purpose.
 const TABLES: &[(&str, bool)] = &[
@@ -22,38 +27,53 @@ const TABLES: &[(&str, bool)] = &[
     ("wrong.tsv", true),
 ];
 
-/// How many cases a table has, and of how many something differs.
+/// How many cases a table has, of how many something differs, and what was asked of them.
 #[derive(Clone, Copy)]
 struct Tally {
     cases: u64,
     differ: u64,
+    asked: Asked,
 }
 
-/// Runs the cases of a table, and prints what differs, and how many do.
+/// Runs the cases of a table, and prints what differs, how many do, and what was asked.
 fn run_table(rt: &HostRuntime, name: &str) -> io::Result<Tally> {
     let text = fs::read_to_string(rt, name)?;
     let mut tally = Tally {
         cases: 0,
         differ: 0,
+        asked: Asked::new(),
     };
     let mut number = 0u64;
     for line in text.lines() {
         number = number.saturating_add(1);
-        if let Some(differ) = run_line(rt, name, number, line)? {
+        if let Some(differ) = run_line(rt, (name, number), line, &mut tally.asked)? {
             tally.cases = tally.cases.saturating_add(1);
             if differ {
                 tally.differ = tally.differ.saturating_add(1);
             }
         }
     }
-    println!(rt; "{name}: {} cases, {} differ", tally.cases, tally.differ)?;
+    print_tally(rt, name, &tally)?;
     Ok(tally)
 }
 
+/// Prints how many cases differ, and in a second line what was asked of them.
+fn print_tally(rt: &HostRuntime, name: &str, tally: &Tally) -> io::Result<()> {
+    let mut asked = String::new(rt.alloc());
+    tally.asked.append(&mut asked)?;
+    println!(rt; "{name}: {} cases, {} differ", tally.cases, tally.differ)?;
+    println!(rt; "  {asked}")
+}
+
 /// Runs a case, prints what differs, and answers whether something does.
-fn run_line(rt: &HostRuntime, name: &str, number: u64, line: &str) -> io::Result<Option<bool>> {
+fn run_line(
+    rt: &HostRuntime,
+    (name, number): (&str, u64),
+    line: &str,
+    asked: &mut Asked,
+) -> io::Result<Option<bool>> {
     let mut report = String::new(rt.alloc());
-    match differences_of(rt.alloc(), line, &mut report)? {
+    match differences_of(rt.alloc(), line, asked, &mut report)? {
         None => Ok(None),
         Some(0) => Ok(Some(false)),
         Some(_) => {
@@ -88,29 +108,23 @@ fn run_files(rt: &HostRuntime, names: &[String]) -> io::Result<bool> {
 fn outcome_of_line(alloc: Global, line: &str) -> Result<String, AllocError> {
     let line = write_out(alloc, line)?;
     match Case::of_line(alloc, line.as_str())? {
-        Some(case) => {
+        Ok(case) => {
             let outcome = case.run(alloc)?;
             let (verdict, answer) = (outcome.verdict(), outcome.answer(alloc)?);
             format!(in alloc; "{verdict} {answer}")
         }
-        None => String::from_str(alloc, "no case"),
+        Err(_) => String::from_str(alloc, "no case"),
     }
 }
 
-/// Prints the outcome of one case.
-fn run_one(rt: &HostRuntime, line: &str) -> io::Result<bool> {
-    match outcome_of_line(rt.alloc(), line) {
-        Ok(text) => rt.println(text)?,
-        Err(_) => rt.println("out of memory")?,
-    }
-    Ok(true)
-}
-
-/// Does what the words of the command line ask for.
+/// Does what the words of the command line ask for, and answers whether all is as it should be.
 fn run_words(rt: &HostRuntime) -> io::Result<bool> {
     let words: Vec<String> = env::args(rt)?.collect(rt.alloc())?;
     match words.as_slice() {
-        [_, word, line] if word.as_str() == "one" => run_one(rt, line.as_str()),
+        [_, word, line] if word.as_str() == "one" => {
+            rt.println(outcome_of_line(rt.alloc(), line.as_str())?)?;
+            Ok(true)
+        }
         [_, first, rest @ ..] if first.as_str() == "tables" => run_files(rt, rest),
         _ => run_own(rt),
     }
@@ -122,7 +136,7 @@ fn main(rt: HostRuntime) -> io::Result<ExitCode> {
         Ok(false) => Ok(ExitCode::FAILURE),
         Err(error) if error.kind() == ErrorKind::OutOfMemory => {
             rt.println("out of memory")?;
-            Ok(ExitCode::SUCCESS)
+            Ok(ExitCode::from(OUT_OF_MEMORY))
         }
         Err(error) => Err(error),
     }

@@ -4,7 +4,7 @@ use crate::fields::{escape, push_digits};
 use std::alloc::{AllocError, Global};
 
 /// The outcome of an input. Out of memory is no such answer, but an `AllocError`.
-#[derive(PartialEq, Debug, Drop)]
+#[derive(Drop)]
 pub enum Outcome {
     /// A text: the normal form of the value, or what the words print.
     Text(Vec<u8>),
@@ -23,6 +23,33 @@ impl Outcome {
             Outcome::Text(_) | Outcome::Code(_) => "is",
             Outcome::Error(_) => "error",
             Outcome::Unknown => "unknown",
+        }
+    }
+
+    /// Whether the two are the same, to the last byte.
+    pub fn is_same(&self, other: &Outcome) -> bool {
+        match (self, other) {
+            (Outcome::Text(one), Outcome::Text(other)) => one.as_slice() == other.as_slice(),
+            (Outcome::Code(one), Outcome::Code(other)) => one.as_slice() == other.as_slice(),
+            (Outcome::Error(one), Outcome::Error(other)) => one.as_slice() == other.as_slice(),
+            (Outcome::Unknown, Outcome::Unknown) => true,
+            _ => false,
+        }
+    }
+
+    /// Whether it is an error.
+    pub fn is_error(&self) -> bool {
+        match self {
+            Outcome::Error(_) => true,
+            _ => false,
+        }
+    }
+
+    /// Whether bytes were reported to be too short, and the offset was left where it was.
+    pub fn is_too_short(&self) -> bool {
+        match self {
+            Outcome::Error(text) => text.starts_with(b"TooShort o "),
+            _ => false,
         }
     }
 

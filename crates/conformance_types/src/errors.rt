@@ -1,32 +1,50 @@
 //! Errors as answers, and out of memory, which is none.
 
+use crate::format::Format;
 use crate::outcome::Outcome;
 use nanoserde::{DeBinErr, DeBinKind, DeJsonErr, DeRonErr};
 use std::alloc::{AllocError, Global};
 
-/// The bytes of a value, or the kind of the error with its `o`, `l` and `s`. An offset that the
-/// error moved is reported.
-pub(crate) fn code(
-    alloc: Global,
-    read: Result<Vec<u8>, DeBinErr>,
-    moved: usize,
-) -> Result<Outcome, AllocError> {
-    match read {
-        Ok(bytes) => Ok(Outcome::Code(bytes)),
-        Err(error) => {
-            let DeBinErr { o, l, s, kind } = error;
-            if moved != 0 {
-                text_of(format!(in alloc; "{kind:?} that moved the offset by {moved}"))
-            } else if kind == DeBinKind::Memory && l == 0 {
-                Err(AllocError)
-            } else {
-                text_of(format!(in alloc; "{kind:?} o {o} l {l} s {s}"))
-            }
-        }
+/// The kind of an error of bytes, with its `o`, `l` and `s`. Where the error moved the offset, by
+/// how much is reported in their place.
+pub fn code(alloc: Global, error: DeBinErr, moved: usize) -> Result<Outcome, AllocError> {
+    let DeBinErr { o, l, s, kind } = error;
+    if moved != 0 {
+        text_of(format!(in alloc; "{kind:?} that moved the offset by {moved}"))
+    } else if kind == DeBinKind::Memory && l == 0 {
+        Err(AllocError)
+    } else {
+        text_of(format!(in alloc; "{kind:?} o {o} l {l} s {s}"))
     }
 }
 
-/// A text, or the text of the error.
+/// The bytes of a value that was read between two offsets, or the error. The second offset is
+/// reported where the format asks for it.
+pub(crate) fn bin(
+    alloc: Global,
+    format: Format,
+    read: Result<Vec<u8>, DeBinErr>,
+    (start, end): (usize, usize),
+) -> Result<Outcome, AllocError> {
+    match read {
+        Ok(bytes) => match format {
+            Format::BinAt => {
+                let answer = Outcome::Code(bytes).answer(alloc)?;
+                let reported = format!(in alloc; "{answer} -> {end}")?;
+                Ok(Outcome::Text(reported.into_bytes()))
+            }
+            _ => Ok(Outcome::Code(bytes)),
+        },
+        Err(error) => code(alloc, error, start.abs_diff(end)),
+    }
+}
+
+/// The outcome of a text that is none.
+pub(crate) fn not_a_text(alloc: Global) -> Result<Outcome, AllocError> {
+    text_of(String::from_str(alloc, "not UTF-8"))
+}
+
+/// A JSON text, or the text of the error.
 pub(crate) fn json(alloc: Global, read: Result<String, DeJsonErr>) -> Result<Outcome, AllocError> {
     match read {
         Ok(text) => Ok(Outcome::Text(text.into_bytes())),
@@ -51,7 +69,7 @@ fn json_error(alloc: Global, error: &DeJsonErr) -> Result<Outcome, AllocError> {
     error_of(alloc, error.memory, error.msg.is_empty(), shown)
 }
 
-/// A text, or the text of the error.
+/// A RON text, or the text of the error.
 pub(crate) fn ron(alloc: Global, read: Result<String, DeRonErr>) -> Result<Outcome, AllocError> {
     match read {
         Ok(text) => Ok(Outcome::Text(text.into_bytes())),

@@ -1,40 +1,16 @@
 //! Calls of a state of RON's reader: what is answered, and the state afterwards.
 
-use crate::outcome::Outcome;
-use crate::start::{Left, OUT_OF_MEMORY, Start, character, reported, start_of};
-use nanoserde::{BothRon, DeRonErr, DeRonState, DeRonTok};
+use conformance_types::{OUT_OF_MEMORY, Outcome, append_ron_state, ron_fault, ron_start};
+use nanoserde::{DeRonErr, DeRonState};
 use std::alloc::{AllocError, Global};
 use std::fmt::Display;
 use std::str::Chars;
 
-/// What is read as a value of a type in a state, and the state afterwards.
-pub(crate) fn read_at<T: BothRon>(alloc: Global, text: &str) -> Result<Outcome, AllocError> {
-    let Some(start) = start_of(text) else {
-        return Ok(Outcome::Unknown);
-    };
-    let mut input = start.text.chars();
-    match set_up(alloc, &start, &mut input)? {
-        None => Ok(Outcome::Unknown),
-        Some(mut state) => {
-            let mut answer = match T::de_ron(alloc, &mut state, &mut input) {
-                Ok(value) => value.serialize_ron(alloc)?,
-                Err(error) => of_error(alloc, &error)?,
-            };
-            append_state(&mut answer, &state, &input)?;
-            Ok(Outcome::Text(answer.into_bytes()))
-        }
-    }
-}
-
 /// What calls answer in a state, one after the other, and the state after each.
-pub(crate) fn call_at(alloc: Global, calls: &str, text: &str) -> Result<Outcome, AllocError> {
-    let Some(start) = start_of(text) else {
-        return Ok(Outcome::Unknown);
-    };
-    let mut input = start.text.chars();
-    match set_up(alloc, &start, &mut input)? {
+pub(crate) fn ron_calls(alloc: Global, calls: &str, text: &str) -> Result<Outcome, AllocError> {
+    match ron_start(alloc, text)? {
         None => Ok(Outcome::Unknown),
-        Some(mut state) => answers_of(alloc, &mut state, &mut input, calls),
+        Some((mut state, mut input)) => answers_of(alloc, &mut state, &mut input, calls),
     }
 }
 
@@ -54,95 +30,12 @@ fn answers_of(
             answers.push_str(" | ")?;
         }
         answers.push_str(answer.as_str())?;
-        append_state(&mut answers, state, input)?;
+        append_ron_state(&mut answers, state, input)?;
         if answer.as_str() == OUT_OF_MEMORY {
             break;
         }
     }
     Ok(Outcome::Text(answers.into_bytes()))
-}
-
-/// The state that is described, whose first character is taken from the input.
-fn set_up(
-    alloc: Global,
-    start: &Start<'_>,
-    input: &mut Chars<'_>,
-) -> Result<Option<DeRonState>, AllocError> {
-    let Some(tok) = token(start) else {
-        return Ok(None);
-    };
-    let mut state = DeRonState::new(alloc);
-    match tok {
-        DeRonTok::Str => state.strbuf.push_str(start.content)?,
-        DeRonTok::F64 => state.numbuf.push_str(start.content)?,
-        _ => state.identbuf.push_str(start.content)?,
-    }
-    state.tok = tok;
-    state.cur = input.next().unwrap_or('\0');
-    state.line = start.line;
-    state.col = start.col;
-    Ok(Some(state))
-}
-
-/// The pending token.
-fn token(start: &Start<'_>) -> Option<DeRonTok> {
-    let content = start.content;
-    match start.token {
-        "U64" => Some(DeRonTok::U64(content.parse().ok()?)),
-        "I64" => Some(DeRonTok::I64(content.parse().ok()?)),
-        "Bool" => Some(DeRonTok::Bool(content == "true")),
-        "Char" => Some(DeRonTok::Char(character(content)?)),
-        name => punctuator(name),
-    }
-}
-
-/// The token of this name that carries nothing.
-fn punctuator(name: &str) -> Option<DeRonTok> {
-    match name {
-        "Ident" => Some(DeRonTok::Ident),
-        "Str" => Some(DeRonTok::Str),
-        "F64" => Some(DeRonTok::F64),
-        "Colon" => Some(DeRonTok::Colon),
-        "CurlyOpen" => Some(DeRonTok::CurlyOpen),
-        "CurlyClose" => Some(DeRonTok::CurlyClose),
-        "ParenOpen" => Some(DeRonTok::ParenOpen),
-        "ParenClose" => Some(DeRonTok::ParenClose),
-        "BlockOpen" => Some(DeRonTok::BlockOpen),
-        "BlockClose" => Some(DeRonTok::BlockClose),
-        "Comma" => Some(DeRonTok::Comma),
-        "Bof" => Some(DeRonTok::Bof),
-        "Eof" => Some(DeRonTok::Eof),
-        _ => None,
-    }
-}
-
-/// Appends the state after an answer.
-fn append_state(
-    answer: &mut String,
-    state: &DeRonState,
-    input: &Chars<'_>,
-) -> Result<(), AllocError> {
-    let tok = &state.tok;
-    write!(answer, " -> {tok:?}")?;
-    let carried = match tok {
-        DeRonTok::Str => Some(state.strbuf.as_str()),
-        DeRonTok::F64 => Some(state.numbuf.as_str()),
-        DeRonTok::Ident => Some(state.identbuf.as_str()),
-        _ => None,
-    };
-    let left = Left {
-        carried,
-        place: (state.line, state.col),
-        cur: state.cur,
-        rest: input.as_str(),
-    };
-    left.append(answer)
-}
-
-/// An error as an answer.
-fn of_error(alloc: Global, error: &DeRonErr) -> Result<String, AllocError> {
-    let msg = error.msg.as_str();
-    reported(alloc, error.memory, msg, (error.line, error.col))
 }
 
 /// A value, or the error.
@@ -152,7 +45,7 @@ fn value<V: Display + Drop>(
 ) -> Result<Option<String>, AllocError> {
     match read {
         Ok(value) => Ok(Some(format!(in alloc; "{value}")?)),
-        Err(error) => Ok(Some(of_error(alloc, &error)?)),
+        Err(error) => Ok(Some(ron_fault(alloc, &error)?)),
     }
 }
 
@@ -181,7 +74,7 @@ fn taken(
     };
     match taken {
         Ok(()) => Ok(Some(String::from_str(alloc, "ok")?)),
-        Err(error) => Ok(Some(of_error(alloc, &error)?)),
+        Err(error) => Ok(Some(ron_fault(alloc, &error)?)),
     }
 }
 
@@ -238,5 +131,5 @@ fn made(alloc: Global, state: &DeRonState, call: &str) -> Result<Option<String>,
         _ => return Ok(None),
     };
     let again = error.clone(alloc)?;
-    Ok(Some(of_error(alloc, &again)?))
+    Ok(Some(ron_fault(alloc, &again)?))
 }

@@ -1,40 +1,16 @@
 //! Calls of a state of JSON's reader: what is answered, and the state afterwards.
 
-use crate::outcome::Outcome;
-use crate::start::{Left, OUT_OF_MEMORY, Start, character, reported, start_of};
-use nanoserde::{BothJson, DeJsonErr, DeJsonState, DeJsonTok};
+use conformance_types::{OUT_OF_MEMORY, Outcome, append_json_state, json_fault, json_start};
+use nanoserde::{DeJsonErr, DeJsonState};
 use std::alloc::{AllocError, Global};
 use std::fmt::Display;
 use std::str::Chars;
 
-/// What is read as a value of a type in a state, and the state afterwards.
-pub(crate) fn read_at<T: BothJson>(alloc: Global, text: &str) -> Result<Outcome, AllocError> {
-    let Some(start) = start_of(text) else {
-        return Ok(Outcome::Unknown);
-    };
-    let mut input = start.text.chars();
-    match set_up(alloc, &start, &mut input)? {
-        None => Ok(Outcome::Unknown),
-        Some(mut state) => {
-            let mut answer = match T::de_json(alloc, &mut state, &mut input) {
-                Ok(value) => value.serialize_json(alloc)?,
-                Err(error) => of_error(alloc, &error)?,
-            };
-            append_state(&mut answer, &state, &input)?;
-            Ok(Outcome::Text(answer.into_bytes()))
-        }
-    }
-}
-
 /// What calls answer in a state, one after the other, and the state after each.
-pub(crate) fn call_at(alloc: Global, calls: &str, text: &str) -> Result<Outcome, AllocError> {
-    let Some(start) = start_of(text) else {
-        return Ok(Outcome::Unknown);
-    };
-    let mut input = start.text.chars();
-    match set_up(alloc, &start, &mut input)? {
+pub(crate) fn json_calls(alloc: Global, calls: &str, text: &str) -> Result<Outcome, AllocError> {
+    match json_start(alloc, text)? {
         None => Ok(Outcome::Unknown),
-        Some(mut state) => answers_of(alloc, &mut state, &mut input, calls),
+        Some((mut state, mut input)) => answers_of(alloc, &mut state, &mut input, calls),
     }
 }
 
@@ -54,93 +30,12 @@ fn answers_of(
             answers.push_str(" | ")?;
         }
         answers.push_str(answer.as_str())?;
-        append_state(&mut answers, state, input)?;
+        append_json_state(&mut answers, state, input)?;
         if answer.as_str() == OUT_OF_MEMORY {
             break;
         }
     }
     Ok(Outcome::Text(answers.into_bytes()))
-}
-
-/// The state that is described, whose first character is taken from the input.
-fn set_up(
-    alloc: Global,
-    start: &Start<'_>,
-    input: &mut Chars<'_>,
-) -> Result<Option<DeJsonState>, AllocError> {
-    let Some(tok) = token(start) else {
-        return Ok(None);
-    };
-    let mut state = DeJsonState::new(alloc);
-    match tok {
-        DeJsonTok::Str => state.strbuf.push_str(start.content)?,
-        DeJsonTok::F64 => state.numbuf.push_str(start.content)?,
-        _ => state.identbuf.push_str(start.content)?,
-    }
-    state.tok = tok;
-    state.cur = input.next().unwrap_or('\0');
-    state.line = start.line;
-    state.col = start.col;
-    Ok(Some(state))
-}
-
-/// The pending token.
-fn token(start: &Start<'_>) -> Option<DeJsonTok> {
-    let content = start.content;
-    match start.token {
-        "U64" => Some(DeJsonTok::U64(content.parse().ok()?)),
-        "I64" => Some(DeJsonTok::I64(content.parse().ok()?)),
-        "Bool" => Some(DeJsonTok::Bool(content == "true")),
-        "Char" => Some(DeJsonTok::Char(character(content)?)),
-        name => punctuator(name),
-    }
-}
-
-/// The token of this name that carries nothing.
-fn punctuator(name: &str) -> Option<DeJsonTok> {
-    match name {
-        "Str" => Some(DeJsonTok::Str),
-        "F64" => Some(DeJsonTok::F64),
-        "BareIdent" => Some(DeJsonTok::BareIdent),
-        "Null" => Some(DeJsonTok::Null),
-        "Colon" => Some(DeJsonTok::Colon),
-        "CurlyOpen" => Some(DeJsonTok::CurlyOpen),
-        "CurlyClose" => Some(DeJsonTok::CurlyClose),
-        "BlockOpen" => Some(DeJsonTok::BlockOpen),
-        "BlockClose" => Some(DeJsonTok::BlockClose),
-        "Comma" => Some(DeJsonTok::Comma),
-        "Bof" => Some(DeJsonTok::Bof),
-        "Eof" => Some(DeJsonTok::Eof),
-        _ => None,
-    }
-}
-
-/// Appends the state after an answer.
-fn append_state(
-    answer: &mut String,
-    state: &DeJsonState,
-    input: &Chars<'_>,
-) -> Result<(), AllocError> {
-    let tok = &state.tok;
-    write!(answer, " -> {tok:?}")?;
-    let carried = match tok {
-        DeJsonTok::Str => Some(state.strbuf.as_str()),
-        DeJsonTok::F64 => Some(state.numbuf.as_str()),
-        _ => None,
-    };
-    let left = Left {
-        carried,
-        place: (state.line, state.col),
-        cur: state.cur,
-        rest: input.as_str(),
-    };
-    left.append(answer)
-}
-
-/// An error as an answer.
-fn of_error(alloc: Global, error: &DeJsonErr) -> Result<String, AllocError> {
-    let msg = error.msg.as_str();
-    reported(alloc, error.memory, msg, (error.line, error.col))
 }
 
 /// A value, or the error.
@@ -150,7 +45,7 @@ fn value<V: Display + Drop>(
 ) -> Result<Option<String>, AllocError> {
     match read {
         Ok(value) => Ok(Some(format!(in alloc; "{value}")?)),
-        Err(error) => Ok(Some(of_error(alloc, &error)?)),
+        Err(error) => Ok(Some(json_fault(alloc, &error)?)),
     }
 }
 
@@ -177,7 +72,7 @@ fn taken(
     };
     match taken {
         Ok(()) => Ok(Some(String::from_str(alloc, "ok")?)),
-        Err(error) => Ok(Some(of_error(alloc, &error)?)),
+        Err(error) => Ok(Some(json_fault(alloc, &error)?)),
     }
 }
 
@@ -233,5 +128,5 @@ fn made(alloc: Global, state: &DeJsonState, call: &str) -> Result<Option<String>
         _ => return Ok(None),
     };
     let again = error.clone(alloc)?;
-    Ok(Some(of_error(alloc, &again)?))
+    Ok(Some(json_fault(alloc, &again)?))
 }

@@ -4,7 +4,7 @@ use std::alloc::{AllocError, Global};
 
 /// The type of the same entries, ordered for hashed and hashed for ordered. `None` for a type that
 /// is no set and no map.
-pub(crate) fn counterpart(alloc: Global, kind: &str) -> Result<Option<String>, AllocError> {
+pub fn counterpart(alloc: Global, kind: &str) -> Result<Option<String>, AllocError> {
     let Some((name, entries)) = kind.split_once('<') else {
         return Ok(None);
     };

@@ -1,12 +1,14 @@
 //! The formats that a case can name.
 
 /// A format, and how much of the input is to be a value of it.
-#[derive(Clone, Copy, PartialEq, Debug)]
+#[derive(Clone, Copy)]
 pub enum Format {
     /// Bytes that begin with a value.
     Bin,
     /// Bytes that are a value.
     BinWhole,
+    /// Bytes that are taken to be what is written of a value, and are asked what such are asked.
+    BinWritten,
     /// Bytes that begin with a value, whose JSON text is wanted.
     BinJson,
     /// Bytes that begin with a value, whose RON text is wanted.
@@ -15,6 +17,8 @@ pub enum Format {
     Json,
     /// JSON that is a value.
     JsonWhole,
+    /// JSON that is taken to be what is written of a value.
+    JsonWritten,
     /// JSON that begins with a value, whose bytes are wanted.
     JsonBin,
     /// JSON that is read a second time in the state that the first reading left.
@@ -23,6 +27,8 @@ pub enum Format {
     Ron,
     /// RON that is a value.
     RonWhole,
+    /// RON that is taken to be what is written of a value.
+    RonWritten,
     /// RON that begins with a value, whose bytes are wanted.
     RonBin,
     /// RON that is read a second time in the state that the first reading left.
@@ -61,9 +67,12 @@ impl Format {
         }
     }
 
-    /// The format of this name, where its cases have a state.
+    /// The format of this name, where its cases have a state, or an outcome of their own.
     fn of_state(word: &str) -> Option<Format> {
         match word {
+            "bin-written" => Some(Format::BinWritten),
+            "json-written" => Some(Format::JsonWritten),
+            "ron-written" => Some(Format::RonWritten),
             "bin-at" => Some(Format::BinAt),
             "json-state" => Some(Format::JsonState),
             "ron-state" => Some(Format::RonState),
@@ -76,17 +85,17 @@ impl Format {
     }
 
     /// The same format, for an input that is a value.
-    pub(crate) fn whole(self) -> Option<Format> {
+    pub fn whole(self) -> Option<Format> {
         match self {
-            Format::Bin | Format::BinWhole => Some(Format::BinWhole),
-            Format::Json | Format::JsonWhole => Some(Format::JsonWhole),
-            Format::Ron | Format::RonWhole => Some(Format::RonWhole),
+            Format::Bin | Format::BinWhole | Format::BinWritten => Some(Format::BinWhole),
+            Format::Json | Format::JsonWhole | Format::JsonWritten => Some(Format::JsonWhole),
+            Format::Ron | Format::RonWhole | Format::RonWritten => Some(Format::RonWhole),
             _ => None,
         }
     }
 
     /// The same format, for an input that begins with a value.
-    pub(crate) fn prefix(self) -> Format {
+    pub fn prefix(self) -> Format {
         match self {
             Format::BinWhole => Format::Bin,
             Format::JsonWhole => Format::Json,
@@ -95,8 +104,18 @@ impl Format {
         }
     }
 
+    /// The same format, where the input is read.
+    pub fn read(self) -> Format {
+        match self {
+            Format::BinWritten => Format::Bin,
+            Format::JsonWritten => Format::Json,
+            Format::RonWritten => Format::Ron,
+            other => other,
+        }
+    }
+
     /// The same format, read a second time.
-    pub(crate) fn again(self) -> Format {
+    pub fn again(self) -> Format {
         match self {
             Format::JsonWhole => Format::JsonAgain,
             Format::RonWhole => Format::RonAgain,
@@ -105,11 +124,19 @@ impl Format {
     }
 
     /// The bytes of the same text.
-    pub(crate) fn as_bytes(self) -> Format {
+    pub fn as_bytes(self) -> Format {
         match self {
             Format::JsonWhole => Format::JsonBin,
             Format::RonWhole => Format::RonBin,
             other => other,
+        }
+    }
+
+    /// Whether white space of this format may be a comment.
+    pub fn has_comments(self) -> bool {
+        match self {
+            Format::Ron | Format::RonWhole => true,
+            _ => false,
         }
     }
 }

@@ -1,0 +1,127 @@
+//! A state of JSON's reader as a case has it.
+
+use crate::outcome::Outcome;
+use crate::start::{Left, Start, character, reported, start_of};
+use nanoserde::{DeJsonErr, DeJsonState, DeJsonTok};
+use std::alloc::{AllocError, Global};
+use std::str::Chars;
+
+/// The state that a case describes, with the characters after its current one, or `None` where it
+/// describes none.
+pub fn json_start(
+    alloc: Global,
+    text: &str,
+) -> Result<Option<(DeJsonState, Chars<'_>)>, AllocError> {
+    let Some(start) = start_of(text) else {
+        return Ok(None);
+    };
+    let mut input = start.text.chars();
+    match set_up(alloc, &start, &mut input)? {
+        None => Ok(None),
+        Some(state) => Ok(Some((state, input))),
+    }
+}
+
+/// The state in which a text is read from its beginning on. Its first token may be none.
+pub(crate) fn json_begun(alloc: Global, input: &mut Chars<'_>) -> DeJsonState {
+    let mut state = DeJsonState::new(alloc);
+    state.next(input);
+    let _cut = state.next_tok(alloc, input);
+    state
+}
+
+/// The state that is described, whose first character is taken from the input.
+fn set_up(
+    alloc: Global,
+    start: &Start<'_>,
+    input: &mut Chars<'_>,
+) -> Result<Option<DeJsonState>, AllocError> {
+    let Some(tok) = token(start) else {
+        return Ok(None);
+    };
+    let mut state = DeJsonState::new(alloc);
+    match tok {
+        DeJsonTok::Str => state.strbuf.push_str(start.content)?,
+        DeJsonTok::F64 => state.numbuf.push_str(start.content)?,
+        _ => state.identbuf.push_str(start.content)?,
+    }
+    state.tok = tok;
+    state.cur = input.next().unwrap_or('\0');
+    state.line = start.line;
+    state.col = start.col;
+    Ok(Some(state))
+}
+
+/// The pending token.
+fn token(start: &Start<'_>) -> Option<DeJsonTok> {
+    let content = start.content;
+    match start.token {
+        "U64" => Some(DeJsonTok::U64(content.parse().ok()?)),
+        "I64" => Some(DeJsonTok::I64(content.parse().ok()?)),
+        "Bool" => Some(DeJsonTok::Bool(content == "true")),
+        "Char" => Some(DeJsonTok::Char(character(content)?)),
+        name => punctuator(name),
+    }
+}
+
+/// The token of this name that carries nothing.
+fn punctuator(name: &str) -> Option<DeJsonTok> {
+    match name {
+        "Str" => Some(DeJsonTok::Str),
+        "F64" => Some(DeJsonTok::F64),
+        "BareIdent" => Some(DeJsonTok::BareIdent),
+        "Null" => Some(DeJsonTok::Null),
+        "Colon" => Some(DeJsonTok::Colon),
+        "CurlyOpen" => Some(DeJsonTok::CurlyOpen),
+        "CurlyClose" => Some(DeJsonTok::CurlyClose),
+        "BlockOpen" => Some(DeJsonTok::BlockOpen),
+        "BlockClose" => Some(DeJsonTok::BlockClose),
+        "Comma" => Some(DeJsonTok::Comma),
+        "Bof" => Some(DeJsonTok::Bof),
+        "Eof" => Some(DeJsonTok::Eof),
+        _ => None,
+    }
+}
+
+/// Appends the state after an answer.
+pub fn append_json_state(
+    answer: &mut String,
+    state: &DeJsonState,
+    input: &Chars<'_>,
+) -> Result<(), AllocError> {
+    let tok = &state.tok;
+    write!(answer, " -> {tok:?}")?;
+    let carried = match tok {
+        DeJsonTok::Str => Some(state.strbuf.as_str()),
+        DeJsonTok::F64 => Some(state.numbuf.as_str()),
+        _ => None,
+    };
+    let left = Left {
+        carried,
+        place: (state.line, state.col),
+        cur: state.cur,
+        rest: input.as_str(),
+    };
+    left.append(answer)
+}
+
+/// An error as the answer of a call.
+pub fn json_fault(alloc: Global, error: &DeJsonErr) -> Result<String, AllocError> {
+    let msg = error.msg.as_str();
+    reported(alloc, error.memory, msg, (error.line, error.col))
+}
+
+/// What was read in a state, and the state afterwards.
+pub(crate) fn json_left(
+    alloc: Global,
+    read: Result<String, DeJsonErr>,
+    state: &DeJsonState,
+    input: &Chars<'_>,
+) -> Result<Outcome, AllocError> {
+    let mut answer = match read {
+        Ok(text) => text,
+        Err(error) => json_fault(alloc, &error)?,
+    };
+    append_json_state(&mut answer, state, input)?;
+    Ok(Outcome::Text(answer.into_bytes()))
+}

@@ -1,0 +1,209 @@
+//! The outcome of an input as a value of one type, through the bounds of its formats. What a type
+//! has of its own is one function for each way in and out: each is built once for each type.
+
+use crate::errors::{bin, code, json, json_code, not_a_text, ron, ron_code};
+use crate::format::Format;
+use crate::json_state::{json_begun, json_left, json_start};
+use crate::outcome::Outcome;
+use crate::ron_state::{ron_begun, ron_left, ron_start};
+use nanoserde::{
+    BothBin, BothJson, BothRon, DeBinErr, DeBinKind, DeJsonErr, DeJsonState, DeRonErr, DeRonState,
+    SerJsonState, SerRonState, json_to_bin, normal_json, normal_ron, ron_to_bin,
+};
+use std::alloc::{AllocError, Global};
+use std::str;
+
+/// The outcome of an input in a format, of a type that has all three.
+pub(crate) fn of_type<T: BothBin + BothJson + BothRon>(
+    alloc: Global,
+    format: Format,
+    input: &[u8],
+) -> Result<Outcome, AllocError> {
+    match format {
+        Format::Bin | Format::BinWhole | Format::BinAt => of_bytes::<T>(alloc, format, input),
+        Format::BinJson | Format::BinRon | Format::JsonWrite | Format::RonWrite => {
+            rewritten::<T>(alloc, format, input)
+        }
+        _ => match str::from_utf8(input) {
+            Ok(text) => of_text::<T>(alloc, format, text),
+            Err(_) => not_a_text(alloc),
+        },
+    }
+}
+
+/// The outcome of bytes.
+pub(crate) fn of_bytes<T: BothBin>(
+    alloc: Global,
+    format: Format,
+    input: &[u8],
+) -> Result<Outcome, AllocError> {
+    if let Format::BinWhole = format {
+        let read = code_of(alloc, T::deserialize_bin_whole(alloc, input));
+        return bin(alloc, format, read, (0, 0));
+    }
+    let Some((start, bytes)) = split_offset(format, input) else {
+        return Ok(Outcome::Unknown);
+    };
+    let mut offset = start;
+    let read = code_of(alloc, T::de_bin(alloc, &mut offset, bytes));
+    bin(alloc, format, read, (start, offset))
+}
+
+/// What is written of the value that was read.
+fn code_of<T: BothBin>(alloc: Global, read: Result<T, DeBinErr>) -> Result<Vec<u8>, DeBinErr> {
+    match read {
+        Ok(value) => match value.serialize_bin(alloc) {
+            Ok(code) => Ok(code),
+            Err(_) => Err(DeBinErr {
+                o: 0,
+                l: 0,
+                s: 0,
+                kind: DeBinKind::Memory,
+            }),
+        },
+        Err(error) => Err(error),
+    }
+}
+
+/// The offset from which bytes are read, and the bytes: those after the space after it, where the
+/// format has one.
+fn split_offset(format: Format, input: &[u8]) -> Option<(usize, &[u8])> {
+    match format {
+        Format::Bin => Some((0, input)),
+        Format::BinAt => {
+            let place = input.iter().position(|byte| *byte == b' ')?;
+            let (number, rest) = input.split_at_checked(place)?;
+            let number = str::from_utf8(number).ok()?;
+            let (_space, bytes) = rest.split_first()?;
+            Some((number.parse().ok()?, bytes))
+        }
+        _ => None,
+    }
+}
+
+/// The text of the value that bytes begin with.
+fn rewritten<T: BothBin + BothJson + BothRon>(
+    alloc: Global,
+    format: Format,
+    input: &[u8],
+) -> Result<Outcome, AllocError> {
+    match T::deserialize_bin(alloc, input) {
+        Ok(value) => Ok(Outcome::Text(text_of(alloc, format, &value)?.into_bytes())),
+        Err(error) => code(alloc, error, 0),
+    }
+}
+
+/// A value as a text: at level 0, or at the greatest.
+fn text_of<T: BothJson + BothRon>(
+    alloc: Global,
+    format: Format,
+    value: &T,
+) -> Result<String, AllocError> {
+    match format {
+        Format::BinJson => value.serialize_json(alloc),
+        Format::BinRon => value.serialize_ron(alloc),
+        Format::JsonWrite => {
+            let out = String::new(alloc);
+            let mut state = SerJsonState { out };
+            value.ser_json(alloc, usize::MAX, &mut state)?;
+            Ok(state.out)
+        }
+        _ => {
+            let out = String::new(alloc);
+            let mut state = SerRonState { out };
+            value.ser_ron(alloc, usize::MAX, &mut state)?;
+            Ok(state.out)
+        }
+    }
+}
+
+/// The outcome of a text.
+fn of_text<T: BothBin + BothJson + BothRon>(
+    alloc: Global,
+    format: Format,
+    text: &str,
+) -> Result<Outcome, AllocError> {
+    match format {
+        Format::JsonBin => json_code(alloc, json_to_bin::<T>(alloc, text)),
+        Format::RonBin => ron_code(alloc, ron_to_bin::<T>(alloc, text)),
+        Format::Ron => ron(alloc, normal_ron::<T>(alloc, text)),
+        Format::RonWhole => ron(alloc, ron_of(alloc, T::deserialize_ron_whole(alloc, text))),
+        Format::RonAgain => ron(alloc, ron_again::<T>(alloc, text)),
+        Format::RonState => ron_at::<T>(alloc, text),
+        _ => of_json::<T>(alloc, format, text),
+    }
+}
+
+/// The outcome of a JSON text, in JSON.
+pub(crate) fn of_json<T: BothJson>(
+    alloc: Global,
+    format: Format,
+    text: &str,
+) -> Result<Outcome, AllocError> {
+    match format {
+        Format::Json => json(alloc, normal_json::<T>(alloc, text)),
+        Format::JsonWhole => json(
+            alloc,
+            json_of(alloc, T::deserialize_json_whole(alloc, text)),
+        ),
+        Format::JsonAgain => json(alloc, json_again::<T>(alloc, text)),
+        Format::JsonState => json_at::<T>(alloc, text),
+        _ => Ok(Outcome::Unknown),
+    }
+}
+
+/// What is written of the value that was read.
+fn json_of<T: BothJson>(alloc: Global, read: Result<T, DeJsonErr>) -> Result<String, DeJsonErr> {
+    match read {
+        Ok(value) => match value.serialize_json(alloc) {
+            Ok(text) => Ok(text),
+            Err(_) => Err(DeJsonState::new(alloc).err_memory(alloc)),
+        },
+        Err(error) => Err(error),
+    }
+}
+
+/// What is written of the value that is read second, whatever the first reading gave.
+fn json_again<T: BothJson>(alloc: Global, text: &str) -> Result<String, DeJsonErr> {
+    let mut input = text.chars();
+    let mut state = json_begun(alloc, &mut input);
+    let _first = T::de_json(alloc, &mut state, &mut input);
+    json_of(alloc, T::de_json(alloc, &mut state, &mut input))
+}
+
+/// What is read in a state, and the state afterwards.
+fn json_at<T: BothJson>(alloc: Global, text: &str) -> Result<Outcome, AllocError> {
+    let Some((mut state, mut input)) = json_start(alloc, text)? else {
+        return Ok(Outcome::Unknown);
+    };
+    let read = json_of(alloc, T::de_json(alloc, &mut state, &mut input));
+    json_left(alloc, read, &state, &input)
+}
+
+/// What is written of the value that was read.
+fn ron_of<T: BothRon>(alloc: Global, read: Result<T, DeRonErr>) -> Result<String, DeRonErr> {
+    match read {
+        Ok(value) => match value.serialize_ron(alloc) {
+            Ok(text) => Ok(text),
+            Err(_) => Err(DeRonState::new(alloc).err_memory(alloc)),
+        },
+        Err(error) => Err(error),
+    }
+}
+
+/// What is written of the value that is read second, whatever the first reading gave.
+fn ron_again<T: BothRon>(alloc: Global, text: &str) -> Result<String, DeRonErr> {
+    let mut input = text.chars();
+    let mut state = ron_begun(alloc, &mut input);
+    let _first = T::de_ron(alloc, &mut state, &mut input);
+    ron_of(alloc, T::de_ron(alloc, &mut state, &mut input))
+}
+
+/// What is read in a state, and the state afterwards.
+fn ron_at<T: BothRon>(alloc: Global, text: &str) -> Result<Outcome, AllocError> {
+    let Some((mut state, mut input)) = ron_start(alloc, text)? else {
+        return Ok(Outcome::Unknown);
+    };
+    let read = ron_of(alloc, T::de_ron(alloc, &mut state, &mut input));
+    ron_left(alloc, read, &state, &input)
+}

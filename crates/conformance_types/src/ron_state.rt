@@ -1,0 +1,126 @@
+//! A state of RON's reader as a case has it.
+
+use crate::outcome::Outcome;
+use crate::start::{Left, Start, character, reported, start_of};
+use nanoserde::{DeRonErr, DeRonState, DeRonTok};
+use std::alloc::{AllocError, Global};
+use std::str::Chars;
+
+/// The state that a case describes, with the characters after its current one, or `None` where it
+/// describes none.
+pub fn ron_start(alloc: Global, text: &str) -> Result<Option<(DeRonState, Chars<'_>)>, AllocError> {
+    let Some(start) = start_of(text) else {
+        return Ok(None);
+    };
+    let mut input = start.text.chars();
+    match set_up(alloc, &start, &mut input)? {
+        None => Ok(None),
+        Some(state) => Ok(Some((state, input))),
+    }
+}
+
+/// The state in which a text is read from its beginning on. Its first token may be none.
+pub(crate) fn ron_begun(alloc: Global, input: &mut Chars<'_>) -> DeRonState {
+    let mut state = DeRonState::new(alloc);
+    state.next(input);
+    let _cut = state.next_tok(alloc, input);
+    state
+}
+
+/// The state that is described, whose first character is taken from the input.
+fn set_up(
+    alloc: Global,
+    start: &Start<'_>,
+    input: &mut Chars<'_>,
+) -> Result<Option<DeRonState>, AllocError> {
+    let Some(tok) = token(start) else {
+        return Ok(None);
+    };
+    let mut state = DeRonState::new(alloc);
+    match tok {
+        DeRonTok::Str => state.strbuf.push_str(start.content)?,
+        DeRonTok::F64 => state.numbuf.push_str(start.content)?,
+        _ => state.identbuf.push_str(start.content)?,
+    }
+    state.tok = tok;
+    state.cur = input.next().unwrap_or('\0');
+    state.line = start.line;
+    state.col = start.col;
+    Ok(Some(state))
+}
+
+/// The pending token.
+fn token(start: &Start<'_>) -> Option<DeRonTok> {
+    let content = start.content;
+    match start.token {
+        "U64" => Some(DeRonTok::U64(content.parse().ok()?)),
+        "I64" => Some(DeRonTok::I64(content.parse().ok()?)),
+        "Bool" => Some(DeRonTok::Bool(content == "true")),
+        "Char" => Some(DeRonTok::Char(character(content)?)),
+        name => punctuator(name),
+    }
+}
+
+/// The token of this name that carries nothing.
+fn punctuator(name: &str) -> Option<DeRonTok> {
+    match name {
+        "Ident" => Some(DeRonTok::Ident),
+        "Str" => Some(DeRonTok::Str),
+        "F64" => Some(DeRonTok::F64),
+        "Colon" => Some(DeRonTok::Colon),
+        "CurlyOpen" => Some(DeRonTok::CurlyOpen),
+        "CurlyClose" => Some(DeRonTok::CurlyClose),
+        "ParenOpen" => Some(DeRonTok::ParenOpen),
+        "ParenClose" => Some(DeRonTok::ParenClose),
+        "BlockOpen" => Some(DeRonTok::BlockOpen),
+        "BlockClose" => Some(DeRonTok::BlockClose),
+        "Comma" => Some(DeRonTok::Comma),
+        "Bof" => Some(DeRonTok::Bof),
+        "Eof" => Some(DeRonTok::Eof),
+        _ => None,
+    }
+}
+
+/// Appends the state after an answer.
+pub fn append_ron_state(
+    answer: &mut String,
+    state: &DeRonState,
+    input: &Chars<'_>,
+) -> Result<(), AllocError> {
+    let tok = &state.tok;
+    write!(answer, " -> {tok:?}")?;
+    let carried = match tok {
+        DeRonTok::Str => Some(state.strbuf.as_str()),
+        DeRonTok::F64 => Some(state.numbuf.as_str()),
+        DeRonTok::Ident => Some(state.identbuf.as_str()),
+        _ => None,
+    };
+    let left = Left {
+        carried,
+        place: (state.line, state.col),
+        cur: state.cur,
+        rest: input.as_str(),
+    };
+    left.append(answer)
+}
+
+/// An error as the answer of a call.
+pub fn ron_fault(alloc: Global, error: &DeRonErr) -> Result<String, AllocError> {
+    let msg = error.msg.as_str();
+    reported(alloc, error.memory, msg, (error.line, error.col))
+}
+
+/// What was read in a state, and the state afterwards.
+pub(crate) fn ron_left(
+    alloc: Global,
+    read: Result<String, DeRonErr>,
+    state: &DeRonState,
+    input: &Chars<'_>,
+) -> Result<Outcome, AllocError> {
+    let mut answer = match read {
+        Ok(text) => text,
+        Err(error) => ron_fault(alloc, &error)?,
+    };
+    append_ron_state(&mut answer, state, input)?;
+    Ok(Outcome::Text(answer.into_bytes()))
+}
