@@ -4,24 +4,25 @@ import pathlib
 from . import binary_code, damage, kinds, states, texts, toml_text
 
 DATA = pathlib.Path(__file__).resolve().parents[2] / "crates/conformance_run/data"
-BYTES_ALONE = ["u128", "i128", "Vec<u128>", "Vec<i128>", "Command"]
 JSON_ALONE = ["Message"]
+IN_BYTES = {"bin", "bin-whole", "bin-at"}
 
 
 def types_of_tables():
-    """The types that have three formats, of those that the tables name."""
-    found = set()
+    """The types that the tables name: those of all formats, and those of bytes alone."""
+    found = {}
     for path in DATA.glob("*.tsv"):
         rows = path.read_text(encoding="ascii").splitlines() if path.name != "wrong.tsv" else []
         for row in rows:
             form, _, rest = row.partition("\t")
             kind = rest.partition("\t")[0]
             if form.split("-")[0] in ("bin", "json", "ron") and kind[:1] != ".":
-                found.add(kind)
-    return sorted(found - set(BYTES_ALONE + JSON_ALONE))
+                found.setdefault(kind, set()).add(form)
+    alone = {kind for kind, forms in found.items() if forms <= IN_BYTES}
+    return sorted(found.keys() - alone - set(JSON_ALONE)), sorted(alone)
 
 
-TYPES = types_of_tables()
+TYPES, BYTES_ALONE = types_of_tables()
 # What is said of an input in each format, and of how many cases. Of an accepted input the program reads each
 # prefix too, but where its bytes, or the text of bytes, are asked for; so most are drawn in these formats.
 FORMATS = [("json", 7), ("json-whole", 6), ("json-bin", 18), ("ron", 7), ("ron-whole", 6), ("ron-bin", 18),
@@ -41,7 +42,8 @@ def case(draw):
         return ("run", *run_case(draw))
     source = form.split("-")[0]
     alone = {"bin": BYTES_ALONE, "bin-whole": BYTES_ALONE, "json": JSON_ALONE, "json-whole": JSON_ALONE}
-    name = draw.pick(alone[form]) if form in alone and draw.chance(0.04) else draw.pick(TYPES)
+    share = 0.2 if source == "bin" else 0.04
+    name = draw.pick(alone[form]) if form in alone and draw.chance(share) else draw.pick(TYPES)
     data = given(draw, source, lambda: good(draw, source, kinds.parse(name)))
     if source == "bin" and name == "Vec<()>":
         # Items without bytes: the count alone says how long it takes.
