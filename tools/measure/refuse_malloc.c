@@ -14,13 +14,18 @@
 #include <sys/wait.h>
 #include <unistd.h>
 
-enum { FIRST = 200, STEP = 31 };
+enum { FIRST = 200, STEP = 31, OUT_OF_MEMORY = 3 };
 extern void *__libc_malloc(size_t), *__libc_calloc(size_t, size_t), *__libc_realloc(void *, size_t);
 static void *(*own_malloc)(size_t) = __libc_malloc;
 static void *(*own_calloc)(size_t, size_t) = __libc_calloc;
 static void *(*own_realloc)(void *, size_t) = __libc_realloc;
 static int is_copy, refuses_all;
 static long requests, refused;
+
+/* Whether a copy went on to its end: it printed its answer, and its status is 0, or 3 where that is out of memory. */
+static int has_ended(int status) {
+    return WIFEXITED(status) && (WEXITSTATUS(status) == 0 || WEXITSTATUS(status) == OUT_OF_MEMORY);
+}
 
 static int is_refused(void) {
     if (is_copy) return refuses_all;
@@ -31,7 +36,7 @@ static int is_refused(void) {
         int status;
         pid_t copy = fork();
         if (copy == 0) return is_copy = 1, refuses_all = all, 1;
-        if (copy < 0 || waitpid(copy, &status, 0) < 0 || status != 0) dprintf(1, "stopped\n");
+        if (copy < 0 || waitpid(copy, &status, 0) < 0 || !has_ended(status)) dprintf(1, "stopped\n");
     }
     return 0;
 }

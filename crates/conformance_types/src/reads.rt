@@ -7,7 +7,7 @@ use crate::json_state::{json_begun, json_left, json_start};
 use crate::outcome::Outcome;
 use crate::ron_state::{ron_begun, ron_left, ron_start};
 use nanoserde::{
-    BothBin, BothJson, BothRon, DeBinErr, DeBinKind, DeJsonErr, DeJsonState, DeRonErr, DeRonState,
+    BothBin, BothJson, BothRon, DeBinErr, DeJsonErr, DeJsonState, DeRonErr, DeRonState,
     SerJsonState, SerRonState, json_to_bin, normal_json, normal_ron, ron_to_bin,
 };
 use std::alloc::{AllocError, Global};
@@ -38,30 +38,25 @@ pub(crate) fn of_bytes<T: BothBin>(
     input: &[u8],
 ) -> Result<Outcome, AllocError> {
     if let Format::BinWhole = format {
-        let read = code_of(alloc, T::deserialize_bin_whole(alloc, input));
+        let read = code_of(alloc, T::deserialize_bin_whole(alloc, input))?;
         return bin(alloc, format, read, (0, 0));
     }
     let Some((start, bytes)) = split_offset(format, input) else {
         return Ok(Outcome::Unknown);
     };
     let mut offset = start;
-    let read = code_of(alloc, T::de_bin(alloc, &mut offset, bytes));
+    let read = code_of(alloc, T::de_bin(alloc, &mut offset, bytes))?;
     bin(alloc, format, read, (start, offset))
 }
 
-/// What is written of the value that was read.
-fn code_of<T: BothBin>(alloc: Global, read: Result<T, DeBinErr>) -> Result<Vec<u8>, DeBinErr> {
+/// What is written of the value that was read, or the error.
+fn code_of<T: BothBin>(
+    alloc: Global,
+    read: Result<T, DeBinErr>,
+) -> Result<Result<Vec<u8>, DeBinErr>, AllocError> {
     match read {
-        Ok(value) => match value.serialize_bin(alloc) {
-            Ok(code) => Ok(code),
-            Err(_) => Err(DeBinErr {
-                o: 0,
-                l: 0,
-                s: 0,
-                kind: DeBinKind::Memory,
-            }),
-        },
-        Err(error) => Err(error),
+        Ok(value) => Ok(Ok(value.serialize_bin(alloc)?)),
+        Err(error) => Ok(Err(error)),
     }
 }
 
