@@ -3,15 +3,16 @@
 #
 #     sh tools/check.sh
 #
-# Each step is printed with its seconds; the first that fails ends it with status 1 and is named. The steps
-# are tools/check_*.py, list_calls.py and what_to_read.py; whether each generated file is what derive_files
-# writes; 20,000 drawn cases (fuzz.py), always the same; and worked.tsv with memory refused. It takes half a
-# minute, and runs the programs that `rt ci` left in crates/conformance_run/out and crates/derive_files/out;
-# it wants cc and Python too.
+# Each step is printed with its seconds; the first that fails ends it with status 1 and is named. The last
+# line is `N passed, M failed`, as that of `rt ci` is. The steps are tools/check_*.py, list_calls.py and
+# what_to_read.py; whether each generated file is what derive_files writes; 20,000 drawn cases (fuzz.py),
+# always the same; and worked.tsv with memory refused. It takes half a minute, and runs the programs that
+# `rt ci` left in crates/conformance_run/out and crates/derive_files/out; it wants cc and Python too.
 set -u
 cd "$(dirname "$0")/.." || exit 2
 program=crates/conformance_run/out/conformance_run
 derive=crates/derive_files/out/derive_files
+passed=0
 log=$(mktemp)
 trap 'rm -f "$log"' EXIT
 
@@ -21,10 +22,12 @@ step() {
     shift
     start=$(date +%s)
     if "$@" > "$log" 2>&1; then
+        passed=$((passed + 1))
         echo "$name: $(($(date +%s) - start)) s, $(tail -n 1 "$log" | cut -c1-200)"
     else
         tail -n 200 "$log"
         echo "FAILED: $name, after $(($(date +%s) - start)) s"
+        echo "$passed passed, 1 failed"
         exit 1
     fi
 }
@@ -47,11 +50,11 @@ if [ -x "$derive" ]; then
 else
     echo "derive --check: skipped, since $derive is not there"
 fi
-[ -x "$program" ] || { echo "FAILED: $program is not there; rt ci builds it"; exit 1; }
+[ -x "$program" ] || { echo "FAILED: $program is not there; rt ci builds it"; echo "$passed passed, 1 failed"; exit 1; }
 if [ -d tools/model ]; then
     step "fuzz.py" python3 tools/fuzz.py "$program" --seed 1 --cases 20000
 else
     echo "fuzz.py: skipped, since tools/model is not there"
 fi
 step "refuse_memory.sh" env PROGRAM="$PWD/$program" sh tools/measure/refuse_memory.sh worked.tsv
-echo "all steps passed"
+echo "$passed passed, 0 failed"

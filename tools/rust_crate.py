@@ -109,25 +109,24 @@ def counted(ported):
     return crate
 
 
-def cut_text(ported):
-    """Of a text that is cut short `l` is 1."""
+def faulting(ported, change):
+    """As the port reads a text, with each fault changed."""
     def crate(data, length, at):
         try:
             return ported(data, length, at)
         except BinFault as fault:
-            kind, o, l, s = fault.args
-            raise BinFault(kind, o, 1 if kind == "TooShort" else l, s) from fault
+            raise change(*fault.args) from fault
     return crate
+
+
+def cut_text(ported):
+    """Of a text that is cut short `l` is 1."""
+    return faulting(ported, lambda kind, o, l, s: BinFault(kind, o, 1 if kind == "TooShort" else l, s))
 
 
 def not_utf8(ported):
     """A panic where a text is not UTF-8."""
-    def crate(data, length, at):
-        try:
-            return ported(data, length, at)
-        except BinFault as fault:
-            raise (Stopped if fault.args[0] == "NotUtf8" else fault) from fault
-    return crate
+    return faulting(ported, lambda kind, *rest: Stopped() if kind == "NotUtf8" else BinFault(kind, *rest))
 
 
 # Bytes that an item of the crate's lists, sets and maps takes, and how many were not there.
