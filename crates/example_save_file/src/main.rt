@@ -1,8 +1,8 @@
 //! An example: reads a state from a JSON or RON file, changes it, and writes its normal form.
 //!
-//! `example_save_file FILE COINS` sets the coins of the state. The end of the name, `.json` or `.ron`,
-//! selects the form. A file that is no state is unchanged. What is wrong with it is printed with
-//! its line and column, that line, and a caret under the character where reading stopped.
+//! `example_save_file FILE COINS` sets the coins of the state. The end of the name, `.json` or
+//! `.ron`, selects the form. A file that is no state is unchanged. What is wrong with it is printed
+//! with its line and column, that line, and a caret under the character where reading stopped.
 #![tactic(auto)]
 
 ghost use Rattle.std.specs.Prelude.{IfOk, IfErr, string_bytes};

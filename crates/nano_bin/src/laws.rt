@@ -141,10 +141,12 @@ pub fn same_map_same_bytes<K: BinCodec + Key + Ord + Hash, V: BinCodec>(
     hashed: &HashMap<K, V>,
     ordered: &BTreeMap<K, V>,
 )
-    ensures written { table_of K.means V.means hashed.now.entries ≡ table_of K.means V.means ordered.now.entries →
-        ⟦<HashMap<K, V> as BinCodec>⟧.bin.canonical.written hashed.now
+    ensures written { table_of K.means V.means hashed.now.entries
+        ≡ table_of K.means V.means ordered.now.entries
+        → ⟦<HashMap<K, V> as BinCodec>⟧.bin.canonical.written hashed.now
         ≡ ⟦<BTreeMap<K, V> as BinCodec>⟧.bin.canonical.written ordered.now }
-    ensures means { (table_of K.means V.means hashed.now.entries ≡ table_of K.means V.means ordered.now.entries)
+    ensures means { (table_of K.means V.means hashed.now.entries
+        ≡ table_of K.means V.means ordered.now.entries)
         ↔ (⟦<HashMap<K, V> as Value>⟧.means hashed.now
         ≡ ⟦<BTreeMap<K, V> as Value>⟧.means ordered.now) }
     ensures encodes { (bytes : List ℕ) (m : Meaning) →

@@ -38,7 +38,8 @@ impl DeBin for i8 {
         ensures ok { IfOk result (λ value.
             Decodes (EncodesSigned w8 1) bytes.now offset.old (number value) offset.new) }
         ensures err { IfErr result
-            (ReadsNoneWhereShort (EncodesSigned w8 1) bytes.now offset.old offset.new offset.old 1) }
+            (ReadsNoneWhereShort (EncodesSigned w8 1)
+            bytes.now offset.old offset.new offset.old 1) }
     {
         read_number::<i8, 1>(offset, bytes)
     }
@@ -77,7 +78,8 @@ impl DeBin for i16 {
         ensures ok { IfOk result (λ value.
             Decodes (EncodesSigned w16 2) bytes.now offset.old (number value) offset.new) }
         ensures err { IfErr result
-            (ReadsNoneWhereShort (EncodesSigned w16 2) bytes.now offset.old offset.new offset.old 2) }
+            (ReadsNoneWhereShort (EncodesSigned w16 2)
+            bytes.now offset.old offset.new offset.old 2) }
     {
         read_number::<i16, 2>(offset, bytes)
     }
@@ -116,7 +118,8 @@ impl DeBin for i32 {
         ensures ok { IfOk result (λ value.
             Decodes (EncodesSigned w32 4) bytes.now offset.old (number value) offset.new) }
         ensures err { IfErr result
-            (ReadsNoneWhereShort (EncodesSigned w32 4) bytes.now offset.old offset.new offset.old 4) }
+            (ReadsNoneWhereShort (EncodesSigned w32 4)
+            bytes.now offset.old offset.new offset.old 4) }
     {
         read_number::<i32, 4>(offset, bytes)
     }
@@ -155,7 +158,8 @@ impl DeBin for i64 {
         ensures ok { IfOk result (λ value.
             Decodes (EncodesSigned w64 8) bytes.now offset.old (number value) offset.new) }
         ensures err { IfErr result
-            (ReadsNoneWhereShort (EncodesSigned w64 8) bytes.now offset.old offset.new offset.old 8) }
+            (ReadsNoneWhereShort (EncodesSigned w64 8)
+            bytes.now offset.old offset.new offset.old 8) }
     {
         read_number::<i64, 8>(offset, bytes)
     }
@@ -198,7 +202,8 @@ impl DeBin for i128 {
         ensures ok { IfOk result (λ value.
             Decodes (EncodesSigned w128 16) bytes.now offset.old (number value) offset.new) }
         ensures err { IfErr result
-            (ReadsNoneWhereShort (EncodesSigned w128 16) bytes.now offset.old offset.new offset.old 16) }
+            (ReadsNoneWhereShort (EncodesSigned w128 16)
+            bytes.now offset.old offset.new offset.old 16) }
     {
         read_number::<i128, 16>(offset, bytes)
     }

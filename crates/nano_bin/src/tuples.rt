@@ -67,7 +67,8 @@ impl<A: BinCodec, B: BinCodec, C: BinCodec, D: BinCodec> BinCodec for (A, B, C, 
     ghost bin = { codec_as (λ x. (x.0, (x.1, (x.2, x.3))))
         (pair_codec A.bin (pair_codec B.bin (pair_codec C.bin D.bin))) };
 
-    ghost agrees = { seen_agrees (pair_agrees A.agrees (pair_agrees B.agrees (pair_agrees C.agrees D.agrees)))
+    ghost agrees = { seen_agrees
+        (pair_agrees A.agrees (pair_agrees B.agrees (pair_agrees C.agrees D.agrees)))
         (λ x. (x.0, (x.1, (x.2, x.3)))) };
 }
 

@@ -250,7 +250,8 @@ impl DeBin for u128 {
         ensures ok { IfOk result (λ value.
             Decodes (EncodesUnsigned 16) bytes.now offset.old (whole value) offset.new) }
         ensures err { IfErr result
-            (ReadsNoneWhereShort (EncodesUnsigned 16) bytes.now offset.old offset.new offset.old 16) }
+            (ReadsNoneWhereShort (EncodesUnsigned 16)
+            bytes.now offset.old offset.new offset.old 16) }
     {
         read_number::<u128, 16>(offset, bytes)
     }

@@ -78,8 +78,8 @@ pub fn read_bytes<'a>(
         Decodes (EncodesCount count (EncodesUnsigned 1)) bytes.now offset.old
         (map whole read.now) offset.new) }
     ensures err { IfErr result
-        (ReadsNoneWhereShort (EncodesCount count (EncodesUnsigned 1)) bytes.now offset.old offset.new
-        (offset.old + length (drop offset.old bytes.now)) 1) }
+        (ReadsNoneWhereShort (EncodesCount count (EncodesUnsigned 1)) bytes.now offset.old
+        offset.new (offset.old + length (drop offset.old bytes.now)) 1) }
 {
     let rest = rest(bytes, *offset);
     if rest.len() < count {

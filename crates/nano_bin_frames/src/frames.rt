@@ -117,8 +117,10 @@ impl<R: Read> Messages<R> {
 
     /// Reads a chunk after the bytes that are left, and returns how many bytes arrived.
     fn fill(&mut self) -> Result<usize, Fault>
-        ensures ok { IfOk result (DecodesAfter (R.remaining self.old.input) (R.remaining self.new.input)
-            (drop self.old.offset self.old.bytes.items) (drop self.new.offset self.new.bytes.items)) }
+        ensures ok { IfOk result (DecodesAfter
+            (R.remaining self.old.input) (R.remaining self.new.input)
+            (drop self.old.offset self.old.bytes.items)
+            (drop self.new.offset self.new.bytes.items)) }
         ensures err { IfErr result (ReadFails R.remaining self.old self.new) }
         ensures size { chunk_size self.new ≡ chunk_size self.old }
     {

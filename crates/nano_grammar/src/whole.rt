@@ -18,7 +18,8 @@ pub fn holds_nul(text: &str) -> bool
 #[inline(never)]
 pub fn strip_end_message(msg: &mut String)
     ensures apart { string_bytes msg.new ≢ end_message }
-    ensures unchanged { string_bytes msg.old ≢ end_message → string_bytes msg.new ≡ string_bytes msg.old }
+    ensures unchanged { string_bytes msg.old ≢ end_message
+        → string_bytes msg.new ≡ string_bytes msg.old }
     ensures cut { string_bytes msg.old ≡ end_message
         → string_bytes msg.new ≡ codes "Cannot parse end" }
 {

@@ -158,7 +158,8 @@ pub fn equal_maps_equal_text<K: JsonCodec + Key + Ord + Hash, V: JsonCodec>(
         → table_of K.means V.means hashed.now.entries ≡ table_of K.means V.means ordered.now.entries
         → ⟦<HashMap<K, V> as JsonCodec>⟧.json.canonical.text d hashed.now
         ≡ ⟦<BTreeMap<K, V> as JsonCodec>⟧.json.canonical.text d ordered.now }
-    ensures means { (table_of K.means V.means hashed.now.entries ≡ table_of K.means V.means ordered.now.entries)
+    ensures means { (table_of K.means V.means hashed.now.entries
+        ≡ table_of K.means V.means ordered.now.entries)
         ↔ (⟦<HashMap<K, V> as Value>⟧.means hashed.now
         ≡ ⟦<BTreeMap<K, V> as Value>⟧.means ordered.now) }
     ensures encodes { (ts : List Token) (m : Meaning) →

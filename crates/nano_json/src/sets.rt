@@ -43,7 +43,8 @@ fn append_hash_set<T: SerJson>(
     s: &mut SerJsonState,
 ) -> Result<(), AllocError>
     ensures ok { OnOk result
-        (Appends s.old.out s.new.out (written_list (T.json.canonical.text d) (map deref items.now))) }
+        (Appends s.old.out s.new.out
+        (written_list (T.json.canonical.text d) (map deref items.now))) }
     ensures err { OnErr result (AppendsPart s.old.out s.new.out) }
 {
     s.out.push('[')?;

@@ -1,5 +1,5 @@
-//! Tuples: two, three or four parts between square brackets. On an error the private functions leave
-//! the state anywhere and the text that they wrote; the impls put that right.
+//! Tuples: two, three or four parts between square brackets. On an error the private functions
+//! leave the state anywhere and the text that they wrote; the impls put that right.
 
 ghost use Rattle.std.specs.Prelude.{◌++◌, ◌∷◌, [], OnOk, OnErr};
 ghost use Rattle.nano_value.specs.Meaning.{paired};
@@ -209,7 +209,8 @@ impl<A: DeJson, B: DeJson, C: DeJson> DeJson for (A, B, C) {
 impl<A: JsonCodec, B: JsonCodec, C: JsonCodec, D: JsonCodec> JsonCodec for (A, B, C, D) {
     ghost json = { quadruple_codec A.json B.json C.json D.json };
 
-    ghost agrees = { seen_agrees (pair_agrees A.agrees (pair_agrees B.agrees (pair_agrees C.agrees D.agrees)))
+    ghost agrees = { seen_agrees
+        (pair_agrees A.agrees (pair_agrees B.agrees (pair_agrees C.agrees D.agrees)))
         (λ x. (x.0, (x.1, (x.2, x.3)))) };
 }
 

@@ -1,5 +1,5 @@
-//! What a variant holds, in JSON: nothing, one part between square brackets, or named fields between
-//! curly ones.
+//! What a variant holds, in JSON: nothing, one part between square brackets, or named fields
+//! between curly ones.
 
 ghost use Rattle.std.specs.Prelude.{◌≡◌, OnOk, OnErr};
 ghost use Rattle.nano_value.specs.Meaning.{Meaning, nothing};
@@ -82,7 +82,8 @@ pub trait WriteContent<'a> {
         d: usize,
         s: &mut SerJsonState,
     ) -> Result<(), AllocError>
-        ensures ok { OnOk result (Appends s.old.out s.new.out (content.text name.now d (values refs.now))) }
+        ensures ok { OnOk result
+            (Appends s.old.out s.new.out (content.text name.now d (values refs.now))) }
         ensures err { OnErr result (Unchanged s.old.out s.new.out) };
 }
 

@@ -51,7 +51,8 @@ impl<N: Label, T: DeJson, D: JsonDefaultOf<T>> JsonFields for Defaulted<N, T, D>
 
     ghost codec = { defaulted_field N.label T.json D.DefaultOf.missing };
 
-    ghost holds = { λ slot. Holds N.label T.json.encoding.encodes (option_map T.json.canonical.means slot) };
+    ghost holds = { λ slot.
+        Holds N.label T.json.encoding.encodes (option_map T.json.canonical.means slot) };
 
     ghost skips = { λ slot. holds_skips N.label T.json.encoding.encodes
         (option_map T.json.canonical.means slot) };

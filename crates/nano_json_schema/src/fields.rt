@@ -109,7 +109,8 @@ pub trait JsonRefs<'a> {
         s: &mut SerJsonState,
     ) -> Result<bool, AllocError>
         ensures ok { OnOk result (Appends s.old.out s.new.out
-            (in_a_row first (field_text json_fields d) (codec.canonical.fields (values refs.now)))) }
+            (in_a_row first (field_text json_fields d)
+            (codec.canonical.fields (values refs.now)))) }
         ensures next { IfOk result (λ still_first. still_first
             ≡ none_yet first (codec.canonical.fields (values refs.now))) }
         ensures err { OnErr result (AppendsPart s.old.out s.new.out) };

@@ -25,7 +25,8 @@ impl<N: Label, T: DeJson> JsonFields for Required<N, T> {
 
     ghost codec = { required_field N.label T.json };
 
-    ghost holds = { λ slot. Holds N.label T.json.encoding.encodes (option_map T.json.canonical.means slot) };
+    ghost holds = { λ slot.
+        Holds N.label T.json.encoding.encodes (option_map T.json.canonical.means slot) };
 
     ghost skips = { λ slot. holds_skips N.label T.json.encoding.encodes
         (option_map T.json.canonical.means slot) };

@@ -10,11 +10,8 @@ use Rattle.nano_value.specs.Meaning.{Meaning, listed, paired, pair_map, optional
 use Rattle.nano_meaning.proofs.MeaningLaws.{all_weaker}
 use Rattle.nano_meaning.proofs.MeaningLaws.{listed_injective, both_injective}
 use Rattle.nano_grammar.specs.Tokens.{Cutting}
-use Rattle.nano_grammar.specs.Codec.{ListStyle, PairStyle}
-use Rattle.nano_grammar.specs.Codec.{Codec}
-use Rattle.nano_grammar.specs.Codec.{Grammar, AreBrackets}
-use Rattle.nano_grammar.specs.Items.{StartsOtherwise}
-use Rattle.nano_grammar.specs.Items.{no_gaps}
+use Rattle.nano_grammar.specs.Codec.{ListStyle, PairStyle, Codec, Grammar, AreBrackets}
+use Rattle.nano_grammar.specs.Items.{StartsOtherwise, no_gaps}
 use Rattle.nano_grammar.specs.Scalars.{NoneStyle, SoundOption}
 use Rattle.nano_grammar.proofs.LayoutsLaws.{laid_out_same}
 use Rattle.nano_grammar.proofs.ListsLaws.{list_codec}

@@ -4,7 +4,18 @@
 //! The laws speak of the outcomes that the two contracts name: a writer got a line, the next line
 //! that is not blank was taken, and what is left has a fault next, or only blank lines. None of
 //! these functions does anything.
-ghost use Rattle.std.specs.Prelude.{◌≡◌, ◌≤◌, ◌+◌, ◌++◌, ℕ, List, Some, map, length, encode_utf8_all};
+ghost use Rattle.std.specs.Prelude.{
+  ◌≡◌,
+  ◌≤◌,
+  ◌+◌,
+  ◌++◌,
+  ℕ,
+  List,
+  Some,
+  map,
+  length,
+  encode_utf8_all,
+};
 ghost use Rattle.std.specs.List.{AllByRecursion};
 ghost use Rattle.nano_value.specs.Meaning.{Meaning};
 ghost use Rattle.nano_lines.specs.Lines.{IsBlank, HoldsValue};
@@ -31,7 +42,8 @@ pub fn what_was_put_is_taken<T: SerJson + DeJson>(value: &T)
 /// and then the stream is at its end. On the way no `next` reports a fault of a line, nor the end.
 pub fn lines_give_their_values<T: SerJson + DeJson>(values: &[T])
     ensures { (limit : ℕ) (stream : List ℕ) → AllByRecursion T.json.sound values.now
-        → AllByRecursion (λ x. length (encode_utf8_all (T.json.canonical.text 0 x)) ≤ limit) values.now
+        → AllByRecursion (λ x. length (encode_utf8_all (T.json.canonical.text 0 x)) ≤ limit)
+        values.now
         → AreLines stream (map (T.json.canonical.text 0) values.now)
         → GivesValues T.json.encoding.encodes limit stream (map T.means values.now) }
 {

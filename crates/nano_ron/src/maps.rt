@@ -91,7 +91,8 @@ pub(crate) fn append_entry<K: SerRon, V: SerRon>(
     s: &mut SerRonState,
 ) -> Result<(), AllocError>
     ensures ok { OnOk result (Appends s.old.out s.new.out (on_a_line d (written_entry
-        (K.ron.canonical.text (saturating_next d)) (V.ron.canonical.text (saturating_next d)) (key.now, value.now)))) }
+        (K.ron.canonical.text (saturating_next d)) (V.ron.canonical.text (saturating_next d))
+        (key.now, value.now)))) }
     ensures err { OnErr result (AppendsPart s.old.out s.new.out) }
 {
     let inner = d.saturating_add(1);

@@ -47,7 +47,8 @@ fn append_hash_set<T: SerRon>(
     s: &mut SerRonState,
 ) -> Result<(), AllocError>
     ensures ok { OnOk result (Appends s.old.out s.new.out
-        (written_in indent_style d (T.ron.canonical.text (saturating_next d)) (map deref items.now))) }
+        (written_in indent_style d (T.ron.canonical.text (saturating_next d))
+        (map deref items.now))) }
     ensures err { OnErr result (AppendsPart s.old.out s.new.out) }
 {
     s.out.push('[')?;

@@ -40,7 +40,8 @@ pub trait SerRon: RonCodec {
     /// age.ser_ron(alloc, 0, &mut written)?;
     /// ```
     fn ser_ron(&self, alloc: Global, d: usize, s: &mut SerRonState) -> Result<(), AllocError>
-        ensures ok { OnOk result (Appends s.old.out s.new.out (Self.ron.canonical.text d self.now)) }
+        ensures ok { OnOk result
+            (Appends s.old.out s.new.out (Self.ron.canonical.text d self.now)) }
         ensures err { OnErr result (Unchanged s.old.out s.new.out) };
 
     /// Returns the canonical text of the value at level 0, as a new text.

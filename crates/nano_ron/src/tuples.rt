@@ -182,7 +182,8 @@ impl<A: DeRon, B: DeRon, C: DeRon> DeRon for (A, B, C) {
 impl<A: RonCodec, B: RonCodec, C: RonCodec, D: RonCodec> RonCodec for (A, B, C, D) {
     ghost ron = { quadruple_codec A.ron B.ron C.ron D.ron };
 
-    ghost agrees = { seen_agrees (pair_agrees A.agrees (pair_agrees B.agrees (pair_agrees C.agrees D.agrees)))
+    ghost agrees = { seen_agrees
+        (pair_agrees A.agrees (pair_agrees B.agrees (pair_agrees C.agrees D.agrees)))
         (λ x. (x.0, (x.1, (x.2, x.3)))) };
 }
 

@@ -3,7 +3,13 @@
 ghost use Rattle.std.specs.Prelude.{◌≡◌};
 ghost use Rattle.nano_text.specs.Characters.{following, is_space};
 ghost use Rattle.nano_text.specs.Place.{remaining};
-ghost use Rattle.nano_ron_tokens.specs.Scan.{AfterLine, AfterBlock, Passed, SkipsComment, SkipsGaps};
+ghost use Rattle.nano_ron_tokens.specs.Scan.{
+  AfterLine,
+  AfterBlock,
+  Passed,
+  SkipsComment,
+  SkipsGaps,
+};
 
 use crate::state::DeRonState;
 use nano_text::is_space;

@@ -1,5 +1,5 @@
-//! Strings of plain characters and short escapes in one line, which nearly all are: they are read at
-//! once. Anything else falls back to `string`; no input is consumed.
+//! Strings of plain characters and short escapes in one line, which nearly all are: they are read
+//! at once. Anything else falls back to `string`; no input is consumed.
 
 ghost use Rattle.std.specs.Prelude.{◌≡◌, ◌≢◌, ◌++◌, ◌∷◌, ◌<◌, ◌≤◌, true, false, IfSome, None, List};
 ghost use Rattle.std.specs.Prelude.{ℕ, count_by, string_bytes, string_capacity, ◌+◌, drop};

@@ -7,16 +7,13 @@ use Rattle.std.proofs.Math.Bool.{or-true}
 use Rattle.std.proofs.lemmas.Bool.Decides.{eqb_tells, nat_tests}
 use Rattle.nano_toml.specs.Characters.{is_sign, is_digit, starts_number, is_in_digits, Each}
 use Rattle.nano_toml.specs.Number.{digits, value, unchanged_sign}
-use Rattle.nano_toml.specs.Place.{point_remaining, word_remaining, unsigned_remaining}
-use Rattle.nano_toml.specs.Place.{number_remaining}
-use Rattle.nano_toml.specs.Scan.{Taken, taken, any_digit, fitting, integer_from, integer_at}
-use Rattle.nano_toml.specs.Scan.{decimal_at, after_digits, number_from, after_word, word_at}
-use Rattle.nano_toml.specs.Scan.{after_sign, number_at}
+use Rattle.nano_toml.specs.Place.{point_remaining, word_remaining, unsigned_remaining, number_remaining}
+use Rattle.nano_toml.specs.Scan.{Taken, taken, any_digit, fitting, integer_from, integer_at, decimal_at}
+use Rattle.nano_toml.specs.Scan.{after_digits, number_from, after_word, word_at, after_sign, number_at}
 use Rattle.nano_toml.specs.Token.{begins, prefix, following, Token, nan, infinity, decimal}
 use Rattle.nano_toml.specs.Reading.{Next, a_token}
 use Rattle.nano_toml.proofs.NumberCut.{no_letter}
-use Rattle.nano_toml.proofs.Places.{prefix_again, after_again, span_split, after_stops}
-use Rattle.nano_toml.proofs.Places.{prefix_passes}
+use Rattle.nano_toml.proofs.Places.{prefix_again, after_again, span_split, after_stops, prefix_passes}
 
 -- the scan stops before what remains
 pub record Halts (scan : List ℕ → Option Taken) (text remaining : List ℕ) : Type 0 where

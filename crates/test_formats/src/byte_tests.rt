@@ -1,5 +1,5 @@
-//! The calls of `nano_bin_bytes` that build user-defined types of a fixed width, the items of a type,
-//! and the laws of `nano_bin`: each is made once, with its answer.
+//! The calls of `nano_bin_bytes` that build user-defined types of a fixed width, the items of a
+//! type, and the laws of `nano_bin`: each is made once, with its answer.
 
 use crate::checks::{holds, is_made, is_so};
 use nano_bin::{DeBin, SerBin, append_part, laws};

@@ -1,5 +1,5 @@
-//! The laws of fields, of the formats joined and of the answers of `nano_show`, each called once, and
-//! a user-defined type that is only read.
+//! The laws of fields, of the formats joined and of the answers of `nano_show`, each called once,
+//! and a user-defined type that is only read.
 
 use crate::type_checks::holds;
 use nano_show_answers::laws as answers;

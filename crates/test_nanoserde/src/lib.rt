@@ -1,6 +1,6 @@
-//! Tests of `nanoserde`, of user-defined types, of `test_types` and of the answers of `nano_show` over
-//! their public surfaces: what the tables of `conformance_run` cannot say. They are a crate of their
-//! own, so that they are proved beside them.
+//! Tests of `nanoserde`, of user-defined types, of `test_types` and of the answers of `nano_show`
+//! over their public surfaces: what the tables of `conformance_run` cannot say. They are a crate of
+//! their own, so that they are proved beside them.
 #![tactic(auto)]
 
 #[cfg(test)]

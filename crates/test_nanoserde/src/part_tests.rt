@@ -1,6 +1,6 @@
-//! The calls by which the formats read and write the fields and the variants of a schema, and a name.
-//! Each is made once, with what it returns. What they do for the types of programs is in the tables of
-//! `conformance_run`.
+//! The calls by which the formats read and write the fields and the variants of a schema, and a
+//! name. Each is made once, with what it returns. What they do for the types of programs is in the
+//! tables of `conformance_run`.
 
 ghost use Rattle.std.specs.Prelude.{codes};
 

@@ -38,8 +38,8 @@ impl Read for Source<'_> {
     }
 }
 
-/// A writer that takes one byte a call, and at one of its calls fails with an error of this kind or,
-/// without a kind, takes nothing.
+/// A writer that takes one byte a call, and at one of its calls fails with an error of this kind
+/// or, without a kind, takes nothing.
 #[derive(Drop)]
 pub(crate) struct Sink {
     pub(crate) taken: Vec<u8>,

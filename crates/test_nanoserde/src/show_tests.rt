@@ -1,5 +1,5 @@
-//! The words of `nano_show` over readers and writers that fail at each of their calls in turn, or are
-//! interrupted there; a listing that is nested deep; and the program's ends.
+//! The words of `nano_show` over readers and writers that fail at each of their calls in turn, or
+//! are interrupted there; a listing that is nested deep; and the program's ends.
 
 use crate::show_source::{Sink, Source};
 use crate::type_checks::{is_made, is_so};

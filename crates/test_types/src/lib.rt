@@ -3,9 +3,9 @@
 //!
 //! `Server`, `Event`, `Signal` and `Query` are described once by a schema, and `derive_files` wrote
 //! each format from it. So are `Site`, `Clock` and `Notice`, which have attributes, `Tagged` and
-//! `Reply`, which have type parameters, and `Point` and `Entry`, whose parts have no names. `Limits`
-//! and `Tags` are encoded as their one field. `Command` implements bytes and `Message` implements
-//! JSON by hand, without a schema.
+//! `Reply`, which have type parameters, and `Point` and `Entry`, whose parts have no names.
+//! `Limits` and `Tags` are encoded as their one field. `Command` implements bytes and `Message`
+//! implements JSON by hand, without a schema.
 #![tactic(auto)]
 
 mod clock;
