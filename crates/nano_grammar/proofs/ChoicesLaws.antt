@@ -5,7 +5,8 @@ use Rattle.std.proofs.Common.{bytes_eq, ap}
 use Rattle.std.proofs.lemmas.Bool.{and_parts}
 use Rattle.nano_value.specs.Meaning.{Meaning, nothing}
 use Rattle.nano_value.specs.Sums.{tagged}
-use Rattle.nano_grammar.specs.Tokens.{Cutting, IsValueText, At, DecodesToNothing, Spans}
+use Rattle.nano_grammar.specs.Tokens.{Cutting, IsValueText, At, Spans}
+use Rattle.nano_grammar.proofs.FaultLaws.{Encodes}
 use Rattle.nano_grammar.specs.Codec.{Codec, Grammar, Encoding}
 use Rattle.nano_grammar.specs.BaseCodecs.{codec_as}
 use Rattle.nano_grammar.specs.Variants.{VariantStyle, unit_variant, variant, names_differ, Variants}
@@ -270,11 +271,8 @@ module _ {T : Type 0} {c : Cutting T} {g : Grammar T} (s : VariantStyle c g)
       first_reads from start end m h =
           (h.0, first_after rest first others from stood name named h.0 m h.1, h.2)
 
-      pub first_rejected : (from : ℕ) (start : At T)
-          → DecodesToNothing cut (EncodesRest s rest) start → DecodesToNothing cut (All from) start
-      first_rejected from start none m f =
-          let r = after_first rest first others from stood name named f.0 m f.2 in
-          none r.0 (f.0, f.1, r.1, f.3)
+      pub first_encodes : (from : ℕ) → Encodes (All from) (EncodesRest s rest)
+      first_encodes from = after_first rest first others from stood name named
 
     module _ (other : is_named stood (stands_alone rest) name first ≡ false) where
       pub later_reads : (from : ℕ) (start end : At T) (m : Meaning)
@@ -283,12 +281,10 @@ module _ {T : Type 0} {c : Cutting T} {g : Grammar T} (s : VariantStyle c g)
       later_reads from start end m h =
           (h.0, later_after rest first others from stood name other h.0 m h.1, h.2)
 
-      pub later_rejected : (from : ℕ) (start : At T)
-          → DecodesToNothing cut (After (suc from) others stood name) start → DecodesToNothing cut (All from) start
-      later_rejected from start none m f =
-          none m (f.0, f.1, after_later rest first others from stood name other f.0 m f.2, f.3)
+      pub later_encodes : (from : ℕ) → Encodes (All from) (After (suc from) others stood name)
+      later_encodes from ts m h = (m, after_later rest first others from stood name other ts m h)
 
-  pub none_named : (from : ℕ) (stood : Bool) (name : List ℕ) (start : At T)
-      → DecodesToNothing cut (After from no_variants stood name) start
-  none_named from true name start m f = let bad = f.2.1 in absurd (cc bad)
-  none_named from false name start m f = absurd f.2
+  pub none_named : (from : ℕ) (stood : Bool) (name : List ℕ) (ts : List T) (m : Meaning)
+      → After from no_variants stood name ts m → ⊥
+  none_named from true name ts m f = let bad = f.1 in absurd (cc bad)
+  none_named from false name ts m f = f

@@ -3,21 +3,22 @@
 use Rattle.std.proofs.Common.{◌≡◌, ◌≢◌, ◌<◌, List, [], ◌∷◌, ◌++◌, sym, subst, ℕ, length, true}
 use Rattle.nano_value.specs.Meaning.{Meaning, usize_bound, IsImage}
 use Rattle.nano_grammar.proofs.TokensLaws.{CutLaws, tokens_left}
-use Rattle.nano_grammar.specs.Tokens.{Cutting, At, Leaves, Spans, DecodesToNothing}
+use Rattle.nano_grammar.specs.Tokens.{Cutting, At, Leaves, Spans}
+use Rattle.nano_grammar.specs.Faults.{AreTokens}
 use Rattle.nano_grammar.specs.Codec.{Grammar, IsEncoding, AreBrackets}
 use Rattle.nano_grammar.specs.Items.{ListPunctuation, EncodedList}
 use Rattle.nano_grammar.specs.Lists.{EncodesAll, EncodesCount}
 use Rattle.nano_grammar.proofs.Containers.{ReadSoFar, read_start, read_next, read_found, read_few}
-use Rattle.nano_grammar.proofs.Containers.{read_open_rejected, read_item_rejected}
-use Rattle.nano_grammar.proofs.Containers.{read_comma_rejected, read_close_rejected, item_shorter}
+use Rattle.nano_grammar.proofs.Containers.{read_opening_leads, read_item_leads, read_comma_leads}
+use Rattle.nano_grammar.proofs.Containers.{read_closing_leads, item_taken, item_shorter}
+use Rattle.nano_grammar.proofs.FaultLaws.{LeadsTo, wrong_in}
 use Rattle.nano_grammar.proofs.PartReading.{CommaTaken}
-use Rattle.nano_grammar.proofs.Reading.{image_spans, image_rejected, list_spans, list_rejected}
-use Rattle.nano_grammar.proofs.Reading.{count_spans, count_rejected}
+use Rattle.nano_grammar.proofs.Reading.{image_spans, list_spans, count_spans}
 use Rattle.nano_text.proofs.PlaceLaws.{moves_append}
 use Rattle.nano_grammar.specs.Outcomes.{Report, Position, Moved, IsMadeAt, Fails, Took, TookComma}
-use Rattle.nano_grammar.specs.Outcomes.{Read}
+use Rattle.nano_grammar.specs.Outcomes.{Read, GoesWrong, ReadsNone}
 use Rattle.nano_grammar.proofs.TupleCalls.{item_missing, item_too_many, not_closing}
-use Rattle.nano_grammar.proofs.TokenCalls.{fails_as, fails_after, fails_for_memory}
+use Rattle.nano_grammar.proofs.TokenCalls.{fails_after, fails_for_memory, none_in, none_first}
 
 -- ==== what is known while a collection is filled
 
@@ -62,39 +63,25 @@ module _ {T : Type 0} {c : Cutting T} {g : Grammar T} (r : CutLaws c g)
           subst (λ (m : Meaning). Spans c.cut (EncodesAll punctuation whole S) start end m)
           (sym (is x h.items h.held)) (image_spans c whole start end h.items all)
 
-      -- where no list decodes, no collection does
-      rejected : (start : At T) → DecodesToNothing c.cut (EncodedList punctuation S) start
-          → DecodesToNothing c.cut (EncodesAll punctuation whole S) start
-      rejected start none = image_rejected c whole start (list_rejected r punctuation S start none)
+      -- what a list leads to, a collection does
+      pub all_lead : {W : Type 0} (part : List T → W → Type 0) (ts : List T) (pending : T)
+          → LeadsTo (EncodedList punctuation S) part ts pending
+          → LeadsTo (EncodesAll punctuation whole S) part ts pending
+      all_lead part ts pending leads us more rest next m e is =
+          leads us more rest next e.part e.has.items is
 
-      pub collected_open_rejected : (start : At T)
-          → ((m : At T) → Leaves c.cut (punctuation.opening ∷ []) start m → ⊥)
-          → DecodesToNothing c.cut (EncodesAll punctuation whole S) start
-      collected_open_rejected start bad =
-          rejected start (read_open_rejected r s punctuation are start bad)
+      -- and an array
+      pub count_leads : {W : Type 0} (part : List T → W → Type 0) (count : ℕ) (ts : List T) (pending : T)
+          → LeadsTo (EncodesCount punctuation count S) part ts pending
+          → LeadsTo (λ us. IsImage whole (EncodesCount punctuation count S us)) part ts pending
+      count_leads part count ts pending leads us more rest next m e is =
+          leads us more rest next e.part e.has is
 
-      pub collected_item_rejected : (start here : At T) (x : C) → Collected holds S start here x
-          → here.token ≢ punctuation.closing → DecodesToNothing c.cut S here
-          → DecodesToNothing c.cut (EncodesAll punctuation whole S) start
-      collected_item_rejected start here x h n bad =
-          rejected start (read_item_rejected r s punctuation are start here h.items h.read n bad)
-
-      pub collected_comma_rejected : (start here following : At T) (x : C) (v : V)
-          → Collected holds S start here x → here.token ≢ punctuation.closing
-          → Spans c.cut S here following v
-          → (following.token ≢ punctuation.closing) × ((k : At T) → Leaves c.cut
-          (punctuation.comma ∷ []) following k → ⊥)
-          → DecodesToNothing c.cut (EncodesAll punctuation whole S) start
-      collected_comma_rejected start here following x v h n i bad =
-          rejected start
-          (read_comma_rejected r s punctuation are start here following h.items v h.read n i bad)
-
-      pub collected_close_rejected : (start here : At T) (x : C) → Collected holds S start here x
-          → here.token ≡ punctuation.closing
-          → ((m : At T) → Leaves c.cut (punctuation.closing ∷ []) here m → ⊥)
-          → DecodesToNothing c.cut (EncodesAll punctuation whole S) start
-      collected_close_rejected start here x h e bad =
-          rejected start (read_close_rejected r s punctuation are start here h.items h.read e bad)
+      pub array_leads : {W : Type 0} (part : List T → W → Type 0) (count : ℕ) (ts : List T) (pending : T)
+          → LeadsTo (EncodedList punctuation S) part ts pending
+          → LeadsTo (λ us. IsImage whole (EncodesCount punctuation count S us)) part ts pending
+      array_leads part count ts pending leads us more rest next m e is =
+          leads us more rest next e.part e.has.items is
 
 -- ==== collecting calls
 
@@ -107,12 +94,9 @@ module _ {T : Type 0} {c : Cutting T} {g : Grammar T} (r : CutLaws c g)
     pub place : Moved start here
 
   -- what an error at a comma reports
-  abbrev NoComma : At T → Type 0
-  NoComma here = (here.token ≢ punctuation.closing)
-      × ((next : At T) → Leaves c.cut (punctuation.comma ∷ []) here next → ⊥)
-
-  abbrev None : T → At T → Type 0
-  None t here = (next : At T) → Leaves c.cut (t ∷ []) here next → ⊥
+  abbrev NoComma : Position T → Position T → Type 0
+  NoComma here end = (here.at.token ≢ punctuation.closing)
+      × GoesWrong c.cut (AreTokens (punctuation.comma ∷ [])) here end
 
   module _ {V : Type 0} {P : V → Type 0} {S : List T → V → Type 0} (s : IsEncoding g P S) where
     -- a turn takes a token
@@ -146,11 +130,26 @@ module _ {T : Type 0} {c : Cutting T} {g : Grammar T} (r : CutLaws c g)
           → IsMadeAt mid.place e → Fails A start mid e
       filled_no_more h item memory made = fails_for_memory (moves_append h.place item.place) memory made
 
+      -- the tokens of the items so far and of this one, to which a comma belongs
+      comma_after : {start here mid : Position T} {x : C} {v : V} → Filled holds S start here x
+          → Read c.cut S here mid v
+          → (ts : List T) × (mid.at.token ≢ punctuation.closing
+          → LeadsTo (EncodedList punctuation S) (AreTokens (punctuation.comma ∷ [])) ts mid.at.token)
+          × Leaves c.cut ts start.at mid.at
+      comma_after {start} {here} {mid} {v = v} h item =
+          let read = h.read.read in
+          let i = item.decodes in
+          let n = not_closing r punctuation are s here.at mid.at v i in (
+            read.so_far.prefix ++ i.0,
+            read_comma_leads r s punctuation are start.at here.at h.read.items read mid.at v n i,
+            item_taken r s punctuation are start.at here.at h.read.items read mid.at v i,
+          )
+
       -- ---- any number of items
 
       module _ (whole : List V → Meaning) where
-        abbrev NoList : At T → Type 0
-        NoList start = DecodesToNothing c.cut (EncodesAll punctuation whole S) start
+        abbrev All : List T → Meaning → Type 0
+        All = EncodesAll punctuation whole S
 
         pub all_read : {buffered : Type 0} {start here end : Position T} {x : C} (means : C → Meaning)
             → ((x : C) (vs : List V) → holds x vs → means x ≡ whole vs)
@@ -162,33 +161,50 @@ module _ {T : Type 0} {c : Cutting T} {g : Grammar T} (r : CutLaws c g)
           place = moves_append h.place bracket.place;
         }
 
-        pub opening_not : {start end : Position T} {e : Report} → Fails (None punctuation.opening start.at) start end e
-            → Fails (NoList start.at) start end e
-        opening_not {start} h = fails_as (collected_open_rejected r punctuation are s holds whole start.at) h
+        pub opening_not : {start end : Position T} {e : Report}
+            → ReadsNone c.cut (AreTokens (punctuation.opening ∷ [])) start end e → ReadsNone c.cut All start end e
+        opening_not {start} h =
+            let Opening = AreTokens (punctuation.opening ∷ []) in
+            none_first c.cut All Opening
+            (all_lead r punctuation are s holds whole Opening [] start.at.token
+            (read_opening_leads r s punctuation are start.at.token)) h
 
         pub item_not : {start here end : Position T} {x : C} {e : Report} → Filled holds S start here x
-            → here.at.token ≢ punctuation.closing → Fails (DecodesToNothing c.cut S here.at) here end e
-            → Fails (NoList start.at) start end e
-        item_not {start} {here} {x = x} h other bad =
-            fails_after (collected_item_rejected r punctuation are s holds whole start.at here.at x h.read other) h.place bad
+            → here.at.token ≢ punctuation.closing → ReadsNone c.cut S here end e → ReadsNone c.cut All start end e
+        item_not {start} {here} h other bad =
+            let read = h.read.read in
+            let ts = read.so_far.prefix in
+            none_in c.cut All S ts
+            (all_lead r punctuation are s holds whole S ts here.at.token
+            (read_item_leads r s punctuation are start.at here.at h.read.items read other))
+            read.so_far.taken h.place bad
 
         pub comma_not : {start here mid end : Position T} {x : C} {v : V} {e : Report} → Filled holds S start here x
-            → Read c.cut S here mid v → Fails (NoComma mid.at) mid end e → Fails (NoList start.at) start end e
-        comma_not {start} {here} {mid} {x = x} {v} h item bad =
-            fails_after (collected_comma_rejected r punctuation are s holds whole start.at here.at mid.at x v h.read (not_closing r punctuation are s here.at mid.at v item.decodes) item.decodes)
-            (moves_append h.place item.place) bad
+            → Read c.cut S here mid v → Fails (NoComma mid end) mid end e → ReadsNone c.cut All start end e
+        comma_not {start} {here} {mid} {v = v} h item bad =
+            let moved = moves_append h.place item.place in
+            fails_after (λ none. let k = comma_after h item in
+            wrong_in c.cut All (AreTokens (punctuation.comma ∷ [])) k.0
+            (all_lead r punctuation are s holds whole (AreTokens (punctuation.comma ∷ [])) k.0 mid.at.token (k.1 none.0))
+            k.2 moved none.1) moved bad
 
         pub closing_not : {start here end : Position T} {x : C} {e : Report} → Filled holds S start here x
-            → here.at.token ≡ punctuation.closing → Fails (None punctuation.closing here.at) here end e
-            → Fails (NoList start.at) start end e
-        closing_not {start} {here} {x = x} h is bad =
-            fails_after (collected_close_rejected r punctuation are s holds whole start.at here.at x h.read is) h.place bad
+            → here.at.token ≡ punctuation.closing
+            → ReadsNone c.cut (AreTokens (punctuation.closing ∷ [])) here end e → ReadsNone c.cut All start end e
+        closing_not {start} {here} h is bad =
+            let read = h.read.read in
+            let ts = read.so_far.prefix in
+            let Closing = AreTokens (punctuation.closing ∷ []) in
+            none_in c.cut All Closing ts
+            (all_lead r punctuation are s holds whole Closing ts here.at.token
+            (read_closing_leads r s punctuation are start.at here.at h.read.items read is))
+            read.so_far.taken h.place bad
 
       -- ---- so many items
 
       module _ (whole : List V → Meaning) (count : ℕ) where
-        abbrev NoArray : At T → Type 0
-        NoArray start = DecodesToNothing c.cut (λ ts. IsImage whole (EncodesCount punctuation count S ts)) start
+        abbrev Array : List T → Meaning → Type 0
+        Array ts = IsImage whole (EncodesCount punctuation count S ts)
 
         pub array_read : {buffered : Type 0} {start here end : Position T} {x : C} (means : C → Meaning)
             → ((vs : List V) → holds x vs → (means x ≡ whole vs) × (length vs ≡ count))
@@ -202,27 +218,41 @@ module _ {T : Type 0} {c : Cutting T} {g : Grammar T} (r : CutLaws c g)
             (record { decodes = array; place = moves_append h.place bracket.place })
 
         pub array_opening_not : {start end : Position T} {e : Report}
-            → Fails (None punctuation.opening start.at) start end e → Fails (NoArray start.at) start end e
+            → ReadsNone c.cut (AreTokens (punctuation.opening ∷ [])) start end e → ReadsNone c.cut Array start end e
         array_opening_not {start} h =
-            fails_as (λ bad. image_rejected c whole start.at (count_rejected r punctuation S start.at count (read_open_rejected r s punctuation are start.at bad))) h
+            let Opening = AreTokens (punctuation.opening ∷ []) in
+            none_first c.cut Array Opening
+            (array_leads r punctuation are s holds whole Opening count [] start.at.token
+            (read_opening_leads r s punctuation are start.at.token)) h
 
         pub array_item_not : {start here end : Position T} {x : C} {e : Report} → Filled holds S start here x
             → ((vs : List V) → holds x vs → length vs < count)
-            → Fails (DecodesToNothing c.cut S here.at) here end e → Fails (NoArray start.at) start end e
+            → ReadsNone c.cut S here end e → ReadsNone c.cut Array start end e
         array_item_not {start} {here} h few bad =
-            fails_after (λ none. image_rejected c whole start.at
-            (item_missing r punctuation are s start.at here.at h.read.items h.read.read count (few h.read.items h.read.held) none)) h.place bad
+            let read = h.read.read in
+            let ts = read.so_far.prefix in
+            none_in c.cut Array S ts
+            (count_leads r punctuation are s holds whole S count ts here.at.token
+            (item_missing r punctuation are s start.at here.at h.read.items read count (few h.read.items h.read.held)))
+            read.so_far.taken h.place bad
 
         pub array_comma_not : {start here mid end : Position T} {x : C} {v : V} {e : Report} → Filled holds S start here x
-            → Read c.cut S here mid v → Fails (NoComma mid.at) mid end e → Fails (NoArray start.at) start end e
-        array_comma_not {start} {here} {mid} {v = v} h item bad =
-            fails_after (λ none. image_rejected c whole start.at (count_rejected r punctuation S start.at count
-            (read_comma_rejected r s punctuation are start.at here.at mid.at h.read.items v h.read.read (not_closing r punctuation are s here.at mid.at v item.decodes) item.decodes none)))
-            (moves_append h.place item.place) bad
+            → Read c.cut S here mid v → Fails (NoComma mid end) mid end e → ReadsNone c.cut Array start end e
+        array_comma_not {start} {here} {mid} h item bad =
+            let moved = moves_append h.place item.place in
+            fails_after (λ none. let k = comma_after h item in
+            wrong_in c.cut Array (AreTokens (punctuation.comma ∷ [])) k.0
+            (array_leads r punctuation are s holds whole (AreTokens (punctuation.comma ∷ [])) count k.0 mid.at.token (k.1 none.0))
+            k.2 moved none.1) moved bad
 
         pub array_closing_not : {start here end : Position T} {x : C} {e : Report} → Filled holds S start here x
             → ((vs : List V) → holds x vs → length vs ≡ count)
-            → Fails (None punctuation.closing here.at) here end e → Fails (NoArray start.at) start end e
+            → ReadsNone c.cut (AreTokens (punctuation.closing ∷ [])) here end e → ReadsNone c.cut Array start end e
         array_closing_not {start} {here} h full bad =
-            fails_after (λ none. image_rejected c whole start.at
-            (item_too_many r punctuation are s start.at here.at h.read.items h.read.read count (full h.read.items h.read.held) none)) h.place bad
+            let read = h.read.read in
+            let ts = read.so_far.prefix in
+            let Closing = AreTokens (punctuation.closing ∷ []) in
+            none_in c.cut Array Closing ts
+            (count_leads r punctuation are s holds whole Closing count ts here.at.token
+            (item_too_many r punctuation are s start.at here.at h.read.items read count (full h.read.items h.read.held)))
+            read.so_far.taken h.place bad

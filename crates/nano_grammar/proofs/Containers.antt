@@ -2,24 +2,23 @@
 use Rattle.std.proofs.Common.{◌≡◌, ◌≢◌, ◌+◌, ◌<◌, ◌≤◌, inl, inr, List, [], ◌∷◌, ◌++◌, length}
 use Rattle.std.proofs.Common.{length-append, ap, arith}
 use Rattle.nano_value.specs.Meaning.{usize_bound}
-use Rattle.nano_grammar.proofs.TokensLaws.{CutLaws, tokens_left, leaves_shorter}
-use Rattle.nano_grammar.specs.Tokens.{Cutting, At, Leaves, Spans, DecodesToNothing}
-use Rattle.nano_grammar.specs.Items.{ListPunctuation, EncodedItems, EncodedList}
+use Rattle.nano_grammar.proofs.TokensLaws.{CutLaws, tokens_left, leaves_shorter, leaves_append}
+use Rattle.nano_grammar.specs.Tokens.{Cutting, At, Leaves, Spans}
+use Rattle.nano_grammar.specs.Faults.{AreTokens}
+use Rattle.nano_grammar.specs.Items.{ListPunctuation, EncodedList}
 use Rattle.nano_grammar.proofs.ListsLaws.{no_item_closes}
 use Rattle.nano_grammar.specs.Codec.{Grammar, IsEncoding, AreBrackets}
-use Rattle.nano_grammar.proofs.ListReading.{SoFar, StillLeft, start_so_far, start_left, item_left}
-use Rattle.nano_grammar.proofs.ListReading.{next_so_far, next_left, open_rejected, item_rejected}
-use Rattle.nano_grammar.proofs.ListReading.{comma_rejected, close_rejected, close_found}
+use Rattle.nano_grammar.proofs.FaultLaws.{LeadsTo}
+use Rattle.nano_grammar.proofs.ListReading.{SoFar, start_so_far, item_left, next_so_far, close_found}
+use Rattle.nano_grammar.proofs.ListReading.{opening_leads, item_leads, comma_leads, closing_leads}
 use Rattle.nano_grammar.proofs.PartReading.{CommaTaken}
 use Rattle.nano_grammar.proofs.Reading.{value_shorter, either_way}
 
 module _ {T : Type 0} {c : Cutting T} {g : Grammar T} (r : CutLaws c g) where
-  -- these items are read, each of at least one token, and whatever list is encoded goes on
-  -- from here
+  -- these items are read, each of at least one token
   pub record ReadSoFar {V : Type 0} (punctuation : ListPunctuation T) (encodes : List T → V → Type 0)
       (start here : At T) (out : List V) : Type 0 where
     pub so_far : SoFar c.cut punctuation encodes start here out
-    pub still : StillLeft c.cut punctuation encodes (EncodedItems punctuation encodes) start here
     pub count : length out + tokens_left r.is_end here ≤ tokens_left r.is_end start
 
   -- what was taken so far left less
@@ -34,8 +33,7 @@ module _ {T : Type 0} {c : Cutting T} {g : Grammar T} (r : CutLaws c g) where
     read_start start here h =
         let closes = no_item_closes g s punctuation are in
         record {
-          so_far = start_so_far c.cut r.one_way punctuation are.apart S s.none_begins closes start here h;
-          still = start_left c.cut r.one_way punctuation are.apart S s.none_begins closes start here h;
+          so_far = start_so_far c.cut punctuation are.apart S s.none_begins closes start here h;
           count = omega (arith, taken_shorter (punctuation.opening ∷ []) start here h);
         }
 
@@ -59,9 +57,7 @@ module _ {T : Type 0} {c : Cutting T} {g : Grammar T} (r : CutLaws c g) where
         let way = either_way taken in
         record {
           so_far =
-              next_so_far c.cut r.one_way punctuation are.apart S s.none_begins closes start here following next out v h.so_far n i way;
-          still =
-              next_left c.cut r.one_way punctuation are.apart S s.none_begins closes start here following next v h.still n i way;
+              next_so_far c.cut punctuation are.apart S s.none_begins closes start here following next out v h.so_far n i way;
           count =
               omega (arith, h.count, item_shorter here following next v i taken, length-append out (v ∷ []));
         }
@@ -72,43 +68,44 @@ module _ {T : Type 0} {c : Cutting T} {g : Grammar T} (r : CutLaws c g) where
         → Spans c.cut (EncodedList punctuation S) start end out
     read_found start here end out h k =
         let closes = no_item_closes g s punctuation are in
-        close_found c.cut r.one_way punctuation are.apart S s.none_begins closes start here end out h.so_far k
+        close_found c.cut punctuation are.apart S s.none_begins closes start here end out h.so_far k
 
     pub read_few : (start here : At T) (out : List V) → ReadSoFar punctuation S start here out
         → tokens_left r.is_end start < usize_bound → length out < usize_bound
     read_few start here out h few = omega (arith, h.count, few)
 
-    -- ---- where the opening bracket, an item, a comma or the closing bracket is rejected
+    -- ---- what a list leads to
 
-    pub read_open_rejected : (start : At T)
-        → ((m : At T) → Leaves c.cut (punctuation.opening ∷ []) start m → ⊥)
-        → DecodesToNothing c.cut (EncodedList punctuation S) start
-    read_open_rejected start bad vs f =
+    pub read_opening_leads : (pending : T)
+        → LeadsTo (EncodedList punctuation S) (AreTokens (punctuation.opening ∷ [])) [] pending
+    read_opening_leads =
         let closes = no_item_closes g s punctuation are in
-        open_rejected c.cut r.one_way punctuation are.apart S s.none_begins closes start vs bad f
+        opening_leads c.cut punctuation are.apart S s.none_begins closes
 
-    pub read_item_rejected : (start here : At T) (out : List V) → ReadSoFar punctuation S start here out
-        → here.token ≢ punctuation.closing → DecodesToNothing c.cut S here
-        → DecodesToNothing c.cut (EncodedList punctuation S) start
-    read_item_rejected start here out h n bad vs f =
-        let closes = no_item_closes g s punctuation are in
-        item_rejected c.cut r.one_way punctuation are.apart S s.none_begins closes start here vs h.still n bad f
+    module _ (start here : At T) (out : List V) (h : ReadSoFar punctuation S start here out) where
+      pub read_item_leads : here.token ≢ punctuation.closing
+          → LeadsTo (EncodedList punctuation S) S h.so_far.prefix here.token
+      read_item_leads =
+          let closes = no_item_closes g s punctuation are in
+          item_leads c.cut punctuation are.apart S s.none_begins closes start here out h.so_far
 
-    pub read_comma_rejected : (start here following : At T) (out : List V) (v : V)
-        → ReadSoFar punctuation S start here out → here.token ≢ punctuation.closing
-        → Spans c.cut S here following v
-        → (following.token ≢ punctuation.closing) × ((k : At T) → Leaves c.cut
-        (punctuation.comma ∷ []) following k → ⊥)
-        → DecodesToNothing c.cut (EncodedList punctuation S) start
-    read_comma_rejected start here following out v h n i bad vs f =
-        let closes = no_item_closes g s punctuation are in
-        let after = item_left c.cut r.one_way punctuation are.apart S s.none_begins closes start here following v h.still n i in
-        comma_rejected c.cut r.one_way punctuation are.apart S s.none_begins closes start following vs after bad.0 bad.1 f
+      pub read_comma_leads : (following : At T) (v : V) (n : here.token ≢ punctuation.closing)
+          → (i : Spans c.cut S here following v) → following.token ≢ punctuation.closing
+          → LeadsTo (EncodedList punctuation S) (AreTokens (punctuation.comma ∷ []))
+          (h.so_far.prefix ++ i.0) following.token
+      read_comma_leads following v n i =
+          let closes = no_item_closes g s punctuation are in
+          let so_far = h.so_far in
+          comma_leads c.cut punctuation are.apart S s.none_begins closes (so_far.prefix ++ i.0) following.token
+          (item_left c.cut punctuation are.apart S s.none_begins closes here following so_far.prefix i.0 v so_far.still n i.1 i.2)
 
-    pub read_close_rejected : (start here : At T) (out : List V) → ReadSoFar punctuation S start here out
-        → here.token ≡ punctuation.closing
-        → ((m : At T) → Leaves c.cut (punctuation.closing ∷ []) here m → ⊥)
-        → DecodesToNothing c.cut (EncodedList punctuation S) start
-    read_close_rejected start here out h e bad vs f =
-        let closes = no_item_closes g s punctuation are in
-        close_rejected c.cut r.one_way punctuation are.apart S s.none_begins closes start here vs h.still e bad f
+      pub read_closing_leads : here.token ≡ punctuation.closing
+          → LeadsTo (EncodedList punctuation S) (AreTokens (punctuation.closing ∷ [])) h.so_far.prefix here.token
+      read_closing_leads =
+          let closes = no_item_closes g s punctuation are in
+          closing_leads c.cut punctuation are.apart S s.none_begins closes start here out h.so_far
+
+      -- the tokens of an item that was read, after those so far
+      pub item_taken : (following : At T) (v : V) (i : Spans c.cut S here following v)
+          → Leaves c.cut (h.so_far.prefix ++ i.0) start following
+      item_taken following v i = leaves_append c.cut h.so_far.prefix i.0 start here following h.so_far.taken i.2

@@ -4,11 +4,11 @@ use Rattle.std.proofs.Common.{sym, ◌∙◌, ap, subst}
 use Rattle.nano_value.specs.Meaning.{Meaning}
 use Rattle.nano_grammar.specs.Tokens.{Cutting, At, Leaves}
 use Rattle.nano_grammar.specs.Codec.{Grammar}
-use Rattle.nano_grammar.specs.Outcomes.{Report, Position, Moved, Fails, Took, Read, ReadsNone}
-use Rattle.nano_grammar.proofs.TokenCalls.{fails_as}
+use Rattle.nano_grammar.specs.Outcomes.{Report, Position, Moved, Took, Read, ReadsNone}
+use Rattle.nano_grammar.proofs.TokenCalls.{none_as}
 use Rattle.nano_grammar.specs.Fields.{FieldStyle, Field, Shape, Allowed, LastEncodes, both_fields}
 use Rattle.nano_grammar.specs.Fields.{others}
-use Rattle.nano_grammar.specs.UserOutcomes.{NoField, ReadField, LooksUp, LooksUpNone}
+use Rattle.nano_grammar.specs.UserOutcomes.{FieldTokens, ReadField, LooksUp, LooksUpNone}
 use Rattle.nano_grammar.proofs.FieldsLaws.{last_takes, others_known, others_unknown}
 use Rattle.nano_grammar.proofs.FieldReading.{to_first, to_second, first_of, second_of}
 
@@ -37,8 +37,7 @@ module _ {T : Type 0} (cut : List ℕ → T → List ℕ → Type 0) where
   pub not_at_once : {A : Type 0} {S : List T → A → Type 0} {start end : Position T} {e : Report}
       → ReadsNone cut S start end e → ReadsNone cut (EncodedAfter [] S) start end e
   not_at_once {S = S} {start} h =
-      fails_as (λ none x f.
-      none x (f.2.0, f.1, f.2.2, subst (λ (ts : List T). Leaves cut ts start.at f.1) f.2.1 f.3)) h
+      none_as cut (EncodedAfter [] S) S (λ us v e. (v, subst (λ (ts : List T). S ts v) (sym e.1) e.2)) h
 
   -- ---- a field of one name
 
@@ -65,9 +64,10 @@ module _ {T : Type 0} (cut : List ℕ → T → List ℕ → Type 0) where
 
     pub last_not : {S : List T → Meaning → Type 0} {start end : Position T} {e : Report}
         → ReadsNone cut (EncodedAfter prefix S) start end e
-        → Fails (NoField cut prefix name (λ _ us. (y : Meaning) × S us y) start.at) start end e
-    last_not h =
-        fails_as (λ none us allowed next l. none allowed.0 (prefix ++ us, next, (us, refl, allowed.1), l)) h
+        → ReadsNone cut (FieldTokens prefix name (λ _ us. (y : Meaning) × S us y)) start end e
+    last_not {S = S} h =
+        none_as cut (FieldTokens prefix name (λ _ us. (y : Meaning) × S us y)) (EncodedAfter prefix S)
+        (λ ts us e. (e.1.0, (us, e.0, e.1.1))) h
 
     module _ (shape : Shape T) {before after : List (Field T) → Type 0} {same : Type 0}
         {start end : Position T} where
@@ -77,9 +77,9 @@ module _ {T : Type 0} (cut : List ℕ → T → List ℕ → Type 0) where
       looked_up is h = record { known_is = sym is; read = λ _. h; unknown = λ e. never refl e }
 
       pub looked_up_none : {e : Report} → shape.knows name ≡ true
-          → Fails (NoField cut prefix name shape.takes start.at) start end e
+          → ReadsNone cut (FieldTokens prefix name shape.takes) start end e
           → LooksUpNone cut prefix name shape before after same start end e
-      looked_up_none is h = record { known = is; fails = h }
+      looked_up_none is h = record { known = is; none = h }
 
     -- none has it
     pub not_known : {shape : Shape T} {before after : List (Field T) → Type 0} {same : Type 0} {p : Position T}
@@ -101,9 +101,11 @@ module _ {T : Type 0} (cut : List ℕ → T → List ℕ → Type 0) where
       }
 
       pub no_field_as : {e : Report} → ((us : List T) → more name us → takes name us)
-          → Fails (NoField cut prefix name takes start.at) start end e
-          → Fails (NoField cut prefix name more start.at) start end e
-      no_field_as only h = fails_as (λ none us allowed. none us (only us allowed)) h
+          → ReadsNone cut (FieldTokens prefix name takes) start end e
+          → ReadsNone cut (FieldTokens prefix name more) start end e
+      no_field_as only h =
+          none_as cut (FieldTokens prefix name more) (FieldTokens prefix name takes)
+          (λ ts us e. (us, (e.0, only us e.1))) h
 
     -- ---- fields and more fields
 
@@ -130,8 +132,8 @@ module _ {T : Type 0} (cut : List ℕ → T → List ℕ → Type 0) where
           → LooksUpNone cut prefix name (both_fields a b) C C' same start end e
       first_not h = record {
         known = or_first (a.knows name) (b.knows name) h.known;
-        fails = no_field_as a.takes (both_fields a b).takes
-            (λ us t. first_of (a.knows name) (a.takes name us) (b.takes name us) h.known t) h.fails;
+        none = no_field_as a.takes (both_fields a b).takes
+            (λ us t. first_of (a.knows name) (a.takes name us) (b.takes name us) h.known t) h.none;
       }
 
       -- the second are asked for it, where the first have not taken anything
@@ -168,9 +170,9 @@ module _ {T : Type 0} (cut : List ℕ → T → List ℕ → Type 0) where
             let both = both_fields a b in
             record {
               known = or_second (a.knows name) (b.knows name) unknown ∙ k.known;
-              fails =
-                  subst (λ (p : Position T). Fails (NoField cut prefix name both.takes p.at) p end e) still
-                  (no_field_as b.takes both.takes (λ us t. second_of (a.knows name) (a.takes name us) (b.takes name us) unknown t) k.fails);
+              none =
+                  subst (λ (p : Position T). ReadsNone cut (FieldTokens prefix name both.takes) p end e) still
+                  (no_field_as b.takes both.takes (λ us t. second_of (a.knows name) (a.takes name us) (b.takes name us) unknown t) k.none);
             }
 
 -- ---- a field that is known, or is skipped
@@ -184,10 +186,10 @@ module _ {T : Type 0} {c : Cutting T} {g : Grammar T} (s : FieldStyle c g) (name
         (λ us t. to_first (shape.knows name) (shape.takes name us) (s.Skipped us) (sym h.known_is) t) (h.read refl)
 
     pub known_not : {e : Report} → LooksUpNone c.cut prefix name shape A A' same start mid e
-        → Fails (NoField c.cut prefix name (Allowed s shape) start.at) start mid e
+        → ReadsNone c.cut (FieldTokens prefix name (Allowed s shape)) start mid e
     known_not h =
         no_field_as c.cut prefix name shape.takes (Allowed s shape)
-        (λ us t. first_of (shape.knows name) (shape.takes name us) (s.Skipped us) h.known t) h.fails
+        (λ us t. first_of (shape.knows name) (shape.takes name us) (s.Skipped us) h.known t) h.none
 
   -- no field has the name
   module _ {start mid end : Position T} (unknown : shape.knows name ≡ false) (still : mid ≡ start) where
@@ -203,9 +205,11 @@ module _ {T : Type 0} {c : Cutting T} {g : Grammar T} (s : FieldStyle c g) (name
     }
 
     pub skipped_not : {e : Report}
-        → Fails ((us : List T) → s.Skipped us → (next : At T) → Leaves c.cut us mid.at next → ⊥) mid end e
-        → Fails (NoField c.cut [] name (Allowed s shape) start.at) start end e
+        → ReadsNone c.cut (λ us (x : Unit {0}). s.Skipped us) mid end e
+        → ReadsNone c.cut (FieldTokens [] name (Allowed s shape)) start end e
     skipped_not {e} h =
-        subst (λ (p : Position T). Fails (NoField c.cut [] name (Allowed s shape) p.at) p end e) still
-        (fails_as (λ none us allowed.
-        none us (second_of (shape.knows name) (shape.takes name us) (s.Skipped us) unknown allowed)) h)
+        let Skipped : List T → Unit {0} → Type 0 = λ us x. s.Skipped us in
+        let Value = FieldTokens [] name (Allowed s shape) in
+        subst (λ (p : Position T). ReadsNone c.cut Value p end e) still
+        (none_as c.cut Value Skipped (λ ts us f. (tt, subst s.Skipped (sym f.0)
+        (second_of (shape.knows name) (shape.takes name us) (s.Skipped us) unknown f.1))) h)

@@ -5,8 +5,10 @@ use Rattle.std.proofs.lemmas.Bool.{not-false, not-true, or_parts, true≢false, 
 use Rattle.std.specs.Prelude.{◌++◌}
 use Rattle.std.specs.List.{AllByRecursion, list_all}
 use Rattle.std.proofs.lemmas.Slice.Eq.{bytes_eq-Decides}
-use Rattle.nano_grammar.specs.Tokens.{At, Leaves, DecodesTo, Spans, DecodesToNothing, Cutting}
-use Rattle.nano_grammar.proofs.TokensLaws.{same_at, leaves_append, leaves_split, CutLaws}
+use Rattle.nano_grammar.specs.Tokens.{At, Leaves, Spans, Cutting}
+use Rattle.nano_grammar.specs.Faults.{AreTokens}
+use Rattle.nano_grammar.proofs.TokensLaws.{same_at, leaves_append, CutLaws}
+use Rattle.nano_grammar.proofs.FaultLaws.{LeadsTo, first_token}
 use Rattle.nano_grammar.specs.Codec.{Grammar, Encoding}
 use Rattle.nano_grammar.specs.Fields.{FieldStyle, Field, EncodedField, EncodedNamed, either}
 use Rattle.nano_grammar.specs.Fields.{is_known_name, are_distinct, Differs, AreDistinct}
@@ -27,6 +29,10 @@ module _ {T : Type 0} {c : Cutting T} {g : Grammar T} (s : FieldStyle c g) (r : 
   abbrev pub Head : List ℕ → List T
   Head name = s.name name ∷ (s.pair.token ∷ [])
 
+  -- a token and a colon
+  abbrev pub Head_of : T → List T
+  Head_of t = t ∷ (s.pair.token ∷ [])
+
   -- the pending token and a colon were taken
   abbrev pub HeadTaken : At T → At T → Type 0
   HeadTaken start following = Leaves c.cut (start.token ∷ (s.pair.token ∷ [])) start following
@@ -43,46 +49,35 @@ module _ {T : Type 0} {c : Cutting T} {g : Grammar T} (s : FieldStyle c g) (r : 
       leaves_append c.cut (Head name) v.0 start following end (sym e, l.1) v.2,
     )
 
-    -- what decodes has a name and a colon, and the value after them
-    head_split : (start : At T) (x : A) (h : DecodesTo c.cut (EncodedNamed s name S) start x)
-        → (following : At T) × HeadTaken start following × Leaves c.cut h.2.0 following h.1
-    head_split start x h =
-        let l = subst (λ (ts : List T). Leaves c.cut ts start h.1) h.2.1 h.3 in
-        let both = leaves_split c.cut (Head name) h.2.0 start h.1 l in
-        (both.0, (refl, both.1.1), both.2)
+    pub colon_leads : (pending : T)
+        → LeadsTo (EncodedNamed s name S) (AreTokens (pending ∷ (s.pair.token ∷ []))) [] pending
+    colon_leads pending us after rest next x e is =
+        let f = first_token e.0 next after in
+        let whole = ap (λ (xs : List T). xs ++ next ∷ after) (sym e.1) ∙ is in
+        let left : s.pair.token ∷ (e.0 ++ next ∷ after) ≡ rest = cc whole in
+        (Head_of pending, tt, f.0, f.1, refl, ap (λ (xs : List T). pending ∷ (s.pair.token ∷ xs)) (sym f.2)
+        ∙ ap (λ (xs : List T). pending ∷ xs) left)
 
-    pub colon_rejected : (start : At T) → ((following : At T) → HeadTaken start following → ⊥)
-        → DecodesToNothing c.cut (EncodedNamed s name S) start
-    colon_rejected start bad x h = let found = head_split start x h in bad found.0 found.1
-
-    pub value_rejected : (start following : At T) → HeadTaken start following → DecodesToNothing c.cut S following
-        → DecodesToNothing c.cut (EncodedNamed s name S) start
-    value_rejected start following l none x h =
-        let found = head_split start x h in
-        let same = leaves_same (start.token ∷ (s.pair.token ∷ [])) start found.0 following found.1 l in
-        none x (h.2.0, h.1, h.2.2, subst (λ (z : At T). Leaves c.cut h.2.0 z h.1) same found.2)
+    pub value_leads : (name_token pending : T) → LeadsTo (EncodedNamed s name S) S (Head_of name_token) pending
+    value_leads name_token pending us after rest next x e is =
+        let whole = ap (λ (xs : List T). xs ++ next ∷ after) (sym e.1) ∙ is in
+        let left : e.0 ++ next ∷ after ≡ pending ∷ rest = cc whole in
+        (e.0, x, next, after, e.2, left)
 
   -- ---- the pending name
 
-  module _ (name : List ℕ) (start : At T) (e : start.token ≡ s.name name) where
-    -- a field that stands there has the name
-    same_head : (end : At T) (f : Field T) (ts : List T)
-        → ts ≡ s.name f.name ∷ (s.pair.token ∷ f.value) → Leaves c.cut ts start end → f.name ≡ name
-    same_head end f ts is l =
-        let k = subst (λ (us : List T). Leaves c.cut us start end) is l in
-        s.injective f.name name (k.0 ∙ e)
-
-    -- where no such value comes after the pending name, no field decodes
-    pub field_rejected : {A : Type 0} (S : List T → A → Type 0) (takes : List ℕ → List T → Type 0)
+  module _ (name : List ℕ) (pending : T) (e : pending ≡ s.name name) where
+    -- a field that begins with it has the name, and its value follows
+    pub field_leads : {A : Type 0} (S : List T → A → Type 0) (takes : List ℕ → List T → Type 0)
         → ((us : List T) → takes name us → (x : A) × S us x)
-        → DecodesToNothing c.cut (EncodedNamed s name S) start
-        → DecodesToNothing c.cut (EncodedField s takes) start
-    field_rejected S takes is_encoded none f h =
-        let same = same_head h.1 f h.0 h.2.0 h.3 in
-        let x = is_encoded f.value (subst (λ (n : List ℕ). takes n f.value) same h.2.1) in
-        let is = ap (λ (n : List ℕ). s.name n ∷ (s.pair.token ∷ f.value)) same in
-        none x.0 (h.0, h.1, (f.value, h.2.0 ∙ is, x.1), h.3)
-    -- ---- what may come after it, in two ways
+        → LeadsTo (EncodedField s takes) (EncodedNamed s name S) [] pending
+    field_leads S takes is_encoded us after rest next f h is =
+        let whole = ap (λ (xs : List T). xs ++ next ∷ after) (sym h.0) ∙ is in
+        let first : s.name f.name ≡ pending = cc whole in
+        let same = s.injective f.name name (first ∙ e) in
+        let x = is_encoded f.value (subst (λ (n : List ℕ). takes n f.value) same h.1) in
+        let head = ap (λ (n : List ℕ). s.name n ∷ (s.pair.token ∷ f.value)) same in
+        (us, x.0, next, after, (f.value, h.0 ∙ head, x.1), is)
 
   -- ---- a name and a colon that were taken, and the value after them
 
@@ -99,12 +94,13 @@ module _ {T : Type 0} {c : Cutting T} {g : Grammar T} (s : FieldStyle c g) (r : 
     abbrev Value : List T → Unit {0} → Type 0
     Value us x = takes name us
 
-    pub no_field_after : (here following : At T) → Leaves c.cut (Head name) here following
-        → DecodesToNothing c.cut Value following
-        → DecodesToNothing c.cut (EncodedField s takes) here
-    no_field_after here following l none =
-        field_rejected name here (sym l.0) Value takes (λ us t. (tt, t))
-        (value_rejected name Value here following (refl, l.1) none)
+    pub field_after_leads : (pending : T) → LeadsTo (EncodedField s takes) Value (Head name) pending
+    field_after_leads pending us after rest next f h is =
+        let whole = ap (λ (xs : List T). xs ++ next ∷ after) (sym h.0) ∙ is in
+        let first : s.name f.name ≡ s.name name = cc whole in
+        let same = s.injective f.name name first in
+        let left : f.value ++ next ∷ after ≡ pending ∷ rest = cc whole in
+        (f.value, tt, next, after, subst (λ (n : List ℕ). takes n f.value) same h.1, left)
 
 -- ==== known names
 

@@ -9,8 +9,10 @@ pub mod TokenCalls
 pub mod PartReading
 pub mod Reading
 pub mod EncodingLaws
+pub mod TextPlaces
 pub mod WholeInputs
 pub mod TokensLaws
+pub mod FaultLaws
 pub mod WrittenLists
 -- user-defined types
 pub mod StructLaws

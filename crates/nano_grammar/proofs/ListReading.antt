@@ -1,13 +1,23 @@
 -- Reading a list, whatever the tokens are: what is known at the head of the loop, and at its exits.
 use Rattle.std.proofs.Common.{◌≡◌, ◌≢◌, ℕ, List, [], ◌∷◌, ◌++◌, ◌⊎◌, inl, inr, refl, ap, sym, ◌∙◌}
 use Rattle.std.proofs.Common.{subst, append_assoc}
-use Rattle.nano_grammar.specs.Tokens.{At, Leaves, DecodesTo, Spans, IsOneWay, NoneBeginsAnother}
-use Rattle.nano_grammar.specs.Items.{ListPunctuation, StartsOtherwise, EncodedItems, EncodedList}
-use Rattle.nano_grammar.proofs.ItemLaws.{EncodedAfter, NeverStartsWith}
-use Rattle.nano_grammar.proofs.TokensLaws.{leaves_append, leaves_split, same_at, same_end}
+use Rattle.nano_grammar.specs.Tokens.{At, Leaves, Spans, NoneBeginsAnother}
+use Rattle.nano_grammar.specs.Faults.{AreTokens}
+use Rattle.nano_grammar.specs.Items.{ListPunctuation, EncodedItems, EncodedList}
+use Rattle.nano_grammar.proofs.ItemLaws.{EncodedAfter, NeverStartsWith, same_prefix}
+use Rattle.nano_grammar.proofs.TokensLaws.{leaves_append}
+use Rattle.nano_grammar.proofs.FaultLaws.{LeadsTo, first_token}
+
+-- whatever list begins with these tokens and then the pending one, tokens like these are left after
+-- them
+pub record StillLeft {T V : Type 0} (punctuation : ListPunctuation T) (encodes : List T → V → Type 0)
+    (rest : List T → List V → Type 0) (prefix : List T) (pending : T) : Type 0 where
+  pub all : (us left more : List T) (next : T) (vs : List V) → EncodedList punctuation encodes us vs
+      → us ++ next ∷ left ≡ prefix ++ pending ∷ more
+      → (back : List T) × (ws : List V) × rest back ws × (back ++ next ∷ left ≡ pending ∷ more)
 
 -- what the tokens taken so far encode: with the closing bracket after them a list, and with
--- more items too, where no closing bracket is pending
+-- more items too, where no closing bracket is pending; and what is left of each list
 pub record SoFar {T V : Type 0} (cut : List ℕ → T → List ℕ → Type 0) (punctuation : ListPunctuation T)
     (encodes : List T → V → Type 0) (start here : At T) (out : List V) : Type 0 where
   pub prefix : List T
@@ -16,29 +26,30 @@ pub record SoFar {T V : Type 0} (cut : List ℕ → T → List ℕ → Type 0) (
       → EncodedList punctuation encodes (prefix ++ back) out
   pub going : here.token ≢ punctuation.closing → (back : List T) (vs : List V)
       → EncodedItems punctuation encodes back vs → EncodedList punctuation encodes (prefix ++ back) (out ++ vs)
+  pub still : StillLeft punctuation encodes (EncodedItems punctuation encodes) prefix here.token
 
--- whatever list is encoded from the start, tokens like these are left from here
-pub record StillLeft {T V : Type 0} (cut : List ℕ → T → List ℕ → Type 0) (punctuation : ListPunctuation T)
-    (encodes : List T → V → Type 0) (rest : List T → List V → Type 0) (start here : At T)
-    : Type 0 where
-  pub all : (ts : List T) (vs : List V) (end : At T) → EncodedList punctuation encodes ts vs
-      → Leaves cut ts start end
-      → (back : List T) × (us : List V) × rest back us × Leaves cut back here end
-
-module _ {T V : Type 0} (cut : List ℕ → T → List ℕ → Type 0) (one_way : IsOneWay cut)
+module _ {T V : Type 0} (cut : List ℕ → T → List ℕ → Type 0)
     (punctuation : ListPunctuation T) (apart : punctuation.closing ≢ punctuation.comma)
     (encodes : List T → V → Type 0) (none_begins : NoneBeginsAnother encodes)
     (never_closing : NeverStartsWith punctuation.closing encodes) where
   abbrev ListSoFar : At T → At T → List V → Type 0
   ListSoFar start here out = SoFar cut punctuation encodes start here out
 
-  abbrev ItemsLeft : At T → At T → Type 0
-  ItemsLeft start here = StillLeft cut punctuation encodes (EncodedItems punctuation encodes) start here
+  abbrev ItemsLeft : List T → T → Type 0
+  ItemsLeft prefix pending = StillLeft punctuation encodes (EncodedItems punctuation encodes) prefix pending
 
-  abbrev AfterLeft : At T → At T → Type 0
-  AfterLeft start here = StillLeft cut punctuation encodes (EncodedAfter punctuation encodes) start here
+  abbrev AfterLeft : List T → T → Type 0
+  AfterLeft prefix pending = StillLeft punctuation encodes (EncodedAfter punctuation encodes) prefix pending
 
   -- ---- once the opening bracket is taken
+
+  start_left : (pending : T) → ItemsLeft (punctuation.opening ∷ []) pending
+  start_left pending = record {
+    all = λ us left more next vs e is.
+        let whole = ap (λ (xs : List T). xs ++ next ∷ left) (sym e.1) ∙ is in
+        let rest : e.0 ++ next ∷ left ≡ pending ∷ more = cc whole in
+        (e.0, vs, e.2, rest);
+  }
 
   pub start_so_far : (start here : At T) → Leaves cut (punctuation.opening ∷ []) start here
       → ListSoFar start here []
@@ -47,18 +58,87 @@ module _ {T V : Type 0} (cut : List ℕ → T → List ℕ → Type 0) (one_way 
     taken = h;
     closed = λ back e. (back, refl, e);
     going = λ n back vs k. (back, refl, k);
-  }
-
-  pub start_left : (start here : At T) → Leaves cut (punctuation.opening ∷ []) start here
-      → ItemsLeft start here
-  start_left start here h = record {
-    all = λ ts vs e l k.
-        let k2 = subst (λ (xs : List T). Leaves cut xs start e) l.1 k in
-        let same = same_at cut one_way start.text k2.1.0 h.1.0 k2.1.1 h.1.1 ∙ h.1.2 in
-        (l.0, vs, l.2, subst (λ (m : At T). Leaves cut l.0 m e) same k2.1.2);
+    still = start_left here.token;
   }
 
   -- ---- once an item is read, and what comes after it
+
+  -- no item begins with a closing bracket
+  not_closing : (a x y : List T) (v : V) → encodes a v → a ++ x ≡ punctuation.closing ∷ y → ⊥
+  not_closing [] x y v h e = never_closing [] v h
+  not_closing (t ∷ a) x y v h e =
+      let first : t ≡ punctuation.closing = cc e in
+      never_closing (t ∷ a) v h first
+
+  -- an item begins with the pending token
+  item_first : (i : List T) (s m : At T) (v : V) → encodes i v → Leaves cut i s m
+      → (inside : List T) × (i ≡ s.token ∷ inside)
+  item_first [] s m v e l = absurd (never_closing [] v e)
+  item_first (t ∷ i) s m v e l = (i, ap (λ (x : T). x ∷ i) l.0)
+
+  -- what is left after items that are left: where no closing bracket is pending, the first of them
+  first_left : (back left more : List T) (pending next : T) (ws : List V)
+      → pending ≢ punctuation.closing → EncodedItems punctuation encodes back ws
+      → back ++ next ∷ left ≡ pending ∷ more
+      → (a : List T) × (w : V) × (b : List T) × (vs : List V) × encodes a w
+      × EncodedAfter punctuation encodes b vs × (a ++ (b ++ next ∷ left) ≡ pending ∷ more)
+  first_left back left more pending next [] n h is =
+      let whole = ap (λ (xs : List T). xs ++ next ∷ left) (sym h) ∙ is in
+      let same : punctuation.closing ≡ pending = cc whole in
+      absurd (n (sym same))
+  first_left back left more pending next (w ∷ ws) n h is =
+      let joined = append_assoc h.0 h.1 (next ∷ left) in
+      let whole = sym joined ∙ (ap (λ (xs : List T). xs ++ next ∷ left) (sym h.2) ∙ is) in
+      (h.0, w, h.1, ws, h.3, h.4, whole)
+
+  -- once an item is read, what comes after it is left
+  pub item_left : (s m : At T) (prefix i : List T) (v : V) → ItemsLeft prefix s.token
+      → s.token ≢ punctuation.closing → encodes i v → Leaves cut i s m → AfterLeft (prefix ++ i) m.token
+  item_left s m prefix i v h n e l = record {
+    all = λ us left more next vs k is.
+        let begins = item_first i s m v e l in
+        let tail = m.token ∷ more in
+        let starts : i ++ tail ≡ s.token ∷ (begins.0 ++ tail) = ap (λ (xs : List T). xs ++ tail) begins.1 in
+        let joined = append_assoc prefix i tail in
+        let there = joined ∙ ap (λ (xs : List T). prefix ++ xs) starts in
+        let r = h.all us left (begins.0 ++ tail) next vs k (is ∙ there) in
+        let f = first_left r.0 left (begins.0 ++ tail) s.token next r.1 n r.2 r.3 in
+        let same = same_prefix encodes none_begins f.0 (f.2 ++ next ∷ left) i tail f.1 v f.4 e (f.6 ∙ sym starts) in
+        (f.2, f.3, f.5, same.1);
+  }
+
+  last_left : (prefix : List T) (pending : T) → AfterLeft prefix pending → pending ≡ punctuation.closing
+      → ItemsLeft prefix pending
+  last_left prefix pending h c = record {
+    all = λ us left more next vs e is.
+        let r = h.all us left more next vs e is in
+        elim r.2 [
+          | inl p ↦ (r.0, [], p.0, r.3)
+          | inr p ↦
+              let whole = ap (λ (xs : List T). xs ++ next ∷ left) (sym p.1) ∙ r.3 in
+              let same : punctuation.comma ≡ pending = cc whole in
+              absurd (apart (sym (same ∙ c)))
+        ];
+  }
+
+  comma_left : (prefix : List T) (pending after : T) → AfterLeft prefix pending → pending ≡ punctuation.comma
+      → ItemsLeft (prefix ++ punctuation.comma ∷ []) after
+  comma_left prefix pending after h c = record {
+    all = λ us left more next vs e is.
+        let joined = append_assoc prefix (punctuation.comma ∷ []) (after ∷ more) in
+        let there = joined ∙ ap (λ (t : T). prefix ++ t ∷ (after ∷ more)) (sym c) in
+        let r = h.all us left (after ∷ more) next vs e (is ∙ there) in
+        elim r.2 [
+          | inl p ↦
+              let whole = ap (λ (xs : List T). xs ++ next ∷ left) (sym p.0) ∙ (r.3 ∙ ap (λ (t : T). t ∷ (after ∷ more)) c) in
+              let same : punctuation.closing ≡ punctuation.comma = cc whole in
+              absurd (apart same)
+          | inr p ↦
+              let whole = ap (λ (xs : List T). xs ++ next ∷ left) (sym p.1) ∙ (r.3 ∙ ap (λ (t : T). t ∷ (after ∷ more)) c) in
+              let rest : p.0 ++ next ∷ left ≡ after ∷ more = cc whole in
+              (p.0, r.1, p.2, rest)
+        ];
+  }
 
   last_so_far : (start s m : At T) (out : List V) (v : V) → ListSoFar start s out
       → s.token ≢ punctuation.closing → Spans cut encodes s m v
@@ -70,18 +150,20 @@ module _ {T V : Type 0} (cut : List ℕ → T → List ℕ → Type 0) (one_way 
         λ back e. subst (λ (xs : List T). EncodedList punctuation encodes xs (out ++ v ∷ [])) (sym (append_assoc h.prefix i.0 back))
         (h.going n (i.0 ++ back) (v ∷ []) (i.0, back, refl, i.1, inl (e, refl)));
     going = λ other. absurd (other c);
+    still = last_left (h.prefix ++ i.0) m.token (item_left s m h.prefix i.0 v h.still n i.1 i.2) c;
   }
 
   comma_so_far : (start s m k : At T) (out : List V) (v : V) → ListSoFar start s out
       → s.token ≢ punctuation.closing → Spans cut encodes s m v
       → Leaves cut (punctuation.comma ∷ []) m k → ListSoFar start k (out ++ v ∷ [])
   comma_so_far start s m k out v h n i c =
-      let join : (back : List T) → (h.prefix ++ (i.0 ++ punctuation.comma ∷ [])) ++ back ≡ h.prefix ++ (i.0 ++ punctuation.comma ∷ back) = λ back.
-      append_assoc h.prefix (i.0 ++ punctuation.comma ∷ []) back ∙ ap (λ (xs : List T). h.prefix ++ xs) (append_assoc i.0 (punctuation.comma ∷ []) back) in
+      let join : (back : List T) → ((h.prefix ++ i.0) ++ punctuation.comma ∷ []) ++ back ≡ h.prefix ++ (i.0 ++ punctuation.comma ∷ back) = λ back.
+      append_assoc (h.prefix ++ i.0) (punctuation.comma ∷ []) back ∙ append_assoc h.prefix i.0 (punctuation.comma ∷ back) in
       record {
-        prefix = h.prefix ++ (i.0 ++ punctuation.comma ∷ []);
+        prefix = (h.prefix ++ i.0) ++ punctuation.comma ∷ [];
         taken =
-            leaves_append cut h.prefix (i.0 ++ punctuation.comma ∷ []) start s k h.taken (leaves_append cut i.0 (punctuation.comma ∷ []) s m k i.2 c);
+            leaves_append cut (h.prefix ++ i.0) (punctuation.comma ∷ []) start m k
+            (leaves_append cut h.prefix i.0 start s m h.taken i.2) c;
         closed =
             λ back e. subst (λ (xs : List T). EncodedList punctuation encodes xs (out ++ v ∷ [])) (sym (join back))
             (h.going n (i.0 ++ punctuation.comma ∷ back) (v ∷ []) (i.0, punctuation.comma ∷ back, refl, i.1, inr (back, refl, e)));
@@ -89,53 +171,9 @@ module _ {T V : Type 0} (cut : List ℕ → T → List ℕ → Type 0) (one_way 
             λ other back vs l. subst (λ (xs : List T). EncodedList punctuation encodes xs ((out ++ v ∷ []) ++ vs)) (sym (join back))
             (subst (λ (ws : List V). EncodedList punctuation encodes (h.prefix ++ (i.0 ++ punctuation.comma ∷ back)) ws) (sym (append_assoc out (v ∷ []) vs))
             (h.going n (i.0 ++ punctuation.comma ∷ back) (v ∷ vs) (i.0, punctuation.comma ∷ back, refl, i.1, inr (back, refl, l))));
+        still =
+            comma_left (h.prefix ++ i.0) m.token k.token (item_left s m h.prefix i.0 v h.still n i.1 i.2) (sym c.0);
       }
-
-  -- the first of the items that are left, where no closing bracket is pending
-  first_left : (s e : At T) (back : List T) (us : List V) → s.token ≢ punctuation.closing
-      → EncodedItems punctuation encodes back us → Leaves cut back s e
-      → (v : V) × (vs : List V) × (a : List T) × (b : List T) × (m : At T) × encodes a v
-      × EncodedAfter punctuation encodes b vs × Leaves cut a s m × Leaves cut b m e
-  first_left s e back [] n l k =
-      let k2 = subst (λ (xs : List T). Leaves cut xs s e) l k in absurd (n (sym k2.0))
-  first_left s e back (v ∷ vs) n l k =
-      let r = leaves_split cut l.0 l.1 s e (subst (λ (xs : List T). Leaves cut xs s e) l.2 k) in
-      (v, vs, l.0, l.1, r.0, l.3, l.4, r.1, r.2)
-
-  -- once an item is read, what comes after it is left
-  pub item_left : (start s m : At T) (v : V) → ItemsLeft start s → s.token ≢ punctuation.closing
-      → Spans cut encodes s m v → AfterLeft start m
-  item_left start s m v h n i = record {
-    all = λ ts vs e l k.
-        let r = h.all ts vs e l k in
-        let f = first_left s e r.0 r.1 n r.2 r.3 in
-        let same = same_end cut one_way encodes none_begins f.2 i.0 f.0 v s f.4 m f.5 i.1 f.7 i.2 in
-        (f.3, f.1, f.6, subst (λ (x : At T). Leaves cut f.3 x e) same.1 f.8);
-  }
-
-  last_left : (start m : At T) → AfterLeft start m → m.token ≡ punctuation.closing → ItemsLeft start m
-  last_left start m h c = record {
-    all = λ ts vs e l k.
-        let r = h.all ts vs e l k in
-        elim r.2 [
-          | inl p ↦ (r.0, [], p.0, r.3)
-          | inr p ↦ let k2 = subst (λ (xs : List T). Leaves cut xs m e) p.1 r.3 in absurd (apart (sym (k2.0 ∙ c)))
-        ];
-  }
-
-  comma_left : (start m k : At T) → AfterLeft start m → Leaves cut (punctuation.comma ∷ []) m k
-      → ItemsLeft start k
-  comma_left start m k h c = record {
-    all = λ ts vs e l q.
-        let r = h.all ts vs e l q in
-        elim r.2 [
-          | inl p ↦ let k2 = subst (λ (xs : List T). Leaves cut xs m e) p.0 r.3 in absurd (apart (k2.0 ∙ sym c.0))
-          | inr p ↦
-              let k2 = subst (λ (xs : List T). Leaves cut xs m e) p.1 r.3 in
-              let same = same_at cut one_way m.text k2.1.0 c.1.0 k2.1.1 c.1.1 ∙ c.1.2 in
-              (p.0, r.1, p.2, subst (λ (x : At T). Leaves cut p.0 x e) same k2.1.2)
-        ];
-  }
 
   pub next_so_far : (start s m k : At T) (out : List V) (v : V) → ListSoFar start s out
       → s.token ≢ punctuation.closing → Spans cut encodes s m v
@@ -144,57 +182,63 @@ module _ {T V : Type 0} (cut : List ℕ → T → List ℕ → Type 0) (one_way 
       subst (λ (x : At T). ListSoFar start x (out ++ v ∷ [])) (sym p.1) (last_so_far start s m out v h n i p.0)
   next_so_far start s m k out v h n i (inr l) = comma_so_far start s m k out v h n i l
 
-  pub next_left : (start s m k : At T) (v : V) → ItemsLeft start s → s.token ≢ punctuation.closing
-      → Spans cut encodes s m v
-      → ((m.token ≡ punctuation.closing) × (k ≡ m)) ⊎ Leaves cut (punctuation.comma ∷ []) m k → ItemsLeft start k
-  next_left start s m k v h n i (inl p) =
-      subst (λ (x : At T). ItemsLeft start x) (sym p.1) (last_left start m (item_left start s m v h n i) p.0)
-  next_left start s m k v h n i (inr l) = comma_left start m k (item_left start s m v h n i) l
+  -- ---- what a list leads to: the opening bracket, an item, a comma or the closing bracket
 
-  -- ---- where the opening bracket, an item, a comma or the closing bracket is rejected, no
-  -- list decodes
+  pub opening_leads : (pending : T)
+      → LeadsTo (EncodedList punctuation encodes) (AreTokens (punctuation.opening ∷ [])) [] pending
+  opening_leads pending us more rest next vs e is =
+      let f = first_token e.0 next more in
+      let whole = ap (λ (xs : List T). xs ++ next ∷ more) (sym e.1) ∙ is in
+      let first : punctuation.opening ∷ (e.0 ++ next ∷ more) ≡ pending ∷ rest = whole in
+      (punctuation.opening ∷ [], tt, f.0, f.1, refl, ap (λ (xs : List T). punctuation.opening ∷ xs) (sym f.2) ∙ first)
 
-  pub open_rejected : (start : At T) (vs : List V) → ((m : At T) → Leaves cut
-      (punctuation.opening ∷ []) start m → ⊥) → DecodesTo cut (EncodedList punctuation encodes) start vs → ⊥
-  open_rejected start vs bad f =
-      let k = subst (λ (xs : List T). Leaves cut xs start f.1) f.2.1 f.3 in
-      bad k.1.0 (k.0, (k.1.0, k.1.1, refl))
+  pub item_leads : (start here : At T) (out : List V) (h : ListSoFar start here out)
+      → here.token ≢ punctuation.closing
+      → LeadsTo (EncodedList punctuation encodes) encodes h.prefix here.token
+  item_leads start here out h n us more rest next vs e is =
+      let r = h.still.all us more rest next vs e is in
+      let k = first_left r.0 more rest here.token next r.1 n r.2 r.3 in
+      let f = first_token k.2 next more in
+      (k.0, k.1, f.0, f.1, k.4, ap (λ (xs : List T). k.0 ++ xs) (sym f.2) ∙ k.6)
 
-  pub item_rejected : (start s : At T) (vs : List V) → ItemsLeft start s → s.token ≢ punctuation.closing
-      → ((v : V) → DecodesTo cut encodes s v → ⊥) → DecodesTo cut (EncodedList punctuation encodes) start vs → ⊥
-  item_rejected start s vs h n bad f =
-      let r = h.all f.0 vs f.1 f.2 f.3 in
-      let i = first_left s f.1 r.0 r.1 n r.2 r.3 in
-      bad i.0 (i.2, i.4, i.5, i.7)
-
-  pub comma_rejected : (start m : At T) (vs : List V) → AfterLeft start m → m.token ≢ punctuation.closing
-      → ((k : At T) → Leaves cut (punctuation.comma ∷ []) m k → ⊥)
-      → DecodesTo cut (EncodedList punctuation encodes) start vs → ⊥
-  comma_rejected start m vs h n bad f =
-      let r = h.all f.0 vs f.1 f.2 f.3 in
+  pub comma_leads : (prefix : List T) (pending : T) → AfterLeft prefix pending
+      → pending ≢ punctuation.closing
+      → LeadsTo (EncodedList punctuation encodes) (AreTokens (punctuation.comma ∷ [])) prefix pending
+  comma_leads prefix pending h n us more rest next vs e is =
+      let r = h.all us more rest next vs e is in
       elim r.2 [
-        | inl p ↦ let k = subst (λ (xs : List T). Leaves cut xs m f.1) p.0 r.3 in n (sym k.0)
-        | inr p ↦ let k = subst (λ (xs : List T). Leaves cut xs m f.1) p.1 r.3 in bad k.1.0 (k.0, (k.1.0, k.1.1, refl))
+        | inl p ↦
+            let whole = ap (λ (xs : List T). xs ++ next ∷ more) (sym p.0) ∙ r.3 in
+            let same : punctuation.closing ≡ pending = cc whole in
+            absurd (n (sym same))
+        | inr p ↦
+            let f = first_token p.0 next more in
+            let whole = ap (λ (xs : List T). xs ++ next ∷ more) (sym p.1) ∙ r.3 in (
+              punctuation.comma ∷ [],
+              tt,
+              f.0,
+              f.1,
+              refl,
+              ap (λ (xs : List T). punctuation.comma ∷ xs) (sym f.2) ∙ whole,
+            )
       ]
 
-  starts_there : (t : T) (a : List T) (s m : At T) → StartsOtherwise t a → s.token ≡ t
-      → Leaves cut a s m → ⊥
-  starts_there t [] s m o e l = o
-  starts_there t (u ∷ us) s m o e l = o (l.0 ∙ e)
+  -- where a closing bracket is pending, no item is left
+  only_closing : (back left more : List T) (pending next : T) (ws : List V)
+      → pending ≡ punctuation.closing → EncodedItems punctuation encodes back ws
+      → back ++ next ∷ left ≡ pending ∷ more → back ≡ punctuation.closing ∷ []
+  only_closing back left more pending next [] c h is = h
+  only_closing back left more pending next (w ∷ ws) c h is =
+      let joined = append_assoc h.0 h.1 (next ∷ left) in
+      let whole = sym joined ∙ (ap (λ (xs : List T). xs ++ next ∷ left) (sym h.2) ∙ is) in
+      absurd (not_closing h.0 (h.1 ++ next ∷ left) more w h.3 (whole ∙ ap (λ (t : T). t ∷ more) c))
 
-  only_closing : (s e : At T) (back : List T) (us : List V) → s.token ≡ punctuation.closing
-      → EncodedItems punctuation encodes back us → Leaves cut back s e → back ≡ punctuation.closing ∷ []
-  only_closing s e back [] c l k = l
-  only_closing s e back (v ∷ vs) c l k =
-      let r = leaves_split cut l.0 l.1 s e (subst (λ (xs : List T). Leaves cut xs s e) l.2 k) in
-      absurd (starts_there punctuation.closing l.0 s r.0 (never_closing l.0 v l.3) c r.1)
-
-  pub close_rejected : (start s : At T) (vs : List V) → ItemsLeft start s → s.token ≡ punctuation.closing
-      → ((m : At T) → Leaves cut (punctuation.closing ∷ []) s m → ⊥)
-      → DecodesTo cut (EncodedList punctuation encodes) start vs → ⊥
-  close_rejected start s vs h c bad f =
-      let r = h.all f.0 vs f.1 f.2 f.3 in
-      bad f.1 (subst (λ (xs : List T). Leaves cut xs s f.1) (only_closing s f.1 r.0 r.1 c r.2 r.3) r.3)
+  pub closing_leads : (start here : At T) (out : List V) (h : ListSoFar start here out)
+      → here.token ≡ punctuation.closing
+      → LeadsTo (EncodedList punctuation encodes) (AreTokens (punctuation.closing ∷ [])) h.prefix here.token
+  closing_leads start here out h c us more rest next vs e is =
+      let r = h.still.all us more rest next vs e is in
+      (r.0, tt, next, more, only_closing r.0 more rest here.token next r.1 c r.2 r.3, r.3)
 
   -- ---- once the closing bracket is taken, the list is read
 

@@ -1,77 +1,79 @@
--- Reading parts one after the other, whatever the tokens are: where all are read, and where
--- one is rejected.
-use Rattle.std.proofs.Common.{◌≡◌, ◌≢◌, ℕ, List, [], ◌∷◌, ◌++◌, ◌⊎◌, inl, inr, refl, sym, ◌∙◌}
-use Rattle.std.proofs.Common.{subst}
-use Rattle.nano_grammar.specs.Tokens.{At, Leaves, DecodesTo, Spans, IsOneWay, NoneBeginsAnother}
+-- Reading parts one after the other, whatever the tokens are: where all are read, and what each
+-- leads to.
+use Rattle.std.proofs.Common.{◌≡◌, ◌≢◌, ℕ, List, [], ◌∷◌, ◌++◌, ◌⊎◌, inl, inr, refl, ap, sym, ◌∙◌}
+use Rattle.std.proofs.Common.{subst, append_assoc}
+use Rattle.nano_grammar.specs.Tokens.{At, Leaves, Spans, NoneBeginsAnother}
+use Rattle.nano_grammar.specs.Faults.{AreTokens}
 use Rattle.nano_grammar.specs.Items.{ListPunctuation, EncodedPair}
 use Rattle.nano_grammar.specs.Tuples.{EncodedLast, EncodedAfter}
-use Rattle.nano_grammar.proofs.TokensLaws.{leaves_append, leaves_split, same_at, same_end}
+use Rattle.nano_grammar.proofs.TokensLaws.{leaves_append}
+use Rattle.nano_grammar.proofs.ItemLaws.{same_prefix}
+use Rattle.nano_grammar.proofs.FaultLaws.{LeadsTo, first_token}
 
 -- ---- a part, a token and another part
 
-module _ {T A B : Type 0}
-    (cut : List ℕ → T → List ℕ → Type 0) (one_way : IsOneWay cut) (punctuator : T)
+module _ {T A B : Type 0} (punctuator : T)
     (first : List T → A → Type 0) (apart : NoneBeginsAnother first)
     (second : List T → B → Type 0) where
-  pub pair_found : (s m k e : At T) (x : A) (y : B) → Spans cut first s m x
-      → Leaves cut (punctuator ∷ []) m k → Spans cut second k e y
+  pub pair_found : (cut : List ℕ → T → List ℕ → Type 0) (s m k e : At T) (x : A) (y : B)
+      → Spans cut first s m x → Leaves cut (punctuator ∷ []) m k → Spans cut second k e y
       → Spans cut (EncodedPair punctuator first second) s e (x, y)
-  pair_found s m k e x y a l b = (
+  pair_found cut s m k e x y a l b = (
     a.0 ++ punctuator ∷ b.0,
     (a.0, b.0, refl, a.1, b.1),
     leaves_append cut a.0 (punctuator ∷ b.0) s m e a.2 (leaves_append cut (punctuator ∷ []) b.0 m k e l b.2),
   )
 
-  pub first_rejected : (s : At T) → ((x : A) → DecodesTo cut first s x → ⊥) → (p : A × B)
-      → DecodesTo cut (EncodedPair punctuator first second) s p → ⊥
-  first_rejected s none p f =
-      let r = leaves_split cut f.2.0 (punctuator ∷ f.2.1) s f.1 (subst (λ (xs : List T). Leaves cut xs s f.1) f.2.2 f.3) in
-      none p.0 (f.2.0, r.0, f.2.3, r.1)
+  pub first_leads : (pending : T) → LeadsTo (EncodedPair punctuator first second) first [] pending
+  first_leads pending us more rest next v e is =
+      let joined = append_assoc e.0 (punctuator ∷ e.1) (next ∷ more) in
+      let whole = sym joined ∙ (ap (λ (xs : List T). xs ++ next ∷ more) (sym e.2) ∙ is) in
+      (e.0, v.0, punctuator, e.1 ++ next ∷ more, e.3, whole)
 
   -- after the first part the token and the second part are left
-  after_first : (s m : At T) (x : A) (p : A × B) → Spans cut first s m x → (f : DecodesTo cut
-      (EncodedPair punctuator first second) s p) → Leaves cut (punctuator ∷ f.2.1) m f.1
-  after_first s m x p a f =
-      let r = leaves_split cut f.2.0 (punctuator ∷ f.2.1) s f.1 (subst (λ (xs : List T). Leaves cut xs s f.1) f.2.2 f.3) in
-      let same = same_end cut one_way first apart f.2.0 a.0 p.0 x s r.0 m f.2.3 a.1 r.1 a.2 in
-      subst (λ (z : At T). Leaves cut (punctuator ∷ f.2.1) z f.1) same.1 r.2
+  after_first : (a : List T) (x : A) → first a x → (us more rest : List T) (next : T) (v : A × B)
+      → (e : EncodedPair punctuator first second us v) → us ++ next ∷ more ≡ a ++ rest
+      → punctuator ∷ (e.1 ++ next ∷ more) ≡ rest
+  after_first a x h us more rest next v e is =
+      let joined = append_assoc e.0 (punctuator ∷ e.1) (next ∷ more) in
+      let whole = sym joined ∙ (ap (λ (xs : List T). xs ++ next ∷ more) (sym e.2) ∙ is) in
+      (same_prefix first apart e.0 (punctuator ∷ (e.1 ++ next ∷ more)) a rest v.0 x e.3 h whole).1
 
-  pub punctuator_rejected : (s m : At T) (x : A) → Spans cut first s m x → ((k : At T) → Leaves cut
-      (punctuator ∷ []) m k → ⊥) → (p : A × B) → DecodesTo cut (EncodedPair punctuator first second) s p → ⊥
-  punctuator_rejected s m x a bad p f =
-      let b = after_first s m x p a f in
-      bad b.1.0 (b.0, (b.1.0, b.1.1, refl))
+  pub punctuator_leads : (a : List T) (x : A) → first a x → (pending : T)
+      → LeadsTo (EncodedPair punctuator first second) (AreTokens (punctuator ∷ [])) a pending
+  punctuator_leads a x h pending us more rest next v e is =
+      let left = after_first a x h us more (pending ∷ rest) next v e is in
+      let f = first_token e.1 next more in
+      (punctuator ∷ [], tt, f.0, f.1, refl, ap (λ (xs : List T). punctuator ∷ xs) (sym f.2) ∙ left)
 
-  pub second_rejected : (s m k : At T) (x : A) → Spans cut first s m x → Leaves cut (punctuator ∷ []) m k
-      → ((y : B) → DecodesTo cut second k y → ⊥) → (p : A × B)
-      → DecodesTo cut (EncodedPair punctuator first second) s p → ⊥
-  second_rejected s m k x a l none p f =
-      let b = after_first s m x p a f in
-      let same = same_at cut one_way m.text b.1.0 l.1.0 b.1.1 l.1.1 ∙ l.1.2 in
-      none p.1 (f.2.1, f.1, f.2.4, subst (λ (z : At T). Leaves cut f.2.1 z f.1) same b.1.2)
+  pub second_leads : (a : List T) (x : A) → first a x → (pending : T)
+      → LeadsTo (EncodedPair punctuator first second) second (a ++ punctuator ∷ []) pending
+  second_leads a x h pending us more rest next v e is =
+      let joined = append_assoc a (punctuator ∷ []) (pending ∷ rest) in
+      let left = after_first a x h us more (punctuator ∷ (pending ∷ rest)) next v e (is ∙ joined) in
+      let second_left : e.1 ++ next ∷ more ≡ pending ∷ rest = cc left in
+      (e.1, v.1, next, more, e.4, second_left)
 
 -- ---- a token, and what is after it
 
-module _ {T V : Type 0}
-    (cut : List ℕ → T → List ℕ → Type 0) (one_way : IsOneWay cut) (token : T) (encodes : List T → V → Type 0) where
-  pub after_found : (s m e : At T) (v : V) → Leaves cut (token ∷ []) s m → Spans cut encodes m e v
-      → Spans cut (EncodedAfter token encodes) s e v
-  after_found s m e v l i =
+module _ {T V : Type 0} (token : T) (encodes : List T → V → Type 0) where
+  pub after_found : (cut : List ℕ → T → List ℕ → Type 0) (s m e : At T) (v : V)
+      → Leaves cut (token ∷ []) s m → Spans cut encodes m e v → Spans cut (EncodedAfter token encodes) s e v
+  after_found cut s m e v l i =
       (token ∷ i.0, (i.0, refl, i.1), leaves_append cut (token ∷ []) i.0 s m e l i.2)
 
-  pub token_rejected : (s : At T) → ((m : At T) → Leaves cut (token ∷ []) s m → ⊥) → (v : V)
-      → DecodesTo cut (EncodedAfter token encodes) s v → ⊥
-  token_rejected s bad v f =
-      let k = subst (λ (xs : List T). Leaves cut xs s f.1) f.2.1 f.3 in
-      bad k.1.0 (k.0, (k.1.0, k.1.1, refl))
+  pub token_leads : (pending : T)
+      → LeadsTo (EncodedAfter token encodes) (AreTokens (token ∷ [])) [] pending
+  token_leads pending us more rest next v e is =
+      let f = first_token e.0 next more in
+      let whole = ap (λ (xs : List T). xs ++ next ∷ more) (sym e.1) ∙ is in
+      (token ∷ [], tt, f.0, f.1, refl, ap (λ (xs : List T). token ∷ xs) (sym f.2) ∙ whole)
 
-  pub after_rejected : (s m : At T) → Leaves cut (token ∷ []) s m
-      → ((v : V) → DecodesTo cut encodes m v → ⊥) → (v : V) → DecodesTo cut (EncodedAfter token encodes) s v
-      → ⊥
-  after_rejected s m l none v f =
-      let k = subst (λ (xs : List T). Leaves cut xs s f.1) f.2.1 f.3 in
-      let same = same_at cut one_way s.text k.1.0 l.1.0 k.1.1 l.1.1 ∙ l.1.2 in
-      none v (f.2.0, f.1, f.2.2, subst (λ (z : At T). Leaves cut f.2.0 z f.1) same k.1.2)
+  pub after_leads : (pending : T) → LeadsTo (EncodedAfter token encodes) encodes (token ∷ []) pending
+  after_leads pending us more rest next v e is =
+      let whole = ap (λ (xs : List T). xs ++ next ∷ more) (sym e.1) ∙ is in
+      let inside : e.0 ++ next ∷ more ≡ pending ∷ rest = cc whole in
+      (e.0, v, next, more, e.2, inside)
 
 -- ---- the last part, optionally a comma, and the closing bracket
 
@@ -81,62 +83,86 @@ abbrev pub CommaTaken : {T : Type 0} → (List ℕ → T → List ℕ → Type 0
 CommaTaken cut punctuation following next =
     Leaves cut (punctuation.comma ∷ []) following next ⊎ ((following.token ≡ punctuation.closing) × (next ≡ following))
 
-module _ {T V : Type 0}
-    (cut : List ℕ → T → List ℕ → Type 0) (one_way : IsOneWay cut) (punctuation : ListPunctuation T)
+module _ {T V : Type 0} (punctuation : ListPunctuation T)
     (apart : punctuation.closing ≢ punctuation.comma) (encodes : List T → V → Type 0)
     (none_begins : NoneBeginsAnother encodes) where
-  pub last_found : (s m k e : At T) (v : V) → Spans cut encodes s m v → CommaTaken cut punctuation m k
-      → Leaves cut (punctuation.closing ∷ []) k e → Spans cut (EncodedLast punctuation encodes) s e v
-  last_found s m k e v i (inl l) c = (
+  pub last_found : (cut : List ℕ → T → List ℕ → Type 0) (s m k e : At T) (v : V) → Spans cut encodes s m v
+      → CommaTaken cut punctuation m k → Leaves cut (punctuation.closing ∷ []) k e
+      → Spans cut (EncodedLast punctuation encodes) s e v
+  last_found cut s m k e v i (inl l) c = (
     i.0 ++ punctuation.comma ∷ punctuation.closing ∷ [],
     (i.0, punctuation.comma ∷ punctuation.closing ∷ [], refl, i.1, inr (punctuation.closing ∷ [], refl, refl)),
     leaves_append cut i.0 (punctuation.comma ∷ punctuation.closing ∷ []) s m e i.2 (leaves_append cut (punctuation.comma ∷ []) (punctuation.closing ∷ []) m k e l c),
   )
-  last_found s m k e v i (inr p) c = (
+  last_found cut s m k e v i (inr p) c = (
     i.0 ++ punctuation.closing ∷ [],
     (i.0, punctuation.closing ∷ [], refl, i.1, inl (refl, refl)),
     leaves_append cut i.0 (punctuation.closing ∷ []) s m e i.2 (subst (λ (z : At T). Leaves cut (punctuation.closing ∷ []) z e) p.1 c),
   )
 
-  pub last_rejected : (s : At T) → ((v : V) → DecodesTo cut encodes s v → ⊥) → (v : V)
-      → DecodesTo cut (EncodedLast punctuation encodes) s v → ⊥
-  last_rejected s none v f =
-      let r = leaves_split cut f.2.0 f.2.1 s f.1 (subst (λ (xs : List T). Leaves cut xs s f.1) f.2.2 f.3) in
-      none v (f.2.0, r.0, f.2.3, r.1)
+  pub last_leads : (pending : T) → LeadsTo (EncodedLast punctuation encodes) encodes [] pending
+  last_leads pending us more rest next v e is =
+      let f = first_token e.1 next more in
+      let joined = append_assoc e.0 e.1 (next ∷ more) in
+      let whole = sym joined ∙ (ap (λ (xs : List T). xs ++ next ∷ more) (sym e.2) ∙ is) in
+      (e.0, v, f.0, f.1, e.3, ap (λ (xs : List T). e.0 ++ xs) (sym f.2) ∙ whole)
 
   -- what is left after the part
-  after_last : (s m : At T) (x v : V) → Spans cut encodes s m x → (f : DecodesTo cut
-      (EncodedLast punctuation encodes) s v) → Leaves cut f.2.1 m f.1
-  after_last s m x v i f =
-      let r = leaves_split cut f.2.0 f.2.1 s f.1 (subst (λ (xs : List T). Leaves cut xs s f.1) f.2.2 f.3) in
-      let same = same_end cut one_way encodes none_begins f.2.0 i.0 v x s r.0 m f.2.3 i.1 r.1 i.2 in
-      subst (λ (z : At T). Leaves cut f.2.1 z f.1) same.1 r.2
+  after_last : (a : List T) (x : V) → encodes a x → (us more rest : List T) (next : T) (v : V)
+      → (e : EncodedLast punctuation encodes us v) → us ++ next ∷ more ≡ a ++ rest
+      → e.1 ++ next ∷ more ≡ rest
+  after_last a x h us more rest next v e is =
+      let joined = append_assoc e.0 e.1 (next ∷ more) in
+      let whole = sym joined ∙ (ap (λ (xs : List T). xs ++ next ∷ more) (sym e.2) ∙ is) in
+      (same_prefix encodes none_begins e.0 (e.1 ++ next ∷ more) a rest v x e.3 h whole).1
 
-  pub last_comma_rejected : (s m : At T) (x : V) → Spans cut encodes s m x
-      → (m.token ≢ punctuation.closing) × ((k : At T) → Leaves cut (punctuation.comma ∷ []) m k → ⊥) → (v : V)
-      → DecodesTo cut (EncodedLast punctuation encodes) s v → ⊥
-  last_comma_rejected s m x i bad v f =
-      let b = after_last s m x v i f in
-      elim f.2.4 [
-        | inl p ↦ let k = subst (λ (xs : List T). Leaves cut xs m f.1) p.0 b in bad.0 (sym k.0)
-        | inr p ↦ let k = subst (λ (xs : List T). Leaves cut xs m f.1) p.1 b in bad.1 k.1.0 (k.0, (k.1.0, k.1.1, refl))
-      ]
-
-  pub last_close_rejected : (s m k : At T) (x : V) → Spans cut encodes s m x
-      → CommaTaken cut punctuation m k → ((e : At T) → Leaves cut (punctuation.closing ∷ []) k e → ⊥) → (v : V)
-      → DecodesTo cut (EncodedLast punctuation encodes) s v → ⊥
-  last_close_rejected s m k x i (inl l) bad v f =
-      let b = after_last s m x v i f in
-      elim f.2.4 [
-        | inl p ↦ let c = subst (λ (xs : List T). Leaves cut xs m f.1) p.0 b in absurd (apart (c.0 ∙ sym l.0))
+  pub last_comma_leads : (a : List T) (x : V) → encodes a x → (pending : T) → pending ≢ punctuation.closing
+      → LeadsTo (EncodedLast punctuation encodes) (AreTokens (punctuation.comma ∷ [])) a pending
+  last_comma_leads a x h pending other us more rest next v e is =
+      let left = after_last a x h us more (pending ∷ rest) next v e is in
+      elim e.4 [
+        | inl p ↦
+            let whole = ap (λ (xs : List T). xs ++ next ∷ more) (sym p.0) ∙ left in
+            let same : punctuation.closing ≡ pending = cc whole in
+            absurd (other (sym same))
         | inr p ↦
-            let c = subst (λ (xs : List T). Leaves cut xs m f.1) p.1 b in
-            let same = same_at cut one_way m.text c.1.0 l.1.0 c.1.1 l.1.1 ∙ l.1.2 in
-            bad f.1 (subst (λ (xs : List T). Leaves cut xs k f.1) p.2 (subst (λ (z : At T). Leaves cut p.0 z f.1) same c.1.2))
+            let f = first_token p.0 next more in
+            let whole = ap (λ (xs : List T). xs ++ next ∷ more) (sym p.1) ∙ left in (
+              punctuation.comma ∷ [],
+              tt,
+              f.0,
+              f.1,
+              refl,
+              ap (λ (xs : List T). punctuation.comma ∷ xs) (sym f.2) ∙ whole,
+            )
       ]
-  last_close_rejected s m k x i (inr q) bad v f =
-      let b = after_last s m x v i f in
-      elim f.2.4 [
-        | inl p ↦ bad f.1 (subst (λ (z : At T). Leaves cut (punctuation.closing ∷ []) z f.1) (sym q.1) (subst (λ (xs : List T). Leaves cut xs m f.1) p.0 b))
-        | inr p ↦ let c = subst (λ (xs : List T). Leaves cut xs m f.1) p.1 b in absurd (apart (sym (c.0 ∙ q.0)))
+
+  -- after the part, or after the comma
+  pub last_closing_leads : (a : List T) (x : V) → encodes a x → (pending : T) → pending ≡ punctuation.closing
+      → LeadsTo (EncodedLast punctuation encodes) (AreTokens (punctuation.closing ∷ [])) a pending
+  last_closing_leads a x h pending closes us more rest next v e is =
+      let left = after_last a x h us more (pending ∷ rest) next v e is in
+      elim e.4 [
+        | inl p ↦ (e.1, tt, next, more, p.0, left)
+        | inr p ↦
+            let whole = ap (λ (xs : List T). xs ++ next ∷ more) (sym p.1) ∙ left in
+            let same : punctuation.comma ≡ pending = cc whole in
+            absurd (apart (sym (same ∙ closes)))
+      ]
+
+  pub comma_closing_leads : (a : List T) (x : V) → encodes a x → (pending : T)
+      → LeadsTo (EncodedLast punctuation encodes) (AreTokens (punctuation.closing ∷ []))
+      (a ++ punctuation.comma ∷ []) pending
+  comma_closing_leads a x h pending us more rest next v e is =
+      let joined = append_assoc a (punctuation.comma ∷ []) (pending ∷ rest) in
+      let left = after_last a x h us more (punctuation.comma ∷ (pending ∷ rest)) next v e (is ∙ joined) in
+      elim e.4 [
+        | inl p ↦
+            let whole = ap (λ (xs : List T). xs ++ next ∷ more) (sym p.0) ∙ left in
+            let same : punctuation.closing ≡ punctuation.comma = cc whole in
+            absurd (apart same)
+        | inr p ↦
+            let whole = ap (λ (xs : List T). xs ++ next ∷ more) (sym p.1) ∙ left in
+            let inside : p.0 ++ next ∷ more ≡ pending ∷ rest = cc whole in
+            (p.0, tt, next, more, p.2, inside)
       ]

@@ -1,14 +1,14 @@
 -- What a reader of one value knows of the tokens that it takes.
-use Rattle.std.proofs.Common.{◌≡◌, ◌≢◌, ℕ, ◌<◌, ◌⊎◌, inl, inr, List, [], ◌∷◌, length, Some, None}
-use Rattle.std.proofs.Common.{refl, ap, sym, ◌∙◌, subst}
+use Rattle.std.proofs.Common.{◌≡◌, ◌≢◌, ℕ, ◌<◌, ◌⊎◌, inl, inr, List, [], ◌∷◌, ◌++◌, length, Some}
+use Rattle.std.proofs.Common.{None, Option, refl, ap, sym, ◌∙◌, subst}
 use Rattle.nano_value.specs.Meaning.{IsImage, Meaning, usize_bound}
-use Rattle.nano_grammar.proofs.TokensLaws.{CutLaws, same_end, tokens_left, token_shorter}
-use Rattle.nano_grammar.specs.Tokens.{Cutting, At, Leaves, Spans, DecodesToNothing}
+use Rattle.nano_grammar.proofs.TokensLaws.{CutLaws, tokens_left, token_shorter}
+use Rattle.nano_grammar.proofs.FaultLaws.{Encodes, LeadsTo}
+use Rattle.nano_grammar.specs.Tokens.{Cutting, At, Leaves, Spans}
 use Rattle.nano_grammar.specs.Items.{ListPunctuation, StartsOtherwise, EncodedList}
 use Rattle.nano_grammar.specs.Lists.{EncodesList, EncodesCount}
-use Rattle.nano_grammar.proofs.ListsLaws.{between_one, between_apart}
 use Rattle.nano_grammar.specs.Scalars.{EncodesOption, EncodesOne}
-use Rattle.nano_grammar.specs.Codec.{Grammar, BeginsValue, IsEncoding, AreBrackets}
+use Rattle.nano_grammar.specs.Codec.{Grammar, BeginsValue}
 
 pub either_way : {A B : Type 0} → A ⊎ B → B ⊎ A
 either_way (inl a) = inr a
@@ -22,20 +22,11 @@ module _ {T : Type 0} (c : Cutting T) where
       → Spans c.cut (λ ts. IsImage f (S ts)) start following (f x)
   image_spans f start following x s = (s.0, record { part = x; has = s.1; is = refl }, s.2)
 
-  pub image_rejected : {A : Type 0} {S : List T → A → Type 0} (f : A → Meaning) (start : At T)
-      → DecodesToNothing c.cut S start → DecodesToNothing c.cut (λ ts. IsImage f (S ts)) start
-  image_rejected f start none m h = none h.2.part (h.0, h.1, h.2.has, h.3)
+  pub image_encodes : {A : Type 0} (S : List T → A → Type 0) (f : A → Meaning)
+      → Encodes (λ ts. IsImage f (S ts)) S
+  image_encodes S f ts m h = (h.part, h.has)
 
   -- ---- one token
-
-  -- a value whose encodings are one token is read only where that token is pending and another
-  -- is cut
-  pub one_token : (t : T) (ts : List T) (start following : At T) → ts ≡ t ∷ []
-      → Leaves c.cut ts start following
-      → (t ≡ start.token) × ((next : At T) × c.cut start.text next.token next.text)
-  one_token t ts start following e h =
-      let one = subst (λ (us : List T). Leaves c.cut us start following) e h in
-      (one.0, (one.1.0, one.1.1))
 
   -- the token is taken where the next one is cut
   pub token_taken : (t : T) (start following : At T) → t ≡ start.token
@@ -52,21 +43,15 @@ module _ {T : Type 0} (c : Cutting T) where
       token_taken start.token start following refl k,
     )
 
-    -- where the pending token carries nothing that has the property
-    pub one_rejected : (start : At T) → ((x : A) → carries start.token x → P x → ⊥)
-        → DecodesToNothing c.cut (EncodesOne carries P) start
-    one_rejected start none x h =
-        let one = h.2 in
-        let token = one_token one.token h.0 start h.1 one.one h.3 in
-        none x (subst (λ (t : T). carries t x) token.0 one.carries_it) one.has
+    pub one_some : (x : A) → EncodesOne carries P [] x → ⊥
+    one_some x h = absurd (cc h.one)
 
-    -- where no token can be cut after the pending one
-    pub one_uncut : (start : At T) → ((next : At T) → c.cut start.text next.token next.text → ⊥)
-        → DecodesToNothing c.cut (EncodesOne carries P) start
-    one_uncut start none x h =
-        let one = h.2 in
-        let token = one_token one.token h.0 start h.1 one.one h.3 in
-        none token.1.0 token.1.1
+    -- where the pending token carries nothing that has the property
+    pub one_other : (t : T) → ((x : A) → carries t x → P x → ⊥) → (ts : List T) (x : A)
+        → EncodesOne carries P (t ∷ ts) x → ⊥
+    one_other t none ts x h =
+        let same : t ≡ h.token = cc h.one in
+        none x (subst (λ (u : T). carries u x) (sym same) h.carries_it) h.has
 
 module _ {T : Type 0} {c : Cutting T} {g : Grammar T} (r : CutLaws c g) where
   -- a value takes one token at least
@@ -95,23 +80,17 @@ module _ {T : Type 0} {c : Cutting T} {g : Grammar T} (r : CutLaws c g) where
     some_spans following x begins e s =
         (s.0, (s.1, unless_none s.0 start following e (begins s.0 x s.1) s.2), s.2)
 
-    -- where what is absent is pending, an option is read only where the next token is cut
-    pub none_rejected : ((next : At T) → c.cut start.text next.token next.text → ⊥)
-        → DecodesToNothing c.cut (EncodesOption g.none S) start
-    none_rejected none None h =
-        let one = one_token c g.none h.0 start h.1 h.2 h.3 in
-        none one.1.0 one.1.1
-    none_rejected none (Some x) h = first_cut h.0 h.1 h.2.1 h.3 where
-      first_cut : (ts : List T) (following : At T) → StartsOtherwise g.none ts
-          → Leaves c.cut ts start following → ⊥
-      first_cut [] following o l = o
-      first_cut (t ∷ ts) following o l = none l.1.0 l.1.1
+    pub option_some : (o : Option A) → EncodesOption g.none S [] o → ⊥
+    option_some None h = absurd (cc h)
+    option_some (Some x) h = h.1
 
-    -- where another token is pending, only an item that is there is read
-    pub some_rejected : start.token ≢ g.none → DecodesToNothing c.cut S start
-        → DecodesToNothing c.cut (EncodesOption g.none S) start
-    some_rejected e none None h = e (sym (one_token c g.none h.0 start h.1 h.2 h.3).0)
-    some_rejected e none (Some x) h = none x (h.0, h.1, h.2.0, h.3)
+    -- where another token is pending, an item follows
+    pub some_leads : (pending : T) → pending ≢ g.none → LeadsTo (EncodesOption g.none S) S [] pending
+    some_leads pending other us more rest next None e is =
+        let whole = ap (λ (xs : List T). xs ++ next ∷ more) (sym e) ∙ is in
+        let same : g.none ≡ pending = cc whole in
+        absurd (other (sym same))
+    some_leads pending other us more rest next (Some x) e is = (us, x, next, more, e.0, is)
 
   -- ---- lists and arrays
 
@@ -121,28 +100,13 @@ module _ {T : Type 0} {c : Cutting T} {g : Grammar T} (r : CutLaws c g) where
         → Spans c.cut (EncodesList punctuation S) start following xs
     list_spans following xs count s = (s.0, record { count = count; items = s.1 }, s.2)
 
-    pub list_rejected : DecodesToNothing c.cut (EncodedList punctuation S) start
-        → DecodesToNothing c.cut (EncodesList punctuation S) start
-    list_rejected none xs h = none xs (h.0, h.1, h.2.items, h.3)
+    pub list_encodes : Encodes (EncodesList punctuation S) (EncodedList punctuation S)
+    list_encodes ts xs h = (xs, h.items)
 
     pub count_spans : (count : ℕ) (following : At T) (xs : List A) → length xs ≡ count
         → Spans c.cut (EncodedList punctuation S) start following xs
         → Spans c.cut (EncodesCount punctuation count S) start following xs
     count_spans count following xs long s = (s.0, record { count_is = long; items = s.1 }, s.2)
 
-    pub count_rejected : (count : ℕ) → DecodesToNothing c.cut (EncodedList punctuation S) start
-        → DecodesToNothing c.cut (EncodesCount punctuation count S) start
-    count_rejected count none xs h = none xs (h.0, h.1, h.2.items, h.3)
-
-  -- where a list of another count stands, none of this count does
-  pub other_count_rejected : {A : Type 0} {P : A → Type 0} {S : List T → A → Type 0}
-      (s : IsEncoding g P S) (punctuation : ListPunctuation T) (are : AreBrackets g punctuation) (count : ℕ)
-      (start following : At T) (xs : List A) → Spans c.cut (EncodedList punctuation S) start following xs
-      → length xs ≢ count → DecodesToNothing c.cut (EncodesCount punctuation count S) start
-  other_count_rejected {S = S} s punctuation are count start following xs k other ys h =
-      let list = EncodedList punctuation S in
-      let apart = between_apart g s punctuation are in
-      let same = same_end c.cut r.one_way list apart h.0 k.0 ys xs start h.1 following h.2.items k.1 h.3 k.2 in
-      let moved = subst (λ (ts : List T). list ts ys) same.0 h.2.items in
-      let items = between_one g s punctuation are k.0 ys xs moved k.1 in
-      other (ap length (sym items) ∙ h.2.count_is)
+    pub count_encodes : (count : ℕ) → Encodes (EncodesCount punctuation count S) (EncodedList punctuation S)
+    count_encodes count ts xs h = (xs, h.items)

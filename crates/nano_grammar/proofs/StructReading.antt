@@ -1,13 +1,16 @@
 -- What a reader of named fields knows at the head of the loop, and at its exits.
-use Rattle.std.proofs.Common.{◌≡◌, ◌≢◌, ◌<◌, ◌⊎◌, ℕ, List, [], ◌∷◌, ◌++◌, inl, inr, sym, subst}
+use Rattle.std.proofs.Common.{◌≡◌, ◌≢◌, ◌<◌, ℕ, List, [], ◌∷◌, ◌++◌, sym, ◌∙◌, ap, subst}
 use Rattle.nano_value.specs.Meaning.{Meaning}
-use Rattle.nano_grammar.proofs.TokensLaws.{CutLaws, same_end, tokens_left}
-use Rattle.nano_grammar.specs.Tokens.{Cutting, At, Leaves, Spans, DecodesToNothing}
-use Rattle.nano_grammar.specs.Items.{ListPunctuation, EncodedList}
+use Rattle.nano_grammar.proofs.TokensLaws.{CutLaws, tokens_left}
+use Rattle.nano_grammar.specs.Tokens.{Cutting, At, Leaves, Spans}
+use Rattle.nano_grammar.specs.Faults.{AreTokens, Fault, wrong}
+use Rattle.nano_grammar.specs.Items.{ListPunctuation, EncodedItems, EncodedList}
 use Rattle.nano_grammar.specs.Codec.{Grammar, IsEncoding}
+use Rattle.nano_grammar.proofs.ItemLaws.{same_prefix}
+use Rattle.nano_grammar.proofs.FaultLaws.{LeadsTo}
 use Rattle.nano_grammar.proofs.Containers.{ReadSoFar, read_start, item_shorter, read_next}
-use Rattle.nano_grammar.proofs.Containers.{read_found, read_open_rejected, read_item_rejected}
-use Rattle.nano_grammar.proofs.Containers.{read_comma_rejected, read_close_rejected}
+use Rattle.nano_grammar.proofs.Containers.{read_found, read_opening_leads, read_item_leads}
+use Rattle.nano_grammar.proofs.Containers.{read_comma_leads, item_taken}
 use Rattle.nano_grammar.proofs.PartReading.{CommaTaken}
 use Rattle.nano_grammar.specs.Fields.{FieldStyle, Field, Allowed, EncodedField, EncodedFields}
 use Rattle.nano_grammar.specs.Fields.{Struct}
@@ -26,8 +29,8 @@ module _ {T : Type 0} {c : Cutting T} {g : Grammar T} (s : FieldStyle c g) (r : 
   abbrev AllFields : List T → List (Field T) → Type 0
   AllFields = EncodedList Punctuation AnyField
 
-  abbrev NoStruct : At T → Type 0
-  NoStruct start = DecodesToNothing c.cut (EncodedFields s struct.shape) start
+  abbrev AStruct : List T → Meaning → Type 0
+  AStruct = EncodedFields s struct.shape
 
   is_encoded : IsEncoding g (λ _. Unit {0}) AnyField
   is_encoded = any_encoding s struct.shape struct.laws
@@ -62,45 +65,56 @@ module _ {T : Type 0} {c : Cutting T} {g : Grammar T} (s : FieldStyle c g) (r : 
         held = f.2 fields so_far.held;
       }
 
-  -- ---- where no list of fields decodes, no struct decodes
+  -- ---- what a list of fields leads to, a struct does
 
-  struct_rejected : (start : At T) → DecodesToNothing c.cut AllFields start → NoStruct start
-  struct_rejected start none m h = none h.2.0 (h.0, h.1, h.2.1, h.3)
+  struct_leads : {W : Type 0} (part : List T → W → Type 0) (ts : List T) (pending : T)
+      → LeadsTo AllFields part ts pending → LeadsTo AStruct part ts pending
+  struct_leads part ts pending leads us more rest next m e is = leads us more rest next e.0 e.1 is
 
-  pub struct_open_rejected : (start : At T)
-      → ((m : At T) → Leaves c.cut (Punctuation.opening ∷ []) start m → ⊥) → NoStruct start
-  struct_open_rejected start bad =
-      struct_rejected start (read_open_rejected r is_encoded Punctuation s.brackets start bad)
+  pub struct_opening_leads : (pending : T)
+      → LeadsTo AStruct (AreTokens (Punctuation.opening ∷ [])) [] pending
+  struct_opening_leads pending =
+      struct_leads (AreTokens (Punctuation.opening ∷ [])) [] pending
+      (read_opening_leads r is_encoded Punctuation s.brackets pending)
 
   module _ (holds : List (Field T) → Type 0) (start here : At T)
       (so_far : FieldsSoFar holds start here) where
-    pub struct_field_rejected : here.token ≢ Punctuation.closing → DecodesToNothing c.cut AnyField here
-        → NoStruct start
-    struct_field_rejected goes_on bad =
-        struct_rejected start
-        (read_item_rejected r is_encoded Punctuation s.brackets start here so_far.fields so_far.read goes_on bad)
+    -- the tokens that were taken
+    abbrev pub fields_taken : List T
+    fields_taken = so_far.read.so_far.prefix
 
-    pub struct_comma_rejected : (following : At T) (f : Field T) → here.token ≢ Punctuation.closing
-        → Spans c.cut AnyField here following f
-        → (following.token ≢ Punctuation.closing)
-        × ((k : At T) → Leaves c.cut (Punctuation.comma ∷ []) following k → ⊥) → NoStruct start
-    struct_comma_rejected following f goes_on h bad =
-        struct_rejected start
-        (read_comma_rejected r is_encoded Punctuation s.brackets start here following so_far.fields f so_far.read goes_on h bad)
+    pub struct_field_leads : here.token ≢ Punctuation.closing
+        → LeadsTo AStruct AnyField fields_taken here.token
+    struct_field_leads goes_on =
+        struct_leads AnyField fields_taken here.token
+        (read_item_leads r is_encoded Punctuation s.brackets start here so_far.fields so_far.read goes_on)
 
-    -- where no name is pending, no field stands
-    no_name : ((name : List ℕ) → here.token ≢ s.name name) → DecodesToNothing c.cut AnyField here
-    no_name none f h =
-        let l = subst (λ (ts : List T). Leaves c.cut ts here h.1) h.2.0 h.3 in
-        none f.name (sym l.0)
+    module _ (following : At T) (f : Field T) (h : Spans c.cut AnyField here following f) where
+      pub struct_comma_leads : here.token ≢ Punctuation.closing → following.token ≢ Punctuation.closing
+          → LeadsTo AStruct (AreTokens (Punctuation.comma ∷ [])) (fields_taken ++ h.0) following.token
+      struct_comma_leads goes_on other =
+          struct_leads (AreTokens (Punctuation.comma ∷ [])) (fields_taken ++ h.0) following.token
+          (read_comma_leads r is_encoded Punctuation s.brackets start here so_far.fields so_far.read following f goes_on h other)
 
-    pub struct_close_rejected : ((name : List ℕ) → here.token ≢ s.name name)
-        → (here.token ≡ Punctuation.closing) ⊎ (here.token ≢ Punctuation.closing)
-        → ((m : At T) → Leaves c.cut (Punctuation.closing ∷ []) here m → ⊥) → NoStruct start
-    struct_close_rejected none (inl closes) bad =
-        struct_rejected start
-        (read_close_rejected r is_encoded Punctuation s.brackets start here so_far.fields so_far.read closes bad)
-    struct_close_rejected none (inr goes_on) bad = struct_field_rejected goes_on (no_name none)
+      pub struct_field_taken : Leaves c.cut (fields_taken ++ h.0) start following
+      struct_field_taken =
+          item_taken r is_encoded Punctuation s.brackets start here so_far.fields so_far.read following f h
+
+    -- where no name is pending, the closing bracket must be
+    pub struct_closing_leads : ((name : List ℕ) → here.token ≢ s.name name)
+        → LeadsTo AStruct (AreTokens (Punctuation.closing ∷ [])) fields_taken here.token
+    struct_closing_leads none us more rest next m e is =
+        let k = so_far.read.so_far.still.all us more rest next e.0 e.1 is in
+        closes k.0 k.1 k.2 k.3 where
+          closes : (back : List T) (fs : List (Field T)) → EncodedItems Punctuation AnyField back fs
+              → back ++ next ∷ more ≡ here.token ∷ rest
+              → (xs : List T) × (w : Unit {0}) × (u : T) × (left : List T)
+              × AreTokens (Punctuation.closing ∷ []) xs w × (xs ++ u ∷ left ≡ here.token ∷ rest)
+          closes back [] l left = (back, tt, next, more, l, left)
+          closes back (f ∷ fs) l left =
+              let whole = ap (λ (xs : List T). xs ++ next ∷ more) (sym (l.2 ∙ ap (λ (xs : List T). xs ++ l.1) l.3.0)) ∙ left in
+              let first : s.name f.name ≡ here.token = cc whole in
+              absurd (none f.name (sym first))
 
     -- ---- once the closing bracket is taken
 
@@ -111,20 +125,24 @@ module _ {T : Type 0} {c : Cutting T} {g : Grammar T} (s : FieldStyle c g) (r : 
       -- the fields mean what they are said to
       pub struct_found : (m : Meaning)
           → ((fs : List (Field T)) → holds fs → struct.shape.means fs m)
-          → Spans c.cut (EncodedFields s struct.shape) start end m
+          → Spans c.cut AStruct start end m
       struct_found m means =
           (all_read.0, (so_far.fields, all_read.1, means so_far.fields so_far.held), all_read.2)
 
       -- the fields mean nothing
       pub struct_missing : ((fs : List (Field T)) (m : Meaning) → holds fs
-          → struct.shape.means fs m → ⊥) → NoStruct start
-      struct_missing bad m h =
+          → struct.shape.means fs m → ⊥) → Fault c.cut AStruct start end wrong
+      struct_missing bad =
           let all = all_read in
-          let same =
-          same_end c.cut r.one_way AllFields (no_list_begins s struct.shape struct.laws)
-          h.0 all.0 h.2.0 so_far.fields start h.1 end h.2.1 all.1 h.3 all.2 in
-          let read = subst (λ (ts : List T). AllFields ts h.2.0) same.0 h.2.1 in
-          let fields =
-          one_list s struct.shape struct.laws all.0 h.2.0 so_far.fields read all.1 in
-          bad so_far.fields m so_far.held
-          (subst (λ (fs : List (Field T)). struct.shape.means fs m) fields h.2.2)
+          record {
+            tokens = all.0;
+            taken = all.2;
+            none = λ more _ us left next m e is.
+                let same =
+                same_prefix AllFields (no_list_begins s struct.shape struct.laws) us (next ∷ left)
+                all.0 (end.token ∷ more) e.0 so_far.fields e.1 all.1 is in
+                let read = subst (λ (ts : List T). AllFields ts e.0) same.0 e.1 in
+                let fields = one_list s struct.shape struct.laws all.0 e.0 so_far.fields read all.1 in
+                bad so_far.fields m so_far.held
+                (subst (λ (fs : List (Field T)). struct.shape.means fs m) fields e.2);
+          }

@@ -1,19 +1,16 @@
 -- What calls that take several tokens come to, whatever the tokens are.
 use Rattle.std.proofs.Common.{◌≡◌, ℕ, List, [], ◌∷◌, ◌++◌, sym, ◌∙◌, subst, inl, inr, Result, Ok}
 use Rattle.std.proofs.Common.{Err, MatchResult, IsErrAnd, true, refl, ap}
-use Rattle.nano_text.proofs.PlaceLaws.{moves_append, advances_none, advances_append, advances_ended}
+use Rattle.nano_text.proofs.PlaceLaws.{moves_append, advances_none, advances_append}
 use Rattle.nano_text.proofs.PlaceLaws.{moves_none, moves_advance}
 use Rattle.nano_grammar.specs.Outcomes.{Position, TookNext, Took, Report, IsMadeAt, Moved, given_up}
-use Rattle.nano_grammar.specs.Outcomes.{Fails, Stops, RejectsToken, TookComma, Read, Reads}
+use Rattle.nano_grammar.specs.Outcomes.{Fails, Stops, RejectsToken, TookComma, Read, Reads, ReadsNone}
 use Rattle.nano_grammar.specs.Outcomes.{ReadsOrEnds}
 use Rattle.nano_grammar.specs.Tokens.{At, Leaves, IsOneWay}
 use Rattle.nano_grammar.proofs.TokensLaws.{same_at, leaves_append, leaves_split}
-use Rattle.nano_text.proofs.RemainingText.{remaining_end}
+use Rattle.nano_grammar.proofs.FaultLaws.{LeadsTo, Encodes, wrong_in, wrong_as, none_ended}
 
 module _ {T : Type 0} (cut : List ℕ → T → List ℕ → Type 0) where
-  abbrev None : List T → At T → Type 0
-  None ts here = (next : At T) → Leaves cut ts here next → ⊥
-
   -- whatever is said of the buffers
   pub taken : {same_buffers : Type 0} {ts : List T} {start end : Position T} → Took cut same_buffers start end ts
       → Took cut (Unit {0}) start end ts
@@ -49,11 +46,6 @@ module _ {T : Type 0} (cut : List ℕ → T → List ℕ → Type 0) where
     left_after t us {start} {mid} h next l =
         let same = same_at cut one_way start.at.text l.1.0 mid.at l.1.1 h.taken in
         subst (λ (z : At T). Leaves cut us z next) same l.1.2
-
-  -- where the first of tokens do not stand, all do not
-  pub first_of_all_not : (ts us : List T) (start : At T) → None ts start → None (ts ++ us) start
-  first_of_all_not ts us start none next l =
-      let both = leaves_split cut ts us start next l in none both.0 both.1
 
 -- ==== outcomes
 
@@ -92,17 +84,25 @@ module _ {T : Type 0} where
   fails_here {p = p} fact made =
       record { rejected = λ known. fact; made = made; place = advances_none p.place p.input }
 
-  -- a reader that gives up leaves the line and the column
-  pub fails_ended : {A : Type 0} {start mid end : Position T} {e : Report} (last : At T)
-      → end ≡ given_up last mid → Fails A start mid e → Fails A start end e
-  fails_ended {A} {start} {mid} {e = e} last is h =
-      subst (λ (p : Position T). Fails A start p e) (sym is) (record {
-        rejected = h.rejected;
-        made = h.made;
-        place = advances_ended (record mid.place { cur = 0 }) h.place refl refl (remaining_end mid.input);
-      })
+  -- ---- parts of a whole
 
-  -- ---- what is read
+  module _ {V W : Type 0} (cut : List ℕ → T → List ℕ → Type 0) (whole : List T → V → Type 0)
+      (part : List T → W → Type 0) where
+    -- where no part is read after these tokens, no whole is
+    pub none_in : (ts : List T) {start mid end : Position T} {e : Report}
+        → LeadsTo whole part ts mid.at.token → Leaves cut ts start.at mid.at → Moved start mid
+        → ReadsNone cut part mid end e → ReadsNone cut whole start end e
+    none_in ts leads l moved h = fails_after (wrong_in cut whole part ts leads l moved) moved h
+
+    -- where no first part is read
+    pub none_first : {start end : Position T} {e : Report} → LeadsTo whole part [] start.at.token
+        → ReadsNone cut part start end e → ReadsNone cut whole start end e
+    none_first {start = start} leads h =
+        fails_as (wrong_in cut whole part [] leads refl (moves_none start.place start.input)) h
+
+    pub none_as : {start end : Position T} {e : Report} → Encodes whole part
+        → ReadsNone cut part start end e → ReadsNone cut whole start end e
+    none_as into h = fails_as (wrong_as cut whole part into) h
 
   -- ---- the pending token, and the next one
 
@@ -114,10 +114,10 @@ module _ {T : Type 0} where
 
   -- and where no next one is cut, it fails so
   pub rejects_next : {last : At T} {A fact full same wanted : Type 0} {start end : Position T} {e : Report}
-      → wanted → (A → fact) → Stops last A full start end e
+      → wanted → (Fails A start end e → Fails fact start end e) → Stops last A full start end e
       → RejectsToken last wanted fact full same start end e
   rejects_next is f h = record {
-    fails = fails_as f h.fails;
+    fails = f h.fails;
     unchanged = λ other. absurd (other is);
     ended = λ _. h.ended;
     capacity = λ _. h.capacity;
@@ -167,4 +167,4 @@ module _ {T : Type 0} where
       (subst (λ (p : Position T). Read cut encodes start p (means x)) (sym is) h)
   ended_read cut encodes start mid end report means last (Err e) result same is h =
       subst (ReadsOrEnds cut encodes start end report means last) (sym same)
-      (record { fails = fails_ended last is h; ended = ap (λ (p : Position T). p.at) is })
+      (record { fails = none_ended cut encodes last is h; ended = ap (λ (p : Position T). p.at) is })

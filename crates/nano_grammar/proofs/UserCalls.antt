@@ -1,21 +1,26 @@
 -- What the calls that read a struct or a choice of variants come to, whatever the tokens are.
-use Rattle.std.proofs.Common.{List, ◌++◌, refl, subst, ◌≡◌, ℕ, suc, Bool, true, false, ap}
+use Rattle.std.proofs.Common.{List, [], ◌∷◌, ◌++◌, refl, sym, ◌∙◌, ◌≡◌, ℕ, suc, Bool, true, false, ap}
+use Rattle.std.proofs.Common.{append_assoc}
 use Rattle.nano_value.specs.Meaning.{Meaning}
+use Rattle.nano_text.specs.Place.{text_at}
 use Rattle.nano_text.proofs.PlaceLaws.{moves_append, moves_advance}
-use Rattle.nano_grammar.proofs.TokensLaws.{CutLaws, leaves_append, leaves_split, same_end}
-use Rattle.nano_grammar.specs.Tokens.{Cutting, At, Leaves, DecodesTo}
+use Rattle.nano_grammar.proofs.TokensLaws.{leaves_append}
+use Rattle.nano_grammar.specs.Tokens.{Cutting, At}
+use Rattle.nano_grammar.specs.Faults.{AreTokens, wrong}
 use Rattle.nano_grammar.specs.Codec.{Grammar, IsEncoding, Encoding}
 use Rattle.nano_grammar.specs.Outcomes.{Report, Position, Took, Read, ReadsNone, ReadsNoneAndEnds}
 use Rattle.nano_grammar.specs.Outcomes.{given_up}
-use Rattle.nano_grammar.proofs.TokenCalls.{fails_as, fails_after, fails_here, fails_ended}
+use Rattle.nano_grammar.proofs.ItemLaws.{same_prefix}
+use Rattle.nano_grammar.proofs.FaultLaws.{LeadsTo, first_token, goes_wrong, none_ended}
+use Rattle.nano_grammar.proofs.TokenCalls.{fails_here, none_in, none_first, none_as}
 use Rattle.nano_grammar.specs.Fields.{FieldStyle, Field, Shape, EncodedFields}
-use Rattle.nano_grammar.specs.UserOutcomes.{Misses, MeansNothing, HeldFields, FailsAndEnds}
+use Rattle.nano_grammar.specs.UserOutcomes.{Misses, MeansNothing, HeldFields}
 use Rattle.nano_grammar.specs.UserOutcomes.{IsUnknownAt, ReadChoice, NoChoice}
 use Rattle.nano_grammar.specs.Variants.{VariantStyle, Closed, Variants, no_variants}
 use Rattle.nano_value.specs.Sums.{tagged}
-use Rattle.nano_grammar.specs.Choices.{Rest, before, stands_alone, is_named, EncodesRest}
-use Rattle.nano_grammar.proofs.ChoicesLaws.{first_reads, first_rejected, later_reads}
-use Rattle.nano_grammar.proofs.ChoicesLaws.{later_rejected, none_named}
+use Rattle.nano_grammar.specs.Choices.{Rest, before, stands_alone, is_named, EncodesRest, EncodesAfter}
+use Rattle.nano_grammar.proofs.ChoicesLaws.{first_reads, first_encodes, later_reads}
+use Rattle.nano_grammar.proofs.ChoicesLaws.{later_encodes, none_named}
 use Rattle.nano_grammar.proofs.FieldReading.{first_unknown, later_unknown}
 
 -- ---- the values of the fields
@@ -27,11 +32,19 @@ module _ {T : Type 0} {c : Cutting T} {g : Grammar T} (s : FieldStyle c g) (shap
       → Read c.cut (EncodedFields s shape) start end m
   values_read m h means = record { decodes = h.found m means; place = h.place }
 
-  pub values_not : {e : Report} → HeldFields s shape holds start end
+  pub values_not : {e : Report} → end.at.text ≡ text_at end.place end.input
+      → HeldFields s shape holds start end
       → Misses (MeansNothing shape holds) end.place e
       → ReadsNone c.cut (EncodedFields s shape) start end e
-  values_not h bad = record {
-    rejected = λ known. h.missing (bad.rejected known);
+  values_not text h bad = record {
+    rejected = λ known. record {
+      here = end;
+      text = text;
+      moved = h.place;
+      reason = wrong;
+      fault = h.missing (bad.rejected known);
+      stands = (refl, refl);
+    };
     made = bad.made;
     place = moves_advance h.place;
   }
@@ -51,31 +64,35 @@ module _ {T : Type 0} {c : Cutting T} {g : Grammar T} (s : VariantStyle c g) whe
       place = moves_append h.place close.place;
     }
 
-    -- tokens that decode are content, and what comes after it
-    closed_split : (start : At T) (m : Meaning) (f : DecodesTo c.cut (Closed s S) start m)
-        → (mid : At T) × Leaves c.cut f.2.0 start mid × Leaves c.cut s.closing mid f.1
-    closed_split start m f =
-        leaves_split c.cut f.2.0 s.closing start f.1 (subst (λ (l : List T). Leaves c.cut l start f.1) f.2.1 f.3)
+    content_leads : (pending : T) → LeadsTo (Closed s S) S [] pending
+    content_leads pending us more rest next m e is =
+        let f = first_token s.closing next more in
+        let joined = append_assoc e.0 s.closing (next ∷ more) in
+        let whole = sym joined ∙ (ap (λ (xs : List T). xs ++ next ∷ more) (sym e.1) ∙ is) in
+        (e.0, m, f.0, f.1, e.2, ap (λ (xs : List T). e.0 ++ xs) (sym f.2) ∙ whole)
+
+    closing_leads : {P : Meaning → Type 0} → IsEncoding g P S → (ts : List T) (m : Meaning) → S ts m
+        → (pending : T) → LeadsTo (Closed s S) (AreTokens s.closing) ts pending
+    closing_leads laws ts m h pending us more rest next n e is =
+        let joined = append_assoc e.0 s.closing (next ∷ more) in
+        let whole = sym joined ∙ (ap (λ (xs : List T). xs ++ next ∷ more) (sym e.1) ∙ is) in
+        let same = same_prefix S laws.none_begins e.0 (s.closing ++ next ∷ more) ts (pending ∷ rest) n m e.2 h whole in
+        (s.closing, tt, next, more, refl, same.1)
 
     pub content_not : {start end : Position T} {last : At T} {e : Report}
         → ReadsNoneAndEnds c.cut S start end last e → ReadsNoneAndEnds c.cut (Closed s S) start end last e
     content_not {start} h = record {
-      fails = fails_as (λ none m f.
-          let r = closed_split start.at m f in none m (f.2.0, r.0, f.2.2, r.1)) h.fails;
+      fails = none_first c.cut (Closed s S) S (content_leads start.at.token) h.fails;
       ended = h.ended;
     }
 
     pub closing_not : {P : Meaning → Type 0} {start mid end : Position T} {last : At T} {m : Meaning} {e : Report}
-        → CutLaws c g → IsEncoding g P S → Read c.cut S start mid m
-        → FailsAndEnds last ((next : At T) → Leaves c.cut s.closing mid.at next → ⊥) mid end e
+        → IsEncoding g P S → Read c.cut S start mid m
+        → ReadsNoneAndEnds c.cut (AreTokens s.closing) mid end last e
         → ReadsNoneAndEnds c.cut (Closed s S) start end last e
-    closing_not {start = start} {mid} {m = m} r laws h bad = record {
-      fails = fails_after (λ (none : (next : At T) → Leaves c.cut s.closing mid.at next → ⊥) n f.
-          let k = closed_split start.at n f in
-          let same =
-          same_end c.cut r.one_way S laws.none_begins f.2.0 h.decodes.0 n m start.at k.0 mid.at f.2.2
-          h.decodes.1 k.1 h.decodes.2 in
-          none f.1 (subst (λ (z : At T). Leaves c.cut s.closing z f.1) same.1 k.2)) h.place bad.fails;
+    closing_not {mid = mid} {m = m} laws h bad = record {
+      fails = none_in c.cut (Closed s S) (AreTokens s.closing) h.decodes.0
+          (closing_leads laws h.decodes.0 m h.decodes.1 mid.at.token) h.decodes.2 h.place bad.fails;
       ended = bad.ended;
     }
 
@@ -99,7 +116,8 @@ module _ {T : Type 0} {c : Cutting T} {g : Grammar T} (s : VariantStyle c g) (re
           → NoChoice s (before rest first others) stood name start end last e
       first_not h = record {
         none = λ from. record {
-          fails = fails_as (first_rejected s c.cut rest first others stood name named from start.at) h.fails;
+          fails = none_as c.cut (EncodesAfter s from (before rest first others) stood name) (EncodesRest s rest)
+              (first_encodes s c.cut rest first others stood name named from) h.fails;
           ended = h.ended;
         };
         unknown = λ none. absurd (first_unknown rest first others stood name named none);
@@ -123,7 +141,9 @@ module _ {T : Type 0} {c : Cutting T} {g : Grammar T} (s : VariantStyle c g) (re
         none = λ from.
             let k = h.none (suc from) in
             record {
-              fails = fails_as (later_rejected s c.cut rest first others stood name other from start.at) k.fails;
+              fails = none_as c.cut (EncodesAfter s from (before rest first others) stood name)
+                  (EncodesAfter s (suc from) others stood name)
+                  (later_encodes s c.cut rest first others stood name other from) k.fails;
               ended = k.ended;
             };
         unknown = λ none. h.unknown (later_unknown rest first others stood name none);
@@ -132,14 +152,18 @@ module _ {T : Type 0} {c : Cutting T} {g : Grammar T} (s : VariantStyle c g) (re
   -- ---- no other variant is left
 
   pub none_has_it : is_named stood (stands_alone rest) name first ≡ false → {start end : Position T} {last : At T} {e : Report}
-      → IsUnknownAt start.place name e → end ≡ given_up last start
+      → start.at.text ≡ text_at start.place start.input → IsUnknownAt start.place name e → end ≡ given_up last start
       → NoChoice s (before rest first no_variants) stood name start end last e
-  none_has_it other {start} {end} {last} error ended = record {
-    none = λ from. record {
-      fails = fails_ended last ended (fails_here
-          (later_rejected s c.cut rest first no_variants stood name other from start.at
-          (none_named s c.cut (suc from) stood name start.at)) error.1);
-      ended = ap (λ (p : Position T). p.at) ended;
-    };
+  none_has_it other {start} {end} {last} text error ended = record {
+    none = λ from.
+        let Nothing = EncodesAfter s (suc from) no_variants stood name in
+        let All = EncodesAfter s from (before rest first no_variants) stood name in
+        let none = none_named s c.cut (suc from) stood name in
+        record {
+          fails = none_ended c.cut All last ended (none_as c.cut All Nothing
+              (later_encodes s c.cut rest first no_variants stood name other from)
+              (fails_here (goes_wrong c.cut Nothing start text (none []) (λ ts. none (start.at.token ∷ ts))) error.1));
+          ended = ap (λ (p : Position T). p.at) ended;
+        };
     unknown = λ _. error;
   }

@@ -10,17 +10,20 @@ use Rattle.std.proofs.lemmas.List.{take-append-drop}
 use Rattle.std.proofs.lemmas.Str.{chars-encodes, chars-append, chars_past_char, chars_from_encodes}
 use Rattle.std.proofs.lemmas.Str.{len_utf8_bounds, IsCharBoundary-before_ascii, IsUtf8-take}
 use Rattle.std.proofs.lemmas.Str.{IsUtf8-drop}
-use Rattle.nano_text.specs.Place.{remaining_text, Advances, StandsIn}
+use Rattle.nano_text.specs.Place.{remaining_text, text_at, Advances, StandsIn}
 use Rattle.nano_grammar.proofs.TokensLaws.{CutLaws, decodes_where_text_begins, begins_after}
 use Rattle.nano_grammar.proofs.TokensLaws.{leaves_after, same_at, same_end}
 use Rattle.nano_grammar.specs.Tokens.{Cutting, IsValueText, AllTextual, is_textual, At, Begins}
 use Rattle.nano_grammar.specs.Tokens.{Cuts, Leaves, Spans, TextDecodesTo, TextDecodesToNothing}
-use Rattle.nano_grammar.specs.Tokens.{DecodesTo, DecodesToNothing}
+use Rattle.nano_grammar.specs.Tokens.{DecodesTo}
 use Rattle.nano_grammar.specs.Codec.{Grammar, IsEncoding}
 use Rattle.nano_grammar.specs.Outcomes.{HoldsNul, DecodesBefore, WholeDecodesTo, GoesOn}
 use Rattle.nano_grammar.specs.Outcomes.{WholeDecodesToNothing, end_message, Report, Position}
-use Rattle.nano_grammar.specs.Outcomes.{IsMadeAt, NothingCut, Fails, Stops, TookNext, Read}
-use Rattle.nano_grammar.specs.Outcomes.{IsValueError, ReadsNoText, ReadsNoWhole}
+use Rattle.nano_grammar.specs.Outcomes.{IsMadeAt, Moved, NothingCut, Stops, TookNext, Read, ReadsNone}
+use Rattle.nano_grammar.specs.Outcomes.{IsValueError, StandsAt, StandsBefore, StandsFrom, StandsInText}
+use Rattle.nano_grammar.specs.Outcomes.{IsNoText, ReadsNoText, ReadsNoWhole}
+use Rattle.nano_grammar.specs.Faults.{Reason, wrong, uncut}
+use Rattle.nano_grammar.proofs.FaultLaws.{nothing_decodes}
 use Rattle.nano_grammar.proofs.EncodingLaws.{textual_scalars, written_is_remaining}
 use Rattle.nano_grammar.proofs.EncodingLaws.{one_text_decodes}
 use Rattle.nano_text.proofs.PlaceLaws.{advances_append, moves_advance, moves_append}
@@ -68,8 +71,8 @@ textual_no_nul [] [] following h e = absurd (cc)
 textual_no_nul [] (x ∷ prefix) following h e = absurd (cc)
 textual_no_nul (c ∷ cs) [] following h e =
     let first : c ≡ 0 = cc e in
-    let wrong : is_textual 0 ≡ true = subst (λ (x : ℕ). is_textual x ≡ true) first h.0 in
-    absurd (false≢true wrong)
+    let textual : is_textual 0 ≡ true = subst (λ (x : ℕ). is_textual x ≡ true) first h.0 in
+    absurd (false≢true textual)
 textual_no_nul (c ∷ cs) (x ∷ prefix) following h e =
     let rest : cs ≡ prefix ++ 0 ∷ following = cc e in
     textual_no_nul cs prefix following h.1 rest
@@ -156,6 +159,26 @@ pub record Begun {T : Type 0} (bytes : List ℕ) (start : Position T) : Type 0 w
   pub text : start.at.text ≡ remaining_text bytes
   pub stands : (end : Position T) (e : Report) → Advances start.place start.input end.place end.input
       → IsMadeAt end.place e → StandsIn (chars bytes) e.line e.col
+  pub before : (here : Position T) (line column : ℕ) → here.at.text ≡ text_at here.place here.input
+      → Moved start here → line ≡ here.place.line → column ≡ here.place.col
+      → StandsBefore (chars bytes) here.at.text line column
+  pub from : (here end : Position T) (e : Report) → here.at.text ≡ text_at here.place here.input
+      → Moved start here → Advances here.place here.input end.place end.input → IsMadeAt end.place e
+      → StandsFrom (chars bytes) here.at.text e.line e.col
+
+module _ {T : Type 0} {c : Cutting T} {g : Grammar T} (r : CutLaws c g) {V : Type 0} (S : List T → V → Type 0) where
+  -- where no token begins the text, or it goes wrong, nothing decodes
+  pub no_text : {bytes : List ℕ} {e : Report} → IsNoText c.cut S bytes e
+      → TextDecodesToNothing c.cut S (remaining_text bytes)
+  no_text (inl none) v f = none f.0.token f.0.text f.1
+  no_text {bytes} (inr w) v f =
+      let same = same_at c.cut r.one_way (remaining_text bytes) f.0 w.first f.1 w.is_first in
+      nothing_decodes c.cut S r.one_way w.first w.here w.reason w.fault v
+      (subst (λ (s : At T). DecodesTo c.cut S s v) same f.2)
+
+  pub text_rejected : {bytes : List ℕ} {e : Report} → ReadsNoText c.cut S bytes e → e.memory ≡ false
+      → TextDecodesToNothing c.cut S (remaining_text bytes)
+  text_rejected h known = no_text (h.fault known)
 
 module _ {T : Type 0} {c : Cutting T} {g : Grammar T} (r : CutLaws c g) {V : Type 0} (S : List T → V → Type 0)
     {bytes : List ℕ} {start : Position T} (b : Begun bytes start) where
@@ -163,8 +186,7 @@ module _ {T : Type 0} {c : Cutting T} {g : Grammar T} (r : CutLaws c g) {V : Typ
   pub text_uncut : {last : At T} {full : Type 0} {end : Position T} {e : Report}
       → Stops last (NothingCut c.cut start.at.text) full start end e → ReadsNoText c.cut S bytes e
   text_uncut {end = end} {e} h = record {
-    rejected = λ known v f.
-        h.fails.rejected known f.0.token f.0.text (subst (λ (t : List ℕ). c.cut t f.0.token f.0.text) (sym b.text) f.1);
+    fault = λ known. inl (subst (NothingCut c.cut) b.text (h.fails.rejected known));
     silent = h.fails.made.0;
     place = b.stands end e h.fails.place h.fails.made;
   }
@@ -177,12 +199,26 @@ module _ {T : Type 0} {c : Cutting T} {g : Grammar T} (r : CutLaws c g) {V : Typ
         → TextDecodesTo c.cut S (remaining_text bytes) v
     text_read {end} h = (now.at, first_cut, (h.decodes.0, end.at, h.decodes.1, h.decodes.2))
 
-    pub text_not : {end : Position T} {e : Report} → Fails (DecodesToNothing c.cut S now.at) now end e
-        → ReadsNoText c.cut S bytes e
+    in_text : (here end : Position T) (e : Report) (reason : Reason c.cut here.at)
+        → here.at.text ≡ text_at here.place here.input → Moved now here → StandsAt c.cut here end reason
+        → IsMadeAt end.place e → StandsInText c.cut S bytes reason e
+    in_text here end e wrong text moved at made =
+        b.before here e.line e.col text (moves_append next.place moved) (made.1 ∙ at.0) (made.2 ∙ at.1)
+    in_text here end e (uncut none) text moved at made =
+        b.from here end e text (moves_append next.place moved) at made
+
+    pub text_not : {end : Position T} {e : Report} → ReadsNone c.cut S now end e → ReadsNoText c.cut S bytes e
     text_not {end} {e} h = record {
-      rejected = λ known v f.
-          let same = same_at c.cut r.one_way (remaining_text bytes) f.0 now.at f.1 first_cut in
-          h.rejected known v (subst (λ (s : At T). DecodesTo c.cut S s v) same f.2);
+      fault = λ known.
+          let f = h.rejected known in
+          inr (record {
+            first = now.at;
+            is_first = first_cut;
+            here = f.here.at;
+            reason = f.reason;
+            fault = f.fault;
+            stands = in_text f.here end e f.reason f.text f.moved f.stands h.made;
+          });
       silent = h.made.0;
       place = b.stands end e (advances_append (moves_advance next.place) h.place) h.made;
     }
@@ -201,30 +237,68 @@ module _ {T : Type 0} {c : Cutting T} {g : Grammar T} (r : CutLaws c g) {V : Typ
     }
 
     pub whole_goes_on : {P : V → Type 0} {end : Position T} {v : V} {e : Report} (last : T) → IsEncoding g P S
+        → end.at.text ≡ text_at end.place end.input
         → Read c.cut S now end v → (end.at.token ≢ last) ⊎ HoldsNul bytes
         → (e.memory ≡ false → e.message ≡ end_message) → IsMadeAt end.place e
         → ReadsNoWhole c.cut S bytes last e
-    whole_goes_on {end = end} {v} {e} last s h more says made =
+    whole_goes_on {end = end} {v} {e} last s text h more says made =
         let on : GoesOn c.cut S last bytes = record { value = v; next = end.at.token; fits = before h; more = more } in
+        let moved = moves_append next.place h.place in
         record {
           rejected = λ known. goes_on_whole r s last bytes on;
           silent = made.0;
           trailing = λ known. (λ _. on, λ _. says known);
-          place = b.stands end e (moves_advance (moves_append next.place h.place)) made;
+          fault = λ known other. absurd (other (says known));
+          past = λ known _. record {
+            first = now.at;
+            is_first = first_cut;
+            next = end.at;
+            value = v;
+            read = h.decodes;
+            stands = b.before end e.line e.col text moved made.1 made.2;
+          };
+          place = b.stands end e (moves_advance moved) made;
         }
 
--- an error of a text, as that of a value that must be the whole input
+-- ---- an error of a text, as that of a value that must be the whole input
+
+module _ {T V : Type 0} (cut : List ℕ → T → List ℕ → Type 0) (S : List T → V → Type 0) (bytes : List ℕ)
+    {e f : Report} (is : IsValueError e f) where
+  stands_too : (here : At T) (reason : Reason cut here) → StandsInText cut S bytes reason e
+      → StandsInText cut S bytes reason f
+  stands_too here wrong at =
+      subst (λ (l : ℕ). StandsBefore (chars bytes) here.text l f.col) (sym is.line)
+      (subst (λ (k : ℕ). StandsBefore (chars bytes) here.text e.line k) (sym is.col) at)
+  stands_too here (uncut none) at =
+      subst (λ (l : ℕ). StandsFrom (chars bytes) here.text l f.col) (sym is.line)
+      (subst (λ (k : ℕ). StandsFrom (chars bytes) here.text e.line k) (sym is.col) at)
+
+  goes_wrong_too : IsNoText cut S bytes e → IsNoText cut S bytes f
+  goes_wrong_too (inl none) = inl none
+  goes_wrong_too (inr w) = inr (record {
+    first = w.first;
+    is_first = w.is_first;
+    here = w.here;
+    reason = w.reason;
+    fault = w.fault;
+    stands = stands_too w.here w.reason w.stands;
+  })
+
 pub whole_not : {T : Type 0} {c : Cutting T} {g : Grammar T} (r : CutLaws c g) {V : Type 0}
     {S : List T → V → Type 0} {bytes : List ℕ} {e f : Report} (last : T) → ReadsNoText c.cut S bytes e
     → IsValueError e f → ReadsNoWhole c.cut S bytes last f
-whole_not r {S = S} {bytes} {e} {f} last h is = record {
-  rejected = λ known. nothing_whole r S last bytes (h.rejected (sym is.memory ∙ known));
-  silent = λ memory. no_message e.message f.message is.unchanged (h.silent (sym is.memory ∙ memory));
-  trailing = λ known. (
-    λ same. absurd (is.apart same),
-    λ on. absurd (nothing_goes_on r S last bytes (h.rejected (sym is.memory ∙ known)) on),
-  );
-  place =
-      subst (λ (l : ℕ). StandsIn (chars bytes) l f.col) (sym is.line)
-      (subst (λ (k : ℕ). StandsIn (chars bytes) e.line k) (sym is.col) h.place);
-}
+whole_not {c = c} r {S = S} {bytes} {e} {f} last h is =
+    let none = λ (known : f.memory ≡ false). text_rejected r S h (sym is.memory ∙ known) in
+    record {
+      rejected = λ known. nothing_whole r S last bytes (none known);
+      silent = λ memory. no_message e.message f.message is.unchanged (h.silent (sym is.memory ∙ memory));
+      trailing = λ known. (
+        λ same. absurd (is.apart same),
+        λ on. absurd (nothing_goes_on r S last bytes (none known) on),
+      );
+      fault = λ known _. goes_wrong_too c.cut S bytes is (h.fault (sym is.memory ∙ known));
+      past = λ known same. absurd (is.apart same);
+      place =
+          subst (λ (l : ℕ). StandsIn (chars bytes) l f.col) (sym is.line)
+          (subst (λ (k : ℕ). StandsIn (chars bytes) e.line k) (sym is.col) h.place);
+    }

@@ -1,4 +1,5 @@
 pub mod Tokens
+pub mod Faults
 pub mod Codec
 pub mod BaseCodecs
 pub mod Items

@@ -1,12 +1,14 @@
 -- What one call of a reader of text comes to, over any tokens: what was taken and how far that
 -- goes, or why nothing was and where that was found.
-use Rattle.std.specs.Prelude.{◌≡◌, ◌≢◌, ◌⊎◌, ℕ, List, [], ◌∷◌, ◌++◌, chars, codes, true, false}
-use Rattle.std.specs.Prelude.{Bool, Result, MatchResult, ◌↔◌}
+use Rattle.std.specs.Prelude.{◌≡◌, ◌≢◌, ◌⊎◌, ◌+◌, ◌-◌, ◌≤◌, ℕ, List, [], ◌∷◌, ◌++◌, length, chars}
+use Rattle.std.specs.Prelude.{codes, true, false, Bool, Result, MatchResult, ◌↔◌}
 use Rattle.std.specs.declared.str.Chars.{Chars}
-use Rattle.nano_text.specs.Place.{remaining_text, Advances, Moves, StandsIn}
-use Rattle.nano_grammar.specs.Tokens.{Begins, At, Leaves, Spans, DecodesToNothing, TextDecodesTo}
-use Rattle.nano_grammar.specs.Tokens.{TextDecodesToNothing}
+use Rattle.nano_text.specs.Place.{remaining_text, text_at, before_nul, beginning, passed, Advances}
+use Rattle.nano_text.specs.Place.{Moves, StandsIn}
+use Rattle.nano_grammar.specs.Tokens.{Begins, At, Leaves, Spans, TextDecodesTo}
 use Rattle.nano_text.specs.declared.place.Place.{Place}
+use Rattle.nano_grammar.specs.Faults.{Reason, wrong, uncut, Fault}
+pub use Rattle.nano_grammar.specs.Faults.{NothingCut}
 
 -- ==== whole inputs
 
@@ -60,10 +62,6 @@ pub record Position (T : Type 0) : Type 0 where
   pub at : At T
   pub place : Place
   pub input : Chars
-
--- no token is cut from the text
-abbrev pub NothingCut : {T : Type 0} → (List ℕ → T → List ℕ → Type 0) → List ℕ → Type 0
-NothingCut {T} cut text = (t : T) (rest : List ℕ) → cut text t rest → ⊥
 
 module _ {T : Type 0} where
   -- line and column count exactly the characters between, and the input holds what comes after them
@@ -120,6 +118,14 @@ module _ {T : Type 0} where
 
   -- ---- values
 
+  -- where a reader stands that found a fault there: on the line and column of the pending token, if
+  -- that one is wrong, and else where it is or further on
+  abbrev pub StandsAt : (cut : List ℕ → T → List ℕ → Type 0) (here end : Position T)
+      → Reason cut here.at → Type 0
+  StandsAt cut here end wrong =
+      (end.place.line ≡ here.place.line) × (end.place.col ≡ here.place.col)
+  StandsAt cut here end (uncut none) = Advances here.place here.input end.place end.input
+
   module _ {V : Type 0} (cut : List ℕ → T → List ℕ → Type 0) (encodes : List T → V → Type 0)
       (start end : Position T) where
     -- the value is encoded from here to there
@@ -127,9 +133,18 @@ module _ {T : Type 0} where
       pub decodes : Spans cut encodes start.at end.at value
       pub place : Moved start end
 
+    -- the value goes wrong where these tokens were taken, and the reader stands there
+    pub record GoesWrong : Type 0 where
+      pub here : Position T
+      pub text : here.at.text ≡ text_at here.place here.input
+      pub moved : Moved start here
+      pub reason : Reason cut here.at
+      pub fault : Fault cut encodes start.at here.at reason
+      pub stands : StandsAt cut here end reason
+
     -- no value is encoded here
     abbrev pub ReadsNone : Report → Type 0
-    ReadsNone = Fails (DecodesToNothing cut encodes start.at) start end
+    ReadsNone = Fails GoesWrong start end
 
     -- no value is encoded here, and the reader is at the end of the text
     pub record ReadsNoneAndEnds (last : At T) (e : Report) : Type 0 where
@@ -148,6 +163,26 @@ module _ {T : Type 0} where
 
 -- ---- texts
 
+-- line and column count the characters of a text before what is left of it up to its first NUL, and
+-- one more: the next character, or that NUL, unless the text ends there
+pub record StandsBefore (text left : List ℕ) (line column : ℕ) : Type 0 where
+  pub taken : List ℕ
+  pub after : List ℕ
+  pub split : text ≡ taken ++ after
+  pub lines : line ≡ (passed beginning taken).line
+  pub columns : column ≡ (passed beginning taken).col
+  pub exact : length after ≡ length text - (length (before_nul text) + 1 - length left)
+
+-- they count these characters, and maybe more before the first NUL or that one
+pub record StandsFrom (text left : List ℕ) (line column : ℕ) : Type 0 where
+  pub taken : List ℕ
+  pub after : List ℕ
+  pub split : text ≡ taken ++ after
+  pub lines : line ≡ (passed beginning taken).line
+  pub columns : column ≡ (passed beginning taken).col
+  pub least : length after ≤ length text - (length (before_nul text) + 1 - length left)
+  pub within : length taken ≤ length (before_nul text) + 1
+
 -- an error of a value that must be a whole input: its message is not that of a value that goes on,
 -- and is the same if it was not; all else is the same
 pub record IsValueError (error result : Report) : Type 0 where
@@ -159,9 +194,37 @@ pub record IsValueError (error result : Report) : Type 0 where
 
 module _ {T V : Type 0} (cut : List ℕ → T → List ℕ → Type 0) (encodes : List T → V → Type 0)
     (bytes : List ℕ) where
+  -- the error stands where the next character is taken after a wrong token, or further on where
+  -- no token can be cut after that one
+  abbrev pub StandsInText : {here : At T} → Reason cut here → Report → Type 0
+  StandsInText {here} wrong e = StandsBefore (chars bytes) here.text e.line e.col
+  StandsInText {here} (uncut none) e = StandsFrom (chars bytes) here.text e.line e.col
+
+  -- a first token is cut from the text, which goes wrong at that one or after it
+  pub record TextGoesWrong (e : Report) : Type 0 where
+    pub first : At T
+    pub is_first : cut (remaining_text bytes) first.token first.text
+    pub here : At T
+    pub reason : Reason cut here
+    pub fault : Fault cut encodes first here reason
+    pub stands : StandsInText reason e
+
+  -- no token begins the text, or it goes wrong
+  abbrev pub IsNoText : Report → Type 0
+  IsNoText e = NothingCut cut (remaining_text bytes) ⊎ TextGoesWrong e
+
+  -- a value begins the text, and the error stands at the token after it
+  pub record TextGoesOn (e : Report) : Type 0 where
+    pub first : At T
+    pub is_first : cut (remaining_text bytes) first.token first.text
+    pub next : At T
+    pub value : V
+    pub read : Spans cut encodes first next value
+    pub stands : StandsBefore (chars bytes) next.text e.line e.col
+
   -- no value is encoded at the beginning of the text, and the error stands in the text
   pub record ReadsNoText (e : Report) : Type 0 where
-    pub rejected : e.memory ≡ false → TextDecodesToNothing cut encodes (remaining_text bytes)
+    pub fault : e.memory ≡ false → IsNoText e
     pub silent : e.memory ≡ true → e.message ≡ []
     pub place : StandsIn (chars bytes) e.line e.col
 
@@ -171,6 +234,8 @@ module _ {T V : Type 0} (cut : List ℕ → T → List ℕ → Type 0) (encodes 
     pub rejected : e.memory ≡ false → WholeDecodesToNothing cut encodes last bytes
     pub silent : e.memory ≡ true → e.message ≡ []
     pub trailing : e.memory ≡ false → (e.message ≡ end_message) ↔ GoesOn cut encodes last bytes
+    pub fault : e.memory ≡ false → e.message ≢ end_message → IsNoText e
+    pub past : e.memory ≡ false → e.message ≡ end_message → TextGoesOn e
     pub place : StandsIn (chars bytes) e.line e.col
 
   module _ {A E : Type 0} (report : E → Report) (means : A → V) where

@@ -5,7 +5,8 @@ use Rattle.std.specs.declared.str.Chars.{Chars}
 use Rattle.nano_value.specs.Meaning.{Meaning}
 use Rattle.nano_text.specs.declared.place.Place.{Place}
 use Rattle.nano_text.specs.Place.{text_at, Moves}
-use Rattle.nano_grammar.specs.Tokens.{Cutting, At, Leaves, Spans, DecodesToNothing}
+use Rattle.nano_grammar.specs.Tokens.{Cutting, At, Leaves, Spans}
+use Rattle.nano_grammar.specs.Faults.{Fault, wrong}
 use Rattle.nano_grammar.specs.Codec.{Grammar, Encoding}
 use Rattle.nano_grammar.specs.Outcomes.{Report, IsMadeAt, Position, Moved, Fails, Read, ReadsNone}
 use Rattle.nano_grammar.specs.Outcomes.{ReadsNoneAndEnds}
@@ -43,12 +44,12 @@ pub record FailsAndEnds {T : Type 0} (last : At T) (fact : Type 0) (start end : 
 
 -- ---- the field of a name
 
-module _ {T : Type 0} (cut : List ℕ → T → List ℕ → Type 0) (prefix : List T) (name : List ℕ) where
-  -- these tokens with what may come after the name do not stand here
-  abbrev pub NoField : (List ℕ → List T → Type 0) → At T → Type 0
-  NoField takes start = (us : List T) → takes name us → (next : At T)
-      → Leaves cut (prefix ++ us) start next → ⊥
+-- these tokens, and what may come after the name
+abbrev pub FieldTokens : {T : Type 0} → List T → List ℕ → (List ℕ → List T → Type 0) → List T
+    → List T → Type 0
+FieldTokens prefix name takes ts us = (ts ≡ prefix ++ us) × takes name us
 
+module _ {T : Type 0} (cut : List ℕ → T → List ℕ → Type 0) (prefix : List T) (name : List ℕ) where
   -- these tokens were taken, and what may come after the name. Where the fields before it were
   -- held, they are held with it
   pub record ReadField (takes : List ℕ → List T → Type 0) (before after : List (Field T) → Type 0)
@@ -71,7 +72,7 @@ module _ {T : Type 0} (cut : List ℕ → T → List ℕ → Type 0) (prefix : L
     -- one of the fields has the name, and no value of its type stands here
     pub record LooksUpNone (e : Report) : Type 0 where
       pub known : shape.knows name ≡ true
-      pub fails : Fails (NoField shape.takes start.at) start end e
+      pub none : ReadsNone cut (FieldTokens prefix name shape.takes) start end e
 
     -- a call reads the value of the field with this name, if one has it
     abbrev pub ReadsField : {E : Type 0} → (E → Report) → Result Bool E → Type 0
@@ -98,7 +99,7 @@ module _ {T : Type 0} {c : Cutting T} {g : Grammar T} (s : FieldStyle c g) (shap
   pub record HeldFields : Type 0 where
     pub found : (m : Meaning) → ((fs : List (Field T)) → holds fs → shape.means fs m)
         → Spans c.cut (EncodedFields s shape) start.at end.at m
-    pub missing : MeansNothing shape holds → DecodesToNothing c.cut (EncodedFields s shape) start.at
+    pub missing : MeansNothing shape holds → Fault c.cut (EncodedFields s shape) start.at end.at wrong
     pub place : Moved start end
 
   -- a call takes a list of fields
