@@ -2,6 +2,7 @@
 -- and what one token or none comes to.
 use Rattle.std.proofs.Common.{◌≡◌, ℕ, List, [], ◌∷◌, ◌++◌, inl, inr, refl, sym, ap, ◌∙◌, subst}
 use Rattle.std.proofs.Common.{append_assoc, append-nil}
+use Rattle.std.proofs.lemmas.List.{append_cancel_left}
 use Rattle.nano_text.proofs.PlaceLaws.{moves_append, moves_none, advances_ended}
 use Rattle.nano_text.proofs.RemainingText.{remaining_end}
 use Rattle.nano_text.specs.Place.{text_at}
@@ -49,6 +50,19 @@ module _ {T V W X : Type 0} (whole : List T → V → Type 0) (middle : List T �
       → LeadsTo whole part ts pending
   leads_as ts pending into leads us more rest next v e is =
       let x = into us v e in leads us more rest next x.0 x.1 is
+
+-- of tokens that stand for themselves, the first and those after them
+module _ {T : Type 0} (ts us : List T) (pending : T) where
+  pub first_tokens_lead : LeadsTo (AreTokens (ts ++ us)) (AreTokens ts) [] pending
+  first_tokens_lead xs more rest next v e is =
+      let f = first_token us next more in
+      let whole = sym (append_assoc ts us (next ∷ more)) ∙ (ap (λ (l : List T). l ++ next ∷ more) (sym e) ∙ is) in
+      (ts, tt, f.0, f.1, refl, ap (λ (l : List T). ts ++ l) (sym f.2) ∙ whole)
+
+  pub later_tokens_lead : LeadsTo (AreTokens (ts ++ us)) (AreTokens us) ts pending
+  later_tokens_lead xs more rest next v e is =
+      let whole = sym (append_assoc ts us (next ∷ more)) ∙ (ap (λ (l : List T). l ++ next ∷ more) (sym e) ∙ is) in
+      (us, tt, next, more, refl, append_cancel_left ts (us ++ next ∷ more) (pending ∷ rest) whole)
 
 module _ {T V W : Type 0} (cut : List ℕ → T → List ℕ → Type 0) (whole : List T → V → Type 0)
     (part : List T → W → Type 0) where

@@ -32,7 +32,7 @@ module _ {T : Type 0} where
       nothing_after ts more rest
 
   -- of two prefixes of one list, one goes on where the other ends
-  append_meets : (a x b y : List T) → a ++ x ≡ b ++ y
+  pub append_meets : (a x b y : List T) → a ++ x ≡ b ++ y
       → ((c : List T) × (b ≡ a ++ c)) ⊎ ((c : List T) × (a ≡ b ++ c))
   append_meets [] x b y e = inl (b, refl)
   append_meets (t ∷ a) x [] y e = inr (t ∷ a, refl)

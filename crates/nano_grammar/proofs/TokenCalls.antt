@@ -1,7 +1,8 @@
 -- What calls that take several tokens come to, whatever the tokens are.
 use Rattle.std.proofs.Common.{◌≡◌, ℕ, List, [], ◌∷◌, ◌++◌, sym, ◌∙◌, subst, inl, inr, Result, Ok}
 use Rattle.std.proofs.Common.{Err, MatchResult, IsErrAnd, true, refl, ap}
-use Rattle.nano_text.proofs.PlaceLaws.{moves_append, advances_none, advances_append}
+use Rattle.nano_text.proofs.PlaceLaws.{moves_append, advances_none, advances_append, advances_ended}
+use Rattle.nano_text.proofs.RemainingText.{remaining_end}
 use Rattle.nano_text.proofs.PlaceLaws.{moves_none, moves_advance}
 use Rattle.nano_grammar.specs.Outcomes.{Position, TookNext, Took, Report, IsMadeAt, Moved, given_up}
 use Rattle.nano_grammar.specs.Outcomes.{Fails, Stops, RejectsToken, TookComma, Read, Reads, ReadsNone}
@@ -83,6 +84,16 @@ module _ {T : Type 0} where
   pub fails_here : {A : Type 0} {p : Position T} {e : Report} → A → IsMadeAt p.place e → Fails A p p e
   fails_here {p = p} fact made =
       record { rejected = λ known. fact; made = made; place = advances_none p.place p.input }
+
+  -- a reader that gives up leaves the line and the column
+  pub fails_ended : {A : Type 0} {start mid end : Position T} {e : Report} (last : At T)
+      → end ≡ given_up last mid → Fails A start mid e → Fails A start end e
+  fails_ended {A} {start} {mid} {e = e} last is h =
+      subst (λ (p : Position T). Fails A start p e) (sym is) (record {
+        rejected = h.rejected;
+        made = h.made;
+        place = advances_ended (record mid.place { cur = 0 }) h.place refl refl (remaining_end mid.input);
+      })
 
   -- ---- parts of a whole
 

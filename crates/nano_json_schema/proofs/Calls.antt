@@ -1,12 +1,17 @@
 -- What the calls that take tokens of a user-defined type come to.
 use Rattle.std.proofs.Common.{◌≡◌, ℕ, List, [], ◌∷◌, Result, Ok, Err, refl, sym, ap, subst, ◌≢◌}
-use Rattle.std.proofs.Common.{◌⊎◌, true, false, inl, inr, string_bytes, ◌∙◌, Bool}
+use Rattle.std.proofs.Common.{◌⊎◌, true, false, inl, inr, string_bytes, ◌∙◌, Bool, ◌++◌}
 use Rattle.std.specs.declared.str.Chars.{Chars}
-use Rattle.nano_text.specs.Place.{remaining, Advances, Moves}
-use Rattle.nano_grammar.specs.Outcomes.{Position, Report, Fails, TookNext, Took}
-use Rattle.nano_grammar.proofs.TokenCalls.{fails_ended, fails_here, fails_as, fails_after}
+use Rattle.nano_text.specs.Place.{remaining, text_at, Advances, Moves}
+use Rattle.nano_text.proofs.PlaceLaws.{moves_append, moves_none, moves_advance, advances_append}
+use Rattle.nano_grammar.specs.Outcomes.{Position, Report, Fails, TookNext, Took, ReadsNone, StandsAt}
+use Rattle.nano_grammar.specs.Outcomes.{ReadsNoneAndEnds, GoesWrong as GoesWrongBy}
+use Rattle.nano_grammar.specs.Faults.{AreTokens, Reason, wrong, uncut, MayFollow, NoneBegins, Fault}
+use Rattle.nano_grammar.proofs.FaultLaws.{goes_wrong, stopped_here, uncut_token, none_ended}
+use Rattle.nano_grammar.proofs.FaultLaws.{nothing_decodes}
+use Rattle.nano_grammar.proofs.TokenCalls.{fails_here, none_in, none_first}
 use Rattle.nano_json_tokens.specs.Cut.{Cut}
-use Rattle.nano_json_tokens.specs.Outcomes.{report, position, Keeps, NoneHere, NothingCut}
+use Rattle.nano_json_tokens.specs.Outcomes.{report, position, Keeps, NothingCut}
 use Rattle.nano_json_tokens.specs.Outcomes.{EndsOnError, TookText, LacksText}
 use Rattle.nano_json_tokens.specs.State.{at, ended, pending, place_of, token_of}
 use Rattle.nano_json_tokens.specs.Token.{Token, str, colon, IsStr, curly_close, curly_open}
@@ -24,25 +29,24 @@ use Rattle.nano_json_tokens.proofs.ScalarsLaws.{str_injective}
 use Rattle.nano_json_tokens.proofs.Cuts.{cut_one_way}
 use Rattle.nano_json.specs.Codec.{Encoding}
 use Rattle.nano_json_schema.specs.Variants.{is_alone, bytes_of}
-use Rattle.nano_json_schema.specs.Reading.{name_tokens, NoVariantBegins, Encodings}
+use Rattle.nano_json_schema.specs.Reading.{name_tokens, VariantBegins, AloneName, AKey, Encodings}
+use Rattle.nano_json_schema.specs.Reading.{EncodesVariant}
 use Rattle.nano_json_schema.specs.VariantCodecs.{json_variants}
 use Rattle.nano_json_schema.specs.declared.variants.VariantName.{VariantName}
 use Rattle.nano_json_schema.specs.declared.variants.VariantName.TheVariants.{Unit as Alone}
 use Rattle.nano_json_schema.specs.declared.variants.VariantName.TheVariants.{Content as Opened}
-use Rattle.nano_json_schema.proofs.VariantReaders.{after_opened, choice_reads, choice_rejected}
-use Rattle.nano_json_schema.proofs.VariantReaders.{name_rejected}
-use Rattle.nano_text.proofs.PlaceLaws.{moves_append}
+use Rattle.nano_json_schema.proofs.VariantReaders.{after_opened, choice_reads, choice_leads}
+use Rattle.nano_json_schema.proofs.VariantReaders.{name_leads, After}
 use Rattle.nano_value.specs.Meaning.{Meaning}
 use Rattle.nano_grammar.specs.UserOutcomes.{ReadChoice, NoChoice, ReadEnum, NoEnum, IsUnknownAt}
-use Rattle.nano_grammar.specs.UserOutcomes.{FailsAndEnds}
 
 -- where nothing changes, the state is where it was
 pub still_there : {s t : DeJsonState} {i j : Chars} → Keeps s i t j → position t j ≡ position s i
 still_there h = λ k. position (h.0 k) (h.1 k)
 
 -- on an error the state is at the end of the text
-pub ended_take : {A : Type 0} {mid new : DeJsonState} {read result : Result A DeJsonErr} (tokens : A → List Token)
-    (none : Type 0) (start : Position Token) (j : Chars) → EndsOnError mid new read result
+pub ended_take : {A V : Type 0} {mid new : DeJsonState} {read result : Result A DeJsonErr} (tokens : A → List Token)
+    (none : List Token → V → Type 0) (start : Position Token) (j : Chars) → EndsOnError mid new read result
     → TakesTokens tokens none start (position mid j) read
     → TakesTokensOrEnds tokens none start (position new j) result
 ended_take {mid = mid} {new} {read = Ok x} tokens none start j h k =
@@ -51,7 +55,15 @@ ended_take {mid = mid} {new} {read = Ok x} tokens none start j h k =
 ended_take {mid = mid} {new} {read = Err e} tokens none start j h k =
     let up = gives_up mid new j h.state in
     subst (λ (r : Result _ DeJsonErr). TakesTokensOrEnds tokens none start (position new j) r) (sym h.same)
-    (record { fails = fails_ended ended up k; ended = ap (λ (p : Position Token). p.at) up })
+    (record { fails = none_ended Cut none ended up k; ended = ap (λ (p : Position Token). p.at) up })
+
+-- where no string is pending, no name is
+pub no_name_here : (s : DeJsonState) (i : Chars) (ts : List Token) → (IsStr (pending s) → ⊥)
+    → GoesWrongBy Cut (λ us (name : List ℕ). us ≡ str name ∷ ts) (position s i) (position s i)
+no_name_here s i ts other =
+    let Named : List Token → List ℕ → Type 0 = λ us name. us ≡ str name ∷ ts in
+    goes_wrong Cut Named (position s i) refl (λ name e. absurd (cc e))
+    (λ us name e. let same : pending s ≡ str name = cc e in other (subst IsStr (sym same) tt))
 
 -- ---- a string whose text was taken out of its buffer
 
@@ -85,11 +97,9 @@ module _ {old mid : DeJsonState} {text : List ℕ} (i : Chars) (h : TookText old
   }
 
   pub text_not : {end : Position Token} {e : Report} → Fails (NothingCut (remaining mid.cur i)) (position mid i) end e
-      → Fails ((name : List ℕ) → NoneHere (str name ∷ []) old i) (position old i) end e
+      → ReadsNone Cut AloneName (position old i) end e
   text_not k =
-      fails_before (λ none name after l.
-      none l.1.0.token l.1.0.text
-      (subst (λ (t : List ℕ). Cut t l.1.0.token l.1.0.text) (sym same_text) l.1.1)) k
+      stopped_here Cut AloneName refl (λ v e. absurd (cc e)) (fails_before (subst (NothingCut) same_text) k)
 
   -- a colon comes after it
   pub key_taken : {same_buffers : Type 0} {end : Position Token} → Took Cut same_buffers (position mid i) end (pending mid ∷ (colon ∷ []))
@@ -107,22 +117,60 @@ module _ {old mid : DeJsonState} {text : List ℕ} (i : Chars) (h : TookText old
     place = moved_before end k.place;
   }
 
-  pub key_not : {end : Position Token} {e : Report} → Fails (NoneHere (pending mid ∷ (colon ∷ [])) mid i) (position mid i) end e
-      → Fails ((name : List ℕ) → NoneHere (str name ∷ (colon ∷ [])) old i) (position old i) end e
-  key_not k =
-      fails_before (λ none name after l.
-      none after (
-        refl,
-        (l.1.0, subst (λ (t : List ℕ). Cut t l.1.0.token l.1.0.text) (sym same_text) l.1.1, l.1.2),
-      )) k
+  key_wrong : (there here : Position Token) (reason : Reason Cut here.at)
+      → here.at.text ≡ text_at here.place here.input → Moves (place_of mid) i here.place here.input
+      → StandsAt Cut here there reason → (tokens : List Token) → Leaves Cut tokens (at mid i) here.at
+      → ((more : List Token) → MayFollow Cut reason more
+      → NoneBegins (AreTokens (pending mid ∷ (colon ∷ []))) (tokens ++ here.at.token ∷ more))
+      → GoesWrongBy Cut AKey (position old i) there
+  key_wrong there here wrong at moved stands [] l none =
+      let first = ap (λ (z : At Token). z.token ∷ colon ∷ colon ∷ []) l in
+      absurd (none (colon ∷ colon ∷ []) tt (pending mid ∷ (colon ∷ [])) [] colon tt refl first)
+  key_wrong there here (uncut n) at moved stands [] l none =
+      let start = position old i in
+      let uncut_here : NothingCut (remaining old.cur i) =
+      λ u rest c. n u rest (subst (λ (z : At Token). Cut z.text u rest) l (subst (λ (t : List ℕ). Cut t u rest) (sym same_text) c)) in
+      record {
+        here = start;
+        text = refl;
+        moved = moves_none start.place start.input;
+        reason = uncut uncut_here;
+        fault = uncut_token Cut AKey start.at uncut_here (λ v e. absurd (cc e));
+        stands = advances_append (moves_advance (moved_before here moved)) stands;
+      }
+  key_wrong there here reason at moved stands (u ∷ us) l none = record {
+    here = here;
+    text = at;
+    moved = moved_before here moved;
+    reason = reason;
+    fault = record {
+      tokens = str text ∷ us;
+      taken = (
+        sym h.is,
+        (l.1.0, subst (λ (t : List ℕ). Cut t l.1.0.token l.1.0.text) same_text l.1.1, l.1.2),
+      );
+      none = λ more follows ts left next name e is.
+          let whole = ap (λ (xs : List Token). xs ++ next ∷ left) (sym e) ∙ is in
+          let rest : colon ∷ next ∷ left ≡ us ++ here.at.token ∷ more = cc whole in
+          none more follows (pending mid ∷ (colon ∷ [])) left next tt refl
+          (ap (λ (t : Token). t ∷ (colon ∷ next ∷ left)) (sym l.0) ∙ ap (λ (xs : List Token). u ∷ xs) rest);
+    };
+    stands = stands;
+  }
+
+  pub key_not : {end : Position Token} {e : Report}
+      → ReadsNone Cut (AreTokens (pending mid ∷ (colon ∷ []))) (position mid i) end e
+      → ReadsNone Cut AKey (position old i) end e
+  key_not {end} k =
+      fails_before (λ f. key_wrong end f.here f.reason f.text f.moved f.stands f.fault.tokens f.fault.taken f.fault.none) k
 
 -- no string is pending
 pub no_text : {old new : DeJsonState} (i : Chars) (e : DeJsonErr) (ts : List Token) → LacksText old new e
-    → Fails ((name : List ℕ) → NoneHere (str name ∷ ts) old i) (position old i) (position new i) (report e)
+    → ReadsNone Cut (λ us (name : List ℕ). us ≡ str name ∷ ts) (position old i) (position new i) (report e)
 no_text {old} i e ts h =
-    let none : (name : List ℕ) → NoneHere (str name ∷ ts) old i = λ name after l. h.lacks (subst IsStr l.0 tt) in
-    subst (λ (s : DeJsonState). Fails ((name : List ℕ) → NoneHere (str name ∷ ts) old i) (position old i) (position s i) (report e))
-    (sym h.unchanged) (fails_here none h.made)
+    let Named : List Token → List ℕ → Type 0 = λ us name. us ≡ str name ∷ ts in
+    subst (λ (s : DeJsonState). ReadsNone Cut Named (position old i) (position s i) (report e))
+    (sym h.unchanged) (fails_here (no_name_here old i ts h.lacks) h.made)
 
 -- ==== the pending token
 
@@ -163,16 +211,21 @@ same_name start mid after (Opened read) false name l k =
     let r = after_opened start name (string_bytes read) [] after mid k l in
     (refl, r.0, sym r.1)
 
-begins_here : (start after : At Token) (stood : Bool) (name : List ℕ)
-    → Leaves Cut (tokens_of_name json_variants stood name) start after → NoVariantBegins start → ⊥
-begins_here start after true name l none = none.alone name after l
-begins_here start after false name l none = none.opened name after l
+begins_so : (stood : Bool) (name : List ℕ) → VariantBegins (tokens_of_name json_variants stood name) name
+begins_so true name = inl refl
+begins_so false name = inr refl
 
 module _ (vs : Variants Encoding) (start : At Token)
     (unknown : HasUnknownName json_variants vs start) where
   -- it can be taken
-  pub name_begins : NoVariantBegins start → ⊥
-  name_begins none = begins_here start unknown.after unknown.stood unknown.name unknown.stands none
+  pub name_begins : (here : At Token) (reason : Reason Cut here) → Fault Cut VariantBegins start here reason → ⊥
+  name_begins here reason f =
+      nothing_decodes Cut VariantBegins cut_one_way start here reason f unknown.name (
+        tokens_of_name json_variants unknown.stood unknown.name,
+        unknown.after,
+        begins_so unknown.stood unknown.name,
+        unknown.stands,
+      )
 
   -- it is the one that was taken
   pub name_taken : (read : VariantName) (mid : At Token) → Leaves Cut (name_tokens read) start mid
@@ -188,11 +241,16 @@ module _ (vs : Variants Encoding) (start : At Token)
 
 module _ (vs : Encodings) {start end : Position Token} where
   -- no name of a variant stands there
-  pub name_not : {e : Report} → FailsAndEnds ended (NoVariantBegins start.at) start end e
+  pub name_not : {e : Report} → ReadsNoneAndEnds Cut VariantBegins start end ended e
       → NoEnum json_variants vs start end ended e
   name_not h = record {
-    none = record { fails = fails_as (name_rejected start.at vs) h.fails; ended = h.ended };
-    unknown = λ u known. absurd (name_begins vs start.at u (h.fails.rejected known));
+    none = record {
+      fails = none_first Cut (EncodesVariant vs) VariantBegins (name_leads vs start.at.token) h.fails;
+      ended = h.ended;
+    };
+    unknown = λ u known.
+        let f = h.fails.rejected known in
+        absurd (name_begins vs start.at u f.here.at f.reason f.fault);
   }
 
   module _ (name : VariantName) {same_buffers : Type 0} (s : DeJsonState) (i : Chars)
@@ -215,7 +273,8 @@ module _ (vs : Encodings) {start end : Position Token} where
         let none = k.none 0 in
         record {
           none = record {
-            fails = fails_after (choice_rejected vs name start.at (at s i) h.taken) h.place none.fails;
+            fails = none_in Cut (EncodesVariant vs) (After 0 vs (is_alone name) (bytes_of name)) (name_tokens name)
+                (choice_leads vs name (pending s)) h.taken h.place none.fails;
             ended = none.ended;
           };
           unknown = λ u known.

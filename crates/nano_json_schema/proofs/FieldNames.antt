@@ -1,24 +1,27 @@
 -- What the calls come to that go on to the name of a field, which is pending then or was taken in place.
-use Rattle.std.proofs.Common.{◌≡◌, ◌≢◌, ℕ, List, [], ◌∷◌, Bool, true, false, Option, Some, None}
+use Rattle.std.proofs.Common.{◌≡◌, ◌≢◌, ℕ, List, [], ◌∷◌, ◌++◌, Bool, true, false, Option, Some, None}
 use Rattle.std.proofs.Common.{MatchOption, Bor, string_bytes, inl, inr, refl, sym, ◌∙◌, ap, subst}
 use Rattle.std.specs.Option.{is_some}
 use Rattle.std.specs.declared.str.Chars.{Chars}
-use Rattle.nano_text.specs.Place.{remaining}
-use Rattle.nano_text.proofs.PlaceLaws.{moves_append}
+use Rattle.nano_text.specs.Place.{remaining, text_at}
+use Rattle.nano_text.proofs.PlaceLaws.{moves_append, moves_none, moves_advance, advances_append}
 use Rattle.nano_grammar.specs.Outcomes.{Position, Moved, Report, Fails, TookNext, Took, TookComma}
+use Rattle.nano_grammar.specs.Outcomes.{ReadsNone, StandsAt, GoesWrong as GoesWrongBy}
 use Rattle.nano_grammar.specs.Tokens.{At, Leaves}
-use Rattle.nano_grammar.proofs.TokenCalls.{fails_as, fails_after, one_end, left_after}
-use Rattle.nano_grammar.proofs.TokensLaws.{leaves_append, leaves_split}
+use Rattle.nano_grammar.specs.Faults.{NothingCut, AreTokens, Reason, wrong, uncut, MayFollow, NoneBegins}
+use Rattle.nano_grammar.proofs.FaultLaws.{uncut_token, later_tokens_lead}
+use Rattle.nano_grammar.proofs.TokenCalls.{fails_after, none_in}
+use Rattle.nano_grammar.proofs.TokensLaws.{leaves_split}
 use Rattle.nano_json_tokens.specs.Cut.{Cut}
 use Rattle.nano_json_tokens.specs.Scan.{NoName, TookName}
-use Rattle.nano_json_tokens.specs.Outcomes.{position, NoneHere}
+use Rattle.nano_json_tokens.specs.Outcomes.{position}
 use Rattle.nano_json_tokens.specs.State.{at, pending, token_of, KeepsBuffers, KeepsOtherBuffers}
 use Rattle.nano_json_tokens.specs.Token.{Token, str, colon, comma, curly_close, IsStr}
 use Rattle.nano_json_tokens.specs.declared.state.DeJsonState.{DeJsonState}
-use Rattle.nano_json_tokens.proofs.Cuts.{cut_one_way, cut_spaced}
+use Rattle.nano_json_tokens.proofs.Cuts.{cut_spaced}
 use Rattle.nano_json_schema.specs.Reading.{name_bytes, GoesOn, ReachedName, NoNameAfter}
-use Rattle.nano_json_schema.specs.Reading.{TakesNameAfter, TookColon, NoColonAfter}
-use Rattle.nano_json_schema.proofs.Calls.{pending_name}
+use Rattle.nano_json_schema.specs.Reading.{TakesNameAfter, TookColon, head_left}
+use Rattle.nano_json_schema.proofs.Calls.{pending_name, still_there}
 
 -- ---- a name that was taken in place
 
@@ -62,9 +65,50 @@ module _ {is : Bool} {old new : DeJsonState} {i j : Chars} where
         → Leaves Cut (t ∷ ts) (at old i) end
     leaves_from t ts end l = (l.0 ∙ h.tok, (l.1.0, (h.cuts l.1.0.token l.1.0.text).0 l.1.1, l.1.2))
 
-    leaves_to : (t : Token) (ts : List Token) (end : At Token) → Leaves Cut (t ∷ ts) (at old i) end
-        → Leaves Cut (t ∷ ts) (at new j) end
-    leaves_to t ts end l = (l.0 ∙ sym h.tok, (l.1.0, (h.cuts l.1.0.token l.1.0.text).1 l.1.1, l.1.2))
+    -- where a token that stands there is wrong, it isn't the wanted one; and after it the same is cut
+    from_there : (t : Token) (there : Position Token) → pending old ≡ t → (here : Position Token)
+        → (reason : Reason Cut here.at) → here.at.text ≡ text_at here.place here.input
+        → Moved (position new j) here → StandsAt Cut here there reason → (tokens : List Token)
+        → Leaves Cut tokens (at new j) here.at
+        → ((more : List Token) → MayFollow Cut reason more
+        → NoneBegins (AreTokens (t ∷ [])) (tokens ++ here.at.token ∷ more))
+        → GoesWrongBy Cut (AreTokens (t ∷ [])) (position old i) there
+    from_there t there is here wrong text moved stands [] l none =
+        let same : t ≡ here.at.token = sym is ∙ (sym h.tok ∙ ap (λ (z : At Token). z.token) l) in
+        absurd (none (t ∷ []) tt (t ∷ []) [] t tt refl (ap (λ (u : Token). u ∷ t ∷ []) same))
+    from_there t there is here (uncut n) text moved stands [] l none =
+        let start = position old i in
+        let uncut_here : NothingCut Cut (remaining old.cur i) =
+        λ u rest c. n u rest (subst (λ (z : At Token). Cut z.text u rest) l ((h.cuts u rest).1 c)) in
+        record {
+          here = start;
+          text = refl;
+          moved = moves_none start.place start.input;
+          reason = uncut uncut_here;
+          fault = uncut_token Cut (AreTokens (t ∷ [])) start.at uncut_here (λ v e. absurd (cc e));
+          stands = advances_append (moves_advance (moves_append h.place moved)) stands;
+        }
+    from_there t there is here reason text moved stands (u ∷ us) l none = record {
+      here = here;
+      text = text;
+      moved = moves_append h.place moved;
+      reason = reason;
+      fault = record { tokens = u ∷ us; taken = leaves_from u us here.at l; none = none };
+      stands = stands;
+    }
+
+    -- what is not taken there is not taken here, where the name was looked for after the wanted token
+    -- alone
+    not_here : (t : Token) (there : Position Token) → (is ≡ true → pending old ≡ t)
+        → GoesWrongBy Cut (AreTokens (t ∷ [])) (position new j) there
+        → GoesWrongBy Cut (AreTokens (t ∷ [])) (position old i) there
+    not_here t there begins k =
+        elim is as (λ b. is ≡ b → GoesWrongBy Cut (AreTokens (t ∷ [])) (position old i) there) [
+          | true ↦ λ e.
+              from_there t there (begins e) k.here k.reason k.text k.moved k.stands k.fault.tokens k.fault.taken k.fault.none
+          | false ↦ λ e.
+              subst (λ (q : Position Token). GoesWrongBy Cut (AreTokens (t ∷ [])) q there) (still_there (h.unchanged e)) k
+        ] refl
 
     pub opened : {same_buffers : Type 0} {t : Token} {end : Position Token} → Took Cut same_buffers (position new j) end (t ∷ [])
         → ReachedName (λ start end. Leaves Cut (t ∷ []) start end) None (position old i) end
@@ -75,9 +119,10 @@ module _ {is : Bool} {old new : DeJsonState} {i j : Chars} where
       place = moves_append h.place k.place;
     }
 
-    pub not_opened : {t : Token} {end : Position Token} {e : Report} → Fails (NoneHere (t ∷ []) new j) (position new j) end e
-        → Fails (NoneHere (t ∷ []) old i) (position old i) end e
-    not_opened {t} k = fails_after (λ none after l. none after (leaves_to t [] after l)) h.place k
+    pub not_opened : {t : Token} {end : Position Token} {e : Report} → (is ≡ true → pending old ≡ t)
+        → ReadsNone Cut (AreTokens (t ∷ [])) (position new j) end e
+        → ReadsNone Cut (AreTokens (t ∷ [])) (position old i) end e
+    not_opened {t} {end} begins k = fails_after (not_here t end begins) h.place k
 
     pub went_on : {same_buffers same : Type 0} {end : Position Token} → (is ≡ false → position new j ≡ position old i)
         → (is ≡ true → pending old ≡ comma) → TookComma Cut same_buffers (position new j) end comma curly_close same
@@ -99,12 +144,11 @@ module _ {is : Bool} {old new : DeJsonState} {i j : Chars} where
           }
     ]
 
-    pub not_on : {end : Position Token} {e : Report}
-        → Fails ((pending new ≢ curly_close) × NoneHere (comma ∷ []) new j) (position new j) end e
-        → Fails ((pending old ≢ curly_close) × NoneHere (comma ∷ []) old i) (position old i) end e
-    not_on k =
-        fails_after (λ bad. (λ closes. bad.0 (h.tok ∙ closes), λ after l. bad.1 after (leaves_to comma [] after l)))
-        h.place k
+    pub not_on : {end : Position Token} {e : Report} → (is ≡ true → pending old ≡ comma)
+        → Fails ((pending new ≢ curly_close) × GoesWrongBy Cut (AreTokens (comma ∷ [])) (position new j) end) (position new j) end e
+        → Fails ((pending old ≢ curly_close) × GoesWrongBy Cut (AreTokens (comma ∷ [])) (position old i) end) (position old i) end e
+    not_on {end} begins k =
+        fails_after (λ bad. (λ closes. bad.0 (h.tok ∙ closes), not_here comma end begins bad.1)) h.place k
 
 -- ---- a pending name with the colon after it
 
@@ -127,11 +171,12 @@ module _ {old mid : DeJsonState} {i j : Chars} (is : IsStr (pending old))
       }
 
   pub pending_not : {start end : Position Token} {e : Report} → start ≡ position mid j
-      → Fails ((next : At Token) → Leaves Cut (colon ∷ []) start.at next → ⊥) start end e
-      → Fails (NoneHere (pending old ∷ (colon ∷ [])) old i) (position old i) end e
+      → ReadsNone Cut (AreTokens (colon ∷ [])) start end e
+      → ReadsNone Cut (AreTokens (pending old ∷ (colon ∷ []))) (position old i) end e
   pending_not {start} {end} {e} still k =
-      let there = subst (λ (p : Position Token). Fails ((next : At Token) → Leaves Cut (colon ∷ []) p.at next → ⊥) p end e) still k in
-      fails_after (λ none next l. none next (left_after Cut cut_one_way (pending old) (colon ∷ []) h next l)) h.place there
+      let there = subst (λ (p : Position Token). ReadsNone Cut (AreTokens (colon ∷ [])) p end e) still k in
+      none_in Cut (AreTokens (pending old ∷ (colon ∷ []))) (AreTokens (colon ∷ [])) (pending old ∷ [])
+      (later_tokens_lead (pending old ∷ []) (colon ∷ []) (pending mid)) (refl, (at mid j, h.taken, refl)) h.place there
 
 -- ---- the colon
 
@@ -139,36 +184,25 @@ module _ {start end : Position Token} where
   pub colon_in_place : {same_buffers : Type 0} {name : Option (Bor (List ℕ))} (n : Bor (List ℕ)) → name ≡ Some n
       → Took Cut same_buffers start end (colon ∷ []) → TookColon (name_bytes name) start end n.now
   colon_in_place {name = name} n is k =
-      subst (λ (o : Option (Bor (List ℕ))). TookColon (name_bytes o) start end n.now) (sym is) (record {
-        head = λ here stands. leaves_append Cut (str n.now ∷ []) (colon ∷ []) here start.at end.at stands.0 k.taken;
-        some = (colon, [], refl, k.taken);
-        place = k.place;
-      })
+      subst (λ (o : Option (Bor (List ℕ))). TookColon (name_bytes o) start end n.now) (sym is)
+      (record { named = refl; head = k.taken; place = k.place })
 
   pub no_colon_in_place : {name : Option (Bor (List ℕ))} {e : Report} (n : Bor (List ℕ)) → name ≡ Some n
-      → Fails ((next : At Token) → Leaves Cut (colon ∷ []) start.at next → ⊥) start end e
-      → Fails (NoColonAfter (name_bytes name) start.at) start end e
+      → ReadsNone Cut (AreTokens (colon ∷ [])) start end e
+      → ReadsNone Cut (AreTokens (head_left (name_bytes name) start.at.token)) start end e
   no_colon_in_place {e = e} n is k =
-      subst (λ (o : Option (Bor (List ℕ))). Fails (NoColonAfter (name_bytes o) start.at) start end e) (sym is)
-      (fails_as (λ none here stands next l.
-      let both = leaves_split Cut (here.token ∷ []) (colon ∷ []) here next l in
-      let taken = subst (λ (t : Token). Leaves Cut (t ∷ []) here start.at) stands.0.0 stands.0 in
-      let same = one_end Cut cut_one_way (here.token ∷ []) here both.0 start.at both.1 taken in
-      none next (subst (λ (z : At Token). Leaves Cut (colon ∷ []) z next) same both.2)) k)
+      subst (λ (o : Option (Bor (List ℕ))). ReadsNone Cut (AreTokens (head_left (name_bytes o) start.at.token)) start end e)
+      (sym is) k
 
   pub colon_taken : {same_buffers : Type 0} {name : Option (Bor (List ℕ))} (n : List ℕ) → name ≡ None
       → Took Cut same_buffers start end (str n ∷ (colon ∷ [])) → TookColon (name_bytes name) start end n
   colon_taken n is k =
-      subst (λ (o : Option (Bor (List ℕ))). TookColon (name_bytes o) start end n) (sym is) (record {
-        head = λ here stands. subst (λ (z : At Token). Leaves Cut (str n ∷ (colon ∷ [])) z end.at) (sym stands) k.taken;
-        some = (str n, colon ∷ [], refl, k.taken);
-        place = k.place;
-      })
+      subst (λ (o : Option (Bor (List ℕ))). TookColon (name_bytes o) start end n) (sym is)
+      (record { named = tt; head = k.taken; place = k.place })
 
   pub no_colon_taken : {name : Option (Bor (List ℕ))} {e : Report} → name ≡ None
-      → Fails ((next : At Token) → Leaves Cut (start.at.token ∷ (colon ∷ [])) start.at next → ⊥) start end e
-      → Fails (NoColonAfter (name_bytes name) start.at) start end e
+      → ReadsNone Cut (AreTokens (start.at.token ∷ (colon ∷ []))) start end e
+      → ReadsNone Cut (AreTokens (head_left (name_bytes name) start.at.token)) start end e
   no_colon_taken {e = e} is k =
-      subst (λ (o : Option (Bor (List ℕ))). Fails (NoColonAfter (name_bytes o) start.at) start end e) (sym is)
-      (fails_as (λ none here stands next l.
-      none next (subst (λ (z : At Token). Leaves Cut (z.token ∷ (colon ∷ [])) z next) stands l)) k)
+      subst (λ (o : Option (Bor (List ℕ))). ReadsNone Cut (AreTokens (head_left (name_bytes o) start.at.token)) start end e)
+      (sym is) k

@@ -1,68 +1,112 @@
 -- What the calls that read named fields come to: at the head of the loop, after a turn, and at each exit.
 use Rattle.std.proofs.Common.{◌≡◌, ◌≢◌, ◌<◌, ◌≤◌, ℕ, List, [], ◌∷◌, ◌++◌, true, false, Option, Some}
-use Rattle.std.proofs.Common.{None, Bor, inl, inr, refl, sym, ◌∙◌, ap, subst, arith}
+use Rattle.std.proofs.Common.{None, Bor, inl, inr, refl, sym, ◌∙◌, ap, subst, arith, append_assoc}
 use Rattle.nano_text.proofs.PlaceLaws.{moves_append}
-use Rattle.nano_grammar.specs.Outcomes.{Position, Moved, Report, Fails, Took, ReadsNone}
+use Rattle.nano_grammar.specs.Outcomes.{Position, Moved, Report, Fails, Took, ReadsNone, GoesWrong}
 use Rattle.nano_grammar.specs.Tokens.{At, Leaves}
-use Rattle.nano_grammar.proofs.TokenCalls.{fails_as, fails_after}
-use Rattle.nano_grammar.proofs.TokensLaws.{leaves_append, leaves_split, tokens_left, leaves_shorter}
+use Rattle.nano_grammar.specs.Faults.{AreTokens}
+use Rattle.nano_grammar.proofs.FaultLaws.{LeadsTo, first_token, wrong_in}
+use Rattle.nano_grammar.proofs.TokenCalls.{fails_after, none_in, none_first}
+use Rattle.nano_grammar.proofs.TokensLaws.{leaves_append, tokens_left, leaves_shorter}
 use Rattle.nano_grammar.proofs.TokensLaws.{token_shorter}
-use Rattle.nano_grammar.specs.UserOutcomes.{ReadField, NoField, HeldFields}
+use Rattle.nano_grammar.specs.UserOutcomes.{FieldTokens, ReadField, HeldFields}
 use Rattle.nano_grammar.specs.Fields.{Struct}
-use Rattle.nano_grammar.proofs.FieldReading.{field_after, no_field_after}
+use Rattle.nano_grammar.proofs.FieldReading.{field_after, field_after_leads}
 use Rattle.nano_grammar.proofs.StructReading.{FieldsSoFar, fields_start, fields_next, struct_found}
-use Rattle.nano_grammar.proofs.StructReading.{struct_missing, struct_open_rejected}
-use Rattle.nano_grammar.proofs.StructReading.{struct_field_rejected, struct_comma_rejected}
-use Rattle.nano_grammar.proofs.StructReading.{struct_close_rejected}
+use Rattle.nano_grammar.proofs.StructReading.{struct_missing, struct_opening_leads, fields_taken}
+use Rattle.nano_grammar.proofs.StructReading.{struct_field_leads, struct_comma_leads}
+use Rattle.nano_grammar.proofs.StructReading.{struct_field_taken, struct_closing_leads}
 use Rattle.nano_json_tokens.specs.Cut.{Cut}
 use Rattle.nano_json_tokens.specs.Token.{Token, str, colon, comma, curly_open, curly_close}
 use Rattle.nano_json.proofs.Json.{json_laws}
-use Rattle.nano_json_schema.specs.Reading.{Field, Shape, Allowed, EncodesFields, name_bytes}
+use Rattle.nano_json_schema.specs.Reading.{Field, Shape, Allowed, EncodesField, EncodesFields}
+use Rattle.nano_json_schema.specs.Reading.{name_bytes, TakesSome, IsNamed, FieldLeft, head_left}
 use Rattle.nano_json_schema.specs.Reading.{StandsAfter, GoesOn, ReachedName, TookColon, TookField}
-use Rattle.nano_json_schema.specs.Reading.{NoColonAfter, NoFieldAfter}
 use Rattle.nano_json_schema.specs.FieldCodecs.{json_fields}
 use Rattle.nano_json_schema.specs.Outcomes.{is_str}
-use Rattle.nano_json_schema.proofs.Calls.{name_goes_on, no_name_pending, closes_or_not}
+use Rattle.nano_json_schema.proofs.Calls.{name_goes_on, no_name_pending}
 
 -- ---- one field
+
+-- wherever the field begins, its name and a colon were taken
+head_from : (name : Option (List ℕ)) (n : List ℕ) {start end : Position Token} → TookColon name start end n
+    → (here : At Token) → StandsAfter name here start.at → Leaves Cut (str n ∷ (colon ∷ [])) here end.at
+head_from None n {end = end} head here stands =
+    subst (λ (z : At Token). Leaves Cut (str n ∷ (colon ∷ [])) z end.at) (sym stands) head.head
+head_from (Some name) n {start} {end} head here stands =
+    leaves_append Cut (str n ∷ []) (colon ∷ []) here start.at end.at
+    (subst (λ (x : List ℕ). Leaves Cut (str x ∷ []) here start.at) head.named stands.0) head.head
+
+-- and at least one token
+head_some : (name : Option (List ℕ)) (n : List ℕ) {start end : Position Token} → TookColon name start end n
+    → TakesSome start.at end.at
+head_some None n head = (str n, colon ∷ [], refl, head.head)
+head_some (Some name) n head = (colon, [], refl, head.head)
 
 module _ (shape : Shape) {before after : List Field → Type 0} {start mid end : Position Token} (name : Option (List ℕ)) where
   -- its name and the colon, and the value after them
   pub field_taken : (n : List ℕ) → TookColon name start mid n
       → ReadField Cut [] n (Allowed shape) before after mid end
       → TookField name start end shape before after
-  field_taken n head h = record {
-    decodes = λ here stands. (
-      record { name = n; value = h.value },
-      field_after json_fields json_laws n (Allowed shape) here mid.at end.at h.value (head.head here stands) h.allowed h.taken,
-      h.held,
-    );
-    some = (
-      head.some.0,
-      head.some.1 ++ h.value,
-      head.some.2,
-      leaves_append Cut (head.some.0 ∷ head.some.1) h.value start.at mid.at end.at head.some.3 h.taken,
-    );
-    place = moves_append head.place h.place;
-  }
+  field_taken n head h =
+      let some = head_some name n head in
+      record {
+        decodes = λ here stands. (
+          record { name = n; value = h.value },
+          field_after json_fields json_laws n (Allowed shape) here mid.at end.at h.value (head_from name n head here stands) h.allowed h.taken,
+          h.held,
+        );
+        some = (
+          some.0,
+          some.1 ++ h.value,
+          some.2,
+          leaves_append Cut (some.0 ∷ some.1) h.value start.at mid.at end.at some.3 h.taken,
+        );
+        place = moves_append head.place h.place;
+      }
 
-module _ (shape : Shape) {start mid end : Position Token} (name : Option (List ℕ)) where
-  pub value_not : {e : Report} (n : List ℕ) → TookColon name start mid n
-      → Fails (NoField Cut [] n (Allowed shape) mid.at) mid end e
-      → Fails (NoFieldAfter name start.at shape) start end e
-  value_not n head bad =
-      fails_after (λ (none : NoField Cut [] n (Allowed shape) mid.at) here stands.
-      no_field_after json_fields json_laws n (Allowed shape) here mid.at (head.head here stands)
-      (λ _ f. none f.0 f.2 f.1 f.3)) head.place bad
+-- what may come after its name is left of a field
+value_leads : (shape : Shape) (name : Option (List ℕ)) (n : List ℕ) (pending : Token) → IsNamed name n
+    → LeadsTo (FieldLeft name shape) (FieldTokens [] n (Allowed shape)) (head_left name (str n)) pending
+value_leads shape None n pending named us more rest next f h is =
+    let k = field_after_leads json_fields json_laws n (Allowed shape) pending us more rest next f h is in
+    (k.0, k.0, k.2, k.3, (refl, k.4), k.5)
+value_leads shape (Some name) n pending named us more rest next f h is =
+    let same = ap (λ (x : List ℕ). str x ∷ us) named in
+    let field = subst (λ (ts : List Token). EncodesField shape ts f) same h in
+    let k =
+    field_after_leads json_fields json_laws n (Allowed shape) pending (str n ∷ us) more rest next f field
+    (ap (λ (xs : List Token). str n ∷ xs) is) in
+    (k.0, k.0, k.2, k.3, (refl, k.4), k.5)
+
+pub value_not : (shape : Shape) {start mid end : Position Token} (name : Option (List ℕ)) {e : Report} (n : List ℕ)
+    → TookColon name start mid n → ReadsNone Cut (FieldTokens [] n (Allowed shape)) mid end e
+    → ReadsNone Cut (FieldLeft name shape) start end e
+value_not shape {mid = mid} name n head bad =
+    none_in Cut (FieldLeft name shape) (FieldTokens [] n (Allowed shape)) (head_left name (str n))
+    (value_leads shape name n mid.at.token head.named) head.head head.place bad
 
 -- a field begins with its name and a colon
+colon_leads : (shape : Shape) (name : Option (List ℕ)) (pending : Token)
+    → LeadsTo (FieldLeft name shape) (AreTokens (head_left name pending)) [] pending
+colon_leads shape None pending us more rest next f h is =
+    let k = first_token f.value next more in
+    let whole = ap (λ (xs : List Token). xs ++ next ∷ more) (sym h.0) ∙ is in
+    let left : colon ∷ (f.value ++ next ∷ more) ≡ rest = cc whole in
+    (pending ∷ (colon ∷ []), tt, k.0, k.1, refl, ap (λ (xs : List Token). pending ∷ (colon ∷ xs)) (sym k.2)
+    ∙ ap (λ (xs : List Token). pending ∷ xs) left)
+colon_leads shape (Some name) pending us more rest next f h is =
+    let k = first_token f.value next more in
+    let after : us ≡ colon ∷ f.value = cc h.0 in
+    let whole = ap (λ (xs : List Token). xs ++ next ∷ more) (sym after) ∙ is in
+    (colon ∷ [], tt, k.0, k.1, refl, ap (λ (xs : List Token). colon ∷ xs) (sym k.2) ∙ whole)
+
 pub colon_not : (shape : Shape) {start end : Position Token} (name : Option (List ℕ)) {e : Report}
-    → Fails (NoColonAfter name start.at) start end e → Fails (NoFieldAfter name start.at shape) start end e
-colon_not shape name bad =
-    fails_as (λ none here stands f h.
-    let l = subst (λ (ts : List Token). Leaves Cut ts here h.1) h.2.0 h.3 in
-    let both = leaves_split Cut (str f.name ∷ (colon ∷ [])) f.value here h.1 l in
-    none here stands both.0 (subst (λ (t : Token). Leaves Cut (t ∷ (colon ∷ [])) here both.0) l.0 both.1)) bad
+    → ReadsNone Cut (AreTokens (head_left name start.at.token)) start end e
+    → ReadsNone Cut (FieldLeft name shape) start end e
+colon_not shape {start} name bad =
+    none_first Cut (FieldLeft name shape) (AreTokens (head_left name start.at.token))
+    (colon_leads shape name start.at.token) bad
 
 -- ---- all fields
 
@@ -119,9 +163,52 @@ module _ (struct : Struct Token) where
   }
 
   pub opening_not : {start end : Position Token} {e : Report}
-      → Fails ((next : At Token) → Leaves Cut (curly_open ∷ []) start.at next → ⊥) start end e
+      → ReadsNone Cut (AreTokens (curly_open ∷ [])) start end e
       → ReadsNone Cut (EncodesFields struct.shape) start end e
-  opening_not {start} bad = fails_as (struct_open_rejected json_fields json_laws struct start.at) bad
+  opening_not {start} bad =
+      none_first Cut (EncodesFields struct.shape) (AreTokens (curly_open ∷ []))
+      (struct_opening_leads json_fields json_laws struct start.at.token) bad
+
+  -- what is left of a field where the reader stands, after the fields so far
+  field_left : {holds : List Field → Type 0} (start here now : At Token) (name : Option (List ℕ))
+      → (read : FieldsSoFar json_fields json_laws struct holds start here) → StandsAfter name here now
+      → here.token ≢ curly_close
+      → (ts : List Token) × LeadsTo (EncodesFields struct.shape) (FieldLeft name struct.shape) ts now.token
+      × Leaves Cut ts start now
+  field_left {holds} start here now None read stands other =
+      let ts = fields_taken json_fields json_laws struct holds start here read in
+      let Whole = EncodesFields struct.shape in
+      let Part = FieldLeft None struct.shape in (
+        ts,
+        subst (λ (z : At Token). LeadsTo Whole Part ts z.token) stands
+        (struct_field_leads json_fields json_laws struct holds start here read other),
+        subst (λ (z : At Token). Leaves Cut ts start z) stands read.read.so_far.taken,
+      )
+  field_left {holds} start here now (Some name) read stands other =
+      let ts = fields_taken json_fields json_laws struct holds start here read in (
+        ts ++ str name ∷ [],
+        after_name,
+        leaves_append Cut ts (str name ∷ []) start here now read.read.so_far.taken stands.0,
+      ) where
+        after_name : LeadsTo (EncodesFields struct.shape) (FieldLeft (Some name) struct.shape)
+            (fields_taken json_fields json_laws struct holds start here read ++ str name ∷ []) now.token
+        after_name us more rest next m e is =
+            let ts = fields_taken json_fields json_laws struct holds start here read in
+            let joined = append_assoc ts (str name ∷ []) (now.token ∷ rest) in
+            let named = ap (λ (t : Token). ts ++ t ∷ (now.token ∷ rest)) stands.0.0 in
+            let k =
+            struct_field_leads json_fields json_laws struct holds start here read other us more
+            (now.token ∷ rest) next m e (is ∙ (joined ∙ named)) in
+            let whole = ap (λ (xs : List Token). xs ++ k.2 ∷ k.3) (sym k.4.0) ∙ k.5 in
+            let first : str k.1.name ≡ here.token = cc whole in
+            let left : (colon ∷ k.1.value) ++ k.2 ∷ k.3 ≡ now.token ∷ rest = cc whole in (
+              colon ∷ k.1.value,
+              k.1,
+              k.2,
+              k.3,
+              (ap (λ (t : Token). t ∷ (colon ∷ k.1.value)) (stands.0.0 ∙ sym first), k.4.1),
+              left,
+            )
 
   module _ {holds : List Field → Type 0} {start now : Position Token} {name : Option (Bor (List ℕ))}
       (h : SoFar holds start now name) where
@@ -139,22 +226,26 @@ module _ (struct : Struct Token) where
       }
 
       pub field_not : {end : Position Token} {e : Report}
-          → Fails (NoFieldAfter (name_bytes name) now.at struct.shape) now end e
+          → ReadsNone Cut (FieldLeft (name_bytes name) struct.shape) now end e
           → ReadsNone Cut (EncodesFields struct.shape) start end e
       field_not bad =
-          fails_after (λ none.
-          struct_field_rejected json_fields json_laws struct holds start.at h.here h.read
-          (goes_on name h.here now.at h.stands named) (none h.here h.stands)) h.place bad
+          let k =
+          field_left start.at h.here now.at (name_bytes name) h.read h.stands
+          (goes_on name h.here now.at h.stands named) in
+          none_in Cut (EncodesFields struct.shape) (FieldLeft (name_bytes name) struct.shape) k.0 k.1 k.2 h.place bad
 
       pub comma_not : {after : List Field → Type 0} {mid end : Position Token} {e : Report}
           → TookField (name_bytes name) now mid struct.shape holds after
-          → Fails ((mid.at.token ≢ curly_close)
-          × ((next : At Token) → Leaves Cut (comma ∷ []) mid.at next → ⊥)) mid end e
+          → Fails ((mid.at.token ≢ curly_close) × GoesWrong Cut (AreTokens (comma ∷ [])) mid end) mid end e
           → ReadsNone Cut (EncodesFields struct.shape) start end e
       comma_not {mid = mid} field bad =
           let read = field.decodes h.here h.stands in
-          fails_after (struct_comma_rejected json_fields json_laws struct holds start.at h.here h.read mid.at read.0
-          (goes_on name h.here now.at h.stands named) read.1) (moves_append h.place field.place) bad
+          let ts = fields_taken json_fields json_laws struct holds start.at h.here h.read in
+          let moved = moves_append h.place field.place in
+          fails_after (λ w. wrong_in Cut (EncodesFields struct.shape) (AreTokens (comma ∷ [])) (ts ++ read.1.0)
+          (struct_comma_leads json_fields json_laws struct holds start.at h.here h.read mid.at read.0 read.1
+          (goes_on name h.here now.at h.stands named) w.0)
+          (struct_field_taken json_fields json_laws struct holds start.at h.here h.read mid.at read.0 read.1) moved w.1) moved bad
 
     -- no field begins here
     module _ (none : (name ≡ None) × (is_str now.at.token ≡ false)) where
@@ -172,8 +263,10 @@ module _ (struct : Struct Token) where
       }
 
       pub closing_not : {end : Position Token} {e : Report}
-          → Fails ((next : At Token) → Leaves Cut (curly_close ∷ []) now.at next → ⊥) now end e
+          → ReadsNone Cut (AreTokens (curly_close ∷ [])) now end e
           → ReadsNone Cut (EncodesFields struct.shape) start end e
       closing_not bad =
-          fails_after (struct_close_rejected json_fields json_laws struct holds start.at now.at read_here
-          (no_name_pending now.at.token none.1) (closes_or_not now.at.token)) h.place bad
+          none_in Cut (EncodesFields struct.shape) (AreTokens (curly_close ∷ []))
+          (fields_taken json_fields json_laws struct holds start.at now.at read_here)
+          (struct_closing_leads json_fields json_laws struct holds start.at now.at read_here
+          (no_name_pending now.at.token none.1)) read_here.read.so_far.taken h.place bad

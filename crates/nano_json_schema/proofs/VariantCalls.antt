@@ -1,15 +1,16 @@
 -- What the calls that read an enum come to whose reader matches the names by hand.
-use Rattle.std.proofs.Common.{◌≡◌, ◌≢◌, ℕ, List, [], ◌∷◌, ◌++◌, Some, None, false, bytes_eq, get_or}
+use Rattle.std.proofs.Common.{◌≡◌, ◌≢◌, ℕ, List, [], ◌∷◌, ◌++◌, Some, None, true, false, Bool}
+use Rattle.std.proofs.Common.{bytes_eq, get_or}
 use Rattle.std.proofs.Common.{length, inl, inr, refl, sym, ◌∙◌, ap, subst, arith}
 use Rattle.std.proofs.lemmas.Bool.{false_from_ne_true}
 use Rattle.std.proofs.lemmas.Slice.Eq.{bytes_eq-Decides}
 use Rattle.std.specs.declared.str.Chars.{Chars}
-use Rattle.nano_text.proofs.PlaceLaws.{moves_append, moves_advance}
+use Rattle.nano_text.proofs.PlaceLaws.{moves_append}
 use Rattle.nano_value.specs.Meaning.{Meaning, nothing}
 use Rattle.nano_value.specs.Sums.{tagged}
 use Rattle.nano_grammar.specs.Outcomes.{Position, Report, Read, ReadsNoneAndEnds, Took}
-use Rattle.nano_grammar.specs.Tokens.{DecodesToNothing}
-use Rattle.nano_grammar.proofs.TokenCalls.{fails_after, fails_ended}
+use Rattle.nano_grammar.proofs.FaultLaws.{LeadsTo, goes_wrong, none_ended}
+use Rattle.nano_grammar.proofs.TokenCalls.{fails_here, none_in}
 use Rattle.nano_grammar.proofs.TokensLaws.{leaves_append}
 use Rattle.nano_grammar.specs.Variants.{unit_named, content_named, Found, nobody, found}
 use Rattle.nano_grammar.specs.Variants.{EncodesFound}
@@ -25,7 +26,8 @@ use Rattle.nano_json_schema.specs.Outcomes.{GivesUnknown}
 use Rattle.nano_json_schema.specs.Reading.{Encodings, EncodesVariant, Closed}
 use Rattle.nano_json_schema.specs.Variants.{alone, opened}
 use Rattle.nano_json_schema.specs.VariantCodecs.{json_variants}
-use Rattle.nano_json_schema.proofs.VariantReaders.{unit_unknown, content_unknown, content_missing}
+use Rattle.nano_json_schema.proofs.VariantReaders.{After, alone_leads, opened_leads, content_leads}
+use Rattle.nano_json_schema.proofs.VariantReaders.{no_unit, no_content}
 
 -- a name that a match found to be another one
 pub is_another : (shown bytes name : List ℕ) → shown ≡ bytes → shown ≢ name
@@ -75,26 +77,31 @@ module _ (vs : Encodings) {same_buffers : Type 0} {start : Position Token} (name
     pub content_not : {e : Report} → ReadsNoneAndEnds Cut (Closed content.encodes) mid end ended e
         → ReadsNoneAndEnds Cut (EncodesVariant vs) start end ended e
     content_not k = record {
-      fails = fails_after (content_missing start.at vs mid.at name tag content h.taken has) h.place k.fails;
+      fails = none_in Cut (EncodesVariant vs) (Closed content.encodes) (opened name)
+          (content_leads vs name tag content has mid.at.token) h.taken h.place k.fails;
       ended = k.ended;
     }
 
   -- no variant has the name
   module _ {s new : DeJsonState} (i : Chars) {shown : List ℕ} {e : DeJsonErr} (unknown : GivesUnknown s new shown e) where
-    not_known : {ts : List Token} → Took Cut same_buffers start (position s i) ts
-        → DecodesToNothing Cut (EncodesVariant vs) start.at
+    not_known : {ts : List Token} (stood : Bool) → Took Cut same_buffers start (position s i) ts
+        → LeadsTo (EncodesVariant vs) (After 0 vs stood name) ts (at s i).token
+        → ((us : List Token) (m : Meaning) → After 0 vs stood name us m → ⊥)
         → ReadsNoneAndEnds Cut (EncodesVariant vs) start (position new i) ended (report e)
-    not_known h none =
+    not_known {ts} stood h leads none =
         let up = gives_up s new i unknown.state in
+        let Rest = After 0 vs stood name in
+        let here = position s i in
         record {
-          fails = fails_ended {mid = position s i} ended up (record { rejected = λ _. none; made = unknown.says.1; place = moves_advance h.place });
+          fails = none_ended Cut (EncodesVariant vs) ended up (none_in Cut (EncodesVariant vs) Rest ts leads h.taken h.place
+              (fails_here (goes_wrong Cut Rest here refl (none []) (λ us. none (here.at.token ∷ us))) unknown.says.1));
           ended = ap (λ (p : Position Token). p.at) up;
         }
 
     pub unit_not_known : Took Cut same_buffers start (position s i) (alone name) → unit_named 0 vs name ≡ None
         → ReadsNoneAndEnds Cut (EncodesVariant vs) start (position new i) ended (report e)
-    unit_not_known h has = not_known h (unit_unknown start.at vs (at s i) name h.taken has)
+    unit_not_known h has = not_known true h (alone_leads vs name (at s i).token) (no_unit vs name has)
 
     pub content_not_known : Took Cut same_buffers start (position s i) (opened name) → content_named 0 vs name ≡ nobody
         → ReadsNoneAndEnds Cut (EncodesVariant vs) start (position new i) ended (report e)
-    content_not_known h has = not_known h (content_unknown start.at vs (at s i) name h.taken has)
+    content_not_known h has = not_known false h (opened_leads vs name (at s i).token) (no_content vs name has)

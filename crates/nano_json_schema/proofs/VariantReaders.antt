@@ -1,21 +1,20 @@
 -- What a reader of an enum answers, from what the readers of the name and of the content answer.
-use Rattle.std.proofs.Common.{◌≡◌, ℕ, List, [], ◌++◌, inl, inr, None, sym, ◌∙◌, ap, subst, Bool}
-use Rattle.std.proofs.Common.{Some, string_bytes, refl}
-use Rattle.nano_value.specs.Meaning.{Meaning, nothing}
-use Rattle.nano_grammar.specs.Codec.{Encoding as EncodingOf}
-use Rattle.nano_grammar.specs.Tokens.{At, Leaves, DecodesTo, Spans}
+use Rattle.std.proofs.Common.{◌≡◌, ℕ, List, [], ◌∷◌, ◌++◌, inl, inr, None, sym, ◌∙◌, ap, subst, Bool}
+use Rattle.std.proofs.Common.{Some, string_bytes, refl, true, false, append_assoc}
+use Rattle.nano_value.specs.Meaning.{Meaning}
+use Rattle.nano_grammar.specs.Tokens.{At, Leaves, Spans}
 use Rattle.nano_grammar.proofs.TokensLaws.{leaves_split, meets, leaves_append}
+use Rattle.nano_grammar.proofs.FaultLaws.{LeadsTo, first_token}
 use Rattle.nano_grammar.specs.Variants.{Variants, unit_named, content_named, nobody, found}
-use Rattle.nano_grammar.specs.Variants.{EncodesFound, EncodesVariant, Found}
-use Rattle.nano_json_tokens.specs.Cut.{Cut, json_grammar}
+use Rattle.nano_grammar.specs.Variants.{EncodesFound, EncodesVariant}
+use Rattle.nano_json_tokens.specs.Cut.{Cut}
 use Rattle.nano_json_tokens.proofs.ScalarsLaws.{str_injective}
 use Rattle.nano_json_tokens.specs.Token.{Token, str, curly_open}
 use Rattle.nano_json_tokens.proofs.Cuts.{cut_one_way}
-use Rattle.nano_json.specs.Codec.{DecodesToNothing, Encoding}
+use Rattle.nano_json.specs.Codec.{Encoding}
 use Rattle.nano_json_schema.specs.VariantCodecs.{json_variants}
 use Rattle.nano_json_schema.specs.Variants.{alone, opened, is_alone, bytes_of}
-use Rattle.nano_json_schema.specs.Reading.{Closed, NoVariantBegins, name_tokens}
-use Rattle.nano_value.specs.Sums.{tagged}
+use Rattle.nano_json_schema.specs.Reading.{Closed, VariantBegins, name_tokens}
 use Rattle.nano_json_schema.specs.declared.variants.VariantName.{VariantName}
 use Rattle.nano_json_schema.specs.declared.variants.VariantName.TheVariants.{Unit as Alone}
 use Rattle.nano_json_schema.specs.declared.variants.VariantName.TheVariants.{Content as Opened}
@@ -26,26 +25,6 @@ use Rattle.nano_grammar.specs.Choices.{EncodesAfter}
 opened_names : (a b : List ℕ) (more : List Token) → opened a ≡ opened b ++ more
     → (a ≡ b) × (more ≡ [])
 opened_names a b more e = (cc e, cc e)
-
--- where a string is pending, no bracket is
-pub no_bracket : (name : List ℕ) (start : At Token) → str name ≡ start.token
-    → ((name : List ℕ) (after : At Token) → Leaves Cut (alone name) start after → ⊥)
-    → NoVariantBegins start
-no_bracket name start is none = record {
-  alone = none;
-  opened = λ other after l.
-      let both : curly_open ≡ str name = l.0 ∙ sym is in absurd (cc both);
-}
-
--- where a bracket is pending, no string is
-pub no_string : (start : At Token) → curly_open ≡ start.token
-    → ((name : List ℕ) (after : At Token) → Leaves Cut (opened name) start after → ⊥)
-    → NoVariantBegins start
-no_string start is none = record {
-  alone = λ name after l.
-      let both : str name ≡ curly_open = l.0 ∙ sym is in absurd (cc both);
-  opened = none;
-}
 
 module _ (start : At Token) where
   -- after what opens a content, the rest of a value is left
@@ -64,61 +43,6 @@ module _ (start : At Token) where
             let here : r.0 ≡ mid = subst (λ (l : List Token). Leaves Cut l r.0 mid) same.1 m.2 in
             (sym same.0, subst (λ (z : At Token). Leaves Cut back z end) here r.2)
       ]
-
-  -- ---- the variants
-
-  module _ (vs : Variants (EncodingOf json_grammar)) where
-    abbrev pub Encoded : List Token → Meaning → Type 0
-    Encoded = EncodesVariant json_variants vs
-
-    -- no name of a variant stands there
-    pub name_rejected : NoVariantBegins start → DecodesToNothing Encoded start
-    name_rejected none m (ts, end, inl h, l) =
-        none.alone h.name end (subst (λ (xs : List Token). Leaves Cut xs start end) h.one l)
-    name_rejected none m (ts, end, inr h, l) =
-        let k = subst (λ (xs : List Token). Leaves Cut xs start end) h.are l in
-        let r = leaves_split Cut (opened h.name) h.back start end k in
-        none.opened h.name r.0 r.1
-
-    -- no variant without content has the name
-    pub unit_unknown : (mid : At Token) (name : List ℕ) → Leaves Cut (alone name) start mid
-        → unit_named 0 vs name ≡ None → DecodesToNothing Encoded start
-    unit_unknown mid name taken has m (ts, end, inl h, l) =
-        let k = subst (λ (xs : List Token). Leaves Cut xs start end) h.one l in
-        let name = str_injective h.name name (k.0 ∙ sym taken.0) in
-        let both = sym h.has ∙ (ap (unit_named 0 vs) name ∙ has) in absurd (cc both)
-    unit_unknown mid name taken has m (ts, end, inr h, l) =
-        let k = subst (λ (xs : List Token). Leaves Cut xs start end) h.are l in
-        let both : curly_open ≡ str name = k.0 ∙ sym taken.0 in absurd (cc both)
-
-    -- where the name of a variant with content was taken, only its content is left
-    opened_only : (mid : At Token) (name : List ℕ) → Leaves Cut (opened name) start mid
-        → (m : Meaning) → (f : DecodesTo Cut Encoded start m) → (back : List Token)
-        × EncodesFound json_variants (content_named 0 vs name) back m × Leaves Cut back mid f.1
-    opened_only mid name taken m (ts, end, inl h, l) =
-        let k = subst (λ (xs : List Token). Leaves Cut xs start end) h.one l in
-        let both : str h.name ≡ curly_open = k.0 ∙ sym taken.0 in absurd (cc both)
-    opened_only mid name taken m (ts, end, inr h, l) =
-        let k = subst (λ (xs : List Token). Leaves Cut xs start end) h.are l in
-        let r = after_opened name h.name h.back mid end taken k in
-        let Is = λ (x : List ℕ). EncodesFound json_variants (content_named 0 vs x) h.back m in
-        (h.back, subst Is r.0 h.content, r.1)
-
-    -- no variant with content has the name
-    pub content_unknown : (mid : At Token) (name : List ℕ) → Leaves Cut (opened name) start mid
-        → content_named 0 vs name ≡ nobody → DecodesToNothing Encoded start
-    content_unknown mid name taken has m f =
-        let r = opened_only mid name taken m f in
-        subst (λ x. EncodesFound json_variants x r.0 m) has r.1
-
-    -- the content of the variant does not stand there
-    pub content_missing : (mid : At Token) (name : List ℕ) (tag : ℕ) (content : Encoding)
-        → Leaves Cut (opened name) start mid → content_named 0 vs name ≡ found tag content
-        → DecodesToNothing (Closed content.encodes) mid → DecodesToNothing Encoded start
-    content_missing mid name tag content taken has none m f =
-        let r = opened_only mid name taken m f in
-        let h = subst (λ x. EncodesFound json_variants x r.0 m) has r.1 in
-        none h.part (r.0, f.1, h.has, r.2)
 
 -- ==== readers of a choice of variants
 
@@ -145,25 +69,65 @@ choice_reads vs (Opened name) start mid end m l h =
       leaves_append Cut (opened bytes) h.0 start mid end l h.2,
     )
 
-pub choice_rejected : (vs : Variants Encoding) (name : VariantName) (start mid : At Token)
-    → Leaves Cut (name_tokens name) start mid
-    → DecodesToNothing (After 0 vs (is_alone name) (bytes_of name)) mid
-    → DecodesToNothing (EncodesVariant json_variants vs) start
-choice_rejected vs (Alone name) start mid l none =
-    let bytes = string_bytes name in
-    let No = DecodesToNothing (EncodesVariant json_variants vs) start in
-    elim (unit_named 0 vs bytes) as (λ u. unit_named 0 vs bytes ≡ u → No) [
-      | Some tag ↦ λ e. absurd (none (tagged tag nothing) ([], mid, (tag, e, refl, refl), refl))
-      | None ↦ λ e. unit_unknown start vs mid bytes l e
-    ] refl
-choice_rejected vs (Opened name) start mid l none =
-    let bytes = string_bytes name in
-    let No = DecodesToNothing (EncodesVariant json_variants vs) start in
-    elim (content_named 0 vs bytes) as (λ f. content_named 0 vs bytes ≡ f → No) [
-      | nobody ↦ λ e. content_unknown start vs mid bytes l e
-      | found tag content ↦ λ e. content_missing start vs mid bytes tag content l e (λ m f.
-          let Is : Found Encoding → Type 0 =
-          λ k. EncodesFound json_variants k f.0 (tagged tag m) in
-          let encodes = subst Is (sym e) (record { part = m; has = f.2; is = refl }) in
-          none (tagged tag m) (f.0, f.1, encodes, f.3))
-    ] refl
+module _ (vs : Variants Encoding) where
+  abbrev pub Encoded : List Token → Meaning → Type 0
+  Encoded = EncodesVariant json_variants vs
+
+  -- a variant begins with its name
+  pub name_leads : (pending : Token) → LeadsTo Encoded VariantBegins [] pending
+  name_leads pending us more rest next m (inl h) is = (us, h.name, next, more, inl h.one, is)
+  name_leads pending us more rest next m (inr h) is =
+      let f = first_token h.back next more in
+      let joined = append_assoc (opened h.name) h.back (next ∷ more) in
+      let whole = sym joined ∙ (ap (λ (xs : List Token). xs ++ next ∷ more) (sym h.are) ∙ is) in
+      (opened h.name, h.name, f.0, f.1, inr refl, ap (λ (xs : List Token). opened h.name ++ xs) (sym f.2) ∙ whole)
+
+  -- after its name comes its content, if it has one
+  pub alone_leads : (name : List ℕ) (pending : Token) → LeadsTo Encoded (After 0 vs true name) (alone name) pending
+  alone_leads name pending us more rest next m (inl h) is =
+      let whole = ap (λ (xs : List Token). xs ++ next ∷ more) (sym h.one) ∙ is in
+      let first : str h.name ≡ str name = cc whole in
+      let left : next ∷ more ≡ pending ∷ rest = cc whole in
+      let same = str_injective h.name name first in
+      ([], m, next, more, (h.tag, subst (λ (n : List ℕ). unit_named 0 vs n ≡ Some h.tag) same h.has, refl, h.is), left)
+  alone_leads name pending us more rest next m (inr h) is =
+      let joined = append_assoc (opened h.name) h.back (next ∷ more) in
+      let whole = sym joined ∙ (ap (λ (xs : List Token). xs ++ next ∷ more) (sym h.are) ∙ is) in
+      let both : curly_open ≡ str name = cc whole in
+      absurd (cc both)
+
+  pub opened_leads : (name : List ℕ) (pending : Token) → LeadsTo Encoded (After 0 vs false name) (opened name) pending
+  opened_leads name pending us more rest next m (inl h) is =
+      let whole = ap (λ (xs : List Token). xs ++ next ∷ more) (sym h.one) ∙ is in
+      let both : str h.name ≡ curly_open = cc whole in
+      absurd (cc both)
+  opened_leads name pending us more rest next m (inr h) is =
+      let joined = append_assoc (opened h.name) h.back (next ∷ more) in
+      let whole = sym joined ∙ (ap (λ (xs : List Token). xs ++ next ∷ more) (sym h.are) ∙ is) in
+      let first : str h.name ≡ str name = cc whole in
+      let left : h.back ++ next ∷ more ≡ pending ∷ rest = cc whole in
+      let same = str_injective h.name name first in
+      let Is = λ (x : List ℕ). EncodesFound json_variants (content_named 0 vs x) h.back m in
+      (h.back, m, next, more, subst Is same h.content, left)
+
+  pub choice_leads : (name : VariantName) (pending : Token)
+      → LeadsTo Encoded (After 0 vs (is_alone name) (bytes_of name)) (name_tokens name) pending
+  choice_leads (Alone name) pending = alone_leads (string_bytes name) pending
+  choice_leads (Opened name) pending = opened_leads (string_bytes name) pending
+
+  -- the content of the variant with the name
+  pub content_leads : (name : List ℕ) (tag : ℕ) (content : Encoding) → content_named 0 vs name ≡ found tag content
+      → (pending : Token) → LeadsTo Encoded (Closed content.encodes) (opened name) pending
+  content_leads name tag content has pending us more rest next m e is =
+      let k = opened_leads name pending us more rest next m e is in
+      let h = subst (λ x. EncodesFound json_variants x k.0 k.1) has k.4 in
+      (k.0, h.part, k.2, k.3, h.has, k.5)
+
+  -- no variant has the name
+  pub no_unit : (name : List ℕ) → unit_named 0 vs name ≡ None → (ts : List Token) (m : Meaning)
+      → After 0 vs true name ts m → ⊥
+  no_unit name none ts m h = let both = sym h.1 ∙ none in absurd (cc both)
+
+  pub no_content : (name : List ℕ) → content_named 0 vs name ≡ nobody → (ts : List Token) (m : Meaning)
+      → After 0 vs false name ts m → ⊥
+  no_content name none ts m h = subst (λ x. EncodesFound json_variants x ts m) none h

@@ -2,7 +2,7 @@
 use Rattle.std.specs.Prelude.{◌≡◌, ℕ, Bool, List, [], Result, MatchResult, true, false, cond, ◌∷◌}
 use Rattle.std.specs.Prelude.{◌++◌}
 use Rattle.nano_value.specs.Meaning.{Meaning}
-use Rattle.nano_grammar.specs.Outcomes.{Position, Fails, Took}
+use Rattle.nano_grammar.specs.Outcomes.{Position, Took, ReadsNone, ReadsNoneAndEnds}
 use Rattle.nano_json_tokens.specs.Cut.{Cut}
 use Rattle.nano_json_tokens.specs.Outcomes.{report, Says}
 use Rattle.nano_json_tokens.specs.State.{ended, place_of}
@@ -10,8 +10,8 @@ use Rattle.nano_json_tokens.specs.Token.{Token, str}
 use Rattle.nano_json_tokens.specs.declared.error.DeJsonErr.{DeJsonErr}
 use Rattle.nano_json_tokens.specs.declared.state.DeJsonState.{DeJsonState}
 use Rattle.nano_grammar.specs.Fields.{HasEncoding, unknown_message}
-use Rattle.nano_grammar.specs.UserOutcomes.{NoField, ReadField, ReadsField as ReadsFieldBy}
-use Rattle.nano_grammar.specs.UserOutcomes.{GivesValues as GivesValuesBy, Misses, FailsAndEnds}
+use Rattle.nano_grammar.specs.UserOutcomes.{FieldTokens, ReadField, ReadsField as ReadsFieldBy}
+use Rattle.nano_grammar.specs.UserOutcomes.{GivesValues as GivesValuesBy, Misses}
 use Rattle.nano_grammar.specs.UserOutcomes.{HoldsFields as HoldsFieldsBy}
 use Rattle.nano_grammar.specs.UserOutcomes.{ReadsChoice as ReadsChoiceBy, ReadsEnum as ReadsEnumBy}
 use Rattle.nano_json_schema.specs.Variants.{is_alone, bytes_of}
@@ -25,18 +25,18 @@ use Rattle.nano_json_tokens.specs.declared.token.DeJsonTok.TheVariants.{Eof}
 
 -- ---- tokens
 
--- a call takes these tokens, or reports the fact
-abbrev pub TakesTokens : {A : Type 0} → (A → List Token) → Type 0 → Position Token → Position Token
-    → Result A DeJsonErr → Type 0
-TakesTokens tokens none start end result = MatchResult result
-    (λ x. Took Cut (Unit {0}) start end (tokens x)) (λ e. Fails none start end (report e))
+-- a call takes these tokens; an error says that no such tokens stand here
+abbrev pub TakesTokens : {A V : Type 0} → (A → List Token) → (List Token → V → Type 0)
+    → Position Token → Position Token → Result A DeJsonErr → Type 0
+TakesTokens tokens encodes start end result = MatchResult result
+    (λ x. Took Cut (Unit {0}) start end (tokens x)) (λ e. ReadsNone Cut encodes start end (report e))
 
 -- the same, and an error leaves the state at the end of the text
-abbrev pub TakesTokensOrEnds : {A : Type 0} → (A → List Token) → Type 0 → Position Token
-    → Position Token → Result A DeJsonErr → Type 0
-TakesTokensOrEnds tokens none start end result = MatchResult result
+abbrev pub TakesTokensOrEnds : {A V : Type 0} → (A → List Token) → (List Token → V → Type 0)
+    → Position Token → Position Token → Result A DeJsonErr → Type 0
+TakesTokensOrEnds tokens encodes start end result = MatchResult result
     (λ x. Took Cut (Unit {0}) start end (tokens x))
-    (λ e. FailsAndEnds ended none start end (report e))
+    (λ e. ReadsNoneAndEnds Cut encodes start end ended (report e))
 
 -- ---- fields
 
@@ -51,7 +51,7 @@ module _ (name : List ℕ) (shape : Shape) (before after : List Field → Type 0
       → Type 0
   TakesValue start end result = MatchResult result
       (λ _. ReadField Cut [] name (Allowed shape) before after start end)
-      (λ e. Fails (NoField Cut [] name (Allowed shape) start.at) start end (report e))
+      (λ e. ReadsNone Cut (FieldTokens [] name (Allowed shape)) start end (report e))
 
 module _ (shape : Shape) (holds : List Field → Type 0) where
   -- a call gives values which mean what the fields do that are held

@@ -10,8 +10,9 @@ use Rattle.nano_grammar.specs.Fields.{Allowed as AllowedOf, EncodedFields, Shape
 use Rattle.nano_json_tokens.specs.Token.{Token, str, colon, comma, curly_close}
 use Rattle.nano_json_schema.specs.FieldCodecs.{json_fields}
 use Rattle.nano_text.specs.Place.{remaining}
-use Rattle.nano_grammar.specs.Outcomes.{Position, Moved, Fails}
-use Rattle.nano_grammar.specs.Tokens.{At, Leaves, Spans, DecodesToNothing}
+use Rattle.nano_grammar.specs.Outcomes.{Position, Moved, Fails, ReadsNone}
+use Rattle.nano_grammar.specs.Tokens.{At, Leaves, Spans}
+use Rattle.nano_grammar.specs.Faults.{AreTokens}
 use Rattle.nano_json_tokens.specs.Cut.{Cut, json_grammar}
 use Rattle.nano_json_tokens.specs.Scan.{TookName, is_end}
 use Rattle.nano_json_tokens.specs.Outcomes.{report, Keeps, Moved as MovedBy}
@@ -110,27 +111,31 @@ module _ (before_name : Bool) (old : DeJsonState) (before : Chars) (new : DeJson
 
 -- ---- the name with its colon, and the value
 
--- wherever the field begins, no colon comes after the token there
-abbrev pub NoColonAfter : Option (List ℕ) → At Token → Type 0
-NoColonAfter name now = (here : At Token) → StandsAfter name here now
-    → (next : At Token) → Leaves Cut (here.token ∷ (colon ∷ [])) here next → ⊥
+-- what is left of a name and a colon: both, or the colon where the name was taken in place
+abbrev pub head_left : Option (List ℕ) → Token → List Token
+head_left None t = t ∷ (colon ∷ [])
+head_left (Some name) t = colon ∷ []
 
--- wherever the field begins, none is encoded there
-abbrev pub NoFieldAfter : Option (List ℕ) → At Token → Shape → Type 0
-NoFieldAfter name now shape = (here : At Token) → StandsAfter name here now
-    → DecodesToNothing Cut (EncodesField shape) here
+-- the name is this one, if it was taken in place
+abbrev pub IsNamed : Option (List ℕ) → List ℕ → Type 0
+IsNamed None name = Unit {0}
+IsNamed (Some taken) name = taken ≡ name
+
+-- what is left of a field: all of it, or what comes after its name where that was taken in place
+abbrev pub FieldLeft : Option (List ℕ) → Shape → List Token → Field → Type 0
+FieldLeft None shape ts f = EncodesField shape ts f
+FieldLeft (Some name) shape ts f = EncodesField shape (str name ∷ ts) f
 
 module _ (name : Option (List ℕ)) (start end : Position Token) where
-  -- wherever the field begins, its name and a colon were taken
+  -- the field has this name, and what was left of it and of a colon was taken
   pub record TookColon (taken : List ℕ) : Type 0 where
-    pub head : (here : At Token) → StandsAfter name here start.at
-        → Leaves Cut (str taken ∷ (colon ∷ [])) here end.at
-    pub some : TakesSome start.at end.at
+    pub named : IsNamed name taken
+    pub head : Leaves Cut (head_left name (str taken)) start.at end.at
     pub place : Moved start end
 
   abbrev pub TakesColonAfter : Result (Bor (List ℕ)) DeJsonErr → Type 0
   TakesColonAfter result = MatchResult result (λ taken. TookColon taken.now)
-      (λ e. Fails (NoColonAfter name start.at) start end (report e))
+      (λ e. ReadsNone Cut (AreTokens (head_left name start.at.token)) start end (report e))
 
   module _ (shape : Shape) (before after : List Field → Type 0) where
     -- wherever the field begins, it was taken. Where the fields before it were held, they are held
@@ -144,7 +149,7 @@ module _ (name : Option (List ℕ)) (start end : Position Token) where
 
     abbrev pub TakesField : {A : Type 0} → Result A DeJsonErr → Type 0
     TakesField result = MatchResult result (λ _. TookField)
-        (λ e. Fails (NoFieldAfter name start.at shape) start end (report e))
+        (λ e. ReadsNone Cut (FieldLeft name shape) start end (report e))
 
 -- ==== variants
 
@@ -153,10 +158,21 @@ abbrev pub name_tokens : VariantName → List Token
 name_tokens (Alone name) = alone (string_bytes name)
 name_tokens (Opened name) = opened (string_bytes name)
 
--- no variant begins here
-pub record NoVariantBegins (start : At Token) : Type 0 where
-  pub alone : (name : List ℕ) (after : At Token) → Leaves Cut (alone name) start after → ⊥
-  pub opened : (name : List ℕ) (after : At Token) → Leaves Cut (opened name) start after → ⊥
+-- a name and the colon after it
+abbrev pub AKey : List Token → List ℕ → Type 0
+AKey ts name = ts ≡ str name ∷ (colon ∷ [])
+
+-- the name of a variant without content
+abbrev pub AloneName : List Token → List ℕ → Type 0
+AloneName ts name = ts ≡ alone name
+
+-- the name of a variant with content, between a bracket and a colon
+abbrev pub OpenedName : List Token → List ℕ → Type 0
+OpenedName ts name = ts ≡ opened name
+
+-- what a variant begins with
+abbrev pub VariantBegins : List Token → List ℕ → Type 0
+VariantBegins ts name = AloneName ts name ⊎ OpenedName ts name
 
 -- content, and the closing bracket after it
 abbrev pub Closed : (List Token → Meaning → Type 0) → List Token → Meaning → Type 0

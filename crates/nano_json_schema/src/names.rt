@@ -3,6 +3,7 @@
 ghost use Rattle.std.specs.Prelude.{◌≡◌, ◌≢◌, [], ◌∷◌, true, false, None, string_bytes};
 ghost use Rattle.std.specs.declared.str.Chars.{Chars};
 ghost use Rattle.nano_grammar.specs.Tokens.{Leaves};
+ghost use Rattle.nano_grammar.specs.Faults.{AreTokens};
 ghost use Rattle.nano_json.specs.Outcomes.{position, NoneHere};
 ghost use Rattle.nano_json.specs.State.{pending};
 ghost use Rattle.nano_json.specs.Token.{IsStr};
@@ -24,7 +25,7 @@ pub(crate) fn open_fields<'a>(
     input: &mut Chars<'a>,
 ) -> Result<Option<&'a str>, DeJsonErr>
     ensures { ReachesName (λ start end. Leaves Cut (curly_open ∷ []) start end)
-        (NoneHere (curly_open ∷ []) state.old input.old)
+        (NoneHere (curly_open ∷ []) state.old input.old state.new input.new)
         (position state.old input.old) (position state.new input.new) result }
 {
     let name = name_after(is_opening(state), state, input);
@@ -43,7 +44,8 @@ pub(crate) fn next_field<'a>(
     input: &mut Chars<'a>,
 ) -> Result<Option<&'a str>, DeJsonErr>
     ensures { ReachesName GoesOn
-        ((pending state.old ≢ curly_close) × NoneHere (comma ∷ []) state.old input.old)
+        ((pending state.old ≢ curly_close)
+            × NoneHere (comma ∷ []) state.old input.old state.new input.new)
         (position state.old input.old) (position state.new input.new) result }
 {
     let name = name_after(is_comma(state), state, input);
@@ -80,7 +82,7 @@ pub(crate) fn take_name(
 ) -> Result<(), DeJsonErr>
     requires { IsStr (pending state.old) }
     ensures { TakesTokens (λ _. str (string_bytes name.new) ∷ (colon ∷ []))
-        (NoneHere (pending state.old ∷ (colon ∷ [])) state.old input.old)
+        (AreTokens (pending state.old ∷ (colon ∷ [])))
         (position state.old input.old) (position state.new input.new) result }
 {
     state.next_tok(alloc, input)?;

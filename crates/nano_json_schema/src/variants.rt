@@ -1,13 +1,12 @@
 //! The variants of enums, read: a name, and between braces a name with its content.
 
-ghost use Rattle.std.specs.Prelude.{◌∷◌, [], ℕ, List, string_bytes};
-ghost use Rattle.nano_json.specs.Outcomes.{position, ReadsOrEnds, NoneHere};
-ghost use Rattle.nano_json.specs.State.{at};
+ghost use Rattle.std.specs.Prelude.{◌∷◌, [], string_bytes};
+ghost use Rattle.nano_grammar.specs.Faults.{AreTokens};
+ghost use Rattle.nano_json.specs.Outcomes.{position, ReadsOrEnds};
 ghost use Rattle.nano_json.specs.Token.{str, colon, curly_close};
 ghost use Rattle.nano_json_schema.specs.Reading.{EncodesFields, Closed, name_tokens};
-ghost use Rattle.nano_json_schema.specs.Reading.{NoVariantBegins};
+ghost use Rattle.nano_json_schema.specs.Reading.{VariantBegins, AloneName, OpenedName, AKey};
 ghost use Rattle.nano_json_schema.specs.Outcomes.{TakesTokens, TakesTokensOrEnds, GivesUnknown};
-ghost use Rattle.nano_json_schema.specs.Variants.{alone, opened};
 
 use crate::fields::JsonFields;
 use crate::read::read_fields;
@@ -35,7 +34,7 @@ pub fn read_variant_name(
     state: &mut DeJsonState,
     input: &mut Chars<'_>,
 ) -> Result<VariantName, DeJsonErr>
-    ensures { TakesTokensOrEnds name_tokens (NoVariantBegins (at state.old input.old))
+    ensures { TakesTokensOrEnds name_tokens VariantBegins
         (position state.old input.old) (position state.new input.new) result }
 {
     let read = read_name(alloc, state, input);
@@ -49,7 +48,7 @@ fn read_name(
     state: &mut DeJsonState,
     input: &mut Chars<'_>,
 ) -> Result<VariantName, DeJsonErr>
-    ensures { TakesTokens name_tokens (NoVariantBegins (at state.old input.old))
+    ensures { TakesTokens name_tokens VariantBegins
         (position state.old input.old) (position state.new input.new) result }
 {
     match state.tok {
@@ -65,7 +64,7 @@ fn read_alone(
     state: &mut DeJsonState,
     input: &mut Chars<'_>,
 ) -> Result<VariantName, DeJsonErr>
-    ensures { TakesTokens name_tokens ((name : List ℕ) → NoneHere (alone name) state.old input.old)
+    ensures { TakesTokens name_tokens AloneName
         (position state.old input.old) (position state.new input.new) result }
 {
     let name = state.as_string(alloc)?;
@@ -79,7 +78,7 @@ fn read_opened(
     state: &mut DeJsonState,
     input: &mut Chars<'_>,
 ) -> Result<VariantName, DeJsonErr>
-    ensures { TakesTokens name_tokens ((name : List ℕ) → NoneHere (opened name) state.old input.old)
+    ensures { TakesTokens name_tokens OpenedName
         (position state.old input.old) (position state.new input.new) result }
 {
     state.curly_open(alloc, input)?;
@@ -94,7 +93,7 @@ fn read_key(
     input: &mut Chars<'_>,
 ) -> Result<String, DeJsonErr>
     ensures { TakesTokens (λ name. str (string_bytes name) ∷ (colon ∷ []))
-        ((name : List ℕ) → NoneHere (str name ∷ (colon ∷ [])) state.old input.old)
+        AKey
         (position state.old input.old) (position state.new input.new) result }
 {
     if state.next_str().is_none() {
@@ -154,7 +153,7 @@ fn close_content(
     input: &mut Chars<'_>,
 ) -> Result<(), DeJsonErr>
     ensures { TakesTokensOrEnds (λ _. curly_close ∷ [])
-        (NoneHere (curly_close ∷ []) state.old input.old)
+        (AreTokens (curly_close ∷ []))
         (position state.old input.old) (position state.new input.new) result }
 {
     let closed = state.curly_close(alloc, input);

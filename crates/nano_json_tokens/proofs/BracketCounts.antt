@@ -2,15 +2,23 @@
 use Rattle.std.proofs.Common.{◌≡◌, ◌≢◌, ℕ, ◌+◌, ◌<◌, ◌≤◌, ◌^◌, List, [], ◌∷◌, ◌++◌, ◌⊎◌, inl, inr}
 use Rattle.std.proofs.Common.{refl, ap, sym, ◌∙◌, subst, true, false, arith, append-nil, length}
 use Rattle.std.specs.List.{AllByRecursion}
-use Rattle.nano_grammar.proofs.TokensLaws.{leaves_append, meets}
+use Rattle.std.proofs.Common.{append_assoc}
+use Rattle.std.proofs.lemmas.List.{append_cancel_left}
+use Rattle.nano_text.specs.Place.{text_at}
+use Rattle.nano_text.proofs.PlaceLaws.{moves_advance}
+use Rattle.nano_grammar.proofs.TokensLaws.{leaves_append}
+use Rattle.nano_grammar.proofs.ItemLaws.{append_meets}
+use Rattle.nano_grammar.proofs.FaultLaws.{LeadsTo}
 use Rattle.nano_grammar.specs.Tokens.{At, Leaves}
+use Rattle.nano_grammar.specs.Faults.{NothingCut, wrong, uncut}
+use Rattle.nano_grammar.specs.Outcomes.{Position, Moved, GoesWrong}
 use Rattle.nano_json_tokens.specs.Token.{Token, str, u64, i64, f64, bool, null, curly_open}
 use Rattle.nano_json_tokens.specs.Token.{block_open, end}
 use Rattle.nano_json_tokens.specs.Cut.{Cut}
 use Rattle.nano_json_tokens.specs.Scan.{is_scalar, is_opening, is_end}
 use Rattle.nano_json_tokens.specs.Skipped.{SkippedField, BeginsField, IsBracketed, IsScalar, opens}
+use Rattle.nano_json_tokens.specs.Skipped.{Brackets, Skips}
 use Rattle.nano_json_tokens.specs.Skipped.{closes, opens_in, closes_in}
-use Rattle.nano_json_tokens.proofs.Cuts.{cut_one_way}
 use Rattle.nano_json_tokens.proofs.Capacity.{left, left_token, cut_shorter}
 
 -- the end is none of them
@@ -168,41 +176,90 @@ step s0 s m depth next h more remaining c d = record {
 pub found : (s0 s : At Token) → Counting s0 s 0 → (us : List Token) × IsBracketed us × Leaves Cut us s0 s
 found s0 s h = (h.prefix, record { first = h.first; following = h.following; are = h.are; opening = h.opening; even = omega (arith, h.count); shortest = h.inner; no_end = h.no_end }, h.taken)
 
--- while a bracket of a field is open, one more token is taken, and it is not the end
-pub goes_on : (s0 s m : At Token) (depth : ℕ) (us : List Token) (h : Counting s0 s depth) → 0 < depth → IsBracketed us → Leaves Cut us s0 m
-    → (s.token ≢ end) × ((x : At Token) × Cut s.text x.token x.text)
-goes_on s0 s m depth us h more b l =
-    elim (meets Cut cut_one_way h.prefix us s0 s m h.taken l) [
-      | inl r ↦ after_prefix r.0 r.1 r.2
+-- while a bracket of a field is open, the pending token belongs to it and is not the end, and one
+-- more follows
+pub stays_open : (s0 s : At Token) (depth : ℕ) (h : Counting s0 s depth) → 0 < depth
+    → (us left more : List Token) (next : Token) → IsBracketed us
+    → us ++ next ∷ left ≡ h.prefix ++ s.token ∷ more
+    → (s.token ≢ end) × ((inside : List Token) × (inside ++ next ∷ left ≡ more))
+stays_open s0 s depth h some us left more next b is =
+    elim (append_meets h.prefix (s.token ∷ more) us (next ∷ left) (sym is)) [
+      | inl r ↦ after_prefix r.0 r.1
       | inr r ↦ elim (h.inner us r.0 r.1 b.even) [
         | inl q ↦ let x = sym q ∙ b.are in cc x
-        | inr q ↦ absurd (uneven h.prefix us depth (whole h.prefix us r.0 r.1 q) b.even h.count more)
+        | inr q ↦ absurd (uneven h.prefix us depth (whole h.prefix us r.0 r.1 q) b.even h.count some)
       ]
     ] where
-      after_prefix : (cs : List Token) → us ≡ h.prefix ++ cs → Leaves Cut cs s m → (s.token ≢ end) × ((x : At Token) × Cut s.text x.token x.text)
-      after_prefix [] e k = absurd (uneven h.prefix us depth (sym (whole us h.prefix [] e refl)) b.even h.count more)
-      after_prefix (t ∷ cs) e k = (λ x. NoEnd-following h.prefix t cs (subst NoEnd e b.no_end) (k.0 ∙ x), (k.1.0, k.1.1))
+      after_prefix : (cs : List Token) → us ≡ h.prefix ++ cs
+          → (s.token ≢ end) × ((inside : List Token) × (inside ++ next ∷ left ≡ more))
+      after_prefix [] e = absurd (uneven h.prefix us depth (sym (whole us h.prefix [] e refl)) b.even h.count some)
+      after_prefix (t ∷ cs) e =
+          let joined = append_assoc h.prefix (t ∷ cs) (next ∷ left) in
+          let moved = sym joined ∙ (ap (λ (xs : List Token). xs ++ next ∷ left) (sym e) ∙ is) in
+          let both = append_cancel_left h.prefix (t ∷ (cs ++ next ∷ left)) (s.token ∷ more) moved in
+          let same : t ≡ s.token = cc both in
+          let rest : cs ++ next ∷ left ≡ more = cc both in
+          (λ x. NoEnd-following h.prefix t cs (subst NoEnd e b.no_end) (same ∙ x), (cs, rest))
 
--- where a bracket is taken, a token is cut
-pub bracket_cut : (us : List Token) (s m : At Token) → IsBracketed us → Leaves Cut us s m → (x : At Token) × Cut s.text x.token x.text
-bracket_cut us s m b l = let k = subst (λ (xs : List Token). Leaves Cut xs s m) b.are l in (k.1.0, k.1.1)
+-- no brackets are closed where the end is pending
+pub end_in_brackets : (start here : Position Token) (depth : ℕ) → Counting start.at here.at depth → 0 < depth
+    → here.at.token ≡ end → here.at.text ≡ text_at here.place here.input → Moved start here
+    → GoesWrong Cut Brackets start here
+end_in_brackets start here depth h some is text moved = record {
+  here = here;
+  text = text;
+  moved = moved;
+  reason = wrong;
+  fault = record {
+    tokens = h.prefix;
+    taken = h.taken;
+    none = λ more _ us left next v b e. (stays_open start.at here.at depth h some us left more next b e).0 is;
+  };
+  stands = (refl, refl);
+}
 
--- where a field is skipped, a token is cut
-pub skipped_cut : (us : List Token) (s m : At Token) → SkippedField us → Leaves Cut us s m → (x : At Token) × Cut s.text x.token x.text
-skipped_cut us s m (inl h) l = let k = subst (λ (xs : List Token). Leaves Cut xs s m) h.1 l in (k.1.0, k.1.1)
-skipped_cut us s m (inr b) l = bracket_cut us s m b l
+nothing_follows : (inside left : List Token) (next : Token) → inside ++ next ∷ left ≡ [] → ⊥
+nothing_follows [] left next e = absurd (cc e)
+nothing_follows (t ∷ inside) left next e = absurd (cc e)
 
--- where a field is skipped, the pending token begins one
-pub skipped_begins : (us : List Token) (s m : At Token) → SkippedField us → Leaves Cut us s m → BeginsField s.token
-skipped_begins us s m (inl h) l = let k = subst (λ (xs : List Token). Leaves Cut xs s m) h.1 l in inl (subst IsScalar k.0 h.2)
-skipped_begins us s m (inr b) l = let k = subst (λ (xs : List Token). Leaves Cut xs s m) b.are l in inr (ap opens (sym k.0) ∙ b.opening)
+-- and where no token is cut after the pending one
+pub uncut_in_brackets : (start here there : Position Token) (depth : ℕ) → Counting start.at here.at depth → 0 < depth
+    → NothingCut Cut here.at.text → here.at.text ≡ text_at here.place here.input → Moved start here → Moved here there
+    → GoesWrong Cut Brackets start there
+uncut_in_brackets start here there depth h some none text moved further = record {
+  here = here;
+  text = text;
+  moved = moved;
+  reason = uncut none;
+  fault = record {
+    tokens = h.prefix;
+    taken = h.taken;
+    none = λ more follows us left next v b e.
+        let k = (stays_open start.at here.at depth h some us left more next b e).1 in
+        nothing_follows k.0 left next (k.1 ∙ follows);
+  };
+  stands = moves_advance further;
+}
+
+pub bracket_some : IsBracketed [] → ⊥
+bracket_some b = absurd (cc b.are)
+
+pub skipped_some : SkippedField [] → ⊥
+skipped_some (inl h) = absurd (cc h.1)
+skipped_some (inr b) = bracket_some b
+
+-- a skipped field begins with a token that begins one
+pub skipped_begins : (t : Token) (us : List Token) → SkippedField (t ∷ us) → BeginsField t
+skipped_begins t us (inl h) = let same : t ≡ h.0 = cc h.1 in inl (subst IsScalar (sym same) h.2)
+skipped_begins t us (inr b) = let same : t ≡ b.first = cc b.are in inr (ap opens same ∙ b.opening)
 
 -- where a bracket is pending, only brackets are skipped
-pub skipped_bracket : (us : List Token) (s m : At Token) → SkippedField us → Leaves Cut us s m → is_opening s.token ≡ true → IsBracketed us
-skipped_bracket us s m (inl h) l x =
-    let k = subst (λ (xs : List Token). Leaves Cut xs s m) h.1 l in
-    absurd (scalar_opens h.0 h.2 (ap opens k.0 ∙ opening_one s.token x))
-skipped_bracket us s m (inr b) l x = b
+pub skipped_bracket : (pending : Token) → is_opening pending ≡ true → LeadsTo Skips Brackets [] pending
+skipped_bracket pending opening us more rest next v (inl h) is =
+    let joined = ap (λ (xs : List Token). xs ++ next ∷ more) (sym h.1) ∙ is in
+    let same : h.0 ≡ pending = cc joined in
+    absurd (scalar_opens h.0 h.2 (ap opens same ∙ opening_one pending opening))
+skipped_bracket pending opening us more rest next v (inr b) is = (us, tt, next, more, b, is)
 
 -- no skipped field is a proper beginning of another
 pub skipped_apart : (us more : List Token) → SkippedField us → SkippedField (us ++ more) → more ≡ []

@@ -6,10 +6,12 @@ use Rattle.std.specs.declared.str.Chars.{Chars}
 use Rattle.nano_text.specs.Place.{remaining}
 use Rattle.nano_text.proofs.PlaceLaws.{moves_append}
 use Rattle.nano_text.proofs.RemainingText.{remaining_end}
-use Rattle.nano_grammar.specs.Tokens.{At, Leaves}
-use Rattle.nano_grammar.specs.Outcomes.{Position, Fails, Stops, TookNext, given_up}
+use Rattle.nano_grammar.specs.Tokens.{At}
+use Rattle.nano_grammar.specs.Faults.{AreTokens}
+use Rattle.nano_grammar.specs.Outcomes.{Position, Report, Fails, Stops, TookNext, ReadsNone, given_up}
+use Rattle.nano_grammar.proofs.FaultLaws.{goes_wrong, stopped_here, none_ended, later_tokens_lead}
 use Rattle.nano_grammar.proofs.TokensLaws.{same_at}
-use Rattle.nano_grammar.proofs.TokenCalls.{fails_after, fails_as, fails_ended}
+use Rattle.nano_grammar.proofs.TokenCalls.{fails_as, fails_ended, none_in}
 use Rattle.nano_grammar.proofs.TokenCalls.{ended_read as ended_read_by, took, rejects_next}
 use Rattle.nano_grammar.proofs.TokenCalls.{rejects_here, took_comma}
 use Rattle.nano_json_tokens.specs.Cut.{Cut}
@@ -60,8 +62,17 @@ made_there mid new e is made = (
   made.2 ∙ ap (λ (s : DeJsonState). s.col) is,
 )
 
-none_after : (t : Token) (s : DeJsonState) (i : Chars) → NothingCut (remaining s.cur i) → NoneHere (t ∷ []) s i
-none_after t s i none after l = none l.1.0.token l.1.0.text l.1.1
+-- no value goes wrong where a reader gives up, but on the way there
+pub none_ended_there : {V : Type 0} (encodes : List Token → V → Type 0) {start : Position Token} (mid new : DeJsonState)
+    (j : Chars) (e : DeJsonErr) → new ≡ record mid { tok = Eof; cur = 0 }
+    → ReadsNone Cut encodes start (position mid j) (report e) → ReadsNone Cut encodes start (position new j) (report e)
+none_ended_there encodes mid new j e is h = none_ended Cut encodes ended (gives_up mid new j is) h
+
+-- where no token is cut after the pending one, these are not taken
+pub none_stopped : (t : Token) (ts : List Token) (old new : DeJsonState) (i j : Chars) {e : Report}
+    → Fails (NothingCut (remaining old.cur i)) (position old i) (position new j) e
+    → Fails (NoneHere (t ∷ ts) old i new j) (position old i) (position new j) e
+none_stopped t ts old new i j h = stopped_here Cut (AreTokens (t ∷ ts)) refl (λ v e. absurd (cc e)) h
 
 -- ---- the pending token and the next one
 
@@ -69,12 +80,17 @@ none_after t s i none after l = none l.1.0.token l.1.0.text l.1.1
 pub takes_one : {A : Type 0} (t : Token) (old new : DeJsonState) (i j : Chars) → pending old ≡ t
     → (r : Result A DeJsonErr) → TakesNext old i new j r → TakesOne old i new j t r
 takes_one t old new i j is r h =
-    MatchResult-weaker r h (λ _ x. took t is x) (λ _ x. rejects_next is (none_after t old i) x)
+    MatchResult-weaker r h (λ _ x. took t is x) (λ _ x. rejects_next is (none_stopped t [] old new i j) x)
 
 -- where it is another one
+none_here : (t : Token) (s : DeJsonState) (i : Chars) → pending s ≢ t → NoneHere (t ∷ []) s i s i
+none_here t s i other =
+    goes_wrong Cut (AreTokens (t ∷ [])) (position s i) refl (λ v e. absurd (cc e))
+    (λ ts v e. let same : pending s ≡ t = cc e in other same)
+
 pub rejects_other : (t : Token) (s : DeJsonState) (i : Chars) (e : DeJsonErr) → pending s ≢ t → IsMadeAt s e
-    → NotTaken s i s i (pending s ≡ t) (NoneHere (t ∷ []) s i) e
-rejects_other t s i e other made = rejects_here other (λ after l. other (sym l.0)) (refl, refl) made
+    → NotTaken s i s i (pending s ≡ t) (NoneHere (t ∷ []) s i s i) e
+rejects_other t s i e other made = rejects_here other (none_here t s i other) (refl, refl) made
 
 -- ---- a comma, or a closing bracket
 
@@ -84,14 +100,14 @@ pub takes_comma : {A : Type 0} (closing : Token) → comma ≢ closing → (old 
 takes_comma closing apart old new i j is r h =
     let more : pending old ≢ closing = λ closes. apart (sym is ∙ closes) in
     MatchResult-weaker r h (λ _ x. took_comma comma closing is x)
-    (λ _ x. (more, rejects_next is (λ none. (more, none_after comma old i none)) x))
+    (λ _ x. (more, rejects_next is (λ f. fails_as (λ w. (more, w)) (none_stopped comma [] old new i j f)) x))
 
 pub rejects_comma : (closing : Token) (s : DeJsonState) (i : Chars) (e : DeJsonErr) → pending s ≢ comma
     → pending s ≢ closing → IsMadeAt s e
     → (pending s ≢ closing)
-    × NotTaken s i s i (pending s ≡ comma) ((pending s ≢ closing) × NoneHere (comma ∷ []) s i) e
+    × NotTaken s i s i (pending s ≡ comma) ((pending s ≢ closing) × NoneHere (comma ∷ []) s i s i) e
 rejects_comma closing s i e other more made =
-    (more, rejects_here other (more, λ after l. other (sym l.0)) (refl, refl) made)
+    (more, rejects_here other (more, none_here comma s i other) (refl, refl) made)
 
 -- ---- a colon after the pending token
 
@@ -114,11 +130,10 @@ module _ (old mid : DeJsonState) (i j : Chars)
   colon_or_not _ = inr (λ e. cc e)
 
   pub no_colon_after : (new : DeJsonState) (k : Chars) (e : DeJsonErr)
-      → NotTaken mid j new k (pending mid ≡ colon) (NoneHere (colon ∷ []) mid j) e → NoColon old i new k e
+      → NotTaken mid j new k (pending mid ≡ colon) (NoneHere (colon ∷ []) mid j new k) e → NoColon old i new k e
   no_colon_after new k e x = record {
-    fails = fails_after (λ none after l.
-        let same = same_at Cut cut_one_way (remaining old.cur i) l.1.0 (at mid j) l.1.1 h.taken in
-        none after (subst (λ (s : At Token). Leaves Cut (colon ∷ []) s after) same l.1.2)) h.place x.fails;
+    fails = none_in Cut (AreTokens (pending old ∷ (colon ∷ []))) (AreTokens (colon ∷ [])) (pending old ∷ [])
+        (later_tokens_lead (pending old ∷ []) (colon ∷ []) (pending mid)) (refl, (at mid j, h.taken, refl)) h.place x.fails;
     other = λ known next cut other.
         let same = same_at Cut cut_one_way (remaining old.cur i) (at mid j) next h.taken cut in
         let still = x.unchanged (λ is. other (ap (λ (s : At Token). s.token) (sym same) ∙ is)) in
@@ -138,7 +153,7 @@ pub no_colon_uncut : (old new : DeJsonState) (i k : Chars) (e : DeJsonErr)
     → Stops ended (NothingCut (remaining old.cur i)) (NoCapacity old (remaining old.cur i)) (position old i) (position new k) (report e)
     → NoColon old i new k e
 no_colon_uncut old new i k e h = record {
-  fails = fails_as (λ none after l. none l.1.0.token l.1.0.text l.1.1) h.fails;
+  fails = none_stopped (pending old) (colon ∷ []) old new i k h.fails;
   other = λ known next cut other. absurd (h.fails.rejected known next.token next.text cut);
   left = inr (h.ended, λ t rest cut other. h.capacity t rest cut);
 }

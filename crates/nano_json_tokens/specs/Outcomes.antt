@@ -8,7 +8,8 @@ use Rattle.nano_grammar.specs.Tokens.{At, Leaves}
 use Rattle.nano_grammar.specs.Outcomes.{Report, Position, IsMadeAt as MadeAt, Fails, Stops}
 use Rattle.nano_grammar.specs.Outcomes.{RejectsToken, TookNext, Took, TookComma}
 use Rattle.nano_grammar.specs.Outcomes.{NothingCut as NothingCutBy, Reads as ReadsBy}
-use Rattle.nano_grammar.specs.Outcomes.{ReadsOrEnds as ReadsOrEndsBy}
+use Rattle.nano_grammar.specs.Outcomes.{ReadsOrEnds as ReadsOrEndsBy, GoesWrong as GoesWrongBy}
+use Rattle.nano_grammar.specs.Faults.{AreTokens}
 use Rattle.nano_json_tokens.specs.declared.error.DeJsonErr.{DeJsonErr}
 use Rattle.nano_json_tokens.specs.declared.state.DeJsonState.{DeJsonState}
 use Rattle.nano_json_tokens.specs.declared.token.DeJsonTok.TheVariants.{Eof}
@@ -65,9 +66,19 @@ NothingCut text = NothingCutBy Cut text
 abbrev pub Takes : List Token → DeJsonState → Chars → DeJsonState → Chars → Type 0
 Takes ts old before new after = Leaves Cut ts (at old before) (at new after)
 
+-- no value is encoded from here on: it goes wrong on the way to there
+abbrev pub GoesWrong : {V : Type 0} → (List Token → V → Type 0) → DeJsonState → Chars → DeJsonState → Chars
+    → Type 0
+GoesWrong encodes old before new after =
+    GoesWrongBy Cut encodes (position old before) (position new after)
+
 -- these tokens, with one more or the end after them, do not stand here
-abbrev pub NoneHere : List Token → DeJsonState → Chars → Type 0
-NoneHere ts s i = (after : At Token) → Leaves Cut ts (at s i) after → ⊥
+abbrev pub NoneHere : List Token → DeJsonState → Chars → DeJsonState → Chars → Type 0
+NoneHere ts = GoesWrong (AreTokens ts)
+
+-- a string alone
+abbrev pub AString : List Token → List ℕ → Type 0
+AString ts bytes = ts ≡ str bytes ∷ []
 
 -- the token's text goes to a buffer that has no capacity for it yet
 abbrev pub Outgrows : DeJsonState → Token → Type 0
@@ -110,12 +121,12 @@ module _ (old : DeJsonState) (before : Chars) (new : DeJsonState) (after : Chars
   -- the token is taken
   abbrev pub TakesOne : {A : Type 0} → Token → Result A DeJsonErr → Type 0
   TakesOne t result = MatchResult result (λ _. Taken (t ∷ []))
-      (NotTaken (pending old ≡ t) (NoneHere (t ∷ []) old before))
+      (NotTaken (pending old ≡ t) (NoneHere (t ∷ []) old before new after))
 
   -- a string is taken
   abbrev pub TakesString : {A : Type 0} → Result A DeJsonErr → Type 0
   TakesString result = MatchResult result (λ _. (bytes : List ℕ) × Taken (str bytes ∷ []))
-      (NotTaken (IsStr (pending old)) ((bytes : List ℕ) → NoneHere (str bytes ∷ []) old before))
+      (NotTaken (IsStr (pending old)) (GoesWrong AString old before new after))
 
   -- a comma is taken, or the closing bracket is pending, which is never an error
   abbrev pub TakesComma : {A : Type 0} → Token → Result A DeJsonErr → Type 0
@@ -123,7 +134,7 @@ module _ (old : DeJsonState) (before : Chars) (new : DeJsonState) (after : Chars
       (λ _. TookComma Cut (KeepsOtherBuffers old new) (position old before) (position new after)
       comma closing (Keeps old before new after))
       (λ e. (pending old ≢ closing) × NotTaken (pending old ≡ comma)
-      ((pending old ≢ closing) × NoneHere (comma ∷ []) old before) e)
+      ((pending old ≢ closing) × NoneHere (comma ∷ []) old before new after) e)
 
   -- the token after the pending one is not a colon: it was taken, and is pending
   abbrev pub FindsOther : Type 0
@@ -133,8 +144,8 @@ module _ (old : DeJsonState) (before : Chars) (new : DeJsonState) (after : Chars
 
   -- no colon comes after the pending token
   pub record NoColon (e : DeJsonErr) : Type 0 where
-    pub fails : Fails (NoneHere (pending old ∷ (colon ∷ [])) old before) (position old before)
-        (position new after) (report e)
+    pub fails : Fails (NoneHere (pending old ∷ (colon ∷ [])) old before new after)
+        (position old before) (position new after) (report e)
     pub other : e.memory ≡ false → (next : At Token)
         → Cut (remaining old.cur before) next.token next.text → next.token ≢ colon
         → at new after ≡ next

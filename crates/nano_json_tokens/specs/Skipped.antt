@@ -11,7 +11,7 @@ use Rattle.nano_json_tokens.specs.declared.scan.Rejection.{Rejection}
 use Rattle.nano_json_tokens.specs.declared.scan.Rejection.TheVariants.{Memory}
 use Rattle.nano_json_tokens.specs.declared.state.DeJsonState.{DeJsonState}
 use Rattle.nano_json_tokens.specs.Cut.{Cut}
-use Rattle.nano_json_tokens.specs.Outcomes.{report, position, Keeps, Moved, NoneHere, NoCapacity}
+use Rattle.nano_json_tokens.specs.Outcomes.{report, position, Keeps, Moved, GoesWrong, NoCapacity}
 use Rattle.nano_json_tokens.specs.Scan.{is_scalar}
 use Rattle.nano_json_tokens.specs.State.{ended, pending, KeepsOtherBuffers}
 
@@ -63,6 +63,13 @@ pub record IsBracketed (ts : List Token) : Type 0 where
 abbrev pub SkippedField : List Token → Type 0
 SkippedField ts = ((t : Token) × (ts ≡ t ∷ []) × IsScalar t) ⊎ IsBracketed ts
 
+-- brackets with all between them, and a skipped field, which stand for no value
+abbrev pub Brackets : List Token → Unit {0} → Type 0
+Brackets ts value = IsBracketed ts
+
+abbrev pub Skips : List Token → Unit {0} → Type 0
+Skips ts value = SkippedField ts
+
 -- a skipped field may begin with the token
 abbrev pub BeginsField : Token → Type 0
 BeginsField t = IsScalar t ⊎ (opens t ≡ 1)
@@ -77,13 +84,13 @@ module _ (old : DeJsonState) (before : Chars) (new : DeJsonState) (after : Chars
       × Took Cut (is_scalar (pending old) ≡ true → KeepsOtherBuffers old new)
       (position old before) (position new after) field)
       (λ e. RejectsToken ended (BeginsField (pending old))
-      ((field : List Token) → SkippedField field → NoneHere field old before)
+      (GoesWrong Skips old before new after)
       (is_scalar (pending old) ≡ true → NoCapacity old (remaining old.cur before))
       (Keeps old before new after) (position old before) (position new after) (report e))
 
   -- no brackets with all between them stand here
   pub record NotBracketed (r : Rejection) : Type 0 where
-    pub rejected : r ≢ Memory → (field : List Token) → IsBracketed field → NoneHere field old before
+    pub rejected : r ≢ Memory → GoesWrong Brackets old before new after
     pub place : Moved old before new after
 
   -- brackets are taken with all between them

@@ -3,9 +3,11 @@ use Rattle.std.proofs.Common.{◌≡◌, List, Result, Ok, Err, sym, ap, subst, 
 use Rattle.std.proofs.Common.{inl, inr, string_bytes, refl, ◌∙◌, Bool}
 use Rattle.std.specs.declared.str.Chars.{Chars}
 use Rattle.nano_grammar.specs.Outcomes.{Position, Took, Report, Read, ReadsNoneAndEnds}
-use Rattle.nano_grammar.proofs.TokenCalls.{fails_ended, fails_as, fails_after}
+use Rattle.nano_grammar.specs.Faults.{Reason, Fault}
+use Rattle.nano_grammar.proofs.FaultLaws.{none_ended, nothing_decodes}
+use Rattle.nano_grammar.proofs.TokenCalls.{none_in, none_first}
 use Rattle.nano_ron_tokens.specs.Cut.{Cut}
-use Rattle.nano_ron_tokens.specs.Outcomes.{position, Keeps, EndsOnError, NoneHere}
+use Rattle.nano_ron_tokens.specs.Outcomes.{position, Keeps, EndsOnError}
 use Rattle.nano_ron_tokens.specs.State.{ended, token_of, pending, at, place_of}
 use Rattle.nano_ron_tokens.specs.Token.{Token, ident, paren_close, IsIdent}
 use Rattle.nano_ron_tokens.specs.declared.error.DeRonErr.{DeRonErr}
@@ -25,20 +27,20 @@ use Rattle.nano_ron_schema.specs.Variants.{named}
 use Rattle.nano_ron_schema.specs.VariantCodecs.{ron_variants}
 use Rattle.nano_text.proofs.PlaceLaws.{moves_none, moves_append}
 use Rattle.nano_value.specs.Meaning.{Meaning}
-use Rattle.nano_grammar.specs.Choices.{has_alone}
-use Rattle.nano_grammar.specs.UserOutcomes.{FailsAndEnds, ReadChoice, NoChoice, ReadEnum, NoEnum}
+use Rattle.nano_grammar.specs.Choices.{EncodesAfter, has_alone}
+use Rattle.nano_grammar.specs.UserOutcomes.{ReadChoice, NoChoice, ReadEnum, NoEnum}
 use Rattle.nano_grammar.specs.UserOutcomes.{IsUnknownAt}
 use Rattle.nano_grammar.proofs.UserCalls.{content_read, content_not}
-use Rattle.nano_ron_schema.specs.Reading.{Closed, Encodings}
-use Rattle.nano_ron_schema.proofs.VariantReaders.{choice_reads, choice_rejected, name_rejected}
+use Rattle.nano_ron_schema.specs.Reading.{Closed, Encodings, EncodesVariant, VariantBegins}
+use Rattle.nano_ron_schema.proofs.VariantReaders.{choice_reads, choice_leads, name_leads}
 
 -- where nothing changes, the state is where it was
 pub still_there : {s t : DeRonState} {i j : Chars} → Keeps s i t j → position t j ≡ position s i
 still_there h = λ k. position (h.0 k) (h.1 k)
 
 -- on an error the state is at the end of the text
-pub ended_take : {A : Type 0} {mid new : DeRonState} {read result : Result A DeRonErr} (tokens : A → List Token)
-    (none : Type 0) (start : Position Token) (j : Chars) → EndsOnError mid new read result
+pub ended_take : {A V : Type 0} {mid new : DeRonState} {read result : Result A DeRonErr} (tokens : A → List Token)
+    (none : List Token → V → Type 0) (start : Position Token) (j : Chars) → EndsOnError mid new read result
     → TakesTokens tokens none start (position mid j) read
     → TakesTokensOrEnds tokens none start (position new j) result
 ended_take {mid = mid} {new} {read = Ok x} tokens none start j h k =
@@ -47,7 +49,7 @@ ended_take {mid = mid} {new} {read = Ok x} tokens none start j h k =
 ended_take {mid = mid} {new} {read = Err e} tokens none start j h k =
     let up = gives_up mid new j h.state in
     subst (λ (r : Result _ DeRonErr). TakesTokensOrEnds tokens none start (position new j) r) (sym h.same)
-    (record { fails = fails_ended ended up k; ended = ap (λ (p : Position Token). p.at) up })
+    (record { fails = none_ended Cut none ended up k; ended = ap (λ (p : Position Token). p.at) up })
 
 -- ==== the pending token
 
@@ -102,9 +104,10 @@ module _ (vs : Variants Encoding) (start : At Token)
   stands = one_way start unknown.after unknown.stood unknown.name unknown.stands
 
   -- it can be taken
-  pub name_begins : ((name : List ℕ) (after : At Token) → Leaves Cut (named name) start after → ⊥)
-      → ⊥
-  name_begins none = none unknown.name unknown.after stands
+  pub name_begins : (here : At Token) (reason : Reason Cut here) → Fault Cut VariantBegins start here reason → ⊥
+  name_begins here reason f =
+      nothing_decodes Cut VariantBegins cut_one_way start here reason f unknown.name
+      (named unknown.name, unknown.after, refl, stands)
 
   -- it is the one that was taken
   pub name_taken : (read : List ℕ) (mid : At Token) → Leaves Cut (named read) start mid
@@ -140,11 +143,16 @@ module _ {S : List Token → Meaning → Type 0} {start end : Position Token} wh
 module _ (vs : Encodings) (old : DeRonState) (i : Chars) where
   -- no name stands here
   pub name_not : {end : Position Token} {e : Report}
-      → FailsAndEnds ended ((name : List ℕ) → NoneHere (named name) old i) (position old i) end e
+      → ReadsNoneAndEnds Cut VariantBegins (position old i) end ended e
       → NoEnum ron_variants vs (position old i) end ended e
   name_not h = record {
-    none = record { fails = fails_as (name_rejected vs (at old i)) h.fails; ended = h.ended };
-    unknown = λ u known. absurd (name_begins vs (at old i) u (h.fails.rejected known));
+    none = record {
+      fails = none_first Cut (EncodesVariant vs) VariantBegins (name_leads vs (pending old)) h.fails;
+      ended = h.ended;
+    };
+    unknown = λ u known.
+        let f = h.fails.rejected known in
+        absurd (name_begins vs (at old i) u f.here.at f.reason f.fault);
   }
 
   module _ (mid : DeRonState) (j : Chars) (name : List ℕ)
@@ -166,7 +174,8 @@ module _ (vs : Encodings) (old : DeRonState) (i : Chars) where
         → NoEnum ron_variants vs (position old i) end ended e
     enum_not {end} {e} stood h = record {
       none = record {
-        fails = fails_after (choice_rejected vs name (at old i) (at mid j) took.taken alone stood) took.place (h.none 0).fails;
+        fails = none_in Cut (EncodesVariant vs) (EncodesAfter ron_variants 0 vs alone name) (named name)
+            (choice_leads vs name (pending mid) alone stood) took.taken took.place (h.none 0).fails;
         ended = (h.none 0).ended;
       };
       unknown = λ u _.

@@ -3,7 +3,7 @@ use Rattle.std.specs.Prelude.{◌≡◌, ℕ, Bool, List, Result, MatchResult, S
 use Rattle.std.specs.Prelude.{false, [], ◌∷◌, ◌++◌}
 use Rattle.std.specs.List.{flat_map}
 use Rattle.nano_value.specs.Meaning.{Meaning}
-use Rattle.nano_grammar.specs.Outcomes.{Position, Fails, Took}
+use Rattle.nano_grammar.specs.Outcomes.{Position, Took, ReadsNone, ReadsNoneAndEnds}
 use Rattle.nano_ron_tokens.specs.Cut.{Cut}
 use Rattle.nano_ron_tokens.specs.Outcomes.{report, Says}
 use Rattle.nano_ron_tokens.specs.State.{ended, pending, place_of}
@@ -15,7 +15,7 @@ use Rattle.nano_grammar.specs.UserOutcomes.{ReadsField as ReadsFieldBy}
 use Rattle.nano_grammar.specs.UserOutcomes.{GivesValues as GivesValuesBy}
 use Rattle.nano_grammar.specs.UserOutcomes.{HoldsFields as HoldsFieldsBy}
 use Rattle.nano_grammar.specs.UserOutcomes.{ReadsChoice as ReadsChoiceBy, ReadsEnum as ReadsEnumBy}
-use Rattle.nano_grammar.specs.UserOutcomes.{FailsAndEnds, Misses, NoField, ReadField}
+use Rattle.nano_grammar.specs.UserOutcomes.{Misses, FieldTokens, ReadField}
 use Rattle.nano_ron_schema.specs.Reading.{Field, Shape, Allowed, head, Encodings}
 use Rattle.nano_ron_schema.specs.FieldCodecs.{ron_fields}
 use Rattle.nano_ron_schema.specs.VariantCodecs.{ron_variants}
@@ -29,18 +29,18 @@ use Rattle.nano_ron_tokens.specs.declared.token.DeRonTok.TheVariants.{Eof}
 
 -- ---- tokens
 
--- a call takes these tokens, or reports the fact
-abbrev pub TakesTokens : {A : Type 0} → (A → List Token) → Type 0 → Position Token → Position Token
-    → Result A DeRonErr → Type 0
-TakesTokens tokens none start end result = MatchResult result
-    (λ x. Took Cut (Unit {0}) start end (tokens x)) (λ e. Fails none start end (report e))
+-- a call takes these tokens; an error says that no such tokens stand here
+abbrev pub TakesTokens : {A V : Type 0} → (A → List Token) → (List Token → V → Type 0)
+    → Position Token → Position Token → Result A DeRonErr → Type 0
+TakesTokens tokens encodes start end result = MatchResult result
+    (λ x. Took Cut (Unit {0}) start end (tokens x)) (λ e. ReadsNone Cut encodes start end (report e))
 
 -- the same, and an error leaves the state at the end of the text
-abbrev pub TakesTokensOrEnds : {A : Type 0} → (A → List Token) → Type 0 → Position Token
-    → Position Token → Result A DeRonErr → Type 0
-TakesTokensOrEnds tokens none start end result = MatchResult result
+abbrev pub TakesTokensOrEnds : {A V : Type 0} → (A → List Token) → (List Token → V → Type 0)
+    → Position Token → Position Token → Result A DeRonErr → Type 0
+TakesTokensOrEnds tokens encodes start end result = MatchResult result
     (λ x. Took Cut (Unit {0}) start end (tokens x))
-    (λ e. FailsAndEnds ended none start end (report e))
+    (λ e. ReadsNoneAndEnds Cut encodes start end ended (report e))
 
 -- a call gives the pending word
 abbrev pub GivesWord : {Y : Type 0} → DeRonState → Result (String Y) DeRonErr → Type 0
@@ -62,7 +62,7 @@ module _ (name : List ℕ) (shape : Shape) (before after : List Field → Type 0
       → Type 0
   TakesField start end result = MatchResult result
       (λ _. ReadField Cut (head name) name (Allowed shape) before after start end)
-      (λ e. Fails (NoField Cut (head name) name (Allowed shape) start.at) start end (report e))
+      (λ e. ReadsNone Cut (FieldTokens (head name) name (Allowed shape)) start end (report e))
 
 module _ (shape : Shape) (holds : List Field → Type 0) where
   -- a call gives values which mean what the fields do that are held

@@ -1,5 +1,5 @@
 -- What encodes the fields and the variants of user-defined types in RON.
-use Rattle.std.specs.Prelude.{ℕ, List, [], ◌∷◌}
+use Rattle.std.specs.Prelude.{◌≡◌, ℕ, List, [], ◌∷◌}
 use Rattle.nano_value.specs.Meaning.{Meaning}
 use Rattle.nano_grammar.specs.Fields.{Field as FieldOf, EncodedField as EncodedFieldOf}
 use Rattle.nano_grammar.specs.Fields.{EncodedNamed as EncodedNamedOf, Allowed as AllowedOf}
@@ -12,6 +12,7 @@ use Rattle.nano_grammar.specs.Variants.{Closed as ClosedIn, Variants as Variants
 use Rattle.nano_grammar.specs.Variants.{EncodesVariant as EncodesVariantOf}
 use Rattle.nano_ron_tokens.specs.Cut.{ron_grammar}
 use Rattle.nano_ron_schema.specs.VariantCodecs.{ron_variants}
+use Rattle.nano_ron_schema.specs.Variants.{named}
 
 -- a field of a text: its name, in bytes of UTF-8, and the tokens of its value
 abbrev pub Field : Type 0
@@ -43,6 +44,10 @@ abbrev pub EncodesFields : Shape → List Token → Meaning → Type 0
 EncodesFields shape = EncodedFields ron_fields shape
 
 -- ==== variants
+
+-- what a variant begins with
+abbrev pub VariantBegins : List Token → List ℕ → Type 0
+VariantBegins ts name = ts ≡ named name
 
 -- content, after which nothing comes
 abbrev pub Closed : (List Token → Meaning → Type 0) → List Token → Meaning → Type 0

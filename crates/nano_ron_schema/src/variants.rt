@@ -1,10 +1,10 @@
 //! The variants of enums, read: a name, with content directly after it or without.
 
-ghost use Rattle.std.specs.Prelude.{ℕ, List, string_bytes};
-ghost use Rattle.nano_ron.specs.Outcomes.{position, ReadsOrEnds, NoneHere};
+ghost use Rattle.std.specs.Prelude.{string_bytes};
+ghost use Rattle.nano_ron.specs.Outcomes.{position, ReadsOrEnds};
 ghost use Rattle.nano_ron.specs.State.{pending};
 ghost use Rattle.nano_ron.specs.Token.{IsIdent};
-ghost use Rattle.nano_ron_schema.specs.Reading.{EncodesFields, Closed};
+ghost use Rattle.nano_ron_schema.specs.Reading.{EncodesFields, Closed, VariantBegins};
 ghost use Rattle.nano_ron_schema.specs.Outcomes.{GivesWord, TakesTokens, TakesTokensOrEnds};
 ghost use Rattle.nano_ron_schema.specs.Outcomes.{GivesUnknown};
 ghost use Rattle.nano_ron_schema.specs.Variants.{named};
@@ -27,7 +27,7 @@ pub fn read_variant_name(
     input: &mut Chars<'_>,
 ) -> Result<String, DeRonErr>
     ensures { TakesTokensOrEnds (λ name. named (string_bytes name))
-        ((name : List ℕ) → NoneHere (named name) state.old input.old)
+        VariantBegins
         (position state.old input.old) (position state.new input.new) result }
 {
     let read = read_name(alloc, state, input);
@@ -41,7 +41,7 @@ fn read_name(
     input: &mut Chars<'_>,
 ) -> Result<String, DeRonErr>
     ensures { TakesTokens (λ name. named (string_bytes name))
-        ((name : List ℕ) → NoneHere (named name) state.old input.old)
+        VariantBegins
         (position state.old input.old) (position state.new input.new) result }
 {
     let name = pending_word(alloc, state)?;

@@ -8,7 +8,8 @@ use Rattle.nano_grammar.specs.Tokens.{At, Leaves}
 use Rattle.nano_grammar.specs.Outcomes.{Report, Position, IsMadeAt as MadeAt, Fails, Stops}
 use Rattle.nano_grammar.specs.Outcomes.{RejectsToken, TookNext, Took, TookComma}
 use Rattle.nano_grammar.specs.Outcomes.{NothingCut as NothingCutBy, Reads as ReadsBy}
-use Rattle.nano_grammar.specs.Outcomes.{ReadsOrEnds as ReadsOrEndsBy}
+use Rattle.nano_grammar.specs.Outcomes.{ReadsOrEnds as ReadsOrEndsBy, GoesWrong as GoesWrongBy}
+use Rattle.nano_grammar.specs.Faults.{AreTokens}
 use Rattle.nano_ron_tokens.specs.declared.error.DeRonErr.{DeRonErr}
 use Rattle.nano_ron_tokens.specs.declared.state.DeRonState.{DeRonState}
 use Rattle.nano_ron_tokens.specs.declared.token.DeRonTok.TheVariants.{Eof}
@@ -61,9 +62,19 @@ Moved old before new after = Moves (place_of old) before (place_of new) after
 abbrev pub NothingCut : List ℕ → Type 0
 NothingCut text = NothingCutBy Cut text
 
+-- no value is encoded from here on: it goes wrong on the way to there
+abbrev pub GoesWrong : {V : Type 0} → (List Token → V → Type 0) → DeRonState → Chars → DeRonState → Chars
+    → Type 0
+GoesWrong encodes old before new after =
+    GoesWrongBy Cut encodes (position old before) (position new after)
+
 -- these tokens, with one more or the end after them, do not stand here
-abbrev pub NoneHere : List Token → DeRonState → Chars → Type 0
-NoneHere ts s i = (after : At Token) → Leaves Cut ts (at s i) after → ⊥
+abbrev pub NoneHere : List Token → DeRonState → Chars → DeRonState → Chars → Type 0
+NoneHere ts = GoesWrong (AreTokens ts)
+
+-- a word alone
+abbrev pub AnIdent : List Token → List ℕ → Type 0
+AnIdent ts name = ts ≡ ident name ∷ []
 
 -- the token's text goes to a buffer that has no capacity for it yet
 abbrev pub Outgrows : DeRonState → Token → Type 0
@@ -106,12 +117,12 @@ module _ (old : DeRonState) (before : Chars) (new : DeRonState) (after : Chars) 
   -- the token is taken
   abbrev pub TakesOne : {A : Type 0} → Token → Result A DeRonErr → Type 0
   TakesOne t result = MatchResult result (λ _. Taken (t ∷ []))
-      (NotTaken (pending old ≡ t) (NoneHere (t ∷ []) old before))
+      (NotTaken (pending old ≡ t) (NoneHere (t ∷ []) old before new after))
 
   -- a word is taken
   abbrev pub TakesIdent : {A : Type 0} → Result A DeRonErr → Type 0
   TakesIdent result = MatchResult result (λ _. (name : List ℕ) × Taken (ident name ∷ []))
-      (NotTaken (IsIdent (pending old)) ((name : List ℕ) → NoneHere (ident name ∷ []) old before))
+      (NotTaken (IsIdent (pending old)) (GoesWrong AnIdent old before new after))
 
   -- a comma is taken, or the closing bracket is pending, which is never an error
   abbrev pub TakesComma : {A : Type 0} → Token → Result A DeRonErr → Type 0
@@ -119,7 +130,7 @@ module _ (old : DeRonState) (before : Chars) (new : DeRonState) (after : Chars) 
       (λ _. TookComma Cut (KeepsOtherBuffers old new) (position old before) (position new after)
       comma closing (Keeps old before new after))
       (λ e. (pending old ≢ closing) × NotTaken (pending old ≡ comma)
-      ((pending old ≢ closing) × NoneHere (comma ∷ []) old before) e)
+      ((pending old ≢ closing) × NoneHere (comma ∷ []) old before new after) e)
 
   -- the token after the pending one is not a colon: it was taken, and is pending
   abbrev pub FindsOther : Type 0
@@ -129,8 +140,8 @@ module _ (old : DeRonState) (before : Chars) (new : DeRonState) (after : Chars) 
 
   -- no colon comes after the pending token
   pub record NoColon (e : DeRonErr) : Type 0 where
-    pub fails : Fails (NoneHere (pending old ∷ (colon ∷ [])) old before) (position old before)
-        (position new after) (report e)
+    pub fails : Fails (NoneHere (pending old ∷ (colon ∷ [])) old before new after)
+        (position old before) (position new after) (report e)
     pub other : e.memory ≡ false → (next : At Token)
         → Cut (remaining old.cur before) next.token next.text → next.token ≢ colon
         → at new after ≡ next

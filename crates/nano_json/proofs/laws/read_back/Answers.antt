@@ -2,6 +2,7 @@ use Rattle.std.proofs.Common.{◌∙◌}
 use Rattle.std.proofs.lemmas.Bool.{true_from_ne_false}
 use Rattle.std.proofs.lemmas.Result.{MatchResult-weaker}
 use Rattle.nano_grammar.proofs.EncodingLaws.{written_decodes, one_text_decodes}
+use Rattle.nano_grammar.proofs.WholeInputs.{text_rejected}
 use Rattle.nano_json.proofs.Json.{json_laws, legal_there}
 use Rattle.nano_json.proofs.laws.read_back.Goals as goal
 
@@ -17,4 +18,4 @@ returns-in-Ok g c =
     one_text_decodes json_laws f.encoding.laws _ _ _ found fits)
     (λ e none sound.
     let fits = written_decodes json_laws f.encoding.encodes (w.tokens x) (w.text 0 x) c.as_str.result.now (g.T.Value.means x) written (c.as_str.ensures.value ∙ c.in-Ok.ensures) (c.written_tokens_encode_a_sound_value.ensures sound) in
-    true_from_ne_false e.memory (λ known. none.rejected known _ fits))
+    true_from_ne_false e.memory (λ known. text_rejected json_laws f.encoding.encodes none known _ fits))

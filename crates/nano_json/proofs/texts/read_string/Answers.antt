@@ -1,10 +1,9 @@
-use Rattle.std.proofs.Common.{rules, ◌≡◌, sym, subst, ◌<◌, length, string_bytes}
+use Rattle.std.proofs.Common.{rules, ◌≡◌, sym, subst, ◌<◌, length, string_bytes, refl}
 use Rattle.std.proofs.lemmas.Str.{IsUtf8-string_bytes}
 use Rattle.std.specs.declared.str.Chars.{Chars}
 use Rattle.nano_text.specs.Place.{remaining, Advances, Moves}
 use Rattle.nano_value.specs.Meaning.{IsText, text, usize_bound}
-use Rattle.nano_grammar.specs.Outcomes.{Position, Report, Fails, TookNext}
-use Rattle.nano_grammar.specs.Tokens.{DecodesToNothing}
+use Rattle.nano_grammar.specs.Outcomes.{Position, Report, Fails, TookNext, ReadsNone}
 use Rattle.nano_grammar.proofs.TokenCalls.{passed_on}
 use Rattle.nano_grammar.proofs.ReadingCalls.{one_read, one_not, one_stopped}
 use Rattle.nano_json_tokens.specs.Cut.{Cut}
@@ -46,11 +45,11 @@ returns-in_err-text c =
     let start = position c.args.state.now c.args.input.now in
     let h = c.in_err-text.ensures in
     passed_on _ _ c.from_residual.result c.from_residual.ensures.1
-    (subst (λ (s : DeJsonState). Fails (DecodesToNothing Cut texts.encodes start.at) start (position s c.args.input.now) (report c.in_err-text.field-0.0)) (sym h.unchanged)
-    (one_not json text text_tokens.carries IsText (λ x is _. h.lacks (subst IsStr (sym is) tt)) h.made))
+    (subst (λ (s : DeJsonState). ReadsNone Cut texts.encodes start (position s c.args.input.now) (report c.in_err-text.field-0.0)) (sym h.unchanged)
+    (one_not json text text_tokens.carries IsText refl (λ x is _. h.lacks (subst IsStr (sym is) tt)) h.made))
 
 pub returns-in_err-next_tok : goal.returns-in_err-next_tok
 returns-in_err-next_tok c =
     passed_on _ _ c.from_residual-in_err-next_tok.result c.from_residual-in_err-next_tok.ensures.1
-    (one_stopped json text text_tokens.carries IsText
+    (one_stopped json text text_tokens.carries IsText refl
     (stopped_from c.args.state.now c.as_string.new.self c.args.input.now (position c.next_tok.new.self c.next_tok.new.i) c.in_ok-text.ensures.others c.in_err-next_tok.ensures.fails))

@@ -1,4 +1,4 @@
-use Rattle.std.proofs.Common.{◌<◌, ◌^◌, arith, subst, sym}
+use Rattle.std.proofs.Common.{◌<◌, ◌^◌, arith, subst, sym, refl}
 use Rattle.nano_value.specs.Meaning.{whole}
 use Rattle.nano_grammar.specs.Outcomes.{Read}
 use Rattle.nano_grammar.proofs.TokenCalls.{passed_on}
@@ -26,9 +26,9 @@ returns-in_err-number g c =
     let h = c.in_err-number.ensures in
     let capacity = c.requires in
     passed_on _ _ c.from_residual.result c.from_residual.ensures.1
-    (one_not json whole unsigned_tokens.carries (λ m. m < 2 ^ g.T.Unsigned.bits) (λ n is small. h.lacks n is (omega (arith, small, capacity))) h.made)
+    (one_not json whole unsigned_tokens.carries (λ m. m < 2 ^ g.T.Unsigned.bits) refl (λ n is small. h.lacks n is (omega (arith, small, capacity))) h.made)
 
 pub returns-in_err-next_tok : goal.returns-in_err-next_tok
 returns-in_err-next_tok g c =
     passed_on _ _ c.from_residual-in_err-next_tok.result c.from_residual-in_err-next_tok.ensures.1
-    (one_stopped json whole unsigned_tokens.carries (λ m. m < 2 ^ g.T.Unsigned.bits) c.in_err-next_tok.ensures.fails)
+    (one_stopped json whole unsigned_tokens.carries (λ m. m < 2 ^ g.T.Unsigned.bits) refl c.in_err-next_tok.ensures.fails)

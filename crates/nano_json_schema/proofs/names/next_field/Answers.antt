@@ -17,4 +17,4 @@ returns c =
 pub returns-in_err-eat_comma_curly : goal.returns-in_err-eat_comma_curly
 returns-in_err-eat_comma_curly c =
     passed_on _ _ c.from_residual.result c.from_residual.ensures.1
-    (not_on (none_reached c.args.state.now c.name_after-name.new.state c.args.input.now c.name_after-name.new.input c.name_after-name.result (sym c.is_some.ensures ∙ c.if-is_some.false) c.name_after-name.ensures) c.in_err-eat_comma_curly.ensures.1.fails)
+    (not_on (none_reached c.args.state.now c.name_after-name.new.state c.args.input.now c.name_after-name.new.input c.name_after-name.result (sym c.is_some.ensures ∙ c.if-is_some.false) c.name_after-name.ensures) c.is_comma.ensures c.in_err-eat_comma_curly.ensures.1.fails)

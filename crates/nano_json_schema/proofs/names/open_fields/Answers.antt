@@ -15,4 +15,4 @@ returns c =
 pub returns-in_err-curly_open : goal.returns-in_err-curly_open
 returns-in_err-curly_open c =
     passed_on _ _ c.from_residual.result c.from_residual.ensures.1
-    (not_opened (none_reached c.args.state.now c.name_after-name.new.state c.args.input.now c.name_after-name.new.input c.name_after-name.result (sym c.is_some.ensures ∙ c.if-is_some.false) c.name_after-name.ensures) c.in_err-curly_open.ensures.fails)
+    (not_opened (none_reached c.args.state.now c.name_after-name.new.state c.args.input.now c.name_after-name.new.input c.name_after-name.result (sym c.is_some.ensures ∙ c.if-is_some.false) c.name_after-name.ensures) c.is_opening.ensures c.in_err-curly_open.ensures.fails)

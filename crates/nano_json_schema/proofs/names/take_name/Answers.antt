@@ -1,6 +1,11 @@
-use Rattle.std.proofs.Common.{string_bytes}
+use Rattle.std.proofs.Common.{[], ◌∷◌, refl, string_bytes}
 use Rattle.std.proofs.lemmas.Result.{MatchResult-weaker}
-use Rattle.nano_grammar.proofs.TokenCalls.{passed_on, fails_as}
+use Rattle.nano_grammar.specs.Faults.{AreTokens}
+use Rattle.nano_grammar.proofs.FaultLaws.{stopped_here}
+use Rattle.nano_grammar.proofs.TokenCalls.{passed_on}
+use Rattle.nano_json_tokens.specs.Cut.{Cut}
+use Rattle.nano_json_tokens.specs.State.{pending}
+use Rattle.nano_json_tokens.specs.Token.{colon}
 use Rattle.nano_json_schema.proofs.FieldNames.{pending_taken, pending_not}
 use Rattle.nano_json_schema.proofs.names.take_name.Goals as goal
 
@@ -15,4 +20,4 @@ returns c =
 pub returns-in_err-next_tok : goal.returns-in_err-next_tok
 returns-in_err-next_tok c =
     passed_on _ _ c.from_residual.result c.from_residual.ensures.1
-    (fails_as (λ none after l. none l.1.0.token l.1.0.text l.1.1) c.in_err-next_tok.ensures.fails)
+    (stopped_here Cut (AreTokens (pending c.args.state.now ∷ (colon ∷ []))) refl (λ v e. absurd (cc e)) c.in_err-next_tok.ensures.fails)

@@ -1,3 +1,4 @@
+use Rattle.std.proofs.Common.{refl}
 use Rattle.std.proofs.lemmas.Result.{MatchResult-weaker}
 use Rattle.nano_grammar.proofs.UserCalls.{values_read, values_not}
 use Rattle.nano_json_schema.specs.FieldCodecs.{json_fields}
@@ -8,4 +9,4 @@ returns-in-Ok g c =
     let codec = g.F.JsonFields.codec in
     MatchResult-weaker c.values.result c.values.ensures
     (λ v means. values_read json_fields codec.struct.shape (codec.canonical.means v) c.in-Ok.ensures means)
-    (λ e none. values_not json_fields codec.struct.shape c.in-Ok.ensures none)
+    (λ e none. values_not json_fields codec.struct.shape refl c.in-Ok.ensures none)

@@ -1,6 +1,5 @@
 use Rattle.nano_grammar.proofs.TokenCalls.{passed_on}
 use Rattle.nano_grammar.proofs.UserCalls.{content_read, content_not, closing_not}
-use Rattle.nano_json.proofs.Json.{json_laws}
 use Rattle.nano_json_schema.specs.VariantCodecs.{json_variants}
 use Rattle.nano_json_schema.proofs.variants.read_content.Goals as goal
 
@@ -17,4 +16,4 @@ pub returns-in_err-close_content : goal.returns-in_err-close_content
 returns-in_err-close_content g c =
     let s = g.T.JsonCodec.json.encoding in
     passed_on _ _ c.from_residual-in_err-close_content.result c.from_residual-in_err-close_content.ensures.1
-    (closing_not json_variants s.encodes json_laws s.laws c.in_ok-content.ensures c.in_err-close_content.ensures)
+    (closing_not json_variants s.encodes s.laws c.in_ok-content.ensures c.in_err-close_content.ensures)

@@ -1,7 +1,6 @@
 use Rattle.nano_grammar.proofs.TokenCalls.{passed_on}
 use Rattle.nano_grammar.proofs.StructLaws.{fields_of}
 use Rattle.nano_grammar.proofs.UserCalls.{content_read, content_not, closing_not}
-use Rattle.nano_json.proofs.Json.{json_laws}
 use Rattle.nano_json_schema.specs.FieldCodecs.{json_fields}
 use Rattle.nano_json_schema.specs.VariantCodecs.{json_variants}
 use Rattle.nano_json_schema.proofs.variants.read_fields_content.Goals as goal
@@ -13,7 +12,7 @@ returns-in-Ok g c =
 pub returns-in-Err : goal.returns-in-Err
 returns-in-Err g c =
     let s = fields_of json_fields g.F.JsonFields.codec.struct in
-    closing_not json_variants s.encodes json_laws s.laws c.in_ok-values.ensures c.in-Err.ensures
+    closing_not json_variants s.encodes s.laws c.in_ok-values.ensures c.in-Err.ensures
 
 pub returns-in_err-values : goal.returns-in_err-values
 returns-in_err-values g c =

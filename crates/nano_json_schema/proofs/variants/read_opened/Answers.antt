@@ -1,11 +1,22 @@
-use Rattle.std.proofs.Common.{[], ◌∷◌, string_bytes}
-use Rattle.nano_grammar.proofs.TokenCalls.{passed_on, fails_as, fails_after, taken_both, left}
-use Rattle.nano_grammar.proofs.TokenCalls.{first_of_all_not}
+use Rattle.std.proofs.Common.{◌≡◌, ℕ, List, [], ◌∷◌, ◌++◌, sym, ◌∙◌, ap, refl, string_bytes}
+use Rattle.nano_grammar.specs.Faults.{AreTokens}
+use Rattle.nano_grammar.proofs.FaultLaws.{LeadsTo, first_token}
+use Rattle.nano_grammar.proofs.TokenCalls.{passed_on, none_in, none_first, taken_both}
 use Rattle.nano_json_tokens.specs.Cut.{Cut}
-use Rattle.nano_json_tokens.specs.State.{at}
-use Rattle.nano_json_tokens.specs.Token.{str, colon, curly_open}
-use Rattle.nano_json_tokens.proofs.Cuts.{cut_one_way}
+use Rattle.nano_json_tokens.specs.State.{pending}
+use Rattle.nano_json_tokens.specs.Token.{Token, str, colon, curly_open}
+use Rattle.nano_json_schema.specs.Reading.{OpenedName, AKey}
 use Rattle.nano_json_schema.proofs.variants.read_opened.Goals as goal
+
+bracket_leads : (pending : Token) → LeadsTo OpenedName (AreTokens (curly_open ∷ [])) [] pending
+bracket_leads pending us more rest next name e is =
+    (curly_open ∷ [], tt, str name, colon ∷ next ∷ more, refl, ap (λ (xs : List Token). xs ++ next ∷ more) (sym e) ∙ is)
+
+key_leads : (pending : Token) → LeadsTo OpenedName AKey (curly_open ∷ []) pending
+key_leads pending us more rest next name e is =
+    let whole = ap (λ (xs : List Token). xs ++ next ∷ more) (sym e) ∙ is in
+    let left : str name ∷ colon ∷ next ∷ more ≡ pending ∷ rest = cc whole in
+    (str name ∷ (colon ∷ []), name, next, more, refl, left)
 
 pub returns : goal.returns
 returns c =
@@ -14,12 +25,10 @@ returns c =
 pub returns-in_err-curly_open : goal.returns-in_err-curly_open
 returns-in_err-curly_open c =
     passed_on _ _ c.from_residual.result c.from_residual.ensures.1
-    (fails_as (λ none name. first_of_all_not Cut (curly_open ∷ []) (str name ∷ (colon ∷ [])) (at c.args.state.now c.args.input.now) none)
-    c.in_err-curly_open.ensures.fails)
+    (none_first Cut OpenedName (AreTokens (curly_open ∷ [])) (bracket_leads (pending c.args.state.now)) c.in_err-curly_open.ensures.fails)
 
 pub returns-in_err-name : goal.returns-in_err-name
 returns-in_err-name c =
     passed_on _ _ c.from_residual-in_err-name.result c.from_residual-in_err-name.ensures.1
-    (fails_after (λ none name after l.
-    none name after (left Cut cut_one_way (curly_open ∷ []) (str name ∷ (colon ∷ [])) c.in_ok-curly_open.ensures after l))
+    (none_in Cut OpenedName AKey (curly_open ∷ []) (key_leads (pending c.curly_open.new.self)) c.in_ok-curly_open.ensures.taken
     c.in_ok-curly_open.ensures.place c.in_err-name.ensures)

@@ -1,3 +1,4 @@
+use Rattle.std.proofs.Common.{refl}
 use Rattle.nano_value.specs.Meaning.{truth}
 use Rattle.nano_grammar.proofs.TokenCalls.{passed_on}
 use Rattle.nano_grammar.proofs.ReadingCalls.{one_read, one_not, one_stopped}
@@ -11,9 +12,9 @@ returns c = one_read ron truth truth_tokens.carries (λ _. Unit {0}) c.in_ok-val
 pub returns-in_err-value : goal.returns-in_err-value
 returns-in_err-value c =
     passed_on _ _ c.from_residual.result c.from_residual.ensures.1
-    (one_not ron truth truth_tokens.carries (λ _. Unit {0}) (λ x is _. c.in_err-value.ensures.lacks x is) c.in_err-value.ensures.made)
+    (one_not ron truth truth_tokens.carries (λ _. Unit {0}) refl (λ x is _. c.in_err-value.ensures.lacks x is) c.in_err-value.ensures.made)
 
 pub returns-in_err-next_tok : goal.returns-in_err-next_tok
 returns-in_err-next_tok c =
     passed_on _ _ c.from_residual-in_err-next_tok.result c.from_residual-in_err-next_tok.ensures.1
-    (one_stopped ron truth truth_tokens.carries (λ _. Unit {0}) c.in_err-next_tok.ensures.fails)
+    (one_stopped ron truth truth_tokens.carries (λ _. Unit {0}) refl c.in_err-next_tok.ensures.fails)

@@ -1,4 +1,4 @@
-use Rattle.std.proofs.Common.{◌≤ℤ◌, ◌∙◌, FitsSigned, subst, sym}
+use Rattle.std.proofs.Common.{◌≤ℤ◌, ◌∙◌, FitsSigned, subst, sym, refl}
 use Rattle.std.specs.Int.{w64}
 use Rattle.std.proofs.lemmas.Int.{to_z-of_z}
 use Rattle.nano_value.specs.Meaning.{number}
@@ -39,11 +39,11 @@ returns-in_err-number g c =
     let h = c.in_err-number.ensures in
     let w = g.T.Signed.width in
     passed_on _ _ c.from_residual.result c.from_residual.ensures.1
-    (one_not ron number signed_tokens.carries (FitsSigned w) (λ z is fits.
+    (one_not ron number signed_tokens.carries (FitsSigned w) refl (λ z is fits.
     let range = fits_range w c.args.min c.args.max z c.requires fits in
     h.lacks z is (subst (λ m. m ≤ℤ z) (sym (to_z-of_z w64 c.args.min c.ranges.min)) range.0) (subst (λ m. z ≤ℤ m) (sym (to_z-of_z w64 c.args.max c.ranges.max)) range.1)) h.made)
 
 pub returns-in_err-next_tok : goal.returns-in_err-next_tok
 returns-in_err-next_tok g c =
     passed_on _ _ c.from_residual-in_err-next_tok.result c.from_residual-in_err-next_tok.ensures.1
-    (one_stopped ron number signed_tokens.carries (FitsSigned g.T.Signed.width) c.in_err-next_tok.ensures.fails)
+    (one_stopped ron number signed_tokens.carries (FitsSigned g.T.Signed.width) refl c.in_err-next_tok.ensures.fails)

@@ -1,4 +1,4 @@
-use Rattle.std.proofs.Common.{string_bytes, sym, ◌∙◌}
+use Rattle.std.proofs.Common.{string_bytes, sym, ◌∙◌, refl}
 use Rattle.nano_grammar.proofs.TokenCalls.{passed_on}
 use Rattle.nano_grammar.proofs.FieldCalls.{known_read, known_not}
 use Rattle.nano_ron_schema.specs.Reading.{head}
@@ -15,7 +15,7 @@ returns-then-branch g c =
 pub returns : goal.returns
 returns g c =
     let h = c.in_ok-read_field.ensures in
-    unknown_not (string_bytes c.args.state.now.identbuf) g.F.RonFields.codec.struct.shape (sym h.known_is ∙ c.if-branch.false)
+    unknown_not (string_bytes c.args.state.now.identbuf) g.F.RonFields.codec.struct.shape (sym h.known_is ∙ c.if-branch.false) refl
     (still_there (h.unknown c.if-branch.false).1) c.err_exp.ensures.1
 
 pub returns-in_err-read_field : goal.returns-in_err-read_field

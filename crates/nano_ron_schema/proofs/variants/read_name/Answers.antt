@@ -1,7 +1,11 @@
-use Rattle.std.proofs.Common.{refl, sym, subst}
+use Rattle.std.proofs.Common.{◌≡◌, refl, sym, subst}
 use Rattle.nano_text.proofs.PlaceLaws.{advances_none}
-use Rattle.nano_grammar.proofs.TokenCalls.{passed_on, fails_as}
-use Rattle.nano_ron_tokens.specs.Token.{IsIdent}
+use Rattle.nano_grammar.proofs.FaultLaws.{goes_wrong, stopped_here}
+use Rattle.nano_grammar.proofs.TokenCalls.{passed_on}
+use Rattle.nano_ron_tokens.specs.Cut.{Cut}
+use Rattle.nano_ron_tokens.specs.State.{pending}
+use Rattle.nano_ron_tokens.specs.Token.{ident, IsIdent}
+use Rattle.nano_ron_schema.specs.Reading.{VariantBegins}
 use Rattle.nano_ron_tokens.specs.Outcomes.{position}
 use Rattle.nano_ron_schema.proofs.variants.read_name.Goals as goal
 
@@ -19,7 +23,10 @@ returns-in_err-name c =
     let none = c.in_err-name.ensures in
     passed_on _ _ c.from_residual.result c.from_residual.ensures.1
     (record {
-      rejected = λ known name after l. none.rejected known (subst IsIdent l.0 tt);
+      rejected = λ known.
+          goes_wrong Cut VariantBegins (position c.args.state.now c.args.input.now) refl (λ v e. absurd (cc e))
+          (λ ts name e. let same : pending c.args.state.now ≡ ident name = cc e in
+          none.rejected known (subst IsIdent (sym same) tt));
       made = none.made;
       place = advances_none _ _;
     })
@@ -27,4 +34,4 @@ returns-in_err-name c =
 pub returns-in_err-next_tok : goal.returns-in_err-next_tok
 returns-in_err-next_tok c =
     passed_on _ _ c.from_residual-in_err-next_tok.result c.from_residual-in_err-next_tok.ensures.1
-    (fails_as (λ none name after l. none l.1.0.token l.1.0.text l.1.1) c.in_err-next_tok.ensures.fails)
+    (stopped_here Cut VariantBegins refl (λ v e. absurd (cc e)) c.in_err-next_tok.ensures.fails)

@@ -1,4 +1,4 @@
-use Rattle.std.proofs.Common.{sym}
+use Rattle.std.proofs.Common.{sym, refl}
 use Rattle.nano_grammar.proofs.TokenCalls.{passed_on}
 use Rattle.nano_grammar.proofs.ReadingCalls.{none_read, none_stopped, some_read, some_not}
 use Rattle.nano_json_tokens.specs.State.{pending}
@@ -18,7 +18,7 @@ pub returns-in_err-next_tok : goal.returns-in_err-next_tok
 returns-in_err-next_tok g c =
     let h = c.in_err-next_tok.ensures in
     passed_on _ _ c.from_residual.result c.from_residual.ensures.1
-    (record { fails = none_stopped json_laws g.T.JsonCodec.json.encoding.encodes h.fails; ended = h.ended })
+    (record { fails = none_stopped json_laws g.T.JsonCodec.json.encoding.encodes refl h.fails; ended = h.ended })
 
 pub returns-in_err-value : goal.returns-in_err-value
 returns-in_err-value g c =

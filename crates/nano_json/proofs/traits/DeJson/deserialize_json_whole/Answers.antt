@@ -1,3 +1,4 @@
+use Rattle.std.proofs.Common.{refl}
 use Rattle.nano_grammar.proofs.TokenCalls.{passed_on}
 use Rattle.nano_grammar.proofs.WholeInputs.{text_uncut, text_not, whole_read, whole_goes_on}
 use Rattle.nano_grammar.proofs.WholeInputs.{whole_not}
@@ -30,4 +31,4 @@ returns-in_err-expect_end-in-Ok g c =
     let S = g.Self.JsonCodec.json.encoding in
     let h = c.in_err-expect_end-in-Ok.ensures in
     passed_on _ _ c.from_residual.result c.from_residual.ensures.1
-    (whole_goes_on json_laws S.encodes first c.in_default.ensures end S.laws c.in-Ok.ensures h.goes_on h.says.0 h.says.1)
+    (whole_goes_on json_laws S.encodes first c.in_default.ensures end S.laws refl c.in-Ok.ensures h.goes_on h.says.0 h.says.1)

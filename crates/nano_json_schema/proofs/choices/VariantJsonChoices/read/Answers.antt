@@ -1,4 +1,4 @@
-use Rattle.std.proofs.Common.{sym, ◌∙◌}
+use Rattle.std.proofs.Common.{sym, ◌∙◌, refl}
 use Rattle.std.proofs.lemmas.Result.{MatchResult-weaker}
 use Rattle.nano_grammar.specs.Variants.{no_variants}
 use Rattle.nano_grammar.proofs.UserCalls.{first_read, first_not, none_has_it}
@@ -22,4 +22,4 @@ pub returns : goal.returns
 returns g c =
     let it = sym c.is_named.ensures ∙ c.if-is_named.false in
     let other = rw (c.stands_alone.ensures, c.text.ensures) at it in
-    none_has_it json_variants g.S.ReadContent.content.rest g.N.Label.label (is_alone c.args.name.now) (bytes_of c.args.name.now) other c.unknown.ensures.says (gives_up c.args.state.now c.unknown.new.state c.args.input.now c.unknown.ensures.state)
+    none_has_it json_variants g.S.ReadContent.content.rest g.N.Label.label (is_alone c.args.name.now) (bytes_of c.args.name.now) other refl c.unknown.ensures.says (gives_up c.args.state.now c.unknown.new.state c.args.input.now c.unknown.ensures.state)

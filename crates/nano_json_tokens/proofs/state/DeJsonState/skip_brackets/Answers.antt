@@ -1,10 +1,16 @@
-use Rattle.std.proofs.Common.{◌≡◌, ℕ, arith, sym, subst}
+use Rattle.std.proofs.Common.{◌≡◌, ℕ, arith, sym, subst, refl}
 use Rattle.nano_text.proofs.RemainingText.{remaining_fewer}
-use Rattle.nano_text.proofs.PlaceLaws.{moves_append}
+use Rattle.nano_text.proofs.PlaceLaws.{moves_append, moves_none, moves_advance}
+use Rattle.nano_grammar.specs.Faults.{uncut}
+use Rattle.nano_grammar.proofs.FaultLaws.{uncut_token}
+use Rattle.nano_json_tokens.specs.Cut.{Cut}
+use Rattle.nano_json_tokens.specs.Outcomes.{position}
+use Rattle.nano_json_tokens.specs.Skipped.{Brackets}
 use Rattle.nano_grammar.proofs.TokenCalls.{passed_on}
 use Rattle.nano_json_tokens.specs.State.{at, pending}
-use Rattle.nano_json_tokens.proofs.BracketCounts.{Counting, start, step, found, goes_on}
-use Rattle.nano_json_tokens.proofs.BracketCounts.{bracket_cut, end_is, end_not, capacity_start}
+use Rattle.nano_json_tokens.proofs.BracketCounts.{Counting, start, step, found, bracket_some}
+use Rattle.nano_json_tokens.proofs.BracketCounts.{end_in_brackets, uncut_in_brackets}
+use Rattle.nano_json_tokens.proofs.BracketCounts.{end_is, end_not, capacity_start}
 use Rattle.nano_json_tokens.proofs.BracketCounts.{capacity_step, capacity_below}
 use Rattle.nano_json_tokens.proofs.Capacity.{token_shorter}
 use Rattle.nano_json_tokens.proofs.state.DeJsonState.skip_brackets.Goals as goal
@@ -12,9 +18,17 @@ use Rattle.nano_json_tokens.proofs.state.DeJsonState.skip_brackets.Goals as goal
 pub returns-in_err-scan_after_value : goal.returns-in_err-scan_after_value
 returns-in_err-scan_after_value c =
     passed_on _ _ c.from_residual.result c.from_residual.ensures.1 (record {
-      rejected = λ known field b after l.
-          let x = bracket_cut field (at c.args.self.now c.args.i.now) after b l in
-          c.in_err-scan_after_value.ensures.rejected known x.0.token x.0.text x.1;
+      rejected = λ known.
+          let start = position c.args.self.now c.args.i.now in
+          let none = c.in_err-scan_after_value.ensures.rejected known in
+          record {
+            here = start;
+            text = refl;
+            moved = moves_none start.place start.input;
+            reason = uncut none;
+            fault = uncut_token Cut Brackets start.at none (λ _. bracket_some);
+            stands = moves_advance c.in_err-scan_after_value.ensures.place;
+          };
       place = c.in_err-scan_after_value.ensures.place;
     })
 
@@ -38,8 +52,10 @@ tokens-init c =
 
 pub returns-then-is_end : goal.returns-then-is_end
 returns-then-is_end c = record {
-  rejected = λ known field b after l.
-      (goes_on (at c.args.self.now c.args.i.now) (at c.tokens.self c.tokens.i) after c.tokens.depth field c.tokens.invariant.counting c.tokens-test.true b l).0 (end_is (pending c.tokens.self) (sym c.if-is_end.ensures));
+  rejected = λ known.
+      end_in_brackets (position c.args.self.now c.args.i.now) (position c.tokens.self c.tokens.i) c.tokens.depth
+      c.tokens.invariant.counting c.tokens-test.true (end_is (pending c.tokens.self) (sym c.if-is_end.ensures)) refl
+      c.tokens.invariant.place;
   place = c.tokens.invariant.place;
 }
 
@@ -66,8 +82,10 @@ tokens-preserved c =
 pub returns-in_err-scan_after_value-2 : goal.returns-in_err-scan_after_value-2
 returns-in_err-scan_after_value-2 c =
     passed_on _ _ c.from_residual-in_err-scan_after_value-2.result c.from_residual-in_err-scan_after_value-2.ensures.1 (record {
-      rejected = λ known field b after l.
-          let x = (goes_on (at c.args.self.now c.args.i.now) (at c.tokens.self c.tokens.i) after c.tokens.depth field c.tokens.invariant.counting c.tokens-test.true b l).1 in
-          c.in_err-scan_after_value-2.ensures.rejected known x.0.token x.0.text x.1;
+      rejected = λ known.
+          uncut_in_brackets (position c.args.self.now c.args.i.now) (position c.tokens.self c.tokens.i)
+          (position c.scan_after_value-in-tokens.new.self c.scan_after_value-in-tokens.new.i) c.tokens.depth
+          c.tokens.invariant.counting c.tokens-test.true (c.in_err-scan_after_value-2.ensures.rejected known) refl
+          c.tokens.invariant.place c.in_err-scan_after_value-2.ensures.place;
       place = moves_append c.tokens.invariant.place c.in_err-scan_after_value-2.ensures.place;
     })

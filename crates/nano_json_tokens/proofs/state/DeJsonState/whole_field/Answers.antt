@@ -1,11 +1,15 @@
 use Rattle.std.proofs.Common.{sym, ◌∙◌, ap, refl, inl, inr, [], ◌∷◌}
 use Rattle.std.proofs.lemmas.Result.{MatchResult-weaker}
-use Rattle.nano_text.proofs.PlaceLaws.{moves_advance}
-use Rattle.nano_grammar.proofs.TokenCalls.{fails_as, fails_here}
+use Rattle.nano_text.proofs.PlaceLaws.{moves_advance, moves_none}
+use Rattle.nano_grammar.proofs.FaultLaws.{goes_wrong, stopped_here, wrong_in}
+use Rattle.nano_grammar.proofs.TokenCalls.{fails_here}
+use Rattle.nano_json_tokens.specs.Cut.{Cut}
+use Rattle.nano_json_tokens.specs.Outcomes.{position}
+use Rattle.nano_json_tokens.specs.Skipped.{Skips, Brackets}
 use Rattle.nano_json_tokens.specs.State.{at}
-use Rattle.nano_json_tokens.proofs.BracketCounts.{skipped_cut, skipped_begins, skipped_bracket}
+use Rattle.nano_json_tokens.proofs.BracketCounts.{skipped_some, skipped_begins, skipped_bracket}
 use Rattle.nano_json_tokens.proofs.BracketCounts.{scalar_is, opening_one, field_begins}
-use Rattle.nano_json_tokens.proofs.Calling.{gives_up, fails_ended_there, made_there}
+use Rattle.nano_json_tokens.proofs.Calling.{gives_up, none_ended_there, made_there}
 use Rattle.nano_json_tokens.proofs.state.DeJsonState.whole_field.Goals as goal
 
 pub returns-then-is_scalar : goal.returns-then-is_scalar
@@ -23,7 +27,7 @@ returns-then-is_scalar c =
       },
     ))
     (λ _ x. record {
-      fails = fails_as (λ none field s after l. let next = skipped_cut field here after s l in none next.0.token next.0.text next.1) x.fails;
+      fails = stopped_here Cut Skips refl (λ _. skipped_some) x.fails;
       unchanged = λ other. absurd (other (inl scalar));
       ended = λ _. x.ended;
       capacity = λ _ _. x.capacity;
@@ -43,8 +47,11 @@ returns-in-Err c =
     let is = c.reject.ensures.unchanged in
     let opening = sym c.if-is_opening.ensures in
     record {
-      fails = fails_ended_there mid new c.skip_brackets.new.i c.reject.result is (record {
-        rejected = λ known field s after l. x.rejected (c.reject.ensures.made.0 known) field (skipped_bracket field here after s l opening) after l;
+      fails = none_ended_there Skips mid new c.skip_brackets.new.i c.reject.result is (record {
+        rejected = λ known.
+            let start = position c.args.self.now c.args.i.now in
+            wrong_in Cut Skips Brackets [] (skipped_bracket here.token opening) refl
+            (moves_none start.place start.input) (x.rejected (c.reject.ensures.made.0 known));
         made = made_there mid new c.reject.result is c.reject.ensures.made.1;
         place = moves_advance x.place;
       });
@@ -58,7 +65,8 @@ returns c =
     let here = at c.args.self.now c.args.i.now in
     let other = field_begins here.token (sym c.if-is_scalar.ensures) (sym c.if-is_opening.ensures) in
     record {
-      fails = fails_here (λ field s after l. other (skipped_begins field here after s l)) c.err_token.ensures;
+      fails = fails_here (goes_wrong Cut Skips (position c.args.self.now c.args.i.now) refl (λ _. skipped_some)
+          (λ ts _ s. other (skipped_begins here.token ts s))) c.err_token.ensures;
       unchanged = λ _. (refl, refl);
       ended = λ is. absurd (other is);
       capacity = λ is. absurd (other is);

@@ -1,4 +1,4 @@
-use Rattle.std.proofs.Common.{sym, ◌∙◌}
+use Rattle.std.proofs.Common.{sym, ◌∙◌, refl}
 use Rattle.std.proofs.lemmas.Result.{MatchResult-weaker}
 use Rattle.nano_grammar.specs.Variants.{no_variants}
 use Rattle.nano_grammar.proofs.UserCalls.{first_read, first_not, none_has_it}
@@ -20,5 +20,5 @@ returns g c =
     let it = sym c.is_named.ensures ∙ c.if-is_named.false in
     let other = rw (c.stands_alone.ensures, c.text.ensures) at it in
     let error = c.unknown_variant.ensures in
-    none_has_it ron_variants g.S.ReadContent.content.rest g.N.Label.label c.args.alone c.args.name.now other error.says
+    none_has_it ron_variants g.S.ReadContent.content.rest g.N.Label.label c.args.alone c.args.name.now other refl error.says
     (gives_up c.args.state.now c.unknown_variant.new.state c.args.input.now error.state)
