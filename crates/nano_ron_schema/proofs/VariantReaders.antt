@@ -75,4 +75,5 @@ module _ (vs : Variants Encoding) where
   choice_leads name pending true e us more rest next m h is =
       let some = some_alone 0 vs name (sym e) in
       ([], tagged some.0 nothing, pending, rest, (some.0, some.1, refl, refl), refl)
-  choice_leads name pending false e = content_leads name pending (none_alone 0 vs name (sym e))
+  choice_leads name pending false e us more rest next m h is =
+      content_leads name pending (none_alone 0 vs name (sym e)) us more rest next m h is
