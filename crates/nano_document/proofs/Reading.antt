@@ -1,15 +1,17 @@
 -- What the readers of documents come to, by the kind of the pending token.
-use Rattle.std.proofs.Common.{◌≡◌, ℕ, suc, ◌-◌, ℤ, Bool, List, [], ◌∷◌, map, String, Vec, Global, string_bytes, refl, sym, ◌∙◌, ap, subst, arith}
+use Rattle.std.proofs.Common.{◌≡◌, ℕ, suc, ◌-◌, ℤ, Bool, List, [], ◌∷◌, ◌++◌, map, String, Vec, Global, string_bytes, refl, sym, ◌∙◌, ap, subst, arith}
+use Rattle.nano_text.specs.Place.{text_at}
 use Rattle.nano_text.proofs.PlaceLaws.{moves_append}
 use Rattle.nano_value.specs.Meaning.{Meaning, paired}
 use Rattle.nano_meaning.specs.Sums.{tagged}
 use Rattle.nano_grammar.specs.Codec.{BeginsValue, Encoding, IsEncoding}
 use Rattle.nano_json.specs.Lists.{EncodesEntry}
-use Rattle.nano_grammar.specs.Outcomes.{Report, Position, IsMadeAt, Fails, Took, Read}
-use Rattle.nano_grammar.specs.Tokens.{At, Leaves, DecodesToNothing}
-use Rattle.nano_grammar.proofs.ReadingCalls.{value_rejected}
-use Rattle.nano_grammar.proofs.TokenCalls.{fails_after, fails_as, fails_here}
-use Rattle.nano_grammar.proofs.Reading.{image_spans, image_rejected}
+use Rattle.nano_grammar.specs.Outcomes.{Report, Position, IsMadeAt, Took, Read, ReadsNone}
+use Rattle.nano_grammar.proofs.FaultLaws.{LeadsTo, goes_wrong}
+use Rattle.nano_grammar.proofs.TokensLaws.{leaves_append}
+use Rattle.nano_grammar.proofs.PartReading.{second_leads}
+use Rattle.nano_grammar.proofs.TokenCalls.{fails_here, none_in, none_first, none_as}
+use Rattle.nano_grammar.proofs.Reading.{image_spans, image_encodes}
 use Rattle.nano_json_tokens.specs.Cut.{Cut}
 use Rattle.nano_json_tokens.specs.Cut.{json_grammar}
 use Rattle.nano_json_tokens.proofs.JsonLaws.{json}
@@ -18,7 +20,6 @@ use Rattle.nano_json_tokens.specs.Token.{Token, colon}
 use Rattle.nano_json_tokens.specs.declared.state.DeJsonState.{DeJsonState}
 use Rattle.nano_json_tokens.specs.declared.token.DeJsonTok.{DeJsonTok}
 use Rattle.nano_json_tokens.specs.declared.token.DeJsonTok.TheVariants as T
-use Rattle.nano_json.proofs.Json.{json_laws}
 use Rattle.nano_levels.specs.Kinds.{kind_of, EncodesKind, codecs_at}
 use Rattle.nano_levels.proofs.KindsLaws.{of_kind}
 use Rattle.nano_levels.proofs.LevelsLaws.{level_holds, level_content, level_none}
@@ -52,31 +53,43 @@ read_at levels n is place x m e h =
       place = h.place;
     }
 
-first_kind : (ts : List Token) (start end : At Token) → BeginsValue json_grammar ts → Leaves Cut ts start end
-    → kind_of kind ts ≡ kind start.token
-first_kind [] start end b h = absurd b
-first_kind (t ∷ ts) start end b h = ap kind h.0
+first_kind : (ts after rest : List Token) (first : Token) → BeginsValue json_grammar ts → ts ++ after ≡ first ∷ rest
+    → kind_of kind ts ≡ kind first
+first_kind [] after rest first b e = absurd b
+first_kind (t ∷ ts) after rest first b e = let same : t ≡ first = cc e in ap kind same
 
--- where the pending token is of a kind, and no content of this kind is encoded, nothing is
+-- where the pending token is of a kind, a document is content of this kind
+content_leads : (levels n : ℕ) → levels ≡ suc n → (place : ℕ) (first : Token) → kind first ≡ place
+    → LeadsTo (Encodes levels) (content_at n place).encodes [] first
+content_leads levels n is place first same us more rest next m f begun =
+    let u = level_content json_nested n m us (subst (λ k. Encodes k us m) is f) in
+    let begins = (level_codec levels).encoding.laws.begins us m f in
+    let kinds = first_kind us (next ∷ more) rest first begins begun ∙ same in
+    (us, u.content, next, more, subst (λ k. (content_at n k).encodes us u.content) kinds u.encodes, begun)
+
+-- where no content of this kind is encoded, nothing is
 pub not_at : (levels n : ℕ) → levels ≡ suc n → (place : ℕ) → {start end : Position Token} {e : Report}
-    → kind start.at.token ≡ place → Fails (DecodesToNothing Cut (content_at n place).encodes start.at) start end e
-    → Fails (DecodesToNothing Cut (Encodes levels) start.at) start end e
-not_at levels n is place {start} same h = fails_as (λ none m f.
-    let u = level_content json_nested n m f.0 (subst (λ k. Encodes k f.0 m) is f.2) in
-    let begins = (level_codec levels).encoding.laws.begins f.0 m f.2 in
-    let kinds = first_kind f.0 start.at f.1 begins f.3 ∙ same in
-    none u.content (f.0, f.1, subst (λ k. (content_at n k).encodes f.0 u.content) kinds u.encodes, f.3)) h
+    → kind start.at.token ≡ place → ReadsNone Cut (content_at n place).encodes start end e
+    → ReadsNone Cut (Encodes levels) start end e
+not_at levels n is place {start} same h =
+    none_first Cut (Encodes levels) (content_at n place).encodes (content_leads levels n is place start.at.token same) h
 
 -- where it begins no document
-pub not_begun : (levels n : ℕ) → levels ≡ suc n → {start : Position Token} {e : Report} → kind start.at.token ≡ 6
-    → IsMadeAt start.place e → Fails (DecodesToNothing Cut (Encodes levels) start.at) start start e
-not_begun levels n is same made = not_at levels n is 6 same (fails_here (λ m f. f.2) made)
+pub not_begun : (levels n : ℕ) → levels ≡ suc n → {start : Position Token} {e : Report}
+    → start.at.text ≡ text_at start.place start.input → kind start.at.token ≡ 6
+    → IsMadeAt start.place e → ReadsNone Cut (Encodes levels) start start e
+not_begun levels n is {start} text same made =
+    not_at levels n is 6 same
+    (fails_here (goes_wrong Cut (content_at n 6).encodes start text (λ m f. f) (λ ts m f. f)) made)
 
 -- where no level is left
-pub no_level : (levels : ℕ) → levels ≡ 0 → {start : Position Token} {e : Report} → IsMadeAt start.place e
-    → Fails (DecodesToNothing Cut (Encodes levels) start.at) start start e
-no_level levels is made =
-    fails_here (λ m f. level_none json_nested m f.0 (subst (λ k. Encodes k f.0 m) is f.2)) made
+pub no_level : (levels : ℕ) → levels ≡ 0 → {start : Position Token} {e : Report}
+    → start.at.text ≡ text_at start.place start.input → IsMadeAt start.place e
+    → ReadsNone Cut (Encodes levels) start start e
+no_level levels is {start} text made =
+    let none : (ts : List Token) (m : Meaning) → Encodes levels ts m → ⊥ =
+    λ ts m f. level_none json_nested m ts (subst (λ k. Encodes k ts m) is f) in
+    fails_here (goes_wrong Cut (Encodes levels) start text (none []) (λ ts. none (start.at.token ∷ ts))) made
 
 -- ---- the kind of the pending token
 
@@ -125,14 +138,17 @@ module _ (levels : ℕ) where
   entry_read_whole {start} {end} x y h =
       record { decodes = image_spans json paired start.at end.at (x, y) h.decodes; place = h.place }
 
-  pub no_entry_whole : {start end : Position Token} {e : Report} → Fails (DecodesToNothing Cut Entry start.at) start end e
-      → Fails (DecodesToNothing Cut (entry_at levels).encodes start.at) start end e
-  no_entry_whole {start} h = fails_as (image_rejected json paired start.at) h
+  pub no_entry_whole : {start end : Position Token} {e : Report} → ReadsNone Cut Entry start end e
+      → ReadsNone Cut (entry_at levels).encodes start end e
+  no_entry_whole h = none_as Cut (entry_at levels).encodes Entry (image_encodes json Entry paired) h
 
   pub document_not : {buffered : Type 0} {start m k end : Position Token} {x : Meaning} {e : Report}
       → Read Cut string_codec.encoding.encodes start m x → Took Cut buffered m k (colon ∷ [])
-      → Fails (DecodesToNothing Cut (Encodes levels) k.at) k end e
-      → Fails (DecodesToNothing Cut Entry start.at) start end e
+      → ReadsNone Cut (Encodes levels) k end e → ReadsNone Cut Entry start end e
   document_not {start = start} {m} {k} {x = x} key colon_taken h =
-      fails_after (value_rejected json_laws colon string_codec.encoding.laws (Encodes levels) start.at m.at k.at x key.decodes colon_taken.taken)
+      let i = key.decodes in
+      let Name = string_codec.encoding in
+      none_in Cut Entry (Encodes levels) (i.0 ++ colon ∷ [])
+      (second_leads colon Name.encodes Name.laws.none_begins (Encodes levels) i.0 x i.1 k.at.token)
+      (leaves_append Cut i.0 (colon ∷ []) start.at m.at k.at i.2 colon_taken.taken)
       (moves_append key.place colon_taken.place) h

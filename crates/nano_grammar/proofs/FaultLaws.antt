@@ -6,9 +6,11 @@ use Rattle.std.proofs.lemmas.List.{append_cancel_left}
 use Rattle.nano_text.proofs.PlaceLaws.{moves_append, moves_none, advances_ended}
 use Rattle.nano_text.proofs.RemainingText.{remaining_end}
 use Rattle.nano_text.specs.Place.{text_at}
-use Rattle.nano_grammar.specs.Tokens.{At, Leaves, IsOneWay, DecodesTo, DecodesToNothing}
+use Rattle.nano_grammar.specs.Tokens.{At, Leaves, IsOneWay, DecodesToNothing}
 use Rattle.nano_grammar.specs.Faults.{NothingCut, AreTokens, Reason, wrong, uncut, MayFollow, Fault}
-use Rattle.nano_grammar.specs.Outcomes.{Position, Moved, Report, IsMadeAt, Fails, GoesWrong}
+use Rattle.nano_grammar.specs.Faults.{NoneBegins}
+use Rattle.nano_grammar.specs.Promises.{FaultsDecodeToNothing, NothingGoesPastFaults}
+use Rattle.nano_grammar.specs.Outcomes.{Position, Moved, Report, Fails, GoesWrong}
 use Rattle.nano_grammar.specs.Outcomes.{ReadsNone, StandsAt, given_up}
 use Rattle.nano_grammar.proofs.TokensLaws.{leaves_append, meets}
 
@@ -254,3 +256,25 @@ module _ {T V : Type 0} (cut : List ℕ → T → List ℕ → Type 0) (encodes 
           follows_nothing : (reason : Reason cut here) → MayFollow cut reason []
           follows_nothing wrong = tt
           follows_nothing (uncut none) = refl
+
+  pub faults_decode_to_nothing : FaultsDecodeToNothing cut encodes
+  faults_decode_to_nothing one_way start here reason f = nothing_decodes one_way start here reason f
+
+  pub nothing_goes_past : NothingGoesPastFaults cut encodes
+  nothing_goes_past one_way start here end reason f ts more v l e =
+      elim (meets cut one_way ts f.tokens start end here l f.taken) [
+        | inl r ↦ (r.0, r.1)
+        | inr r ↦ past r.0 r.1 reason f.none r.2
+      ] where
+        past : (cs : List T) → ts ≡ f.tokens ++ cs → (reason : Reason cut here)
+            → ((more : List T) → MayFollow cut reason more → NoneBegins encodes (f.tokens ++ here.token ∷ more))
+            → Leaves cut cs here end → (between : List T) × (f.tokens ≡ ts ++ between)
+        past [] is reason none k = ([], sym (append-nil ts ∙ (is ∙ append-nil f.tokens)))
+        past (c ∷ cs) is (uncut n) none k = absurd (n k.1.0.token k.1.0.text k.1.1)
+        past (c ∷ cs) is wrong none k =
+            let whole =
+            append_assoc ts more (c ∷ [])
+            ∙ (ap (λ (xs : List T). xs ++ (more ++ c ∷ [])) is
+            ∙ (append_assoc f.tokens (c ∷ cs) (more ++ c ∷ [])
+            ∙ ap (λ (t : T). f.tokens ++ t ∷ (cs ++ (more ++ c ∷ []))) k.0)) in
+            absurd (none (cs ++ (more ++ c ∷ [])) tt (ts ++ more) [] c v e whole)

@@ -2,7 +2,7 @@
 use Rattle.std.proofs.Common.{◌≡◌, ℕ, List, [], ◌∷◌, ◌++◌, Bool, true, false, ◌||◌, bytes_eq, refl}
 use Rattle.std.proofs.Common.{sym, ◌∙◌, ap, subst}
 use Rattle.nano_value.specs.Meaning.{Meaning}
-use Rattle.nano_grammar.specs.Tokens.{Cutting, At, Leaves}
+use Rattle.nano_grammar.specs.Tokens.{Cutting, Leaves}
 use Rattle.nano_grammar.specs.Codec.{Grammar}
 use Rattle.nano_grammar.specs.Outcomes.{Report, Position, Moved, Took, Read, ReadsNone}
 use Rattle.nano_grammar.proofs.TokenCalls.{none_as}
@@ -211,5 +211,8 @@ module _ {T : Type 0} {c : Cutting T} {g : Grammar T} (s : FieldStyle c g) (name
         let Skipped : List T → Unit {0} → Type 0 = λ us x. s.Skipped us in
         let Value = FieldTokens [] name (Allowed s shape) in
         subst (λ (p : Position T). ReadsNone c.cut Value p end e) still
-        (none_as c.cut Value Skipped (λ ts us f. (tt, subst s.Skipped (sym f.0)
-        (second_of (shape.knows name) (shape.takes name us) (s.Skipped us) unknown f.1))) h)
+        (none_as c.cut Value Skipped (λ ts us f. (
+          tt,
+          subst s.Skipped (sym f.0)
+              (second_of (shape.knows name) (shape.takes name us) (s.Skipped us) unknown f.1),
+        )) h)

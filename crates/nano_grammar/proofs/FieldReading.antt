@@ -7,24 +7,16 @@ use Rattle.std.specs.List.{AllByRecursion, list_all}
 use Rattle.std.proofs.lemmas.Slice.Eq.{bytes_eq-Decides}
 use Rattle.nano_grammar.specs.Tokens.{At, Leaves, Spans, Cutting}
 use Rattle.nano_grammar.specs.Faults.{AreTokens}
-use Rattle.nano_grammar.proofs.TokensLaws.{same_at, leaves_append, CutLaws}
+use Rattle.nano_grammar.proofs.TokensLaws.{leaves_append, CutLaws}
 use Rattle.nano_grammar.proofs.FaultLaws.{LeadsTo, first_token}
 use Rattle.nano_grammar.specs.Codec.{Grammar, Encoding}
-use Rattle.nano_grammar.specs.Fields.{FieldStyle, Field, EncodedField, EncodedNamed, either}
+use Rattle.nano_grammar.specs.Fields.{FieldStyle, EncodedField, EncodedNamed, either}
 use Rattle.nano_grammar.specs.Fields.{is_known_name, are_distinct, Differs, AreDistinct}
 use Rattle.nano_grammar.specs.Variants.{Variants}
 use Rattle.nano_grammar.specs.Choices.{Rest, no_more, more, before, stands_alone, is_named}
 use Rattle.nano_text.proofs.LaneMasks.{all_split}
 
 module _ {T : Type 0} {c : Cutting T} {g : Grammar T} (s : FieldStyle c g) (r : CutLaws c g) where
-  -- the same tokens lead to one place
-  pub leaves_same : (ts : List T) (start x y : At T) → Leaves c.cut ts start x → Leaves c.cut ts start y
-      → x ≡ y
-  leaves_same [] start x y h k = sym h ∙ k
-  leaves_same (t ∷ ts) start x y h k =
-      let e = same_at c.cut r.one_way start.text k.1.0 h.1.0 k.1.1 h.1.1 in
-      leaves_same ts h.1.0 x y h.1.2 (subst (λ (z : At T). Leaves c.cut ts z y) e k.1.2)
-
   -- a name and a colon
   abbrev pub Head : List ℕ → List T
   Head name = s.name name ∷ (s.pair.token ∷ [])
@@ -54,30 +46,21 @@ module _ {T : Type 0} {c : Cutting T} {g : Grammar T} (s : FieldStyle c g) (r : 
     colon_leads pending us after rest next x e is =
         let f = first_token e.0 next after in
         let whole = ap (λ (xs : List T). xs ++ next ∷ after) (sym e.1) ∙ is in
-        let left : s.pair.token ∷ (e.0 ++ next ∷ after) ≡ rest = cc whole in
-        (Head_of pending, tt, f.0, f.1, refl, ap (λ (xs : List T). pending ∷ (s.pair.token ∷ xs)) (sym f.2)
-        ∙ ap (λ (xs : List T). pending ∷ xs) left)
+        let left : s.pair.token ∷ (e.0 ++ next ∷ after) ≡ rest = cc whole in (
+          Head_of pending,
+          tt,
+          f.0,
+          f.1,
+          refl,
+          ap (λ (xs : List T). pending ∷ (s.pair.token ∷ xs)) (sym f.2)
+              ∙ ap (λ (xs : List T). pending ∷ xs) left,
+        )
 
     pub value_leads : (name_token pending : T) → LeadsTo (EncodedNamed s name S) S (Head_of name_token) pending
     value_leads name_token pending us after rest next x e is =
         let whole = ap (λ (xs : List T). xs ++ next ∷ after) (sym e.1) ∙ is in
         let left : e.0 ++ next ∷ after ≡ pending ∷ rest = cc whole in
         (e.0, x, next, after, e.2, left)
-
-  -- ---- the pending name
-
-  module _ (name : List ℕ) (pending : T) (e : pending ≡ s.name name) where
-    -- a field that begins with it has the name, and its value follows
-    pub field_leads : {A : Type 0} (S : List T → A → Type 0) (takes : List ℕ → List T → Type 0)
-        → ((us : List T) → takes name us → (x : A) × S us x)
-        → LeadsTo (EncodedField s takes) (EncodedNamed s name S) [] pending
-    field_leads S takes is_encoded us after rest next f h is =
-        let whole = ap (λ (xs : List T). xs ++ next ∷ after) (sym h.0) ∙ is in
-        let first : s.name f.name ≡ pending = cc whole in
-        let same = s.injective f.name name (first ∙ e) in
-        let x = is_encoded f.value (subst (λ (n : List ℕ). takes n f.value) same h.1) in
-        let head = ap (λ (n : List ℕ). s.name n ∷ (s.pair.token ∷ f.value)) same in
-        (us, x.0, next, after, (f.value, h.0 ∙ head, x.1), is)
 
   -- ---- a name and a colon that were taken, and the value after them
 

@@ -100,13 +100,7 @@ module _ {T : Type 0} {c : Cutting T} {g : Grammar T} (r : CutLaws c g) where
         → Spans c.cut (EncodesList punctuation S) start following xs
     list_spans following xs count s = (s.0, record { count = count; items = s.1 }, s.2)
 
-    pub list_encodes : Encodes (EncodesList punctuation S) (EncodedList punctuation S)
-    list_encodes ts xs h = (xs, h.items)
-
     pub count_spans : (count : ℕ) (following : At T) (xs : List A) → length xs ≡ count
         → Spans c.cut (EncodedList punctuation S) start following xs
         → Spans c.cut (EncodesCount punctuation count S) start following xs
     count_spans count following xs long s = (s.0, record { count_is = long; items = s.1 }, s.2)
-
-    pub count_encodes : (count : ℕ) → Encodes (EncodesCount punctuation count S) (EncodedList punctuation S)
-    count_encodes count ts xs h = (xs, h.items)

@@ -2,7 +2,7 @@
 use Rattle.std.proofs.Common.{List, [], ◌∷◌, ◌++◌, ◌≡◌, ◌≢◌, Some, None, refl, sym}
 use Rattle.nano_value.specs.Meaning.{Meaning, IsImage, optional, nothing}
 use Rattle.nano_grammar.proofs.TokensLaws.{CutLaws, leaves_append}
-use Rattle.nano_grammar.specs.Tokens.{Cutting, At, Spans}
+use Rattle.nano_grammar.specs.Tokens.{Cutting, At}
 use Rattle.nano_grammar.specs.Faults.{AreTokens}
 use Rattle.nano_grammar.specs.Items.{EncodedPair}
 use Rattle.nano_grammar.specs.Codec.{Grammar, IsEncoding, BeginsValue}

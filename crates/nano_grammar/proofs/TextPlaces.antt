@@ -1,5 +1,5 @@
 -- Where errors stand in a text, from how far a reader went.
-use Rattle.std.proofs.Common.{◌≡◌, ◌-◌, ◌≤◌, ℕ, List, [], ◌∷◌, length, length-append, refl, sym, ap, ◌∙◌, arith}
+use Rattle.std.proofs.Common.{◌≡◌, ◌-◌, ℕ, List, [], ◌∷◌, length, length-append, refl, sym, ap, ◌∙◌, arith}
 use Rattle.std.specs.declared.str.Chars.{Chars}
 use Rattle.nano_text.specs.declared.place.Place.{Place}
 use Rattle.nano_text.specs.Place.{held, tail, text_at, before_nul, beginning, Passes, Advances, Moves}

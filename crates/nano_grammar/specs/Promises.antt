@@ -3,7 +3,8 @@ use Rattle.std.specs.Prelude.{◌≡◌, ◌≢◌, ◌↔◌, ◌⊎◌, ℕ, L
 use Rattle.std.specs.List.{flat_map, AllByRecursion}
 use Rattle.nano_grammar.specs.Items.{ListPunctuation, OneValue, EncodedList}
 use Rattle.nano_grammar.specs.Tokens.{At, Begins, BeginsAt, Leaves, Spans, TextDecodesTo, IsOneWay}
-use Rattle.nano_grammar.specs.Tokens.{NoneBeginsAnother}
+use Rattle.nano_grammar.specs.Tokens.{NoneBeginsAnother, DecodesToNothing}
+use Rattle.nano_grammar.specs.Faults.{Reason, Fault}
 use Rattle.nano_grammar.specs.Fields.{Field, last, others}
 
 module _ {T : Type 0} (cut : List ℕ → T → List ℕ → Type 0) where
@@ -27,6 +28,18 @@ module _ {T : Type 0} (cut : List ℕ → T → List ℕ → Type 0) where
         → (start end other : At T) (v w : V)
         → Spans cut encodes start end v → Spans cut encodes start other w
         → (v ≡ w) × (end ≡ other)
+
+    -- where a text is cut in one way and goes wrong, no value decodes
+    abbrev pub FaultsDecodeToNothing : Type 0
+    FaultsDecodeToNothing = IsOneWay cut → (start here : At T) (reason : Reason cut here)
+        → Fault cut encodes start here reason → DecodesToNothing cut encodes start
+
+    -- and tokens that were taken and begin an encoding are no more than those before the fault
+    abbrev pub NothingGoesPastFaults : Type 0
+    NothingGoesPastFaults = IsOneWay cut → (start here end : At T) (reason : Reason cut here)
+        → (fault : Fault cut encodes start here reason) → (ts more : List T) (v : V)
+        → Leaves cut ts start end → encodes (ts ++ more) v
+        → (between : List T) × (fault.tokens ≡ ts ++ between)
 
 -- pieces, with one comma between two
 abbrev pub joined : {T : Type 0} → T → List (List T) → List T

@@ -8,7 +8,7 @@ use Rattle.nano_text.specs.Place.{text_at, Moves}
 use Rattle.nano_grammar.specs.Tokens.{Cutting, At, Leaves, Spans}
 use Rattle.nano_grammar.specs.Faults.{Fault, wrong}
 use Rattle.nano_grammar.specs.Codec.{Grammar, Encoding}
-use Rattle.nano_grammar.specs.Outcomes.{Report, IsMadeAt, Position, Moved, Fails, Read, ReadsNone}
+use Rattle.nano_grammar.specs.Outcomes.{Report, IsMadeAt, Position, Moved, Read, ReadsNone}
 use Rattle.nano_grammar.specs.Outcomes.{ReadsNoneAndEnds}
 use Rattle.nano_grammar.specs.Choices.{EncodesAfter}
 use Rattle.nano_grammar.specs.Fields.{FieldStyle, Field, Shape, EncodedFields, unknown_message}
@@ -35,12 +35,6 @@ pub record IsUnknownAfter {T : Type 0} (start : Position T) (after : At T) (name
   pub text : after.text ≡ text_at place input
   pub moved : Moves start.place start.input place input
   pub error : IsUnknownAt place name e
-
--- the error reports the fact, and the reader is at the end of the text
-pub record FailsAndEnds {T : Type 0} (last : At T) (fact : Type 0) (start end : Position T)
-    (e : Report) : Type 0 where
-  pub fails : Fails fact start end e
-  pub ended : end.at ≡ last
 
 -- ---- the field of a name
 

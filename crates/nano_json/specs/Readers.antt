@@ -1,7 +1,9 @@
 -- What the readers of texts answer.
-use Rattle.std.specs.Prelude.{ℕ, List, Result, ◌≡◌}
+use Rattle.std.specs.Prelude.{ℕ, List, Result, ◌≡◌, false}
 use Rattle.nano_grammar.specs.Outcomes.{ReadsText as ReadsTextBy, ReadsWhole as ReadsWholeBy}
 use Rattle.nano_grammar.specs.Outcomes.{ReadsNoText}
+use Rattle.nano_grammar.specs.Tokens.{TextDecodesToNothing}
+use Rattle.nano_text.specs.Place.{remaining_text}
 use Rattle.nano_json_tokens.specs.Cut.{Cut}
 use Rattle.nano_json_tokens.specs.Outcomes.{report}
 use Rattle.nano_json_tokens.specs.Token.{Token, end}
@@ -26,6 +28,11 @@ module _ {V A : Type 0} (encodes : List Token → V → Type 0) (means : A → V
 -- encoded there
 abbrev pub RejectsText : {V : Type 0} → (List Token → V → Type 0) → List ℕ → DeJsonErr → Type 0
 RejectsText encodes bytes e = ReadsNoText Cut encodes bytes (report e)
+
+-- where the error of a text says more than that memory ran out, no value decodes there
+abbrev pub RejectedDecodesToNothing : {V : Type 0} → (List Token → V → Type 0) → Type 0
+RejectedDecodesToNothing encodes = (bytes : List ℕ) (e : DeJsonErr) → RejectsText encodes bytes e
+    → e.memory ≡ false → TextDecodesToNothing Cut encodes (remaining_text bytes)
 
 -- ==== values that are written alike
 

@@ -7,6 +7,7 @@ ghost use Rattle.nano_value.specs.Tables.{table_of};
 ghost use Rattle.nano_json.specs.Cut.{Cut};
 ghost use Rattle.nano_grammar.specs.Items.{OneValue};
 ghost use Rattle.nano_json.specs.Readers.{EntriesDecideText, ItemsDecideText};
+ghost use Rattle.nano_json.specs.Readers.{RejectedDecodesToNothing};
 ghost use Rattle.nano_json.specs.Codec.{BeginsValue, StartsWith};
 ghost use Rattle.nano_json.specs.Token.{Token, null, end};
 ghost use Rattle.nano_grammar.specs.Tokens.{At, Cuts, DecodesTo, NoneBeginsAnother};
@@ -55,6 +56,11 @@ pub fn at_most_one_decodes_whole<T: JsonCodec>()
     ensures { (bytes : List ℕ) (m n : Meaning)
         → WholeDecodesTo Cut T.json.encoding.encodes end bytes m
         → WholeDecodesTo Cut T.json.encoding.encodes end bytes n → m ≡ n }
+{}
+
+/// Where the error of a text says more than that memory ran out, no value decodes there.
+pub fn a_rejected_text_decodes_to_nothing<T: JsonCodec>()
+    ensures { RejectedDecodesToNothing T.json.encoding.encodes }
 {}
 
 /// The canonical text of a value at a level, with anything after it that may follow a value, is

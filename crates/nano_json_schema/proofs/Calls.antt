@@ -1,6 +1,6 @@
 -- What the calls that take tokens of a user-defined type come to.
 use Rattle.std.proofs.Common.{◌≡◌, ℕ, List, [], ◌∷◌, Result, Ok, Err, refl, sym, ap, subst, ◌≢◌}
-use Rattle.std.proofs.Common.{◌⊎◌, true, false, inl, inr, string_bytes, ◌∙◌, Bool, ◌++◌}
+use Rattle.std.proofs.Common.{true, false, inl, inr, string_bytes, ◌∙◌, Bool, ◌++◌}
 use Rattle.std.specs.declared.str.Chars.{Chars}
 use Rattle.nano_text.specs.Place.{remaining, text_at, Advances, Moves}
 use Rattle.nano_text.proofs.PlaceLaws.{moves_append, moves_none, moves_advance, advances_append}
@@ -188,10 +188,6 @@ name_goes_on t h e = let x = sym (ap is_str e) ∙ h in cc x
 
 pub no_name_pending : (t : Token) → is_str t ≡ false → (name : List ℕ) → t ≢ str name
 no_name_pending t h name e = let x = sym (ap is_str e) ∙ h in cc x
-
-pub closes_or_not : (t : Token) → (t ≡ curly_close) ⊎ (t ≢ curly_close)
-closes_or_not curly_close = inl refl
-closes_or_not _ = inr (λ e. cc e)
 
 -- ==== unknown names
 

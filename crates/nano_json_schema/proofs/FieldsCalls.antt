@@ -92,9 +92,15 @@ colon_leads : (shape : Shape) (name : Option (List ℕ)) (pending : Token)
 colon_leads shape None pending us more rest next f h is =
     let k = first_token f.value next more in
     let whole = ap (λ (xs : List Token). xs ++ next ∷ more) (sym h.0) ∙ is in
-    let left : colon ∷ (f.value ++ next ∷ more) ≡ rest = cc whole in
-    (pending ∷ (colon ∷ []), tt, k.0, k.1, refl, ap (λ (xs : List Token). pending ∷ (colon ∷ xs)) (sym k.2)
-    ∙ ap (λ (xs : List Token). pending ∷ xs) left)
+    let left : colon ∷ (f.value ++ next ∷ more) ≡ rest = cc whole in (
+      pending ∷ (colon ∷ []),
+      tt,
+      k.0,
+      k.1,
+      refl,
+      ap (λ (xs : List Token). pending ∷ (colon ∷ xs)) (sym k.2)
+          ∙ ap (λ (xs : List Token). pending ∷ xs) left,
+    )
 colon_leads shape (Some name) pending us more rest next f h is =
     let k = first_token f.value next more in
     let after : us ≡ colon ∷ f.value = cc h.0 in
@@ -181,7 +187,7 @@ module _ (struct : Struct Token) where
       let Part = FieldLeft None struct.shape in (
         ts,
         subst (λ (z : At Token). LeadsTo Whole Part ts z.token) stands
-        (struct_field_leads json_fields json_laws struct holds start here read other),
+            (struct_field_leads json_fields json_laws struct holds start here read other),
         subst (λ (z : At Token). Leaves Cut ts start z) stands read.read.so_far.taken,
       )
   field_left {holds} start here now (Some name) read stands other =

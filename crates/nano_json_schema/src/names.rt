@@ -45,7 +45,7 @@ pub(crate) fn next_field<'a>(
 ) -> Result<Option<&'a str>, DeJsonErr>
     ensures { ReachesName GoesOn
         ((pending state.old ≢ curly_close)
-            × NoneHere (comma ∷ []) state.old input.old state.new input.new)
+        × NoneHere (comma ∷ []) state.old input.old state.new input.new)
         (position state.old input.old) (position state.new input.new) result }
 {
     let name = name_after(is_comma(state), state, input);

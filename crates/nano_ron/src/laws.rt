@@ -7,6 +7,7 @@ ghost use Rattle.nano_value.specs.Tables.{table_of};
 ghost use Rattle.nano_ron.specs.Cut.{Cut, none};
 ghost use Rattle.nano_grammar.specs.Items.{OneValue};
 ghost use Rattle.nano_ron.specs.Readers.{EntriesDecideText, ItemsDecideText};
+ghost use Rattle.nano_ron.specs.Readers.{RejectedDecodesToNothing};
 ghost use Rattle.nano_ron.specs.Codec.{BeginsValue, StartsWith};
 ghost use Rattle.nano_ron.specs.Token.{Token, end};
 ghost use Rattle.nano_grammar.specs.Tokens.{At, Cuts, DecodesTo, NoneBeginsAnother};
@@ -54,6 +55,11 @@ pub fn at_most_one_decodes_whole<T: RonCodec>()
     ensures { (bytes : List ℕ) (m n : Meaning)
         → WholeDecodesTo Cut T.ron.encoding.encodes end bytes m
         → WholeDecodesTo Cut T.ron.encoding.encodes end bytes n → m ≡ n }
+{}
+
+/// Where the error of a text says more than that memory ran out, no value decodes there.
+pub fn a_rejected_text_decodes_to_nothing<T: RonCodec>()
+    ensures { RejectedDecodesToNothing T.ron.encoding.encodes }
 {}
 
 /// The canonical text of a value at a level, with anything after it that may follow a value,

@@ -1,6 +1,6 @@
 -- What the calls of a reader's state come to, where a user-defined type is read.
-use Rattle.std.proofs.Common.{◌≡◌, List, Result, Ok, Err, sym, ap, subst, ◌≢◌, ◌⊎◌, ℕ, true, false}
-use Rattle.std.proofs.Common.{inl, inr, string_bytes, refl, ◌∙◌, Bool}
+use Rattle.std.proofs.Common.{◌≡◌, List, Result, Ok, Err, sym, ap, subst, ◌≢◌, ℕ, true, false}
+use Rattle.std.proofs.Common.{string_bytes, refl, ◌∙◌, Bool}
 use Rattle.std.specs.declared.str.Chars.{Chars}
 use Rattle.nano_grammar.specs.Outcomes.{Position, Took, Report, Read, ReadsNoneAndEnds}
 use Rattle.nano_grammar.specs.Faults.{Reason, Fault}
@@ -78,10 +78,6 @@ name_goes_on t h e = let x = sym (ap is_ident e) ∙ h in cc x
 
 pub no_name_pending : (t : Token) → is_ident t ≡ false → (name : List ℕ) → t ≢ ident name
 no_name_pending t h name e = let x = sym (ap is_ident e) ∙ h in cc x
-
-pub closes_or_not : (t : Token) → (t ≡ paren_close) ⊎ (t ≢ paren_close)
-closes_or_not paren_close = inl refl
-closes_or_not _ = inr (λ e. cc e)
 
 -- ==== unknown names
 

@@ -8,7 +8,7 @@ pub no_text_of_memory : {T V : Type 0} (cut : List ℕ → T → List ℕ → Ty
     (bytes : List ℕ) (e : Report) → e.memory ≡ true → e.message ≡ [] → e.line ≡ 0 → e.col ≡ 0
     → ReadsNoText cut encodes bytes e
 no_text_of_memory cut encodes bytes e memory silent line col = record {
-  rejected = λ known. absurd (let x = sym memory ∙ known in cc x);
+  fault = λ known. absurd (let x = sym memory ∙ known in cc x);
   silent = λ _. silent;
   place = record {
     taken = [];

@@ -22,4 +22,6 @@ fn laws_of_a_codec(_rt: HostRuntime) {
     laws::a_value_decodes_where_the_text_begins::<u32, u32, Characters>();
     laws::a_value_spans_to_one_place::<u32, u32, Characters>();
     laws::encoded_lists_are_joined::<u32, u32, Characters>();
+    laws::a_fault_decodes_to_nothing::<u32, u32, Characters>();
+    laws::nothing_goes_past_a_fault::<u32, u32, Characters>();
 }

@@ -140,6 +140,7 @@ fn json_laws(rt: HostRuntime) {
     laws::each_encoding_begins_a_value::<Vec<u8>>();
     laws::at_most_one_decodes::<Vec<u8>>();
     laws::at_most_one_decodes_whole::<Vec<u8>>();
+    laws::a_rejected_text_decodes_to_nothing::<Vec<u8>>();
     laws::the_items_decide_the_text::<u8>();
     laws::the_entries_decide_the_text::<u8, bool>();
     let one = Some(1u8);

@@ -111,6 +111,7 @@ fn ron_laws(rt: HostRuntime) {
     laws::each_encoding_begins_a_value::<u8>();
     laws::at_most_one_decodes::<u8>();
     laws::at_most_one_decodes_whole::<u8>();
+    laws::a_rejected_text_decodes_to_nothing::<u8>();
     laws::the_items_decide_the_text::<u8>();
     laws::the_entries_decide_the_text::<u8, u8>();
     laws::written_text_is_cut_into_its_tokens(&7u8);

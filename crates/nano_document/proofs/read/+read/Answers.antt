@@ -1,4 +1,4 @@
-use Rattle.std.proofs.Common.{◌≡◌, ◌-◌, ◌<◌, ◌^◌, ℕ, pos, FitsSigned, map, sym, ◌∙◌, ap, rules}
+use Rattle.std.proofs.Common.{◌≡◌, ◌-◌, ◌<◌, ◌^◌, ℕ, pos, FitsSigned, map, refl, sym, ◌∙◌, ap, rules}
 use Rattle.std.specs.Int.{w64}
 use Rattle.std.proofs.lemmas.Int.{to_z-of_z}
 use Rattle.nano_value.specs.Meaning.{number, truth, nothing, listed}
@@ -143,7 +143,7 @@ read_entry-returns-in_err-value t c =
 -- ---- read_json
 
 pub read_json-returns-then-levels-eq0 : goal.read_json-returns-then-levels-eq0
-read_json-returns-then-levels-eq0 t c = no_level c.args.levels c.if-levels-eq0.true c.err_range.ensures.1
+read_json-returns-then-levels-eq0 t c = no_level c.args.levels c.if-levels-eq0.true refl c.err_range.ensures.1
 
 pub read_json-returns-in_ok-next_tok-in-Null : goal.read_json-returns-in_ok-next_tok-in-Null
 read_json-returns-in_ok-next_tok-in-Null t c =
@@ -154,7 +154,7 @@ pub read_json-returns-in_err-next_tok-in-Null : goal.read_json-returns-in_err-ne
 read_json-returns-in_err-next_tok-in-Null t c =
     let kind = pending_kind c.args.state.now T.Null c.in-Null.is in
     passed_on _ _ c.from_residual.result c.from_residual.ensures.1
-    (not_at c.args.levels (c.args.levels - 1) (one_below c.args.levels c.if-levels-eq0.false) 0 kind (unit_stopped json null c.in_err-next_tok-in-Null.ensures.fails))
+    (not_at c.args.levels (c.args.levels - 1) (one_below c.args.levels c.if-levels-eq0.false) 0 kind (unit_stopped json null refl c.in_err-next_tok-in-Null.ensures.fails))
 
 pub read_json-returns-in_ok-next_tok-in-Bool : goal.read_json-returns-in_ok-next_tok-in-Bool
 read_json-returns-in_ok-next_tok-in-Bool t c =
@@ -166,7 +166,7 @@ pub read_json-returns-in_err-next_tok-in-Bool : goal.read_json-returns-in_err-ne
 read_json-returns-in_err-next_tok-in-Bool t c =
     let kind = pending_kind c.args.state.now (T.Bool c.in-Bool.truth) c.in-Bool.is in
     passed_on _ _ c.from_residual-in_err-next_tok-in-Bool.result c.from_residual-in_err-next_tok-in-Bool.ensures.1
-    (not_at c.args.levels (c.args.levels - 1) (one_below c.args.levels c.if-levels-eq0.false) 1 kind (one_stopped json truth truth_tokens.carries (λ _. Unit {0}) c.in_err-next_tok-in-Bool.ensures.fails))
+    (not_at c.args.levels (c.args.levels - 1) (one_below c.args.levels c.if-levels-eq0.false) 1 kind (one_stopped json truth truth_tokens.carries (λ _. Unit {0}) refl c.in_err-next_tok-in-Bool.ensures.fails))
 
 pub read_json-returns-in_ok-next_tok-in-U64 : goal.read_json-returns-in_ok-next_tok-in-U64
 read_json-returns-in_ok-next_tok-in-U64 t c =
@@ -179,7 +179,7 @@ pub read_json-returns-in_err-next_tok-in-U64 : goal.read_json-returns-in_err-nex
 read_json-returns-in_err-next_tok-in-U64 t c =
     let kind = pending_kind c.args.state.now (T.U64 c.in-U64.value) c.in-U64.is in
     passed_on _ _ c.from_residual-in_err-next_tok-in-U64.result c.from_residual-in_err-next_tok-in-U64.ensures.1
-    (not_at c.args.levels (c.args.levels - 1) (one_below c.args.levels c.if-levels-eq0.false) 2 kind (one_stopped json number signed_tokens.carries IsInteger c.in_err-next_tok-in-U64.ensures.fails))
+    (not_at c.args.levels (c.args.levels - 1) (one_below c.args.levels c.if-levels-eq0.false) 2 kind (one_stopped json number signed_tokens.carries IsInteger refl c.in_err-next_tok-in-U64.ensures.fails))
 
 pub read_json-returns-in_ok-next_tok-in-I64 : goal.read_json-returns-in_ok-next_tok-in-I64
 read_json-returns-in_ok-next_tok-in-I64 t c =
@@ -192,7 +192,7 @@ pub read_json-returns-in_err-next_tok-in-I64 : goal.read_json-returns-in_err-nex
 read_json-returns-in_err-next_tok-in-I64 t c =
     let kind = pending_kind c.args.state.now (T.I64 c.in-I64.value) c.in-I64.is in
     passed_on _ _ c.from_residual-in_err-next_tok-in-I64.result c.from_residual-in_err-next_tok-in-I64.ensures.1
-    (not_at c.args.levels (c.args.levels - 1) (one_below c.args.levels c.if-levels-eq0.false) 2 kind (one_stopped json number signed_tokens.carries IsInteger c.in_err-next_tok-in-I64.ensures.fails))
+    (not_at c.args.levels (c.args.levels - 1) (one_below c.args.levels c.if-levels-eq0.false) 2 kind (one_stopped json number signed_tokens.carries IsInteger refl c.in_err-next_tok-in-I64.ensures.fails))
 
 pub read_json-returns-in_ok-de_json-in-Str : goal.read_json-returns-in_ok-de_json-in-Str
 read_json-returns-in_ok-de_json-in-Str t c =
@@ -228,4 +228,4 @@ pub read_json-returns-in_default : goal.read_json-returns-in_default
 read_json-returns-in_default t c =
     let not = c.in_default in
     let kind = other_kind c.args.state.now.tok _ _ not.not-Null not.not-Bool not.not-U64 not.not-I64 not.not-Str not.not-BlockOpen not.not-CurlyOpen in
-    not_begun c.args.levels (c.args.levels - 1) (one_below c.args.levels c.if-levels-eq0.false) kind c.err_token.ensures
+    not_begun c.args.levels (c.args.levels - 1) (one_below c.args.levels c.if-levels-eq0.false) refl kind c.err_token.ensures
