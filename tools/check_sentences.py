@@ -14,7 +14,7 @@ MOST = 40
 # The lines that each document is planned for; none where its length is that of its subject.
 PLANNED = {
     "README.md": 102,
-    "CONTRIBUTING.md": 85,
+    "CONTRIBUTING.md": 115,
     "docs/ARCHITECTURE.md": 170,
     "docs/DECISIONS.md": 165,
     "docs/DIFFERENCES.md": None,
