@@ -22,7 +22,7 @@ PLANNED = {
     "docs/FORMATS.md": None,
     "docs/GUARANTEES.md": 215,
     "docs/GUIDE.md": 290,
-    "docs/SECURITY.md": 60,
+    "docs/SECURITY.md": 72,
     "docs/SPEED.md": None,
     "docs/USER_TYPES.md": 200,
 }
