@@ -14,15 +14,15 @@ MOST = 40
 # The lines that each document is planned for; none where its length is that of its subject.
 PLANNED = {
     "README.md": 102,
-    "CONTRIBUTING.md": 85,
+    "CONTRIBUTING.md": 115,
     "docs/ARCHITECTURE.md": 170,
     "docs/DECISIONS.md": 165,
     "docs/DIFFERENCES.md": None,
     "docs/ERRORS.md": None,
     "docs/FORMATS.md": None,
     "docs/GUARANTEES.md": 215,
-    "docs/GUIDE.md": 290,
-    "docs/SECURITY.md": 60,
+    "docs/GUIDE.md": 300,
+    "docs/SECURITY.md": 72,
     "docs/SPEED.md": None,
     "docs/USER_TYPES.md": 200,
 }

@@ -31,7 +31,7 @@ SOURCES = {
     "antt": ["crates/example_*/specs/*.antt"],
     "toml": ["crates/*/stdin"],
     "json": ["tools/walk/stdin"],
-    "text": ["crates/*/stdout", "tools/walk/stdout", "tools/walk/fault.txt",
+    "text": ["crates/*/stdout", "tools/walk/stdout", "tools/walk/first_stdout", "tools/walk/fault.txt",
              "crates/conformance_run/data/*.tsv", "crates/test_*/src/*.rt"],
 }
 STRING = re.compile(r'"((?:[^"\\]|\\.)*)"')

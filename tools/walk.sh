@@ -1,6 +1,7 @@
 #!/bin/sh
-# Makes the walk of docs/USER_TYPES.md in an empty folder, without a proof, and compares what is
-# printed with tools/walk. The first step that differs ends it with status 1. It takes some minutes.
+# Makes the first program of README.md and the walk of docs/USER_TYPES.md in an empty folder, without a
+# proof, and compares what is printed with tools/walk. The first step that differs ends it with status 1.
+# It takes some minutes.
 #
 #     sh tools/walk.sh FOLDER
 #
@@ -12,11 +13,21 @@ walk=$top/tools/walk
 mkdir "$1"
 cd "$1"
 
-# The folder of a program over JSON and RON.
+# The folder of two programs over JSON and RON.
 sh "$top/vendor" . nano_json_schema nano_ron_schema > crates.txt
+echo 'first: anyhow nano_schema nano_json_schema' >> crates.txt
 echo 'server: anyhow nano_schema nano_json_schema nano_ron_schema' >> crates.txt
-mkdir -p crates/server/src
-cd crates/server
+mkdir -p crates/first/src crates/server/src
+
+# The first program.
+cd crates/first
+cp "$walk/first_state.rt.txt" src/state.rt
+cp "$walk/first_main.rt.txt" src/main.rt
+sh "$top/derive" src/state.rt
+rt try > stdout
+diff "$walk/first_stdout" stdout
+
+cd ../server
 cp "$walk/settings.rt.txt" src/settings.rt
 cp "$walk/main.rt.txt" src/main.rt
 cp "$walk/stdin" stdin

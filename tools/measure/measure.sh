@@ -1,12 +1,12 @@
 #!/bin/sh
 # Measures what docs/SPEED.md says: builds the port's side, runs it beside its peers, and prints the tables.
 #
-#     sh tools/measure/measure.sh HARNESS OUT [FILTER]
+#     sh tools/measure/measure.sh SOURCES OUT [FILTER]
 #
-# HARNESS is the folder of the peers' harness (its build.sh and main.rs), OUT a folder for what is
-# built. FILTER takes cases alone, such as json/records. It wants rt, valgrind, GNU time and the
-# packages that build.sh names. LIBRARY in the environment is a library of the port that is built
-# already. OUT then has
+# SOURCES is the folder of the Rust crate nanoserde 0.1.37, OUT a folder for what is built. FILTER takes
+# cases alone, such as json/records. It wants rt, cargo, valgrind, GNU time and the packages that
+# peers/build.sh names. LIBRARY in the environment is a library of the port that is built already.
+# OUT then has
 #     counts.txt   FORMAT/KIND/PEER/OP MEGABYTES INSTRUCTIONS: all at 1 MB, the port also at 10 MB
 #     speeds.txt   FORMAT/KIND/PEER/OP MEGABYTES MB/S: of nine runs the median, all peers in one
 #                  process, in which they take turns; at 1 MB, of five such processes the one in
@@ -15,36 +15,16 @@
 #     tables.md    the tables of these, which it prints
 #     speed.svg    the picture of the ratios
 set -eu
-[ $# -ge 2 ] || { echo "usage: sh measure.sh HARNESS OUT [FILTER]" >&2; exit 2; }
+[ $# -ge 2 ] || { echo "usage: sh measure.sh SOURCES OUT [FILTER]" >&2; exit 2; }
 here=$(cd "$(dirname "$0")" && pwd)
 bench=$here/../../crates/bench
 mkdir -p "$2"
-harness=$(cd "$1" && pwd)
 out=$(cd "$2" && pwd)
 filter=${3:-.}
 
 [ -n "${LIBRARY:-}" ] || (cd "$bench" && rt lib)
-"$harness/build.sh" "$out" "${LIBRARY:-$bench/out/libbench.a}"
-
-# edited SCRIPT: main.rs by sed, which must find something to replace
-edited() {
-    sed "$1" "$out/src/main.rs" > "$out/src/main.new"
-    if cmp -s "$out/src/main.new" "$out/src/main.rs"; then
-        echo "measure.sh: nothing in main.rs to replace by $1" >&2
-        exit 2
-    fi
-    mv -f "$out/src/main.new" "$out/src/main.rs"
-}
-
-# The same program, which now can run one case alone in its process, and reads TOML of 10 MB too.
-# The port writes by op 2, which drops what is written as the peers do; the check before that
-# what is written is right keeps op 1.
-edited 's/^fn main() {$/&\n    if alone() {\n        return;\n    }/'
-edited 's/^        if m == 1 {$/        if m <= 10 {/'
-edited 's/ let k = (op == "norm")/ let k = 2 * (op == "norm")/'
-cat "$here/alone.rs" >> "$out/src/main.rs"
-(cd "$out" && cargo build --offline --release --quiet --features port)
-program=$out/target/release/nano_peers
+sh "$here/peers/build.sh" "$1" "$out" "${LIBRARY:-$bench/out/libbench.a}"
+program=$out/target/release/peers
 
 # input FORMAT/KIND MEGABYTES: the file of that input
 input() {

@@ -1,5 +1,5 @@
 #!/bin/sh
-# The tables of docs/SPEED.md: sh tables.sh COUNTS SPEEDS PEAKS
+# The tables of docs/SPEED.md: sh tables.sh COUNTS SPEEDS PEAKS. What is ahead of both peers is bold.
 set -eu
 awk '
     BEGIN {
@@ -20,13 +20,18 @@ awk '
         return (name " " size) in count ? sprintf("%.1f", count[name " " size] / 1e6) : ""
     }
     function bold(words) { return words == "" ? "" : "**" words "**" }
+    # Bold where the port is ahead of both peers: fewer instructions, more speed, a lower peak.
+    function less(words, one, other) {
+        return words != "" && words + 0 < one + 0 && words + 0 < other + 0 ? bold(words) : words
+    }
+    function more(words, one) { return words != "" && words + 0 > one ? bold(words) : words }
     # Instructions over those of the best peer, which needs the least.
     function ratio(case, format, op,   one, other, here) {
         one = count[case "/nanoserde/" op " 1"]
         other = count[case "/" peer[format] "/" op " 1"]
         here = count[case "/port/" op " 1"]
         if (one == "" || other == "" || here == "") return ""
-        return sprintf("%.2f", here / (one + 0 < other + 0 ? one : other))
+        return less(sprintf("%.2f", here / (one + 0 < other + 0 ? one : other)), 1, 1)
     }
     # Speed over that of the best peer in the same run, which is the fastest.
     function ahead(case, format, op, size,   one, other, here) {
@@ -34,22 +39,23 @@ awk '
         other = speed[case "/" peer[format] "/" op " " size]
         here = speed[case "/port/" op " " size]
         if (one == "" || other == "" || here == "") return ""
-        return sprintf("%.2f", here / (one + 0 > other + 0 ? one : other))
+        return more(sprintf("%.2f", here / (one + 0 > other + 0 ? one : other)), 1)
     }
     function beside(format, kind, op,   case) {
         case = format "/" kind
-        return " " bold(ratio(case, format, op)) " | " bold(ahead(case, format, op, 1)) " | " \
+        return " " ratio(case, format, op) " | " ahead(case, format, op, 1) " | " \
             ahead(case, format, op, 10) " |"
     }
     function beside_row(format, kind) {
         print "| " title[format] " | " type[kind] " |" beside(format, kind, "read") \
             (format == "toml" ? " | | |" : beside(format, kind, "norm"))
     }
-    function half(format, kind, op,   case) {
+    function half(format, kind, op,   case, one, other, here) {
         case = format "/" kind
-        return " " millions(case "/nanoserde/" op, 1) " | " \
-            millions(case "/" peer[format] "/" op, 1) " | " \
-            bold(millions(case "/port/" op, 1)) " |"
+        one = millions(case "/nanoserde/" op, 1)
+        other = millions(case "/" peer[format] "/" op, 1)
+        here = millions(case "/port/" op, 1)
+        return " " one " | " other " | " less(here, one, other) " |"
     }
     function row(format, kind) {
         print "| " title[format] " | " type[kind] " |" half(format, kind, "read") \
@@ -63,9 +69,11 @@ awk '
     function megabytes(name) {
         return name in peak ? sprintf("%.0f", peak[name] * 1024 / 1e6) : ""
     }
-    function three(case, format) {
-        return " " megabytes(case "/nanoserde/read") " | " \
-            megabytes(case "/" peer[format] "/read") " | " megabytes(case "/port/read") " |"
+    function three(case, format,   one, other, here) {
+        one = megabytes(case "/nanoserde/read")
+        other = megabytes(case "/" peer[format] "/read")
+        here = megabytes(case "/port/read")
+        return " " one " | " other " | " less(here, one, other) " |"
     }
     END {
         print "| Format | Kind | read: instructions | speed, 1 MB | 10 MB |" \

@@ -1,0 +1,259 @@
+// The port and its peers in one process: nanoserde, serde_json, bincode, ron and toml.
+//
+//     peers --list                              the cases, FORMAT/KIND/PEER/OP, one a line
+//     peers --runs N --sizes 1,10 [--filter TEXT]   MB/s of each case, the median of N runs in which
+//                                               all peers take turns, by the thread's processor time
+//     peers make FORMAT/KIND MEGABYTES FILE     writes an input
+//     peers file FORMAT/KIND/PEER/OP FILE       reads it once within `measured_region`, for callgrind
+//
+// An OP is read (a value is read and dropped) or norm (it is also written, and that is dropped).
+// Megabytes are 10^6 bytes of what the Rust crate writes.
+#![allow(warnings)]
+extern crate alloc;
+mod alone;
+mod data;
+mod nano_serde_bin;
+mod nano_serde_json;
+mod nano_serde_ron;
+mod nano_toml;
+mod records;
+mod nano {
+    pub use crate::nano_serde_bin::*;
+    pub use crate::nano_serde_json::*;
+    pub use crate::nano_serde_ron::*;
+    pub use crate::nano_toml::*;
+}
+use data::*;
+use nano::*;
+use records::{Rec, RecB};
+use serde::{de::DeserializeOwned, Serialize};
+use std::hint::black_box;
+
+mod port {
+    extern "C" {
+        fn nano_op(
+            codec: u32,
+            kind: u32,
+            op: u32,
+            input: *const u8,
+            input_len: usize,
+            output: *mut u8,
+            output_len: usize,
+        ) -> i64;
+    }
+    pub fn op(codec: u32, kind: u32, op: u32, input: &[u8], output: &mut [u8]) -> i64 {
+        let (from, to) = (input.as_ptr(), output.as_mut_ptr());
+        unsafe { nano_op(codec, kind, op, from, input.len(), to, output.len()) }
+    }
+}
+
+#[inline(never)]
+#[no_mangle]
+pub extern "C" fn measured_region(f: &mut &mut dyn FnMut()) {
+    f()
+}
+
+#[repr(C)]
+struct Timespec {
+    sec: i64,
+    nsec: i64,
+}
+
+extern "C" {
+    fn clock_gettime(clock: i32, time: *mut Timespec) -> i32;
+}
+
+/// The processor time of this thread, which is clock 3 on Linux.
+fn seconds() -> f64 {
+    let mut time = Timespec { sec: 0, nsec: 0 };
+    unsafe { clock_gettime(3, &mut time) };
+    time.sec as f64 + time.nsec as f64 * 1e-9
+}
+
+struct Race {
+    runs: usize,
+    filter: String,
+    list: bool,
+}
+
+impl Race {
+    /// Prints the speed of each peer at one case, or its name alone.
+    fn run(&self, case: &str, op: &str, bytes: usize, peers: &mut [(&str, &mut dyn FnMut())]) {
+        let wanted: Vec<bool> = peers
+            .iter()
+            .map(|(peer, _)| format!("{case}/{peer}/{op}").contains(&self.filter))
+            .collect();
+        if self.list {
+            for (peer, _) in peers {
+                println!("{case}/{peer}/{op}");
+            }
+            return;
+        }
+        let mut times = vec![Vec::new(); peers.len()];
+        for run in 0..=self.runs {
+            for (at, (_, work)) in peers.iter_mut().enumerate().filter(|(at, _)| wanted[*at]) {
+                let start = seconds();
+                work();
+                if run > 0 {
+                    times[at].push(seconds() - start);
+                }
+            }
+        }
+        if wanted.contains(&true) {
+            print!("{:<22} {:>6.2}", format!("{case}/{op}"), bytes as f64 / 1e6);
+            for ((peer, _), mut times) in peers.iter().zip(times) {
+                times.sort_by(|a, b| a.partial_cmp(b).unwrap());
+                match times.get(times.len() / 2) {
+                    Some(time) => print!("  {:>10} {:>8.1}", peer, bytes as f64 / 1e6 / time.max(1e-9)),
+                    None => print!("  {:>10} {:>8}", peer, "-"),
+                }
+            }
+            println!();
+        }
+    }
+
+    /// Whether the filter takes a case of a kind in a format.
+    fn wants(&self, case: &str, peers: &[&str]) -> bool {
+        let ops = ["read", "norm"];
+        let names = peers.iter().flat_map(|peer| ops.map(|op| format!("{case}/{peer}/{op}")));
+        self.list || names.into_iter().any(|name| name.contains(&self.filter))
+    }
+}
+
+fn text(bytes: &[u8]) -> &str {
+    std::str::from_utf8(bytes).unwrap()
+}
+
+fn ron_options() -> ron::Options {
+    ron::Options::default().with_default_extension(ron::extensions::Extensions::IMPLICIT_SOME)
+}
+
+const FORMATS: [&str; 3] = ["bin", "json", "ron"];
+const PEERS: [&str; 3] = ["bincode", "serde_json", "ron"];
+
+/// What the Rust crate writes of a value.
+fn encoded<T: SerBin + SerJson + SerRon>(format: &str, value: &T) -> Vec<u8> {
+    match format {
+        "bin" => value.serialize_bin(),
+        "json" => value.serialize_json().into_bytes(),
+        _ => value.serialize_ron().into_bytes(),
+    }
+}
+
+/// What it reads.
+fn decoded<T: DeBin + DeJson + DeRon>(format: &str, input: &[u8]) -> T {
+    match format {
+        "bin" => T::deserialize_bin(input).unwrap(),
+        "json" => T::deserialize_json(text(input)).unwrap(),
+        _ => T::deserialize_ron(text(input)).unwrap(),
+    }
+}
+
+/// What the format's other crate reads, as a value or as what is written of it.
+fn peer_work<T, B>(format: &str, write: bool, input: &[u8])
+where
+    T: Serialize + DeserializeOwned,
+    B: Serialize + DeserializeOwned,
+{
+    let ron = ron_options();
+    match (format, write) {
+        ("bin", false) => drop(black_box(bincode::deserialize::<B>(input).unwrap())),
+        ("bin", true) => {
+            let value = bincode::deserialize::<B>(input).unwrap();
+            drop(black_box(bincode::serialize(&value).unwrap()))
+        }
+        ("json", false) => drop(black_box(serde_json::from_str::<T>(text(input)).unwrap())),
+        ("json", true) => {
+            let value = serde_json::from_str::<T>(text(input)).unwrap();
+            drop(black_box(serde_json::to_string(&value).unwrap()))
+        }
+        (_, false) => drop(black_box(ron.from_str::<T>(text(input)).unwrap())),
+        (_, true) => {
+            let value = ron.from_str::<T>(text(input)).unwrap();
+            drop(black_box(ron.to_string(&value).unwrap()))
+        }
+    }
+}
+
+/// All peers at a kind of value in each format, after a look that they do the same.
+fn case<T, B>(race: &Race, kind: u32, name: &str, target: usize, make: fn(usize) -> T)
+where
+    T: SerBin + DeBin + SerJson + DeJson + SerRon + DeRon,
+    T: Serialize + DeserializeOwned + PartialEq,
+    B: Serialize + DeserializeOwned,
+{
+    for (codec, format) in FORMATS.iter().enumerate() {
+        let (case, peer) = (format!("{format}/{name}"), PEERS[codec]);
+        if !race.wants(&case, &["nanoserde", peer, "port"]) {
+            continue;
+        }
+        let size = encoded(format, &make(1000)).len();
+        let value = make(if race.list { 1 } else { 1000 * target / size });
+        let input = encoded(format, &value);
+        if !race.list {
+            assert!(decoded::<T>(format, &input) == value);
+            let mut output = vec![0u8; input.len() + 64];
+            let written = port::op(codec as u32, kind, 1, &input, &mut output);
+            assert_eq!(written, input.len() as i64, "{case}");
+            // a map is written in ascending order by the port alone
+            assert!(kind == 3 || output[..input.len()] == input[..]);
+        }
+        for (op, write) in [("read", false), ("norm", true)] {
+            let mut nanoserde = || {
+                let value = decoded::<T>(format, &input);
+                match write {
+                    true => drop(black_box(encoded(format, &value))),
+                    false => drop(black_box(value)),
+                }
+            };
+            let mut other = || peer_work::<T, B>(format, write, &input);
+            // op 2: what is written is dropped, as the peers drop it
+            let number = 2 * write as u32;
+            let mut port =
+                || assert!(black_box(port::op(codec as u32, kind, number, &input, &mut [])) >= 0);
+            let mut peers: [(&str, &mut dyn FnMut()); 3] =
+                [("nanoserde", &mut nanoserde), (peer, &mut other), ("port", &mut port)];
+            race.run(&case, op, input.len(), &mut peers);
+        }
+    }
+}
+
+fn toml_case(race: &Race, target: usize) {
+    if !race.wants("toml/file", &["nanoserde", "toml", "port"]) {
+        return;
+    }
+    let input = mk_toml(target);
+    let mut nanoserde = || drop(black_box(TomlParser::parse(&input).unwrap()));
+    let mut other = || drop(black_box(toml::from_str::<toml::Value>(&input).unwrap()));
+    let mut port = || assert!(black_box(port::op(3, 0, 0, input.as_bytes(), &mut [])) >= 0);
+    let mut peers: [(&str, &mut dyn FnMut()); 3] =
+        [("nanoserde", &mut nanoserde), ("toml", &mut other), ("port", &mut port)];
+    race.run("toml/file", "read", input.len(), &mut peers);
+}
+
+fn main() {
+    if alone::ran() {
+        return;
+    }
+    let mut race = Race { runs: 9, filter: String::new(), list: false };
+    let mut sizes = vec![1usize, 10];
+    let mut words = std::env::args().skip(1);
+    while let Some(word) = words.next() {
+        match word.as_str() {
+            "--runs" => race.runs = words.next().unwrap().parse().unwrap(),
+            "--filter" => race.filter = words.next().unwrap(),
+            "--sizes" => sizes = words.next().unwrap().split(',').map(|s| s.parse().unwrap()).collect(),
+            "--list" => race.list = true,
+            _ => panic!("unknown word {word}"),
+        }
+    }
+    for megabytes in if race.list { vec![1] } else { sizes } {
+        let target = megabytes * 1_000_000;
+        case::<Vec<u8>, Vec<u8>>(&race, 0, "u8s", target, mk_u8);
+        case::<Vec<u64>, Vec<u64>>(&race, 1, "u64s", target, mk_u64);
+        case::<Vec<String>, Vec<String>>(&race, 2, "strings", target, mk_str);
+        case::<Map, Map>(&race, 3, "map", target, mk_map);
+        case::<Vec<Rec>, Vec<RecB>>(&race, 4, "records", target, mk_rec);
+        toml_case(&race, target);
+    }
+}
