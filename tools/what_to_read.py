@@ -28,12 +28,16 @@ HEADLINES = {
     "JSON": (["nano_json/src/traits.rt"], "nano_json", 900, 30),
     "RON": (["nano_ron/src/traits.rt"], "nano_ron", 980, 30),
     "TOML": (["nano_toml/src/parser.rt"], None, 500, 15),
+    "where JSON and RON go wrong": (["nano_json/src/traits.rt"], None, None, None),
     "the place of an error of TOML": (["nano_toml/src/parser.rt"], None, None, None),
     "the program": (["nano_show_answers/src/answers.rt"], None, None, None),
 }
-# Clauses of the same calls that are a headline of their own, by the definition that they cite.
+# What is a headline of its own, by the definition: a clause cites it, or the outcome of a call holds it.
 APART = {
     "IsErrorAt": "the place of an error of TOML",
+    "GoesWrong": "where JSON and RON go wrong",
+    "IsNoText": "where JSON and RON go wrong",
+    "TextGoesOn": "where JSON and RON go wrong",
 }
 
 
@@ -75,20 +79,22 @@ def cited(places, types):
 def closure(specs, headline, places, types):
     """The definitions that the contracts of the sources rest on."""
     own = {name for name, other in APART.items() if other == headline}
-    queue = [specs.find(*name) for name in cited(places, types)
-             if (name[3] in own if own else name[3] not in APART)]
+    if own:
+        queue = [item for item in specs.all() if item.name in own]
+    else:
+        queue = [specs.find(*name) for name in cited(places, types)]
     # the fields that something reads, and the values of those that nothing has read yet
     read = {name for place in places
             for name in READ.findall(promised(pathlib.Path("crates", place).read_text()))}
-    return followed(specs, queue, read)
+    return followed(specs, queue, read, APART.keys() - own)
 
 
-def followed(specs, queue, read):
+def followed(specs, queue, read, apart):
     """The definitions that the items of the queue rest on, where these fields are read."""
     found, unread = {}, []
     while queue:
         item = queue.pop()
-        if item is not None and item not in found and not specs.is_law(item):
+        if item is not None and item.name not in apart and item not in found and not specs.is_law(item):
             found[item] = True
             text, fields = specs.said(item)
             read.update(READ.findall(text))
