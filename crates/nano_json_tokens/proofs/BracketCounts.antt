@@ -178,11 +178,11 @@ found s0 s h = (h.prefix, record { first = h.first; following = h.following; are
 
 -- while a bracket of a field is open, the pending token belongs to it and is not the end, and one
 -- more follows
-pub stays_open : (s0 s : At Token) (depth : ℕ) (h : Counting s0 s depth) → 0 < depth
+pub is_still_open : (s0 s : At Token) (depth : ℕ) (h : Counting s0 s depth) → 0 < depth
     → (us left more : List Token) (next : Token) → IsBracketed us
     → us ++ next ∷ left ≡ h.prefix ++ s.token ∷ more
     → (s.token ≢ end) × ((inside : List Token) × (inside ++ next ∷ left ≡ more))
-stays_open s0 s depth h some us left more next b is =
+is_still_open s0 s depth h some us left more next b is =
     elim (append_meets h.prefix (s.token ∷ more) us (next ∷ left) (sym is)) [
       | inl r ↦ after_prefix r.0 r.1
       | inr r ↦ elim (h.inner us r.0 r.1 b.even) [
@@ -213,7 +213,7 @@ end_in_brackets start here depth h some is text moved = record {
   fault = record {
     tokens = h.prefix;
     taken = h.taken;
-    none = λ more _ us left next v b e. (stays_open start.at here.at depth h some us left more next b e).0 is;
+    none = λ more _ us left next v b e. (is_still_open start.at here.at depth h some us left more next b e).0 is;
   };
   stands = (refl, refl);
 }
@@ -235,7 +235,7 @@ uncut_in_brackets start here there depth h some none text moved further = record
     tokens = h.prefix;
     taken = h.taken;
     none = λ more follows us left next v b e.
-        let k = (stays_open start.at here.at depth h some us left more next b e).1 in
+        let k = (is_still_open start.at here.at depth h some us left more next b e).1 in
         nothing_follows k.0 left next (k.1 ∙ follows);
   };
   stands = moves_advance further;
