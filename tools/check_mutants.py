@@ -1,7 +1,7 @@
 #!/usr/bin/env python3
-"""Compares tools/mutants.tsv with the clauses of public functions and with the mutants of the gate.
+"""Compares two lists of mutants with the clauses of public functions and with the mutants of the gate.
 
-A line of the table has a crate, modules of it, clauses, their count, the mutants that break them, and a
+A line of tools/mutants.tsv has a crate, modules of it, clauses, their count, the mutants that break them, and a
 reason. The clauses of a module are those of its `pub fn` and of the methods of its public traits: `NAME`
 for `ensures NAME`, `-` for one without a name, and the same after `requires ` for a condition. `*` stands
 for each module, or for each clause that no line of the crate names. Mutants are the files of the crate's
@@ -10,8 +10,9 @@ what rejects a body that breaks the clause.
 
 The script fails on a clause without a line, or with two; on a line without a clause, and on one with
 another count; on a mutant that no line names, and on a name of none; on a line with neither mutant nor
-reason; and on a mutant whose old text does not stand exactly once in its file. Usage, at the top of the
-repository: python3 tools/check_mutants.py
+reason; and on a mutant whose old text does not stand exactly once in its file. So it does on a line of
+tools/wrong_bodies.tsv whose mutants or whose case are not there, and on a row of docs/GUARANTEES.md with
+other counts. Usage, at the top of the repository: python3 tools/check_mutants.py
 """
 import pathlib
 import re
@@ -20,6 +21,9 @@ from collections import Counter
 from typing import NamedTuple
 
 TABLE = pathlib.Path("tools/mutants.tsv")
+BODIES = pathlib.Path("tools/wrong_bodies.tsv")
+DOCUMENT = pathlib.Path("docs/GUARANTEES.md")
+DATA = pathlib.Path("crates/conformance_run/data")
 ITEM = re.compile(r"^(\s*)(pub |pub\(crate\) )?(?:(?:const|final|default) )*(fn|trait|impl)\b\s*(\w*)")
 CLAUSE = re.compile(r"^\s*(ensures|requires) (\w+ )?\{")
 
@@ -135,9 +139,39 @@ def faults_of_edit(path):
             yield f"{path}: what is {line[:60]!r}?"
 
 
+def faults_of_bodies():
+    """Wrong bodies whose mutants or whose case are not there, or that have neither."""
+    known = mutants()
+    for number, line in enumerate(BODIES.read_text().splitlines(), 1):
+        if not line or line.startswith("#"):
+            continue
+        _, names, table, *case = line.split("\t")
+        if names == "-" and table == "-":
+            yield f"{BODIES}:{number}: neither mutant nor case"
+        for name in names.split() if names != "-" else []:
+            if name not in known:
+                yield f"{BODIES}:{number}: no mutant {name}"
+        if table != "-" and not any(row.split("\t")[:3] == case for row in (DATA / table).read_text().splitlines()):
+            yield f"{BODIES}:{number}: no such case in {table}"
+
+
+def faults_of_document(table):
+    """Crates whose row in the document has other counts, and crates without one."""
+    wanted = {}
+    for crate in dict.fromkeys(line.crate for line in table):
+        own = [line for line in table if line.crate == crate]
+        held = sum(name.startswith(f"{crate}/") for name in mutants())
+        broken = sum(line.count for line in own if line.mutants)
+        wanted[crate] = f"| `{crate}` | {sum(line.count for line in own)} | {broken} | {held} |"
+    rows = set(DOCUMENT.read_text().splitlines())
+    for row in wanted.values():
+        if row not in rows:
+            yield f"{DOCUMENT}: no row {row}"
+
+
 def main():
     table = list(lines())
-    faults = [*faults_of_lines(table), *faults_of_mutants(table)]
+    faults = [*faults_of_lines(table), *faults_of_mutants(table), *faults_of_bodies(), *faults_of_document(table)]
     for path in mutants().values():
         faults += faults_of_edit(path)
     for fault in faults:
