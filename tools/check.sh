@@ -37,24 +37,15 @@ is_fresh() {
     "$derive" --check "$@" && echo "$# files"
 }
 
+for built in "$program" "$derive"; do
+    [ -x "$built" ] || { echo "FAILED: $built is not there; rt ci builds it"; echo "0 passed, 1 failed"; exit 1; }
+done
 for script in tools/check_*.py tools/list_calls.py tools/what_to_read.py; do
     step "$(basename "$script")" python3 "$script"
 done
-if [ ! -f tools/check_tables.py ]; then
-    echo "check_tables.py: skipped, since tools/check_tables.py is not there"
-fi
-if [ -x "$derive" ]; then
-    # shellcheck disable=SC2046
-    step "derive --check" is_fresh $(grep -lx -e '// ---- written by derive_files' -r crates/*/src |
-        grep -v -e '^crates/derive_' -e '^crates/test_derive/' | sort)
-else
-    echo "derive --check: skipped, since $derive is not there"
-fi
-[ -x "$program" ] || { echo "FAILED: $program is not there; rt ci builds it"; echo "$passed passed, 1 failed"; exit 1; }
-if [ -d tools/model ]; then
-    step "fuzz.py" python3 tools/fuzz.py "$program" --seed 1 --cases 20000
-else
-    echo "fuzz.py: skipped, since tools/model is not there"
-fi
+# shellcheck disable=SC2046
+step "derive --check" is_fresh $(grep -lx -e '// ---- written by derive_files' -r crates/*/src |
+    grep -v -e '^crates/derive_' -e '^crates/test_derive/' | sort)
+step "fuzz.py" python3 tools/fuzz.py "$program" --seed 1 --cases 20000
 step "refuse_memory.sh" env PROGRAM="$PWD/$program" sh tools/measure/refuse_memory.sh worked.tsv
 echo "$passed passed, 0 failed"

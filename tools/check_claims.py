@@ -3,7 +3,7 @@
 
 A name in backticks is looked for among the names of the sources, of the definitions, of the proofs
 and of the case tables; a path among the files. Words of Rust, of the toolchain, and of other
-libraries are listed below. Numbers of mutants and of cases in tables are counted, and a clause that
+libraries are listed below. Numbers of cases in tables are counted, and a clause that
 GUARANTEES.md cites of a function is looked for in a contract of that function. Usage, at the top of the repository: python3 tools/check_claims.py
 """
 import pathlib
@@ -78,13 +78,8 @@ def faults_of(path, names):
 
 
 def counts_of(path):
-    """The rows of tables that give a number of mutants, or of cases, that is not there."""
+    """The rows of tables that give a number of cases that is not there."""
     for number, line in enumerate(path.read_text().splitlines(), 1):
-        mutants = re.match(r"\| `(\w+)` \| (\d+) \| .* \| ", line) if "GUARANTEES" in path.name else None
-        if mutants:
-            found = len(list(pathlib.Path("crates", mutants.group(1), "must-fail").glob("*.edit")))
-            if found != int(mutants.group(2)):
-                yield number, f"{found} mutants in must-fail of {mutants.group(1)}"
         cases = re.match(r"\| `(\w+\.tsv)` \| ([\d,]+) \|", line)
         if cases:
             table = pathlib.Path("crates/conformance_run/data", cases.group(1)).read_text()

@@ -1,17 +1,19 @@
 #!/usr/bin/env python3
-"""Compares tools/mutants.tsv with the clauses of public functions and with the mutants of the gate.
+"""Compares two lists of mutants with the clauses of public functions and with the mutants of the gate.
 
-A line of the table has a crate, modules of it, clauses, their count, the mutants that break them, and a
-reason. The clauses of a module are those of its `pub fn` and of the methods of its public traits: `NAME`
-for `ensures NAME`, `-` for one without a name, and the same after `requires ` for a condition. `*` stands
+A line of tools/mutants.tsv has a crate, modules of it, clauses, their count, the mutants that break them, and a
+reason. The crates are the libraries and the examples. The clauses of a module are those of its `pub fn`
+and of the methods of its public traits, and of `main` those of each function: `NAME` for `ensures NAME`,
+`-` for one without a name, and the same after `requires ` for a condition. `*` stands
 for each module, or for each clause that no line of the crate names. Mutants are the files of the crate's
 folder must-fail without their ending, or of another one as CRATE/NAME. Where none stands, the reason says
 what rejects a body that breaks the clause.
 
 The script fails on a clause without a line, or with two; on a line without a clause, and on one with
 another count; on a mutant that no line names, and on a name of none; on a line with neither mutant nor
-reason; and on a mutant whose old text does not stand exactly once in its file. Usage, at the top of the
-repository: python3 tools/check_mutants.py
+reason; and on a mutant whose old text does not stand exactly once in its file. So it does on a line of
+tools/wrong_bodies.tsv whose mutants or whose case are not there, and on a crate with mutants whose row in
+docs/GUARANTEES.md has other counts. Usage, at the top of the repository: python3 tools/check_mutants.py
 """
 import pathlib
 import re
@@ -20,6 +22,9 @@ from collections import Counter
 from typing import NamedTuple
 
 TABLE = pathlib.Path("tools/mutants.tsv")
+BODIES = pathlib.Path("tools/wrong_bodies.tsv")
+DOCUMENT = pathlib.Path("docs/GUARANTEES.md")
+DATA = pathlib.Path("crates/conformance_run/data")
 ITEM = re.compile(r"^(\s*)(pub |pub\(crate\) )?(?:(?:const|final|default) )*(fn|trait|impl)\b\s*(\w*)")
 CLAUSE = re.compile(r"^\s*(ensures|requires) (\w+ )?\{")
 
@@ -36,22 +41,23 @@ class Line(NamedTuple):
     reason: str
 
 
-def libraries():
-    """The crates above the tests in crates.txt."""
-    head = pathlib.Path("crates.txt").read_text().split("# tests", 1)[0]
-    return re.findall(r"^(\w+)[^:\n#]*:", head, re.M)
+def crates():
+    """The libraries and the examples: the crates of crates.txt above its tests, and those below them."""
+    head, _, rest = pathlib.Path("crates.txt").read_text().partition("# tests")
+    examples = rest.partition("# examples")[2]
+    return re.findall(r"^(\w+)[^:\n#]*:", head + examples, re.M)
 
 
 def clauses():
     """Crate, module and clause of each contract of a public function, and how often they stand."""
     found = Counter()
-    for crate in libraries():
+    for crate in crates():
         for path in sorted(pathlib.Path("crates", crate, "src").glob("**/*.rt")):
             is_open = is_public = False
             for line in path.read_text().splitlines():
                 item, clause = ITEM.match(line), CLAUSE.match(line)
                 if item and item.group(3) == "fn":
-                    is_public = item.group(2) == "pub " or bool(item.group(1)) and is_open
+                    is_public = item.group(2) == "pub " or bool(item.group(1)) and is_open or path.stem == "main"
                 elif item and not item.group(1):
                     is_open = item.group(3) == "trait" and item.group(2) == "pub "
                 if clause and is_public:
@@ -135,9 +141,38 @@ def faults_of_edit(path):
             yield f"{path}: what is {line[:60]!r}?"
 
 
+def faults_of_bodies():
+    """Wrong bodies whose mutants or whose case are not there, or that have neither."""
+    known = mutants()
+    for number, line in enumerate(BODIES.read_text().splitlines(), 1):
+        if not line or line.startswith("#"):
+            continue
+        _, names, table, *case = line.split("\t")
+        if names == "-" and table == "-":
+            yield f"{BODIES}:{number}: neither mutant nor case"
+        for name in names.split() if names != "-" else []:
+            if name not in known:
+                yield f"{BODIES}:{number}: no mutant {name}"
+        if table != "-" and not any(row.split("\t")[:3] == case for row in (DATA / table).read_text().splitlines()):
+            yield f"{BODIES}:{number}: no such case in {table}"
+
+
+def faults_of_document(table):
+    """Crates with mutants whose row in the document has other counts, and rows of other crates."""
+    wanted = set()
+    for crate in {name.partition("/")[0] for name in mutants()}:
+        own = [line for line in table if line.crate == crate]
+        held = sum(name.startswith(f"{crate}/") for name in mutants())
+        broken = sum(line.count for line in own if line.mutants)
+        wanted.add(f"| `{crate}` | {sum(line.count for line in own)} | {broken} | {held} |")
+    rows = set(re.findall(r"^\| `\w+` \| \d+ \| \d+ \| \d+ \|$", DOCUMENT.read_text(), re.M))
+    for row in sorted(wanted ^ rows):
+        yield f"{DOCUMENT}: {'no row' if row in wanted else 'another count in'} {row}"
+
+
 def main():
     table = list(lines())
-    faults = [*faults_of_lines(table), *faults_of_mutants(table)]
+    faults = [*faults_of_lines(table), *faults_of_mutants(table), *faults_of_bodies(), *faults_of_document(table)]
     for path in mutants().values():
         faults += faults_of_edit(path)
     for fault in faults:

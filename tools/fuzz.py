@@ -12,8 +12,8 @@ with its number, and then what was wanted and what came.
 
 With --oracle, the program of tools/oracle/build.sh, the model's answers are compared with the Rust crate's
 too: each difference needs a name of tools/oracle/differences.py, which are counted. The last lines are
-counts, and the microseconds that a case takes in each part. Anything that differs fails. The program is the
-slow part, since of an accepted text it reads each prefix twice.
+counts, and the microseconds that a case takes in each part. Anything that differs fails. The model is the
+slow part: it takes longer than the drawing, and several times as long as the program.
 """
 import argparse
 import os

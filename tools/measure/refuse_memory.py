@@ -8,6 +8,10 @@ import subprocess
 import sys
 from collections import Counter
 from concurrent.futures import ThreadPoolExecutor
+from pathlib import Path
+
+sys.path.insert(0, str(Path(__file__).resolve().parents[1]))
+from model import cases  # noqa: E402
 
 # Calls of a state that take no memory.
 WITHOUT_MEMORY = (".next", ".fail", ".is_null", ".is_none", ".is_block_close", ".is_curly_close",
@@ -27,13 +31,27 @@ def run(program, library, line):
     return lines[:-1], lines[-1] if lines else "stopped", int(requests), int(refused)
 
 
+def is_place(line, place):
+    """Whether line and column are those after some characters of the case's text."""
+    text = cases.unescape(line.split("\t")[2]).decode()
+    places, row, column = {(1, 1)}, 1, 1
+    for character in text:
+        row, column = (row + 1, 1) if character == "\n" else (row, column + 1)
+        places.add((row, column))
+    return place in places
+
+
 def judged(line, answer, ample):
-    """What an answer is beside the one with ample memory. Of calls one after another, one that runs
-    out of memory is the last, and those before it answer as with ample memory."""
+    """What an answer is beside the one with ample memory. An error of TOML that is out of memory has
+    a place and no words. Of calls one after another, one that runs out of memory is the last, and
+    those before it answer as with ample memory."""
     if answer == ample:
         return "ample"
     if answer == "out of memory":
         return "memory"
+    toml = re.fullmatch(r"error Toml error: , line:(\d+) col:(\d+)", answer)
+    if toml:
+        return "memory" if is_place(line, (int(toml.group(1)), int(toml.group(2)))) else "other"
     calls = line.split("\t")[1].split(" ")
     *done, last = answer.removeprefix("is ").split(" | ")
     is_same = done == ample.removeprefix("is ").split(" | ")[: len(done)]

@@ -4,14 +4,14 @@ use conformance_types::Outcome;
 use nanoserde::{Toml, TomlParser};
 use std::alloc::{AllocError, Global};
 
-/// The date that stands at the key, or the error of the text or of its clone.
+/// The date that stands at the key, or what the clone of the text's error prints. Out of memory has
+/// a place and no words.
 pub(crate) fn date_at(alloc: Global, key: &str, text: &str) -> Result<Outcome, AllocError> {
     match TomlParser::parse(alloc, text) {
         Ok(table) => match table.get(key) {
             Some(value) => date_of(alloc, value),
             None => Ok(Outcome::Unknown),
         },
-        Err(error) if error.memory && error.msg.is_empty() => Err(AllocError),
         Err(error) => {
             let again = error.clone(alloc)?;
             let reported = format!(in alloc; "{again}")?;

@@ -56,7 +56,7 @@ impl Sink {
         fails_at: usize,
         kind: Option<ErrorKind>,
     ) -> Result<Sink, AllocError> {
-        let taken = Vec::with_capacity(alloc, 64)?;
+        let taken = Vec::with_capacity(alloc, 256)?;
         Ok(Sink {
             taken,
             most,

@@ -27,6 +27,17 @@ fn are_written(alloc: Global) -> Result<bool, AllocError> {
     Ok(faults == (None, None) && output.taken.as_slice() == TWO)
 }
 
+/// How the frame of a message of 200 bytes begins: its count, and then the message.
+const LONG: &[u8] = b"\xC8\0\0\0\0\0\0\0\xC0\0\0\0\0\0\0\0\x07\x07";
+
+/// Whether a message of 200 bytes has its count before it, and is written whole.
+fn is_long_written(alloc: Global) -> Result<bool, AllocError> {
+    let message: Vec<u8> = vec![in alloc; 7; 192]?;
+    let mut output = Sink::new(alloc, 100, 0, None)?;
+    let is_put = put(alloc, &message, &mut output).is_ok();
+    Ok(is_put && output.taken.len() == 208 && output.taken.starts_with(LONG))
+}
+
 /// How many calls of that writer there are, and how many bytes it takes.
 fn counts(fails_at: usize, reported: Option<ErrorKind>) -> (usize, usize) {
     match reported {
@@ -76,6 +87,7 @@ fn is_written_up_to_each(
 fn messages_are_written(rt: HostRuntime) {
     let alloc = rt.alloc();
     is_so(&rt, are_written(alloc), "two");
+    is_so(&rt, is_long_written(alloc), "200 bytes");
     for (kind, reported) in FAILURES {
         let is_written = is_written_up_to_each(alloc, *kind, *reported);
         is_so(&rt, is_written, "a failure");
