@@ -252,7 +252,7 @@ impl Read for Sevens {
 }
 
 /// How many lines there are up to the end or a fault, if each of them holds 7.
-fn sevens(alloc: Global, count: u32) -> Result<u32, AllocError> {
+fn count_of_sevens(alloc: Global, count: u32) -> Result<u32, AllocError> {
     let mut lines = Lines::with_limit(alloc, Sevens { left: count }, 1)?;
     let mut taken = 0u32;
     for _ in 0..=count {
@@ -266,7 +266,7 @@ fn sevens(alloc: Global, count: u32) -> Result<u32, AllocError> {
 
 #[test]
 fn a_million_lines(rt: HostRuntime) {
-    let taken = sevens(rt.alloc(), 1_000_000);
+    let taken = count_of_sevens(rt.alloc(), 1_000_000);
     is_so(
         &rt,
         taken.map(|taken| taken == 1_000_000),
