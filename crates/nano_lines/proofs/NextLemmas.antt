@@ -1,5 +1,6 @@
 -- What a call for the next value comes to, by its steps.
-use Rattle.std.proofs.Common.{◌≡◌, ◌≤◌, ◌<◌, ℕ, List, [], ◌∷◌, ◌++◌, false, length, sym, ap, subst, ◌∙◌, append-nil, Option, None}
+use Rattle.std.proofs.Common.{◌≡◌, ◌≤◌, ◌<◌, ℕ, List, [], ◌∷◌, ◌++◌, false, length, sym, ap, subst, ◌∙◌, append-nil, Option, None, String}
+use Rattle.std.specs.Global.{Global}
 use Rattle.std.specs.List.{AllByRecursion}
 use Rattle.nano_text.specs.Place.{saturating_next}
 use Rattle.nano_value.specs.Meaning.{Meaning}
@@ -94,10 +95,10 @@ module _ {T : Type 0} (encodes : List Token → Meaning → Type 0) (means : T �
   read_value line value h e =
       subst (λ (l : List ℕ). HoldsValue encodes l (means value)) same (subst (IsRead encodes means xs number) e h)
 
-  pub read_bad : (line : Line T) (error : DeJsonErr) → IsRead encodes means xs number line → line ≡ BadLine error
-      → RejectsLine encodes ys number error
-  read_bad line error h e =
-      subst (λ (l : List ℕ). RejectsLine encodes l number error) same (subst (IsRead encodes means xs number) e h)
+  pub read_bad : (line : Line T) (error : DeJsonErr) (text : String Global) → IsRead encodes means xs number line
+      → line ≡ BadLine error text → RejectsLine encodes ys number error text
+  read_bad line error text h e =
+      subst (λ (l : List ℕ). RejectsLine encodes l number error text) same (subst (IsRead encodes means xs number) e h)
 
   pub read_no_text : (line : Line T) → IsRead encodes means xs number line → line ≡ NoText → IsNoText ys
   read_no_text line h e = subst IsNoText same (subst (IsRead encodes means xs number) e h)

@@ -56,7 +56,8 @@ module _ {R : Type 0} (remaining : R → Option (List ℕ)) (old new : Lines R) 
 
     -- why no value is taken, and which line was
     abbrev pub TakesFault : Fault → Type 0
-    TakesFault (Bad error) = TakesNext (λ number line. RejectsLine encodes line number error)
+    TakesFault (Bad error text) =
+        TakesNext (λ number line. RejectsLine encodes line number error text)
     TakesFault (NotUtf8 number) = TakesNext (λ n line. (number ≡ n) × IsNoText line)
     TakesFault (Long number) = TakesLong number
     TakesFault (Stream error) = TakesBlanks

@@ -1,5 +1,6 @@
 -- What a line is read as.
-use Rattle.std.specs.Prelude.{◌≡◌, false, ℕ, List}
+use Rattle.std.specs.Prelude.{◌≡◌, false, ℕ, List, String, string_bytes}
+use Rattle.std.specs.Global.{Global}
 use Rattle.std.specs.Str.{IsUtf8}
 use Rattle.nano_value.specs.Meaning.{Meaning}
 use Rattle.nano_grammar.specs.Outcomes.{ReadsNoWhole}
@@ -16,14 +17,16 @@ pub record IsRejected (error : DeJsonErr) (number : ℕ) (result : DeJsonErr) : 
   pub not_memory : error.memory ≡ false
   pub same : result ≡ record error { line = number }
 
--- the error of reading the line as a whole input, with the line's number: it holds no value
+-- the error of reading the line as a whole input, with the line's number and its text: it holds
+-- no value
 pub record RejectsLine (encodes : List Token → Meaning → Type 0) (line : List ℕ) (number : ℕ)
-    (result : DeJsonErr) : Type 0 where
+    (result : DeJsonErr) (text : String Global) : Type 0 where
   pub some : IsBlank line → ⊥
   pub utf8 : IsUtf8 line
   pub error : DeJsonErr
   pub rejects : ReadsNoWhole Cut encodes line end (report error)
   pub rejected : IsRejected error number result
+  pub text_is : string_bytes text ≡ line
 
 -- a line is no text
 pub record IsNoText (line : List ℕ) : Type 0 where
@@ -35,5 +38,5 @@ abbrev pub IsRead : {T : Type 0} → (List Token → Meaning → Type 0) → (T 
     → Line T → Type 0
 IsRead encodes means line number Blank = IsBlank line
 IsRead encodes means line number (Value v) = HoldsValue encodes line (means v)
-IsRead encodes means line number (Bad error) = RejectsLine encodes line number error
+IsRead encodes means line number (Bad error text) = RejectsLine encodes line number error text
 IsRead encodes means line number NotUtf8 = IsNoText line

@@ -10,9 +10,14 @@ use thiserror::Error;
 /// and are printed from 1.
 #[derive(Debug, Drop, Error)]
 pub enum Fault {
-    /// A line holds no value of the type. The error's line is that of the stream.
-    #[error("{0}")]
-    Bad(DeJsonErr),
+    /// A line holds no value of the type.
+    #[error("{error}")]
+    Bad {
+        /// Why not. Its line is that of the stream.
+        error: DeJsonErr,
+        /// The line, without its line feed.
+        line: String,
+    },
     /// The line of this number is longer than the limit.
     #[error("line {} is longer than the limit", .0.saturating_add(1))]
     Long(usize),

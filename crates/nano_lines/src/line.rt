@@ -1,6 +1,6 @@
 //! One line, read as a value.
 
-ghost use Rattle.std.specs.Prelude.{◌≡◌, ◌↔◌, true, IfOk, IfErr, IsTrue};
+ghost use Rattle.std.specs.Prelude.{◌≡◌, ◌↔◌, true, IfOk, IfErr, IsTrue, string_bytes};
 ghost use Rattle.nano_text.specs.Characters.{is_space};
 ghost use Rattle.nano_lines.specs.Faults.{IsOfStream};
 ghost use Rattle.nano_lines.specs.Lines.{IsBlank};
@@ -19,8 +19,8 @@ pub(crate) enum Line<T> {
     Blank,
     /// A value.
     Value(T),
-    /// No value, for this reason.
-    Bad(DeJsonErr),
+    /// No value, for this reason; and its text.
+    Bad(DeJsonErr, String),
     /// No text.
     NotUtf8,
 }
@@ -43,7 +43,7 @@ pub(crate) fn read_line<T: DeJson>(
     };
     match T::deserialize_json_whole(alloc, text) {
         Ok(value) => Ok(Line::Value(value)),
-        Err(error) => Ok(Line::Bad(rejection(error, number)?)),
+        Err(error) => Ok(Line::Bad(rejection(error, number)?, copied(alloc, text)?)),
     }
 }
 
@@ -59,6 +59,17 @@ fn rejection(error: DeJsonErr, number: usize) -> Result<DeJsonErr, Fault>
         line: number,
         ..error
     })
+}
+
+/// A copy of a line's text; or out of memory.
+fn copied(alloc: Global, text: &str) -> Result<String, Fault>
+    ensures ok { IfOk result (λ copy. string_bytes copy ≡ text.now) }
+    ensures err { IfErr result IsOfStream }
+{
+    match String::from_str(alloc, text) {
+        Ok(copy) => Ok(copy),
+        Err(_full) => Err(no_memory()),
+    }
 }
 
 /// Whether the bytes are white space alone.

@@ -62,7 +62,8 @@ impl<R: Read> Lines<R> {
     ///
     /// `Bad` reports that the line holds no value of the type, `NotUtf8` that it is no text, and
     /// `Long` that it is longer than the limit: each takes that line, and no other. `Bad` carries
-    /// the error of `deserialize_json_whole` for the line, with the line's number in the stream.
+    /// the error of `deserialize_json_whole` for the line, with the line's number in the stream,
+    /// and the line.
     /// `Stream` reports that a read or an allocation failed; it takes no line that is not blank,
     /// so a call after it goes on where this one stopped.
     ///
@@ -93,7 +94,7 @@ impl<R: Read> Lines<R> {
             match line {
                 Line::Blank => {}
                 Line::Value(value) => return Ok(Some(value)),
-                Line::Bad(error) => return Err(Fault::Bad(error)),
+                Line::Bad(error, text) => return Err(Fault::Bad { error, line: text }),
                 Line::NotUtf8 => return Err(Fault::NotUtf8(number)),
             }
         }

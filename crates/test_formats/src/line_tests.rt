@@ -4,7 +4,7 @@ use crate::checks::{holds, is_so};
 use crate::frame_source::{Sink, Source};
 use nano_lines::{Fault, Lines, laws, put};
 use std::alloc::{AllocError, Global};
-use std::io::ErrorKind;
+use std::io::{self, ErrorKind, Read};
 
 const TWO: &[u8] = b"[7,8]\n[]\n";
 
@@ -220,7 +220,7 @@ fn types_are_taken(alloc: Global) -> Result<bool, AllocError> {
         _other => false,
     };
     let second = match lines.next::<String>(alloc) {
-        Err(Fault::Bad(error)) => error.line == 1,
+        Err(Fault::Bad { error, line }) => error.line == 1 && line.as_str() == "[]",
         _other => false,
     };
     Ok(first && second)
@@ -232,4 +232,44 @@ fn lines_fail(rt: HostRuntime) {
     is_so(&rt, long_line_is_passed(alloc), "a long line");
     is_so(&rt, types_are_taken(alloc), "types");
     holds(&rt, true, "lines");
+}
+
+/// A reader of so many lines, each of which holds 7.
+#[derive(Drop)]
+struct Sevens {
+    left: u32,
+}
+
+impl Read for Sevens {
+    fn read(&mut self, buf: &mut [u8]) -> io::Result<usize> {
+        if self.left == 0 || buf.len() < 2 {
+            return Ok(0);
+        }
+        self.left = self.left.saturating_sub(1);
+        buf[..2].copy_from_slice(b"7\n");
+        Ok(2)
+    }
+}
+
+/// How many lines there are up to the end or a fault, if each of them holds 7.
+fn count_of_sevens(alloc: Global, count: u32) -> Result<u32, AllocError> {
+    let mut lines = Lines::with_limit(alloc, Sevens { left: count }, 1)?;
+    let mut taken = 0u32;
+    for _ in 0..=count {
+        match lines.next::<u8>(alloc) {
+            Ok(Some(7)) => taken = taken.saturating_add(1),
+            _end => return Ok(taken),
+        }
+    }
+    Ok(taken)
+}
+
+#[test]
+fn a_million_lines(rt: HostRuntime) {
+    let taken = count_of_sevens(rt.alloc(), 1_000_000);
+    is_so(
+        &rt,
+        taken.map(|taken| taken == 1_000_000),
+        "a million lines",
+    );
 }

@@ -47,8 +47,8 @@ returns-in-Bad-clause-err g c =
     let found = rw c.in-Some.is at c.in_ok-end.ensures.ok in
     let same = ap (λ (l : List ℕ). slice_range l at.buffer.offset end) c.deref.ensures.value in
     takes_next g.R.Read.remaining c.args.self.now at c.take_line.new.self end before found.whole found.is.1 c.take_line.ensures
-    (λ number line. RejectsLine encodes line number c.in-Bad.error)
-    (read_bad encodes g.T.Value.means _ _ same at.number c.in_ok-line.line c.in-Bad.error c.in_ok-line.ensures.ok c.in-Bad.is)
+    (λ number line. RejectsLine encodes line number c.in-Bad.error c.in-Bad.text)
+    (read_bad encodes g.T.Value.means _ _ same at.number c.in_ok-line.line c.in-Bad.error c.in-Bad.text c.in_ok-line.ensures.ok c.in-Bad.is)
 
 pub returns-in-NotUtf8-clause-err : goal.returns-in-NotUtf8-clause-err
 returns-in-NotUtf8-clause-err g c =

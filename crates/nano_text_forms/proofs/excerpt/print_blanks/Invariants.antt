@@ -1,8 +1,8 @@
 -- white space is written under the characters so far
 use Rattle.std.proofs.Common.{map}
 use Rattle.std.specs.Io.KnownBytes.{Appends}
-use Rattle.nano_text_forms.specs.Forms.{blank}
-use Rattle.nano_text_forms.proofs.rejection.point.Given as goal
+use Rattle.nano_text_forms.specs.Shown.{blank}
+use Rattle.nano_text_forms.proofs.excerpt.print_blanks.Given as goal
 
 abbrev pub invariant-loop-c : goal.invariant-loop-c
 invariant-loop-c g l =

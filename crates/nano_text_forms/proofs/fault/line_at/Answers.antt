@@ -2,7 +2,7 @@ use Rattle.std.proofs.Common.{◌≡◌, List, [], ℕ, Option, Some, None, Bor,
 use Rattle.std.specs.Option.{option_map}
 use Rattle.std.proofs.lemmas.Iterator.Splits.{YieldsList-from_lines}
 use Rattle.std.proofs.lemmas.Iterator.Consumers.{nth_from_yields_List}
-use Rattle.nano_text_forms.proofs.rejection.line_at.Goals as goal
+use Rattle.nano_text_forms.proofs.fault.line_at.Goals as goal
 
 -- what is found is shown, and the empty line where nothing is found
 found_or_empty : (found : Option (Bor (List ℕ))) (empty line : Bor (List ℕ)) (o : Option (List ℕ))
