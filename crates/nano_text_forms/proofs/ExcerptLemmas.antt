@@ -1,6 +1,6 @@
 -- What several writes write, one after the other.
 use Rattle.std.proofs.Common.{◌≡◌, ℕ, ◌+◌, ◌-◌, List, [], ◌∷◌, ◌++◌, Option, Result, Ok, Err, OnOk, map, take, drop, length}
-use Rattle.std.proofs.Common.{encode_utf8, encode_utf8_all, refl, ap, sym, subst, ◌∙◌, append_assoc, append-nil}
+use Rattle.std.proofs.Common.{encode_utf8, encode_utf8_all, refl, ap, sym, ◌∙◌, append_assoc, append-nil}
 use Rattle.std.proofs.lemmas.List.{map-append}
 use Rattle.std.proofs.lemmas.Str.{encodes-append}
 use Rattle.std.proofs.KnownBytes.{Appends-trans}
