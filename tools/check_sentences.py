@@ -21,7 +21,7 @@ PLANNED = {
     "docs/ERRORS.md": None,
     "docs/FORMATS.md": None,
     "docs/GUARANTEES.md": 215,
-    "docs/GUIDE.md": 300,
+    "docs/GUIDE.md": 340,
     "docs/SECURITY.md": 72,
     "docs/SPEED.md": None,
     "docs/USER_TYPES.md": 200,
