@@ -78,8 +78,9 @@ pub trait DeJson: JsonCodec + Drop {
     /// # Errors
     ///
     /// No value is encoded there with one more token or the end after it, or memory ran out
-    /// (`memory`). Every error leaves the state at the end of the text. The error's line and
-    /// column, from 0, are those of the characters taken.
+    /// (`memory`). Every error leaves the state at the end of the text. Line and column, from 0,
+    /// are those of a token that no encoding goes on with; or, where no token can be cut after
+    /// the pending one, of a character from there on.
     ///
     /// # Examples
     ///

@@ -1,4 +1,4 @@
--- The format of an own enum in RON.
+-- The codec of a user-defined enum in RON.
 use Rattle.std.specs.Prelude.{◌≡◌, true}
 use Rattle.std.proofs.Common.{sym}
 use Rattle.nano_grammar.specs.Variants.{names_differ}

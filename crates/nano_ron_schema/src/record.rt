@@ -34,8 +34,8 @@ pub fn read_record_ron<R: StructSchema, F: RonFields<Values = R::Values>>(
     }
 }
 
-/// Reads a user-defined struct of parts without names, which is encoded as their tuple. The token
-/// after it is pending then, which may be the end.
+/// Reads a user-defined tuple struct, which is encoded as the tuple of its elements. The
+/// token after it is pending then, which may be the end.
 ///
 /// An error other than out of memory says that no such tuple is encoded there, with one more token
 /// or the end after it. Every error leaves the state at the end of the text.

@@ -1,4 +1,4 @@
-//! Two, three or four parts without names, as the content of a variant.
+//! Two, three or four elements of a tuple, as the content of a variant.
 
 ghost use Rattle.std.specs.Prelude.{refl};
 ghost use Rattle.nano_ron.specs.ContainerCodecs.{pair_codec, triple_codec, quadruple_codec};
