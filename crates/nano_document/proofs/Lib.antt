@@ -2,3 +2,8 @@ pub mod Documents
 pub mod Reading
 pub mod Sound
 pub mod Numbers
+pub mod Alternatives
+pub mod Finding
+pub mod Comparing
+pub mod Pointing
+pub mod Sameness
