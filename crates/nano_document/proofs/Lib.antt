@@ -7,3 +7,4 @@ pub mod Finding
 pub mod Comparing
 pub mod Pointing
 pub mod Sameness
+pub mod Indenting

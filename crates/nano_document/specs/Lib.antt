@@ -4,3 +4,4 @@ pub mod DocumentCodecs
 pub mod Held
 pub mod Pointers
 pub mod Equality
+pub mod Indented

@@ -4,6 +4,7 @@
 
 mod access;
 mod held;
+mod indented;
 mod json;
 mod known;
 pub mod laws;
