@@ -1,5 +1,5 @@
 -- A document by its alternative: what it means, and how it is written.
-use Rattle.std.proofs.Common.{◌≡◌, ◌<◌, ◌^◌, ℕ, ℤ, pos, negsuc, FitsSigned, Bool, List, map, String, Vec, Global, string_bytes, codes, refl, sym, ◌∙◌, ap, subst, arith, rules}
+use Rattle.std.proofs.Common.{◌≡◌, ℕ, ℤ, pos, negsuc, FitsSigned, Bool, map, String, Vec, Global, string_bytes, codes, refl, sym, ◌∙◌, ap, subst, arith, rules}
 use Rattle.std.specs.Int.{w64}
 use Rattle.std.specs.Fmt.{signed_decimal}
 use Rattle.nano_text.specs.Place.{saturating_next}
@@ -27,10 +27,10 @@ signed_fits (negsuc n) h = h
 
 -- ---- what each alternative is seen as
 
-out-Null : out-Json J.Null ≡ O.Null
+pub out-Null : out-Json J.Null ≡ O.Null
 out-Null = search (rules, the_lemmas)
 
-out-Bool : (b : Bool) → out-Json (J.Bool b) ≡ O.Bool b
+pub out-Bool : (b : Bool) → out-Json (J.Bool b) ≡ O.Bool b
 out-Bool b = search (rules, the_lemmas)
 
 pub out-U64 : (n : ℕ) → out-Json (J.U64 n) ≡ O.U64 n
@@ -39,13 +39,13 @@ out-U64 n = search (rules, the_lemmas)
 pub out-I64 : (z : ℤ) → out-Json (J.I64 z) ≡ O.I64 z
 out-I64 z = search (rules, the_lemmas)
 
-out-Text : (s : String Global) → out-Json (J.Text s) ≡ O.Text s
+pub out-Text : (s : String Global) → out-Json (J.Text s) ≡ O.Text s
 out-Text s = search (rules, the_lemmas)
 
-out-List : (xs : Vec Json Global) → out-Json (J.List xs) ≡ O.List xs
+pub out-List : (xs : Vec Json Global) → out-Json (J.List xs) ≡ O.List xs
 out-List xs = search (rules, the_lemmas)
 
-out-Object : (es : Vec (String Global × Json) Global) → out-Json (J.Object es) ≡ O.Object es
+pub out-Object : (es : Vec (String Global × Json) Global) → out-Json (J.Object es) ≡ O.Object es
 out-Object es = search (rules, the_lemmas)
 
 -- ---- what it means

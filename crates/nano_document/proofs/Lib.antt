@@ -2,3 +2,9 @@ pub mod Documents
 pub mod Reading
 pub mod Sound
 pub mod Numbers
+pub mod Alternatives
+pub mod Finding
+pub mod Comparing
+pub mod Pointing
+pub mod Sameness
+pub mod Indenting

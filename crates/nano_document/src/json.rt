@@ -5,6 +5,7 @@ ghost use Rattle.nano_document.specs.Documents.{json_means};
 ghost use Rattle.nano_document.specs.DocumentCodecs.{json_codec};
 
 use crate::known::known_json;
+use crate::same::same_json;
 use nano_json::JsonCodec;
 use nano_value::Value;
 
@@ -12,7 +13,10 @@ use nano_value::Value;
 ///
 /// A number that is read is a `U64` unless it is below 0. A number with a point or an exponent is
 /// not read.
-#[derive(PartialEq, Debug, Drop)]
+///
+/// Two documents are equal by `==` if they mean the same: a number as a `U64` equals the same
+/// number as an `I64`, and two objects are equal if they have the same entries in the same order.
+#[derive(Debug, Drop)]
 pub enum Json {
     /// `null`.
     Null,
@@ -28,6 +32,29 @@ pub enum Json {
     List(Vec<Json>),
     /// Names with their documents between braces, in order. A name may stand more than once.
     Object(Vec<(String, Json)>),
+}
+
+impl PartialEq for Json {
+    ghost use Rattle.std.specs.Prelude.{◌≡◌, ◌↔◌, IsTrue};
+    ghost use Rattle.nano_document.specs.Documents.{json_means};
+    ghost use Rattle.nano_document.specs.Equality.{json_eq, json_eq_laws};
+
+    ghost eq = { json_eq };
+
+    ghost laws = { json_eq_laws };
+
+    fn eq(&self, other: &Json) -> bool
+        ensures same { IsTrue result ↔ (json_means self.now ≡ json_means other.now) }
+        ensures value { result ≡ json_eq self.now other.now }
+    {
+        same_json(self, other)
+    }
+}
+
+impl Eq for Json {
+    ghost use Rattle.nano_document.specs.Equality.{json_eq_equiv};
+
+    ghost laws = { json_eq_equiv };
 }
 
 impl Value for Json {

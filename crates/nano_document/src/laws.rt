@@ -1,12 +1,34 @@
-//! A law of documents: a function that does nothing, and whose contract is the law.
+//! Laws of documents: functions that do nothing, and whose contract is the law.
 
-ghost use Rattle.std.specs.Prelude.{◌<◌};
-ghost use Rattle.nano_document.specs.Documents.{depth, most_levels};
+ghost use Rattle.std.specs.Prelude.{◌<◌, ◌++◌, ℕ, List};
+ghost use Rattle.nano_document.specs.Documents.{depth, most_levels, json_means};
 ghost use Rattle.nano_document.specs.DocumentCodecs.{json_codec};
+ghost use Rattle.nano_document.specs.Indented.{indented};
+ghost use Rattle.nano_grammar.specs.Tokens.{Cuts, TextDecodesTo};
+ghost use Rattle.nano_json_tokens.specs.Cut.{Cut};
+ghost use Rattle.nano_json_tokens.specs.Written.{MayFollow};
 
 use crate::json::Json;
+use nano_value::Value;
 
 /// A document of at most 128 levels is sound: what is written of it is read back.
 pub fn a_document_of_few_levels_is_sound()
     ensures { (x : Json) → depth x < most_levels → json_codec.sound x }
 {}
+
+/// The text of a document with indentation, with anything after it that may follow a value, is cut
+/// into the tokens of its canonical text, and leaves exactly what follows.
+pub fn indented_text_is_cut_into_the_same_tokens(value: &Json)
+    ensures { (d : ℕ) (rest : List ℕ) → MayFollow rest → Cuts Cut
+        (json_codec.canonical.tokens value.now) (indented d value.now ++ rest) rest }
+{
+    value.known();
+}
+
+/// So a document of at most 128 levels decodes from its text with indentation.
+pub fn indented_text_decodes_to_the_document(value: &Json)
+    ensures { depth value.now < most_levels → TextDecodesTo Cut json_codec.encoding.encodes
+        (indented 0 value.now) (json_means value.now) }
+{
+    value.known();
+}

@@ -3,10 +3,14 @@
 #![tactic(auto)]
 
 mod access;
+mod held;
+mod indented;
 mod json;
 mod known;
 pub mod laws;
+mod pointer;
 mod read;
+mod same;
 mod write;
 
 pub use json::Json;

@@ -40,7 +40,7 @@ module _ {T : Type 0} {c : Cutting T} {g : Grammar T} {A : Type 0} (l : Nested c
   around f = codec_as l.view (l.layer.codec f)
 
   -- the codec of the values that are less deep
-  pub level : ℕ → Codec c g A
+  unfoldable pub level : ℕ → Codec c g A
   level zero = no_codec
   level (suc n) = around (level n)
 
@@ -132,7 +132,7 @@ module _ {T : Type 0} {c : Cutting T} {g : Grammar T} {A : Type 0} (l : Nested c
   pub text : ℕ → A → List ℕ
   text d x = (level (suc (l.depth x))).canonical.text d x
 
-  pub tokens : A → List T
+  unfoldable pub tokens : A → List T
   tokens x = (level (suc (l.depth x))).canonical.tokens x
 
   text_at : (n : ℕ) (x : A) → l.depth x < n → (d : ℕ) → (level n).canonical.text d x ≡ text d x

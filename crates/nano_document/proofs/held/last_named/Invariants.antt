@@ -1,0 +1,10 @@
+-- no entry from there on has the name
+use Rattle.std.proofs.Common.{◌≡◌, ◌≤◌, length, drop}
+use Rattle.nano_document.specs.Held.{HasNone}
+use Rattle.nano_document.proofs.held.last_named.Given as goal
+
+abbrev pub invariant-entries : goal.invariant-entries
+invariant-entries l = (l.end ≤ length l.entries) × HasNone (λ n. n ≡ l.name) (drop l.end l.entries)
+
+abbrev pub decreases-entries : goal.decreases-entries
+decreases-entries l = l.end
