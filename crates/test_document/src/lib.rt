@@ -2,6 +2,10 @@
 #![tactic(auto)]
 
 #[cfg(test)]
+mod access_tests;
+#[cfg(test)]
 mod checks;
 #[cfg(test)]
 mod document_tests;
+#[cfg(test)]
+mod indented_tests;

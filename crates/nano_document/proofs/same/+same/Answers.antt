@@ -36,8 +36,8 @@ same_json-returns-in-I64 t c =
     let small : FitsSigned w64 c.in-I64.number = search rules in
     let both = i64_same c.args.one.now c.args.other.now c.in-I64.number small c.in-I64.is c.as_i64.result c.as_i64.ensures in
     let decides = i64_is c.as_i64.result c.in-I64.number in
-    let told = c.eq-in-I64.ensures ∙ ap (λ z. option_eq int_eq c.as_i64.result (Some z)) (to_z-of_z w64 c.in-I64.number small) in
-    (λ h. both.0 (decides.0 (sym told ∙ h)), λ e. told ∙ decides.1 (both.1 e))
+    let answer = c.eq-in-I64.ensures ∙ ap (λ z. option_eq int_eq c.as_i64.result (Some z)) (to_z-of_z w64 c.in-I64.number small) in
+    (λ h. both.0 (decides.0 (sym answer ∙ h)), λ e. answer ∙ decides.1 (both.1 e))
 
 pub same_json-returns-in-None : goal.same_json-returns-in-None
 same_json-returns-in-None t c = no_text_same c.args.one.now c.args.other.now c.in-Text.text c.in-Text.is c.in-None.ensures
