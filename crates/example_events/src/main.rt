@@ -9,8 +9,6 @@
 
 mod event;
 mod log;
-#[cfg(test)]
-mod log_tests;
 mod totals;
 
 use anyhow::{Context, Result, bail};

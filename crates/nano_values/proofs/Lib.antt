@@ -1,0 +1,3 @@
+pub mod ValuesLaws
+pub mod JsonLemmas
+pub mod RonLemmas
