@@ -9,6 +9,8 @@
 
 mod event;
 mod log;
+#[cfg(test)]
+mod log_tests;
 mod totals;
 
 use anyhow::{Context, Result, bail};
