@@ -7,7 +7,7 @@
 # line is `N passed, M failed`, as that of `rt ci` is. The steps are tools/check_*.py, list_calls.py and
 # what_to_read.py; whether each generated file is what derive_files writes; 20,000 drawn cases (fuzz.py),
 # always the same; and worked.tsv with memory refused. It takes half a minute, and runs the programs that
-# `rt ci` left in out/ of crates/conformance_run, derive_files and example_lines; it wants cc and Python too.
+# `rt ci` left in out/ of conformance_run, derive_files and two examples; it wants cc and Python too.
 set -u
 cd "$(dirname "$0")/.." || exit 2
 program=crates/conformance_run/out/conformance_run
