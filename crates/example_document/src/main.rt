@@ -58,8 +58,9 @@ fn main(rt: HostRuntime) -> Result<ExitCode> {
     rt.stdin().read_to_string(&mut text).context("reading")?;
     match Json::deserialize_json_whole(alloc, text.as_str()) {
         Ok(document) => {
-            let written = answer(alloc, word.as_str(), more, document)?;
-            println!(rt; "{written}")?;
+            let mut written = answer(alloc, word.as_str(), more, document)?;
+            written.push('\n')?;
+            rt.stdout().write_all(written.as_bytes())?;
             Ok(ExitCode::SUCCESS)
         }
         Err(error) => show(&rt, error.into(), text.as_str()),
