@@ -198,7 +198,7 @@ def functions_of(path):
 
 def expected(crate):
     """What the sources of a crate make public: items, and functions with their clauses."""
-    items, functions = set(), {}
+    items, functions = set(), collections.Counter()
     for _, names in public_names(crate):
         items |= names
     for path in sorted(pathlib.Path("crates", crate, "src").rglob("*.rt")):
@@ -207,9 +207,9 @@ def expected(crate):
             trait = re.match(r"pub trait (\w+)", block)
             owner = trait or re.match(r"impl(?:<.*?>)? (\w+)(?:<[^{]*>)? \{", block)
             if not block and is_public and name in own & items:
-                functions["", name] = clauses
+                functions["", name] += clauses
             elif owner and owner.group(1) in items and (trait or is_public):
-                functions[owner.group(1), name] = clauses
+                functions[owner.group(1), name] += clauses  # of each type of that name
     return items, functions
 
 

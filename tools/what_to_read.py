@@ -89,7 +89,7 @@ def closure(specs, headline, places, types):
     return followed(specs, queue, read, APART.keys() - own)
 
 
-def followed(specs, queue, read, apart):
+def followed(specs, queue, read, apart=()):
     """The definitions that the items of the queue rest on, where these fields are read."""
     found, unread = {}, []
     while queue:

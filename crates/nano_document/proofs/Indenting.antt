@@ -17,7 +17,8 @@ use Rattle.nano_levels.specs.Kinds.{Tagged, codecs_at}
 use Rattle.nano_levels.proofs.LevelsLaws.{level, tokens, text_around}
 use Rattle.nano_document.specs.Documents.{Fields, opened, view, json_means, depth, most_levels}
 use Rattle.nano_document.specs.DocumentCodecs.{layers, json_nested, json_codec, string_codec}
-use Rattle.nano_document.specs.Indented.{spaces, line, lines, lines_text, indented_layers, indented_layer, indented_nested, indented_codec, indented, entry_text, items_text, entries_text}
+use Rattle.nano_document.specs.Indented.{spaces, line, lines}
+use Rattle.nano_document.specs.IndentedCodecs.{lines_text, indented_layers, indented_layer, indented_nested, indented_codec, indented, entry_text, items_text, entries_text}
 use Rattle.nano_document.specs.declared.json.Json as J
 use Rattle.nano_document.specs.declared.json.Json.{Json}
 use Rattle.nano_grammar.proofs.TokensLaws.{cuts_fit}

@@ -5,3 +5,5 @@ pub mod Held
 pub mod Pointers
 pub mod Equality
 pub mod Indented
+pub mod EqualityImpls
+pub mod IndentedCodecs

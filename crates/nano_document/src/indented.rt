@@ -7,8 +7,9 @@ ghost use Rattle.nano_text.specs.Outcomes.{Appends, AppendsPart};
 ghost use Rattle.nano_grammar.specs.Items.{item_in_list};
 ghost use Rattle.nano_json_tokens.specs.Token.{block_punctuation, curly_punctuation};
 ghost use Rattle.nano_document.specs.DocumentCodecs.{string_codec};
-ghost use Rattle.nano_document.specs.Indented.{line, lines, indented, entry_text};
-ghost use Rattle.nano_document.specs.Indented.{items_text, entries_text};
+ghost use Rattle.nano_document.specs.Indented.{line, lines};
+ghost use Rattle.nano_document.specs.IndentedCodecs.{indented, entry_text, items_text};
+ghost use Rattle.nano_document.specs.IndentedCodecs.{entries_text};
 
 use crate::json::Json;
 use nano_json::{SerJson, SerJsonState};

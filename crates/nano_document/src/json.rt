@@ -37,7 +37,8 @@ pub enum Json {
 impl PartialEq for Json {
     ghost use Rattle.std.specs.Prelude.{◌≡◌, ◌↔◌, IsTrue};
     ghost use Rattle.nano_document.specs.Documents.{json_means};
-    ghost use Rattle.nano_document.specs.Equality.{json_eq, json_eq_laws};
+    ghost use Rattle.nano_document.specs.Equality.{json_eq};
+    ghost use Rattle.nano_document.specs.EqualityImpls.{json_eq_laws};
 
     ghost eq = { json_eq };
 
@@ -52,7 +53,7 @@ impl PartialEq for Json {
 }
 
 impl Eq for Json {
-    ghost use Rattle.nano_document.specs.Equality.{json_eq_equiv};
+    ghost use Rattle.nano_document.specs.EqualityImpls.{json_eq_equiv};
 
     ghost laws = { json_eq_equiv };
 }

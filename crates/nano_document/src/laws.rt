@@ -3,7 +3,7 @@
 ghost use Rattle.std.specs.Prelude.{◌<◌, ◌++◌, ℕ, List};
 ghost use Rattle.nano_document.specs.Documents.{depth, most_levels, json_means};
 ghost use Rattle.nano_document.specs.DocumentCodecs.{json_codec};
-ghost use Rattle.nano_document.specs.Indented.{indented};
+ghost use Rattle.nano_document.specs.IndentedCodecs.{indented};
 ghost use Rattle.nano_grammar.specs.Tokens.{Cuts, TextDecodesTo};
 ghost use Rattle.nano_json_tokens.specs.Cut.{Cut};
 ghost use Rattle.nano_json_tokens.specs.Written.{MayFollow};

@@ -6,7 +6,8 @@ use Rattle.nano_grammar.specs.Items.{laid_out}
 use Rattle.nano_grammar.proofs.WrittenLists.{list_begun, write_end, write_next, pushed, parts_written}
 use Rattle.nano_json_tokens.specs.Token.{block_punctuation, curly_punctuation}
 use Rattle.nano_document.specs.DocumentCodecs.{string_codec}
-use Rattle.nano_document.specs.Indented.{lines, indented, entry_text, items_text, entries_text}
+use Rattle.nano_document.specs.Indented.{lines}
+use Rattle.nano_document.specs.IndentedCodecs.{indented, entry_text, items_text, entries_text}
 use Rattle.nano_document.proofs.Indenting.{text-Null, text-Bool, text-U64, text-I64, text-Text, text-List, text-Object}
 use Rattle.nano_document.proofs.Indenting.{items_some, entries_some, closed_by, item_started, no_items_bytes, no_entries_bytes}
 use Rattle.nano_document.proofs.indented.+indented.Goals as goal

@@ -3,7 +3,8 @@ use Rattle.std.proofs.Common.{false, drop, string_bytes}
 use Rattle.nano_text.specs.Place.{saturating_next}
 use Rattle.nano_json_tokens.specs.Token.{block_punctuation, curly_punctuation}
 use Rattle.nano_grammar.proofs.WrittenLists.{WritesSoFar}
-use Rattle.nano_document.specs.Indented.{lines, indented, entry_text}
+use Rattle.nano_document.specs.Indented.{lines}
+use Rattle.nano_document.specs.IndentedCodecs.{indented, entry_text}
 use Rattle.nano_document.proofs.indented.+indented.Given as goal
 
 abbrev pub invariant-append_items-loop-item : goal.invariant-append_items-loop-item

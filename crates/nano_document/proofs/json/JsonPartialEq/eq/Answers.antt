@@ -1,6 +1,7 @@
 use Rattle.std.proofs.lemmas.Bool.Decides.{same_from_decides}
 use Rattle.nano_document.specs.Documents.{json_means}
-use Rattle.nano_document.specs.Equality.{json_eq, meaning_eq-Decides}
+use Rattle.nano_document.specs.Equality.{json_eq}
+use Rattle.nano_document.specs.EqualityImpls.{meaning_eq-Decides}
 use Rattle.nano_document.proofs.json.JsonPartialEq.eq.Goals as goal
 
 pub returns-clause-value : goal.returns-clause-value
