@@ -3,9 +3,8 @@
 #
 #     sh tools/oracle/build.sh SOURCES OUT
 #
-# SOURCES is the folder of the crate, or the folder of its sources; there `serde_bin.rs` is the file of
-# that name, in `src` or not, or `src_serde_bin.rs`, and so are `serde_json.rs`, `serde_ron.rs` and
-# `toml.rs`. They are copied to OUT, where hashed maps and sets become those of ordered.rs.
+# SOURCES is the folder of the crate, or the folder of its sources, as ../upstream.sh finds them. They
+# are copied to OUT, where hashed maps and sets become those of ordered.rs.
 #
 # OUT/oracle reads rows `FORMAT<TAB>TYPE<TAB>INPUT` as crates/conformance_run/README.md has them, and
 # answers each in a line: `answered<TAB>NORMAL FORM`, `rejected<TAB>TEXT`, `stopped` for a panic, an abort
@@ -13,17 +12,9 @@
 set -eu
 [ $# -eq 2 ] || { echo "usage: sh build.sh SOURCES OUT" >&2; exit 2; }
 here=$(cd "$(dirname "$0")" && pwd)
+. "$here/../upstream.sh"
 mkdir -p "$2"
 out=$(cd "$2" && pwd)
-
-# source_of NAME: the path of the crate's file of this name
-source_of() {
-    for path in "$sources/src/$1.rs" "$sources/$1.rs" "$sources/src_$1.rs"; do
-        [ ! -f "$path" ] || { echo "$path"; return; }
-    done
-    echo "build.sh: no $1.rs in $sources" >&2
-    exit 2
-}
 
 # replaced FILE LINE BY: the one line of the file becomes another
 replaced() {
@@ -34,7 +25,7 @@ replaced() {
 
 sources=$(cd "$1" && pwd)
 for name in serde_bin serde_json serde_ron toml; do
-    path=$(source_of "$name")
+    path=$(source_of "$sources" "$name")
     cp "$path" "$out/$name.rs"
     chmod u+w "$out/$name.rs"
 done

@@ -63,7 +63,7 @@ pub struct Field<'a> {
 pub enum Content<'a> {
     /// Nothing.
     Nothing,
-    /// Parts without names.
+    /// The parts of a tuple variant or a newtype.
     Parts(Vec<Type<'a>>),
     /// Fields with names.
     Fields(Vec<Field<'a>>),
@@ -85,7 +85,7 @@ pub struct Variant<'a> {
 pub enum Shape<'a> {
     /// A struct with named fields.
     Fields(Vec<Field<'a>>),
-    /// A struct with parts without names.
+    /// A tuple struct, or a newtype.
     Parts(Vec<Type<'a>>),
     /// An enum.
     Variants(Vec<Variant<'a>>),

@@ -139,15 +139,15 @@ type EventPaidOutParts = (
     ),
 );
 
-type EventVariants3 = nano_schema::Variant<EventPaidOut, nano_schema::Named<EventPaidOutParts>>;
+type EventVariants3 = nano_schema::Variant<EventPaidOut, nano_schema::Struct<EventPaidOutParts>>;
 
 type EventVariants2 = (
-    nano_schema::Variant<EventPaidIn, nano_schema::Named<EventPaidInParts>>,
+    nano_schema::Variant<EventPaidIn, nano_schema::Struct<EventPaidInParts>>,
     EventVariants3,
 );
 
 type EventVariants = (
-    nano_schema::Variant<EventOpened, nano_schema::Named<EventOpenedParts>>,
+    nano_schema::Variant<EventOpened, nano_schema::Struct<EventOpenedParts>>,
     EventVariants2,
 );
 

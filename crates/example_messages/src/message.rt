@@ -83,15 +83,15 @@ type MessageSayParts = (
     nano_schema::Required<MessageSayTo, HashMap<String, u32>>,
 );
 
-type MessageVariants3 = nano_schema::Variant<MessageSay, nano_schema::Named<MessageSayParts>>;
+type MessageVariants3 = nano_schema::Variant<MessageSay, nano_schema::Struct<MessageSayParts>>;
 
 type MessageVariants2 = (
-    nano_schema::Variant<MessageMove, nano_schema::Tupled<MessageMoveParts>>,
+    nano_schema::Variant<MessageMove, nano_schema::Tuple<MessageMoveParts>>,
     MessageVariants3,
 );
 
 type MessageVariants = (
-    nano_schema::Variant<MessageLeave, nano_schema::Alone>,
+    nano_schema::Variant<MessageLeave, nano_schema::Unit>,
     MessageVariants2,
 );
 

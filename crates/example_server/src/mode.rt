@@ -82,15 +82,15 @@ type ModeRangeParts = (
     nano_schema::Required<ModeRangeMost, u32>,
 );
 
-type ModeVariants3 = nano_schema::Variant<ModeRange, nano_schema::Named<ModeRangeParts>>;
+type ModeVariants3 = nano_schema::Variant<ModeRange, nano_schema::Struct<ModeRangeParts>>;
 
 type ModeVariants2 = (
-    nano_schema::Variant<ModeFixed, nano_schema::OnePart<ModeFixedParts>>,
+    nano_schema::Variant<ModeFixed, nano_schema::Newtype<ModeFixedParts>>,
     ModeVariants3,
 );
 
 type ModeVariants = (
-    nano_schema::Variant<ModeOff, nano_schema::Alone>,
+    nano_schema::Variant<ModeOff, nano_schema::Unit>,
     ModeVariants2,
 );
 

@@ -23,7 +23,7 @@ pub enum Fault {
     Stream(io::Error),
 }
 
-/// The value that all the bytes of the input are. `Refused` says that they are none.
+/// Reads an input that is exactly one value. `Refused` says that it is none.
 pub fn load<T: DeBin, R: Read>(alloc: Global, input: &mut R) -> Result<T, Fault>
     ensures value { IfOk result (λ value. IfSome (R.remaining input.old) (λ bytes.
         T.bin.encoding.encodes bytes (T.means value))) }

@@ -1,6 +1,6 @@
 -- The codec of a user-defined struct as bytes.
 use Rattle.nano_bin_bytes.specs.Codec.{Codec}
--- what a struct without names needs, passed on
+-- what a tuple struct needs, passed on
 pub use Rattle.nano_bin_bytes.specs.BaseCodecs.{codec_as}
 pub use Rattle.nano_bin_bytes.proofs.CodecLaws.{both_are_read}
 

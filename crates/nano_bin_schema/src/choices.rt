@@ -14,7 +14,7 @@ use nano_bin::{DeBinErr, DeBinKind, SerBin};
 use nano_schema::{Either, Variant};
 use std::alloc::{AllocError, Global};
 
-/// Variants that stand as bytes.
+/// Variants that have an encoding as bytes.
 pub trait BinShapes {
     /// The content of one of them.
     type Values;

@@ -4,16 +4,16 @@ ghost use Rattle.nano_bin.specs.ScalarCodecs.{unit_codec};
 
 use crate::fields::{BinFields, BinRefs, BinShape};
 use nano_bin::{BinCodec, DeBin, DeBinErr, SerBin, append_part};
-use nano_schema::{Alone, Named, OnePart, Tupled};
+use nano_schema::{Newtype, Struct, Tuple, Unit};
 use std::alloc::{AllocError, Global};
 
-impl BinShape for Alone {
+impl BinShape for Unit {
     type Values = ();
 
     ghost codec = { unit_codec };
 }
 
-impl BinFields for Alone {
+impl BinFields for Unit {
     type Values = ();
 
     ghost codec = { unit_codec };
@@ -25,7 +25,7 @@ impl BinFields for Alone {
     fn discard(_values: ()) {}
 }
 
-impl<'a> BinRefs<'a> for Alone {
+impl<'a> BinRefs<'a> for Unit {
     type Values = ();
 
     type Refs = ();
@@ -39,13 +39,13 @@ impl<'a> BinRefs<'a> for Alone {
     }
 }
 
-impl<T: BinCodec> BinShape for OnePart<T> {
+impl<T: BinCodec> BinShape for Newtype<T> {
     type Values = T;
 
     ghost codec = { T.bin };
 }
 
-impl<T: DeBin> BinFields for OnePart<T> {
+impl<T: DeBin> BinFields for Newtype<T> {
     type Values = T;
 
     ghost codec = { T.bin };
@@ -57,7 +57,7 @@ impl<T: DeBin> BinFields for OnePart<T> {
     fn discard(_values: T) {}
 }
 
-impl<'a, T: SerBin + 'a> BinRefs<'a> for OnePart<T> {
+impl<'a, T: SerBin + 'a> BinRefs<'a> for Newtype<T> {
     type Values = T;
 
     type Refs = &'a T;
@@ -71,13 +71,13 @@ impl<'a, T: SerBin + 'a> BinRefs<'a> for OnePart<T> {
     }
 }
 
-impl<F: BinShape> BinShape for Named<F> {
+impl<F: BinShape> BinShape for Struct<F> {
     type Values = F::Values;
 
     ghost codec = { F.codec };
 }
 
-impl<F: BinFields> BinFields for Named<F> {
+impl<F: BinFields> BinFields for Struct<F> {
     type Values = F::Values;
 
     ghost codec = { F.codec };
@@ -91,7 +91,7 @@ impl<F: BinFields> BinFields for Named<F> {
     }
 }
 
-impl<'a, F: BinRefs<'a>> BinRefs<'a> for Named<F> {
+impl<'a, F: BinRefs<'a>> BinRefs<'a> for Struct<F> {
     type Values = F::Values;
 
     type Refs = F::Refs;
@@ -105,13 +105,13 @@ impl<'a, F: BinRefs<'a>> BinRefs<'a> for Named<F> {
     }
 }
 
-impl<P: BinCodec> BinShape for Tupled<P> {
+impl<P: BinCodec> BinShape for Tuple<P> {
     type Values = P;
 
     ghost codec = { P.bin };
 }
 
-impl<P: DeBin> BinFields for Tupled<P> {
+impl<P: DeBin> BinFields for Tuple<P> {
     type Values = P;
 
     ghost codec = { P.bin };
@@ -123,7 +123,7 @@ impl<P: DeBin> BinFields for Tupled<P> {
     fn discard(_values: P) {}
 }
 
-impl<'a, A: SerBin + 'a, B: SerBin + 'a> BinRefs<'a> for Tupled<(A, B)> {
+impl<'a, A: SerBin + 'a, B: SerBin + 'a> BinRefs<'a> for Tuple<(A, B)> {
     type Values = (A, B);
 
     type Refs = (&'a A, &'a B);
@@ -139,7 +139,7 @@ impl<'a, A: SerBin + 'a, B: SerBin + 'a> BinRefs<'a> for Tupled<(A, B)> {
     }
 }
 
-impl<'a, A: SerBin + 'a, B: SerBin + 'a, C: SerBin + 'a> BinRefs<'a> for Tupled<(A, B, C)> {
+impl<'a, A: SerBin + 'a, B: SerBin + 'a, C: SerBin + 'a> BinRefs<'a> for Tuple<(A, B, C)> {
     type Values = (A, B, C);
 
     type Refs = (&'a A, &'a B, &'a C);
@@ -161,7 +161,7 @@ impl<'a, A: SerBin + 'a, B: SerBin + 'a, C: SerBin + 'a> BinRefs<'a> for Tupled<
 }
 
 impl<'a, A: SerBin + 'a, B: SerBin + 'a, C: SerBin + 'a, D: SerBin + 'a> BinRefs<'a>
-    for Tupled<(A, B, C, D)> {
+    for Tuple<(A, B, C, D)> {
     type Values = (A, B, C, D);
 
     type Refs = (&'a A, &'a B, &'a C, &'a D);

@@ -9,7 +9,7 @@ use nano_bin::{BinCodec, DeBin, DeBinErr, SerBin};
 use nano_schema::{Defaulted, Optional, Required};
 use std::alloc::{AllocError, Global};
 
-/// Fields that stand as bytes.
+/// Fields that have an encoding as bytes.
 pub trait BinShape {
     /// Their values.
     type Values;

@@ -1,10 +1,9 @@
 -- Which alternative a document is.
-use Rattle.std.proofs.Common.{◌≡◌, ◌<◌, ◌≢◌, ℕ, ℤ, pos, inl, inr, refl, sym, ◌∙◌, ap}
+use Rattle.std.proofs.Common.{◌≡◌, ℕ, ℤ, pos, inl, inr, sym, ◌∙◌, ap}
 use Rattle.nano_document.specs.Documents.{IsNumber}
 use Rattle.nano_document.specs.declared.json.Json as J
 use Rattle.nano_document.specs.declared.json.Json.{Json}
 use Rattle.nano_document.specs.declared.json.Json.TheOpen as O
-use Rattle.nano_document.specs.declared.json.Json.TheOpen.{Json-F}
 use Rattle.nano_document.specs.declared.json.Json.TheViews.{out-Json}
 use Rattle.nano_document.proofs.Documents.{out-U64, out-I64}
 

@@ -2,10 +2,10 @@
 use Rattle.std.proofs.Common.{◌<◌, ℕ, zero, suc, List, [], ◌∷◌, String, Global}
 use Rattle.std.specs.List.{AllByRecursion}
 use Rattle.nano_json.specs.Codec.{Codec}
-use Rattle.nano_levels.specs.Kinds.{Tagged, codecs_at}
+use Rattle.nano_levels.specs.Kinds.{codecs_at}
 use Rattle.nano_levels.proofs.LevelsLaws.{below_is_sound}
 use Rattle.nano_document.specs.Documents.{Fields, depth, most_levels}
-use Rattle.nano_document.specs.DocumentCodecs.{layers, json_layer, json_nested, json_codec}
+use Rattle.nano_document.specs.DocumentCodecs.{layers, json_nested, json_codec}
 use Rattle.nano_document.specs.declared.json.Json.{Json}
 
 entries_sound : (f : Codec Json) (es : List (String Global × Json)) → AllByRecursion (λ e. f.sound e.1) es

@@ -1,11 +1,10 @@
 -- The codec of documents: one level of it around the levels below.
-use Rattle.std.specs.Prelude.{◌≡◌, ℕ, zero, suc, ◌<◌, ℤ, Some, refl, List, [], ◌∷◌, map, String}
+use Rattle.std.specs.Prelude.{◌≡◌, ℕ, zero, suc, ℤ, Some, refl, List, [], ◌∷◌, map, String}
 use Rattle.std.specs.Prelude.{string_bytes}
 use Rattle.std.specs.Global.{Global}
 use Rattle.std.proofs.Common.{◌∙◌, ap}
 use Rattle.nano_value.specs.Meaning.{Meaning, listed}
 use Rattle.nano_meaning.specs.Sums.{tagged}
-use Rattle.nano_grammar.specs.Codec.{Encoding as EncodingOf}
 use Rattle.nano_grammar.proofs.ListsLaws.{list_of}
 use Rattle.nano_grammar.proofs.PairsLaws.{and_then}
 use Rattle.nano_json_tokens.specs.Token.{blocks, curlies}
@@ -17,7 +16,7 @@ use Rattle.nano_json.specs.ScalarCodecs.{boolean_codec, unit_codec}
 use Rattle.nano_json.specs.Codec.{Codec, codec_as}
 use Rattle.nano_json.specs.Codec.{Encoding}
 use Rattle.nano_json.specs.ScalarCodecs.{text_codec}
-use Rattle.nano_levels.specs.Kinds.{kind_of, Tagged, AreKinds, codecs_at}
+use Rattle.nano_levels.specs.Kinds.{kind_of, Tagged, AreKinds}
 use Rattle.nano_levels.specs.Layers.{Layer, Nested, greatest}
 use Rattle.nano_levels.proofs.KindsLaws.{no_content, kinds_layer}
 use Rattle.nano_levels.proofs.LayersLaws.{itself_layer, other_layer, list_layer, next_layer}

@@ -1,5 +1,5 @@
 -- Equality of documents is an equivalence, since it decides whether they mean the same.
-use Rattle.std.specs.Prelude.{◌≡◌, true, ◌&&◌}
+use Rattle.std.specs.Prelude.{◌≡◌, true}
 use Rattle.std.specs.Bool.{Decides}
 use Rattle.std.specs.Cmp.{IsPartialEquivalence, IsEquivalence, decided}
 use Rattle.std.proofs.Common.{refl, sym, ap, ◌∙◌, true≢false}

@@ -44,7 +44,10 @@ spaces_are_space (suc d) = (refl, (refl, spaces_are_space d))
 pub spaces_written : (d : ℕ) → IsWrittenGap json (spaces d)
 spaces_written zero = no_gap_written
 spaces_written (suc d) =
-    record { is_gap = spaces_are_space (suc d); textual = (refl, (refl, (spaces_written d).textual)) }
+    record {
+      is_gap = spaces_are_space (suc d);
+      textual = (refl, (refl, (spaces_written d).textual));
+    }
 
 pub line_written : (d : ℕ) → IsWrittenGap json (line d)
 line_written d = record {
@@ -241,8 +244,10 @@ entry_text d e = with_punctuator 58 (32 ∷ []) (string_codec.canonical.text d) 
 
 abbrev pub items_text : ℕ → List Json → List ℕ
 items_text d [] = codes "[]"
-items_text d (x ∷ xs) = laid_out false (lines d) block_punctuation (indented (saturating_next d)) (x ∷ xs)
+items_text d (x ∷ xs) =
+    laid_out false (lines d) block_punctuation (indented (saturating_next d)) (x ∷ xs)
 
 abbrev pub entries_text : ℕ → List (String Global × Json) → List ℕ
 entries_text d [] = codes "{}"
-entries_text d (e ∷ es) = laid_out false (lines d) curly_punctuation (entry_text (saturating_next d)) (e ∷ es)
+entries_text d (e ∷ es) =
+    laid_out false (lines d) curly_punctuation (entry_text (saturating_next d)) (e ∷ es)

@@ -1,5 +1,5 @@
 -- Whole numbers in the range of `i64` or of `u64`, with a minus sign or without.
-use Rattle.std.specs.Prelude.{◌<◌, ◌^◌, ℕ, ℤ, pos, negsuc, FitsSigned, [], ◌∷◌}
+use Rattle.std.specs.Prelude.{◌<◌, ◌^◌, ℤ, pos, negsuc, FitsSigned, [], ◌∷◌}
 use Rattle.std.specs.Fmt.{signed_decimal}
 use Rattle.std.specs.Int.{w64}
 use Rattle.nano_value.specs.Meaning.{number}

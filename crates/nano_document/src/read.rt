@@ -1,4 +1,6 @@
 //! Reads documents.
+//!
+//! On an error, a reader here may leave the state at any position, unless it says where.
 
 ghost use Rattle.std.specs.Prelude.{◌≡◌, map};
 ghost use Rattle.nano_value.specs.Meaning.{number, listed};
@@ -27,7 +29,7 @@ fn signed(value: i64) -> Json
     }
 }
 
-/// Reads a document of at most so many levels. On error, the state may be anywhere.
+/// Reads a document of at most so many levels.
 #[cycle(read)]
 fn read_json(
     alloc: Global,
@@ -65,8 +67,7 @@ fn read_json(
     }
 }
 
-/// Reads documents between square brackets, each of at most so many levels. On error, the state
-/// may be anywhere.
+/// Reads documents between square brackets, each of at most so many levels.
 #[cycle(read)]
 fn read_items(
     alloc: Global,
@@ -92,8 +93,7 @@ fn read_items(
     Ok(items)
 }
 
-/// Reads names with their documents between braces, each of at most so many levels. On error, the
-/// state may be anywhere.
+/// Reads names with their documents between braces, each of at most so many levels.
 #[cycle(read)]
 fn read_entries(
     alloc: Global,

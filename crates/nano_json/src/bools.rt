@@ -1,6 +1,8 @@
 //! Booleans and the unit: one word each.
 //! The readers are inlined, so a value that is read passes through no result with space for an
 //! error.
+//!
+//! On an error, a reader here may leave the state at any position, unless it says where.
 
 ghost use Rattle.nano_value.specs.Meaning.{truth, nothing};
 ghost use Rattle.nano_meaning.proofs.AgreesLaws.{agreed};
@@ -27,7 +29,7 @@ impl SerJson for bool {
     }
 }
 
-/// Reads `true` or `false`. On error, the state may be anywhere.
+/// Reads `true` or `false`.
 #[inline(always)]
 fn read_bool(
     alloc: Global,
@@ -66,7 +68,7 @@ impl SerJson for () {
     }
 }
 
-/// Reads `null`. On error, the state may be anywhere.
+/// Reads `null`.
 #[inline(always)]
 fn read_unit(alloc: Global, state: &mut DeJsonState, input: &mut Chars<'_>) -> Result<(), DeJsonErr>
     ensures { Reads units.encodes (λ _. nothing)

@@ -1,4 +1,6 @@
 //! Boxes: each is encoded as its content.
+//!
+//! On an error, a reader here may leave the state at any position, unless it says where.
 
 ghost use Rattle.nano_meaning.proofs.AgreesLaws.{seen_agrees};
 ghost use Rattle.nano_json.specs.Codec.{codec_as};
@@ -21,7 +23,7 @@ impl<T: SerJson> SerJson for Box<T> {
     }
 }
 
-/// Reads a value into a box. On error, the state may be anywhere.
+/// Reads a value into a box.
 fn read_box<T: DeJson>(
     alloc: Global,
     state: &mut DeJsonState,

@@ -1,4 +1,6 @@
 //! Lists: items between square brackets. Vectors, linked lists, slices and arrays.
+//!
+//! On an error, a reader here may leave the state at any position, unless it says where.
 
 ghost use Rattle.std.specs.Prelude.{◌≡◌, IfOk, OnOk, OnErr, map, length};
 ghost use Rattle.nano_value.specs.Meaning.{listed};
@@ -23,7 +25,7 @@ impl<T: JsonCodec> JsonCodec for Vec<T> {
     ghost agrees = { seen_agrees (list_agrees T.agrees) (λ x. x.items) };
 }
 
-/// Reads items between square brackets into a collection. On error, the state may be anywhere.
+/// Reads items between square brackets into a collection.
 pub(crate) fn read_list<T: DeJson, C: Collect<T>>(
     alloc: Global,
     state: &mut DeJsonState,
@@ -196,7 +198,7 @@ fn read_items<T: DeJson>(
     Ok(items)
 }
 
-/// Reads the items of an array. On error, the state may be anywhere.
+/// Reads the items of an array.
 fn read_array<T: DeJson, const N: usize>(
     alloc: Global,
     state: &mut DeJsonState,

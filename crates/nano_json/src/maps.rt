@@ -1,4 +1,6 @@
 //! Maps: keys with their values between braces. They are written in the order of the keys.
+//!
+//! On an error, a reader here may leave the state at any position, unless it says where.
 
 ghost use Rattle.std.specs.Map.Iter.{deref_pair};
 ghost use Rattle.std.specs.Prelude.{OnOk, OnErr, map};
@@ -53,7 +55,7 @@ pub(crate) fn read_entries<K: DeJson, V: DeJson, C: CollectEntries<K, V>>(
     Ok(entries)
 }
 
-/// Reads a key, a colon and a value. On error, the state may be anywhere.
+/// Reads a key, a colon and a value.
 pub(crate) fn read_entry<K: DeJson, V: DeJson>(
     alloc: Global,
     state: &mut DeJsonState,

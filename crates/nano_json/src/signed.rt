@@ -1,6 +1,8 @@
 //! Signed integers: a whole number in the type's range, with or without a minus sign.
 //! The readers are inlined, so a value that is read passes through no result with space for an
 //! error.
+//!
+//! On an error, a reader here may leave the state at any position, unless it says where.
 
 ghost use Rattle.std.specs.Int.{w8, w16, w32, w64};
 ghost use Rattle.nano_value.specs.Meaning.{number};
@@ -31,8 +33,7 @@ trait Signed: Sized {
         ensures { value result ≡ number };
 }
 
-/// Reads a whole number, with or without a minus sign, from `min` to `max`. On error, the state
-/// may be anywhere.
+/// Reads a whole number, with or without a minus sign, from `min` to `max`.
 #[inline(always)]
 fn read_signed<T: Signed>(
     alloc: Global,

@@ -1,6 +1,8 @@
 //! Texts: a string.
 //! The readers are inlined, so a value that is read passes through no result with space for an
 //! error.
+//!
+//! On an error, a reader here may leave the state at any position, unless it says where.
 
 ghost use Rattle.std.specs.Prelude.{string_bytes};
 ghost use Rattle.nano_value.specs.Meaning.{text};
@@ -26,7 +28,7 @@ impl SerJson for String {
     }
 }
 
-/// Reads a string. On error, the state may be anywhere.
+/// Reads a string.
 #[inline(always)]
 fn read_string(
     alloc: Global,

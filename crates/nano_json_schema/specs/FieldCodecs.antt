@@ -68,7 +68,7 @@ pub ascii_names : {names : List (List ℕ)} → are_ascii_names names ≡ true
     → AreNames json_fields names
 ascii_names {names} h = record { each = each_ascii names h }
 
--- ==== parts of structs without names
+-- ==== parts of tuple structs
 
 abbrev pub u8_codec : Codec ℕ
 u8_codec = unsigned_codec 8 below_8

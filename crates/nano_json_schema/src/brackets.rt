@@ -1,4 +1,6 @@
 //! One part between square brackets.
+//!
+//! On an error, a reader here may leave the state at any position, unless it says where.
 
 ghost use Rattle.std.specs.Prelude.{◌∷◌, ◌++◌, [], OnOk, OnErr};
 ghost use Rattle.nano_meaning.proofs.AgreesLaws.{seen_agrees};
@@ -64,8 +66,7 @@ impl<T: SerJson> SerJson for InBrackets<T> {
     }
 }
 
-/// Reads a value and the closing bracket after it. On an error, the state may be at any
-/// position.
+/// Reads a value and the closing bracket after it.
 fn read_last<T: DeJson>(
     alloc: Global,
     state: &mut DeJsonState,
@@ -80,7 +81,7 @@ fn read_last<T: DeJson>(
     Ok(last)
 }
 
-/// Reads a value between square brackets. On an error, the state may be at any position.
+/// Reads a value between square brackets.
 fn read_brackets<T: DeJson>(
     alloc: Global,
     state: &mut DeJsonState,

@@ -17,7 +17,7 @@ use crate::part::Part;
 use crate::variant_writer::{write_fields_variant, write_unit_variant, write_variant};
 use crate::variants::{read_content, read_fields_content};
 use nano_json::{DeJson, DeJsonErr, DeJsonState, JsonCodec, SerJson, SerJsonState};
-use nano_schema::{Alone, Named, OnePart};
+use nano_schema::{Newtype, Struct, Unit};
 use std::alloc::{AllocError, Global};
 use std::str::Chars;
 
@@ -89,13 +89,13 @@ pub trait WriteContent<'a> {
 
 // ---- no content
 
-impl JsonContent for Alone {
+impl JsonContent for Unit {
     type Values = ();
 
     ghost content = { no_content };
 }
 
-impl ReadContent for Alone {
+impl ReadContent for Unit {
     type Values = ();
 
     ghost content = { no_content };
@@ -115,7 +115,7 @@ impl ReadContent for Alone {
     }
 }
 
-impl<'a> WriteContent<'a> for Alone {
+impl<'a> WriteContent<'a> for Unit {
     type Values = ();
 
     type Refs = ();
@@ -137,13 +137,13 @@ impl<'a> WriteContent<'a> for Alone {
 
 // ---- one part
 
-impl<T: JsonCodec> JsonContent for OnePart<T> {
+impl<T: JsonCodec> JsonContent for Newtype<T> {
     type Values = T;
 
     ghost content = { content_as (single_codec T.json) };
 }
 
-impl<T: DeJson> ReadContent for OnePart<T> {
+impl<T: DeJson> ReadContent for Newtype<T> {
     type Values = T;
 
     ghost content = { content_as (single_codec T.json) };
@@ -162,7 +162,7 @@ impl<T: DeJson> ReadContent for OnePart<T> {
     }
 }
 
-impl<'a, T: SerJson + 'a> WriteContent<'a> for OnePart<T> {
+impl<'a, T: SerJson + 'a> WriteContent<'a> for Newtype<T> {
     type Values = T;
 
     type Refs = &'a T;
@@ -187,13 +187,13 @@ impl<'a, T: SerJson + 'a> WriteContent<'a> for OnePart<T> {
 
 // ---- named fields
 
-impl<F: JsonShape> JsonContent for Named<F> {
+impl<F: JsonShape> JsonContent for Struct<F> {
     type Values = F::Values;
 
     ghost content = { fields_content F.codec };
 }
 
-impl<F: JsonFields> ReadContent for Named<F> {
+impl<F: JsonFields> ReadContent for Struct<F> {
     type Values = F::Values;
 
     ghost content = { fields_content F.codec };
@@ -213,7 +213,7 @@ impl<F: JsonFields> ReadContent for Named<F> {
     }
 }
 
-impl<'a, F: JsonRefs<'a>> WriteContent<'a> for Named<F> {
+impl<'a, F: JsonRefs<'a>> WriteContent<'a> for Struct<F> {
     type Values = F::Values;
 
     type Refs = F::Refs;

@@ -1,4 +1,6 @@
 //! The name of a field, taken in place where it can be, or pending.
+//!
+//! On an error, a reader here may leave the state at any position, unless it says where.
 
 ghost use Rattle.std.specs.Prelude.{◌≡◌, ◌≢◌, [], ◌∷◌, true, false, None, string_bytes};
 ghost use Rattle.std.specs.declared.str.Chars.{Chars};
@@ -17,8 +19,7 @@ use std::alloc::Global;
 use std::mem;
 use std::str::Chars;
 
-/// Takes the opening bracket, and the name after it if it can be taken in place. On an error,
-/// the state may be at any position.
+/// Takes the opening bracket, and the name after it if it can be taken in place.
 pub(crate) fn open_fields<'a>(
     alloc: Global,
     state: &mut DeJsonState,
@@ -37,7 +38,7 @@ pub(crate) fn open_fields<'a>(
 }
 
 /// Takes the comma after a field, and the name after it if it can be taken in place; or nothing
-/// where the closing bracket is pending. On an error, the state may be at any position.
+/// where the closing bracket is pending.
 pub(crate) fn next_field<'a>(
     alloc: Global,
     state: &mut DeJsonState,
@@ -72,8 +73,7 @@ fn name_after<'a>(
     None
 }
 
-/// Takes the pending name and the colon after it, and moves the name to `name`. On an error, the
-/// state may be at any position.
+/// Takes the pending name and the colon after it, and moves the name to `name`.
 pub(crate) fn take_name(
     name: &mut String,
     alloc: Global,

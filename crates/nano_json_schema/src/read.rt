@@ -1,4 +1,6 @@
 //! Named fields between braces.
+//!
+//! On an error, a reader here may leave the state at any position, unless it says where.
 
 ghost use Rattle.std.specs.Prelude.{◌≡◌, [], None};
 ghost use Rattle.nano_json.specs.Outcomes.{position, Reads, ReadsOrEnds};
@@ -35,7 +37,7 @@ pub fn read_fields<F: JsonFields>(
     end_on_error(state, read)
 }
 
-/// Reads named fields between braces. On an error, the state may be at any position.
+/// Reads named fields between braces.
 fn read_values<F: JsonFields>(
     alloc: Global,
     state: &mut DeJsonState,
@@ -55,7 +57,6 @@ fn read_values<F: JsonFields>(
 }
 
 /// Reads the fields between braces into the slots, in place of earlier ones of their names.
-/// On an error, the state may be at any position.
 fn read_list<F: JsonFields>(
     slots: &mut F::Slots,
     alloc: Global,
@@ -76,7 +77,7 @@ fn read_list<F: JsonFields>(
 }
 
 /// Reads a field, whose name is taken in place or pending, or skips it where the name is not
-/// known. On an error, the state may be at any position.
+/// known.
 fn read_any<F: JsonFields>(
     name: Option<&str>,
     moved: &mut String,
@@ -95,7 +96,7 @@ fn read_any<F: JsonFields>(
 }
 
 /// Takes the colon after the name of a field, which is taken in place or pending, and answers the
-/// name. On an error, the state may be at any position.
+/// name.
 #[inline(always)]
 fn take_colon<'n>(
     name: Option<&'n str>,
@@ -120,8 +121,7 @@ fn take_colon<'n>(
     }
 }
 
-/// Reads the value after this name, or skips it where the name is not known. On an error, the
-/// state may be at any position.
+/// Reads the value after this name, or skips it where the name is not known.
 fn read_named<F: JsonFields>(
     name: &str,
     slots: &mut F::Slots,

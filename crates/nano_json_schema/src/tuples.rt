@@ -7,17 +7,17 @@ use crate::part::Part;
 use crate::variant_writer::write_variant;
 use crate::variants::read_content;
 use nano_json::{DeJson, DeJsonErr, DeJsonState, JsonCodec, SerJson, SerJsonState};
-use nano_schema::Tupled;
+use nano_schema::Tuple;
 use std::alloc::{AllocError, Global};
 use std::str::Chars;
 
-impl<P: JsonCodec> JsonContent for Tupled<P> {
+impl<P: JsonCodec> JsonContent for Tuple<P> {
     type Values = P;
 
     ghost content = { content_as P.json };
 }
 
-impl<P: DeJson> ReadContent for Tupled<P> {
+impl<P: DeJson> ReadContent for Tuple<P> {
     type Values = P;
 
     ghost content = { content_as P.json };
@@ -33,7 +33,7 @@ impl<P: DeJson> ReadContent for Tupled<P> {
     }
 }
 
-impl<'a, A: SerJson + 'a, B: SerJson + 'a> WriteContent<'a> for Tupled<(A, B)> {
+impl<'a, A: SerJson + 'a, B: SerJson + 'a> WriteContent<'a> for Tuple<(A, B)> {
     type Values = (A, B);
 
     type Refs = (&'a A, &'a B);
@@ -54,7 +54,7 @@ impl<'a, A: SerJson + 'a, B: SerJson + 'a> WriteContent<'a> for Tupled<(A, B)> {
     }
 }
 
-impl<'a, A: SerJson + 'a, B: SerJson + 'a, C: SerJson + 'a> WriteContent<'a> for Tupled<(A, B, C)> {
+impl<'a, A: SerJson + 'a, B: SerJson + 'a, C: SerJson + 'a> WriteContent<'a> for Tuple<(A, B, C)> {
     type Values = (A, B, C);
 
     type Refs = (&'a A, &'a B, &'a C);
@@ -80,7 +80,7 @@ impl<'a, A: SerJson + 'a, B: SerJson + 'a, C: SerJson + 'a> WriteContent<'a> for
 }
 
 impl<'a, A: SerJson + 'a, B: SerJson + 'a, C: SerJson + 'a, D: SerJson + 'a> WriteContent<'a>
-    for Tupled<(A, B, C, D)> {
+    for Tuple<(A, B, C, D)> {
     type Values = (A, B, C, D);
 
     type Refs = (&'a A, &'a B, &'a C, &'a D);

@@ -1,4 +1,6 @@
 //! The variants of enums, read: a name, and between braces a name with its content.
+//!
+//! On an error, a reader here may leave the state at any position, unless it says where.
 
 ghost use Rattle.std.specs.Prelude.{◌∷◌, [], string_bytes};
 ghost use Rattle.nano_grammar.specs.Faults.{AreTokens};
@@ -41,8 +43,7 @@ pub fn read_variant_name(
     end_on_error(state, read)
 }
 
-/// Takes the name that the value of an enum begins with. On an error, the state may be at any
-/// position.
+/// Takes the name that the value of an enum begins with.
 fn read_name(
     alloc: Global,
     state: &mut DeJsonState,
@@ -58,7 +59,7 @@ fn read_name(
     }
 }
 
-/// Takes the pending string. On an error, the state may be at any position.
+/// Takes the pending string.
 fn read_alone(
     alloc: Global,
     state: &mut DeJsonState,
@@ -72,7 +73,7 @@ fn read_alone(
     Ok(VariantName::Unit(name))
 }
 
-/// Takes the pending `{`, a string and a colon. On an error, the state may be at any position.
+/// Takes the pending `{`, a string and a colon.
 fn read_opened(
     alloc: Global,
     state: &mut DeJsonState,
@@ -86,7 +87,7 @@ fn read_opened(
     Ok(VariantName::Content(name))
 }
 
-/// Takes a string and a colon. On an error, the state may be at any position.
+/// Takes a string and a colon.
 fn read_key(
     alloc: Global,
     state: &mut DeJsonState,

@@ -1,5 +1,6 @@
 -- What is left of a stream of lines.
-use Rattle.std.specs.Prelude.{◌≡◌, ◌<◌, ◌≤◌, ◌-◌, ◌+◌, ◌⊎◌, true, false, ℕ, List, [], ◌∷◌, ◌++◌, Option, Some}
+use Rattle.std.specs.Prelude.{◌≡◌, ◌<◌, ◌≤◌, ◌-◌, ◌+◌, ◌⊎◌, true, false, ℕ}
+use Rattle.std.specs.Prelude.{List, [], ◌∷◌, ◌++◌, Option, Some}
 use Rattle.std.specs.Prelude.{length, drop}
 use Rattle.std.specs.Io.KnownBytes.{IsAtEnd}
 use Rattle.nano_text.specs.Characters.{line_feed}

@@ -1,8 +1,8 @@
 //! Values written, each as a line.
 
-ghost use Rattle.std.specs.Prelude.{◌≡◌, IfOk, IfErr, OnOk, string_bytes};
+ghost use Rattle.std.specs.Prelude.{IfOk, IfErr, OnOk};
 ghost use Rattle.std.specs.Io.KnownBytes.{Appends};
-ghost use Rattle.nano_lines.specs.Writes.{line_of, AppendsLine, IsLineText, PutFails, IsNotMade};
+ghost use Rattle.nano_lines.specs.Writes.{AppendsLine, IsLineText, PutFails, IsNotMade};
 ghost use Rattle.nano_lines.specs.Writes.{WriteStops};
 
 use crate::error::Fault;

@@ -5,7 +5,7 @@ use Rattle.std.proofs.lemmas.Bool.{and_parts}
 use Rattle.nano_grammar.specs.FieldCodec.{FieldsCodec}
 use Rattle.nano_grammar.specs.Fields.{are_distinct}
 use Rattle.nano_ron.specs.Codec.{Codec}
--- what a struct without names needs, passed on
+-- what a tuple struct needs, passed on
 pub use Rattle.nano_ron.specs.Codec.{codec_as}
 use Rattle.nano_ron_schema.specs.FieldCodecs.{ron_fields, word_names, fields_codec}
 use Rattle.nano_ron_tokens.specs.Names.{are_names}

@@ -1,4 +1,6 @@
 //! One part between parentheses.
+//!
+//! On an error, a reader here may leave the state at any position, unless it says where.
 
 ghost use Rattle.std.specs.Prelude.{◌∷◌, ◌++◌, [], OnOk, OnErr};
 ghost use Rattle.nano_text.specs.Outcomes.{Appends, AppendsPart};
@@ -62,8 +64,7 @@ impl<T: SerRon> SerRon for InBrackets<T> {
     }
 }
 
-/// Reads a value and the closing parenthesis after it. On an error, the state may be at any
-/// position.
+/// Reads a value and the closing parenthesis after it.
 fn read_last<T: DeRon>(
     alloc: Global,
     state: &mut DeRonState,
@@ -78,7 +79,7 @@ fn read_last<T: DeRon>(
     Ok(last)
 }
 
-/// Reads a value between parentheses. On an error, the state may be at any position.
+/// Reads a value between parentheses.
 fn read_brackets<T: DeRon>(
     alloc: Global,
     state: &mut DeRonState,

@@ -15,7 +15,7 @@ use crate::part::Part;
 use crate::variant_writer::{write_fields_variant, write_unit_variant, write_variant};
 use crate::variants::{read_content, read_fields_content};
 use nano_ron::{DeRon, DeRonErr, DeRonState, RonCodec, SerRon, SerRonState};
-use nano_schema::{Alone, Named, OnePart};
+use nano_schema::{Newtype, Struct, Unit};
 use std::alloc::{AllocError, Global};
 use std::str::Chars;
 
@@ -87,13 +87,13 @@ pub trait WriteContent<'a> {
 
 // ---- no content
 
-impl RonContent for Alone {
+impl RonContent for Unit {
     type Values = ();
 
     ghost content = { no_content };
 }
 
-impl ReadContent for Alone {
+impl ReadContent for Unit {
     type Values = ();
 
     ghost content = { no_content };
@@ -113,7 +113,7 @@ impl ReadContent for Alone {
     }
 }
 
-impl<'a> WriteContent<'a> for Alone {
+impl<'a> WriteContent<'a> for Unit {
     type Values = ();
 
     type Refs = ();
@@ -135,13 +135,13 @@ impl<'a> WriteContent<'a> for Alone {
 
 // ---- one part
 
-impl<T: RonCodec> RonContent for OnePart<T> {
+impl<T: RonCodec> RonContent for Newtype<T> {
     type Values = T;
 
     ghost content = { content_as (single_codec T.ron) (λ x d. refl) };
 }
 
-impl<T: DeRon> ReadContent for OnePart<T> {
+impl<T: DeRon> ReadContent for Newtype<T> {
     type Values = T;
 
     ghost content = { content_as (single_codec T.ron) (λ x d. refl) };
@@ -160,7 +160,7 @@ impl<T: DeRon> ReadContent for OnePart<T> {
     }
 }
 
-impl<'a, T: SerRon + 'a> WriteContent<'a> for OnePart<T> {
+impl<'a, T: SerRon + 'a> WriteContent<'a> for Newtype<T> {
     type Values = T;
 
     type Refs = &'a T;
@@ -185,13 +185,13 @@ impl<'a, T: SerRon + 'a> WriteContent<'a> for OnePart<T> {
 
 // ---- named fields
 
-impl<F: RonShape> RonContent for Named<F> {
+impl<F: RonShape> RonContent for Struct<F> {
     type Values = F::Values;
 
     ghost content = { fields_content F.codec };
 }
 
-impl<F: RonFields> ReadContent for Named<F> {
+impl<F: RonFields> ReadContent for Struct<F> {
     type Values = F::Values;
 
     ghost content = { fields_content F.codec };
@@ -211,7 +211,7 @@ impl<F: RonFields> ReadContent for Named<F> {
     }
 }
 
-impl<'a, F: RonRefs<'a>> WriteContent<'a> for Named<F> {
+impl<'a, F: RonRefs<'a>> WriteContent<'a> for Struct<F> {
     type Values = F::Values;
 
     type Refs = F::Refs;

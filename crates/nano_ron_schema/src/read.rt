@@ -1,4 +1,6 @@
 //! Named fields between parentheses.
+//!
+//! On an error, a reader here may leave the state at any position, unless it says where.
 
 ghost use Rattle.std.specs.Prelude.{◌≡◌, [], string_bytes};
 ghost use Rattle.nano_ron.specs.Outcomes.{position, Reads, ReadsOrEnds};
@@ -33,7 +35,7 @@ pub fn read_fields<F: RonFields>(
     end_on_error(state, read)
 }
 
-/// Reads named fields between parentheses. On an error, the state may be anywhere.
+/// Reads named fields between parentheses.
 fn read_values<F: RonFields>(
     alloc: Global,
     state: &mut DeRonState,
@@ -53,7 +55,6 @@ fn read_values<F: RonFields>(
 }
 
 /// Reads the fields between parentheses into the slots, in place of earlier ones of their names.
-/// On an error, the state may be anywhere.
 fn read_list<F: RonFields>(
     slots: &mut F::Slots,
     alloc: Global,
@@ -73,8 +74,7 @@ fn read_list<F: RonFields>(
 }
 
 /// Reads the field whose name is pending. It is rejected if the name is not known. The name is
-/// compared where it is in the state, before the next token is taken. On an error, the state
-/// may be anywhere.
+/// compared where it is in the state, before the next token is taken.
 fn read_any<F: RonFields>(
     slots: &mut F::Slots,
     alloc: Global,
@@ -92,7 +92,7 @@ fn read_any<F: RonFields>(
     Err(state.err_exp(alloc, state.identbuf.as_str()))
 }
 
-/// Reads the pending name, a colon and a value. On an error, the state may be anywhere.
+/// Reads the pending name, a colon and a value.
 pub(crate) fn read_named<T: DeRon>(
     alloc: Global,
     state: &mut DeRonState,

@@ -9,19 +9,19 @@ use crate::part::Part;
 use crate::variant_writer::write_variant;
 use crate::variants::read_content;
 use nano_ron::{DeRon, DeRonErr, DeRonState, RonCodec, SerRon, SerRonState};
-use nano_schema::Tupled;
+use nano_schema::Tuple;
 use std::alloc::{AllocError, Global};
 use std::str::Chars;
 
 // ---- two parts
 
-impl<A: RonCodec, B: RonCodec> RonContent for Tupled<(A, B)> {
+impl<A: RonCodec, B: RonCodec> RonContent for Tuple<(A, B)> {
     type Values = (A, B);
 
     ghost content = { content_as (pair_codec A.ron B.ron) (λ x d. refl) };
 }
 
-impl<A: DeRon, B: DeRon> ReadContent for Tupled<(A, B)> {
+impl<A: DeRon, B: DeRon> ReadContent for Tuple<(A, B)> {
     type Values = (A, B);
 
     ghost content = { content_as (pair_codec A.ron B.ron) (λ x d. refl) };
@@ -41,7 +41,7 @@ impl<A: DeRon, B: DeRon> ReadContent for Tupled<(A, B)> {
     }
 }
 
-impl<'a, A: SerRon + 'a, B: SerRon + 'a> WriteContent<'a> for Tupled<(A, B)> {
+impl<'a, A: SerRon + 'a, B: SerRon + 'a> WriteContent<'a> for Tuple<(A, B)> {
     type Values = (A, B);
 
     type Refs = (&'a A, &'a B);
@@ -64,13 +64,13 @@ impl<'a, A: SerRon + 'a, B: SerRon + 'a> WriteContent<'a> for Tupled<(A, B)> {
 
 // ---- three parts
 
-impl<A: RonCodec, B: RonCodec, C: RonCodec> RonContent for Tupled<(A, B, C)> {
+impl<A: RonCodec, B: RonCodec, C: RonCodec> RonContent for Tuple<(A, B, C)> {
     type Values = (A, B, C);
 
     ghost content = { content_as (triple_codec A.ron B.ron C.ron) (λ x d. refl) };
 }
 
-impl<A: DeRon, B: DeRon, C: DeRon> ReadContent for Tupled<(A, B, C)> {
+impl<A: DeRon, B: DeRon, C: DeRon> ReadContent for Tuple<(A, B, C)> {
     type Values = (A, B, C);
 
     ghost content = { content_as (triple_codec A.ron B.ron C.ron) (λ x d. refl) };
@@ -90,7 +90,7 @@ impl<A: DeRon, B: DeRon, C: DeRon> ReadContent for Tupled<(A, B, C)> {
     }
 }
 
-impl<'a, A: SerRon + 'a, B: SerRon + 'a, C: SerRon + 'a> WriteContent<'a> for Tupled<(A, B, C)> {
+impl<'a, A: SerRon + 'a, B: SerRon + 'a, C: SerRon + 'a> WriteContent<'a> for Tuple<(A, B, C)> {
     type Values = (A, B, C);
 
     type Refs = (&'a A, &'a B, &'a C);
@@ -117,13 +117,13 @@ impl<'a, A: SerRon + 'a, B: SerRon + 'a, C: SerRon + 'a> WriteContent<'a> for Tu
 
 // ---- four parts
 
-impl<A: RonCodec, B: RonCodec, C: RonCodec, D: RonCodec> RonContent for Tupled<(A, B, C, D)> {
+impl<A: RonCodec, B: RonCodec, C: RonCodec, D: RonCodec> RonContent for Tuple<(A, B, C, D)> {
     type Values = (A, B, C, D);
 
     ghost content = { content_as (quadruple_codec A.ron B.ron C.ron D.ron) (λ x d. refl) };
 }
 
-impl<A: DeRon, B: DeRon, C: DeRon, D: DeRon> ReadContent for Tupled<(A, B, C, D)> {
+impl<A: DeRon, B: DeRon, C: DeRon, D: DeRon> ReadContent for Tuple<(A, B, C, D)> {
     type Values = (A, B, C, D);
 
     ghost content = { content_as (quadruple_codec A.ron B.ron C.ron D.ron) (λ x d. refl) };
@@ -144,7 +144,7 @@ impl<A: DeRon, B: DeRon, C: DeRon, D: DeRon> ReadContent for Tupled<(A, B, C, D)
 }
 
 impl<'a, A: SerRon + 'a, B: SerRon + 'a, C: SerRon + 'a, D: SerRon + 'a> WriteContent<'a>
-    for Tupled<(A, B, C, D)> {
+    for Tuple<(A, B, C, D)> {
     type Values = (A, B, C, D);
 
     type Refs = (&'a A, &'a B, &'a C, &'a D);

@@ -1,4 +1,6 @@
 //! The variants of enums, read: a name, with content directly after it or without.
+//!
+//! On an error, a reader here may leave the state at any position, unless it says where.
 
 ghost use Rattle.std.specs.Prelude.{string_bytes};
 ghost use Rattle.nano_ron.specs.Outcomes.{position, ReadsOrEnds};
@@ -34,7 +36,7 @@ pub fn read_variant_name(
     end_on_error(state, read)
 }
 
-/// Takes the pending word. On an error, the state may be anywhere.
+/// Takes the pending word.
 fn read_name(
     alloc: Global,
     state: &mut DeRonState,

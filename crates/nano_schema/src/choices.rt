@@ -8,7 +8,7 @@ ghost use Rattle.nano_schema.specs.Choices.{either_is, either_map};
 use crate::fields::{Borrowed, Shape};
 use std::marker::PhantomData;
 
-/// A variant, by its name and its content: `Alone`, a `OnePart`, a `Tupled`, or `Named` fields.
+/// A variant, by its name and its content: a `Unit`, a `Newtype`, a `Tuple` or a `Struct`.
 #[derive(Drop)]
 pub struct Variant<N, S> {
     /// Its name.

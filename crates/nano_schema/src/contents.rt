@@ -1,4 +1,5 @@
-//! What a variant holds: nothing, one part, a tuple of parts, or named fields.
+//! What a variant holds: nothing (a unit variant), one part (a newtype variant), a tuple of parts (a
+//! tuple variant), or named fields (a struct variant).
 
 ghost use Rattle.nano_value.specs.Meaning.{nothing, LegalUnit};
 
@@ -6,32 +7,32 @@ use crate::fields::{Borrowed, Shape};
 use nano_value::Value;
 use std::marker::PhantomData;
 
-/// No content.
+/// The content of a unit variant: none.
 #[derive(Drop)]
-pub struct Alone {}
+pub struct Unit {}
 
-/// One part without a name.
+/// The content of a newtype variant: one part.
 #[derive(Drop)]
-pub struct OnePart<T> {
+pub struct Newtype<T> {
     /// The type of its value.
     pub of: PhantomData<T>,
 }
 
-/// Two, three or four parts without names, one after the other: `P` is their tuple.
+/// The content of a tuple variant: two, three or four parts, one after the other. `P` is their tuple.
 #[derive(Drop)]
-pub struct Tupled<P> {
+pub struct Tuple<P> {
     /// The type of the tuple.
     pub of: PhantomData<P>,
 }
 
-/// Named fields, as those of a struct.
+/// The content of a struct variant: named fields, as those of a struct.
 #[derive(Drop)]
-pub struct Named<F> {
+pub struct Struct<F> {
     /// The fields.
     pub of: PhantomData<F>,
 }
 
-impl Shape for Alone {
+impl Shape for Unit {
     type Values = ();
 
     ghost means = { λ v. nothing };
@@ -39,7 +40,7 @@ impl Shape for Alone {
     ghost legal = { LegalUnit };
 }
 
-impl<'a> Borrowed<'a> for Alone {
+impl<'a> Borrowed<'a> for Unit {
     type Values = ();
 
     type Refs = ();
@@ -53,7 +54,7 @@ impl<'a> Borrowed<'a> for Alone {
     fn known(_refs: &()) {}
 }
 
-impl<T: Value> Shape for OnePart<T> {
+impl<T: Value> Shape for Newtype<T> {
     type Values = T;
 
     ghost means = { T.means };
@@ -61,7 +62,7 @@ impl<T: Value> Shape for OnePart<T> {
     ghost legal = { T.legal };
 }
 
-impl<'a, T: Value + 'a> Borrowed<'a> for OnePart<T> {
+impl<'a, T: Value + 'a> Borrowed<'a> for Newtype<T> {
     type Values = T;
 
     type Refs = &'a T;
@@ -77,7 +78,7 @@ impl<'a, T: Value + 'a> Borrowed<'a> for OnePart<T> {
     }
 }
 
-impl<F: Shape> Shape for Named<F> {
+impl<F: Shape> Shape for Struct<F> {
     type Values = F::Values;
 
     ghost means = { F.means };
@@ -85,7 +86,7 @@ impl<F: Shape> Shape for Named<F> {
     ghost legal = { F.legal };
 }
 
-impl<'a, F: Borrowed<'a>> Borrowed<'a> for Named<F> {
+impl<'a, F: Borrowed<'a>> Borrowed<'a> for Struct<F> {
     type Values = F::Values;
 
     type Refs = F::Refs;
@@ -101,7 +102,7 @@ impl<'a, F: Borrowed<'a>> Borrowed<'a> for Named<F> {
     }
 }
 
-impl<P: Value> Shape for Tupled<P> {
+impl<P: Value> Shape for Tuple<P> {
     type Values = P;
 
     ghost means = { P.means };
@@ -109,7 +110,7 @@ impl<P: Value> Shape for Tupled<P> {
     ghost legal = { P.legal };
 }
 
-impl<'a, A: Value + 'a, B: Value + 'a> Borrowed<'a> for Tupled<(A, B)> {
+impl<'a, A: Value + 'a, B: Value + 'a> Borrowed<'a> for Tuple<(A, B)> {
     type Values = (A, B);
 
     type Refs = (&'a A, &'a B);
@@ -127,7 +128,7 @@ impl<'a, A: Value + 'a, B: Value + 'a> Borrowed<'a> for Tupled<(A, B)> {
     }
 }
 
-impl<'a, A: Value + 'a, B: Value + 'a, C: Value + 'a> Borrowed<'a> for Tupled<(A, B, C)> {
+impl<'a, A: Value + 'a, B: Value + 'a, C: Value + 'a> Borrowed<'a> for Tuple<(A, B, C)> {
     type Values = (A, B, C);
 
     type Refs = (&'a A, &'a B, &'a C);
@@ -147,7 +148,7 @@ impl<'a, A: Value + 'a, B: Value + 'a, C: Value + 'a> Borrowed<'a> for Tupled<(A
 }
 
 impl<'a, A: Value + 'a, B: Value + 'a, C: Value + 'a, D: Value + 'a> Borrowed<'a>
-    for Tupled<(A, B, C, D)> {
+    for Tuple<(A, B, C, D)> {
     type Values = (A, B, C, D);
 
     type Refs = (&'a A, &'a B, &'a C, &'a D);

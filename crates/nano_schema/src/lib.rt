@@ -17,7 +17,7 @@ mod record;
 
 pub use choice::{EnumSchema, VariantRefs, known_variant};
 pub use choices::{BorrowedChoices, Choices, Either, Variant};
-pub use contents::{Alone, Named, OnePart, Tupled};
+pub use contents::{Newtype, Struct, Tuple, Unit};
 pub use defaults::{DefaultOf, TypeDefault};
 pub use fields::{Borrowed, Defaulted, Optional, Required, Shape};
 pub use labels::Label;

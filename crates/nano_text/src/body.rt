@@ -54,7 +54,7 @@ struct LineRun {
     columns: usize,
 }
 
-/// Measures the bytes before the first that is odd.
+/// Measures the bytes before the first that does not stand for itself in its line.
 #[inline(always)]
 fn line_run(bytes: &[u8]) -> LineRun
     ensures len { result.len ≡ length (prefix is_plain_in_line bytes.now) }

@@ -80,14 +80,14 @@ fn error_at(input: &str, reader: &Reader, fault: Fault) -> TomlErr
 impl TomlParser {
     /// The table that a text encodes.
     ///
-    /// It is answered exactly where the text, before its first NUL, is a list of lawful statements:
+    /// It succeeds exactly if the text, before its first NUL, encodes valid statements:
     /// `[name]`, `[[key]]` and `name = value`, with nothing between them but white space and
     /// comments. An array at the very end of the text may lack its closing brackets.
     ///
     /// A pair stands under its name, or `scope.name` after a header `[scope]`. Of a key that
     /// stands twice the last value counts. Each header `[[key]]` adds a table to the `Array` at its
     /// key, which has the pairs after the header, up to the next one; the scope remains. A header
-    /// `[[key]]` on a key that a pair gave is not lawful.
+    /// `[[key]]` on a key that a pair gave is not valid.
     ///
     /// # Errors
     ///

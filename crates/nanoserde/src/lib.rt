@@ -37,8 +37,8 @@ pub use nano_ron_schema::{
     read_record_ron, write_choice_ron, write_record_ron,
 };
 pub use nano_schema::{
-    Alone, Borrowed, BorrowedChoices, Choices, Either, EnumSchema, FieldRefs, Label, Named,
-    OnePart, Optional, Required, Shape, StructSchema, Tupled, Variant, VariantRefs, known_record,
+    Borrowed, BorrowedChoices, Choices, Either, EnumSchema, FieldRefs, Label, Newtype, Optional,
+    Required, Shape, Struct, StructSchema, Tuple, Unit, Variant, VariantRefs, known_record,
     known_variant,
 };
 pub use nano_toml::{Toml, TomlErr, TomlParser, TomlTok, laws as toml_laws};

@@ -7,7 +7,7 @@ struct A(u8, u16);
 =>
 type AValues = (u8, u16);
 
-type AFields = nano_schema::Tupled<AValues>;
+type AFields = nano_schema::Tuple<AValues>;
 =>
     ghost view = { λ x. (x.0, x.1) };
 =>
@@ -61,7 +61,7 @@ type ABParts<T, U> = (T, U);
 =>
 type ADParts<U> = U;
 =>
-type AVariants4 = nano_schema::Variant<AE, nano_schema::Alone>;
+type AVariants4 = nano_schema::Variant<AE, nano_schema::Unit>;
 =>
 type AValues3<U> = nano_schema::Either<U, AValues4>;
 =>

@@ -16,9 +16,9 @@ use nano_ron_schema::{
 use nano_schema::Label;
 use nanoserde::records::{Choice, Item};
 use nanoserde::{
-    Alone, BinFields, BinRefs, DeBinErr, DeJsonState, DeRonState, DeRonTok, Either, FieldRefs,
-    JsonFields, JsonRefs, JsonResult, Named, Required, RonFields, RonRefs, RonResult, SerJsonState,
-    SerRonState, StructSchema, Variant, VariantRefs,
+    BinFields, BinRefs, DeBinErr, DeJsonState, DeRonState, DeRonTok, Either, FieldRefs, JsonFields,
+    JsonRefs, JsonResult, Required, RonFields, RonRefs, RonResult, SerJsonState, SerRonState,
+    Struct, StructSchema, Unit, Variant, VariantRefs,
 };
 use std::alloc::{AllocError, Global};
 use std::str::Chars;
@@ -51,7 +51,7 @@ impl Label for NoteName {
 type Field = Required<ValueName, i32>;
 
 /// Variants under the same names.
-type Variants = (Variant<ValueName, Alone>, Variant<NoteName, Named<Field>>);
+type Variants = (Variant<ValueName, Unit>, Variant<NoteName, Struct<Field>>);
 
 /// Whether an item is made of its values, and seen as them.
 fn is_item() -> bool {
@@ -71,9 +71,9 @@ fn is_alone() -> bool {
 
 /// Whether exactly the variant without content stands alone, in both texts.
 fn stand_alone() -> bool {
-    let alone = <Alone as JsonContent>::stands_alone() && <Alone as RonContent>::stands_alone();
-    let json = <Named<Field> as JsonContent>::stands_alone();
-    let ron = <Named<Field> as RonContent>::stands_alone();
+    let alone = <Unit as JsonContent>::stands_alone() && <Unit as RonContent>::stands_alone();
+    let json = <Struct<Field> as JsonContent>::stands_alone();
+    let ron = <Struct<Field> as RonContent>::stands_alone();
     let other = <Variants as RonChoices>::stands_alone(NoteName::text());
     let named = <Variants as RonChoices>::stands_alone(ValueName::text());
     alone && named && !json && !ron && !other

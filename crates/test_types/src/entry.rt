@@ -1,4 +1,4 @@
-//! A struct of four parts without names, one of which is a struct of parts too.
+//! A tuple struct of four parts, one of which is a tuple struct too.
 
 use crate::point::Point;
 
@@ -17,7 +17,7 @@ ghost use Rattle.nano_ron_schema.specs.Structs.{codec_as as ron_as};
 
 type EntryValues = (u64, Option<String>, Point, bool);
 
-type EntryFields = nano_schema::Tupled<EntryValues>;
+type EntryFields = nano_schema::Tuple<EntryValues>;
 
 impl nano_schema::StructSchema for Entry {
     type Values = EntryValues;

@@ -83,15 +83,15 @@ type EventSayParts = (
     nano_schema::Required<EventSayTimes, u32>,
 );
 
-type EventVariants3 = nano_schema::Variant<EventSay, nano_schema::Named<EventSayParts>>;
+type EventVariants3 = nano_schema::Variant<EventSay, nano_schema::Struct<EventSayParts>>;
 
 type EventVariants2 = (
-    nano_schema::Variant<EventMove, nano_schema::Tupled<EventMoveParts>>,
+    nano_schema::Variant<EventMove, nano_schema::Tuple<EventMoveParts>>,
     EventVariants3,
 );
 
 type EventVariants = (
-    nano_schema::Variant<EventStop, nano_schema::Alone>,
+    nano_schema::Variant<EventStop, nano_schema::Unit>,
     EventVariants2,
 );
 

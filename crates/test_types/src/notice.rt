@@ -108,15 +108,15 @@ type NoticeSayParts = (
     nano_schema::Defaulted<NoticeSayTimes, u32, NoticeSayTimesDefault>,
 );
 
-type NoticeVariants3 = nano_schema::Variant<NoticeSay, nano_schema::Named<NoticeSayParts>>;
+type NoticeVariants3 = nano_schema::Variant<NoticeSay, nano_schema::Struct<NoticeSayParts>>;
 
 type NoticeVariants2 = (
-    nano_schema::Variant<NoticeMove, nano_schema::Tupled<NoticeMoveParts>>,
+    nano_schema::Variant<NoticeMove, nano_schema::Tuple<NoticeMoveParts>>,
     NoticeVariants3,
 );
 
 type NoticeVariants = (
-    nano_schema::Variant<NoticeStop, nano_schema::Alone>,
+    nano_schema::Variant<NoticeStop, nano_schema::Unit>,
     NoticeVariants2,
 );
 

@@ -1,4 +1,4 @@
-//! A struct of three parts without names: in every format it is their tuple.
+//! A tuple struct of three parts: in every format it is their tuple.
 
 // nanoserde: bin json ron
 /// A point of a map, by its place and its name.
@@ -15,7 +15,7 @@ ghost use Rattle.nano_ron_schema.specs.Structs.{codec_as as ron_as};
 
 type PointValues = (i32, i32, String);
 
-type PointFields = nano_schema::Tupled<PointValues>;
+type PointFields = nano_schema::Tuple<PointValues>;
 
 impl nano_schema::StructSchema for Point {
     type Values = PointValues;

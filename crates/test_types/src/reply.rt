@@ -90,16 +90,16 @@ type ReplyListedParts<A, B> = (
 
 type ReplyVariants3<A, B> = nano_schema::Variant<
     ReplyListed,
-    nano_schema::Named<ReplyListedParts<A, B>>,
+    nano_schema::Struct<ReplyListedParts<A, B>>,
 >;
 
 type ReplyVariants2<A, B> = (
-    nano_schema::Variant<ReplyFailed, nano_schema::Tupled<ReplyFailedParts<B>>>,
+    nano_schema::Variant<ReplyFailed, nano_schema::Tuple<ReplyFailedParts<B>>>,
     ReplyVariants3<A, B>,
 );
 
 type ReplyVariants<A, B> = (
-    nano_schema::Variant<ReplyFound, nano_schema::OnePart<ReplyFoundParts<A>>>,
+    nano_schema::Variant<ReplyFound, nano_schema::Newtype<ReplyFoundParts<A>>>,
     ReplyVariants2<A, B>,
 );
 

@@ -57,15 +57,15 @@ impl nano_schema::Label for SignalLight {
 
 type SignalLightParts = (u8, u8, u8, bool);
 
-type SignalVariants3 = nano_schema::Variant<SignalLight, nano_schema::Tupled<SignalLightParts>>;
+type SignalVariants3 = nano_schema::Variant<SignalLight, nano_schema::Tuple<SignalLightParts>>;
 
 type SignalVariants2 = (
-    nano_schema::Variant<SignalMove, nano_schema::Tupled<SignalMoveParts>>,
+    nano_schema::Variant<SignalMove, nano_schema::Tuple<SignalMoveParts>>,
     SignalVariants3,
 );
 
 type SignalVariants = (
-    nano_schema::Variant<SignalWait, nano_schema::OnePart<SignalWaitParts>>,
+    nano_schema::Variant<SignalWait, nano_schema::Newtype<SignalWaitParts>>,
     SignalVariants2,
 );
 

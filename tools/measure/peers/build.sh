@@ -3,31 +3,23 @@
 #
 #     sh tools/measure/peers/build.sh SOURCES OUT LIBRARY
 #
-# SOURCES is the folder of the Rust crate nanoserde 0.1.37, as tools/oracle/build.sh takes it, and
+# SOURCES is the folder of the Rust crate nanoserde 0.1.37, as ../../upstream.sh finds it, and
 # LIBRARY the static library that `rt lib` makes of crates/bench. The other peers are Debian 12's
 # packages librust-serde-json-dev, librust-bincode-dev, librust-ron-dev, librust-toml-dev,
 # librust-serde-dev and librust-serde-derive-dev. It wants cargo.
 set -eu
 [ $# -eq 3 ] || { echo "usage: sh build.sh SOURCES OUT LIBRARY" >&2; exit 2; }
 here=$(cd "$(dirname "$0")" && pwd)
+. "$here/../../upstream.sh"
 registry=$(dpkg -L librust-serde-dev | sed -n 's|\(.*/cargo/registry\)/serde-[^/]*$|\1|p' | head -n 1)
 [ -n "$registry" ] || { echo "build.sh: the packages of the peers are not installed" >&2; exit 2; }
 mkdir -p "$2/src" "$2/.cargo"
 out=$(cd "$2" && pwd)
 library=$(cd "$(dirname "$3")" && pwd)/$(basename "$3")
 
-# source_of NAME: the path of the Rust crate's file of this name
-source_of() {
-    for path in "$sources/src/$1.rs" "$sources/$1.rs" "$sources/src_$1.rs"; do
-        [ ! -f "$path" ] || { echo "$path"; return; }
-    done
-    echo "build.sh: no $1.rs in $sources" >&2
-    exit 2
-}
-
 sources=$(cd "$1" && pwd)
 for name in serde_bin serde_json serde_ron toml; do
-    path=$(source_of "$name")
+    path=$(source_of "$sources" "$name")
     cp "$path" "$out/src/nano_$name.rs"
 done
 cp "$here"/*.rs "$out/src/"

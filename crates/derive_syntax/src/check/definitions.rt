@@ -28,7 +28,7 @@ pub(crate) fn check_definition<'a>(
     }
 }
 
-/// An error where a type is called transparent that has not one part without a name.
+/// An error where a type is called transparent that is not a newtype.
 fn check_transparent<'a>(definition: &Definition<'a>) -> Result<(), Fault> {
     let Some(word) = definition.attributes.transparent else {
         return Ok(());
@@ -84,7 +84,7 @@ fn check_attributes<'a>(
     }
 }
 
-/// An error where parts without names cannot be written.
+/// An error where a tuple struct or tuple variant cannot be written.
 fn check_parts<'a>(
     source: &Source<'a>,
     definition: &Definition<'a>,

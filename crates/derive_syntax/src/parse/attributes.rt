@@ -14,7 +14,7 @@ pub(crate) enum Below {
     Field,
     /// A variant.
     Variant,
-    /// A part without a name.
+    /// A part of a tuple struct or tuple variant.
     Part,
 }
 

@@ -72,7 +72,7 @@ fn field<'a>(
     })
 }
 
-/// Takes parts without names, from their bracket to its end: one to four.
+/// Takes the parts of a tuple struct or tuple variant, from their bracket to its end: one to four.
 pub(crate) fn parts<'a>(alloc: Global, cursor: &mut Cursor<'a>) -> Result<Vec<Type<'a>>, Fault> {
     cursor.expect("(", "stands where `(` is wanted")?;
     let parts = listed_parts(alloc, cursor)?;
@@ -80,7 +80,7 @@ pub(crate) fn parts<'a>(alloc: Global, cursor: &mut Cursor<'a>) -> Result<Vec<Ty
     Ok(parts)
 }
 
-/// Takes parts without names, as long as there are commas between them.
+/// Takes the parts of a tuple struct or tuple variant, as long as there are commas between them.
 fn listed_parts<'a>(alloc: Global, cursor: &mut Cursor<'a>) -> Result<Vec<Type<'a>>, Fault> {
     let mut parts = Vec::new(alloc);
     for _turn in cursor.tokens {
@@ -95,7 +95,7 @@ fn listed_parts<'a>(alloc: Global, cursor: &mut Cursor<'a>) -> Result<Vec<Type<'
     Ok(parts)
 }
 
-/// Takes a part without a name that so many come before, or nothing before a bracket that closes.
+/// Takes a part of a tuple after so many others, or nothing before a bracket that closes.
 fn next_part<'a>(
     alloc: Global,
     cursor: &mut Cursor<'a>,

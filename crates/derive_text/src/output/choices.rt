@@ -64,10 +64,10 @@ fn append_content<'a>(
     let mut owner = String::from_str(alloc, target.name.text)?;
     owner.push_str(in_type_name(alloc, variant.name.text)?.as_str())?;
     let kind = match &variant.content {
-        Content::Nothing => return String::from_str(alloc, "nano_schema::Alone"),
-        Content::Parts(parts) if parts.len() == 1 => "OnePart",
-        Content::Parts(_) => "Tupled",
-        Content::Fields(_) => "Named",
+        Content::Nothing => return String::from_str(alloc, "nano_schema::Unit"),
+        Content::Parts(parts) if parts.len() == 1 => "Newtype",
+        Content::Parts(_) => "Tuple",
+        Content::Fields(_) => "Struct",
     };
     let types = content_types(alloc, &variant.content)?;
     let parameters = parameters_in(alloc, &target.parameters, &types)?;
@@ -85,7 +85,7 @@ fn append_content<'a>(
     format!(in alloc; "nano_schema::{kind}<{held}>")
 }
 
-/// Appends the type of parts without names.
+/// Appends the type of the parts of a tuple variant.
 fn append_parts<'a>(sheet: &mut Sheet, held: &str, parts: &[Type<'a>]) -> Result<(), AllocError> {
     let types = part_types(sheet.alloc, parts, "$TYPE")?;
     let before = held.len().saturating_add("type  = ".len());

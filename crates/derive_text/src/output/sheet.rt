@@ -51,7 +51,7 @@ impl Sheet {
         }
     }
 
-    /// Brings in what a line brings in: `ghost use`, a module, and names between curly brackets.
+    /// Brings in what a line brings in: `ghost use`, a module, and names between braces.
     pub(crate) fn import(&mut self, line: &'static str) -> Result<(), AllocError> {
         let (module, names) = line.split_once(".{").unwrap_or((line, "};"));
         let names = names.strip_suffix("};").unwrap_or(names);

@@ -21,7 +21,7 @@ impl$BOUNDS nano_schema::Value for $FULL {
     }
 }";
 
-/// Appends the impls of a struct with one part without a name.
+/// Appends the impls of a newtype.
 pub(crate) fn append_transparent<'a>(
     sheet: &mut Sheet,
     target: &Target<'a>,

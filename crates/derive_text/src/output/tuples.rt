@@ -1,4 +1,4 @@
-//! Structs of two to four parts without names, each of which is what the tuple of its parts is.
+//! Tuple structs of two to four parts, each of which is what the tuple of its parts is.
 
 use crate::output::codecs::append_codecs;
 use crate::output::forms::{RECORD, tupled};
@@ -12,7 +12,7 @@ use crate::output::variants::{PARTS, bracketed};
 use derive_syntax::Type;
 use std::alloc::{AllocError, Global};
 
-/// Appends the impls of a struct of parts without names.
+/// Appends the impls of a tuple struct.
 pub(crate) fn append_tuple<'a>(
     sheet: &mut Sheet,
     target: &Target<'a>,
@@ -23,7 +23,7 @@ pub(crate) fn append_tuple<'a>(
     let before = values.len().saturating_add("type  = ".len());
     let tuple = bracketed(sheet.alloc, ("(", ")"), &types, Items::Types, (0, before))?;
     sheet.alias(values, tuple.laid.as_str())?;
-    let row = format!(in sheet.alloc; "nano_schema::Tupled<{values}>")?;
+    let row = format!(in sheet.alloc; "nano_schema::Tuple<{values}>")?;
     sheet.alias(target.row.as_str(), row.as_str())?;
     append_seen(sheet, target, &seen(sheet.alloc, target, parts)?)?;
     let write = parts_writer(sheet.alloc, parts.len())?;

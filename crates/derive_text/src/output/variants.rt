@@ -9,7 +9,7 @@ use crate::output::tuples::named;
 use derive_syntax::{Content, Variant};
 use std::alloc::{AllocError, Global};
 
-/// What a pattern calls parts without names.
+/// What a pattern calls the parts of a tuple variant.
 pub(crate) const PARTS: [&str; 4] = ["first", "second", "third", "fourth"];
 
 /// Texts as a tuple, or the one text that there is, on a line that is indented so far, after so

@@ -83,15 +83,15 @@ type ChoiceCParts = (
     nano_schema::Required<ChoiceCB, String>,
 );
 
-type ChoiceVariants3 = nano_schema::Variant<ChoiceC, nano_schema::Named<ChoiceCParts>>;
+type ChoiceVariants3 = nano_schema::Variant<ChoiceC, nano_schema::Struct<ChoiceCParts>>;
 
 type ChoiceVariants2 = (
-    nano_schema::Variant<ChoiceB, nano_schema::Tupled<ChoiceBParts>>,
+    nano_schema::Variant<ChoiceB, nano_schema::Tuple<ChoiceBParts>>,
     ChoiceVariants3,
 );
 
 type ChoiceVariants = (
-    nano_schema::Variant<ChoiceA, nano_schema::Alone>,
+    nano_schema::Variant<ChoiceA, nano_schema::Unit>,
     ChoiceVariants2,
 );
 

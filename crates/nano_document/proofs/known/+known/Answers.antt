@@ -1,14 +1,14 @@
-use Rattle.std.proofs.Common.{◌≡◌, ◌+◌, ◌∷◌, ◌<◌, ◌^◌, ℤ, pos, negsuc, FitsSigned, map, drop, subst, sym, ◌∙◌, refl, arith, rules, String, Global}
+use Rattle.std.proofs.Common.{◌≡◌, ◌+◌, ◌∷◌, pos, map, drop, subst, sym, ◌∙◌, refl, String, Global}
 use Rattle.std.specs.Int.{w64}
 use Rattle.std.specs.List.{AllByRecursion}
 use Rattle.std.proofs.Math.Numerals.{add-one}
 use Rattle.std.proofs.Math.Seq.{drop-cons}
-use Rattle.nano_value.specs.Meaning.{IsImage, LegalList, LegalPair, LegalText, LegalSigned, LegalUnsigned}
+use Rattle.nano_value.specs.Meaning.{LegalList, LegalPair, LegalText, LegalSigned, LegalUnsigned}
 use Rattle.nano_value.specs.Meaning.{Meaning, listed, number, nothing}
 use Rattle.nano_meaning.proofs.MeaningLaws.{list_is_legal, all_walked, pair_is_legal}
 use Rattle.nano_document.specs.Documents.{json_means, entry_means}
 use Rattle.nano_document.specs.DocumentCodecs.{json_codec}
-use Rattle.nano_document.specs.IntegerCodecs.{IsInteger, integers}
+use Rattle.nano_document.specs.IntegerCodecs.{integers}
 use Rattle.nano_document.specs.declared.json.Json as J
 use Rattle.nano_document.specs.declared.json.Json.{Json}
 use Rattle.nano_document.proofs.Documents.{signed_fits, legal_at, means-Null, means-Bool, means-U64, means-I64, means-Text, means-List, means-Object}

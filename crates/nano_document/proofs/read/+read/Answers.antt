@@ -1,4 +1,4 @@
-use Rattle.std.proofs.Common.{◌≡◌, ◌-◌, ◌<◌, ◌^◌, ℕ, pos, FitsSigned, map, refl, sym, ◌∙◌, ap, rules}
+use Rattle.std.proofs.Common.{◌-◌, ◌<◌, ◌^◌, pos, FitsSigned, map, refl, sym, ◌∙◌, ap, rules}
 use Rattle.std.specs.Int.{w64}
 use Rattle.std.proofs.lemmas.Int.{to_z-of_z}
 use Rattle.nano_value.specs.Meaning.{number, truth, nothing, listed}
@@ -16,7 +16,7 @@ use Rattle.nano_json_tokens.specs.Token.{null, colon, integer_of}
 use Rattle.nano_json_tokens.specs.declared.token.DeJsonTok.TheVariants as T
 use Rattle.nano_json.proofs.Json.{json_laws, few_left, close_is, not_close, curly_is, not_curly}
 use Rattle.nano_document.specs.Documents.{json_means, entry_means}
-use Rattle.nano_document.specs.DocumentCodecs.{level_codec, entry_at, string_codec}
+use Rattle.nano_document.specs.DocumentCodecs.{level_codec, string_codec}
 use Rattle.nano_document.specs.IntegerCodecs.{IsInteger}
 use Rattle.nano_document.specs.declared.json.Json as J
 use Rattle.nano_document.proofs.Documents.{signed_fits, means-Null, means-Bool, means-U64, means-Text, means-List, means-Object}

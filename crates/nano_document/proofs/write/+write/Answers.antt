@@ -2,7 +2,7 @@ use Rattle.std.specs.Prelude.{OnOk}
 use Rattle.nano_text.specs.Outcomes.{Appends}
 use Rattle.nano_json.specs.Lists.{written_list}
 use Rattle.nano_json.specs.Lists.{written_entries}
-use Rattle.std.proofs.Common.{false, drop, arith, string_bytes, encode_utf8, refl, rules, append_assoc, sym, ap, subst, ◌∙◌}
+use Rattle.std.proofs.Common.{false, drop, arith, string_bytes, encode_utf8, refl, rules, append_assoc, subst}
 use Rattle.std.proofs.lemmas.List.{drop_all}
 use Rattle.std.proofs.lemmas.Result.{on_ok_weaker}
 use Rattle.std.proofs.lemmas.Str.{encodes-append}
