@@ -6,9 +6,9 @@ awk '
         split("u8s u64s strings map records", kinds, " ")
         split("bin json ron", formats, " ")
         title["bin"] = "binary"; title["json"] = "JSON"; title["ron"] = "RON"
-        title["toml"] = "TOML"
+        title["toml"] = "TOML"; title["indented"] = "JSON, indented"
         peer["bin"] = "bincode"; peer["json"] = "serde_json"; peer["ron"] = "ron"
-        peer["toml"] = "toml"
+        peer["toml"] = "toml"; peer["indented"] = "serde_json"
         type["u8s"] = "`Vec<u8>`"; type["u64s"] = "`Vec<u64>`"; type["strings"] = "`Vec<String>`"
         type["map"] = "`HashMap<String, i32>`"; type["records"] = "records"
         type["file"] = "a file"
@@ -46,9 +46,10 @@ awk '
         return " " ratio(case, format, op) " | " ahead(case, format, op, 1) " | " \
             ahead(case, format, op, 10) " |"
     }
+    function reads_alone(format) { return format == "toml" || format == "indented" }
     function beside_row(format, kind) {
         print "| " title[format] " | " type[kind] " |" beside(format, kind, "read") \
-            (format == "toml" ? " | | |" : beside(format, kind, "norm"))
+            (reads_alone(format) ? " | | |" : beside(format, kind, "norm"))
     }
     function half(format, kind, op,   case, one, other, here) {
         case = format "/" kind
@@ -59,7 +60,7 @@ awk '
     }
     function row(format, kind) {
         print "| " title[format] " | " type[kind] " |" half(format, kind, "read") \
-            (format == "toml" ? " | | |" : half(format, kind, "norm"))
+            (reads_alone(format) ? " | | |" : half(format, kind, "norm"))
     }
     function growth(case, op,   one, ten) {
         one = count[case "/port/" op " 1"]
@@ -80,12 +81,14 @@ awk '
             " read+write: instructions | speed, 1 MB | 10 MB |"
         print "|---|---|---|---|---|---|---|---|"
         for (f = 1; f <= 3; f++) for (k = 1; k <= 5; k++) beside_row(formats[f], kinds[k])
+        for (k = 1; k <= 5; k++) beside_row("indented", kinds[k])
         beside_row("toml", "file")
 
         print "\n| Format | Kind | nanoserde read | peer read | here, read |" \
             " nanoserde read+write | peer read+write | here, read+write |"
         print "|---|---|---|---|---|---|---|---|"
         for (f = 1; f <= 3; f++) for (k = 1; k <= 5; k++) row(formats[f], kinds[k])
+        for (k = 1; k <= 5; k++) row("indented", kinds[k])
         row("toml", "file")
 
         print "\n| Kind | binary read | binary read+write | JSON read | JSON read+write |" \

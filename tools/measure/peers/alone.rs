@@ -2,7 +2,7 @@
 use crate::data::*;
 use crate::nano::*;
 use crate::records::{Rec, RecB};
-use crate::{decoded, encoded, measured_region, peer_work, port, text};
+use crate::{codec_of, decoded, encoded, input_of, measured_region, peer_work, port, text};
 use serde::{de::DeserializeOwned, Serialize};
 use std::hint::black_box;
 
@@ -41,13 +41,13 @@ fn made(parts: &[&str], target: usize) -> Vec<u8> {
     }
 }
 
-fn of_size<T: SerBin + SerJson + SerRon>(
+fn of_size<T: SerBin + SerJson + SerRon + Serialize>(
     format: &str,
     target: usize,
     make: fn(usize) -> T,
 ) -> Vec<u8> {
-    let size = encoded(format, &make(1000)).len();
-    encoded(format, &make(1000 * target / size))
+    let size = input_of(format, &make(1000)).len();
+    input_of(format, &make(1000 * target / size))
 }
 
 fn taken(parts: &[&str], input: &[u8]) {
@@ -71,7 +71,7 @@ where
     T: SerBin + DeBin + SerJson + DeJson + SerRon + DeRon + Serialize + DeserializeOwned,
     B: Serialize + DeserializeOwned,
 {
-    let codec = crate::FORMATS.iter().position(|format| *format == parts[0]).unwrap() as u32;
+    let codec = codec_of(parts[0]);
     let write = parts[3] == "norm";
     match parts[2] {
         "nanoserde" => measured(&mut || {

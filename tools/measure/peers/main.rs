@@ -7,7 +7,8 @@
 //     peers file FORMAT/KIND/PEER/OP FILE       reads it once within `measured_region`, for callgrind
 //
 // An OP is read (a value is read and dropped) or norm (it is also written, and that is dropped).
-// Megabytes are 10^6 bytes of what the Rust crate writes.
+// Megabytes are 10^6 bytes of what the Rust crate writes. The format `indented` is JSON as
+// `serde_json::to_string_pretty` writes it, and is only read.
 #![allow(warnings)]
 extern crate alloc;
 mod alone;
@@ -128,15 +129,32 @@ fn ron_options() -> ron::Options {
     ron::Options::default().with_default_extension(ron::extensions::Extensions::IMPLICIT_SOME)
 }
 
-const FORMATS: [&str; 3] = ["bin", "json", "ron"];
-const PEERS: [&str; 3] = ["bincode", "serde_json", "ron"];
+const FORMATS: [&str; 4] = ["bin", "json", "ron", "indented"];
+const PEERS: [&str; 4] = ["bincode", "serde_json", "ron", "serde_json"];
+
+/// The port's number of a format.
+fn codec_of(format: &str) -> u32 {
+    match format {
+        "bin" => 0,
+        "ron" => 2,
+        _ => 1,
+    }
+}
+
+/// What is read of a value.
+fn input_of<T: SerBin + SerJson + SerRon + Serialize>(format: &str, value: &T) -> Vec<u8> {
+    match format {
+        "indented" => serde_json::to_vec_pretty(value).unwrap(),
+        _ => encoded(format, value),
+    }
+}
 
 /// What the Rust crate writes of a value.
 fn encoded<T: SerBin + SerJson + SerRon>(format: &str, value: &T) -> Vec<u8> {
     match format {
         "bin" => value.serialize_bin(),
-        "json" => value.serialize_json().into_bytes(),
-        _ => value.serialize_ron().into_bytes(),
+        "ron" => value.serialize_ron().into_bytes(),
+        _ => value.serialize_json().into_bytes(),
     }
 }
 
@@ -144,8 +162,8 @@ fn encoded<T: SerBin + SerJson + SerRon>(format: &str, value: &T) -> Vec<u8> {
 fn decoded<T: DeBin + DeJson + DeRon>(format: &str, input: &[u8]) -> T {
     match format {
         "bin" => T::deserialize_bin(input).unwrap(),
-        "json" => T::deserialize_json(text(input)).unwrap(),
-        _ => T::deserialize_ron(text(input)).unwrap(),
+        "ron" => T::deserialize_ron(text(input)).unwrap(),
+        _ => T::deserialize_json(text(input)).unwrap(),
     }
 }
 
@@ -162,15 +180,15 @@ where
             let value = bincode::deserialize::<B>(input).unwrap();
             drop(black_box(bincode::serialize(&value).unwrap()))
         }
-        ("json", false) => drop(black_box(serde_json::from_str::<T>(text(input)).unwrap())),
-        ("json", true) => {
-            let value = serde_json::from_str::<T>(text(input)).unwrap();
-            drop(black_box(serde_json::to_string(&value).unwrap()))
-        }
-        (_, false) => drop(black_box(ron.from_str::<T>(text(input)).unwrap())),
-        (_, true) => {
+        ("ron", false) => drop(black_box(ron.from_str::<T>(text(input)).unwrap())),
+        ("ron", true) => {
             let value = ron.from_str::<T>(text(input)).unwrap();
             drop(black_box(ron.to_string(&value).unwrap()))
+        }
+        (_, false) => drop(black_box(serde_json::from_str::<T>(text(input)).unwrap())),
+        (_, true) => {
+            let value = serde_json::from_str::<T>(text(input)).unwrap();
+            drop(black_box(serde_json::to_string(&value).unwrap()))
         }
     }
 }
@@ -182,23 +200,25 @@ where
     T: Serialize + DeserializeOwned + PartialEq,
     B: Serialize + DeserializeOwned,
 {
-    for (codec, format) in FORMATS.iter().enumerate() {
-        let (case, peer) = (format!("{format}/{name}"), PEERS[codec]);
+    for (format, peer) in FORMATS.into_iter().zip(PEERS) {
+        let (case, codec) = (format!("{format}/{name}"), codec_of(format));
         if !race.wants(&case, &["nanoserde", peer, "port"]) {
             continue;
         }
-        let size = encoded(format, &make(1000)).len();
+        let size = input_of(format, &make(1000)).len();
         let value = make(if race.list { 1 } else { 1000 * target / size });
-        let input = encoded(format, &value);
+        let input = input_of(format, &value);
         if !race.list {
             assert!(decoded::<T>(format, &input) == value);
-            let mut output = vec![0u8; input.len() + 64];
-            let written = port::op(codec as u32, kind, 1, &input, &mut output);
-            assert_eq!(written, input.len() as i64, "{case}");
+            let normal = encoded(format, &value);
+            let mut output = vec![0u8; normal.len() + 64];
+            let written = port::op(codec, kind, 1, &input, &mut output);
+            assert_eq!(written, normal.len() as i64, "{case}");
             // a map is written in ascending order by the port alone
-            assert!(kind == 3 || output[..input.len()] == input[..]);
+            assert!(kind == 3 || output[..normal.len()] == normal[..]);
         }
-        for (op, write) in [("read", false), ("norm", true)] {
+        let ops = [("read", false), ("norm", true)];
+        for (op, write) in ops.into_iter().take(if format == "indented" { 1 } else { 2 }) {
             let mut nanoserde = || {
                 let value = decoded::<T>(format, &input);
                 match write {
@@ -210,7 +230,7 @@ where
             // op 2: what is written is dropped, as the peers drop it
             let number = 2 * write as u32;
             let mut port =
-                || assert!(black_box(port::op(codec as u32, kind, number, &input, &mut [])) >= 0);
+                || assert!(black_box(port::op(codec, kind, number, &input, &mut [])) >= 0);
             let mut peers: [(&str, &mut dyn FnMut()); 3] =
                 [("nanoserde", &mut nanoserde), (peer, &mut other), ("port", &mut port)];
             race.run(&case, op, input.len(), &mut peers);
