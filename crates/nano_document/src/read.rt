@@ -120,8 +120,7 @@ fn read_entries(
     Ok(entries)
 }
 
-/// Reads a name, a colon and a document of at most so many levels. On error, the state may be
-/// anywhere.
+/// Reads a name, a colon and a document of at most so many levels.
 #[cycle(read)]
 fn read_entry(
     alloc: Global,

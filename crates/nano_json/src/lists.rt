@@ -172,8 +172,7 @@ impl<T: JsonCodec, const N: usize> JsonCodec for [T; N] {
     ghost agrees = { array_agrees T.agrees N };
 }
 
-/// Reads `count` items between square brackets, and holds no more. On error, the state may be
-/// anywhere.
+/// Reads `count` items between square brackets, and holds no more.
 fn read_items<T: DeJson>(
     alloc: Global,
     state: &mut DeJsonState,

@@ -29,8 +29,7 @@ impl<K: JsonCodec + Key + Hash, V: JsonCodec> JsonCodec for HashMap<K, V> {
     ghost agrees = { seen_agrees (map_agrees K.agrees V.agrees) (λ x. x.entries) };
 }
 
-/// Reads keys with their values between braces into a collection. On error, the state may
-/// be anywhere.
+/// Reads keys with their values between braces into a collection.
 pub(crate) fn read_entries<K: DeJson, V: DeJson, C: CollectEntries<K, V>>(
     alloc: Global,
     state: &mut DeJsonState,

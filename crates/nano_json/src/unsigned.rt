@@ -1,6 +1,8 @@
 //! Unsigned integers: a whole number in the type's range, without a minus sign.
 //! The readers are inlined, so a value that is read passes through no result with space for an
 //! error.
+//!
+//! On an error, a reader here may leave the state at any position, unless it says where.
 
 ghost use Rattle.std.specs.Prelude.{◌≡◌, ◌+◌, ◌^◌};
 ghost use Rattle.nano_value.specs.Meaning.{whole};
@@ -30,8 +32,7 @@ trait Unsigned: Sized {
         ensures { value result ≡ number };
 }
 
-/// Reads a whole number without a minus sign that is at most `max`. On error, the state may be
-/// anywhere.
+/// Reads a whole number without a minus sign that is at most `max`.
 #[inline(always)]
 fn read_unsigned<T: Unsigned>(
     alloc: Global,

@@ -11,10 +11,12 @@ use Rattle.std.proofs.lemmas.Bool.{and_parts, or_cases, and_from, or_right}
 use Rattle.std.proofs.lemmas.Bool.Decides.{nat_tests}
 use Rattle.std.proofs.lemmas.Fmt.{decimal_by_steps, decimal_is_IsNumeral}
 use Rattle.nano_text.specs.Characters.{first_is}
-use Rattle.nano_text.specs.Number.{IsNumber, Run, is_sign, continues}
-use Rattle.nano_text.specs.declared.number.Number.TheVariants.{U64, I64}
+use Rattle.nano_text.specs.Number.{IsNumber, Run, Exponent, is_sign, continues, sign_text}
+use Rattle.nano_text.specs.Number.{fraction_text, exponent_text, run_text, is_minus, number_of}
+use Rattle.nano_text.specs.Number.{number_from_parts}
+use Rattle.nano_text.specs.declared.number.Number.TheVariants.{U64, I64, Dec}
 use Rattle.nano_grammar.specs.Tokens.{is_textual, AllTextual, IsCutInto}
-use Rattle.nano_json_tokens.specs.Token.{Token, u64, i64, bool, null}
+use Rattle.nano_json_tokens.specs.Token.{Token, u64, i64, f64, bool, null}
 use Rattle.nano_json_tokens.specs.Cut.{is_word, IsPunctuator, IsLexeme, punctuator, word, number}
 use Rattle.nano_json_tokens.specs.Cut.{starts_number, Cut}
 use Rattle.nano_json_tokens.specs.Written.{MayFollow, may_follow, written_truth}
@@ -64,9 +66,21 @@ no_word_goes_on : (rest : List ℕ) → MayFollow rest → first_is is_word rest
 no_word_goes_on = none_goes_on is_word
     (follower (λ c. is_word c ≡ false) refl refl refl refl refl refl refl refl)
 
-no_integer_goes_on : (rest : List ℕ) → MayFollow rest → first_is (continues None None) rest ≡ false
-no_integer_goes_on = none_goes_on (continues None None)
-    (follower (λ c. continues None None c ≡ false) refl refl refl refl refl refl refl refl)
+no_number : (fraction : Option (List ℕ)) (exponent : Option Exponent)
+    → Apart (continues fraction exponent)
+no_number None None =
+    follower (λ c. continues None None c ≡ false) refl refl refl refl refl refl refl refl
+no_number (Some ds) None =
+    follower (λ c. continues (Some ds) None c ≡ false) refl refl refl refl refl refl refl refl
+no_number None (Some e) =
+    follower (λ c. continues None (Some e) c ≡ false) refl refl refl refl refl refl refl refl
+no_number (Some ds) (Some e) =
+    follower (λ c. continues (Some ds) (Some e) c ≡ false) refl refl refl refl refl refl refl refl
+
+no_number_goes_on : (fraction : Option (List ℕ)) (exponent : Option Exponent)
+    → (rest : List ℕ) → MayFollow rest → first_is (continues fraction exponent) rest ≡ false
+no_number_goes_on fraction exponent =
+    none_goes_on (continues fraction exponent) (no_number fraction exponent)
 
 -- ---- words
 
@@ -136,33 +150,87 @@ unsigned_is_cut n small rest h =
       number_is = ap (λ m. U64 m) (sym value);
       run_is = sym (append-nil (decimal n));
       split = refl;
-      ends = no_integer_goes_on rest h;
+      ends = no_number_goes_on None None rest h;
     } in
     let starts = starts_with_digit (decimal n) rest ds.all ds.some in
     (rest, cut_at_once (decimal n ++ rest) rest (u64 n) (number starts (decimal n, run)), refl)
 
-negative_is_cut : (n : ℕ) → suc n ≤ 2 ^ 63
-    → IsCutInto Cut MayFollow (i64 (negsuc n) ∷ []) (45 ∷ decimal (suc n))
-negative_is_cut n small rest h =
-    let bound : suc n < 2 ^ 64 = omega (arith, small) in
-    let ds = decimal_digits (suc n) bound in
-    let value = (decimal_is_IsNumeral (suc n) bound).1 in
-    let digits = 45 ∷ decimal (suc n) in
-    let run : IsNumber (digits ++ rest) (I64 (negsuc n)) digits rest = record {
-      parts = digits_run (Some 45) (suc n);
+-- a minus sign and digits, of 0 too
+pub minus_is_cut : (n : ℕ) → n ≤ 2 ^ 63
+    → IsCutInto Cut MayFollow (i64 (neg_ℤ (pos n)) ∷ []) (45 ∷ decimal n)
+minus_is_cut n small rest h =
+    let bound : n < 2 ^ 64 = omega (arith, small) in
+    let ds = decimal_digits n bound in
+    let value = (decimal_is_IsNumeral n bound).1 in
+    let digits = 45 ∷ decimal n in
+    let run : IsNumber (digits ++ rest) (I64 (neg_ℤ (pos n))) digits rest = record {
+      parts = digits_run (Some 45) n;
       is_run = record { sign = refl; whole = ds.all; fraction = tt; letter = tt; digits = tt };
       good = (ds.some, subst (λ m. m ≤ 2 ^ 63) (sym value) small);
       number_is = ap (λ m. I64 (neg_ℤ (pos m))) (sym value);
-      run_is = ap (λ (l : List ℕ). 45 ∷ l) (sym (append-nil (decimal (suc n))));
+      run_is = ap (λ (l : List ℕ). 45 ∷ l) (sym (append-nil (decimal n)));
       split = refl;
-      ends = no_integer_goes_on rest h;
+      ends = no_number_goes_on None None rest h;
     } in
-    (rest, cut_at_once (digits ++ rest) rest (i64 (negsuc n)) (number refl (digits, run)), refl)
+    let token = i64 (neg_ℤ (pos n)) in
+    (rest, cut_at_once (digits ++ rest) rest token (number refl (digits, run)), refl)
 
 pub signed_is_cut : (z : ℤ) → FitsSigned w64 z
     → IsCutInto Cut MayFollow (signed_token z ∷ []) (signed_decimal z)
 signed_is_cut (pos n) fits = let small = fits.sfits in unsigned_is_cut n (omega (arith, small))
-signed_is_cut (negsuc n) fits = let small = fits.sfits in negative_is_cut n (omega (arith, small))
+signed_is_cut (negsuc n) fits = let small = fits.sfits in minus_is_cut (suc n) (omega (arith, small))
+
+-- a run with a point or an exponent has a character
+run_some : (r : Run) → Dec ≡ number_of r → 0 < length (run_text r)
+run_some r is =
+    elim r.fraction as (λ (f : Option (List ℕ)). r.fraction ≡ f → 0 < length (run_text r)) [
+      | Some ds ↦ λ e. let long = parts_long r in
+          omega (arith, long, ap (λ f. length (fraction_text f)) e)
+      | None ↦ λ e. elim r.exponent as (λ (x : Option Exponent). r.exponent ≡ x → 0 < length (run_text r)) [
+        | Some x ↦ λ k. let long = parts_long r in
+            omega (arith, long, ap (λ x. length (exponent_text x)) k)
+        | None ↦ λ k. absurd (not_integer (is_minus r.sign) r.whole
+            (subst (λ (x : Option Exponent). Dec ≡ number_from_parts (is_minus r.sign) r.whole None x) k
+            (subst (λ (f : Option (List ℕ)). Dec ≡ number_from_parts (is_minus r.sign) r.whole f r.exponent) e is)))
+      ] refl
+    ] refl
+  where
+    parts_long : (r : Run) → length (fraction_text r.fraction) + length (exponent_text r.exponent) ≤ length (run_text r)
+    parts_long r =
+        let tail = fraction_text r.fraction ++ exponent_text r.exponent in
+        omega (
+          arith,
+          length-append (sign_text r.sign) (r.whole ++ tail),
+          length-append r.whole tail,
+          length-append (fraction_text r.fraction) (exponent_text r.exponent),
+        )
+
+    not_integer : (minus : Bool) (whole : List ℕ) → Dec ≡ number_from_parts minus whole None None → ⊥
+    not_integer true whole e = cc e
+    not_integer false whole e = cc e
+
+starts_again : (run rest other : List ℕ) → 0 < length run → first_is starts_number (run ++ rest) ≡ true
+    → first_is starts_number (run ++ other) ≡ true
+starts_again [] rest other some h = absurd (omega (arith, some))
+starts_again (c ∷ cs) rest other some h = h
+
+-- the run of a decimal
+pub decimal_is_cut : (text run rest : List ℕ) → first_is starts_number text ≡ true
+    → IsNumber text Dec run rest → IsCutInto Cut MayFollow (f64 run ∷ []) run
+decimal_is_cut text run rest starts n other h =
+    let again : IsNumber (run ++ other) Dec run other = record {
+      parts = n.parts;
+      is_run = n.is_run;
+      good = n.good;
+      number_is = n.number_is;
+      run_is = n.run_is;
+      split = refl;
+      ends = no_number_goes_on n.parts.fraction n.parts.exponent other h;
+    } in
+    let some = subst (λ (l : List ℕ). 0 < length l) (sym n.run_is) (run_some n.parts n.number_is) in
+    let begins = starts_again run rest other some
+    (subst (λ (l : List ℕ). first_is starts_number l ≡ true) n.split starts) in
+    (other, cut_at_once (run ++ other) other (f64 run) (number begins again), refl)
 
 -- ---- what is written holds characters that a text may hold
 

@@ -4,6 +4,7 @@ use Rattle.std.specs.Prelude.{[], ◌∷◌, ◌++◌, map, chars, refl}
 use Rattle.std.specs.Char.{digit_char, digit_value, is_ascii_hexdigit}
 use Rattle.std.specs.List.{AllByRecursion, flat_map}
 use Rattle.std.proofs.Common.{sym, ◌∙◌, subst, ap, inl, append_assoc, eqb-true, ne_eqb, arith}
+use Rattle.std.proofs.Common.{IsUtf8}
 use Rattle.std.proofs.Math.Utf8.{scalar, scalars}
 use Rattle.std.proofs.lemmas.Bool.{eqb-false, and_parts}
 use Rattle.std.proofs.lemmas.Bool.Decides.{nat_tests}
@@ -105,11 +106,11 @@ pieces_stand (c ∷ cs) h =
       textual_append (piece_text (written_piece c)) _ first.textual others.3,
     )
 
-pub text_is_cut : (bytes : List ℕ) → IsText bytes
+pub utf8_is_cut : (bytes : List ℕ) → IsUtf8 bytes
     → IsCutInto Cut MayFollow (str bytes ∷ []) (written_text bytes)
-text_is_cut bytes is rest h =
+utf8_is_cut bytes utf8 rest h =
     let cs = chars bytes in
-    let stand = pieces_stand cs (scalars-chars bytes is.utf8) in
+    let stand = pieces_stand cs (scalars-chars bytes utf8) in
     let content = flat_map (λ c. piece_text (written_piece c)) cs in
     let string : IsString (written_text bytes ++ rest) cs rest = record {
       pieces = map written_piece cs;
@@ -118,8 +119,12 @@ text_is_cut bytes is rest h =
           (append_assoc content (34 ∷ []) rest ∙ ap (λ l. l ++ 34 ∷ rest) (sym stand.2));
       characters_are = sym stand.1;
     } in
-    let lexeme = quoted (cs, string, sym (encodes-chars bytes is.utf8)) in
+    let lexeme = quoted (cs, string, sym (encodes-chars bytes utf8)) in
     (rest, cut_at_once (written_text bytes ++ rest) rest (str bytes) lexeme, refl)
+
+pub text_is_cut : (bytes : List ℕ) → IsText bytes
+    → IsCutInto Cut MayFollow (str bytes ∷ []) (written_text bytes)
+text_is_cut bytes is = utf8_is_cut bytes is.utf8
 
 pub text_textual : (bytes : List ℕ) → IsText bytes → AllTextual (written_text bytes)
 text_textual bytes is =

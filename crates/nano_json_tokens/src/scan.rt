@@ -38,7 +38,7 @@ impl DeJsonState {
     pub(crate) fn scan_token(&mut self, i: &mut Chars<'_>) -> Result<(), Rejection>
         ensures { Scans Cut self.old i.old self.new i.new result }
     {
-        self.skip_space(i);
+        self.pass_space(i);
         self.take_lexeme(i)
     }
 
@@ -52,9 +52,17 @@ impl DeJsonState {
         }
     }
 
-    /// Passes over white space.
+    /// Passes over white space, in a function of its own.
     #[inline(never)]
     fn skip_spaces(&mut self, i: &mut Chars<'_>)
+        ensures { PassedSpace self.old i.old self.new i.new }
+    {
+        self.pass_space(i);
+    }
+
+    /// Passes over white space, of which most tokens have some in a text of many lines.
+    #[inline(always)]
+    fn pass_space(&mut self, i: &mut Chars<'_>)
         ensures { PassedSpace self.old i.old self.new i.new }
     {
         let mut place = self.place();

@@ -21,6 +21,8 @@ use std::str::Chars;
 pub struct DeJsonState {
     /// The current character, or NUL at the end of the text.
     pub cur: char,
+    /// The number of characters that were taken on this line.
+    pub col: usize,
     /// The pending token.
     pub tok: DeJsonTok,
     /// The text of a pending `Str`.
@@ -29,10 +31,9 @@ pub struct DeJsonState {
     pub numbuf: String,
     /// The text of the last word.
     pub identbuf: String,
+    // `line` is far from `col`: a load of both at once would wait for the store of a column.
     /// The line of the current character, counted from 0.
     pub line: usize,
-    /// The number of characters that were taken on this line.
-    pub col: usize,
 }
 
 impl DeJsonState {

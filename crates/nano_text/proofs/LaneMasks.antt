@@ -5,7 +5,7 @@ use Rattle.std.proofs.Common.{ap, ap₂, ◌∙◌, subst, arith, inl, inr}
 use Rattle.std.proofs.lemmas.Bool.{agree_below, agree_below_at, not-true, cases_eq, eq-eqb, ne_eqb}
 use Rattle.std.proofs.lemmas.Bool.{cond-true, cond-false}
 use Rattle.std.proofs.lemmas.Simd.{map-map, mask_l-mod, length-chunk, get_or-chunk}
-use Rattle.std.proofs.lemmas.Simd.{leading_from_mask_l, trailing_mask_l}
+use Rattle.std.proofs.lemmas.Simd.{leading_from_mask_l, trailing_mask_l, run_in_chunk_stops}
 use Rattle.std.proofs.lemmas.List.{length-map}
 use Rattle.std.proofs.lemmas.List.Sums.{prefix_len-le-length, prefix_len_passes}
 use Rattle.std.specs.List.{prefix_len}
@@ -71,6 +71,14 @@ module _ (q : ℕ → Bool) (d : List ℕ) (i n r : ℕ) (z : List ℕ) (inside 
     omega (arith, counted, long, prefix_len-le-length (λ x. not (stops x)) (chunk i n d)),
     λ k from to. sym (ap (λ b. b || q (get_or d k 0)) (goes_on k from to)) ∙ agree_below_at (λ x. stops x || q x) (λ _. true) 256 (get_or d k 0) all (fits k).fits,
   )
+
+  -- the first byte at which a lane stops does not pass q
+  pub stops_in : agree_below (λ x. not (stops x && q x)) (λ _. true) 256 ≡ true → r < n → q (get_or d (i + r) 0) ≡ false
+  stops_in all less =
+      let b = get_or d (i + r) 0 in
+      let stop : stops b ≡ true = run_in_chunk_stops stops d i n r 0 inside counted less in
+      let both = agree_below_at (λ x. not (stops x && q x)) (λ _. true) 256 b all (fits (i + r)).fits in
+      not-true _ (subst (λ (t : Bool). not (t && q b) ≡ true) stop both)
 
 -- ==== triple text
 

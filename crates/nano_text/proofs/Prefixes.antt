@@ -49,6 +49,15 @@ prefix_past p (c ∷ cs) (suc n) within all =
     let more = prefix_past p cs n (omega (arith, within)) (λ k low. all (suc k) (omega (arith, low))) in
     rw (all 0 (omega arith)) (omega (arith, more))
 
+-- a prefix ends at the first character that does not pass
+pub prefix_ends : (p : ℕ → Bool) (t : List ℕ) (n : ℕ) → n < length t → ((k : ℕ) → k < n → p (get_or t k 0) ≡ true)
+    → p (get_or t n 0) ≡ false → length (prefix p t) ≡ n
+prefix_ends p [] n within all e = absurd (omega (arith, within))
+prefix_ends p (c ∷ cs) zero within all e = rw e (omega arith)
+prefix_ends p (c ∷ cs) (suc n) within all e =
+    let more = prefix_ends p cs n (omega (arith, within)) (λ k low. all (suc k) (omega (arith, low))) e in
+    rw (all 0 (omega arith)) (omega (arith, more))
+
 -- the longest prefix of a list of such characters and what doesn't continue them
 pub prefix_all : (p : ℕ → Bool) (w rest : List ℕ) → AllByRecursion (λ c. p c ≡ true) w → first_is p rest ≡ false → (prefix p (w ++ rest) ≡ w) × (following p (w ++ rest) ≡ rest)
 prefix_all p [] rest h e = (prefix_stop p rest e, after_stop p rest e)

@@ -1,7 +1,8 @@
 -- White space: an indent is ASCII, and each blank of it is one column.
 use Rattle.std.proofs.Common.{◌≡◌, ◌≢◌, ℕ, ◌<◌, ◌≤◌, Bool, true, false, cond, List, [], ◌∷◌}
 use Rattle.std.proofs.Common.{refl, sym, ◌∙◌, subst, ap, length, arith, ◌+◌, ◌^◌, ◌-◌, min}
-use Rattle.std.proofs.Common.{IsUtf8, chars, count_by, take, drop}
+use Rattle.std.proofs.Common.{IsUtf8, chars, count_by, take, drop, get_or, inl, inr}
+use Rattle.std.proofs.lemmas.Bool.{cases_lt}
 use Rattle.std.proofs.lemmas.Bool.Decides.{nat_tests}
 use Rattle.std.proofs.lemmas.List.{take_at}
 use Rattle.std.proofs.lemmas.Str.{IsUtf8-take}
@@ -30,6 +31,16 @@ narrow n h = grind (arith, nat_tests)
 -- a text is cut after its prefix of blanks
 pub blank_cut : (bytes : List ℕ) → IsUtf8 bytes → CutAfterPrefix is_blank bytes
 blank_cut bytes utf8 = cut_narrow is_blank narrow bytes utf8
+
+-- blanks up to a place and from it on are blanks
+pub blank_to : (bytes : List ℕ) (n m : ℕ) → ((k : ℕ) → k < n → is_blank (get_or bytes k 0) ≡ true)
+    → ((k : ℕ) → n ≤ k → k < n + m → is_blank (get_or bytes k 0) ≡ true)
+    → (k : ℕ) → k < n + m → is_blank (get_or bytes k 0) ≡ true
+blank_to bytes n m before after k less =
+    elim (cases_lt k n) [
+      | inl low ↦ before k low
+      | inr high ↦ after k (omega (arith, high)) less
+    ]
 
 -- ---- each blank is white space, and one column
 

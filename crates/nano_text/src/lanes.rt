@@ -1,7 +1,8 @@
 //! Bytes looked at sixteen at a time.
 
-ghost use Rattle.std.specs.Prelude.{◌≡◌, ◌≢◌, ◌<◌, ◌≤◌, ◌+◌, ℕ, true, length, slice_index};
+ghost use Rattle.std.specs.Prelude.{◌≡◌, ◌≢◌, ◌<◌, ◌≤◌, ◌+◌, ℕ, true, false, length, slice_index};
 ghost use Rattle.nano_text.specs.Characters.{first_set};
+ghost use Rattle.nano_text.specs.Scan.{is_blank};
 ghost use Rattle.nano_text.specs.String.{is_plain_in_line};
 
 use std::simd::prelude::*;
@@ -35,6 +36,19 @@ pub(crate) fn plain_lanes(bytes: &[u8], from: usize) -> usize
     let is_quote = lanes.simd_eq(u8x16::splat(b'"'));
     let is_backslash = lanes.simd_eq(u8x16::splat(b'\\'));
     first_set((is_outside | is_quote | is_backslash).to_bitmask(), LANES)
+}
+
+/// How many of the sixteen bytes from a place on are blanks before the first that is none.
+#[inline(always)]
+pub(crate) fn blank_lanes(bytes: &[u8], from: usize) -> usize
+    requires { from + 16 ≤ length bytes.now }
+    ensures within { result ≤ 16 }
+    ensures blanks { (k : ℕ) → from ≤ k → k < from + result
+        → is_blank (slice_index bytes.now k) ≡ true }
+    ensures stops { result < 16 → is_blank (slice_index bytes.now (from + result)) ≡ false }
+{
+    let lanes = u8x16::from_slice(&bytes[from..]);
+    first_set(lanes.simd_ne(u8x16::splat(b' ')).to_bitmask(), LANES)
 }
 
 /// How many of the bytes from a place on, up to the lanes, surely stand for themselves in a string,

@@ -6,6 +6,7 @@ ghost use Rattle.nano_text.specs.Outcomes.{Counts};
 ghost use Rattle.nano_text.specs.Place.{held, text_at, before_nul};
 ghost use Rattle.nano_text.specs.Scan.{is_blank};
 
+use crate::lanes::{LANES, blank_lanes};
 use crate::place::Place;
 use std::str::Chars;
 
@@ -50,9 +51,24 @@ pub fn is_space(c: char) -> bool
     c == '\n' || c == '\r' || c == '\t' || c == ' '
 }
 
-/// How many of these bytes are blanks.
-#[inline]
+/// How many of these bytes are blanks before the first that is none, sixteen in a turn.
+#[inline(always)]
 fn blanks_len(bytes: &[u8]) -> usize
+    ensures { result ≡ length (prefix is_blank bytes.now) }
+{
+    let mut len = 0;
+    'lanes: while bytes.len() - len >= LANES {
+        let blanks = blank_lanes(bytes, len);
+        len += blanks;
+        if blanks < LANES {
+            return len;
+        }
+    }
+    len + few_blanks(&bytes[len..])
+}
+
+/// How many of these bytes are blanks before the first that is none, looked at one by one.
+fn few_blanks(bytes: &[u8]) -> usize
     ensures { result ≡ length (prefix is_blank bytes.now) }
 {
     for (len, byte) in bytes.iter().enumerate() {
