@@ -4,13 +4,14 @@ mod defaults;
 mod definitions;
 mod known;
 mod names;
+mod shared;
 
 use crate::fault::Fault;
 use crate::syntax::Source;
 pub use defaults::{Missing, missing_value};
 use definitions::check_definition;
 use names::check_distinct;
-pub use names::encoded_name;
+pub use names::{field_name, variant_name};
 use std::alloc::Global;
 
 /// An error where what stands above the marker cannot be written: a name stands twice, a renamed

@@ -3,7 +3,9 @@
 //! column.
 #![tactic(auto)]
 
+mod case;
 mod check;
+mod comment;
 mod derived;
 mod error;
 mod fault;
@@ -16,7 +18,8 @@ mod state;
 mod syntax;
 mod token;
 
-pub use check::{Missing, check_source, encoded_name, missing_value};
+pub use case::Case;
+pub use check::{Missing, check_source, field_name, missing_value, variant_name};
 pub use derived::{Writer, derive_by};
 pub use error::{DeriveError, SourceFault};
 pub use fault::{Fault, Subject};

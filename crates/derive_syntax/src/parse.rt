@@ -1,9 +1,11 @@
 //! From tokens to structs and enums.
 
 mod attributes;
+mod brackets;
 mod cursor;
 mod fields;
 mod items;
 mod types;
 
+pub(crate) use attributes::AS_COMMENT;
 pub use items::source_of;

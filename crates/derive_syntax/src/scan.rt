@@ -1,6 +1,7 @@
 //! Cuts a source into tokens. Comments are left out, but for those that begin `// nanoserde:`,
 //! whose words are cut as the source is.
 
+use crate::comment;
 use crate::fault::Fault;
 use crate::state::State;
 use crate::token::{Token, TokenKind};
@@ -8,10 +9,12 @@ use std::alloc::Global;
 
 const ATTRIBUTE: &str = "// nanoserde:";
 
+const NOT_ALONE: &str = "an attribute stands on a line of its own, above what it is for";
+
 /// The tokens of a source.
 ///
-/// It is an error where a string literal or a comment has no end, and where a doc comment says
-/// `nanoserde:`.
+/// It is an error where a string literal or a comment has no end, where a comment is meant to be an
+/// attribute and is none, and where an attribute stands after something on its line.
 pub fn tokens_of<'a>(alloc: Global, source: &'a str) -> Result<Vec<Token<'a>>, Fault> {
     let mut scanner = Scanner {
         source,
@@ -49,7 +52,11 @@ impl<'a> Scanner<'a> {
         if let Some(state) = self.state.after(c) {
             self.state = state;
             if c == ':' && self.text(offset.saturating_add(1)) == ATTRIBUTE {
+                if self.is_after_another() {
+                    return Err(Fault::place(self.start, NOT_ALONE));
+                }
                 self.push(TokenKind::Attribute, ATTRIBUTE)?;
+                self.start = offset.saturating_add(1);
                 self.in_attribute = true;
                 self.state = State::Blank;
             }
@@ -81,11 +88,8 @@ impl<'a> Scanner<'a> {
         let text = self.text(end);
         if let Some(kind) = self.state.kind() {
             self.push(kind, text)?;
-        } else if text.starts_with("/// nanoserde:") || text.starts_with("//! nanoserde:") {
-            return Err(Fault::place(
-                self.start,
-                "a doc comment is no attribute: begin it with `//`",
-            ));
+        } else if let Some(words) = comment::fault_of(text) {
+            return Err(Fault::place(self.start, words));
         }
         Ok(())
     }
@@ -98,6 +102,21 @@ impl<'a> Scanner<'a> {
         let end = self.source.len();
         self.close(end)?;
         Ok(self.tokens)
+    }
+
+    /// Whether another token stands before this one on its line.
+    fn is_after_another(&self) -> bool {
+        match self.tokens.last() {
+            Some(token) => {
+                let end = token.offset.saturating_add(token.text.len());
+                !self
+                    .source
+                    .get(end..self.start)
+                    .unwrap_or("")
+                    .contains('\n')
+            }
+            None => false,
+        }
     }
 
     /// What is at fault in a literal or a comment that does not end.

@@ -1,5 +1,6 @@
 //! What stands above the marker, as far as the generator asks for it.
 
+use crate::case::Case;
 use crate::token::Token;
 
 /// A type: its tokens.
@@ -39,12 +40,22 @@ pub struct Attributes<'a> {
     pub transparent: Option<Token<'a>>,
     /// The text after `rename`.
     pub rename: Option<Token<'a>>,
+    /// The text after `rename_all`.
+    pub rename_all: Option<Token<'a>>,
+    /// The case that this text names.
+    pub case: Option<Case>,
     /// The word `default`.
     pub default: Option<Token<'a>>,
     /// The text after `default`.
     pub default_path: Option<Token<'a>>,
     /// The word `skip`.
     pub skip: Option<Token<'a>>,
+    /// The name of an attribute of Rust that is for serde.
+    pub serde: Option<Token<'a>>,
+    /// Whether a macro of serde is derived, which reads such attributes.
+    pub is_serde: bool,
+    /// The name of an attribute of Rust by which something is left out.
+    pub cfg: Option<Token<'a>>,
 }
 
 /// A field with a name.

@@ -1,7 +1,9 @@
 //! Sources at fault, and what is said of each.
 
+use crate::case_faults::CASES;
 use crate::default_faults::{DEFAULTS, SKIPPED};
 use crate::faults::{ATTRIBUTES, ITEMS, TYPES};
+use crate::mistakes::{COMMENTS, FORMS, OTHERS};
 use crate::outcome::{MODULE, outcome, outcome_above};
 use derive_text::{DeriveError, derive, module_of};
 use std::alloc::{AllocError, Global};
@@ -36,6 +38,26 @@ fn types_are_known(rt: HostRuntime) {
 #[test]
 fn attributes_stand_where_they_have_a_meaning(rt: HostRuntime) {
     are_reported(&rt, rt.alloc(), ATTRIBUTES);
+}
+
+#[test]
+fn forms_of_rust_that_are_none_here_are_named(rt: HostRuntime) {
+    are_reported(&rt, rt.alloc(), FORMS);
+}
+
+#[test]
+fn comments_that_are_meant_to_be_attributes_are_named(rt: HostRuntime) {
+    are_reported(&rt, rt.alloc(), COMMENTS);
+}
+
+#[test]
+fn attributes_and_types_of_others_are_named(rt: HostRuntime) {
+    are_reported(&rt, rt.alloc(), OTHERS);
+}
+
+#[test]
+fn a_case_is_one_of_the_names_here(rt: HostRuntime) {
+    are_reported(&rt, rt.alloc(), CASES);
 }
 
 #[test]

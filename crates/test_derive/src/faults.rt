@@ -28,7 +28,7 @@ struct A {}
 ----
 struct A {
     a: u8
-=> 3:1: the marker stands where a comma or `}` is wanted
+=> 1:10: `{` is closed by no `}`
 ----
 struct A {
     a: u8,
@@ -216,4 +216,23 @@ struct A {
     a: u8,
     b: u8,
 }
-=> 5:5: `b` stands twice"#;
+=> 5:5: `b` stands twice
+----
+// nanoserde: json
+struct A {
+    a: u8, // nanoserde: rename = "b"
+    c: u8,
+}
+=> 3:12: an attribute stands on a line of its own
+----
+// nanoserde: json
+enum A {
+    B, // nanoserde: rename = "b"
+    C,
+}
+=> 3:8: an attribute stands on a line of its own
+----
+struct A { // nanoserde: json
+    a: u8,
+}
+=> 1:12: an attribute stands on a line of its own"#;

@@ -1,6 +1,6 @@
 //! What is written of each form of a struct.
 
-use crate::forms::{CITING, DEFAULTED, GENERIC, LARGE, PARTS, SKIPPED};
+use crate::forms::{CITING, DEFAULTED, GENERIC, LARGE, PARTS, PASSED, SKIPPED};
 use crate::outcome::outcome_above;
 use std::alloc::{AllocError, Global};
 use std::process::Abort;
@@ -37,4 +37,5 @@ fn forms_are_written(rt: HostRuntime) {
     are_written(&rt, alloc, DEFAULTED);
     are_written(&rt, alloc, SKIPPED);
     are_written(&rt, alloc, CITING);
+    are_written(&rt, alloc, PASSED);
 }

@@ -190,3 +190,27 @@ struct A {
 =>
 ghost use Rattle.std.specs.Prelude.{codes, refl};
 "#;
+
+/// What is passed over: where something is seen, attributes that serde reads, and types with the
+/// names of others.
+pub(crate) const PASSED: &str = r#"use crate::cell::RefCell;
+#[cfg(test)]
+use crate::b::C;
+
+#[cfg(test)]
+struct B(u8);
+
+// nanoserde: json
+#[derive(Serialize)]
+#[serde(rename_all = "camelCase")]
+pub(in crate::a) struct A {
+    #[serde(default)]
+    pub(in crate::a) a_b: RefCell,
+    pub(super) c: Rc,
+}
+
+struct Rc(pub (u8, u8));
+=>
+impl nano_schema::Label for AAB {
+    ghost label = { codes "a_b" };
+"#;

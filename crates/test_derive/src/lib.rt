@@ -2,6 +2,10 @@
 #![tactic(auto)]
 
 #[cfg(test)]
+mod case_faults;
+#[cfg(test)]
+mod case_tests;
+#[cfg(test)]
 mod default_faults;
 #[cfg(test)]
 mod fault_tests;
@@ -11,6 +15,8 @@ mod faults;
 mod form_tests;
 #[cfg(test)]
 mod forms;
+#[cfg(test)]
+mod mistakes;
 #[cfg(test)]
 mod mutation_tests;
 #[cfg(test)]

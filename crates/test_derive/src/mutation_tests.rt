@@ -40,7 +40,7 @@ pub struct Plain(pub i32);
 // nanoserde: bin
 struct Triple(u8, u16, BTreeMap<String, u64>);
 
-// nanoserde: json
+// nanoserde: json, rename_all = \"snake_case\"
 enum Event {
     Stop,
     // nanoserde: rename = \"go on\"

@@ -1,11 +1,12 @@
 //! One struct or enum.
 
+use crate::case::Case;
 use crate::check::defaults::check_default;
 use crate::check::known::check_type;
-use crate::check::names::{check_distinct, check_name, encoded_name};
+use crate::check::names::{EncodedName, check_distinct, check_encoded, check_name};
 use crate::fault::Fault;
+use crate::parse::AS_COMMENT;
 use crate::syntax::{Attributes, Content, Definition, Field, Shape, Source, Type, Variant};
-use crate::token::Token;
 use std::alloc::Global;
 
 const NO_CODEC: &str = "stands in a type with no formats: write `// nanoserde: bin json ron` above \
@@ -20,9 +21,12 @@ pub(crate) fn check_definition<'a>(
     definition: &Definition<'a>,
 ) -> Result<(), Fault> {
     check_distinct(&definition.parameters)?;
+    check_attributes(definition.attributes, definition)?;
     check_transparent(definition)?;
+    check_case(definition)?;
+    let case = definition.attributes.case;
     match &definition.shape {
-        Shape::Fields(fields) => check_fields(alloc, source, definition, fields),
+        Shape::Fields(fields) => check_fields(alloc, source, definition, fields, case),
         Shape::Parts(parts) => check_parts(source, definition, parts),
         Shape::Variants(variants) => check_variants(alloc, source, definition, variants),
     }
@@ -39,12 +43,30 @@ fn check_transparent<'a>(definition: &Definition<'a>) -> Result<(), Fault> {
     }
 }
 
-/// An error where fields cannot be written.
+const HYPHENS: &str = "is for JSON alone: a name of RON is one word";
+
+const NO_NAMES: &str = "is for fields with names and for variants, and none of them is here";
+
+/// An error where the names in a type cannot be in the case that is given.
+fn check_case<'a>(definition: &Definition<'a>) -> Result<(), Fault> {
+    let attributes = definition.attributes;
+    let (Some(text), Some(case)) = (attributes.rename_all, attributes.case) else {
+        return Ok(());
+    };
+    match &definition.shape {
+        Shape::Parts(_) => Err(text.fault(NO_NAMES)),
+        _ if case.has_hyphens() && attributes.ron.is_used() => Err(text.fault(HYPHENS)),
+        _ => Ok(()),
+    }
+}
+
+/// An error where fields, whose names are in this case, cannot be written.
 fn check_fields<'a>(
     alloc: Global,
     source: &Source<'a>,
     definition: &Definition<'a>,
     fields: &[Field<'a>],
+    case: Option<Case>,
 ) -> Result<(), Fault> {
     let mut names = Vec::new(alloc);
     let mut encoded_names = Vec::new(alloc);
@@ -56,33 +78,40 @@ fn check_fields<'a>(
             continue;
         }
         check_type(source, definition, field.of)?;
-        let name = encoded_name(field.name, field.attributes);
-        check_name(name, definition.attributes)?;
+        let name = EncodedName::of_field(alloc, *field, case)?;
+        check_name(&name, definition.attributes)?;
         encoded_names.push(name)?;
     }
     check_distinct(&names)?;
     check_some(fields, &encoded_names)?;
-    check_distinct(&encoded_names)
+    check_encoded(&encoded_names)
 }
 
 /// An error where each field is skipped.
-fn check_some<'a>(fields: &[Field<'a>], encoded_names: &[Token<'a>]) -> Result<(), Fault> {
+fn check_some<'a>(fields: &[Field<'a>], encoded_names: &[EncodedName<'a>]) -> Result<(), Fault> {
     match fields.first() {
         Some(field) if encoded_names.is_empty() => Err(field.name.fault(NO_FIELD)),
         _ => Ok(()),
     }
 }
 
-/// An error where attributes of a field or a variant have no meaning.
+/// An error where a type, or a field or a variant of it, has attributes and no formats, or one of
+/// Rust's attributes that would change the impls.
 fn check_attributes<'a>(
     attributes: Attributes<'a>,
     definition: &Definition<'a>,
 ) -> Result<(), Fault> {
-    match attributes.first {
-        Some(word) if definition.attributes.codec.is_none() => Err(word.fault(NO_CODEC)),
+    let of = definition.attributes;
+    match (attributes.first, attributes.serde, attributes.cfg) {
+        (Some(word), _, _) if of.codec.is_none() => Err(word.fault(NO_CODEC)),
+        _ if of.codec.is_none() => Ok(()),
+        (_, Some(word), _) if !of.is_serde => Err(word.fault(AS_COMMENT)),
+        (_, _, Some(word)) => Err(word.fault(CFG)),
         _ => Ok(()),
     }
 }
+
+const CFG: &str = "leaves out what the impls below have: a type with formats has no `cfg`";
 
 /// An error where a tuple struct or tuple variant cannot be written.
 fn check_parts<'a>(
@@ -107,14 +136,14 @@ fn check_variants<'a>(
     let mut encoded_names = Vec::new(alloc);
     for variant in variants {
         check_attributes(variant.attributes, definition)?;
-        let name = encoded_name(variant.name, variant.attributes);
-        check_name(name, definition.attributes)?;
+        let name = EncodedName::of_variant(alloc, variant, definition.attributes.case)?;
+        check_name(&name, definition.attributes)?;
         names.push(variant.name)?;
         encoded_names.push(name)?;
         check_content(alloc, source, definition, &variant.content)?;
     }
     check_distinct(&names)?;
-    check_distinct(&encoded_names)
+    check_encoded(&encoded_names)
 }
 
 /// An error where what a variant holds cannot be written.
@@ -127,6 +156,7 @@ fn check_content<'a>(
     match content {
         Content::Nothing => Ok(()),
         Content::Parts(parts) => check_parts(source, definition, parts),
-        Content::Fields(fields) => check_fields(alloc, source, definition, fields),
+        // The case of an enum is that of its variants' names alone.
+        Content::Fields(fields) => check_fields(alloc, source, definition, fields, None),
     }
 }

@@ -1,6 +1,7 @@
 //! Which types are known: those of the prelude, those of the file, its parameters, and those that
 //! a line brings in.
 
+use crate::check::shared::is_shared;
 use crate::fault::Fault;
 use crate::syntax::{Attributes, Definition, Source, Type};
 use crate::token::{Token, TokenKind};
@@ -23,6 +24,9 @@ pub(crate) fn check_type<'a>(
             Some(following) => following.is("::"),
             None => false,
         };
+        if is_shared(source, definition, of.0.get(..i).unwrap_or(&[]), *token) {
+            return Err(token.fault(NO_SHARED));
+        }
         if token.kind == TokenKind::Word && !in_path && !is_path && !in_length {
             check_word(source, definition, *token)?;
         }
@@ -53,12 +57,21 @@ fn check_word<'a>(
     }
 }
 
+const NO_SHARED: &str =
+    "is a type that has no format here: a type owns what it holds, as it is or in a `Box`";
+
+const NO_FLOAT: &str = "is a type that has no format here: write an integer, or a `String` that \
+    has the number's text";
+
+const NO_SELF: &str = "is a type that has no format here: no type contains itself";
+
 /// An error at a type of Rust's that a format of this type lacks.
 fn check_number(word: Token<'_>, attributes: Attributes<'_>) -> Result<(), Fault> {
     match word.text {
-        "f32" | "f64" | "char" | "isize" | "str" | "Self" => {
-            Err(word.fault("is a type that has no format here"))
-        }
+        "f32" | "f64" => Err(word.fault(NO_FLOAT)),
+        "char" | "str" => Err(word.fault("is a type that has no format here: write `String`")),
+        "isize" => Err(word.fault("is a type that has no format here: write `i64`")),
+        "Self" => Err(word.fault(NO_SELF)),
         "u128" | "i128" if attributes.json.is_used() || attributes.ron.is_used() => {
             Err(word.fault("is a type that has bytes alone, and no JSON and RON"))
         }

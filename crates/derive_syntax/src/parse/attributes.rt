@@ -1,5 +1,6 @@
 //! Comments `// nanoserde: ..`, and Rust's attributes, which are passed over.
 
+use crate::case::Case;
 use crate::fault::Fault;
 use crate::parse::cursor::Cursor;
 use crate::syntax::{Attributes, Directions};
@@ -31,9 +32,14 @@ const NO_ATTRIBUTES: Attributes = Attributes {
     ron: UNTOUCHED,
     transparent: None,
     rename: None,
+    rename_all: None,
+    case: None,
     default: None,
     default_path: None,
     skip: None,
+    serde: None,
+    is_serde: false,
+    cfg: None,
 };
 
 /// Takes what stands above something.
@@ -49,7 +55,7 @@ pub(crate) fn attributes<'a>(
         } else if cursor.take("#") {
             let _ = cursor.take("!");
             cursor.expect("[", "stands where `[` is wanted")?;
-            skip_brackets(cursor)?;
+            rust_attribute(cursor, &mut attributes)?;
         } else {
             break;
         }
@@ -67,13 +73,27 @@ impl<'a> Attributes<'a> {
     }
 }
 
-/// Passes over the rest of `[..]`, of which the first bracket is taken.
-fn skip_brackets<'a>(cursor: &mut Cursor<'a>) -> Result<(), Fault> {
+/// Passes over the rest of `[..]`, of which the first bracket is taken, and notes what would change
+/// what is written.
+fn rust_attribute<'a>(
+    cursor: &mut Cursor<'a>,
+    attributes: &mut Attributes<'a>,
+) -> Result<(), Fault> {
     if cursor.is_at("nserde") {
-        return Err(cursor.fault("is written as a comment: `// nanoserde: ..`"));
+        return Err(cursor.fault(AS_COMMENT));
     }
+    if cursor.is_at("serde") {
+        attributes.serde = cursor.peek();
+    }
+    if cursor.is_at("cfg") {
+        attributes.cfg = cursor.peek();
+    }
+    let is_derive = cursor.is_at("derive");
     let mut depth = 1usize;
     for _turn in cursor.tokens {
+        if is_derive {
+            attributes.is_serde = check_macro(cursor)? || attributes.is_serde;
+        }
         if cursor.take("[") {
             depth = depth.saturating_add(1);
         } else if cursor.take("]") {
@@ -88,23 +108,38 @@ fn skip_brackets<'a>(cursor: &mut Cursor<'a>) -> Result<(), Fault> {
     Err(cursor.fault("stands where `]` is wanted"))
 }
 
-/// Takes the words of a comment, to its end.
+/// Whether the next token is a macro of serde. It is an error where it is one of nanoserde.
+fn check_macro(cursor: &Cursor<'_>) -> Result<bool, Fault> {
+    for name in ["SerBin", "DeBin", "SerJson", "DeJson", "SerRon", "DeRon"] {
+        if cursor.is_at(name) {
+            return Err(cursor.fault(NO_MACRO));
+        }
+    }
+    Ok(cursor.is_at("Serialize") || cursor.is_at("Deserialize"))
+}
+
+pub(crate) const AS_COMMENT: &str = "is written as a comment: `// nanoserde: ..`";
+
+const NO_MACRO: &str = "is no macro here: a line `// nanoserde: bin json ron` above the type takes \
+    its place, with the formats that it has";
+
+/// Takes the words of a comment, to its end: one at least.
 fn read_words<'a>(
     cursor: &mut Cursor<'a>,
     attributes: &mut Attributes<'a>,
     below: Below,
 ) -> Result<(), Fault> {
     for _turn in cursor.tokens {
-        if cursor.is_at_kind(TokenKind::AttributeEnd) {
-            let _ = cursor.next();
-            break;
-        }
         let word = cursor.of_kind(TokenKind::Word, "stands where an attribute is wanted")?;
         if attributes.first.is_none() {
             attributes.first = Some(word);
         }
         read_word(cursor, attributes, below, word)?;
         let _ = cursor.take(",");
+        if cursor.is_at_kind(TokenKind::AttributeEnd) {
+            let _ = cursor.next();
+            break;
+        }
     }
     Ok(())
 }
@@ -125,6 +160,12 @@ fn read_word<'a>(
             )?;
             let text = value(cursor)?;
             set(&mut attributes.rename, text, word)
+        }
+        "rename_all" => {
+            above(below == Below::Definition, word, DEFINITION)?;
+            let text = value(cursor)?;
+            attributes.case = Some(case_of(text)?);
+            set(&mut attributes.rename_all, text, word)
         }
         "skip" => {
             above(below == Below::Field, word, FIELD)?;
@@ -152,7 +193,10 @@ const FIELD: &str = "stands only above a field with a name";
 const FIELD_OR_VARIANT: &str = "stands only above a field with a name or a variant";
 
 const NO_ATTRIBUTE: &str = "is no attribute: those of a type are bin, json, ron, each of them also \
-    with de_ or ser_ before it, and transparent; those of a field rename, default and skip";
+    with de_ or ser_ before it, rename_all and transparent; those of a field rename, default and skip";
+
+const NO_CASE: &str = "is no case: those of names are lowercase, UPPERCASE, PascalCase, camelCase, \
+    snake_case, SCREAMING_SNAKE_CASE, kebab-case and SCREAMING-KEBAB-CASE";
 
 /// An error if the word is not where it may stand.
 fn above(may: bool, word: Token<'_>, words: &'static str) -> Result<(), Fault> {
@@ -163,6 +207,14 @@ fn above(may: bool, word: Token<'_>, words: &'static str) -> Result<(), Fault> {
 fn value<'a>(cursor: &mut Cursor<'a>) -> Result<Token<'a>, Fault> {
     cursor.expect("=", "stands where `=` and a text are wanted")?;
     cursor.of_kind(TokenKind::Text, "stands where a text is wanted")
+}
+
+/// The case that a text names.
+fn case_of(text: Token<'_>) -> Result<Case, Fault> {
+    match Case::named(text.quoted()) {
+        Some(case) => Ok(case),
+        None => Err(text.fault(NO_CASE)),
+    }
 }
 
 /// Sets what is to be set once.

@@ -62,6 +62,14 @@ impl<'a> Cursor<'a> {
         }
     }
 
+    /// Whether the token after the next one is this word or punctuation.
+    pub(crate) fn is_before(&self, text: &str) -> bool {
+        match self.tokens.get(self.taken.saturating_add(1)) {
+            Some(token) => token.is(text),
+            None => false,
+        }
+    }
+
     /// Takes the next token if it is this word or punctuation, and says whether it was.
     pub(crate) fn take(&mut self, text: &str) -> bool {
         let found = self.is_at(text);
@@ -98,6 +106,7 @@ impl<'a> Cursor<'a> {
     /// Takes the next token, which is to be a name.
     pub(crate) fn name(&mut self) -> Result<Token<'a>, Fault> {
         match self.peek() {
+            Some(token) if token.is("r") && self.is_before("#") => Err(token.fault(RAW)),
             Some(token) if token.kind == TokenKind::Word && !is_keyword(token.text) => {
                 let _ = self.next();
                 Ok(token)
@@ -123,6 +132,9 @@ impl<'a> Cursor<'a> {
         }
     }
 }
+
+const RAW: &str = "begins a raw name: take another name here, and give the one of the texts by \
+    `rename`";
 
 /// Whether Rust keeps this word for itself.
 fn is_keyword(word: &str) -> bool {

@@ -10,13 +10,30 @@ use std::alloc::Global;
 
 const MOST_PARTS: usize = 4;
 
-/// Takes `pub`, and what may follow it in brackets.
+/// Takes `pub`, and what may follow it in brackets: `crate`, `super`, `self`, or `in` and a path.
 pub(crate) fn visibility<'a>(cursor: &mut Cursor<'a>) -> Result<(), Fault> {
-    if cursor.take("pub") && cursor.take("(") {
-        let _ = cursor.next();
-        cursor.expect(")", "stands where `)` is wanted")?;
+    if !cursor.take("pub") || !is_restriction(cursor) {
+        return Ok(());
     }
-    Ok(())
+    let _ = cursor.take("(");
+    let _ = cursor.take("in");
+    for _turn in cursor.tokens {
+        let _ = cursor.next();
+        if !cursor.take("::") {
+            break;
+        }
+    }
+    cursor.expect(")", "stands where `)` is wanted")
+}
+
+/// Whether a bracket comes next that says where something is seen, and is not that of a type.
+fn is_restriction(cursor: &Cursor<'_>) -> bool {
+    for word in ["crate", "super", "self", "in"] {
+        if cursor.is_at("(") && cursor.is_before(word) {
+            return true;
+        }
+    }
+    false
 }
 
 /// Takes fields with names, from their bracket to its end.
@@ -166,9 +183,15 @@ fn variant<'a>(
     } else {
         Content::Nothing
     };
+    if cursor.is_at("=") {
+        return Err(cursor.fault(DISCRIMINANT));
+    }
     Ok(Variant {
         name,
         content,
         attributes,
     })
 }
+
+const DISCRIMINANT: &str = "gives a variant a number, and none has one here: leave it out. In \
+    bytes a variant is its place in the enum, from 0";

@@ -3,6 +3,7 @@
 
 use crate::fault::Fault;
 use crate::parse::attributes::{Below, attributes};
+use crate::parse::brackets::check_brackets;
 use crate::parse::cursor::Cursor;
 use crate::parse::fields::{fields, parts, variants, visibility};
 use crate::syntax::{Attributes, Definition, Shape, Source};
@@ -15,6 +16,7 @@ pub fn source_of<'a>(
     tokens: &'a [Token<'a>],
     end: usize,
 ) -> Result<Source<'a>, Fault> {
+    check_brackets(alloc, tokens)?;
     let mut cursor = Cursor::new(tokens, end);
     let mut source = Source {
         definitions: Vec::new(alloc),
@@ -44,18 +46,26 @@ fn item<'a>(
         let definition = definition(alloc, cursor, above)?;
         source.definitions.push(definition)?;
     } else {
+        check_line(cursor)?;
         above.of_nothing()?;
         line(cursor, &mut source.imported)?;
     }
     Ok(true)
 }
 
+/// An error where an item is none that ends in a semicolon.
+fn check_line(cursor: &Cursor<'_>) -> Result<(), Fault> {
+    for word in ["mod", "use", "ghost", "type"] {
+        if cursor.is_at(word) {
+            return Ok(());
+        }
+    }
+    Err(cursor.fault(unknown_item(cursor)))
+}
+
 /// Passes over an item that ends in a semicolon, and notes its words.
 fn line<'a>(cursor: &mut Cursor<'a>, imported: &mut Vec<Token<'a>>) -> Result<(), Fault> {
     let is_module = cursor.is_at("mod");
-    if !is_module && !cursor.is_at("use") && !cursor.is_at("ghost") && !cursor.is_at("type") {
-        return Err(cursor.fault(unknown_item(cursor)));
-    }
     for _turn in cursor.tokens {
         if is_module && cursor.is_at("{") {
             return Err(cursor.fault("begins a module: put it into a file of its own"));
@@ -109,10 +119,12 @@ fn definition<'a>(
     }
     let name = cursor.name()?;
     let parameters = parameters(alloc, cursor)?;
+    without_bounds(cursor)?;
     let shape = if is_enum {
         Shape::Variants(variants(alloc, cursor)?)
     } else if cursor.is_at("(") {
         let parts = parts(alloc, cursor)?;
+        without_bounds(cursor)?;
         cursor.expect(";", "stands where `;` is wanted")?;
         Shape::Parts(parts)
     } else {
@@ -124,6 +136,15 @@ fn definition<'a>(
         shape,
         attributes,
     })
+}
+
+/// An error at a `where`.
+fn without_bounds(cursor: &Cursor<'_>) -> Result<(), Fault> {
+    if cursor.is_at("where") {
+        Err(cursor.fault("begins bounds: a type parameter has no bound here"))
+    } else {
+        Ok(())
+    }
 }
 
 /// Takes type parameters, if there are any.

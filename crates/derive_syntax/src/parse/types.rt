@@ -26,6 +26,15 @@ impl Bracket {
             Bracket::Square => "]",
         }
     }
+
+    /// What is wrong with another token than what may come in it after a type.
+    fn wanted(self) -> &'static str {
+        match self {
+            Bracket::Angle => "stands where a comma or `>` is wanted",
+            Bracket::Round => "stands where a comma or `)` is wanted",
+            Bracket::Square => "stands where `]` is wanted",
+        }
+    }
 }
 
 /// What comes next within a type.
@@ -130,7 +139,7 @@ fn after<'a>(cursor: &mut Cursor<'a>, open: &mut Vec<Bracket>) -> Result<Next, F
         let _ = open.pop();
         return Ok(Next::After);
     }
-    Err(cursor.fault("stands where a comma or the end of a bracket is wanted"))
+    Err(cursor.fault(bracket.wanted()))
 }
 
 /// Takes the length of an array.

@@ -15,7 +15,7 @@ use crate::output::target::Target;
 use crate::output::tuples::part_types;
 use crate::output::variants::{arms, tuple_of};
 use crate::output::views::{cases, variant_imports};
-use derive_syntax::{Content, Type, Variant, encoded_name};
+use derive_syntax::{Content, Type, Variant, variant_name};
 use std::alloc::AllocError;
 
 /// Appends the impls of an enum.
@@ -41,8 +41,8 @@ fn append_variant<'a>(
     variant: &Variant<'a>,
 ) -> Result<Leaf, AllocError> {
     let label = label_of(sheet, target.name.text, variant.name.text)?;
-    let name = encoded_name(variant.name, variant.attributes).quoted();
-    append_label(sheet, label.as_str(), name)?;
+    let name = variant_name(sheet.alloc, variant, target.attributes.case)?;
+    append_label(sheet, label.as_str(), name.as_str())?;
     let content = append_content(sheet, target, variant)?;
     let mut texts = Vec::new(sheet.alloc);
     texts.push(label)?;
@@ -78,7 +78,7 @@ fn append_content<'a>(
         Content::Parts(parts) => append_parts(sheet, held.as_str(), parts)?,
         Content::Fields(fields) => {
             let fields = row_fields(alloc, fields)?;
-            let leaves = append_labels(sheet, target, owner.as_str(), &fields)?;
+            let leaves = append_labels(sheet, target, owner.as_str(), &fields, None)?;
             append_row(sheet, held.as_str(), &leaves)?;
         }
     }

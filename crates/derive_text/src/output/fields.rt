@@ -8,7 +8,7 @@ use crate::output::sheet::Sheet;
 use crate::output::target::Target;
 use crate::output::template::Holes;
 use crate::output::types::{optional_part, type_text};
-use derive_syntax::{Field, encoded_name};
+use derive_syntax::{Case, Field, field_name};
 use std::alloc::{AllocError, Global};
 
 /// The fields that are read and written.
@@ -25,18 +25,20 @@ pub(crate) fn row_fields<'a>(
     Ok(in_row)
 }
 
-/// Appends a label for each field, and returns the fields as they stand in a schema.
+/// Appends a label for each field, whose name is in this case, and returns the fields as they stand
+/// in a schema.
 pub(crate) fn append_labels<'a>(
     sheet: &mut Sheet,
     target: &Target<'a>,
     owner: &str,
     fields: &[Field<'a>],
+    case: Option<Case>,
 ) -> Result<Vec<Leaf>, AllocError> {
     let mut leaves = Vec::new(sheet.alloc);
     for field in fields {
         let label = label_of(sheet, owner, field.name.text)?;
-        let name = encoded_name(field.name, field.attributes).quoted();
-        append_label(sheet, label.as_str(), name)?;
+        let name = field_name(sheet.alloc, *field, case)?;
+        append_label(sheet, label.as_str(), name.as_str())?;
         leaves.push(schema_field(sheet, target, *field, label.as_str())?)?;
     }
     Ok(leaves)

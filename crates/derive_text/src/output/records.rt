@@ -19,7 +19,13 @@ pub(crate) fn append_record<'a>(
     fields: &[Field<'a>],
 ) -> Result<(), AllocError> {
     let in_row = row_fields(sheet.alloc, fields)?;
-    let leaves = append_labels(sheet, target, target.name.text, &in_row)?;
+    let leaves = append_labels(
+        sheet,
+        target,
+        target.name.text,
+        &in_row,
+        target.attributes.case,
+    )?;
     append_row(sheet, target.row.as_str(), &leaves)?;
     append_seen(sheet, target, &seen(sheet.alloc, target, fields, &in_row)?)?;
     append_codecs(sheet, target, &RECORD, &RECORD)

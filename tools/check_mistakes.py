@@ -1,0 +1,50 @@
+#!/usr/bin/env python3
+"""Fails where docs/USER_TYPES.md gives a message of `derive` that its source does not have.
+
+The messages are the second column of the table that begins `| You wrote | `derive` says |`. What a
+message is about, in backticks at its beginning, is left out: the rest is to stand in a text of
+derive_syntax or derive_text, from its beginning. Usage, at the top of the repository: python3 tools/check_mistakes.py
+"""
+import pathlib
+import re
+import sys
+
+DOCUMENT = pathlib.Path("docs/USER_TYPES.md")
+HEAD = "| You wrote | `derive` says |"
+SOURCES = ["crates/derive_syntax/src", "crates/derive_text/src"]
+TEXT = re.compile(r'"((?:\\.|[^"\\])*)"', re.S)
+
+
+def texts():
+    """The string literals of the sources, as they are printed."""
+    found = set()
+    for folder in SOURCES:
+        for path in pathlib.Path(folder).glob("**/*.rt"):
+            for text in TEXT.findall(path.read_text()):
+                found.add(re.sub(r"\\\n\s*", "", text).replace('\\"', '"'))
+    return found
+
+
+def messages():
+    """Each message, with the number of its line."""
+    lines = DOCUMENT.read_text().splitlines()
+    for number, line in enumerate(lines[lines.index(HEAD) + 2:], lines.index(HEAD) + 3):
+        if not line.startswith("| "):
+            return
+        yield number, line.split(" | ")[-1].removesuffix(" |")
+
+
+def main():
+    known, count, faults = texts(), 0, 0
+    for number, message in messages():
+        count += 1
+        words = re.sub(r"^`[^`]*` ", "", message)
+        if not any(text.startswith(words) for text in known):
+            print(f"{DOCUMENT}:{number}: derive does not say: {words}")
+            faults += 1
+    print(f"{count} messages, {faults} that derive does not say")
+    return 1 if faults or not count else 0
+
+
+if __name__ == "__main__":
+    sys.exit(main())
