@@ -31,14 +31,18 @@ class Object(list):
     """Names with their documents, in order."""
 
 
+class Decimal(str):
+    """The text of a number with a point or an exponent."""
+
+
 def read(reader, levels):
     """The document that the pending token begins."""
     if levels == 0:
         raise reader.err_range(f"levels>{LEVELS}")
     if reader.tok not in ("BlockOpen", "CurlyOpen"):
-        if reader.tok not in ("Null", "Bool", "Str", "U64", "I64"):
+        if reader.tok not in ("Null", "Bool", "Str", "U64", "I64", "F64"):
             raise reader.err_token("value")
-        value = reader.value
+        value = Decimal(reader.value) if reader.tok == "F64" else reader.value
         reader.next_tok()
         return value
     brackets, of_all = (BLOCK, []) if reader.tok == "BlockOpen" else (CURLY, Object())
@@ -69,6 +73,8 @@ def whole(text):
 
 def written(value, indent, level=1):
     """The canonical text, or with each item and entry on a line of its own, two spaces to a level."""
+    if isinstance(value, Decimal):
+        return str(value)
     if isinstance(value, str):
         return JsonForm.quoted(value)
     if not isinstance(value, list):

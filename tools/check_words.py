@@ -24,7 +24,7 @@ NAMES = {"writing": "canonical", "live": "remaining", "mark": "punctuator", "tie
 # Names of the standard library, of Rust, and of the published surface.
 ALLOWED = set(
     "Refused OnRefused ConnectionRefused push_front pop_front front_len tied_itself tied_back "
-    "Format format format_args formats Appends-kept unknown_are_kept is_sorted_front "
+    "Format format format_args room formats Appends-kept unknown_are_kept is_sorted_front "
     "ensures.front".split()
 )
 NAME = re.compile(r"(?<![\w'])[A-Za-z_][\w']*(?:-[\w']+)*")

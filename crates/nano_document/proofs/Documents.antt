@@ -1,17 +1,20 @@
 -- A document by its alternative: what it means, and how it is written.
-use Rattle.std.proofs.Common.{◌≡◌, ℕ, ℤ, pos, negsuc, FitsSigned, Bool, map, String, Vec, Global, string_bytes, codes, refl, sym, ◌∙◌, ap, subst, arith, rules}
+use Rattle.std.proofs.Common.{◌≡◌, ℕ, ℤ, pos, negsuc, FitsSigned, Bool, true, false, cond, map, String, Vec, Global, string_bytes, codes, refl, sym, ◌∙◌, ap, subst, arith, rules}
 use Rattle.std.specs.Int.{w64}
 use Rattle.std.specs.Fmt.{signed_decimal}
 use Rattle.nano_text.specs.Place.{saturating_next}
-use Rattle.nano_value.specs.Meaning.{Meaning, number, whole, truth, text, nothing, listed}
+use Rattle.nano_value.specs.Meaning.{Meaning, LegalText, number, whole, truth, text, nothing, listed}
 use Rattle.nano_meaning.specs.Sums.{tagged}
 use Rattle.nano_json.specs.ScalarCodecs.{boolean_codec}
 use Rattle.nano_json.specs.Lists.{written_list}
 use Rattle.nano_json.specs.Lists.{written_entries}
 use Rattle.nano_levels.specs.Kinds.{Tagged, codecs_at}
 use Rattle.nano_levels.proofs.LevelsLaws.{text_around, legal_around}
-use Rattle.nano_document.specs.Documents.{Fields, opened, view, json_means, entry_means, most_levels}
-use Rattle.nano_document.specs.DocumentCodecs.{layers, json_layer, json_nested, json_codec, string_codec}
+use Rattle.nano_json_tokens.specs.Written.{written_text}
+use Rattle.nano_document.specs.Decimals.{is_decimal, decimal_text}
+use Rattle.nano_document.specs.Documents.{Fields, opened, view, text_tag, json_means, entry_means, most_levels}
+use Rattle.nano_document.specs.DocumentCodecs.{layers, json_layer, json_nested, json_codec, string_codec, decimal_seen}
+use Rattle.nano_document.proofs.Deciding.{decimal_is}
 use Rattle.nano_document.specs.IntegerCodecs.{IsInteger}
 use Rattle.nano_document.specs.declared.json.Json as J
 use Rattle.nano_document.specs.declared.json.Json.{Json, the_lemmas}
@@ -39,6 +42,9 @@ out-U64 n = search (rules, the_lemmas)
 pub out-I64 : (z : ℤ) → out-Json (J.I64 z) ≡ O.I64 z
 out-I64 z = search (rules, the_lemmas)
 
+pub out-Decimal : (s : String Global) → out-Json (J.Decimal s) ≡ O.Decimal s
+out-Decimal s = search (rules, the_lemmas)
+
 pub out-Text : (s : String Global) → out-Json (J.Text s) ≡ O.Text s
 out-Text s = search (rules, the_lemmas)
 
@@ -65,6 +71,15 @@ means-U64 n = seen_means (J.U64 n) _ (ap opened (out-U64 n))
 pub means-I64 : (z : ℤ) → json_means (J.I64 z) ≡ tagged 2 (number z)
 means-I64 z = seen_means (J.I64 z) _ (ap opened (out-I64 z))
 
+pub means-Decimal : (s : String Global) → json_means (J.Decimal s) ≡ tagged (text_tag (string_bytes s)) (text (string_bytes s))
+means-Decimal s = seen_means (J.Decimal s) _ (ap opened (out-Decimal s)) ∙ sym (decimal_seen s)
+
+pub means_decimal : (s : String Global) → is_decimal (string_bytes s) ≡ true → json_means (J.Decimal s) ≡ tagged 6 (text (string_bytes s))
+means_decimal s e = means-Decimal s ∙ ap (λ b. tagged (cond b 6 3) (text (string_bytes s))) e
+
+pub means_no_decimal : (s : String Global) → is_decimal (string_bytes s) ≡ false → json_means (J.Decimal s) ≡ tagged 3 (text (string_bytes s))
+means_no_decimal s e = means-Decimal s ∙ ap (λ b. tagged (cond b 6 3) (text (string_bytes s))) e
+
 pub means-Text : (s : String Global) → json_means (J.Text s) ≡ tagged 3 (text (string_bytes s))
 means-Text s = seen_means (J.Text s) _ (ap opened (out-Text s))
 
@@ -83,6 +98,13 @@ legal_at place x m e h =
     legal_around json_nested most_levels x (subst (json_layer.codec json_codec).encoding.legal (sym e ∙ json_nested.means_is x)
     (record { place = place; content = m; legal = h; is = refl }))
 
+-- a text that may be a decimal
+pub legal_decimal : (s : String Global) → LegalText (text (string_bytes s)) → json_codec.encoding.legal (json_means (J.Decimal s))
+legal_decimal s h = elim (is_decimal (string_bytes s)) as (λ b. is_decimal (string_bytes s) ≡ b → json_codec.encoding.legal (json_means (J.Decimal s))) [
+  | true ↦ λ e. legal_at 6 (J.Decimal s) _ (means_decimal s e) (record { part = string_bytes s; has = decimal_is (string_bytes s) e; is = refl })
+  | false ↦ λ e. legal_at 3 (J.Decimal s) _ (means_no_decimal s e) h
+] refl
+
 -- ---- how it is written
 
 seen_text : (d : ℕ) (x : Json) (v : Tagged (Fields Json)) → view x ≡ v
@@ -100,6 +122,13 @@ text-U64 d n = seen_text d (J.U64 n) _ (ap opened (out-U64 n))
 
 pub text-I64 : (d : ℕ) (z : ℤ) → json_codec.canonical.text d (J.I64 z) ≡ signed_decimal z
 text-I64 d z = seen_text d (J.I64 z) _ (ap opened (out-I64 z))
+
+pub text-Decimal : (d : ℕ) (s : String Global) → json_codec.canonical.text d (J.Decimal s) ≡ decimal_text (string_bytes s)
+text-Decimal d s = seen_text d (J.Decimal s) _ (ap opened (out-Decimal s)) ∙ elim (is_decimal (string_bytes s)) as (λ b. (json_layer.codec json_codec).canonical.text d (cond b (record { tag = 6; fields = s }) (record { tag = 3; fields = s }))
+    ≡ cond b (string_bytes s) (written_text (string_bytes s))) [
+      | true ↦ refl
+      | false ↦ refl
+    ]
 
 pub text-Text : (d : ℕ) (s : String Global) → json_codec.canonical.text d (J.Text s) ≡ string_codec.canonical.text d s
 text-Text d s = seen_text d (J.Text s) _ (ap opened (out-Text s))

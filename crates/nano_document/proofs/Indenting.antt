@@ -1,5 +1,5 @@
 -- Documents with indentation: the same tokens as in the canonical text, by lines.
-use Rattle.std.proofs.Common.{◌≡◌, ◌<◌, ℕ, zero, suc, ℤ, pos, Bool, true, false, cond, List, [], ◌∷◌, ◌++◌, String, Vec, Global, codes, encode_utf8, encode_utf8_all, refl, sym, ◌∙◌, ap, subst, append-nil, ◌+◌, arith}
+use Rattle.std.proofs.Common.{◌≡◌, ◌<◌, ℕ, zero, suc, ℤ, pos, Bool, true, false, cond, List, [], ◌∷◌, ◌++◌, String, Vec, Global, string_bytes, codes, encode_utf8, encode_utf8_all, refl, sym, ◌∙◌, ap, subst, append-nil, ◌+◌, arith}
 use Rattle.std.proofs.Math.Utf8.{encode}
 use Rattle.std.specs.Fmt.{signed_decimal}
 use Rattle.nano_text.specs.Place.{saturating_next}
@@ -24,7 +24,9 @@ use Rattle.nano_document.specs.declared.json.Json.{Json}
 use Rattle.nano_grammar.proofs.TokensLaws.{cuts_fit}
 use Rattle.nano_json.proofs.Json.{json_laws}
 use Rattle.nano_document.proofs.Sound.{below_limit}
-use Rattle.nano_document.proofs.Documents.{out-Null, out-Bool, out-U64, out-I64, out-Text, out-List, out-Object}
+use Rattle.nano_json_tokens.specs.Written.{written_text}
+use Rattle.nano_document.specs.Decimals.{is_decimal, decimal_text}
+use Rattle.nano_document.proofs.Documents.{out-Null, out-Bool, out-U64, out-I64, out-Decimal, out-Text, out-List, out-Object}
 
 -- ---- the same tokens
 
@@ -38,7 +40,8 @@ content_tokens f h e (suc (suc (suc (suc zero)))) x =
     ap (λ (t : Json → List Token). laid_out false no_gaps blocks t x) e
 content_tokens f h e (suc (suc (suc (suc (suc zero))))) x =
     ap (λ (t : Json → List Token). laid_out false no_gaps curlies (λ (p : String Global × Json). string_codec.canonical.tokens p.0 ++ colon ∷ t p.1) x) e
-content_tokens f h e (suc (suc (suc (suc (suc (suc place)))))) x = absurd x
+content_tokens f h e (suc (suc (suc (suc (suc (suc zero)))))) x = refl
+content_tokens f h e (suc (suc (suc (suc (suc (suc (suc place))))))) x = absurd x
 
 level_tokens : (n : ℕ) → (level indented_nested n).canonical.tokens ≡ (level json_nested n).canonical.tokens
 unfolding level
@@ -72,7 +75,8 @@ content_legal f h w (suc (suc (suc (suc (suc zero))))) m k = record {
   };
   is = k.is;
 }
-content_legal f h w (suc (suc (suc (suc (suc (suc place)))))) m k = k
+content_legal f h w (suc (suc (suc (suc (suc (suc zero)))))) m k = k
+content_legal f h w (suc (suc (suc (suc (suc (suc (suc place))))))) m k = k
 
 level_legal : (n : ℕ) (m : Meaning) → (level json_nested n).encoding.legal m → (level indented_nested n).encoding.legal m
 unfolding level
@@ -110,6 +114,13 @@ text-U64 d n = seen_text d (J.U64 n) _ (ap opened (out-U64 n))
 
 pub text-I64 : (d : ℕ) (z : ℤ) → indented d (J.I64 z) ≡ signed_decimal z
 text-I64 d z = seen_text d (J.I64 z) _ (ap opened (out-I64 z))
+
+pub text-Decimal : (d : ℕ) (s : String Global) → indented d (J.Decimal s) ≡ decimal_text (string_bytes s)
+text-Decimal d s = seen_text d (J.Decimal s) _ (ap opened (out-Decimal s)) ∙ elim (is_decimal (string_bytes s)) as (λ b. (indented_layer.codec indented_codec).canonical.text d (cond b (record { tag = 6; fields = s }) (record { tag = 3; fields = s }))
+    ≡ cond b (string_bytes s) (written_text (string_bytes s))) [
+      | true ↦ refl
+      | false ↦ refl
+    ]
 
 pub text-Text : (d : ℕ) (s : String Global) → indented d (J.Text s) ≡ string_codec.canonical.text d s
 text-Text d s = seen_text d (J.Text s) _ (ap opened (out-Text s))

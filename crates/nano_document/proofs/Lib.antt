@@ -1,3 +1,6 @@
+pub mod Deciding
+pub mod DecimalParts
+pub mod DecimalText
 pub mod Documents
 pub mod Reading
 pub mod Sound

@@ -153,6 +153,7 @@ items_or_entries O.Null = inl refl
 items_or_entries (O.Bool b) = inl refl
 items_or_entries (O.U64 n) = inl refl
 items_or_entries (O.I64 z) = inl refl
+items_or_entries (O.Decimal s) = inl refl
 items_or_entries (O.Text s) = inl refl
 items_or_entries (O.List xs) = inr refl
 items_or_entries (O.Object es) = inl refl
@@ -231,6 +232,7 @@ module _ (token : List ℕ) (x : Json) where
   holds_none no_list no_object (O.Bool b) e = (refl, refl)
   holds_none no_list no_object (O.U64 n) e = (refl, refl)
   holds_none no_list no_object (O.I64 z) e = (refl, refl)
+  holds_none no_list no_object (O.Decimal s) e = (refl, refl)
   holds_none no_list no_object (O.Text s) e = (refl, refl)
   holds_none no_list no_object (O.List xs) e = absurd (no_list xs (from_out x (J.List xs) (e ∙ sym (out-List xs))))
   holds_none no_list no_object (O.Object es) e = absurd (no_object es (from_out x (J.Object es) (e ∙ sym (out-Object es))))

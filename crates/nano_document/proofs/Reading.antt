@@ -2,7 +2,8 @@
 use Rattle.std.proofs.Common.{◌≡◌, ℕ, suc, ◌-◌, ℤ, Bool, List, [], ◌∷◌, ◌++◌, map, String, Vec, Global, string_bytes, refl, sym, ◌∙◌, ap, subst, arith}
 use Rattle.nano_text.specs.Place.{text_at}
 use Rattle.nano_text.proofs.PlaceLaws.{moves_append}
-use Rattle.nano_value.specs.Meaning.{Meaning, paired}
+use Rattle.nano_value.specs.Meaning.{Meaning, text, paired}
+use Rattle.nano_meaning.proofs.MeaningLaws.{text_injective}
 use Rattle.nano_meaning.specs.Sums.{tagged}
 use Rattle.nano_grammar.specs.Codec.{BeginsValue, Encoding, IsEncoding}
 use Rattle.nano_json.specs.Lists.{EncodesEntry}
@@ -25,7 +26,12 @@ use Rattle.nano_levels.proofs.KindsLaws.{of_kind}
 use Rattle.nano_levels.proofs.LevelsLaws.{level_holds, level_content, level_none}
 use Rattle.nano_document.specs.Documents.{kind, json_means, entry_means}
 use Rattle.nano_document.specs.DocumentCodecs.{layers, kind_is, json_nested, level_codec, string_codec, entry_at}
+use Rattle.nano_document.specs.Decimals.{IsDecimal}
+use Rattle.nano_document.specs.DecimalCodecs.{decimals}
+use Rattle.nano_document.specs.declared.json.Json as J
 use Rattle.nano_document.specs.declared.json.Json.{Json}
+use Rattle.nano_document.proofs.Deciding.{decimal_tests}
+use Rattle.nano_document.proofs.Documents.{means_decimal}
 
 -- what the alternative at a place encodes, around so many levels
 abbrev pub content_at : ℕ → ℕ → Encoding json_grammar
@@ -74,22 +80,35 @@ pub not_at : (levels n : ℕ) → levels ≡ suc n → (place : ℕ) → {start 
 not_at levels n is place {start} same h =
     none_first Cut (Encodes levels) (content_at n place).encodes (content_leads levels n is place start.at.token same) h
 
+-- a text that is read as a decimal is one
+decimal_spans : {start end : Position Token} (s : String Global) → Read Cut decimals.encodes start end (text (string_bytes s))
+    → IsDecimal (string_bytes s)
+decimal_spans s h =
+    let of = h.decodes.1 in
+    subst IsDecimal (sym (text_injective (string_bytes s) of.part of.is)) of.has.has
+
+-- where a decimal is read
+pub decimal_at : (levels n : ℕ) → levels ≡ suc n → (s : String Global) → {start end : Position Token}
+    → Read Cut decimals.encodes start end (text (string_bytes s)) → Read Cut (Encodes levels) start end (json_means (J.Decimal s))
+decimal_at levels n is s h =
+    read_at levels n is 6 (J.Decimal s) _ (means_decimal s (decimal_tests (string_bytes s) (decimal_spans s h))) h
+
 -- where it begins no document
 pub not_begun : (levels n : ℕ) → levels ≡ suc n → {start : Position Token} {e : Report}
-    → start.at.text ≡ text_at start.place start.input → kind start.at.token ≡ 6
+    → start.at.text ≡ text_at start.place start.input → kind start.at.token ≡ 7
     → IsMadeAt start.place e → ReadsNone Cut (Encodes levels) start start e
-not_begun levels n is {start} text same made =
-    not_at levels n is 6 same
-    (fails_here (goes_wrong Cut (content_at n 6).encodes start text (λ m f. f) (λ ts m f. f)) made)
+not_begun levels n is {start} stands same made =
+    not_at levels n is 7 same
+    (fails_here (goes_wrong Cut (content_at n 7).encodes start stands (λ m f. f) (λ ts m f. f)) made)
 
 -- where no level is left
 pub no_level : (levels : ℕ) → levels ≡ 0 → {start : Position Token} {e : Report}
     → start.at.text ≡ text_at start.place start.input → IsMadeAt start.place e
     → ReadsNone Cut (Encodes levels) start start e
-no_level levels is {start} text made =
+no_level levels is {start} stands made =
     let none : (ts : List Token) (m : Meaning) → Encodes levels ts m → ⊥ =
     λ ts m f. level_none json_nested m ts (subst (λ k. Encodes k ts m) is f) in
-    fails_here (goes_wrong Cut (Encodes levels) start text (none []) (λ ts. none (start.at.token ∷ ts))) made
+    fails_here (goes_wrong Cut (Encodes levels) start stands (none []) (λ ts. none (start.at.token ∷ ts))) made
 
 -- ---- the kind of the pending token
 
@@ -104,15 +123,16 @@ pending_kind s t e = ap kind (pending_is s t e)
 -- a token that begins no document
 pub other_kind : (t : DeJsonTok) (strbuf numbuf : List ℕ) → (t ≡ T.Null → ⊥) → ((b : Bool) → t ≡ T.Bool b → ⊥)
     → ((n : ℕ) → t ≡ T.U64 n → ⊥) → ((z : ℤ) → t ≡ T.I64 z → ⊥) → (t ≡ T.Str → ⊥) → (t ≡ T.BlockOpen → ⊥)
-    → (t ≡ T.CurlyOpen → ⊥) → kind (token_of t strbuf numbuf) ≡ 6
-other_kind T.Null s n null bool u64 i64 str block curly = absurd (null refl)
-other_kind (T.Bool b) s n null bool u64 i64 str block curly = absurd (bool b refl)
-other_kind (T.U64 k) s n null bool u64 i64 str block curly = absurd (u64 k refl)
-other_kind (T.I64 z) s n null bool u64 i64 str block curly = absurd (i64 z refl)
-other_kind T.Str s n null bool u64 i64 str block curly = absurd (str refl)
-other_kind T.BlockOpen s n null bool u64 i64 str block curly = absurd (block refl)
-other_kind T.CurlyOpen s n null bool u64 i64 str block curly = absurd (curly refl)
-other_kind _ s n null bool u64 i64 str block curly = refl
+    → (t ≡ T.CurlyOpen → ⊥) → (t ≡ T.F64 → ⊥) → kind (token_of t strbuf numbuf) ≡ 7
+other_kind T.Null s n null bool u64 i64 str block curly f64 = absurd (null refl)
+other_kind (T.Bool b) s n null bool u64 i64 str block curly f64 = absurd (bool b refl)
+other_kind (T.U64 k) s n null bool u64 i64 str block curly f64 = absurd (u64 k refl)
+other_kind (T.I64 z) s n null bool u64 i64 str block curly f64 = absurd (i64 z refl)
+other_kind T.Str s n null bool u64 i64 str block curly f64 = absurd (str refl)
+other_kind T.BlockOpen s n null bool u64 i64 str block curly f64 = absurd (block refl)
+other_kind T.CurlyOpen s n null bool u64 i64 str block curly f64 = absurd (curly refl)
+other_kind T.F64 s n null bool u64 i64 str block curly f64 = absurd (f64 refl)
+other_kind _ s n null bool u64 i64 str block curly f64 = refl
 
 -- ---- lists and entries
 

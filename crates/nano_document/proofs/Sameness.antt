@@ -1,18 +1,21 @@
 -- When two documents mean the same, by the alternative that one of them is.
-use Rattle.std.proofs.Common.{◌≡◌, ◌↔◌, ◌<◌, ◌^◌, ℕ, ℤ, pos, FitsSigned, map, String, Vec, Global, string_bytes, Option, Some, None, MatchOption, inl, inr, sym, ◌∙◌, ap, subst, IsTrue, true, false, eqb, eq-eqb, true≢false}
+use Rattle.std.proofs.Common.{◌≡◌, ◌↔◌, ◌<◌, ◌^◌, ℕ, ℤ, pos, Bool, FitsSigned, List, map, String, Vec, Global, string_bytes, Option, Some, None, MatchOption, inl, inr, sym, ◌∙◌, ap, subst, IsTrue, true, false, eqb, eq-eqb, true≢false}
 use Rattle.std.specs.Int.{w64}
 use Rattle.std.specs.Option.{option_eq}
 use Rattle.std.specs.Ordering.{int_eq}
+use Rattle.std.specs.Str.{bytes_eq}
+use Rattle.std.proofs.lemmas.Slice.Eq.{bytes_eq-Decides}
 use Rattle.std.proofs.lemmas.Bool.{eqb-true}
 use Rattle.std.proofs.lemmas.Bool.Decides.{Decides-int_eq}
-use Rattle.nano_value.specs.Meaning.{number, text, listed}
+use Rattle.nano_value.specs.Meaning.{Meaning, number, text, listed}
 use Rattle.nano_meaning.specs.Sums.{tagged}
-use Rattle.nano_meaning.proofs.MeaningLaws.{number_injective, pos_injective, listed_injective}
-use Rattle.nano_document.specs.Documents.{json_means, entry_means, IsNumber}
+use Rattle.nano_meaning.proofs.MeaningLaws.{number_injective, pos_injective, text_injective, listed_injective}
+use Rattle.nano_document.specs.Documents.{json_means, entry_means, IsNumber, IsTextOf, IsDecimalOf}
 use Rattle.nano_document.specs.declared.json.Json as J
 use Rattle.nano_document.specs.declared.json.Json.{Json}
-use Rattle.nano_document.proofs.Documents.{means-U64, means-I64, means-Text, means-List, means-Object}
-use Rattle.nano_document.proofs.Alternatives.{content_same, is_number_by, is_text_by, is_list_by, is_object_by}
+use Rattle.nano_document.proofs.Deciding.{decimal_tests, other_text}
+use Rattle.nano_document.proofs.Documents.{means-U64, means-I64, means_decimal, means_no_decimal, means-Text, means-List, means-Object}
+use Rattle.nano_document.proofs.Alternatives.{content_same, is_number_by, is_text_by, is_decimal_by, is_list_by, is_object_by}
 
 -- what is not, on both sides
 pub never : {P : Type 0} → (P → ⊥) → IsTrue false ↔ P
@@ -26,6 +29,36 @@ u64_is (Some m) n = (λ e. ap Some (eqb-true m n e), λ e. let same : m ≡ n = 
 pub i64_is : (o : Option ℤ) (z : ℤ) → (option_eq int_eq o (Some z) ≡ true) ↔ (o ≡ Some z)
 i64_is None z = (λ e. absurd (true≢false (sym e)), λ e. absurd (cc e))
 i64_is (Some y) z = (λ e. ap Some ((Decides-int_eq y z).0 e), λ e. let same : y ≡ z = cc e in (Decides-int_eq y z).1 same)
+
+module _ (y : Json) where
+  pub means_of_text : (s : String Global) → IsTextOf y s → json_means y ≡ tagged 3 (text (string_bytes s))
+  means_of_text s (inl is) = ap json_means is ∙ means-Text s
+  means_of_text s (inr h) = ap json_means h.0 ∙ means_no_decimal s (other_text (string_bytes s) h.1)
+
+  pub means_of_decimal : (s : String Global) → IsDecimalOf y s → json_means y ≡ tagged 6 (text (string_bytes s))
+  means_of_decimal s h = ap json_means h.0 ∙ means_decimal s (decimal_tests (string_bytes s) h.1)
+
+  -- what it means, against what the other one is found to be
+  content_is : (place : ℕ) (a b : List ℕ) → json_means y ≡ tagged place (text b)
+      → (a ≡ b) ↔ (json_means y ≡ tagged place (text a))
+  content_is place a b my = (
+    λ e. my ∙ ap (λ bytes. tagged place (text bytes)) (sym e),
+    λ e. text_injective a b (content_same place place (text a) (text b) (sym e ∙ my)),
+  )
+
+  -- and by comparing the two texts
+  pub compared : (place : ℕ) (a b : List ℕ) (r : Bool) → r ≡ bytes_eq a b → json_means y ≡ tagged place (text b)
+      → IsTrue r ↔ (json_means y ≡ tagged place (text a))
+  compared place a b r is my =
+      let decides = bytes_eq-Decides a b in
+      let same = content_is place a b my in
+      (λ e. same.0 (decides.0 (sym is ∙ e)), λ e. is ∙ decides.1 (same.1 e))
+
+  pub no_text : (a : List ℕ) → ((s : String Global) → IsTextOf y s → ⊥) → IsTrue false ↔ (json_means y ≡ tagged 3 (text a))
+  no_text a other = never (λ e. let found = is_text_by y (text a) e in other found.0 found.1)
+
+  pub no_decimal_of : (a : List ℕ) → ((s : String Global) → IsDecimalOf y s → ⊥) → IsTrue false ↔ (json_means y ≡ tagged 6 (text a))
+  no_decimal_of a other = never (λ e. let found = is_decimal_by y (text a) e in other found.0 found.1)
 
 module _ (x y : Json) where
   -- ---- numbers
@@ -72,10 +105,9 @@ module _ (x y : Json) where
 
   -- ---- texts
 
-  pub no_text_same : (s : String Global) → x ≡ J.Text s → ((t : String Global) → y ≡ J.Text t → ⊥)
-      → IsTrue false ↔ (json_means x ≡ json_means y)
-  no_text_same s is other = never (λ e.
-      let found = is_text_by y (text (string_bytes s)) (sym e ∙ (ap json_means is ∙ means-Text s)) in other found.0 found.1)
+  -- the other way around, and of what is the same
+  pub turned : (m : Meaning) → json_means x ≡ m → {P : Type 0} → P ↔ (json_means y ≡ m) → P ↔ (json_means x ≡ json_means y)
+  turned m mx h = (λ p. mx ∙ sym (h.0 p), λ e. h.1 (sym e ∙ mx))
 
   -- ---- lists and objects
 

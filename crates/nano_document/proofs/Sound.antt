@@ -21,7 +21,8 @@ content_sound f (suc (suc zero)) x h = tt
 content_sound f (suc (suc (suc zero))) x h = tt
 content_sound f (suc (suc (suc (suc zero)))) x h = h
 content_sound f (suc (suc (suc (suc (suc zero))))) x h = entries_sound f x h
-content_sound f (suc (suc (suc (suc (suc (suc place)))))) x h = absurd x
+content_sound f (suc (suc (suc (suc (suc (suc zero)))))) x h = tt
+content_sound f (suc (suc (suc (suc (suc (suc (suc place))))))) x h = absurd x
 
 pub below_limit : (x : Json) → depth x < most_levels → json_codec.sound x
 below_limit = below_is_sound json_nested most_levels (λ f x h. content_sound f x.tag x.fields h)

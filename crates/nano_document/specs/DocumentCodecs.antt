@@ -1,9 +1,9 @@
 -- The codec of documents: one level of it around the levels below.
 use Rattle.std.specs.Prelude.{◌≡◌, ℕ, zero, suc, ℤ, Some, refl, List, [], ◌∷◌, map, String}
-use Rattle.std.specs.Prelude.{string_bytes}
+use Rattle.std.specs.Prelude.{string_bytes, cond, true, false}
 use Rattle.std.specs.Global.{Global}
 use Rattle.std.proofs.Common.{◌∙◌, ap}
-use Rattle.nano_value.specs.Meaning.{Meaning, listed}
+use Rattle.nano_value.specs.Meaning.{Meaning, listed, text}
 use Rattle.nano_meaning.specs.Sums.{tagged}
 use Rattle.nano_grammar.proofs.ListsLaws.{list_of}
 use Rattle.nano_grammar.proofs.PairsLaws.{and_then}
@@ -11,7 +11,7 @@ use Rattle.nano_json_tokens.specs.Token.{blocks, curlies}
 use Rattle.nano_json_tokens.specs.Cut.{json_grammar}
 use Rattle.nano_json_tokens.proofs.JsonLaws.{json, block_style, block_brackets, curly_style}
 use Rattle.nano_json_tokens.proofs.JsonLaws.{curly_brackets, entry_style}
-use Rattle.nano_json_tokens.specs.Token.{Token, bool, str, colon, integer_of, u64, i64}
+use Rattle.nano_json_tokens.specs.Token.{Token, bool, str, colon, integer_of, u64, i64, f64}
 use Rattle.nano_json.specs.ScalarCodecs.{boolean_codec, unit_codec}
 use Rattle.nano_json.specs.Codec.{Codec, codec_as}
 use Rattle.nano_json.specs.Codec.{Encoding}
@@ -22,7 +22,9 @@ use Rattle.nano_levels.proofs.KindsLaws.{no_content, kinds_layer}
 use Rattle.nano_levels.proofs.LayersLaws.{itself_layer, other_layer, list_layer, next_layer}
 use Rattle.nano_levels.proofs.LevelsLaws.{level, limited}
 use Rattle.nano_document.specs.Documents.{kind, Fields, opened, view, means_step, json_means}
-use Rattle.nano_document.specs.Documents.{entry_means, depth_step, depth, most_levels}
+use Rattle.nano_document.specs.Documents.{entry_means, depth_step, depth, most_levels, text_tag}
+use Rattle.nano_document.specs.Decimals.{is_decimal}
+use Rattle.nano_document.specs.DecimalCodecs.{decimal_codec}
 use Rattle.nano_document.specs.IntegerCodecs.{integer_codec}
 use Rattle.nano_document.specs.declared.json.Json.{Json}
 use Rattle.nano_document.specs.declared.json.Json.TheOpen.{Json-F}
@@ -44,7 +46,8 @@ layers (suc (suc (suc (suc zero)))) = list_layer block_style block_brackets itse
 layers (suc (suc (suc (suc (suc zero))))) =
     list_layer curly_style curly_brackets
     (next_layer entry_style (λ h. h) string_codec itself_layer)
-layers (suc (suc (suc (suc (suc (suc place)))))) = other_layer no_content
+layers (suc (suc (suc (suc (suc (suc zero)))))) = other_layer decimal_codec
+layers (suc (suc (suc (suc (suc (suc (suc place))))))) = other_layer no_content
 
 pub integer_kind : (t : Token) (z : ℤ) → integer_of t ≡ Some z → kind t ≡ 2
 integer_kind (u64 n) z e = refl
@@ -63,7 +66,9 @@ kind_is f (suc (suc (suc zero))) ts m h =
     one_kind h.has.token (str h.part) ts h.has.one h.has.carries_it
 kind_is f (suc (suc (suc (suc zero)))) ts m h = ap (kind_of kind) h.has.items.1
 kind_is f (suc (suc (suc (suc (suc zero))))) ts m h = ap (kind_of kind) h.has.items.1
-kind_is f (suc (suc (suc (suc (suc (suc place)))))) ts m h = absurd h
+kind_is f (suc (suc (suc (suc (suc (suc zero)))))) ts m h =
+    one_kind h.has.token (f64 h.part) ts h.has.one h.has.carries_it
+kind_is f (suc (suc (suc (suc (suc (suc (suc place))))))) ts m h = absurd h
 
 -- ---- what a document means and how deep it is, by what it holds
 
@@ -76,12 +81,23 @@ pub entries_mean : (es : List (String Global × Json))
 entries_mean [] = refl
 entries_mean (e ∷ es) = λ i. entry_means json_means e ∷ entries_mean es i
 
+pub decimal_seen : (s : String Global) → tagged (text_tag (string_bytes s)) (text (string_bytes s))
+    ≡ json_layer.means json_means (opened (Json-F.Decimal s))
+decimal_seen s =
+    elim (is_decimal (string_bytes s)) as (λ b. tagged (cond b 6 3) (text (string_bytes s))
+    ≡ json_layer.means json_means
+    (cond b (record { tag = 6; fields = s }) (record { tag = 3; fields = s }))) [
+      | true ↦ refl
+      | false ↦ refl
+    ]
+
 pub means_seen : (y : Json-F Json) → means_step (map-Json Json Meaning json_means y)
     ≡ json_layer.means json_means (opened y)
 means_seen Json-F.Null = refl
 means_seen (Json-F.Bool b) = refl
 means_seen (Json-F.U64 n) = refl
 means_seen (Json-F.I64 z) = refl
+means_seen (Json-F.Decimal s) = decimal_seen s
 means_seen (Json-F.Text s) = refl
 means_seen (Json-F.List xs) = refl
 means_seen (Json-F.Object es) = ap (λ ms. tagged 5 (listed ms)) (entries_mean es.items)
@@ -96,12 +112,21 @@ pub entries_deep : (es : List (String Global × Json))
 entries_deep [] = refl
 entries_deep (e ∷ es) = λ i. suc (depth e.1) ∷ entries_deep es i
 
+pub decimal_deep : (s : String Global) → 0 ≡ json_layer.deep depth (opened (Json-F.Decimal s))
+decimal_deep s =
+    elim (is_decimal (string_bytes s)) as (λ b. 0 ≡ json_layer.deep depth
+    (cond b (record { tag = 6; fields = s }) (record { tag = 3; fields = s }))) [
+      | true ↦ refl
+      | false ↦ refl
+    ]
+
 pub depth_seen : (y : Json-F Json) → depth_step (map-Json Json ℕ depth y)
     ≡ json_layer.deep depth (opened y)
 depth_seen Json-F.Null = refl
 depth_seen (Json-F.Bool b) = refl
 depth_seen (Json-F.U64 n) = refl
 depth_seen (Json-F.I64 z) = refl
+depth_seen (Json-F.Decimal s) = decimal_deep s
 depth_seen (Json-F.Text s) = refl
 depth_seen (Json-F.List xs) = ap greatest (items_deep xs.items)
 depth_seen (Json-F.Object es) = ap greatest (entries_deep es.items)

@@ -1,11 +1,12 @@
 -- How documents are written with indentation: each item and each entry on a line of its own, two
 -- spaces to a level, and nothing between the brackets of an empty list or object. The tokens are
 -- those of the canonical text.
-use Rattle.std.specs.Prelude.{◌≡◌, ℕ, zero, suc, false, codes, refl, List, [], ◌∷◌, String}
+use Rattle.std.specs.Prelude.{◌≡◌, ℕ, zero, suc, true, false, cond, codes, refl, List, [], ◌∷◌}
+use Rattle.std.specs.Prelude.{String, string_bytes}
 use Rattle.std.specs.Global.{Global}
 use Rattle.std.proofs.Common.{◌∙◌, ap}
 use Rattle.nano_text.specs.Place.{saturating_next}
-use Rattle.nano_value.specs.Meaning.{Meaning, listed}
+use Rattle.nano_value.specs.Meaning.{Meaning, listed, text}
 use Rattle.nano_meaning.specs.Sums.{tagged}
 use Rattle.nano_grammar.specs.Tokens.{IsWrittenGap, IsValueText}
 use Rattle.nano_grammar.specs.Items.{ListPunctuation, PunctuationIs, AreGaps, no_gaps}
@@ -14,7 +15,7 @@ use Rattle.nano_grammar.specs.Codec.{AreBrackets, ListStyle, PairStyle}
 use Rattle.nano_grammar.proofs.ListsLaws.{list_codec}
 use Rattle.nano_json_tokens.specs.Cut.{AllSpace, json_grammar}
 use Rattle.nano_json_tokens.specs.Token.{Token, blocks, block_punctuation, curlies}
-use Rattle.nano_json_tokens.specs.Token.{curly_punctuation, colon, bool, str}
+use Rattle.nano_json_tokens.specs.Token.{curly_punctuation, colon, bool, str, f64}
 use Rattle.nano_json_tokens.proofs.JsonLaws.{json, blocks_are, curlies_are, block_brackets}
 use Rattle.nano_json_tokens.proofs.JsonLaws.{curly_brackets, no_gaps_in, no_gap_written, colon_is}
 use Rattle.nano_json.specs.Codec.{Codec}
@@ -25,7 +26,9 @@ use Rattle.nano_levels.proofs.KindsLaws.{no_content, kinds_layer}
 use Rattle.nano_levels.proofs.LayersLaws.{itself_layer, other_layer, list_layer, next_layer}
 use Rattle.nano_levels.proofs.LevelsLaws.{limited}
 use Rattle.nano_document.specs.Documents.{kind, Fields, opened, view, means_step, json_means}
-use Rattle.nano_document.specs.Documents.{depth_step, depth, most_levels}
+use Rattle.nano_document.specs.Documents.{depth_step, depth, most_levels, text_tag}
+use Rattle.nano_document.specs.Decimals.{is_decimal}
+use Rattle.nano_document.specs.DecimalCodecs.{decimal_codec}
 use Rattle.nano_document.specs.IntegerCodecs.{integer_codec}
 use Rattle.nano_document.specs.DocumentCodecs.{string_codec, integer_kind, one_kind, entries_mean}
 use Rattle.nano_document.specs.DocumentCodecs.{items_deep, entries_deep}
@@ -181,7 +184,8 @@ indented_layers (suc (suc (suc (suc zero)))) =
 indented_layers (suc (suc (suc (suc (suc zero))))) =
     lines_layer curlies curly_punctuation curlies_are curly_brackets
     (next_layer spaced_style (λ h. h) string_codec itself_layer)
-indented_layers (suc (suc (suc (suc (suc (suc place)))))) = other_layer no_content
+indented_layers (suc (suc (suc (suc (suc (suc zero)))))) = other_layer decimal_codec
+indented_layers (suc (suc (suc (suc (suc (suc (suc place))))))) = other_layer no_content
 
 pub indented_kind_is : AreKinds kind indented_layers
 indented_kind_is f zero ts m h = ap (kind_of kind) h.one
@@ -193,10 +197,23 @@ indented_kind_is f (suc (suc (suc zero))) ts m h =
     one_kind h.has.token (str h.part) ts h.has.one h.has.carries_it
 indented_kind_is f (suc (suc (suc (suc zero)))) ts m h = ap (kind_of kind) h.has.items.1
 indented_kind_is f (suc (suc (suc (suc (suc zero))))) ts m h = ap (kind_of kind) h.has.items.1
-indented_kind_is f (suc (suc (suc (suc (suc (suc place)))))) ts m h = absurd h
+indented_kind_is f (suc (suc (suc (suc (suc (suc zero)))))) ts m h =
+    one_kind h.has.token (f64 h.part) ts h.has.one h.has.carries_it
+indented_kind_is f (suc (suc (suc (suc (suc (suc (suc place))))))) ts m h = absurd h
 
 abbrev pub indented_layer : Layer json json_grammar Json (Tagged (Fields Json))
 indented_layer = kinds_layer kind indented_layers indented_kind_is
+
+pub decimal_indented : (s : String Global)
+    → tagged (text_tag (string_bytes s)) (text (string_bytes s))
+    ≡ indented_layer.means json_means (opened (Json-F.Decimal s))
+decimal_indented s =
+    elim (is_decimal (string_bytes s)) as (λ b. tagged (cond b 6 3) (text (string_bytes s))
+    ≡ indented_layer.means json_means
+    (cond b (record { tag = 6; fields = s }) (record { tag = 3; fields = s }))) [
+      | true ↦ refl
+      | false ↦ refl
+    ]
 
 pub indented_means : (y : Json-F Json) → means_step (map-Json Json Meaning json_means y)
     ≡ indented_layer.means json_means (opened y)
@@ -204,9 +221,19 @@ indented_means Json-F.Null = refl
 indented_means (Json-F.Bool b) = refl
 indented_means (Json-F.U64 n) = refl
 indented_means (Json-F.I64 z) = refl
+indented_means (Json-F.Decimal s) = decimal_indented s
 indented_means (Json-F.Text s) = refl
 indented_means (Json-F.List xs) = refl
 indented_means (Json-F.Object es) = ap (λ ms. tagged 5 (listed ms)) (entries_mean es.items)
+
+pub decimal_in_lines : (s : String Global)
+    → 0 ≡ indented_layer.deep depth (opened (Json-F.Decimal s))
+decimal_in_lines s =
+    elim (is_decimal (string_bytes s)) as (λ b. 0 ≡ indented_layer.deep depth
+    (cond b (record { tag = 6; fields = s }) (record { tag = 3; fields = s }))) [
+      | true ↦ refl
+      | false ↦ refl
+    ]
 
 pub indented_deep : (y : Json-F Json) → depth_step (map-Json Json ℕ depth y)
     ≡ indented_layer.deep depth (opened y)
@@ -214,6 +241,7 @@ indented_deep Json-F.Null = refl
 indented_deep (Json-F.Bool b) = refl
 indented_deep (Json-F.U64 n) = refl
 indented_deep (Json-F.I64 z) = refl
+indented_deep (Json-F.Decimal s) = decimal_in_lines s
 indented_deep (Json-F.Text s) = refl
 indented_deep (Json-F.List xs) = ap greatest (items_deep xs.items)
 indented_deep (Json-F.Object es) = ap greatest (entries_deep es.items)

@@ -1,4 +1,6 @@
+pub mod Decimals
 pub mod Documents
+pub mod DecimalCodecs
 pub mod IntegerCodecs
 pub mod DocumentCodecs
 pub mod Held

@@ -5,8 +5,9 @@ ghost use Rattle.std.specs.Prelude.{MatchOption, MatchResult, IsTrue, FitsSigned
 ghost use Rattle.std.specs.Prelude.{string_bytes};
 ghost use Rattle.std.specs.Global.{Global};
 ghost use Rattle.std.specs.Int.{w64};
-ghost use Rattle.nano_document.specs.Documents.{IsNumber};
+ghost use Rattle.nano_document.specs.Documents.{IsNumber, IsDecimalOf, IsTextOf};
 
+use crate::decimal::is_decimal;
 use crate::json::Json;
 
 /// The calls that look at a document, and those that take it apart.
@@ -53,13 +54,26 @@ impl Json {
         }
     }
 
-    /// The text, if it is one.
-    pub fn as_str(&self) -> Option<&str>
-        ensures { MatchOption result ((text : String Global) → self.now ≢ Json.Text text)
-            (λ string. (text : String Global) × (self.now ≡ Json.Text text)
+    /// The text of a decimal, if it is one.
+    pub fn as_decimal(&self) -> Option<&str>
+        ensures { MatchOption result ((text : String Global) → IsDecimalOf self.now text → ⊥)
+            (λ string. (text : String Global) × IsDecimalOf self.now text
             × (string.now ≡ string_bytes text)) }
     {
         match self {
+            Json::Decimal(text) if is_decimal(text.as_str()) => Some(text.as_str()),
+            _ => None,
+        }
+    }
+
+    /// The text, if it is one, as a `Text` or as a `Decimal` that is none.
+    pub fn as_str(&self) -> Option<&str>
+        ensures { MatchOption result ((text : String Global) → IsTextOf self.now text → ⊥)
+            (λ string. (text : String Global) × IsTextOf self.now text
+            × (string.now ≡ string_bytes text)) }
+    {
+        match self {
+            Json::Decimal(text) if !is_decimal(text.as_str()) => Some(text.as_str()),
             Json::Text(text) => Some(text.as_str()),
             _ => None,
         }
@@ -88,17 +102,45 @@ impl Json {
         }
     }
 
+    /// The text of a decimal, taken out.
+    ///
+    /// # Errors
+    ///
+    /// It is no decimal, and is returned as it is.
+    pub fn into_decimal(self) -> Result<String, Json>
+        ensures { MatchResult result (λ text. IsDecimalOf self text)
+            (λ json. (json ≡ self) × ((text : String Global) → IsDecimalOf self text → ⊥)) }
+    {
+        match self {
+            Json::Decimal(text) => {
+                if is_decimal(text.as_str()) {
+                    Ok(text)
+                } else {
+                    Err(Json::Decimal(text))
+                }
+            }
+            json => Err(json),
+        }
+    }
+
     /// The text, taken out.
     ///
     /// # Errors
     ///
     /// It is no text, and is returned as it is.
     pub fn into_text(self) -> Result<String, Json>
-        ensures { MatchResult result (λ text. self ≡ Json.Text text)
-            (λ json. (json ≡ self) × ((text : String Global) → self ≢ Json.Text text)) }
+        ensures { MatchResult result (λ text. IsTextOf self text)
+            (λ json. (json ≡ self) × ((text : String Global) → IsTextOf self text → ⊥)) }
     {
         match self {
             Json::Text(text) => Ok(text),
+            Json::Decimal(text) => {
+                if is_decimal(text.as_str()) {
+                    Err(Json::Decimal(text))
+                } else {
+                    Ok(text)
+                }
+            }
             json => Err(json),
         }
     }

@@ -11,6 +11,7 @@ ghost use Rattle.nano_document.specs.Indented.{line, lines};
 ghost use Rattle.nano_document.specs.IndentedCodecs.{indented, entry_text, items_text};
 ghost use Rattle.nano_document.specs.IndentedCodecs.{entries_text};
 
+use crate::decimal::append_decimal;
 use crate::json::Json;
 use nano_json::{SerJson, SerJsonState};
 use std::alloc::{AllocError, Global};
@@ -55,6 +56,7 @@ fn append_document(
         Json::Bool(truth) => truth.ser_json(alloc, d, s),
         Json::U64(number) => number.ser_json(alloc, d, s),
         Json::I64(number) => number.ser_json(alloc, d, s),
+        Json::Decimal(text) => append_decimal(alloc, text, d, s),
         Json::Text(text) => text.ser_json(alloc, d, s),
         Json::List(items) => append_items(alloc, items, d, s),
         Json::Object(entries) => append_entries(alloc, entries, d, s),

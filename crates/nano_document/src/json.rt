@@ -11,11 +11,12 @@ use nano_value::Value;
 
 /// A document of JSON.
 ///
-/// A number that is read is a `U64` unless it is below 0. A number with a point or an exponent is
-/// not read.
+/// A whole number that is read is a `U64` unless it is below 0, and a number with a point or an
+/// exponent is a `Decimal`.
 ///
 /// Two documents are equal by `==` if they mean the same: a number as a `U64` equals the same
 /// number as an `I64`, and two objects are equal if they have the same entries in the same order.
+/// Two decimals are equal if their texts are, so 1.0 and 1.00 differ.
 #[derive(Debug, Drop)]
 pub enum Json {
     /// `null`.
@@ -26,6 +27,9 @@ pub enum Json {
     U64(u64),
     /// A whole number.
     I64(i64),
+    /// A number with a point or an exponent, by its text as it stands in JSON. Of a text that is no
+    /// such number, by [`is_decimal`](crate::is_decimal), it means the same as `Text`.
+    Decimal(String),
     /// A text.
     Text(String),
     /// Documents between square brackets, in order.

@@ -19,6 +19,7 @@ pub(crate) fn known_json(json: &Json)
         Json::Bool(truth) => truth.known(),
         Json::U64(number) => number.known(),
         Json::I64(number) => number.known(),
+        Json::Decimal(text) => text.known(),
         Json::Text(text) => text.known(),
         Json::List(items) => known_items(items),
         Json::Object(entries) => known_entries(entries),

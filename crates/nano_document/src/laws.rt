@@ -1,6 +1,10 @@
 //! Laws of documents: functions that do nothing, and whose contract is the law.
 
-ghost use Rattle.std.specs.Prelude.{◌<◌, ◌++◌, ℕ, List};
+ghost use Rattle.std.specs.Prelude.{◌≡◌, ◌<◌, ◌++◌, ℕ, List, String, string_bytes};
+ghost use Rattle.std.specs.Global.{Global};
+ghost use Rattle.nano_value.specs.Meaning.{text};
+ghost use Rattle.nano_meaning.specs.Sums.{tagged};
+ghost use Rattle.nano_document.specs.Decimals.{IsDecimal};
 ghost use Rattle.nano_document.specs.Documents.{depth, most_levels, json_means};
 ghost use Rattle.nano_document.specs.DocumentCodecs.{json_codec};
 ghost use Rattle.nano_document.specs.IndentedCodecs.{indented};
@@ -14,6 +18,17 @@ use nano_value::Value;
 /// A document of at most 128 levels is sound: what is written of it is read back.
 pub fn a_document_of_few_levels_is_sound()
     ensures { (x : Json) → depth x < most_levels → json_codec.sound x }
+{}
+
+/// A `Decimal` means the decimal that its text is, and is written as it stands; of a text that is
+/// none, it means what a `Text` means.
+pub fn a_decimal_is_its_text()
+    ensures means { (s : String Global) → IsDecimal (string_bytes s)
+        → json_means (Json.Decimal s) ≡ tagged 6 (text (string_bytes s)) }
+    ensures written { (s : String Global) (d : ℕ) → IsDecimal (string_bytes s)
+        → json_codec.canonical.text d (Json.Decimal s) ≡ string_bytes s }
+    ensures other { (s : String Global) → (IsDecimal (string_bytes s) → ⊥)
+        → json_means (Json.Decimal s) ≡ json_means (Json.Text s) }
 {}
 
 /// The text of a document with indentation, with anything after it that may follow a value, is cut

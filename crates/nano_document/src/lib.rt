@@ -1,8 +1,9 @@
-//! Any document of JSON, as an owned value: `null`, booleans, whole numbers, texts, lists and
-//! objects.
+//! Any document of JSON, as an owned value: `null`, booleans, whole numbers, decimals, texts, lists
+//! and objects.
 #![tactic(auto)]
 
 mod access;
+mod decimal;
 mod held;
 mod indented;
 mod json;
@@ -13,4 +14,5 @@ mod read;
 mod same;
 mod write;
 
+pub use decimal::is_decimal;
 pub use json::Json;

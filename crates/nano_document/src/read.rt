@@ -2,13 +2,15 @@
 //!
 //! On an error, a reader here may leave the state at any position, unless it says where.
 
-ghost use Rattle.std.specs.Prelude.{◌≡◌, map};
-ghost use Rattle.nano_value.specs.Meaning.{number, listed};
+ghost use Rattle.std.specs.Prelude.{◌≡◌, map, string_bytes};
+ghost use Rattle.nano_value.specs.Meaning.{number, text, listed};
 ghost use Rattle.nano_meaning.specs.Sums.{tagged};
 ghost use Rattle.nano_json.specs.Outcomes.{position, Reads};
 ghost use Rattle.nano_document.specs.Documents.{json_means, entry_means};
+ghost use Rattle.nano_document.specs.DecimalCodecs.{decimals};
 ghost use Rattle.nano_document.specs.DocumentCodecs.{level_codec, items_at, entry_at, entries_at};
 
+use crate::decimal::is_decimal;
 use crate::json::Json;
 use nano_json::{DeJson, DeJsonErr, DeJsonState, DeJsonTok, end_on_error};
 use nano_json_tokens::bytes_left;
@@ -27,6 +29,26 @@ fn signed(value: i64) -> Json
     } else {
         Json::U64(value as u64)
     }
+}
+
+/// Reads a number with a point or an exponent, as its text.
+fn read_decimal(
+    alloc: Global,
+    state: &mut DeJsonState,
+    input: &mut Chars<'_>,
+) -> Result<String, DeJsonErr>
+    requires { state.now.tok ≡ DeJsonTok.F64 }
+    ensures { Reads decimals.encodes (λ x. text (string_bytes x))
+        (position state.old input.old) (position state.new input.new) result }
+{
+    if !is_decimal(state.numbuf.as_str()) {
+        return Err(state.err_token(alloc, "value"));
+    }
+    let Ok(text) = String::from_str(alloc, state.numbuf.as_str()) else {
+        return Err(state.err_memory(alloc));
+    };
+    state.next_tok(alloc, input)?;
+    Ok(text)
 }
 
 /// Reads a document of at most so many levels.
@@ -60,6 +82,7 @@ fn read_json(
             state.next_tok(alloc, input)?;
             Ok(signed(value))
         }
+        DeJsonTok::F64 => Ok(Json::Decimal(read_decimal(alloc, state, input)?)),
         DeJsonTok::Str => Ok(Json::Text(String::de_json(alloc, state, input)?)),
         DeJsonTok::BlockOpen => Ok(Json::List(read_items(alloc, levels - 1, state, input)?)),
         DeJsonTok::CurlyOpen => Ok(Json::Object(read_entries(alloc, levels - 1, state, input)?)),

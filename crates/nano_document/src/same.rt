@@ -1,8 +1,11 @@
 //! Whether two documents mean the same.
 
-ghost use Rattle.std.specs.Prelude.{◌≡◌, ◌↔◌, IsTrue, map};
+ghost use Rattle.std.specs.Prelude.{◌≡◌, ◌↔◌, IsTrue, map, string_bytes};
+ghost use Rattle.nano_value.specs.Meaning.{text};
+ghost use Rattle.nano_meaning.specs.Sums.{tagged};
 ghost use Rattle.nano_document.specs.Documents.{json_means, entry_means};
 
+use crate::decimal::is_decimal;
 use crate::json::Json;
 
 /// Whether two documents mean the same.
@@ -15,10 +18,8 @@ pub(crate) fn same_json(one: &Json, other: &Json) -> bool
         Json::Bool(truth) => other.as_bool() == Some(*truth),
         Json::U64(number) => other.as_u64() == Some(*number),
         Json::I64(number) => other.as_i64() == Some(*number),
-        Json::Text(text) => match other.as_str() {
-            Some(other) => text.as_str() == other,
-            None => false,
-        },
+        Json::Decimal(text) => same_decimal(text, other),
+        Json::Text(text) => is_text(text, other),
         Json::List(items) => match other.as_list() {
             Some(others) => {
                 let left_items = items.as_slice();
@@ -35,6 +36,30 @@ pub(crate) fn same_json(one: &Json, other: &Json) -> bool
             }
             None => false,
         },
+    }
+}
+
+/// Whether a document is the decimal, or the text if that is no decimal.
+fn same_decimal(decimal: &String, other: &Json) -> bool
+    ensures { IsTrue result ↔ (json_means (Json.Decimal decimal.now) ≡ json_means other.now) }
+{
+    if !is_decimal(decimal.as_str()) {
+        return is_text(decimal, other);
+    }
+    match other.as_decimal() {
+        Some(other) => decimal.as_str() == other,
+        None => false,
+    }
+}
+
+/// Whether a document is the text.
+fn is_text(string: &String, other: &Json) -> bool
+    ensures { IsTrue result
+        ↔ (json_means other.now ≡ tagged 3 (text (string_bytes string.now))) }
+{
+    match other.as_str() {
+        Some(other) => string.as_str() == other,
+        None => false,
     }
 }
 

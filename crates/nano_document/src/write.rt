@@ -6,6 +6,7 @@ ghost use Rattle.nano_json.specs.Lists.{in_list, written_list};
 ghost use Rattle.nano_json.specs.Lists.{written_entry, written_entries};
 ghost use Rattle.nano_document.specs.DocumentCodecs.{json_codec, string_codec};
 
+use crate::decimal::append_decimal;
 use crate::json::Json;
 use nano_json::{SerJson, SerJsonState, rollback_on_error};
 use std::alloc::{AllocError, Global};
@@ -21,6 +22,7 @@ fn append_json(alloc: Global, json: &Json, d: usize, s: &mut SerJsonState) -> Re
         Json::Bool(truth) => truth.ser_json(alloc, d, s),
         Json::U64(number) => number.ser_json(alloc, d, s),
         Json::I64(number) => number.ser_json(alloc, d, s),
+        Json::Decimal(text) => append_decimal(alloc, text, d, s),
         Json::Text(text) => text.ser_json(alloc, d, s),
         Json::List(items) => append_items(alloc, items, d.saturating_add(1), s),
         Json::Object(entries) => append_entries(alloc, entries, d.saturating_add(1), s),

@@ -6,6 +6,8 @@ mod access_tests;
 #[cfg(test)]
 mod checks;
 #[cfg(test)]
+mod decimal_tests;
+#[cfg(test)]
 mod document_tests;
 #[cfg(test)]
 mod indented_tests;

@@ -8,7 +8,7 @@ use Rattle.nano_json_tokens.specs.Token.{block_punctuation, curly_punctuation}
 use Rattle.nano_document.specs.DocumentCodecs.{string_codec}
 use Rattle.nano_document.specs.Indented.{lines}
 use Rattle.nano_document.specs.IndentedCodecs.{indented, entry_text, items_text, entries_text}
-use Rattle.nano_document.proofs.Indenting.{text-Null, text-Bool, text-U64, text-I64, text-Text, text-List, text-Object}
+use Rattle.nano_document.proofs.Indenting.{text-Null, text-Bool, text-U64, text-I64, text-Decimal, text-Text, text-List, text-Object}
 use Rattle.nano_document.proofs.Indenting.{items_some, entries_some, closed_by, item_started, no_items_bytes, no_entries_bytes}
 use Rattle.nano_document.proofs.indented.+indented.Goals as goal
 
@@ -35,6 +35,9 @@ append_document-returns-in-U64-clause-ok t c = rw (c.in-U64.is, text-U64 c.args.
 
 pub append_document-returns-in-I64-clause-ok : goal.append_document-returns-in-I64-clause-ok
 append_document-returns-in-I64-clause-ok t c = rw (c.in-I64.is, text-I64 c.args.d c.in-I64.number) c.ser_json-in-I64.ensures.ok
+
+pub append_document-returns-in-Decimal-clause-ok : goal.append_document-returns-in-Decimal-clause-ok
+append_document-returns-in-Decimal-clause-ok t c = rw (c.in-Decimal.is, text-Decimal c.args.d c.in-Decimal.text) c.append_decimal.ensures.ok
 
 pub append_document-returns-in-Text-clause-ok : goal.append_document-returns-in-Text-clause-ok
 append_document-returns-in-Text-clause-ok t c = rw (c.in-Text.is, text-Text c.args.d c.in-Text.text) c.ser_json-in-Text.ensures.ok

@@ -4,14 +4,14 @@ use Rattle.std.specs.List.{AllByRecursion}
 use Rattle.std.proofs.Math.Numerals.{add-one}
 use Rattle.std.proofs.Math.Seq.{drop-cons}
 use Rattle.nano_value.specs.Meaning.{LegalList, LegalPair, LegalText, LegalSigned, LegalUnsigned}
-use Rattle.nano_value.specs.Meaning.{Meaning, listed, number, nothing}
+use Rattle.nano_value.specs.Meaning.{Meaning, listed, nothing}
 use Rattle.nano_meaning.proofs.MeaningLaws.{list_is_legal, all_walked, pair_is_legal}
 use Rattle.nano_document.specs.Documents.{json_means, entry_means}
 use Rattle.nano_document.specs.DocumentCodecs.{json_codec}
 use Rattle.nano_document.specs.IntegerCodecs.{integers}
 use Rattle.nano_document.specs.declared.json.Json as J
 use Rattle.nano_document.specs.declared.json.Json.{Json}
-use Rattle.nano_document.proofs.Documents.{signed_fits, legal_at, means-Null, means-Bool, means-U64, means-I64, means-Text, means-List, means-Object}
+use Rattle.nano_document.proofs.Documents.{signed_fits, legal_at, legal_decimal, means-Null, means-Bool, means-U64, means-I64, means-Text, means-List, means-Object}
 use Rattle.nano_document.proofs.known.+known.Goals as goal
 
 unsigned_is_legal : (m : Meaning) → LegalUnsigned 64 m → integers.legal m
@@ -33,6 +33,9 @@ known_json-returns-in-U64 t c =
 pub known_json-returns-in-I64 : goal.known_json-returns-in-I64
 known_json-returns-in-I64 t c =
     rw c.in-I64.is (legal_at 2 (J.I64 c.in-I64.number) _ (means-I64 c.in-I64.number) (signed_is_legal _ c.known-in-I64.ensures))
+
+pub known_json-returns-in-Decimal : goal.known_json-returns-in-Decimal
+known_json-returns-in-Decimal t c = rw c.in-Decimal.is (legal_decimal c.in-Decimal.text c.known-in-Decimal.ensures)
 
 pub known_json-returns-in-Text : goal.known_json-returns-in-Text
 known_json-returns-in-Text t c = rw c.in-Text.is (legal_at 3 (J.Text c.in-Text.text) _ (means-Text c.in-Text.text) c.known-in-Text.ensures)

@@ -20,7 +20,7 @@ use Rattle.nano_document.specs.DocumentCodecs.{level_codec, string_codec}
 use Rattle.nano_document.specs.IntegerCodecs.{IsInteger}
 use Rattle.nano_document.specs.declared.json.Json as J
 use Rattle.nano_document.proofs.Documents.{signed_fits, means-Null, means-Bool, means-U64, means-Text, means-List, means-Object}
-use Rattle.nano_document.proofs.Reading.{one_below, read_at, not_at, not_begun, no_level, pending_is, pending_kind, other_kind}
+use Rattle.nano_document.proofs.Reading.{one_below, read_at, decimal_at, not_at, not_begun, no_level, pending_is, pending_kind, other_kind}
 use Rattle.nano_document.proofs.Reading.{ItemsHold, EntriesHold, level_laws, entry_laws_at, entry_read_whole, no_entry_whole, document_not}
 use Rattle.nano_document.proofs.read.+read.Goals as goal
 
@@ -194,6 +194,16 @@ read_json-returns-in_err-next_tok-in-I64 t c =
     passed_on _ _ c.from_residual-in_err-next_tok-in-I64.result c.from_residual-in_err-next_tok-in-I64.ensures.1
     (not_at c.args.levels (c.args.levels - 1) (one_below c.args.levels c.if-levels-eq0.false) 2 kind (one_stopped json number signed_tokens.carries IsInteger refl c.in_err-next_tok-in-I64.ensures.fails))
 
+pub read_json-returns-in_ok-read_decimal-in-F64 : goal.read_json-returns-in_ok-read_decimal-in-F64
+read_json-returns-in_ok-read_decimal-in-F64 t c =
+    decimal_at c.args.levels (c.args.levels - 1) (one_below c.args.levels c.if-levels-eq0.false) c.in_ok-read_decimal-in-F64.field-0 c.in_ok-read_decimal-in-F64.ensures
+
+pub read_json-returns-in_err-read_decimal-in-F64 : goal.read_json-returns-in_err-read_decimal-in-F64
+read_json-returns-in_err-read_decimal-in-F64 t c =
+    let kind = pending_kind c.args.state.now T.F64 c.in-F64.is in
+    passed_on _ _ c.from_residual-in_err-read_decimal-in-F64.result c.from_residual-in_err-read_decimal-in-F64.ensures.1
+    (not_at c.args.levels (c.args.levels - 1) (one_below c.args.levels c.if-levels-eq0.false) 6 kind c.in_err-read_decimal-in-F64.ensures)
+
 pub read_json-returns-in_ok-de_json-in-Str : goal.read_json-returns-in_ok-de_json-in-Str
 read_json-returns-in_ok-de_json-in-Str t c =
     read_at c.args.levels (c.args.levels - 1) (one_below c.args.levels c.if-levels-eq0.false) 3 (J.Text c.in_ok-de_json-in-Str.field-0) _ (means-Text c.in_ok-de_json-in-Str.field-0) c.in_ok-de_json-in-Str.ensures
@@ -227,5 +237,5 @@ read_json-returns-in_err-read_entries-in-CurlyOpen t c =
 pub read_json-returns-in_default : goal.read_json-returns-in_default
 read_json-returns-in_default t c =
     let not = c.in_default in
-    let kind = other_kind c.args.state.now.tok _ _ not.not-Null not.not-Bool not.not-U64 not.not-I64 not.not-Str not.not-BlockOpen not.not-CurlyOpen in
+    let kind = other_kind c.args.state.now.tok _ _ not.not-Null not.not-Bool not.not-U64 not.not-I64 not.not-Str not.not-BlockOpen not.not-CurlyOpen not.not-F64 in
     not_begun c.args.levels (c.args.levels - 1) (one_below c.args.levels c.if-levels-eq0.false) refl kind c.err_token.ensures

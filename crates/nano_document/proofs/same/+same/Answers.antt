@@ -5,7 +5,8 @@ use Rattle.std.specs.Int.{w64}
 use Rattle.std.specs.Option.{option_eq}
 use Rattle.std.specs.Ordering.{int_eq}
 use Rattle.std.proofs.lemmas.Int.{to_z-of_z}
-use Rattle.nano_document.proofs.Sameness.{u64_is, i64_is, u64_same, i64_same, no_text_same, lists_same, no_list_same, objects_same, no_object_same}
+use Rattle.nano_document.proofs.Documents.{means-Text}
+use Rattle.nano_document.proofs.Sameness.{turned, u64_is, i64_is, u64_same, i64_same, lists_same, no_list_same, objects_same, no_object_same}
 use Rattle.nano_document.proofs.same.+same.Goals as goal
 
 pub same_entries-returns-then-not-same_entry : goal.same_entries-returns-then-not-same_entry
@@ -39,18 +40,15 @@ same_json-returns-in-I64 t c =
     let answer = c.eq-in-I64.ensures ∙ ap (λ z. option_eq int_eq c.as_i64.result (Some z)) (to_z-of_z w64 c.in-I64.number small) in
     (λ h. both.0 (decides.0 (sym answer ∙ h)), λ e. answer ∙ decides.1 (both.1 e))
 
-pub same_json-returns-in-None : goal.same_json-returns-in-None
-same_json-returns-in-None t c = no_text_same c.args.one.now c.args.other.now c.in-Text.text c.in-Text.is c.in-None.ensures
-
-pub same_json-returns-in-Some-as_list : goal.same_json-returns-in-Some-as_list
-same_json-returns-in-Some-as_list t c =
-    let both = lists_same c.args.one.now c.args.other.now c.in-List.items c.in-Some-as_list.others.now c.in-List.is c.in-Some-as_list.ensures in
+pub same_json-returns-in-Some : goal.same_json-returns-in-Some
+same_json-returns-in-Some t c =
+    let both = lists_same c.args.one.now c.args.other.now c.in-List.items c.in-Some.others.now c.in-List.is c.in-Some.ensures in
     let left = ap (map json_means) c.as_slice-left_items.ensures.value in
     let right = ap (map json_means) c.as_slice-right_items.ensures.value in
     (λ h. both.0 (sym left ∙ (c.same_items.ensures.0 h ∙ right)), λ e. c.same_items.ensures.1 (left ∙ (both.1 e ∙ sym right)))
 
-pub same_json-returns-in-None-as_list : goal.same_json-returns-in-None-as_list
-same_json-returns-in-None-as_list t c = no_list_same c.args.one.now c.args.other.now c.in-List.items c.in-List.is c.in-None-as_list.ensures
+pub same_json-returns-in-None : goal.same_json-returns-in-None
+same_json-returns-in-None t c = no_list_same c.args.one.now c.args.other.now c.in-List.items c.in-List.is c.in-None.ensures
 
 pub same_json-returns-in-Some-as_object : goal.same_json-returns-in-Some-as_object
 same_json-returns-in-Some-as_object t c =
@@ -61,3 +59,10 @@ same_json-returns-in-Some-as_object t c =
 
 pub same_json-returns-in-None-as_object : goal.same_json-returns-in-None-as_object
 same_json-returns-in-None-as_object t c = no_object_same c.args.one.now c.args.other.now c.in-Object.entries c.in-Object.is c.in-None-as_object.ensures
+
+pub same_json-returns-in-Text : goal.same_json-returns-in-Text
+same_json-returns-in-Text t c =
+    turned c.args.one.now c.args.other.now _ (ap json_means c.in-Text.is ∙ means-Text c.in-Text.text) c.is_text.ensures
+
+pub same_json-returns-in-Decimal : goal.same_json-returns-in-Decimal
+same_json-returns-in-Decimal t c = rw c.in-Decimal.is c.same_decimal.ensures

@@ -12,7 +12,7 @@ use Rattle.nano_grammar.proofs.WrittenLists.{write_next, pushed, entry_in_list}
 use Rattle.nano_json_tokens.specs.Token.{block_punctuation, curly_punctuation}
 use Rattle.nano_json.specs.Lists.{written_entry}
 use Rattle.nano_document.specs.DocumentCodecs.{json_codec, string_codec}
-use Rattle.nano_document.proofs.Documents.{text-Null, text-Bool, text-U64, text-I64, text-Text, text-List, text-Object}
+use Rattle.nano_document.proofs.Documents.{text-Null, text-Bool, text-U64, text-I64, text-Decimal, text-Text, text-List, text-Object}
 use Rattle.nano_document.proofs.write.+write.Goals as goal
 
 pub append_entry-returns-clause-ok : goal.append_entry-returns-clause-ok
@@ -55,6 +55,9 @@ append_json-returns-in-U64-clause-ok t c = rw (c.in-U64.is, text-U64 c.args.d c.
 
 pub append_json-returns-in-I64-clause-ok : goal.append_json-returns-in-I64-clause-ok
 append_json-returns-in-I64-clause-ok t c = rw (c.in-I64.is, text-I64 c.args.d c.in-I64.number) c.ser_json-in-I64.ensures.ok
+
+pub append_json-returns-in-Decimal-clause-ok : goal.append_json-returns-in-Decimal-clause-ok
+append_json-returns-in-Decimal-clause-ok t c = rw (c.in-Decimal.is, text-Decimal c.args.d c.in-Decimal.text) c.append_decimal.ensures.ok
 
 pub append_json-returns-in-Text-clause-ok : goal.append_json-returns-in-Text-clause-ok
 append_json-returns-in-Text-clause-ok t c = rw (c.in-Text.is, text-Text c.args.d c.in-Text.text) c.ser_json-in-Text.ensures.ok
