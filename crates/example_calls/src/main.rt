@@ -3,6 +3,7 @@
 #![tactic(auto)]
 
 use anyhow::Result;
+use nano_json_indent::serialize_json_indented;
 use nanoserde::records::{Choice, Item};
 use nanoserde::{
     DeBin, DeJson, DeJsonState, DeRon, DeRonState, SerBin, SerJson, SerJsonState, SerRon,
@@ -40,6 +41,8 @@ fn json(rt: &HostRuntime) -> Result<()> {
     let ages = HashMap::<String, u8>::deserialize_json(alloc, "{\"bob\": 41, \"ann\": 40,}")?;
     let text = ages.serialize_json(alloc)?;
     println!(rt; "{text}")?;
+    let lines = serialize_json_indented(alloc, &ages)?;
+    println!(rt; "{lines}")?;
     if let Err(error) = Vec::<u8>::deserialize_json(alloc, "[1, 256]") {
         println!(rt; "{error}")?;
     }

@@ -11,3 +11,5 @@ mod decimal_tests;
 mod document_tests;
 #[cfg(test)]
 mod indented_tests;
+#[cfg(test)]
+mod type_tests;

@@ -1,0 +1,4 @@
+pub mod Recutting
+pub mod Tokens
+pub mod Laying
+pub mod Progress
