@@ -10,7 +10,7 @@ use Rattle.std.proofs.lemmas.Bool.{and_parts}
 use Rattle.std.proofs.lemmas.Bool.Decides.{nat_tests}
 use Rattle.nano_text.specs.Characters.{first_is}
 use Rattle.nano_text.specs.Number.{IsNumber, Run, Exponent, IsRun, is_sign, is_point, is_letter_e}
-use Rattle.nano_text.specs.Number.{sign_text, fraction_text, exponent_text, run_text, continues}
+use Rattle.nano_text.specs.Number.{sign_text, fraction_text, exponent_text, run_text}
 use Rattle.nano_text.specs.declared.number.Number.TheVariants.{Dec}
 use Rattle.nano_text.proofs.LaneMasks.{all_append}
 use Rattle.nano_value.specs.Meaning.{text}
@@ -21,8 +21,8 @@ use Rattle.nano_grammar.proofs.ScalarsLaws.{one_of, one_codec}
 use Rattle.nano_json_tokens.specs.Token.{Token, f64, null}
 use Rattle.nano_json_tokens.specs.Cut.{punctuator, word, number, quoted, nothing}
 use Rattle.nano_json_tokens.specs.Cut.{starts_number, Cut, MayBegin, json_grammar}
-use Rattle.nano_json_tokens.specs.Written.{MayFollow, may_follow}
-use Rattle.nano_json_tokens.proofs.CutAgainLaws.{cut_at_once}
+use Rattle.nano_json_tokens.specs.Written.{MayFollow}
+use Rattle.nano_json_tokens.proofs.CutAgainLaws.{decimal_is_cut as run_is_cut}
 use Rattle.nano_json_tokens.proofs.JsonLaws.{json}
 use Rattle.nano_json.specs.Codec.{Codec, codec_as}
 use Rattle.nano_json.specs.Codec.{Encoding}
@@ -60,38 +60,10 @@ whole_number run (nothing h) = absurd h
 
 -- ---- it is cut again
 
-no_more : (f : Option (List ℕ)) (x : Option Exponent) (c : ℕ) → may_follow c ≡ true
-    → continues f x c ≡ false
-no_more None None c h = grind (arith, nat_tests)
-no_more (Some ds) None c h = grind (arith, nat_tests)
-no_more None (Some e) c h = grind (arith, nat_tests)
-no_more (Some ds) (Some e) c h = grind (arith, nat_tests)
-
-decimal_ends : (f : Option (List ℕ)) (x : Option Exponent) (rest : List ℕ) → MayFollow rest
-    → first_is (continues f x) rest ≡ false
-decimal_ends f x [] h = refl
-decimal_ends f x (c ∷ cs) h = no_more f x c h
-
-starts_before : (run rest : List ℕ) → first_is starts_number run ≡ true
-    → first_is starts_number (run ++ rest) ≡ true
-starts_before [] rest h = cc h
-starts_before (c ∷ cs) rest h = h
-
 pub decimal_is_cut : (run : List ℕ) → IsDecimal run → IsCutInto Cut MayFollow (f64 run ∷ []) run
-decimal_is_cut run h rest follows =
+decimal_is_cut run h =
     let whole = whole_number run h in
-    let of = whole.1 in
-    let longer : IsNumber (run ++ rest) Dec run rest = record {
-      parts = of.parts;
-      is_run = of.is_run;
-      good = of.good;
-      number_is = of.number_is;
-      run_is = of.run_is;
-      split = refl;
-      ends = decimal_ends of.parts.fraction of.parts.exponent rest follows;
-    } in
-    let starts = starts_before run rest whole.0 in
-    (rest, cut_at_once (run ++ rest) rest (f64 run) (number starts longer), refl)
+    run_is_cut run run [] whole.0 whole.1
 
 -- ---- its characters
 
