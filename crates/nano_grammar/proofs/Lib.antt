@@ -19,6 +19,7 @@ pub mod StructLaws
 pub mod FieldReading
 pub mod FieldCalls
 pub mod UserCalls
+pub mod ItemRuns
 pub mod StructReading
 pub mod ChoicesLaws
 pub mod BothFieldsLaws

@@ -7,12 +7,17 @@ ghost use Rattle.nano_value.specs.Meaning.{listed};
 ghost use Rattle.nano_meaning.proofs.AgreesLaws.{seen_agrees, list_agrees, array_agrees};
 ghost use Rattle.nano_json.specs.Codec.{codec_as};
 ghost use Rattle.nano_text.specs.Outcomes.{Appends, AppendsPart};
+ghost use Rattle.nano_grammar.specs.Outcomes.{PutItems};
+ghost use Rattle.nano_json_tokens.specs.Cut.{Cut};
+ghost use Rattle.nano_json_tokens.specs.Outcomes.{Moved};
+ghost use Rattle.nano_json_tokens.specs.Token.{comma};
 ghost use Rattle.nano_json.specs.ContainerCodecs.{array_of, list_codec, array_codec};
 ghost use Rattle.nano_json.specs.Lists.{in_list, written_list, EncodesAll};
 ghost use Rattle.nano_json.specs.Outcomes.{position, Reads};
 
 use crate::traits::{DeJson, JsonCodec, SerJson};
-use nano_json_tokens::{DeJsonErr, DeJsonState, SerJsonState, bytes_left, end_on_error};
+use nano_json_tokens::{DeJsonErr, DeJsonState, DeJsonTok, SerJsonState};
+use nano_json_tokens::{bytes_left, end_on_error};
 use nano_text::rollback_on_error;
 use nano_value::Collect;
 use std::alloc::{AllocError, Global};
@@ -23,6 +28,37 @@ impl<T: JsonCodec> JsonCodec for Vec<T> {
     ghost json = { codec_as (λ x. x.items) (list_codec T.json) };
 
     ghost agrees = { seen_agrees (list_agrees T.agrees) (λ x. x.items) };
+}
+
+/// Puts the items that stand plainly behind a pending comma into a collection. The comma behind the
+/// last one is pending then.
+#[inline(always)]
+fn put_plain_items<T: DeJson, C: Collect<T>>(
+    alloc: Global,
+    state: &mut DeJsonState,
+    input: &mut Chars<'_>,
+    items: &mut C,
+) -> Result<(), AllocError>
+    ensures ok { OnOk result (PutItems Cut T.json.encoding.encodes comma C.holds
+        (position state.old input.old) (position state.new input.new) items.old items.new) }
+    ensures err { OnErr result (Moved state.old input.old state.new input.new) }
+{
+    let DeJsonTok::Comma = state.tok else {
+        return Ok(());
+    };
+    // Copies, which remain in registers.
+    let mut place = state.place();
+    let mut rest = input.as_str().chars();
+    'items: while let Some(item) = T::de_json_item(alloc, &mut place, &mut rest) {
+        if let Err(full) = items.put(item) {
+            state.stand_at(place);
+            *input = rest;
+            return Err(full);
+        }
+    }
+    state.stand_at(place);
+    *input = rest;
+    Ok(())
 }
 
 /// Reads items between square brackets into a collection.
@@ -41,6 +77,9 @@ pub(crate) fn read_list<T: DeJson, C: Collect<T>>(
     'items: while !state.is_block_close() {
         let item = T::de_json(alloc, state, input)?;
         let Ok(()) = items.put(item) else {
+            return Err(state.err_memory(alloc));
+        };
+        let Ok(()) = put_plain_items(alloc, state, input, &mut items) else {
             return Err(state.err_memory(alloc));
         };
         state.eat_comma_block(alloc, input)?;

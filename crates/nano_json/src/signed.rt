@@ -10,10 +10,11 @@ ghost use Rattle.nano_meaning.proofs.AgreesLaws.{agreed};
 ghost use Rattle.nano_json.specs.ScalarCodecs.{IsRangeOf, signed, signed_codec, within_8};
 ghost use Rattle.nano_json.specs.ScalarCodecs.{within_16, within_32, within_64};
 ghost use Rattle.nano_json.specs.Outcomes.{position, Reads};
+ghost use Rattle.nano_json_tokens.specs.Items.{TakesItem};
 
 use crate::traits::{DeJson, JsonCodec, SerJson};
-use nano_json_tokens::{DeJsonErr, DeJsonState, SerJsonState, end_on_error};
-use nano_text::append_signed;
+use nano_json_tokens::{DeJsonErr, DeJsonState, SerJsonState, end_on_error, take_integer_item};
+use nano_text::{Place, append_signed};
 use std::alloc::{AllocError, Global};
 use std::str::Chars;
 
@@ -51,6 +52,22 @@ fn read_signed<T: Signed>(
     Ok(T::narrow(number))
 }
 
+/// Takes a whole number from `min` to `max` from behind a comma, and the comma behind it.
+#[inline(always)]
+fn take_signed_of<T: Signed>(
+    place: &mut Place,
+    input: &mut Chars<'_>,
+    min: i64,
+    max: i64,
+) -> Option<T>
+    requires { IsRangeOf T.width min max }
+    ensures { TakesItem (signed T.width).encodes (λ x. number (T.value x))
+        place.old input.old place.new input.new result }
+{
+    let number = take_integer_item(place, input, min, max)?;
+    Some(T::narrow(number))
+}
+
 impl JsonCodec for i8 {
     ghost json = { signed_codec w8 within_8 };
 
@@ -82,6 +99,11 @@ impl DeJson for i8 {
     ) -> Result<i8, DeJsonErr> {
         let read = read_signed(alloc, state, input, i8::MIN as i64, i8::MAX as i64);
         end_on_error(state, read)
+    }
+
+    #[inline(always)]
+    fn de_json_item(_alloc: Global, place: &mut Place, input: &mut Chars<'_>) -> Option<i8> {
+        take_signed_of(place, input, i8::MIN as i64, i8::MAX as i64)
     }
 }
 
@@ -117,6 +139,11 @@ impl DeJson for i16 {
         let read = read_signed(alloc, state, input, i16::MIN as i64, i16::MAX as i64);
         end_on_error(state, read)
     }
+
+    #[inline(always)]
+    fn de_json_item(_alloc: Global, place: &mut Place, input: &mut Chars<'_>) -> Option<i16> {
+        take_signed_of(place, input, i16::MIN as i64, i16::MAX as i64)
+    }
 }
 
 impl JsonCodec for i32 {
@@ -151,6 +178,11 @@ impl DeJson for i32 {
         let read = read_signed(alloc, state, input, i32::MIN as i64, i32::MAX as i64);
         end_on_error(state, read)
     }
+
+    #[inline(always)]
+    fn de_json_item(_alloc: Global, place: &mut Place, input: &mut Chars<'_>) -> Option<i32> {
+        take_signed_of(place, input, i32::MIN as i64, i32::MAX as i64)
+    }
 }
 
 impl JsonCodec for i64 {
@@ -184,5 +216,10 @@ impl DeJson for i64 {
     ) -> Result<i64, DeJsonErr> {
         let read = read_signed(alloc, state, input, i64::MIN, i64::MAX);
         end_on_error(state, read)
+    }
+
+    #[inline(always)]
+    fn de_json_item(_alloc: Global, place: &mut Place, input: &mut Chars<'_>) -> Option<i64> {
+        take_signed_of(place, input, i64::MIN, i64::MAX)
     }
 }

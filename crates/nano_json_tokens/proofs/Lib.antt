@@ -1,6 +1,7 @@
 pub mod LexemeKinds
 pub mod Cuts
 pub mod Scanning
+pub mod ItemCalls
 pub mod Capacity
 pub mod BracketCounts
 pub mod Calling

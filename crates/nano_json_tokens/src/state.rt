@@ -168,7 +168,7 @@ impl DeJsonState {
 
     /// Where the state stands.
     #[inline]
-    pub(crate) fn place(&self) -> Place
+    pub fn place(&self) -> Place
         ensures { result ≡ place_of self.now }
     {
         Place {
@@ -178,9 +178,9 @@ impl DeJsonState {
         }
     }
 
-    /// Stands at another place.
+    /// Stands at another place. The pending token and the buffers are the same.
     #[inline]
-    pub(crate) fn stand_at(&mut self, place: Place)
+    pub fn stand_at(&mut self, place: Place)
         ensures { self.new
             ≡ record self.old { cur = place.cur; line = place.line; col = place.col } }
     {

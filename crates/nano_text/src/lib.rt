@@ -21,10 +21,10 @@ mod triples;
 mod whole;
 mod written;
 
-pub use body::plain_string;
+pub use body::{plain_string, read_at_once};
 pub use capacity::bytes_left;
 pub use digits::{append_signed, append_unsigned};
-pub use number::{Fault, Number, read_number};
+pub use number::{Fault, Number, read_number, take_negative, take_unsigned};
 pub use place::Place;
 pub use rollback::rollback_on_error;
 pub use space::is_space;

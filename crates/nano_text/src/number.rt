@@ -1,7 +1,9 @@
 //! Number lexemes.
 
 ghost use Rattle.std.specs.Prelude.{◌≡◌, ◌+◌, ◌^◌, ◌<◌, ◌≤◌, IfOk, List, ℕ, pos, neg_ℤ, length};
-ghost use Rattle.std.specs.Prelude.{string_bytes, string_capacity, MatchOption, SomeIff, IfSome};
+ghost use Rattle.std.specs.Prelude.{string_bytes, string_capacity, MatchOption, SomeIff, IfSome, None};
+ghost use Rattle.std.specs.Prelude.{true};
+ghost use Rattle.std.specs.Char.{is_ascii_digit};
 ghost use Rattle.std.specs.Str.Parse.{digits_value};
 ghost use Rattle.nano_text.specs.Number.{IsNumber, AreGoodParts, number_from_parts, is_minus};
 ghost use Rattle.nano_text.specs.Number.{sign_text};
@@ -139,6 +141,37 @@ fn decimal_len(
             }
         }
     }
+}
+
+/// Takes the whole number without a sign that begins at the current character. `None`, which takes
+/// nothing, where there is none, and where it has many digits or what follows it is unusual.
+#[inline(always)]
+pub fn take_unsigned(p: &mut Place, i: &mut Chars<'_>) -> Option<u64>
+    ensures found { IfSome result (λ value. (run : List ℕ)
+        × IsNumber (text_at p.old i.old) (Number.U64 value) run (text_at p.new i.new)) }
+    ensures begins { IfSome result (λ _. is_ascii_digit p.old.cur ≡ true) }
+    ensures place { Counts p.old i.old p.new i.new }
+    ensures none { result ≡ None → (p.new ≡ p.old) × (i.new ≡ i.old) }
+{
+    let ahead = unsigned_ahead(p.cur, i.as_str().as_bytes())?;
+    stand_after(p, i, ahead);
+    Some(ahead.value)
+}
+
+/// Takes the whole number with a minus that begins at the current character. `None`, which takes
+/// nothing, where there is none, and where it has many digits or what follows it is unusual.
+#[inline(always)]
+pub fn take_negative(p: &mut Place, i: &mut Chars<'_>) -> Option<i64>
+    ensures found { IfSome result (λ value. (run : List ℕ)
+        × IsNumber (text_at p.old i.old) (Number.I64 value) run (text_at p.new i.new)) }
+    ensures begins { IfSome result (λ _. p.old.cur ≡ 45) }
+    ensures place { Counts p.old i.old p.new i.new }
+    ensures none { result ≡ None → (p.new ≡ p.old) × (i.new ≡ i.old) }
+{
+    let ahead = negative_ahead(p.cur, i.as_str().as_bytes())?;
+    let value = negated(ahead.value)?;
+    stand_after(p, i, ahead);
+    Some(value)
 }
 
 /// Reads the number lexeme that begins at the current character.

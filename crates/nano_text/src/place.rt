@@ -21,6 +21,7 @@ impl Place {
     /// A line feed adds one to `line` and sets `col` to 0; any other character, NUL too, adds
     /// one to `col`. They saturate at `usize::MAX`. At the end of `i` the current character
     /// becomes NUL, and `line` and `col` are unchanged.
+    #[inline(always)]
     pub fn next(&mut self, i: &mut Chars<'_>)
         ensures place { self.new ≡ place_after self.old (held i.old) }
         ensures held { held i.new ≡ tail (held i.old) }

@@ -12,7 +12,7 @@ use std::str::Chars;
 
 impl Place {
     /// Passes over white space, from the current character on. An indent is passed at once.
-    #[inline]
+    #[inline(always)]
     pub fn skip_space(&mut self, i: &mut Chars<'_>)
         ensures rest { text_at self.new i.new ≡ following is_space (text_at self.old i.old) }
         ensures counts { Counts self.old i.old self.new i.new }
@@ -30,7 +30,7 @@ impl Place {
     ///
     /// The current character may never have been in `i`. The blanks are spaces, the white space
     /// of indents, and are counted at once: each is one byte and one column.
-    #[inline]
+    #[inline(always)]
     fn skip_blanks(&mut self, i: &mut Chars<'_>)
         ensures rest { text_at self.new i.new ≡ following is_blank (before_nul (held i.old)) }
         ensures counts { self.old.cur ≢ 0 → Counts self.old i.old self.new i.new }
@@ -44,7 +44,7 @@ impl Place {
 }
 
 /// Whether a character is white space.
-#[inline]
+#[inline(always)]
 pub fn is_space(c: char) -> bool
     ensures { result ≡ is_space c }
 {

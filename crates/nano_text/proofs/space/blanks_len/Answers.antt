@@ -10,9 +10,9 @@ pub returns-then-blanks-lt-LANES : goal.returns-then-blanks-lt-LANES
 returns-then-blanks-lt-LANES c =
     let bytes = c.args.bytes.now in
     let run = c.blank_lanes-blanks.ensures in
-    let room = c.lanes-test.true in
+    let lanes_fit = c.lanes-test.true in
     sym (prefix_ends is_blank bytes (c.lanes.len + c.blank_lanes-blanks.result)
-    (omega (arith, room, c.if-blanks-lt-LANES.true, c.lanes.invariant.within))
+    (omega (arith, lanes_fit, c.if-blanks-lt-LANES.true, c.lanes.invariant.within))
     (blank_to bytes c.lanes.len c.blank_lanes-blanks.result c.lanes.invariant.blanks run.blanks)
     (run.stops c.if-blanks-lt-LANES.true))
 
