@@ -10,8 +10,8 @@ use Rattle.nano_text.specs.Number.{IsNumber, is_sign}
 use Rattle.nano_text.specs.Place.{text_at, remaining, Moves}
 use Rattle.nano_text.specs.declared.place.Place.{Place}
 use Rattle.nano_text.specs.declared.number.Number.TheVariants.{U64, I64}
-use Rattle.nano_text.proofs.PlaceLaws.{moves_none, moves_append}
-use Rattle.nano_text.proofs.RemainingText.{first_is-remaining}
+use Rattle.nano_text.proofs.PlaceLaws.{moves_none, moves_append, moves_from}
+use Rattle.nano_text.proofs.RemainingText.{first_is-remaining, same_remaining}
 use Rattle.nano_grammar.specs.Outcomes.{TookItem}
 use Rattle.nano_json_tokens.specs.Cut.{Cut, IsLexeme, starts_number, number}
 use Rattle.nano_json_tokens.specs.Items.{at_comma}
@@ -20,7 +20,6 @@ use Rattle.nano_json_tokens.specs.State.{pending, place_of}
 use Rattle.nano_json_tokens.specs.declared.state.DeJsonState.{DeJsonState}
 use Rattle.nano_json_tokens.specs.Token.{Token, comma, u64, i64}
 use Rattle.nano_json_tokens.proofs.Cuts.{lexeme_cut}
-use Rattle.nano_json_tokens.proofs.Scanning.{same_remaining, moves_from}
 
 -- white space, a lexeme and a comma were passed, over a copy of the input
 pub took_item : {V : Type 0} (S : List Token → V → Type 0) (t : Token) (v : V)

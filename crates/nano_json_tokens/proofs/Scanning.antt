@@ -97,23 +97,6 @@ scans_spaced old mid new i j k space r h =
 
 -- ==== a name that stands ahead
 
--- what a text still holds does not depend on which iterator holds it
-pub same_remaining : (cur : ℕ) (i j : Chars) → chars_rest i ≡ chars_rest j → remaining cur i ≡ remaining cur j
-unfolding remaining
-same_remaining cur i j e = ap (λ (bytes : List ℕ). before_nul (cur ∷ chars bytes)) e
-
-pub moves_from : (p q : Place) (i j k : Chars) → chars_rest i ≡ chars_rest j → Moves p i q k → Moves p j q k
-moves_from p q i j k e h = record {
-  passes = record {
-    taken = h.passes.taken;
-    split = sym (ap chars e) ∙ h.passes.split;
-    line = h.passes.line;
-    col = h.passes.col;
-  };
-  within = omega (arith, h.within, ap length (same_remaining p.cur i j e));
-  exact = omega (arith, h.exact, ap (λ (bytes : List ℕ). length (chars bytes)) e, ap length (same_remaining p.cur i j e));
-}
-
 -- the name is cut after white space, and then the colon
 pub name_ahead : (text string left last characters name : List ℕ) (pending : Token) → string ≡ following is_space text
     → IsString string characters left → left ≡ 58 ∷ last → name ≡ encode_utf8_all characters

@@ -5,13 +5,18 @@ ghost use Rattle.nano_text.specs.Place.{saturating_next};
 ghost use Rattle.nano_meaning.proofs.AgreesLaws.{seen_agrees, list_agrees};
 ghost use Rattle.nano_ron.specs.Codec.{codec_as};
 ghost use Rattle.nano_text.specs.Outcomes.{Appends, AppendsPart};
+ghost use Rattle.nano_grammar.specs.Outcomes.{PutItems};
+ghost use Rattle.nano_ron_tokens.specs.Cut.{Cut};
+ghost use Rattle.nano_ron_tokens.specs.Outcomes.{Moved};
+ghost use Rattle.nano_ron_tokens.specs.Token.{comma};
 ghost use Rattle.nano_ron.specs.Lists.{on_a_line, after_indent, written_in, EncodesAll};
 ghost use Rattle.nano_ron.specs.ContainerCodecs.{vector_codec, linked_codec};
 ghost use Rattle.nano_ron_tokens.proofs.StylesLaws.{line_style, indent_style};
 ghost use Rattle.nano_ron.specs.Outcomes.{position, Reads};
 
 use crate::traits::{DeRon, RonCodec, SerRon};
-use nano_ron_tokens::{DeRonErr, DeRonState, SerRonState, append_comma, end_on_error};
+use nano_ron_tokens::{DeRonErr, DeRonState, DeRonTok, SerRonState, append_comma};
+use nano_ron_tokens::end_on_error;
 use nano_text::{bytes_left, rollback_on_error};
 use nano_value::Collect;
 use std::alloc::{AllocError, Global};
@@ -22,6 +27,37 @@ impl<T: RonCodec> RonCodec for Vec<T> {
     ghost ron = { codec_as (λ x. x.items) (vector_codec T.ron) };
 
     ghost agrees = { seen_agrees (list_agrees T.agrees) (λ x. x.items) };
+}
+
+/// Puts the items that stand plainly behind a pending comma into a collection. The comma behind the
+/// last one is pending then.
+#[inline(always)]
+fn put_plain_items<T: DeRon, C: Collect<T>>(
+    alloc: Global,
+    state: &mut DeRonState,
+    input: &mut Chars<'_>,
+    items: &mut C,
+) -> Result<(), AllocError>
+    ensures ok { OnOk result (PutItems Cut T.ron.encoding.encodes comma C.holds
+        (position state.old input.old) (position state.new input.new) items.old items.new) }
+    ensures err { OnErr result (Moved state.old input.old state.new input.new) }
+{
+    let DeRonTok::Comma = state.tok else {
+        return Ok(());
+    };
+    // Copies, which remain in registers.
+    let mut place = state.place();
+    let mut rest = input.as_str().chars();
+    'items: while let Some(item) = T::de_ron_item(alloc, &mut place, &mut rest) {
+        if let Err(full) = items.put(item) {
+            state.stand_at(place);
+            *input = rest;
+            return Err(full);
+        }
+    }
+    state.stand_at(place);
+    *input = rest;
+    Ok(())
 }
 
 /// Reads items between square brackets into a collection. On an error, the position of the state is
@@ -41,6 +77,9 @@ pub(crate) fn read_list<T: DeRon, C: Collect<T>>(
     'items: while !state.is_block_close() {
         let item = T::de_ron(alloc, state, input)?;
         let Ok(()) = items.put(item) else {
+            return Err(state.err_memory(alloc));
+        };
+        let Ok(()) = put_plain_items(alloc, state, input, &mut items) else {
             return Err(state.err_memory(alloc));
         };
         state.eat_comma_block(alloc, input)?;

@@ -8,10 +8,11 @@ ghost use Rattle.nano_meaning.proofs.AgreesLaws.{agreed};
 ghost use Rattle.nano_ron.specs.ScalarCodecs.{IsRangeOf, signed, signed_codec, within_8, within_16};
 ghost use Rattle.nano_ron.specs.ScalarCodecs.{within_32, within_64};
 ghost use Rattle.nano_ron.specs.Outcomes.{position, Reads};
+ghost use Rattle.nano_ron_tokens.specs.Items.{TakesItem};
 
 use crate::traits::{DeRon, RonCodec, SerRon};
-use nano_ron_tokens::{DeRonErr, DeRonState, SerRonState, end_on_error};
-use nano_text::append_signed;
+use nano_ron_tokens::{DeRonErr, DeRonState, SerRonState, end_on_error, take_integer_item};
+use nano_text::{Place, append_signed};
 use std::alloc::{AllocError, Global};
 use std::str::Chars;
 
@@ -50,6 +51,22 @@ fn read_signed<T: Signed>(
     Ok(T::narrow(number))
 }
 
+/// Takes a whole number from `min` to `max` from behind a comma, and the comma behind it.
+#[inline(always)]
+fn take_signed_of<T: Signed>(
+    place: &mut Place,
+    input: &mut Chars<'_>,
+    min: i64,
+    max: i64,
+) -> Option<T>
+    requires { IsRangeOf T.width min max }
+    ensures { TakesItem (signed T.width).encodes (λ x. number (T.value x))
+        place.old input.old place.new input.new result }
+{
+    let number = take_integer_item(place, input, min, max)?;
+    Some(T::narrow(number))
+}
+
 impl RonCodec for i8 {
     ghost ron = { signed_codec w8 within_8 };
 
@@ -81,6 +98,11 @@ impl DeRon for i8 {
     ) -> Result<i8, DeRonErr> {
         let read = read_signed(alloc, state, input, i8::MIN as i64, i8::MAX as i64);
         end_on_error(state, read)
+    }
+
+    #[inline(always)]
+    fn de_ron_item(_alloc: Global, place: &mut Place, input: &mut Chars<'_>) -> Option<i8> {
+        take_signed_of(place, input, i8::MIN as i64, i8::MAX as i64)
     }
 }
 
@@ -116,6 +138,11 @@ impl DeRon for i16 {
         let read = read_signed(alloc, state, input, i16::MIN as i64, i16::MAX as i64);
         end_on_error(state, read)
     }
+
+    #[inline(always)]
+    fn de_ron_item(_alloc: Global, place: &mut Place, input: &mut Chars<'_>) -> Option<i16> {
+        take_signed_of(place, input, i16::MIN as i64, i16::MAX as i64)
+    }
 }
 
 impl RonCodec for i32 {
@@ -150,6 +177,11 @@ impl DeRon for i32 {
         let read = read_signed(alloc, state, input, i32::MIN as i64, i32::MAX as i64);
         end_on_error(state, read)
     }
+
+    #[inline(always)]
+    fn de_ron_item(_alloc: Global, place: &mut Place, input: &mut Chars<'_>) -> Option<i32> {
+        take_signed_of(place, input, i32::MIN as i64, i32::MAX as i64)
+    }
 }
 
 impl RonCodec for i64 {
@@ -183,5 +215,10 @@ impl DeRon for i64 {
     ) -> Result<i64, DeRonErr> {
         let read = read_signed(alloc, state, input, i64::MIN, i64::MAX);
         end_on_error(state, read)
+    }
+
+    #[inline(always)]
+    fn de_ron_item(_alloc: Global, place: &mut Place, input: &mut Chars<'_>) -> Option<i64> {
+        take_signed_of(place, input, i64::MIN, i64::MAX)
     }
 }

@@ -1,6 +1,7 @@
 //! The traits of values that can be written as RON and read from it.
 
 use nano_ron_tokens::{DeRonErr, DeRonState, SerRonState, as_value_error, expect_end};
+use nano_text::Place;
 use nano_value::Value;
 use std::alloc::{AllocError, Global};
 use std::str::Chars;
@@ -71,6 +72,7 @@ pub trait SerRon: RonCodec {
 pub trait DeRon: RonCodec + Drop {
     ghost use Rattle.nano_ron.specs.Outcomes.{position, ReadsOrEnds};
     ghost use Rattle.nano_ron.specs.Readers.{ReadsText, ReadsWhole};
+    ghost use Rattle.nano_ron_tokens.specs.Items.{TakesItem};
 
     /// Reads the value that the tokens from the pending one on encode. The token after the
     /// value is pending then, which may be the end.
@@ -94,6 +96,23 @@ pub trait DeRon: RonCodec + Drop {
     ) -> Result<Self, DeRonErr>
         ensures { ReadsOrEnds Self.ron.encoding.encodes Self.means
             (position state.old input.old) (position state.new input.new) result };
+
+    /// Takes a value of one token from behind a pending comma, and the comma that stands directly
+    /// behind it. Lists call it for one item after the other, and keep the place in registers.
+    ///
+    /// `None` takes nothing. It says nothing of what stands there: `de_ron` reads it then. So a type
+    /// that always answers `None` loses speed alone.
+    #[inline(always)]
+    fn de_ron_item(
+        _alloc: Global,
+        _place: &mut Place,
+        _input: &mut Chars<'_>,
+    ) -> Option<Self>
+        ensures { TakesItem Self.ron.encoding.encodes Self.means
+            _place.old _input.old _place.new _input.new result }
+    {
+        None
+    }
 
     /// Reads the value that begins the text, which ends before its first NUL. More may follow:
     /// of that, one token is read.

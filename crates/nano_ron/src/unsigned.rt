@@ -6,12 +6,13 @@ ghost use Rattle.std.specs.Prelude.{◌≡◌, ◌+◌, ◌^◌};
 ghost use Rattle.nano_value.specs.Meaning.{whole};
 ghost use Rattle.nano_meaning.proofs.AgreesLaws.{agreed};
 ghost use Rattle.nano_ron.specs.Outcomes.{position, Reads};
+ghost use Rattle.nano_ron_tokens.specs.Items.{TakesItem};
 ghost use Rattle.nano_ron.specs.ScalarCodecs.{unsigned, unsigned_codec, below_8, below_16};
 ghost use Rattle.nano_ron.specs.ScalarCodecs.{below_32, below_64};
 
 use crate::traits::{DeRon, RonCodec, SerRon};
-use nano_ron_tokens::{DeRonErr, DeRonState, SerRonState, end_on_error};
-use nano_text::append_unsigned;
+use nano_ron_tokens::{DeRonErr, DeRonState, SerRonState, end_on_error, take_unsigned_item};
+use nano_text::{Place, append_unsigned};
 use std::alloc::{AllocError, Global};
 use std::str::Chars;
 
@@ -48,6 +49,21 @@ fn read_unsigned<T: Unsigned>(
     Ok(T::narrow(number))
 }
 
+/// Takes a whole number of at most `max` from behind a comma, and the comma behind it.
+#[inline(always)]
+fn take_unsigned_of<T: Unsigned>(
+    place: &mut Place,
+    input: &mut Chars<'_>,
+    max: u64,
+) -> Option<T>
+    requires { 2 ^ T.bits ≡ max + 1 }
+    ensures { TakesItem (unsigned T.bits).encodes (λ x. whole (T.value x))
+        place.old input.old place.new input.new result }
+{
+    let number = take_unsigned_item(place, input, max)?;
+    Some(T::narrow(number))
+}
+
 impl RonCodec for u8 {
     ghost ron = { unsigned_codec 8 below_8 };
 
@@ -79,6 +95,11 @@ impl DeRon for u8 {
     ) -> Result<u8, DeRonErr> {
         let read = read_unsigned(alloc, state, input, u8::MAX as u64);
         end_on_error(state, read)
+    }
+
+    #[inline(always)]
+    fn de_ron_item(_alloc: Global, place: &mut Place, input: &mut Chars<'_>) -> Option<u8> {
+        take_unsigned_of(place, input, u8::MAX as u64)
     }
 }
 
@@ -114,6 +135,11 @@ impl DeRon for u16 {
         let read = read_unsigned(alloc, state, input, u16::MAX as u64);
         end_on_error(state, read)
     }
+
+    #[inline(always)]
+    fn de_ron_item(_alloc: Global, place: &mut Place, input: &mut Chars<'_>) -> Option<u16> {
+        take_unsigned_of(place, input, u16::MAX as u64)
+    }
 }
 
 impl RonCodec for u32 {
@@ -147,6 +173,11 @@ impl DeRon for u32 {
     ) -> Result<u32, DeRonErr> {
         let read = read_unsigned(alloc, state, input, u32::MAX as u64);
         end_on_error(state, read)
+    }
+
+    #[inline(always)]
+    fn de_ron_item(_alloc: Global, place: &mut Place, input: &mut Chars<'_>) -> Option<u32> {
+        take_unsigned_of(place, input, u32::MAX as u64)
     }
 }
 
@@ -182,6 +213,11 @@ impl DeRon for u64 {
         let read = read_unsigned(alloc, state, input, u64::MAX);
         end_on_error(state, read)
     }
+
+    #[inline(always)]
+    fn de_ron_item(_alloc: Global, place: &mut Place, input: &mut Chars<'_>) -> Option<u64> {
+        take_unsigned_of(place, input, u64::MAX)
+    }
 }
 
 impl RonCodec for usize {
@@ -215,5 +251,10 @@ impl DeRon for usize {
     ) -> Result<usize, DeRonErr> {
         let read = read_unsigned(alloc, state, input, usize::MAX as u64);
         end_on_error(state, read)
+    }
+
+    #[inline(always)]
+    fn de_ron_item(_alloc: Global, place: &mut Place, input: &mut Chars<'_>) -> Option<usize> {
+        take_unsigned_of(place, input, usize::MAX as u64)
     }
 }

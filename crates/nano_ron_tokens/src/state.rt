@@ -139,7 +139,7 @@ impl DeRonState {
 
     /// Where the state stands.
     #[inline]
-    pub(crate) fn place(&self) -> Place
+    pub fn place(&self) -> Place
         ensures { result ≡ place_of self.now }
     {
         Place {
@@ -149,9 +149,9 @@ impl DeRonState {
         }
     }
 
-    /// Stands at another place.
+    /// Stands at another place. The pending token and the buffers are the same.
     #[inline]
-    pub(crate) fn stand_at(&mut self, place: Place)
+    pub fn stand_at(&mut self, place: Place)
         ensures { self.new
             ≡ record self.old { cur = place.cur; line = place.line; col = place.col } }
     {

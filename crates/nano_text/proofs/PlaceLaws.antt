@@ -165,3 +165,16 @@ stands_in {whole} {text} {start} {p} {q} {i} {j} same line column first left res
         advances_within h,
       );
     })
+
+-- whichever copy of the input is read
+pub moves_from : (p q : Place) (i j k : Chars) → chars_rest i ≡ chars_rest j → Moves p i q k → Moves p j q k
+moves_from p q i j k e h = record {
+  passes = record {
+    taken = h.passes.taken;
+    split = sym (ap chars e) ∙ h.passes.split;
+    line = h.passes.line;
+    col = h.passes.col;
+  };
+  within = omega (arith, h.within, ap length (same_remaining p.cur i j e));
+  exact = omega (arith, h.exact, ap (λ (bytes : List ℕ). length (chars bytes)) e, ap length (same_remaining p.cur i j e));
+}

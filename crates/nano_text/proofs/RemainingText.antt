@@ -94,3 +94,8 @@ before_nul_fewer (c ∷ cs) = elim (nat_eq c 0) as (λ (b : Bool). length (cond 
 pub remaining_fewer : (cur : ℕ) (s : Chars) → length (remaining cur s) ≤ length (chars_rest s) + 1
 unfolding remaining
 remaining_fewer cur s = omega (arith, before_nul_fewer (cur ∷ held s), chars_fewer (chars_rest s))
+
+-- what a text still holds does not depend on which iterator holds it
+pub same_remaining : (cur : ℕ) (i j : Chars) → chars_rest i ≡ chars_rest j → remaining cur i ≡ remaining cur j
+unfolding remaining
+same_remaining cur i j e = ap (λ (bytes : List ℕ). before_nul (cur ∷ chars bytes)) e

@@ -20,6 +20,8 @@ mod frame_tests;
 #[cfg(test)]
 mod json_tests;
 #[cfg(test)]
+mod item_tests;
+#[cfg(test)]
 mod key_tests;
 #[cfg(test)]
 mod line_tests;

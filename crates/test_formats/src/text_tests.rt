@@ -10,7 +10,7 @@ use std::alloc::{AllocError, Global};
 use std::str::Chars;
 
 /// A character, and those after it, which are still to be read.
-fn first_place(text: &str) -> (Place, Chars<'_>) {
+pub(crate) fn first_place(text: &str) -> (Place, Chars<'_>) {
     let mut input = text.chars();
     let mut place = Place {
         cur: '\0',

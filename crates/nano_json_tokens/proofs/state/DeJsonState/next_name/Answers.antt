@@ -3,10 +3,11 @@ use Rattle.nano_text.specs.Place.{remaining, text_at, Moves}
 use Rattle.nano_text.specs.Characters.{following}
 use Rattle.nano_text.specs.String.{IsPlainString}
 use Rattle.nano_text.specs.Characters.{is_space}
-use Rattle.nano_text.proofs.PlaceLaws.{moves_append}
+use Rattle.nano_text.proofs.PlaceLaws.{moves_append, moves_from}
 use Rattle.nano_text.specs.declared.place.Place.{Place}
 use Rattle.nano_json_tokens.specs.State.{pending, place_of}
-use Rattle.nano_json_tokens.proofs.Scanning.{same_remaining, moves_from, name_ahead, colon_ahead}
+use Rattle.nano_text.proofs.RemainingText.{same_remaining}
+use Rattle.nano_json_tokens.proofs.Scanning.{name_ahead, colon_ahead}
 use Rattle.nano_json_tokens.proofs.state.DeJsonState.next_name.Goals as goal
 
 pub returns-clause-name : goal.returns-clause-name

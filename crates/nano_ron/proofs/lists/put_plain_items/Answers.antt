@@ -1,0 +1,51 @@
+use Rattle.std.proofs.Common.{refl, ap, sym, subst, ◌∙◌, string_bytes}
+use Rattle.nano_text.proofs.PlaceLaws.{moves_none, moves_append}
+use Rattle.nano_grammar.specs.Outcomes.{PutItems}
+use Rattle.nano_grammar.proofs.ItemRuns.{put_none, put_more, item_less, put_moved}
+use Rattle.nano_ron_tokens.specs.Cut.{Cut}
+use Rattle.nano_ron_tokens.specs.Outcomes.{position}
+use Rattle.nano_ron_tokens.specs.State.{token_of, place_of}
+use Rattle.nano_ron_tokens.specs.declared.state.DeRonState.{DeRonState}
+use Rattle.nano_ron_tokens.specs.Token.{blocks, comma}
+use Rattle.nano_ron_tokens.proofs.RonLaws.{block_brackets}
+use Rattle.nano_ron_tokens.proofs.ItemCalls.{copied, at_comma_is, comma_there}
+use Rattle.nano_ron.proofs.Ron.{ron_laws}
+use Rattle.nano_ron.proofs.lists.put_plain_items.Goals as goal
+
+pub items-init : goal.items-init
+items-init g c =
+    let s = c.args.state.now in
+    let same = c.chars-rest.ensures.rest ∙ c.as_str.ensures in
+    let is = ap (λ t. token_of t (string_bytes s.strbuf) (string_bytes s.numbuf)) c.in-Comma.is in
+    (rw c.place-place.ensures
+    (put_none ron_laws blocks block_brackets g.T.RonCodec.ron.encoding.laws g.C.Collect.holds c.args.items.now
+    (at_comma_is s c.args.input.now c.chars-rest.result is same) (copied s c.args.input.now c.chars-rest.result same)), refl)
+
+pub items-smaller : goal.items-smaller
+items-smaller g c = item_less ron_laws blocks block_brackets g.T.RonCodec.ron.encoding.laws c.in-Some.ensures
+
+pub items-preserved : goal.items-preserved
+items-preserved g c =
+    (put_more ron_laws blocks block_brackets g.T.RonCodec.ron.encoding.laws g.C.Collect.holds c.put.new.self c.items.invariant.0 c.in-Some.ensures c.in_default-put.ensures, c.items.invariant.1)
+
+pub returns-clause-ok : goal.returns-clause-ok
+returns-clause-ok g c =
+    let s = c.args.state.now in
+    let is = ap (λ t. token_of t (string_bytes s.strbuf) (string_bytes s.numbuf)) c.in-Comma.is in
+    let p = c.de_ron_item.new._place in
+    let stand : DeRonState → DeRonState = λ t. record t { cur = p.cur; line = p.line; col = p.col } in
+    let stood = c.stand_at-2.ensures ∙ ap stand c.items.invariant.1 in
+    subst (λ q. PutItems Cut g.T.RonCodec.ron.encoding.encodes comma g.C.Collect.holds (position s c.args.input.now) q c.args.items.now c.items.items)
+    (sym (comma_there s c.stand_at-2.new.self c.de_ron_item.new._place c.de_ron_item.new._input is stood ∙ c.in_default-de_ron_item.ensures)) c.items.invariant.0
+
+pub returns-in-Err-clause-err : goal.returns-in-Err-clause-err
+returns-in-Err-clause-err g c =
+    let run = put_moved ron_laws blocks block_brackets g.T.RonCodec.ron.encoding.laws g.C.Collect.holds c.items.invariant.0 in
+    let item = c.in-Some.ensures in
+    rw c.stand_at.ensures (moves_append run (moves_append item.place item.read.place))
+
+pub returns-in_default : goal.returns-in_default
+returns-in_default g c = record {
+  ok = put_none ron_laws blocks block_brackets g.T.RonCodec.ron.encoding.laws g.C.Collect.holds c.args.items.now refl (moves_none (place_of c.args.state.now) c.args.input.now);
+  err = tt;
+}

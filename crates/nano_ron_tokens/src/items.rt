@@ -1,0 +1,118 @@
+//! Items of a list that stand plainly: one token behind a comma, and the next comma directly behind
+//! it. They are taken at once, and change nothing of the state but its place.
+
+ghost use Rattle.std.specs.Prelude.{◌≡◌, IfSome, true, string_bytes};
+ghost use Rattle.nano_text.specs.Outcomes.{Counts};
+ghost use Rattle.nano_text.specs.Place.{text_at};
+ghost use Rattle.nano_ron_tokens.specs.Cut.{Cut};
+ghost use Rattle.nano_ron_tokens.specs.Items.{TakesItem, AnUnsigned, AnInteger, AText};
+ghost use Rattle.nano_ron_tokens.specs.Items.{IsInteger};
+ghost use Rattle.nano_ron_tokens.specs.Token.{comma};
+
+use nano_text::{Place, read_at_once, take_negative, take_unsigned};
+use std::alloc::Global;
+use std::str::Chars;
+
+/// Takes the comma that stands here, if one does.
+#[inline(always)]
+fn take_comma(place: &mut Place, input: &mut Chars<'_>) -> bool
+    ensures taken { result ≡ true
+        → Cut (text_at place.old input.old) comma (text_at place.new input.new) }
+    ensures counts { result ≡ true → Counts place.old input.old place.new input.new }
+{
+    if place.cur != ',' {
+        return false;
+    }
+    place.next(input);
+    true
+}
+
+/// Takes a whole number of at most `max` without a sign, from behind a comma, and the comma behind
+/// it. `None` takes nothing, and says nothing of what stands there.
+#[inline(always)]
+pub fn take_unsigned_item(place: &mut Place, input: &mut Chars<'_>, max: u64) -> Option<u64>
+    ensures { TakesItem (AnUnsigned max) (λ n. n)
+        place.old input.old place.new input.new result }
+{
+    let mut here = *place;
+    let mut rest = input.as_str().chars();
+    here.skip_space(&mut rest);
+    let number = take_unsigned(&mut here, &mut rest)?;
+    if number > max {
+        return None;
+    }
+    if !take_comma(&mut here, &mut rest) {
+        return None;
+    }
+    *place = here;
+    *input = rest;
+    Some(number)
+}
+
+/// Takes the integer that begins here, where 64 bits hold it with its sign. `None` takes nothing
+/// that counts.
+#[inline(always)]
+fn take_integer(place: &mut Place, input: &mut Chars<'_>) -> Option<i64>
+    ensures found { IfSome result (λ z. IsInteger z
+        (text_at place.old input.old) (text_at place.new input.new)) }
+    ensures counts { Counts place.old input.old place.new input.new }
+{
+    if place.cur == '-' {
+        return take_negative(place, input);
+    }
+    let number = take_unsigned(place, input)?;
+    if number > i64::MAX as u64 {
+        return None;
+    }
+    Some(number as i64)
+}
+
+/// Takes a whole number from `min` to `max`, with or without a minus, from behind a comma, and the
+/// comma behind it. `None` takes nothing, and says nothing of what stands there.
+#[inline(always)]
+pub fn take_integer_item(
+    place: &mut Place,
+    input: &mut Chars<'_>,
+    min: i64,
+    max: i64,
+) -> Option<i64>
+    ensures { TakesItem (AnInteger min max) (λ z. z)
+        place.old input.old place.new input.new result }
+{
+    let mut here = *place;
+    let mut rest = input.as_str().chars();
+    here.skip_space(&mut rest);
+    let number = take_integer(&mut here, &mut rest)?;
+    if number < min || max < number {
+        return None;
+    }
+    if !take_comma(&mut here, &mut rest) {
+        return None;
+    }
+    *place = here;
+    *input = rest;
+    Some(number)
+}
+
+/// Takes a string in one line, with no escape of more than one character, from behind a comma, and
+/// the comma behind it. `None` takes nothing, and says nothing of what stands there; where memory
+/// runs out it is `None`, too.
+#[inline(always)]
+pub fn take_text_item(alloc: Global, place: &mut Place, input: &mut Chars<'_>) -> Option<String>
+    ensures { TakesItem AText (λ text. string_bytes text)
+        place.old input.old place.new input.new result }
+{
+    let mut here = *place;
+    let mut rest = input.as_str().chars();
+    here.skip_space(&mut rest);
+    let mut text = String::new(alloc);
+    if !read_at_once(&mut here, &mut rest, &mut text) {
+        return None;
+    }
+    if !take_comma(&mut here, &mut rest) {
+        return None;
+    }
+    *place = here;
+    *input = rest;
+    Some(text)
+}
