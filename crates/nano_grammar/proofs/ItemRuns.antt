@@ -1,4 +1,4 @@
--- What the calls come to that take items of a list behind commas, one after the other.
+-- What the calls come to that take items of a list after commas, one after the other.
 use Rattle.std.proofs.Common.{◌≡◌, ◌≢◌, ◌<◌, ◌≤◌, List, [], ◌∷◌, ◌++◌, sym, ◌∙◌, ap, subst, refl, ℕ, arith, inl, inr}
 use Rattle.std.proofs.Common.{append-nil, append_assoc}
 use Rattle.nano_grammar.proofs.TokensLaws.{CutLaws, tokens_left, leaves_shorter}
@@ -9,7 +9,8 @@ use Rattle.nano_grammar.proofs.Containers.{ReadSoFar}
 use Rattle.nano_grammar.proofs.Reading.{value_shorter}
 use Rattle.nano_grammar.proofs.CollectingCalls.{Filled, filled_next, comma_not}
 use Rattle.nano_text.proofs.PlaceLaws.{moves_none, moves_append}
-use Rattle.nano_grammar.specs.Outcomes.{Position, Moved, TookComma, Read, TookItem, TookItems, PutItems}
+use Rattle.nano_grammar.specs.ItemRuns.{TookItem, TookItems, PutItems}
+use Rattle.nano_grammar.specs.Outcomes.{Position, Moved, TookComma, Read}
 use Rattle.nano_grammar.specs.Outcomes.{Report, Fails, GoesWrong, ReadsNone}
 use Rattle.nano_grammar.specs.Faults.{AreTokens}
 use Rattle.nano_grammar.specs.Lists.{EncodesAll}
@@ -19,15 +20,9 @@ use Rattle.nano_value.specs.Meaning.{Meaning}
 pub item_as : {T V W : Type 0} (cut : List ℕ → T → List ℕ → Type 0) (comma : T) (S : List T → V → Type 0)
     (R : List T → W → Type 0) {start end : Position T} {v : V} {w : W} → ((ts : List T) → S ts v → R ts w)
     → TookItem cut S comma start end v → TookItem cut R comma start end w
-item_as cut comma S R to h = record {
-  item = h.item;
-  taken = h.taken;
-  place = h.place;
-  read = record {
-    decodes = (h.read.decodes.0, to h.read.decodes.0 h.read.decodes.1, h.read.decodes.2);
-    place = h.read.place;
-  };
-}
+item_as cut comma S R to h =
+    let ts = h.3.decodes in
+    (h.0, h.1, h.2, record { decodes = (ts.0, to ts.0 ts.1, ts.2); place = h.3.place })
 
 module _ {T : Type 0} {c : Cutting T} {g : Grammar T} (r : CutLaws c g)
     (punctuation : ListPunctuation T) (are : AreBrackets g punctuation) where
@@ -35,7 +30,7 @@ module _ {T : Type 0} {c : Cutting T} {g : Grammar T} (r : CutLaws c g)
   abbrev pub is_itself : {V : Type 0} → List V → List V → Type 0
   is_itself items values = items ≡ values
 
-  -- these items are read, and the comma behind the last one is not taken
+  -- these items are read, and the comma after the last one is not taken
   pub record ReadUpTo {V : Type 0} (S : List T → V → Type 0) (start end : Position T)
       (items : List V) : Type 0 where
     pub before : List V
@@ -46,11 +41,11 @@ module _ {T : Type 0} {c : Cutting T} {g : Grammar T} (r : CutLaws c g)
     pub read : Read c.cut S item end last
 
   module _ {V : Type 0} {P : V → Type 0} {S : List T → V → Type 0} (s : IsEncoding g P S) where
-    -- the comma behind an item that was taken
-    comma_behind : {start end : Position T} {value : V}
+    -- the comma after an item that was taken
+    its_comma : {start end : Position T} {value : V}
         → (h : TookItem c.cut S punctuation.comma start end value)
-        → TookComma c.cut (Unit {0}) start h.item punctuation.comma punctuation.closing (Unit {0})
-    comma_behind h = record { taken = inl h.taken; unchanged = λ _. tt; buffers = tt; place = h.place }
+        → TookComma c.cut (Unit {0}) start h.0 punctuation.comma punctuation.closing (Unit {0})
+    its_comma h = record { taken = inl h.1; unchanged = λ _. tt; buffers = tt; place = h.2 }
 
     -- the collection is filled with the items up to here
     pub filled_items : {C : Type 0} {holds : C → List V → Type 0} {start here : Position T} {x : C}
@@ -70,11 +65,11 @@ module _ {T : Type 0} {c : Cutting T} {g : Grammar T} (r : CutLaws c g)
     up_to_next {values = values} {v} h i = record {
       before = values;
       last = v;
-      item = i.item;
+      item = i.0;
       all = refl;
-      filled = filled_next r punctuation are s is_itself values h.filled h.read (comma_behind i)
+      filled = filled_next r punctuation are s is_itself values h.filled h.read (its_comma i)
       (λ vs is. h.all ∙ ap (λ (us : List V). us ++ h.last ∷ []) is);
-      read = i.read;
+      read = i.3;
     }
 
     pub up_to_more : {start mid end : Position T} {values : List V} (more : List V)
@@ -114,7 +109,7 @@ module _ {T : Type 0} {c : Cutting T} {g : Grammar T} (r : CutLaws c g)
         → TookItems c.cut S punctuation.comma start values end → Moved start end
     items_moved start end [] is = is.1
     items_moved start end (v ∷ values) is =
-        moves_append (moves_append is.1.place is.1.read.place) (items_moved is.0 end values is.2)
+        moves_append (moves_append is.1.2 is.1.3.place) (items_moved is.0 end values is.2)
 
     pub items_shorter : (start end : Position T) (values : List V)
         → TookItems c.cut S punctuation.comma start values end
@@ -122,8 +117,8 @@ module _ {T : Type 0} {c : Cutting T} {g : Grammar T} (r : CutLaws c g)
     items_shorter start end [] is = omega (arith, ap (tokens_left r.is_end) is.0)
     items_shorter start end (v ∷ values) is =
         let i = is.1 in
-        let one = leaves_shorter c.cut r.is_end r.shorter (punctuation.comma ∷ []) start.at i.item.at i.taken in
-        let two = leaves_shorter c.cut r.is_end r.shorter i.read.decodes.0 i.item.at is.0.at i.read.decodes.2 in
+        let one = leaves_shorter c.cut r.is_end r.shorter (punctuation.comma ∷ []) start.at i.0.at i.1 in
+        let two = leaves_shorter c.cut r.is_end r.shorter i.3.decodes.0 i.0.at is.0.at i.3.decodes.2 in
         omega (arith, one, two, items_shorter is.0 end values is.2)
 
     comma_shorter : {buffered same : Type 0} {here next : Position T}
@@ -138,22 +133,17 @@ module _ {T : Type 0} {c : Cutting T} {g : Grammar T} (r : CutLaws c g)
     pub item_less : {start end : Position T} {v : V} → TookItem c.cut S punctuation.comma start end v
         → tokens_left r.is_end end.at < tokens_left r.is_end start.at
     item_less {start} {end} {v} h =
-        let one = leaves_shorter c.cut r.is_end r.shorter (punctuation.comma ∷ []) start.at h.item.at h.taken in
-        let i = h.read.decodes in
-        omega (arith, one, value_shorter r i.0 h.item.at end.at (s.begins i.0 v i.1) i.2)
+        let one = leaves_shorter c.cut r.is_end r.shorter (punctuation.comma ∷ []) start.at h.0.at h.1 in
+        let i = h.3.decodes in
+        omega (arith, one, value_shorter r i.0 h.0.at end.at (s.begins i.0 v i.1) i.2)
 
-    -- one more item, behind the others
+    -- one more item, after the others
     items_append : (start mid end : Position T) (values : List V) {v : V}
         → TookItems c.cut S punctuation.comma start values mid
         → TookItem c.cut S punctuation.comma mid end v
         → TookItems c.cut S punctuation.comma start (values ++ v ∷ []) end
     items_append start mid end [] is i =
-        (end, record {
-          item = i.item;
-          taken = subst (λ at. Leaves c.cut (punctuation.comma ∷ []) at i.item.at) (sym is.0) i.taken;
-          place = moves_append is.1 i.place;
-          read = i.read;
-        }, (refl, moves_none end.place end.input))
+        (end, (i.0, subst (λ at. Leaves c.cut (punctuation.comma ∷ []) at i.0.at) (sym is.0) i.1, moves_append is.1 i.2, i.3), (refl, moves_none end.place end.input))
     items_append start mid end (w ∷ values) is i = (is.0, is.1, items_append is.0 mid end values is.2 i)
 
     -- put into a collection, too
@@ -186,7 +176,7 @@ module _ {T : Type 0} {c : Cutting T} {g : Grammar T} (r : CutLaws c g)
         → tokens_left r.is_end end.at ≤ tokens_left r.is_end start.at
     put_shorter holds {start} {end} h = items_shorter start end h.items h.taken
 
-    -- ---- a turn of the loop that fills a collection: an item, those behind it, and a comma
+    -- ---- a turn of the loop that fills a collection: an item, those after it, and a comma
 
     pub run_shorter : {C : Type 0} (holds : C → List V → Type 0) {buffered same : Type 0}
         {here mid last next : Position T} {x y : C} {v : V} → Read c.cut S here mid v
@@ -208,7 +198,7 @@ module _ {T : Type 0} {c : Cutting T} {g : Grammar T} (r : CutLaws c g)
         filled_up_to holds z (run.put (h.read.items ++ v ∷ []) (put h.read.items h.read.held))
         (up_to_more run.items (up_to_first h item) run.taken) comma
 
-    -- where no comma stands behind the items, nothing is encoded
+    -- where no comma stands after the items, nothing is encoded
     pub run_comma_not : {C : Type 0} (holds : C → List V → Type 0) (whole : List V → Meaning)
         {start here mid last end : Position T} {x y z : C} {v : V} {e : Report}
         → Filled r punctuation are holds S start here x → Read c.cut S here mid v

@@ -9,6 +9,7 @@ pub mod Maps
 pub mod Scalars
 pub mod Tuples
 pub mod Outcomes
+pub mod ItemRuns
 -- user-defined types
 pub mod Fields
 pub mod FieldCodec

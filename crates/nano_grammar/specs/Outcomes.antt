@@ -1,8 +1,7 @@
 -- What one call of a reader of text comes to, over any tokens: what was taken and how far that
 -- goes, or why nothing was and where that was found.
 use Rattle.std.specs.Prelude.{◌≡◌, ◌≢◌, ◌⊎◌, ◌+◌, ◌-◌, ◌≤◌, ℕ, List, [], ◌∷◌, ◌++◌, length, chars}
-use Rattle.std.specs.Prelude.{codes, true, false, Bool, Option, MatchOption, Result, MatchResult}
-use Rattle.std.specs.Prelude.{◌↔◌}
+use Rattle.std.specs.Prelude.{codes, true, false, Bool, Result, MatchResult, ◌↔◌}
 use Rattle.std.specs.declared.str.Chars.{Chars}
 use Rattle.nano_text.specs.Place.{remaining_text, text_at, before_nul, beginning, passed, Advances}
 use Rattle.nano_text.specs.Place.{Moves, StandsIn}
@@ -161,35 +160,6 @@ module _ {T : Type 0} where
       abbrev pub ReadsOrEnds : At T → Result A E → Type 0
       ReadsOrEnds last result =
           MatchResult result (λ x. Read (means x)) (λ e. ReadsNoneAndEnds last (report e))
-
-  -- ---- items behind commas
-
-  module _ {V : Type 0} (cut : List ℕ → T → List ℕ → Type 0) (encodes : List T → V → Type 0)
-      (comma : T) where
-    -- the pending comma was taken, and an item after it
-    pub record TookItem (start end : Position T) (value : V) : Type 0 where
-      pub item : Position T
-      pub taken : Leaves cut (comma ∷ []) start.at item.at
-      pub place : Moved start item
-      pub read : Read cut encodes item end value
-
-    -- so were these items, each behind a comma
-    abbrev pub TookItems : Position T → List V → Position T → Type 0
-    TookItems start [] end = (start.at ≡ end.at) × Moved start end
-    TookItems start (value ∷ values) end =
-        (next : Position T) × TookItem start next value × TookItems next values end
-
-    -- a collection that held others holds them after those
-    pub record PutItems {C : Type 0} (holds : C → List V → Type 0) (start end : Position T)
-        (old new : C) : Type 0 where
-      pub items : List V
-      pub taken : TookItems start items end
-      pub put : (held : List V) → holds old held → holds new (held ++ items)
-
-    -- one more item was taken, or nothing
-    abbrev pub TakesItem : {A : Type 0} → (A → V) → Position T → Position T → Option A → Type 0
-    TakesItem means start end result =
-        MatchOption result (end ≡ start) (λ x. TookItem start end (means x))
 
 -- ---- texts
 

@@ -10,7 +10,7 @@ ghost use Rattle.nano_meaning.proofs.AgreesLaws.{agreed};
 ghost use Rattle.nano_json.specs.ScalarCodecs.{IsRangeOf, signed, signed_codec, within_8};
 ghost use Rattle.nano_json.specs.ScalarCodecs.{within_16, within_32, within_64};
 ghost use Rattle.nano_json.specs.Outcomes.{position, Reads};
-ghost use Rattle.nano_json_tokens.specs.Items.{TakesItem};
+ghost use Rattle.nano_json_tokens.specs.Outcomes.{TakesItem, at_comma};
 
 use crate::traits::{DeJson, JsonCodec, SerJson};
 use nano_json_tokens::{DeJsonErr, DeJsonState, SerJsonState, end_on_error, take_integer_item};
@@ -52,7 +52,7 @@ fn read_signed<T: Signed>(
     Ok(T::narrow(number))
 }
 
-/// Takes a whole number from `min` to `max` from behind a comma, and the comma behind it.
+/// Takes a whole number from `min` to `max` after a comma, and the comma after it.
 #[inline(always)]
 fn take_signed_of<T: Signed>(
     place: &mut Place,
@@ -62,7 +62,8 @@ fn take_signed_of<T: Signed>(
 ) -> Option<T>
     requires { IsRangeOf T.width min max }
     ensures { TakesItem (signed T.width).encodes (λ x. number (T.value x))
-        place.old input.old place.new input.new result }
+        (at_comma place.old input.old)
+            (at_comma place.new input.new) result }
 {
     let number = take_integer_item(place, input, min, max)?;
     Some(T::narrow(number))

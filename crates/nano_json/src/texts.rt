@@ -10,7 +10,7 @@ ghost use Rattle.nano_meaning.proofs.AgreesLaws.{agreed};
 ghost use Rattle.nano_json.specs.Codec.{codec_as};
 ghost use Rattle.nano_json.specs.ScalarCodecs.{texts, text_codec};
 ghost use Rattle.nano_json.specs.Outcomes.{position, Reads};
-ghost use Rattle.nano_json_tokens.specs.Items.{TakesItem};
+ghost use Rattle.nano_json_tokens.specs.Outcomes.{TakesItem, at_comma};
 
 use crate::traits::{DeJson, JsonCodec, SerJson};
 use nano_json_tokens::{DeJsonErr, DeJsonState, SerJsonState, append_string, end_on_error};
@@ -47,11 +47,12 @@ fn read_string(
     Ok(text)
 }
 
-/// Takes a string from behind a comma, and the comma behind it.
+/// Takes a string after a comma, and the comma after it.
 #[inline(always)]
 fn take_string(alloc: Global, place: &mut Place, input: &mut Chars<'_>) -> Option<String>
     ensures { TakesItem texts.encodes (λ x. text (string_bytes x))
-        place.old input.old place.new input.new result }
+        (at_comma place.old input.old)
+            (at_comma place.new input.new) result }
 {
     let text = take_text_item(alloc, place, input)?;
     let _length = text.len();

@@ -4,7 +4,6 @@ pub mod State
 pub mod Skipped
 pub mod Outcomes
 pub mod Scan
-pub mod Items
 pub mod Promises
 pub mod Written
 pub mod WrittenImpls

@@ -140,3 +140,22 @@ module _ (old : DeJsonState) (before : Chars) (new : DeJsonState) (after : Chars
     pub tok : new.tok ≡ old.tok
     pub space : remaining new.cur after ≡ following is_space (remaining old.cur before)
     pub place : Moved old before new after
+
+-- ==== items that are taken at once
+
+-- a number without a sign alone, of at most that
+abbrev pub AnUnsigned : ℕ → List Token → ℕ → Type 0
+AnUnsigned max ts n = (ts ≡ u64 n ∷ []) × (n ≤ max)
+
+-- a whole number alone, in that range
+abbrev pub AnInteger : ℤ → ℤ → List Token → ℤ → Type 0
+AnInteger min max ts z =
+    (t : Token) × (ts ≡ t ∷ []) × (integer_of t ≡ Some z) × (min ≤ℤ z) × (z ≤ℤ max)
+
+-- a text alone
+abbrev pub AText : List Token → List ℕ → Type 0
+AText ts bytes = ts ≡ str bytes ∷ []
+
+-- the text begins with a lexeme of the whole number
+abbrev pub IsInteger : ℤ → List ℕ → List ℕ → Type 0
+IsInteger z text rest = (t : Token) × (integer_of t ≡ Some z) × IsLexeme t text rest

@@ -5,7 +5,7 @@ ghost use Rattle.nano_text.specs.Place.{saturating_next};
 ghost use Rattle.nano_meaning.proofs.AgreesLaws.{seen_agrees, list_agrees};
 ghost use Rattle.nano_ron.specs.Codec.{codec_as};
 ghost use Rattle.nano_text.specs.Outcomes.{Appends, AppendsPart};
-ghost use Rattle.nano_grammar.specs.Outcomes.{PutItems};
+ghost use Rattle.nano_grammar.specs.ItemRuns.{PutItems};
 ghost use Rattle.nano_ron_tokens.specs.Cut.{Cut};
 ghost use Rattle.nano_ron_tokens.specs.Outcomes.{Moved};
 ghost use Rattle.nano_ron_tokens.specs.Token.{comma};
@@ -29,7 +29,7 @@ impl<T: RonCodec> RonCodec for Vec<T> {
     ghost agrees = { seen_agrees (list_agrees T.agrees) (λ x. x.items) };
 }
 
-/// Puts the items that stand plainly behind a pending comma into a collection. The comma behind the
+/// Puts the items that stand plainly after a pending comma into a collection. The comma after the
 /// last one is pending then.
 #[inline(always)]
 fn put_plain_items<T: DeRon, C: Collect<T>>(

@@ -8,7 +8,7 @@ ghost use Rattle.nano_meaning.proofs.AgreesLaws.{agreed};
 ghost use Rattle.nano_ron.specs.ScalarCodecs.{IsRangeOf, signed, signed_codec, within_8, within_16};
 ghost use Rattle.nano_ron.specs.ScalarCodecs.{within_32, within_64};
 ghost use Rattle.nano_ron.specs.Outcomes.{position, Reads};
-ghost use Rattle.nano_ron_tokens.specs.Items.{TakesItem};
+ghost use Rattle.nano_ron_tokens.specs.Outcomes.{TakesItem, at_comma};
 
 use crate::traits::{DeRon, RonCodec, SerRon};
 use nano_ron_tokens::{DeRonErr, DeRonState, SerRonState, end_on_error, take_integer_item};
@@ -51,7 +51,7 @@ fn read_signed<T: Signed>(
     Ok(T::narrow(number))
 }
 
-/// Takes a whole number from `min` to `max` from behind a comma, and the comma behind it.
+/// Takes a whole number from `min` to `max` after a comma, and the comma after it.
 #[inline(always)]
 fn take_signed_of<T: Signed>(
     place: &mut Place,
@@ -61,7 +61,8 @@ fn take_signed_of<T: Signed>(
 ) -> Option<T>
     requires { IsRangeOf T.width min max }
     ensures { TakesItem (signed T.width).encodes (λ x. number (T.value x))
-        place.old input.old place.new input.new result }
+        (at_comma place.old input.old)
+            (at_comma place.new input.new) result }
 {
     let number = take_integer_item(place, input, min, max)?;
     Some(T::narrow(number))

@@ -8,7 +8,7 @@ ghost use Rattle.nano_meaning.proofs.AgreesLaws.{agreed};
 ghost use Rattle.nano_ron.specs.Codec.{codec_as};
 ghost use Rattle.nano_ron.specs.ScalarCodecs.{texts, text_codec};
 ghost use Rattle.nano_ron.specs.Outcomes.{position, Reads};
-ghost use Rattle.nano_ron_tokens.specs.Items.{TakesItem};
+ghost use Rattle.nano_ron_tokens.specs.Outcomes.{TakesItem, at_comma};
 
 use crate::traits::{DeRon, RonCodec, SerRon};
 use nano_ron_tokens::{DeRonErr, DeRonState, SerRonState, append_string, end_on_error};
@@ -45,11 +45,12 @@ fn read_string(
     Ok(text)
 }
 
-/// Takes a string from behind a comma, and the comma behind it.
+/// Takes a string after a comma, and the comma after it.
 #[inline(always)]
 fn take_string(alloc: Global, place: &mut Place, input: &mut Chars<'_>) -> Option<String>
     ensures { TakesItem texts.encodes (λ x. text (string_bytes x))
-        place.old input.old place.new input.new result }
+        (at_comma place.old input.old)
+            (at_comma place.new input.new) result }
 {
     let text = take_text_item(alloc, place, input)?;
     let _length = text.len();

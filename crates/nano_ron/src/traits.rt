@@ -72,7 +72,7 @@ pub trait SerRon: RonCodec {
 pub trait DeRon: RonCodec + Drop {
     ghost use Rattle.nano_ron.specs.Outcomes.{position, ReadsOrEnds};
     ghost use Rattle.nano_ron.specs.Readers.{ReadsText, ReadsWhole};
-    ghost use Rattle.nano_ron_tokens.specs.Items.{TakesItem};
+    ghost use Rattle.nano_ron_tokens.specs.Outcomes.{TakesItem, at_comma};
 
     /// Reads the value that the tokens from the pending one on encode. The token after the
     /// value is pending then, which may be the end.
@@ -97,8 +97,8 @@ pub trait DeRon: RonCodec + Drop {
         ensures { ReadsOrEnds Self.ron.encoding.encodes Self.means
             (position state.old input.old) (position state.new input.new) result };
 
-    /// Takes a value of one token from behind a pending comma, and the comma that stands directly
-    /// behind it. Lists call it for one item after the other, and keep the place in registers.
+    /// Takes a value of one token after a pending comma, and the comma that stands directly
+    /// after it. Lists call it for one item after the other, and keep the place in registers.
     ///
     /// `None` takes nothing. It says nothing of what stands there: `de_ron` reads it then. So a type
     /// that always answers `None` loses speed alone.
@@ -109,7 +109,7 @@ pub trait DeRon: RonCodec + Drop {
         _input: &mut Chars<'_>,
     ) -> Option<Self>
         ensures { TakesItem Self.ron.encoding.encodes Self.means
-            _place.old _input.old _place.new _input.new result }
+            (at_comma _place.old _input.old) (at_comma _place.new _input.new) result }
     {
         None
     }

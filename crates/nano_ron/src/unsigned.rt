@@ -6,7 +6,7 @@ ghost use Rattle.std.specs.Prelude.{◌≡◌, ◌+◌, ◌^◌};
 ghost use Rattle.nano_value.specs.Meaning.{whole};
 ghost use Rattle.nano_meaning.proofs.AgreesLaws.{agreed};
 ghost use Rattle.nano_ron.specs.Outcomes.{position, Reads};
-ghost use Rattle.nano_ron_tokens.specs.Items.{TakesItem};
+ghost use Rattle.nano_ron_tokens.specs.Outcomes.{TakesItem, at_comma};
 ghost use Rattle.nano_ron.specs.ScalarCodecs.{unsigned, unsigned_codec, below_8, below_16};
 ghost use Rattle.nano_ron.specs.ScalarCodecs.{below_32, below_64};
 
@@ -49,7 +49,7 @@ fn read_unsigned<T: Unsigned>(
     Ok(T::narrow(number))
 }
 
-/// Takes a whole number of at most `max` from behind a comma, and the comma behind it.
+/// Takes a whole number of at most `max` after a comma, and the comma after it.
 #[inline(always)]
 fn take_unsigned_of<T: Unsigned>(
     place: &mut Place,
@@ -58,7 +58,8 @@ fn take_unsigned_of<T: Unsigned>(
 ) -> Option<T>
     requires { 2 ^ T.bits ≡ max + 1 }
     ensures { TakesItem (unsigned T.bits).encodes (λ x. whole (T.value x))
-        place.old input.old place.new input.new result }
+        (at_comma place.old input.old)
+            (at_comma place.new input.new) result }
 {
     let number = take_unsigned_item(place, input, max)?;
     Some(T::narrow(number))

@@ -12,9 +12,10 @@ use Rattle.nano_text.specs.declared.place.Place.{Place}
 use Rattle.nano_text.specs.declared.number.Number.TheVariants.{U64, I64}
 use Rattle.nano_text.proofs.PlaceLaws.{moves_none, moves_append, moves_from}
 use Rattle.nano_text.proofs.RemainingText.{first_is-remaining, same_remaining}
-use Rattle.nano_grammar.specs.Outcomes.{TookItem}
+use Rattle.nano_grammar.specs.ItemRuns.{TookItem}
+use Rattle.nano_grammar.specs.Tokens.{At}
 use Rattle.nano_ron_tokens.specs.Cut.{Cut, IsLexeme, starts_number, number}
-use Rattle.nano_ron_tokens.specs.Items.{at_comma}
+use Rattle.nano_ron_tokens.specs.Outcomes.{at_comma}
 use Rattle.nano_ron_tokens.specs.Outcomes.{position}
 use Rattle.nano_ron_tokens.specs.State.{pending, place_of}
 use Rattle.nano_ron_tokens.specs.declared.state.DeRonState.{DeRonState}
@@ -34,15 +35,15 @@ took_item S t v p here there end i j k l m same space spaced lexeme moved cut af
     let between = spaces_more (text_at p i) (following is_space (text_at p i)) (gap_over (following is_space (text_at p i))) in
     let first = lexeme_cut (text_at p i) (following is_space (text_at p i)) (text_at there l) t between
     (subst (λ (s : List ℕ). IsLexeme t s (text_at there l)) text lexeme) in
-    record {
-      item = record { at = record { token = t; text = text_at there l }; place = there; input = l };
-      taken = (refl, (record { token = t; text = text_at there l }, first, refl));
-      place = moves_append (moves_from p here j i k same spaced) moved;
-      read = record {
-        decodes = (t ∷ [], has, (refl, (record { token = comma; text = text_at end m }, cut, refl)));
+    let item : At Token = record { token = t; text = text_at there l } in (
+      record { at = item; place = there; input = l },
+      (refl, (item, first, refl)),
+      moves_append (moves_from p here j i k same spaced) moved,
+      record {
+        decodes = (t ∷ [], has, (refl, ((at_comma end m).at, cut, refl)));
         place = after;
-      };
-    }
+      },
+    )
 
 digit_starts : (c : ℕ) → is_ascii_digit c ≡ true → starts_number c ≡ true
 digit_starts c digit = elim (is_sign c) as (λ b. ((b || is_ascii_digit c) || (c == 46)) ≡ true) [

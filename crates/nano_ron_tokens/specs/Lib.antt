@@ -3,7 +3,6 @@ pub mod Cut
 pub mod State
 pub mod Outcomes
 pub mod Scan
-pub mod Items
 pub mod Promises
 pub mod Written
 pub mod Names

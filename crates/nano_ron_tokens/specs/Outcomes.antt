@@ -1,14 +1,16 @@
 -- What the calls of a reader's state and of a writer's come to.
 use Rattle.std.specs.Prelude.{◌≡◌, ◌≢◌, ◌⊎◌, ◌≤◌, ◌<◌, ◌≤ℤ◌, ◌<ℤ◌, ℕ, ℤ, Bool, true, false, Some}
 use Rattle.std.specs.Prelude.{List, [], ◌∷◌, ◌++◌, length, codes, decimal, Result, IsOk, IfOk}
-use Rattle.std.specs.Prelude.{MatchResult, String, string_bytes, string_capacity}
+use Rattle.std.specs.Prelude.{MatchOption, MatchResult, Option, String, string_bytes, string_capacity}
 use Rattle.std.specs.declared.str.Chars.{Chars}
-use Rattle.nano_text.specs.Place.{remaining, Moves}
+use Rattle.nano_text.specs.Place.{remaining, text_at, Moves}
 use Rattle.nano_grammar.specs.Tokens.{At}
 use Rattle.nano_grammar.specs.Outcomes.{Report, Position, IsMadeAt as MadeAt, Fails, Stops}
 use Rattle.nano_grammar.specs.Outcomes.{RejectsToken, TookNext, Took, TookComma}
-use Rattle.nano_grammar.specs.Outcomes.{NothingCut as NothingCutBy, Reads as ReadsBy}
+use Rattle.nano_grammar.specs.Outcomes.{NothingCut as NothingCutBy, Reads as ReadsBy, Read}
+use Rattle.nano_grammar.specs.Outcomes.{Moved as MovedTo}
 use Rattle.nano_grammar.specs.Outcomes.{ReadsOrEnds as ReadsOrEndsBy, GoesWrong as GoesWrongBy}
+use Rattle.nano_text.specs.declared.place.Place.{Place}
 use Rattle.nano_grammar.specs.Faults.{AreTokens}
 use Rattle.nano_ron_tokens.specs.declared.error.DeRonErr.{DeRonErr}
 use Rattle.nano_ron_tokens.specs.declared.state.DeRonState.{DeRonState}
@@ -211,6 +213,19 @@ abbrev pub ReadsOrEnds : {V A : Type 0} → (List Token → V → Type 0) → (A
     → Position Token → Result A DeRonErr → Type 0
 ReadsOrEnds encodes means start end result =
     ReadsOrEndsBy Cut encodes start end report means ended result
+
+-- ---- items of lists that are taken at once
+
+-- a comma is pending there
+abbrev pub at_comma : Place → Chars → Position Token
+at_comma p i = record { at = record { token = comma; text = text_at p i }; place = p; input = i }
+
+-- after the pending comma an item was taken, and then another token is pending; or nothing was
+abbrev pub TakesItem : {V A : Type 0} → (List Token → V → Type 0) → (A → V) → Position Token
+    → Position Token → Option A → Type 0
+TakesItem encodes means start end result = MatchOption result (end ≡ start)
+    (λ x. (item : Position Token) × Leaves Cut (comma ∷ []) start.at item.at × MovedTo start item
+    × Read Cut encodes item end (means x))
 
 -- what was read is handed on: the state is unchanged, or at the end of the text where nothing was
 -- read

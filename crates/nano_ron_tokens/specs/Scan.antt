@@ -143,3 +143,22 @@ pub record GoesOn (s : DeRonState) (input : List ℕ) (e : DeRonErr) : Type 0 wh
 -- the message is not that of a value that goes on; all else is the same
 abbrev pub IsValueError : DeRonErr → DeRonErr → Type 0
 IsValueError error result = IsValueErrorOf (report error) (report result)
+
+-- ==== items that are taken at once
+
+-- a number without a sign alone, of at most that
+abbrev pub AnUnsigned : ℕ → List Token → ℕ → Type 0
+AnUnsigned max ts n = (ts ≡ u64 n ∷ []) × (n ≤ max)
+
+-- a whole number alone, in that range
+abbrev pub AnInteger : ℤ → ℤ → List Token → ℤ → Type 0
+AnInteger min max ts z =
+    (t : Token) × (ts ≡ t ∷ []) × (integer_of t ≡ Some z) × (min ≤ℤ z) × (z ≤ℤ max)
+
+-- a text alone
+abbrev pub AText : List Token → List ℕ → Type 0
+AText ts bytes = ts ≡ str bytes ∷ []
+
+-- the text begins with a lexeme of the whole number
+abbrev pub IsInteger : ℤ → List ℕ → List ℕ → Type 0
+IsInteger z text rest = (t : Token) × (integer_of t ≡ Some z) × IsLexeme t text rest

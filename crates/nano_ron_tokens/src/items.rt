@@ -1,12 +1,13 @@
-//! Items of a list that stand plainly: one token behind a comma, and the next comma directly behind
+//! Items of a list that stand plainly: one token after a comma, and the next comma directly after
 //! it. They are taken at once, and change nothing of the state but its place.
 
 ghost use Rattle.std.specs.Prelude.{◌≡◌, IfSome, true, string_bytes};
 ghost use Rattle.nano_text.specs.Outcomes.{Counts};
 ghost use Rattle.nano_text.specs.Place.{text_at};
 ghost use Rattle.nano_ron_tokens.specs.Cut.{Cut};
-ghost use Rattle.nano_ron_tokens.specs.Items.{TakesItem, AnUnsigned, AnInteger, AText};
-ghost use Rattle.nano_ron_tokens.specs.Items.{IsInteger};
+ghost use Rattle.nano_ron_tokens.specs.Outcomes.{TakesItem, at_comma};
+ghost use Rattle.nano_ron_tokens.specs.Scan.{AnUnsigned, AnInteger, AText};
+ghost use Rattle.nano_ron_tokens.specs.Scan.{IsInteger};
 ghost use Rattle.nano_ron_tokens.specs.Token.{comma};
 
 use nano_text::{Place, read_at_once, take_negative, take_unsigned};
@@ -27,12 +28,13 @@ fn take_comma(place: &mut Place, input: &mut Chars<'_>) -> bool
     true
 }
 
-/// Takes a whole number of at most `max` without a sign, from behind a comma, and the comma behind
+/// Takes a whole number of at most `max` without a sign, after a comma, and the comma after
 /// it. `None` takes nothing, and says nothing of what stands there.
 #[inline(always)]
 pub fn take_unsigned_item(place: &mut Place, input: &mut Chars<'_>, max: u64) -> Option<u64>
     ensures { TakesItem (AnUnsigned max) (λ n. n)
-        place.old input.old place.new input.new result }
+        (at_comma place.old input.old)
+            (at_comma place.new input.new) result }
 {
     let mut here = *place;
     let mut rest = input.as_str().chars();
@@ -67,8 +69,8 @@ fn take_integer(place: &mut Place, input: &mut Chars<'_>) -> Option<i64>
     Some(number as i64)
 }
 
-/// Takes a whole number from `min` to `max`, with or without a minus, from behind a comma, and the
-/// comma behind it. `None` takes nothing, and says nothing of what stands there.
+/// Takes a whole number from `min` to `max`, with or without a minus, after a comma, and the
+/// comma after it. `None` takes nothing, and says nothing of what stands there.
 #[inline(always)]
 pub fn take_integer_item(
     place: &mut Place,
@@ -77,7 +79,8 @@ pub fn take_integer_item(
     max: i64,
 ) -> Option<i64>
     ensures { TakesItem (AnInteger min max) (λ z. z)
-        place.old input.old place.new input.new result }
+        (at_comma place.old input.old)
+            (at_comma place.new input.new) result }
 {
     let mut here = *place;
     let mut rest = input.as_str().chars();
@@ -94,13 +97,14 @@ pub fn take_integer_item(
     Some(number)
 }
 
-/// Takes a string in one line, with no escape of more than one character, from behind a comma, and
-/// the comma behind it. `None` takes nothing, and says nothing of what stands there; where memory
+/// Takes a string in one line, with no escape of more than one character, after a comma, and
+/// the comma after it. `None` takes nothing, and says nothing of what stands there; where memory
 /// runs out it is `None`, too.
 #[inline(always)]
 pub fn take_text_item(alloc: Global, place: &mut Place, input: &mut Chars<'_>) -> Option<String>
     ensures { TakesItem AText (λ text. string_bytes text)
-        place.old input.old place.new input.new result }
+        (at_comma place.old input.old)
+            (at_comma place.new input.new) result }
 {
     let mut here = *place;
     let mut rest = input.as_str().chars();

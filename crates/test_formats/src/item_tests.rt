@@ -1,5 +1,5 @@
-//! Items of lists that are taken at once, from behind a comma, in JSON and in RON: how each may end,
-//! and the place behind it.
+//! Items of lists that are taken at once, after a comma, in JSON and in RON: how each may end,
+//! and the place after it.
 
 use crate::checks::holds;
 use crate::text_tests::first_place;
@@ -8,7 +8,7 @@ use nano_ron::{DeRon, DeRonState};
 use nano_text::{Place, read_at_once, take_negative, take_unsigned};
 use std::alloc::Global;
 
-/// A text behind a comma; what a `u8` there is, and the line and column behind the next comma.
+/// A text after a comma; what a `u8` there is, and the line and column after the next comma.
 const BYTES: &[(&str, Option<u8>, usize, usize)] = &[
     ("7,8", Some(7), 0, 3),
     (" 7,8", Some(7), 0, 4),

@@ -2,11 +2,11 @@ use Rattle.std.proofs.Common.{◌≤ℤ◌, ◌∙◌, FitsSigned, subst, sym, r
 use Rattle.std.specs.Int.{w64}
 use Rattle.std.proofs.lemmas.Int.{to_z-of_z}
 use Rattle.nano_value.specs.Meaning.{number}
-use Rattle.nano_grammar.specs.Outcomes.{TookItem}
+use Rattle.nano_grammar.specs.ItemRuns.{TookItem}
 use Rattle.nano_grammar.proofs.ScalarsLaws.{inside, range_fits}
 use Rattle.nano_grammar.proofs.ItemRuns.{item_as}
 use Rattle.nano_json_tokens.specs.Cut.{Cut}
-use Rattle.nano_json_tokens.specs.Items.{at_comma}
+use Rattle.nano_json_tokens.specs.Outcomes.{at_comma}
 use Rattle.nano_json_tokens.specs.Token.{comma}
 use Rattle.nano_json.specs.ScalarCodecs.{signed}
 use Rattle.nano_json.proofs.signed.take_signed_of.Goals as goal
@@ -14,7 +14,7 @@ use Rattle.nano_json.proofs.signed.take_signed_of.Goals as goal
 pub narrow-requires : goal.narrow-requires
 narrow-requires g c =
     let z = c.in_ok-number.number in
-    let ok = c.in_ok-number.ensures.read.decodes.1 in
+    let ok = c.in_ok-number.ensures.3.decodes.1 in
     let low = subst (λ m. m ≤ℤ z) (to_z-of_z w64 c.args.min c.ranges.min) ok.3 in
     let high = subst (λ m. z ≤ℤ m) (to_z-of_z w64 c.args.max c.ranges.max) ok.4 in
     let wide = to_z-of_z w64 z (inside c.args.min c.args.max z c.ranges.min c.ranges.max low high) in
@@ -25,7 +25,7 @@ returns g c =
     let z = c.in_ok-number.number in
     let start = at_comma c.args.place.now c.args.input.now in
     let end = at_comma c.take_integer_item.new.place c.take_integer_item.new.input in
-    let ok = c.in_ok-number.ensures.read.decodes.1 in
+    let ok = c.in_ok-number.ensures.3.decodes.1 in
     let w = g.T.Signed.width in
     let low = subst (λ m. m ≤ℤ z) (to_z-of_z w64 c.args.min c.ranges.min) ok.3 in
     let high = subst (λ m. z ≤ℤ m) (to_z-of_z w64 c.args.max c.ranges.max) ok.4 in

@@ -1,6 +1,6 @@
 use Rattle.std.proofs.Common.{refl, ◌∙◌, string_bytes}
 use Rattle.nano_json_tokens.specs.Cut.{quoted}
-use Rattle.nano_json_tokens.specs.Items.{AText}
+use Rattle.nano_json_tokens.specs.Scan.{AText}
 use Rattle.nano_json_tokens.specs.Token.{str}
 use Rattle.nano_json_tokens.proofs.ItemCalls.{took_item}
 use Rattle.nano_json_tokens.proofs.items.take_text_item.Goals as goal

@@ -1,6 +1,6 @@
 use Rattle.std.proofs.Common.{refl, ap, sym, subst, ◌∙◌, string_bytes}
 use Rattle.nano_text.proofs.PlaceLaws.{moves_none, moves_append}
-use Rattle.nano_grammar.specs.Outcomes.{PutItems}
+use Rattle.nano_grammar.specs.ItemRuns.{PutItems}
 use Rattle.nano_grammar.proofs.ItemRuns.{put_none, put_more, item_less, put_moved}
 use Rattle.nano_ron_tokens.specs.Cut.{Cut}
 use Rattle.nano_ron_tokens.specs.Outcomes.{position}
@@ -42,7 +42,7 @@ pub returns-in-Err-clause-err : goal.returns-in-Err-clause-err
 returns-in-Err-clause-err g c =
     let run = put_moved ron_laws blocks block_brackets g.T.RonCodec.ron.encoding.laws g.C.Collect.holds c.items.invariant.0 in
     let item = c.in-Some.ensures in
-    rw c.stand_at.ensures (moves_append run (moves_append item.place item.read.place))
+    rw c.stand_at.ensures (moves_append run (moves_append item.2 item.3.place))
 
 pub returns-in_default : goal.returns-in_default
 returns-in_default g c = record {

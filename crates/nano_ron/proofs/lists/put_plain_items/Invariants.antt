@@ -1,8 +1,8 @@
 use Rattle.std.proofs.Common.{◌≡◌}
-use Rattle.nano_grammar.specs.Outcomes.{PutItems}
+use Rattle.nano_grammar.specs.ItemRuns.{PutItems}
 use Rattle.nano_grammar.proofs.TokensLaws.{tokens_left}
 use Rattle.nano_ron_tokens.specs.Cut.{Cut}
-use Rattle.nano_ron_tokens.specs.Items.{at_comma}
+use Rattle.nano_ron_tokens.specs.Outcomes.{at_comma}
 use Rattle.nano_ron_tokens.specs.Outcomes.{position}
 use Rattle.nano_ron_tokens.specs.Scan.{is_end}
 use Rattle.nano_ron_tokens.specs.Token.{comma}

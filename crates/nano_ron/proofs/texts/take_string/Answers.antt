@@ -3,7 +3,7 @@ use Rattle.std.proofs.lemmas.Str.{IsUtf8-string_bytes}
 use Rattle.nano_value.specs.Meaning.{IsText, usize_bound}
 use Rattle.nano_grammar.proofs.ItemRuns.{item_as}
 use Rattle.nano_ron_tokens.specs.Cut.{Cut}
-use Rattle.nano_ron_tokens.specs.Items.{AText}
+use Rattle.nano_ron_tokens.specs.Scan.{AText}
 use Rattle.nano_ron_tokens.specs.Token.{comma, str}
 use Rattle.nano_ron.specs.ScalarCodecs.{texts}
 use Rattle.nano_ron.proofs.texts.take_string.Goals as goal

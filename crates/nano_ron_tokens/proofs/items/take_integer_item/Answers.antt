@@ -1,9 +1,10 @@
 use Rattle.std.proofs.Common.{FitsSigned, to_z, of_z, refl, sym, subst, ◌∙◌, rules}
 use Rattle.std.specs.Int.{w64}
 use Rattle.std.proofs.lemmas.Int.{to_z-of_z}
-use Rattle.nano_grammar.specs.Outcomes.{TookItem}
+use Rattle.nano_grammar.specs.ItemRuns.{TookItem}
 use Rattle.nano_ron_tokens.specs.Cut.{Cut}
-use Rattle.nano_ron_tokens.specs.Items.{AnInteger, at_comma}
+use Rattle.nano_ron_tokens.specs.Outcomes.{at_comma}
+use Rattle.nano_ron_tokens.specs.Scan.{AnInteger}
 use Rattle.nano_ron_tokens.specs.Token.{comma}
 use Rattle.nano_ron_tokens.proofs.ItemCalls.{took_item, in_order}
 use Rattle.nano_ron_tokens.proofs.items.take_integer_item.Goals as goal

@@ -1,6 +1,6 @@
 use Rattle.std.proofs.Common.{refl, ◌∙◌, string_bytes}
 use Rattle.nano_ron_tokens.specs.Cut.{quoted}
-use Rattle.nano_ron_tokens.specs.Items.{AText}
+use Rattle.nano_ron_tokens.specs.Scan.{AText}
 use Rattle.nano_ron_tokens.specs.Token.{str}
 use Rattle.nano_ron_tokens.proofs.ItemCalls.{took_item}
 use Rattle.nano_ron_tokens.proofs.items.take_text_item.Goals as goal

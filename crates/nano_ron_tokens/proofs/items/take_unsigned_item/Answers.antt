@@ -1,5 +1,5 @@
 use Rattle.std.proofs.Common.{refl, ◌∙◌, arith, ◌≤◌}
-use Rattle.nano_ron_tokens.specs.Items.{AnUnsigned}
+use Rattle.nano_ron_tokens.specs.Scan.{AnUnsigned}
 use Rattle.nano_ron_tokens.specs.Token.{u64}
 use Rattle.nano_ron_tokens.proofs.ItemCalls.{took_item, unsigned_lexeme}
 use Rattle.nano_ron_tokens.proofs.items.take_unsigned_item.Goals as goal
