@@ -10,12 +10,9 @@ ghost use Rattle.nano_meaning.proofs.AgreesLaws.{agreed};
 ghost use Rattle.nano_json.specs.Codec.{codec_as};
 ghost use Rattle.nano_json.specs.ScalarCodecs.{texts, text_codec};
 ghost use Rattle.nano_json.specs.Outcomes.{position, Reads};
-ghost use Rattle.nano_json_tokens.specs.Outcomes.{TakesItem, at_comma};
 
 use crate::traits::{DeJson, JsonCodec, SerJson};
 use nano_json_tokens::{DeJsonErr, DeJsonState, SerJsonState, append_string, end_on_error};
-use nano_json_tokens::take_text_item;
-use nano_text::Place;
 use std::alloc::{AllocError, Global};
 use std::str::Chars;
 
@@ -47,18 +44,6 @@ fn read_string(
     Ok(text)
 }
 
-/// Takes a string after a comma, and the comma after it.
-#[inline(always)]
-fn take_string(alloc: Global, place: &mut Place, input: &mut Chars<'_>) -> Option<String>
-    ensures { TakesItem texts.encodes (λ x. text (string_bytes x))
-        (at_comma place.old input.old)
-            (at_comma place.new input.new) result }
-{
-    let text = take_text_item(alloc, place, input)?;
-    let _length = text.len();
-    Some(text)
-}
-
 impl DeJson for String {
     #[inline(always)]
     fn de_json(
@@ -68,15 +53,6 @@ impl DeJson for String {
     ) -> Result<String, DeJsonErr> {
         let read = read_string(alloc, state, input);
         end_on_error(state, read)
-    }
-
-    #[inline(always)]
-    fn de_json_item(
-        alloc: Global,
-        place: &mut Place,
-        input: &mut Chars<'_>,
-    ) -> Option<String> {
-        take_string(alloc, place, input)
     }
 }
 

@@ -1,7 +1,7 @@
 -- The code's own tests of characters and tokens, for the contracts of private functions.
 use Rattle.std.specs.Prelude.{◌≡◌, ◌≢◌, ◌==◌, ◌<◌, ℕ, Bool, true, false, List, length, codes}
 use Rattle.std.specs.Prelude.{Option, Some, None, bytes_eq, if◌then◌else◌, Result, MatchResult}
-use Rattle.std.specs.Prelude.{string_capacity, ◌⊎◌, [], ◌∷◌}
+use Rattle.std.specs.Prelude.{string_capacity, ◌⊎◌, [], ◌∷◌, ◌≤◌, ◌≤ℤ◌, ℤ}
 use Rattle.std.specs.declared.str.Chars.{Chars}
 use Rattle.nano_text.specs.Place.{remaining}
 use Rattle.nano_text.specs.Characters.{prefix, following}
@@ -11,11 +11,11 @@ use Rattle.nano_json_tokens.specs.declared.scan.Rejection.{Rejection}
 use Rattle.nano_json_tokens.specs.declared.scan.Rejection.TheVariants.{Memory}
 use Rattle.nano_json_tokens.specs.declared.state.DeJsonState.{DeJsonState}
 use Rattle.nano_text.specs.Characters.{is_space}
-use Rattle.nano_json_tokens.specs.Cut.{is_word}
+use Rattle.nano_json_tokens.specs.Cut.{is_word, IsLexeme}
 use Rattle.nano_json_tokens.specs.Outcomes.{Outgrows, Moved, position, report, Says, Takes}
 use Rattle.nano_json_tokens.specs.State.{KeepsOtherBuffers, pending}
 use Rattle.nano_json_tokens.specs.Token.{Token, str, u64, i64, f64, bool, null, colon, curly_open}
-use Rattle.nano_json_tokens.specs.Token.{curly_close, block_open, block_close, comma, end}
+use Rattle.nano_json_tokens.specs.Token.{curly_close, block_open, block_close, comma, end, integer_of}
 use Rattle.nano_json_tokens.specs.declared.error.DeJsonErr.{DeJsonErr}
 use Rattle.nano_text.specs.String.{IsPlainString}
 
@@ -151,10 +151,6 @@ AnUnsigned max ts n = (ts ≡ u64 n ∷ []) × (n ≤ max)
 abbrev pub AnInteger : ℤ → ℤ → List Token → ℤ → Type 0
 AnInteger min max ts z =
     (t : Token) × (ts ≡ t ∷ []) × (integer_of t ≡ Some z) × (min ≤ℤ z) × (z ≤ℤ max)
-
--- a text alone
-abbrev pub AText : List Token → List ℕ → Type 0
-AText ts bytes = ts ≡ str bytes ∷ []
 
 -- the text begins with a lexeme of the whole number
 abbrev pub IsInteger : ℤ → List ℕ → List ℕ → Type 0

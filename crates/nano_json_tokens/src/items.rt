@@ -1,17 +1,16 @@
 //! Items of a list that stand plainly: one token after a comma, and the next comma directly after
 //! it. They are taken at once, and change nothing of the state but its place.
 
-ghost use Rattle.std.specs.Prelude.{◌≡◌, IfSome, true, string_bytes};
+ghost use Rattle.std.specs.Prelude.{◌≡◌, IfSome, true};
 ghost use Rattle.nano_text.specs.Outcomes.{Counts};
 ghost use Rattle.nano_text.specs.Place.{text_at};
 ghost use Rattle.nano_json_tokens.specs.Cut.{Cut};
 ghost use Rattle.nano_json_tokens.specs.Outcomes.{TakesItem, at_comma};
-ghost use Rattle.nano_json_tokens.specs.Scan.{AnUnsigned, AnInteger, AText};
+ghost use Rattle.nano_json_tokens.specs.Scan.{AnUnsigned, AnInteger};
 ghost use Rattle.nano_json_tokens.specs.Scan.{IsInteger};
 ghost use Rattle.nano_json_tokens.specs.Token.{comma};
 
-use nano_text::{Place, read_at_once, take_negative, take_unsigned};
-use std::alloc::Global;
+use nano_text::{Place, take_negative, take_unsigned};
 use std::str::Chars;
 
 /// Takes the comma that stands here, if one does.
@@ -95,28 +94,4 @@ pub fn take_integer_item(
     *place = here;
     *input = rest;
     Some(number)
-}
-
-/// Takes a string in one line, with no escape of more than one character, after a comma, and
-/// the comma after it. `None` takes nothing, and says nothing of what stands there; where memory
-/// runs out it is `None`, too.
-#[inline(always)]
-pub fn take_text_item(alloc: Global, place: &mut Place, input: &mut Chars<'_>) -> Option<String>
-    ensures { TakesItem AText (λ text. string_bytes text)
-        (at_comma place.old input.old)
-            (at_comma place.new input.new) result }
-{
-    let mut here = *place;
-    let mut rest = input.as_str().chars();
-    here.skip_space(&mut rest);
-    let mut text = String::new(alloc);
-    if !read_at_once(&mut here, &mut rest, &mut text) {
-        return None;
-    }
-    if !take_comma(&mut here, &mut rest) {
-        return None;
-    }
-    *place = here;
-    *input = rest;
-    Some(text)
 }

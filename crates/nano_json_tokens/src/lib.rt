@@ -22,7 +22,7 @@ mod writer;
 
 pub use error::DeJsonErr;
 pub use input::{as_value_error, expect_end};
-pub use items::{take_integer_item, take_text_item, take_unsigned_item};
+pub use items::{take_integer_item, take_unsigned_item};
 pub use nano_text::bytes_left;
 pub use rollback::end_on_error;
 pub use state::DeJsonState;

@@ -8,12 +8,9 @@ ghost use Rattle.nano_meaning.proofs.AgreesLaws.{agreed};
 ghost use Rattle.nano_ron.specs.Codec.{codec_as};
 ghost use Rattle.nano_ron.specs.ScalarCodecs.{texts, text_codec};
 ghost use Rattle.nano_ron.specs.Outcomes.{position, Reads};
-ghost use Rattle.nano_ron_tokens.specs.Outcomes.{TakesItem, at_comma};
 
 use crate::traits::{DeRon, RonCodec, SerRon};
 use nano_ron_tokens::{DeRonErr, DeRonState, SerRonState, append_string, end_on_error};
-use nano_ron_tokens::take_text_item;
-use nano_text::Place;
 use std::alloc::{AllocError, Global};
 use std::str::Chars;
 
@@ -45,18 +42,6 @@ fn read_string(
     Ok(text)
 }
 
-/// Takes a string after a comma, and the comma after it.
-#[inline(always)]
-fn take_string(alloc: Global, place: &mut Place, input: &mut Chars<'_>) -> Option<String>
-    ensures { TakesItem texts.encodes (λ x. text (string_bytes x))
-        (at_comma place.old input.old)
-            (at_comma place.new input.new) result }
-{
-    let text = take_text_item(alloc, place, input)?;
-    let _length = text.len();
-    Some(text)
-}
-
 impl DeRon for String {
     #[inline(always)]
     fn de_ron(
@@ -66,14 +51,5 @@ impl DeRon for String {
     ) -> Result<String, DeRonErr> {
         let read = read_string(alloc, state, input);
         end_on_error(state, read)
-    }
-
-    #[inline(always)]
-    fn de_ron_item(
-        alloc: Global,
-        place: &mut Place,
-        input: &mut Chars<'_>,
-    ) -> Option<String> {
-        take_string(alloc, place, input)
     }
 }

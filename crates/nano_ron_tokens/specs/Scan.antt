@@ -1,7 +1,7 @@
 -- The code's own tests of characters and tokens, and what its private functions pass over.
 use Rattle.std.specs.Prelude.{◌≡◌, ◌≢◌, ◌⊎◌, ◌==◌, ◌<◌, ◌||◌, ℕ, Bool, true, false, List, [], ◌∷◌}
 use Rattle.std.specs.Prelude.{◌++◌, length, codes, Option, Some, None, bytes_eq, if◌then◌else◌}
-use Rattle.std.specs.Prelude.{Result, MatchResult, string_capacity}
+use Rattle.std.specs.Prelude.{Result, MatchResult, string_capacity, ◌≤◌, ◌≤ℤ◌, ℤ}
 use Rattle.std.specs.declared.str.Chars.{Chars}
 use Rattle.nano_text.specs.Characters.{line_feed, prefix, following, first_is}
 use Rattle.nano_text.specs.Place.{remaining}
@@ -12,12 +12,12 @@ use Rattle.nano_ron_tokens.specs.declared.scan.Rejection.TheVariants.{Memory}
 use Rattle.nano_ron_tokens.specs.declared.state.DeRonState.{DeRonState}
 use Rattle.nano_ron_tokens.specs.Cut.{Cut, is_word, Skip, IsSkip, skip_text, IsGap, IsUnended}
 use Rattle.nano_text.specs.Characters.{is_space}
-use Rattle.nano_ron_tokens.specs.Cut.{IsOneLine, HoldsNoEnd}
+use Rattle.nano_ron_tokens.specs.Cut.{IsOneLine, HoldsNoEnd, IsLexeme}
 use Rattle.nano_ron_tokens.specs.Outcomes.{Outgrows, Moved, position, report, Says}
 use Rattle.nano_ron_tokens.specs.State.{KeepsOtherBuffers, pending}
 use Rattle.nano_ron_tokens.specs.Token.{Token, ident, bool, colon, curly_open, curly_close}
 use Rattle.nano_ron_tokens.specs.Token.{block_open, block_close, comma, paren_open, paren_close}
-use Rattle.nano_ron_tokens.specs.Token.{end}
+use Rattle.nano_ron_tokens.specs.Token.{end, u64, integer_of}
 use Rattle.nano_ron_tokens.specs.declared.error.DeRonErr.{DeRonErr}
 
 -- the token that a word is
@@ -154,10 +154,6 @@ AnUnsigned max ts n = (ts ≡ u64 n ∷ []) × (n ≤ max)
 abbrev pub AnInteger : ℤ → ℤ → List Token → ℤ → Type 0
 AnInteger min max ts z =
     (t : Token) × (ts ≡ t ∷ []) × (integer_of t ≡ Some z) × (min ≤ℤ z) × (z ≤ℤ max)
-
--- a text alone
-abbrev pub AText : List Token → List ℕ → Type 0
-AText ts bytes = ts ≡ str bytes ∷ []
 
 -- the text begins with a lexeme of the whole number
 abbrev pub IsInteger : ℤ → List ℕ → List ℕ → Type 0

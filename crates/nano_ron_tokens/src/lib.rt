@@ -20,7 +20,7 @@ mod writer;
 
 pub use error::DeRonErr;
 pub use input::{as_value_error, expect_end};
-pub use items::{take_integer_item, take_text_item, take_unsigned_item};
+pub use items::{take_integer_item, take_unsigned_item};
 pub use rollback::end_on_error;
 pub use state::DeRonState;
 pub use strings::append_string;

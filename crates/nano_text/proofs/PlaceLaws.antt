@@ -2,6 +2,9 @@
 use Rattle.std.specs.Prelude.{◌≡◌, ℕ, ◌+◌, ◌-◌, ◌≤◌, List, [], ◌∷◌, ◌++◌, length, refl}
 use Rattle.std.proofs.Common.{sym, ◌∙◌, ap, append_assoc, arith, length-append}
 use Rattle.std.specs.declared.str.Chars.{Chars}
+use Rattle.std.specs.Str.{chars}
+use Rattle.std.specs.Str.Iter.{chars_rest}
+use Rattle.nano_text.proofs.RemainingText.{same_remaining}
 use Rattle.nano_text.specs.declared.place.Place.{Place}
 use Rattle.nano_text.specs.Place.{held, tail, text_at, place_after, passed, Passes, Advances, Moves}
 use Rattle.nano_text.specs.Place.{before_nul, beginning, StandsIn}

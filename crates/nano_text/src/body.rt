@@ -149,7 +149,7 @@ pub fn plain_string<'a>(p: &mut Place, i: &mut Chars<'a>) -> Option<&'a str>
 /// Reads the string that begins at the current character, and answers whether that could be done at
 /// once. Where it couldn't, nothing is taken, and `strbuf` may hold anything.
 #[inline(always)]
-pub fn read_at_once(p: &mut Place, i: &mut Chars<'_>, strbuf: &mut String) -> bool
+pub(crate) fn read_at_once(p: &mut Place, i: &mut Chars<'_>, strbuf: &mut String) -> bool
     ensures found { result ≡ true → (characters : List ℕ)
         × IsString (text_at p.old i.old) characters (text_at p.new i.new)
         × (string_bytes strbuf.new ≡ encode_utf8_all characters) }

@@ -5,7 +5,7 @@ use crate::checks::holds;
 use crate::text_tests::first_place;
 use nano_json::{DeJson, DeJsonState};
 use nano_ron::{DeRon, DeRonState};
-use nano_text::{Place, read_at_once, take_negative, take_unsigned};
+use nano_text::{Place, take_negative, take_unsigned};
 use std::alloc::Global;
 
 /// A text after a comma; what a `u8` there is, and the line and column after the next comma.
@@ -37,18 +37,6 @@ const INTEGERS: &[(&str, Option<i8>, usize, usize)] = &[
     ("18446744073709551615,1", None, 0, 1),
 ];
 
-/// The same of a `String`.
-const TEXTS: &[(&str, Option<&str>, usize, usize)] = &[
-    ("\"a\",b", Some("a"), 0, 5),
-    ("\n  \"\",\"", Some(""), 1, 6),
-    ("\"é\\n😋\",b", Some("é\n😋"), 0, 8),
-    ("\"a\" ,b", None, 0, 1),
-    ("\"\\u0041\",b", None, 0, 1),
-    ("\"a\nb\",b", None, 0, 1),
-    ("\"a", None, 0, 1),
-    ("a,b", None, 0, 1),
-];
-
 /// Whether the place is there.
 fn stands(place: Place, line: usize, col: usize) -> bool {
     place.line == line && place.col == col
@@ -72,24 +60,6 @@ fn is_integer(alloc: Global, text: &str, value: Option<i8>, line: usize, col: us
     json == value && ron == value && stands_in_json && stands(place, line, col)
 }
 
-/// Whether the text is the one that is expected.
-fn is_text(text: Option<String>, expected: Option<&str>) -> bool {
-    match (text, expected) {
-        (Some(text), Some(expected)) => text.as_str() == expected,
-        (None, None) => true,
-        _ => false,
-    }
-}
-
-fn is_string(alloc: Global, text: &str, value: Option<&str>, line: usize, col: usize) -> bool {
-    let (mut place, mut input) = first_place(text);
-    let json = String::de_json_item(alloc, &mut place, &mut input);
-    let stands_in_json = stands(place, line, col);
-    let (mut place, mut input) = first_place(text);
-    let ron = String::de_ron_item(alloc, &mut place, &mut input);
-    is_text(json, value) && is_text(ron, value) && stands_in_json && stands(place, line, col)
-}
-
 #[test]
 fn items(rt: HostRuntime) {
     let alloc = rt.alloc();
@@ -99,29 +69,23 @@ fn items(rt: HostRuntime) {
     for (text, value, line, col) in INTEGERS {
         holds(&rt, is_integer(alloc, text, *value, *line, *col), text);
     }
-    for (text, value, line, col) in TEXTS {
-        holds(&rt, is_string(alloc, text, *value, *line, *col), text);
-    }
 }
 
 /// The same items by the calls below the types, with their own greatest and least.
 #[test]
 fn items_of_a_range(rt: HostRuntime) {
-    let alloc = rt.alloc();
-    let (mut place, mut input) = first_place("9,-9,\"a\",");
+    let (mut place, mut input) = first_place("9,-9,");
     let unsigned = nano_json_tokens::take_unsigned_item(&mut place, &mut input, 9);
     let least = nano_json_tokens::take_integer_item(&mut place, &mut input, -8, 8);
     let integer = nano_json_tokens::take_integer_item(&mut place, &mut input, -9, 8);
-    let text = nano_json_tokens::take_text_item(alloc, &mut place, &mut input);
     let taken = unsigned == Some(9) && least.is_none() && integer == Some(-9);
-    holds(&rt, taken && is_text(text, Some("a")) && stands(place, 0, 9), "items of JSON");
-    let (mut place, mut input) = first_place("9,-9,\"a\",");
+    holds(&rt, taken && stands(place, 0, 5), "items of JSON");
+    let (mut place, mut input) = first_place("9,-9,");
     let unsigned = nano_ron_tokens::take_unsigned_item(&mut place, &mut input, 9);
     let least = nano_ron_tokens::take_integer_item(&mut place, &mut input, -8, 8);
     let integer = nano_ron_tokens::take_integer_item(&mut place, &mut input, -9, 8);
-    let text = nano_ron_tokens::take_text_item(alloc, &mut place, &mut input);
     let taken = unsigned == Some(9) && least.is_none() && integer == Some(-9);
-    holds(&rt, taken && is_text(text, Some("a")) && stands(place, 0, 9), "items of RON");
+    holds(&rt, taken && stands(place, 0, 5), "items of RON");
 }
 
 /// Numbers and strings that are taken at once, and states that stand where a place is.
@@ -135,10 +99,6 @@ fn lexemes_and_states(rt: HostRuntime) {
     let negative = take_negative(&mut place, &mut input);
     let taken = number == Some(12) && none.is_none() && negative == Some(-3);
     holds(&rt, taken && stands(place, 0, 6), "12 -3 4");
-    let (mut place, mut input) = first_place("\"a\\tb\" ");
-    let mut text = String::new(alloc);
-    let read = read_at_once(&mut place, &mut input, &mut text);
-    holds(&rt, read && text.as_str() == "a\tb" && stands(place, 0, 7), "a\tb");
     let mut json = DeJsonState::new(alloc);
     json.stand_at(place);
     holds(&rt, json.place() == place, "a state of JSON");

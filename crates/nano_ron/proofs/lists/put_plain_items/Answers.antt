@@ -16,7 +16,7 @@ pub items-init : goal.items-init
 items-init g c =
     let s = c.args.state.now in
     let same = c.chars-rest.ensures.rest ∙ c.as_str.ensures in
-    let is = ap (λ t. token_of t (string_bytes s.strbuf) (string_bytes s.numbuf)) c.in-Comma.is in
+    let is = ap (λ t. token_of t (string_bytes s.strbuf) (string_bytes s.numbuf) (string_bytes s.identbuf)) c.in-Comma.is in
     (rw c.place-place.ensures
     (put_none ron_laws blocks block_brackets g.T.RonCodec.ron.encoding.laws g.C.Collect.holds c.args.items.now
     (at_comma_is s c.args.input.now c.chars-rest.result is same) (copied s c.args.input.now c.chars-rest.result same)), refl)
@@ -31,7 +31,7 @@ items-preserved g c =
 pub returns-clause-ok : goal.returns-clause-ok
 returns-clause-ok g c =
     let s = c.args.state.now in
-    let is = ap (λ t. token_of t (string_bytes s.strbuf) (string_bytes s.numbuf)) c.in-Comma.is in
+    let is = ap (λ t. token_of t (string_bytes s.strbuf) (string_bytes s.numbuf) (string_bytes s.identbuf)) c.in-Comma.is in
     let p = c.de_ron_item.new._place in
     let stand : DeRonState → DeRonState = λ t. record t { cur = p.cur; line = p.line; col = p.col } in
     let stood = c.stand_at-2.ensures ∙ ap stand c.items.invariant.1 in

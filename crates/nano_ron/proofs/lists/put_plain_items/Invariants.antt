@@ -4,7 +4,7 @@ use Rattle.nano_grammar.proofs.TokensLaws.{tokens_left}
 use Rattle.nano_ron_tokens.specs.Cut.{Cut}
 use Rattle.nano_ron_tokens.specs.Outcomes.{at_comma}
 use Rattle.nano_ron_tokens.specs.Outcomes.{position}
-use Rattle.nano_ron_tokens.specs.Scan.{is_end}
+use Rattle.nano_ron_tokens.proofs.WrittenTextLaws.{is_end}
 use Rattle.nano_ron_tokens.specs.Token.{comma}
 use Rattle.nano_ron.proofs.lists.put_plain_items.Given as goal
 
