@@ -68,7 +68,7 @@ module _ {T : Type 0} {c : Cutting T} {g : Grammar T} (r : CutLaws c g)
       item = i.0;
       all = refl;
       filled = filled_next r punctuation are s is_itself values h.filled h.read (its_comma i)
-      (λ vs is. h.all ∙ ap (λ (us : List V). us ++ h.last ∷ []) is);
+          (λ vs is. h.all ∙ ap (λ (us : List V). us ++ h.last ∷ []) is);
       read = i.3;
     }
 

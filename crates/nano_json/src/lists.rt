@@ -16,8 +16,7 @@ ghost use Rattle.nano_json.specs.Lists.{in_list, written_list, EncodesAll};
 ghost use Rattle.nano_json.specs.Outcomes.{position, Reads};
 
 use crate::traits::{DeJson, JsonCodec, SerJson};
-use nano_json_tokens::{DeJsonErr, DeJsonState, DeJsonTok, SerJsonState};
-use nano_json_tokens::{bytes_left, end_on_error};
+use nano_json_tokens::{DeJsonErr, DeJsonState, DeJsonTok, SerJsonState, bytes_left, end_on_error};
 use nano_text::rollback_on_error;
 use nano_value::Collect;
 use std::alloc::{AllocError, Global};

@@ -1,11 +1,11 @@
 -- What the calls come to that take an item of a list at once.
-use Rattle.std.proofs.Common.{◌≡◌, ℕ, ℤ, List, [], ◌∷◌, Bool, true, false, refl, sym, ap, ◌∙◌}
+use Rattle.std.proofs.Common.{◌≡◌, ℕ, ℤ, List, [], ◌∷◌, true, false, refl, sym, ap, ◌∙◌}
 use Rattle.std.proofs.Common.{subst, ◌||◌, ◌≤ℤ◌, not, T}
 use Rattle.std.specs.Int.Signed.{lt_z, lt_z_no}
 use Rattle.std.specs.declared.str.Chars.{Chars}
 use Rattle.std.specs.Str.Iter.{chars_rest}
 use Rattle.std.specs.Char.{is_ascii_digit}
-use Rattle.nano_text.specs.Characters.{first_is, following, is_space}
+use Rattle.nano_text.specs.Characters.{following, is_space}
 use Rattle.nano_text.specs.Number.{IsNumber, is_sign}
 use Rattle.nano_text.specs.Place.{text_at, remaining, Moves}
 use Rattle.nano_text.specs.declared.place.Place.{Place}

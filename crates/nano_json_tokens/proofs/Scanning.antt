@@ -1,10 +1,9 @@
 -- What one scan comes to, from what the scans inside it come to.
 use Rattle.std.proofs.Common.{◌≡◌, ◌≢◌, ℕ, List, Result, string_bytes, sym, subst, ap, ◌∙◌, [], ◌∷◌}
-use Rattle.std.proofs.Common.{encode_utf8_all, chars, length, refl, arith}
+use Rattle.std.proofs.Common.{encode_utf8_all, refl}
 use Rattle.std.proofs.lemmas.Result.{MatchResult-weaker}
 use Rattle.std.specs.declared.str.Chars.{Chars}
-use Rattle.std.specs.Str.Iter.{chars_rest}
-use Rattle.nano_text.specs.Place.{remaining, Moves, before_nul}
+use Rattle.nano_text.specs.Place.{remaining, Moves}
 use Rattle.nano_text.proofs.PlaceLaws.{moves_none, moves_append, moves_advance}
 use Rattle.nano_text.specs.declared.place.Place.{Place}
 use Rattle.nano_grammar.specs.Outcomes.{Stops}

@@ -15,8 +15,7 @@ ghost use Rattle.nano_ron_tokens.proofs.StylesLaws.{line_style, indent_style};
 ghost use Rattle.nano_ron.specs.Outcomes.{position, Reads};
 
 use crate::traits::{DeRon, RonCodec, SerRon};
-use nano_ron_tokens::{DeRonErr, DeRonState, DeRonTok, SerRonState, append_comma};
-use nano_ron_tokens::end_on_error;
+use nano_ron_tokens::{DeRonErr, DeRonState, DeRonTok, SerRonState, append_comma, end_on_error};
 use nano_text::{bytes_left, rollback_on_error};
 use nano_value::Collect;
 use std::alloc::{AllocError, Global};

@@ -62,7 +62,7 @@ fn take_signed_of<T: Signed>(
     requires { IsRangeOf T.width min max }
     ensures { TakesItem (signed T.width).encodes (λ x. number (T.value x))
         (at_comma place.old input.old)
-            (at_comma place.new input.new) result }
+        (at_comma place.new input.new) result }
 {
     let number = take_integer_item(place, input, min, max)?;
     Some(T::narrow(number))

@@ -103,11 +103,7 @@ pub trait DeRon: RonCodec + Drop {
     /// `None` takes nothing. It says nothing of what stands there: `de_ron` reads it then. So a type
     /// that always answers `None` loses speed alone.
     #[inline(always)]
-    fn de_ron_item(
-        _alloc: Global,
-        _place: &mut Place,
-        _input: &mut Chars<'_>,
-    ) -> Option<Self>
+    fn de_ron_item(_alloc: Global, _place: &mut Place, _input: &mut Chars<'_>) -> Option<Self>
         ensures { TakesItem Self.ron.encoding.encodes Self.means
             (at_comma _place.old _input.old) (at_comma _place.new _input.new) result }
     {

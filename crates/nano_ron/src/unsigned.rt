@@ -51,15 +51,11 @@ fn read_unsigned<T: Unsigned>(
 
 /// Takes a whole number of at most `max` after a comma, and the comma after it.
 #[inline(always)]
-fn take_unsigned_of<T: Unsigned>(
-    place: &mut Place,
-    input: &mut Chars<'_>,
-    max: u64,
-) -> Option<T>
+fn take_unsigned_of<T: Unsigned>(place: &mut Place, input: &mut Chars<'_>, max: u64) -> Option<T>
     requires { 2 ^ T.bits ≡ max + 1 }
     ensures { TakesItem (unsigned T.bits).encodes (λ x. whole (T.value x))
         (at_comma place.old input.old)
-            (at_comma place.new input.new) result }
+        (at_comma place.new input.new) result }
 {
     let number = take_unsigned_item(place, input, max)?;
     Some(T::narrow(number))

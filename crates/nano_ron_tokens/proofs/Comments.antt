@@ -1,7 +1,7 @@
 -- What is passed over, a character or a part at a time.
 use Rattle.std.proofs.Common.{◌≡◌, ◌≢◌, ℕ, ◌<◌, ◌==◌, Bool, true, false, cond, List, [], ◌∷◌}
 use Rattle.std.proofs.Common.{◌++◌, refl, sym, ◌∙◌, subst, ap, inl, inr, append_assoc, length}
-use Rattle.std.proofs.Common.{length-append, arith, ◌+◌, ◌-◌}
+use Rattle.std.proofs.Common.{length-append, arith}
 use Rattle.nano_text.specs.Characters.{first_is, following, prefix}
 use Rattle.nano_text.specs.Characters.{is_space}
 use Rattle.nano_ron_tokens.specs.Cut.{IsOneLine, HoldsNoEnd, Skip, space, line, block}

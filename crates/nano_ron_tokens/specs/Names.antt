@@ -1,5 +1,5 @@
 -- Names of fields and variants in RON: words that are no booleans.
-use Rattle.std.specs.Prelude.{ℕ, ◌&&◌, not, Bool, List, codes, bytes_eq, ◌≡◌}
+use Rattle.std.specs.Prelude.{ℕ, ◌&&◌, not, Bool, List, codes, bytes_eq}
 use Rattle.std.specs.List.{list_all}
 use Rattle.nano_text.specs.Characters.{first_is}
 use Rattle.nano_ron_tokens.specs.Cut.{starts_word, is_word}

@@ -33,7 +33,7 @@ fn take_comma(place: &mut Place, input: &mut Chars<'_>) -> bool
 pub fn take_unsigned_item(place: &mut Place, input: &mut Chars<'_>, max: u64) -> Option<u64>
     ensures { TakesItem (AnUnsigned max) (λ n. n)
         (at_comma place.old input.old)
-            (at_comma place.new input.new) result }
+        (at_comma place.new input.new) result }
 {
     let mut here = *place;
     let mut rest = input.as_str().chars();
@@ -79,7 +79,7 @@ pub fn take_integer_item(
 ) -> Option<i64>
     ensures { TakesItem (AnInteger min max) (λ z. z)
         (at_comma place.old input.old)
-            (at_comma place.new input.new) result }
+        (at_comma place.new input.new) result }
 {
     let mut here = *place;
     let mut rest = input.as_str().chars();

@@ -16,10 +16,12 @@ pub items-init : goal.items-init
 items-init g c =
     let s = c.args.state.now in
     let same = c.chars-rest.ensures.rest ∙ c.as_str.ensures in
-    let is = ap (λ t. token_of t (string_bytes s.strbuf) (string_bytes s.numbuf) (string_bytes s.identbuf)) c.in-Comma.is in
-    (rw c.place-place.ensures
-    (put_none ron_laws blocks block_brackets g.T.RonCodec.ron.encoding.laws g.C.Collect.holds c.args.items.now
-    (at_comma_is s c.args.input.now c.chars-rest.result is same) (copied s c.args.input.now c.chars-rest.result same)), refl)
+    let is = ap (λ t. token_of t (string_bytes s.strbuf) (string_bytes s.numbuf) (string_bytes s.identbuf)) c.in-Comma.is in (
+      rw c.place-place.ensures
+          (put_none ron_laws blocks block_brackets g.T.RonCodec.ron.encoding.laws g.C.Collect.holds c.args.items.now
+          (at_comma_is s c.args.input.now c.chars-rest.result is same) (copied s c.args.input.now c.chars-rest.result same)),
+      refl,
+    )
 
 pub items-smaller : goal.items-smaller
 items-smaller g c = item_less ron_laws blocks block_brackets g.T.RonCodec.ron.encoding.laws c.in-Some.ensures

@@ -1,9 +1,7 @@
-use Rattle.std.proofs.Common.{◌≡◌, ap, refl, pos, Some, ◌∙◌, arith, sym, subst, rules}
+use Rattle.std.proofs.Common.{ap, refl, Some, arith, sym}
 use Rattle.std.specs.Int.{w64}
-use Rattle.std.proofs.lemmas.Int.{to_z_pos, to_z-of_z}
+use Rattle.std.proofs.lemmas.Int.{to_z_pos}
 use Rattle.std.proofs.lemmas.Option.{IfSome_then}
-use Rattle.nano_text.specs.Place.{text_at}
-use Rattle.nano_ron_tokens.specs.Scan.{IsInteger}
 use Rattle.nano_ron_tokens.specs.Token.{u64, i64}
 use Rattle.nano_ron_tokens.proofs.ItemCalls.{unsigned_lexeme, negative_lexeme}
 use Rattle.nano_ron_tokens.proofs.items.take_integer.Goals as goal

@@ -1,4 +1,4 @@
-use Rattle.std.proofs.Common.{◌<◌, ◌≤◌, ◌^◌, neg_ℤ, pos, ◌≡◌, List, ℕ, None, sym, ◌∙◌, ap, refl}
+use Rattle.std.proofs.Common.{◌<◌, ◌≤◌, ◌^◌, neg_ℤ, pos, ◌≡◌, List, ℕ, None, ◌∙◌, ap, refl}
 use Rattle.std.proofs.Common.{length, arith, rules, FitsSigned}
 use Rattle.std.specs.Int.{w64}
 use Rattle.std.proofs.lemmas.Int.{to_z-of_z}

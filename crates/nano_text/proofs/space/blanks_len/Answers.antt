@@ -1,4 +1,4 @@
-use Rattle.std.proofs.Common.{◌≡◌, ℕ, ◌+◌, ◌-◌, ◌∙◌, ap, arith, true, length, length-drop}
+use Rattle.std.proofs.Common.{◌≡◌, ℕ, ◌+◌, ◌-◌, ◌∙◌, ap, arith, length, length-drop}
 use Rattle.std.proofs.Common.{List, sym, take, drop, take_all}
 use Rattle.nano_text.specs.Characters.{prefix}
 use Rattle.nano_text.specs.Scan.{is_blank}
