@@ -70,11 +70,13 @@ fn a_skipped_field_has_a_default(rt: HostRuntime) {
     are_reported(&rt, rt.alloc(), SKIPPED);
 }
 
-const MARKERS: &[(&str, &str)] = &[
+const MODULES: &[(&str, &str)] = &[
     (
         "struct A {\n    a: u8,\n}\n",
-        "4:1: no line is `// ---- written by derive_files`",
+        "4:1: no line is `mod derived;`",
     ),
+    ("mod derived;\nstruct A;\n", "1:1: `mod derived;` stands"),
+    ("\n  mod derived;\n", "2:3: `mod derived;` stands"),
     (
         "// ---- written by derive_files, twice\n",
         "1:1: the marker",
@@ -87,8 +89,8 @@ const MARKERS: &[(&str, &str)] = &[
 ];
 
 #[test]
-fn a_marker_stands_once_and_alone(rt: HostRuntime) {
-    for (source, expected) in MARKERS {
+fn a_file_ends_in_its_module_or_has_one_marker(rt: HostRuntime) {
+    for (source, expected) in MODULES {
         begins(&rt, outcome(rt.alloc(), source), expected);
     }
 }
@@ -107,7 +109,7 @@ fn is_shown(alloc: Global, source: &str, expected: &str) -> Option<bool> {
 
 #[test]
 fn a_fault_is_shown_with_its_line_and_a_caret(rt: HostRuntime) {
-    let source = "struct A {\n\ta: Strng,\n}\n// ---- written by derive_files\n";
+    let source = "struct A {\n\ta: Strng,\n}\nmod derived;\n";
     let expected = "a.rt:2:5: `Strng` is no type that is known: none above has this name, \
         and no `use` brings it in\n\ta: Strng,\n\t   ^\n";
     assert!(&rt;
@@ -128,6 +130,7 @@ const PATHS: &[(&str, &str)] = &[
     ("/a/crates/app/src/lib.rt", "app.specs.declared"),
     ("/a/crates/app/src/a/b.rt.txt", "app.specs.declared.a.b"),
     ("app/src/main.rt", "app.specs.declared"),
+    ("/app/src/a/mod.rt", "app.specs.declared.a"),
     ("/a/src.rt", "none"),
 ];
 

@@ -48,7 +48,7 @@ fn append_variant<'a>(
     texts.push(label)?;
     texts.push(content)?;
     Ok(Leaf {
-        open: "nano_schema::Variant<",
+        open: sheet.short("nano_schema::Variant<")?,
         texts,
         close: ">",
     })
@@ -64,11 +64,12 @@ fn append_content<'a>(
     let mut owner = String::from_str(alloc, target.name.text)?;
     owner.push_str(in_type_name(alloc, variant.name.text)?.as_str())?;
     let kind = match &variant.content {
-        Content::Nothing => return String::from_str(alloc, "nano_schema::Unit"),
-        Content::Parts(parts) if parts.len() == 1 => "Newtype",
-        Content::Parts(_) => "Tuple",
-        Content::Fields(_) => "Struct",
+        Content::Nothing => return sheet.short("nano_schema::Unit"),
+        Content::Parts(parts) if parts.len() == 1 => "nano_schema::Newtype",
+        Content::Parts(_) => "nano_schema::Tuple",
+        Content::Fields(_) => "nano_schema::Struct",
     };
+    let kind = sheet.short(kind)?;
     let types = content_types(alloc, &variant.content)?;
     let parameters = parameters_in(alloc, &target.parameters, &types)?;
     let mut held = label_of(sheet, owner.as_str(), "Parts")?;
@@ -82,7 +83,7 @@ fn append_content<'a>(
             append_row(sheet, held.as_str(), &leaves)?;
         }
     }
-    format!(in alloc; "nano_schema::{kind}<{held}>")
+    format!(in alloc; "{kind}<{held}>")
 }
 
 /// Appends the type of the parts of a tuple variant.
@@ -118,7 +119,8 @@ fn append_view<'a>(
     let imports = variant_imports(sheet.alloc, target, variants)?;
     let cases = cases(sheet.alloc, variants)?;
     let making = making(sheet.alloc, variants)?;
-    let mut holes = target.bounded_holes(sheet.alloc)?;
+    let making = sheet.short(making.as_str())?;
+    let mut holes = target.bounded_holes(sheet)?;
     holes.put("IMPORTS", imports.as_str())?;
     holes.put("CASES", cases.as_str())?;
     holes.put("MAKING", making.as_str())?;
@@ -160,11 +162,20 @@ fn append_references<'a>(
     let arms = arms(sheet.alloc, variants)?;
     let either = match variants.len() {
         1 => "",
-        _ => "        use nano_schema::Either;\n\n",
+        _ => import_of_either(sheet)?,
     };
     sheet.import("ghost use Rattle.nano_schema.specs.UserTypes.{LegalVariant};")?;
-    let mut holes = target.bounded_holes(sheet.alloc)?;
+    let mut holes = target.bounded_holes(sheet)?;
     holes.put("EITHER", either)?;
     holes.put("ARMS", arms.as_str())?;
     sheet.write(REFERENCES, &holes)
+}
+
+/// What brings `Either` into a body, where the module cannot bring it in.
+fn import_of_either(sheet: &mut Sheet) -> Result<&'static str, AllocError> {
+    let name = sheet.short("nano_schema::Either")?;
+    Ok(match name.as_str() {
+        "Either" => "",
+        _ => "        use nano_schema::Either;\n\n",
+    })
 }

@@ -60,7 +60,7 @@ pub(crate) fn append_default<'a>(
     field: Field<'a>,
 ) -> Result<String, AllocError> {
     let (kind, given) = match missing_value(field) {
-        Missing::OfType => return String::from_str(sheet.alloc, "nano_schema::TypeDefault"),
+        Missing::OfType => return sheet.short("nano_schema::TypeDefault"),
         Missing::Path(path) => return String::from_str(sheet.alloc, path),
         Missing::Whole(number) => (&WHOLE, number),
         Missing::Signed(number) => match number.strip_prefix('-') {

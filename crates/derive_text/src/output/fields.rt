@@ -64,6 +64,7 @@ fn schema_field<'a>(
         (None, Some(part)) => ("nano_schema::Optional<", part),
         (None, None) => ("nano_schema::Required<", field.of),
     };
+    let open = sheet.short(open)?;
     texts.push(String::from_str(sheet.alloc, label)?)?;
     texts.push(type_text(sheet.alloc, part)?)?;
     if field.attributes.default.is_some() {
