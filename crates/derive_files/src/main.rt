@@ -1,10 +1,10 @@
 //! Writes the impls of user-defined types into files of their own.
 //!
-//! `derive_files FILE..` writes, for each file that ends in `mod derived;`, the file of that module.
+//! `derive_files FILE..` writes the module `derived` of each file that ends in `mod derived;`.
 //! `derive_files --check FILE..` writes nothing, and prints the name of each file whose module is
-//! not what would be written: its status is then 1. `derive_files --print FILE..` prints the modules.
-//! For a file at fault nothing is written; what is wrong is printed with its line and column, that
-//! line, and a caret under the character.
+//! not what would be written: its status is then 1. `derive_files --print FILE..` prints the
+//! modules. For a file at fault nothing is written; what is wrong is printed with its line and
+//! column, that line, and a caret under the character.
 #![tactic(auto)]
 
 use anyhow::{Context, Result, bail};

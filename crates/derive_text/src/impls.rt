@@ -30,9 +30,9 @@ impl Writer for Impls {
 /// `module_name` is the module that the source is, as ghost names say it:
 /// `app.specs.declared.shapes` is `src/shapes.rt` of the crate `app`.
 ///
-/// A source may have the line `MARKER` in the place of `mod derived;`. It is then moved: what stands
-/// above the marker is unchanged, and `mod derived;` takes the place of the marker and of what
-/// stood below it, which is not read.
+/// A source may have the line `MARKER` in the place of `mod derived;`. It is then moved: what
+/// stands above the marker is unchanged, and `mod derived;` takes the place of the marker and of
+/// what stood below it, which is not read.
 ///
 /// # Errors
 ///

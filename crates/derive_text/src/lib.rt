@@ -1,5 +1,5 @@
-//! Writes the impls of user-defined types: reads the structs and enums of a file of Rattle that ends
-//! in `mod derived;`, and writes the text of that module: how they are encoded.
+//! Writes the impls of user-defined types: reads the structs and enums of a file of Rattle that
+//! ends in `mod derived;`, and writes the text of that module: how they are encoded.
 #![tactic(auto)]
 
 mod impls;

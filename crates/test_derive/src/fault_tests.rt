@@ -5,7 +5,7 @@ use crate::default_faults::{DEFAULTS, SKIPPED};
 use crate::faults::{ATTRIBUTES, ITEMS, TYPES};
 use crate::mistakes::{COMMENTS, FORMS, OTHERS};
 use crate::outcome::{MODULE, outcome, outcome_above};
-use derive_text::{DeriveError, derive, module_of};
+use derive_text::{DeriveError, derive, derived_path, module_of};
 use std::alloc::{AllocError, Global};
 use std::process::Abort;
 
@@ -95,6 +95,43 @@ fn a_file_ends_in_its_module_or_has_one_marker(rt: HostRuntime) {
     }
 }
 
+const MOVED: &[(&str, &str)] = &[
+    ("mod derived;\n", "// ---- written by derive_files\n"),
+    (
+        "mod derived;\n",
+        "// ---- written by derive_files\r\n\nstruct B;",
+    ),
+    ("", "mod derived;\r\n\n"),
+    ("", "mod derived;"),
+];
+
+/// What a source becomes if it is moved, or nothing.
+fn moved(alloc: Global, source: &str) -> Result<String, DeriveError> {
+    let written = derive(alloc, MODULE, source)?;
+    Ok(written.moved.unwrap_or(String::new(alloc)))
+}
+
+/// Whether a struct with these lines below it is moved to one with this line there.
+fn is_moved(alloc: Global, expected: &str, below: &str) -> Result<bool, DeriveError> {
+    let source = format!(in alloc; "// nanoserde: bin\nstruct A(u8);\n{below}")?;
+    let text = moved(alloc, source.as_str())?;
+    match text
+        .as_str()
+        .strip_prefix("// nanoserde: bin\nstruct A(u8);\n")
+    {
+        Some(line) => Ok(line == expected),
+        None => Ok(text.as_str() == expected),
+    }
+}
+
+#[test]
+fn a_source_with_a_marker_is_moved(rt: HostRuntime) {
+    for (expected, below) in MOVED {
+        let found = is_moved(rt.alloc(), expected, below);
+        assert!(&rt; matches!(found, Ok(true)), "{below}");
+    }
+}
+
 /// Whether this is shown of a source's fault.
 fn is_shown(alloc: Global, source: &str, expected: &str) -> Option<bool> {
     match derive(alloc, MODULE, source) {
@@ -123,6 +160,35 @@ fn module(alloc: Global, path: &str) -> Result<String, AllocError> {
     match module_of(alloc, path)? {
         Some(module) => Ok(module),
         None => String::from_str(alloc, "none"),
+    }
+}
+
+/// The file of the impls of a path, or `none`.
+fn beside(alloc: Global, path: &str) -> Result<String, AllocError> {
+    match derived_path(alloc, path)? {
+        Some(path) => Ok(path),
+        None => String::from_str(alloc, "none"),
+    }
+}
+
+const BESIDE: &[(&str, &str)] = &[
+    ("/a/crates/app/src/lib.rt", "/a/crates/app/src/derived.rt"),
+    ("app/src/main.rt", "app/src/derived.rt"),
+    ("app/src/a.rt", "app/src/a/derived.rt"),
+    ("/app/src/a/mod.rt", "/app/src/a/derived.rt"),
+    ("/app/src/a/b.rt.txt", "/app/src/a/b/derived.rt.txt"),
+    ("/a/src.rt", "none"),
+];
+
+/// Whether the impls of a path stand in this file.
+fn is_beside(alloc: Global, path: &str, expected: &str) -> Result<bool, AllocError> {
+    Ok(beside(alloc, path)?.as_str() == expected)
+}
+
+#[test]
+fn impls_stand_where_their_module_does(rt: HostRuntime) {
+    for (path, expected) in BESIDE {
+        assert!(&rt; is_beside(rt.alloc(), path, expected) == Ok(true), "{path}");
     }
 }
 

@@ -2,9 +2,9 @@
 
 use crate::output::chains::append_chains;
 use crate::output::codecs::append_codecs;
-use crate::output::fields::{append_labels, label_of, row_fields};
+use crate::output::fields::{append_fields, row_fields};
 use crate::output::forms::CHOICE;
-use crate::output::labels::append_label;
+use crate::output::labels::{append_labels, name_of};
 use crate::output::layout::Items;
 use crate::output::making::making;
 use crate::output::names::in_type_name;
@@ -24,9 +24,14 @@ pub(crate) fn append_choice<'a>(
     target: &Target<'a>,
     variants: &[Variant<'a>],
 ) -> Result<(), AllocError> {
-    let mut schemas = Vec::new(sheet.alloc);
+    let mut names = Vec::new(sheet.alloc);
     for variant in variants {
-        schemas.push(append_variant(sheet, target, variant)?)?;
+        names.push(variant_name(sheet.alloc, variant, target.attributes.case)?)?;
+    }
+    let labels = append_labels(sheet, target.name.text, &names)?;
+    let mut schemas = Vec::new(sheet.alloc);
+    for (variant, label) in variants.iter().zip(labels) {
+        schemas.push(append_variant(sheet, target, variant, label)?)?;
     }
     append_chains(sheet, target, variants, &schemas)?;
     append_view(sheet, target, variants)?;
@@ -34,15 +39,13 @@ pub(crate) fn append_choice<'a>(
     append_codecs(sheet, target, &CHOICE, &CHOICE)
 }
 
-/// Appends the labels of a variant and the type of what it holds, and returns its schema.
+/// Appends the type of what a variant of this label holds, and returns the variant's schema.
 fn append_variant<'a>(
     sheet: &mut Sheet,
     target: &Target<'a>,
     variant: &Variant<'a>,
+    label: String,
 ) -> Result<Leaf, AllocError> {
-    let label = label_of(sheet, target.name.text, variant.name.text)?;
-    let name = variant_name(sheet.alloc, variant, target.attributes.case)?;
-    append_label(sheet, label.as_str(), name.as_str())?;
     let content = append_content(sheet, target, variant)?;
     let mut texts = Vec::new(sheet.alloc);
     texts.push(label)?;
@@ -72,14 +75,14 @@ fn append_content<'a>(
     let kind = sheet.short(kind)?;
     let types = content_types(alloc, &variant.content)?;
     let parameters = parameters_in(alloc, &target.parameters, &types)?;
-    let mut held = label_of(sheet, owner.as_str(), "Parts")?;
+    let mut held = name_of(sheet, owner.as_str(), "Parts")?;
     held.push_str(bounds(alloc, "", &parameters, "")?.as_str())?;
     match &variant.content {
         Content::Nothing => {}
         Content::Parts(parts) => append_parts(sheet, held.as_str(), parts)?,
         Content::Fields(fields) => {
             let fields = row_fields(alloc, fields)?;
-            let leaves = append_labels(sheet, target, owner.as_str(), &fields, None)?;
+            let leaves = append_fields(sheet, target, owner.as_str(), &fields, None)?;
             append_row(sheet, held.as_str(), &leaves)?;
         }
     }

@@ -1,6 +1,6 @@
 //! Written by derive_files: how the types of the module above are encoded.
 
-ghost use Rattle.std.specs.Prelude.{codes, refl};
+ghost use Rattle.std.specs.Prelude.{codes, ◌==◌, if◌then◌else◌, refl};
 ghost use Rattle.nano_schema.specs.declared.choices.Either.TheVariants.{First, Later};
 ghost use Rattle.nano_schema.specs.UserTypes.{LegalVariant, agreed};
 ghost use Rattle.nano_json_schema.specs.Enums.{json_choice};
@@ -22,65 +22,51 @@ use nano_schema::{
 use std::alloc::{AllocError, Global};
 use std::str::Chars;
 
-struct ModeOff {}
+struct ModeNames<const I: usize> {}
 
-impl Label for ModeOff {
-    ghost label = { codes "Off" };
-
-    fn text() -> &'static str {
-        "Off"
-    }
-}
-
-struct ModeFixed {}
-
-impl Label for ModeFixed {
-    ghost label = { codes "Fixed" };
+impl<const I: usize> Label for ModeNames<I> {
+    ghost label = { if I == 0 then codes "Off"
+        else if I == 1 then codes "Fixed"
+        else codes "Range" };
 
     fn text() -> &'static str {
-        "Fixed"
+        match I {
+            0 => "Off",
+            1 => "Fixed",
+            _ => "Range",
+        }
     }
 }
 
 type ModeFixedParts = u32;
 
-struct ModeRange {}
+struct ModeRangeNames<const I: usize> {}
 
-impl Label for ModeRange {
-    ghost label = { codes "Range" };
+impl<const I: usize> Label for ModeRangeNames<I> {
+    ghost label = { if I == 0 then codes "least"
+        else codes "most" };
 
     fn text() -> &'static str {
-        "Range"
+        match I {
+            0 => "least",
+            _ => "most",
+        }
     }
 }
 
-struct ModeRangeLeast {}
+type ModeRangeParts = (
+    Required<ModeRangeNames<0>, u32>,
+    Required<ModeRangeNames<1>, u32>,
+);
 
-impl Label for ModeRangeLeast {
-    ghost label = { codes "least" };
+type ModeVariants3 = Variant<ModeNames<2>, Struct<ModeRangeParts>>;
 
-    fn text() -> &'static str {
-        "least"
-    }
-}
+type ModeVariants2 = (
+    Variant<ModeNames<1>, Newtype<ModeFixedParts>>,
+    ModeVariants3,
+);
 
-struct ModeRangeMost {}
-
-impl Label for ModeRangeMost {
-    ghost label = { codes "most" };
-
-    fn text() -> &'static str {
-        "most"
-    }
-}
-
-type ModeRangeParts = (Required<ModeRangeLeast, u32>, Required<ModeRangeMost, u32>);
-
-type ModeVariants3 = Variant<ModeRange, Struct<ModeRangeParts>>;
-
-type ModeVariants2 = (Variant<ModeFixed, Newtype<ModeFixedParts>>, ModeVariants3);
-
-type ModeVariants = (Variant<ModeOff, Unit>, ModeVariants2);
+type ModeVariants = (Variant<ModeNames<0>, Unit>, ModeVariants2);
 
 type ModeValues3 = (u32, u32);
 

@@ -1,6 +1,6 @@
 //! Written by derive_files: how the types of the module above are encoded.
 
-ghost use Rattle.std.specs.Prelude.{codes, refl};
+ghost use Rattle.std.specs.Prelude.{codes, ◌==◌, if◌then◌else◌, refl};
 ghost use Rattle.nano_schema.specs.UserTypes.{whole, agreed};
 ghost use Rattle.nano_json_schema.specs.Structs.{json_of};
 ghost use Rattle.nano_ron_schema.specs.Structs.{ron_of};
@@ -21,33 +21,27 @@ use nano_schema::{
 use std::alloc::{AllocError, Global};
 use std::str::Chars;
 
-struct SettingsName {}
+struct SettingsNames<const I: usize> {}
 
-impl Label for SettingsName {
-    ghost label = { codes "name" };
-
-    fn text() -> &'static str {
-        "name"
-    }
-}
-
-struct SettingsPort {}
-
-impl Label for SettingsPort {
-    ghost label = { codes "port" };
+impl<const I: usize> Label for SettingsNames<I> {
+    ghost label = { if I == 0 then codes "name"
+        else if I == 1 then codes "port"
+        else if I == 2 then codes "workers"
+        else if I == 3 then codes "verbose"
+        else if I == 4 then codes "tags"
+        else if I == 5 then codes "owner"
+        else codes "mode" };
 
     fn text() -> &'static str {
-        "port"
-    }
-}
-
-struct SettingsWorkers {}
-
-impl Label for SettingsWorkers {
-    ghost label = { codes "workers" };
-
-    fn text() -> &'static str {
-        "workers"
+        match I {
+            0 => "name",
+            1 => "port",
+            2 => "workers",
+            3 => "verbose",
+            4 => "tags",
+            5 => "owner",
+            _ => "mode",
+        }
     }
 }
 
@@ -70,62 +64,22 @@ impl RonDefaultOf<u16> for SettingsWorkersDefault {
     ghost is_sound = { λ x e. tt };
 }
 
-struct SettingsVerbose {}
-
-impl Label for SettingsVerbose {
-    ghost label = { codes "verbose" };
-
-    fn text() -> &'static str {
-        "verbose"
-    }
-}
-
-struct SettingsTags {}
-
-impl Label for SettingsTags {
-    ghost label = { codes "tags" };
-
-    fn text() -> &'static str {
-        "tags"
-    }
-}
-
-struct SettingsOwner {}
-
-impl Label for SettingsOwner {
-    ghost label = { codes "owner" };
-
-    fn text() -> &'static str {
-        "owner"
-    }
-}
-
-struct SettingsMode {}
-
-impl Label for SettingsMode {
-    ghost label = { codes "mode" };
-
-    fn text() -> &'static str {
-        "mode"
-    }
-}
-
 type SettingsFields = (
     (
-        Required<SettingsName, String>,
+        Required<SettingsNames<0>, String>,
         (
-            Required<SettingsPort, u16>,
-            Defaulted<SettingsWorkers, u16, SettingsWorkersDefault>,
+            Required<SettingsNames<1>, u16>,
+            Defaulted<SettingsNames<2>, u16, SettingsWorkersDefault>,
         ),
     ),
     (
         (
-            Defaulted<SettingsVerbose, bool, TypeDefault>,
-            Defaulted<SettingsTags, Vec<String>, TypeDefault>,
+            Defaulted<SettingsNames<3>, bool, TypeDefault>,
+            Defaulted<SettingsNames<4>, Vec<String>, TypeDefault>,
         ),
         (
-            Optional<SettingsOwner, String>,
-            Required<SettingsMode, Mode>,
+            Optional<SettingsNames<5>, String>,
+            Required<SettingsNames<6>, Mode>,
         ),
     ),
 );
