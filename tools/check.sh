@@ -44,7 +44,7 @@ for script in tools/check_*.py tools/list_calls.py tools/what_to_read.py; do
     step "$(basename "$script")" python3 "$script"
 done
 # shellcheck disable=SC2046
-step "derive --check" is_fresh $(grep -lx -e '// ---- written by derive_files' -r crates/*/src |
+step "derive --check" is_fresh $(grep -lx -e 'mod derived;' -r crates/*/src |
     grep -v -e '^crates/derive_' -e '^crates/test_derive/' | sort)
 step "fuzz.py" python3 tools/fuzz.py "$program" --seed 1 --cases 20000
 step "refuse_memory.sh" env PROGRAM="$PWD/$program" sh tools/measure/refuse_memory.sh worked.tsv

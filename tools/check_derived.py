@@ -1,15 +1,17 @@
 #!/usr/bin/env python3
 """Compares the files that derive_files wrote with the copies that the gate has it check.
 
-crates/derive_files/data/CRATE/src/FILE.txt is a copy of crates/CRATE/src/FILE. Without arguments, prints
-each copy that differs or that is missing, and fails; with --copy, makes the copies anew."""
+crates/derive_files/data/CRATE/src/FILE.txt is a copy of crates/CRATE/src/FILE, which ends in `mod derived;`, and
+beside it stands one of the file of that module. Without arguments, prints each copy that differs or that is
+missing, and fails; with --copy, makes the copies anew."""
 import os
 import sys
 
-MARKER = "// ---- written by derive_files\n"
+MODULE = "mod derived;\n"
 CRATES = os.path.join(os.path.dirname(os.path.abspath(__file__)), "..", "crates")
 DATA = os.path.join(CRATES, "derive_files", "data")
 OTHERS = ("derive_syntax", "derive_text", "derive_files", "test_derive")
+ROOTS = ("lib", "main", "mod")
 
 
 def text_of(path):
@@ -18,7 +20,7 @@ def text_of(path):
 
 
 def derived():
-    """The files with a marker, below the folder of the crates."""
+    """The files with user-defined types, below the folder of the crates."""
     for crate in sorted(os.listdir(CRATES)):
         source = os.path.join(CRATES, crate, "src")
         if crate in OTHERS or not os.path.isdir(source):
@@ -27,22 +29,35 @@ def derived():
             folders.sort()
             for name in sorted(names):
                 path = os.path.join(folder, name)
-                if name.endswith(".rt") and MARKER in text_of(path):
+                if name.endswith(".rt") and text_of(path).endswith("\n" + MODULE):
                     yield os.path.relpath(path, CRATES)
+
+
+def impls_of(name):
+    """The file of the module of a file."""
+    folder, file = os.path.split(name)
+    stem = file.removesuffix(".rt")
+    return os.path.join(folder, "" if stem in ROOTS else stem, "derived.rt")
+
+
+def faults_of(name):
+    """Whether the copy of a file differs, after it was made, if it is to be."""
+    copy = os.path.join(DATA, name + ".txt")
+    text = text_of(os.path.join(CRATES, name))
+    if "--copy" in sys.argv:
+        os.makedirs(os.path.dirname(copy), exist_ok=True)
+        with open(copy, "w", encoding="utf-8") as file:
+            file.write(text)
+    elif not os.path.exists(copy) or text_of(copy) != text:
+        print(f"crates/derive_files/data/{name}.txt is no copy of crates/{name}")
+        return 1
+    return 0
 
 
 def main():
     faults = 0
     for name in derived():
-        copy = os.path.join(DATA, name + ".txt")
-        text = text_of(os.path.join(CRATES, name))
-        if "--copy" in sys.argv:
-            os.makedirs(os.path.dirname(copy), exist_ok=True)
-            with open(copy, "w", encoding="utf-8") as file:
-                file.write(text)
-        elif not os.path.exists(copy) or text_of(copy) != text:
-            faults += 1
-            print(f"crates/derive_files/data/{name}.txt is no copy of crates/{name}")
+        faults += faults_of(name) + faults_of(impls_of(name))
         if name + ".txt" not in text_of(os.path.join(CRATES, "derive_files", "args")).split("\n"):
             faults += 1
             print(f"crates/derive_files/args does not name {name}.txt")

@@ -203,6 +203,8 @@ class Library:
             found = self.files.get((file.crate, (*file.module, head)))
         if found is None and head in file.uses and file.uses[head] != path:
             found = self.resolve(file, file.uses[head], depth + 1)
+        if found is None and head != "*" and "*" in file.uses:
+            found = self.resolve(file, [*file.uses["*"][:-1], head], depth + 1)
         if isinstance(found, File) and rest:
             return self.inside(found, rest, depth + 1)
         return found

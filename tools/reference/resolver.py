@@ -138,7 +138,7 @@ class Resolver:
         """The target of a path of Rust code."""
         found = self.library.resolve(file, path)
         if isinstance(found, RustItem):
-            return self.type_target(found)
+            return self.type_target(found) if found.home or found.kind != "fn" else None
         if isinstance(found, File):
             public = found.module in self.library.public_modules(found.crate)
             title = "::".join(("module" if found.module else "crate", found.crate, *found.module))

@@ -1,28 +1,28 @@
-//! Writes the impls of user-defined types into the files that declare them.
+//! Writes the impls of user-defined types into files of their own.
 //!
-//! `derive_files FILE..` writes them below the marker of each file. `derive_files --check FILE..`
-//! writes nothing, and prints the name of each file in which they are not what would be written:
-//! its status is then 1. `derive_files --print FILE..` prints each file with its impls. A file at
-//! fault is unchanged; what is wrong is printed with its line and column, that line, and a caret
-//! under the character.
+//! `derive_files FILE..` writes the module `derived` of each file that ends in `mod derived;`.
+//! `derive_files --check FILE..` writes nothing, and prints the name of each file whose module is
+//! not what would be written: its status is then 1. `derive_files --print FILE..` prints the
+//! modules. For a file at fault nothing is written; what is wrong is printed with its line and
+//! column, that line, and a caret under the character.
 #![tactic(auto)]
 
 use anyhow::{Context, Result, bail};
-use derive_text::{DeriveError, derive, module_of};
+use derive_text::{DeriveError, Written, derive, derived_path, module_of};
 use std::alloc::AllocError;
 use std::env;
 use std::fs::{self, File};
-use std::io::Write;
+use std::io::{ErrorKind, Write};
 use std::process::ExitCode;
 
-/// What is done with the text that is written for a file.
+/// What is done with the impls that are written for a file.
 #[derive(Clone, Copy)]
 enum Mode {
-    /// It takes the file's place.
+    /// They take the place of those in the module's file.
     Write,
-    /// It is compared with the file.
+    /// They are compared with those.
     Check,
-    /// It is printed.
+    /// They are printed.
     Print,
 }
 
@@ -33,8 +33,47 @@ enum Outcome {
     Fresh,
     /// They are not, and were not written.
     Stale,
-    /// What stands above its marker is at fault.
+    /// Its definitions are at fault.
     Faulty,
+}
+
+/// A file with user-defined types, and that of the module of their impls.
+#[derive(Drop)]
+struct Files {
+    /// The file, as it was named.
+    name: String,
+    /// The module that it is, as ghost names say it.
+    module: String,
+    /// The file of the module of the impls.
+    impls: String,
+}
+
+impl Files {
+    /// The files of a name.
+    fn of(rt: &HostRuntime, name: &str) -> Result<Files> {
+        let path = whole_path(rt, name)?;
+        let Some(module) = module_of(rt.alloc(), path.as_str())? else {
+            bail!("{name} is in no src folder of a crate");
+        };
+        let Some(impls) = derived_path(rt.alloc(), path.as_str())? else {
+            bail!("{name} is in no src folder of a crate");
+        };
+        let name = String::from_str(rt.alloc(), name)?;
+        Ok(Files {
+            name,
+            module,
+            impls,
+        })
+    }
+}
+
+/// A path from the root of the file system.
+fn whole_path(rt: &HostRuntime, name: &str) -> Result<String> {
+    if name.starts_with('/') {
+        return Ok(String::from_str(rt.alloc(), name)?);
+    }
+    let folder = env::current_dir(rt)?;
+    Ok(format!(in rt.alloc(); "{}/{name}", folder.as_str())?)
 }
 
 /// Writes a text beside a file, and then moves it to the file's place: where a step fails, the
@@ -47,16 +86,38 @@ fn replace(rt: &HostRuntime, name: &str, text: &str) -> Result<()> {
     Ok(fs::rename(rt, beside.as_str(), name)?)
 }
 
+/// Whether a file is there and has this text.
+fn has_text(rt: &HostRuntime, name: &str, text: &str) -> Result<bool> {
+    match fs::read_to_string(rt, name) {
+        Ok(found) => Ok(found.as_str() == text),
+        Err(error) if error.kind() == ErrorKind::NotFound => Ok(false),
+        Err(error) => Err(error).context(format_args!("reading {name}")),
+    }
+}
+
+/// Writes the file of the impls and the folder that it stands in, and then, if it is moved, the
+/// file with the types.
+fn write(rt: &HostRuntime, files: &Files, written: &Written) -> Result<()> {
+    let impls = files.impls.as_str();
+    if let Some((folder, _name)) = impls.rsplit_once('/') {
+        fs::create_dir_all(rt, folder).context(format_args!("making {folder}"))?;
+    }
+    replace(rt, impls, written.impls.as_str()).context(format_args!("writing {impls}"))?;
+    match &written.moved {
+        Some(text) => replace(rt, files.name.as_str(), text.as_str()).context(format_args!(
+            "writing {}",
+            files.name
+        )),
+        None => Ok(()),
+    }
+}
+
 /// Writes, compares or prints what is written for a file.
 fn derive_file(rt: &HostRuntime, name: &str, mode: Mode) -> Result<Outcome> {
     let source = fs::read_to_string(rt, name).context(format_args!("reading {name}"))?;
-    let folder = env::current_dir(rt)?;
-    let path = format!(in rt.alloc(); "{}/{name}", folder.as_str())?;
-    let Some(module) = module_of(rt.alloc(), path.as_str())? else {
-        bail!("{name} is in no src folder of a crate");
-    };
-    match derive(rt.alloc(), module.as_str(), source.as_str()) {
-        Ok(text) => finish(rt, name, mode, source.as_str(), text.as_str()),
+    let files = Files::of(rt, name)?;
+    match derive(rt.alloc(), files.module.as_str(), source.as_str()) {
+        Ok(written) => finish(rt, &files, mode, &written),
         Err(DeriveError::Source(fault)) => {
             fault.show(&mut rt.stderr(), name, source.as_str())?;
             Ok(Outcome::Faulty)
@@ -65,16 +126,20 @@ fn derive_file(rt: &HostRuntime, name: &str, mode: Mode) -> Result<Outcome> {
     }
 }
 
-/// Does with the text of a file what is asked.
-fn finish(rt: &HostRuntime, name: &str, mode: Mode, source: &str, text: &str) -> Result<Outcome> {
-    match mode {
-        Mode::Print => print!(rt; "{text}")?,
-        Mode::Write if text != source => {
-            replace(rt, name, text).context(format_args!("writing {name}"))?;
-        }
-        Mode::Check if text != source => return Ok(Outcome::Stale),
-        _ => {}
+/// Does with what is written for a file what is asked.
+fn finish(rt: &HostRuntime, files: &Files, mode: Mode, written: &Written) -> Result<Outcome> {
+    if matches!(mode, Mode::Print) {
+        print!(rt; "{}", written.impls)?;
+        return Ok(Outcome::Fresh);
     }
+    let is_there = has_text(rt, files.impls.as_str(), written.impls.as_str())?;
+    if is_there && written.moved.is_none() {
+        return Ok(Outcome::Fresh);
+    }
+    if matches!(mode, Mode::Check) {
+        return Ok(Outcome::Stale);
+    }
+    write(rt, files, written)?;
     Ok(Outcome::Fresh)
 }
 

@@ -1,17 +1,25 @@
--- What stands above the marker, and what is written below it.
-use Rattle.std.specs.Prelude.{◌≡◌, ℕ, List, [], ◌∷◌, ◌++◌, codes}
+-- What stands above the impls' module or a marker, and what is written for it.
+use Rattle.std.specs.Prelude.{◌≡◌, ℕ, List, [], ◌∷◌, ◌++◌, codes, string_bytes, MatchOption}
+use Rattle.derive_syntax.specs.declared.derived.Written.{Written}
 
--- the line below which the impls are written
+-- the line that ends a file with user-defined types: it names the module of their impls
+abbrev pub module_line : List ℕ
+module_line = codes "mod derived;"
+
+-- the line in whose place it is written
 abbrev pub marker : List ℕ
 marker = codes "// ---- written by derive_files"
 
--- these bytes stand above a marker in the source
-abbrev pub StandsAbove : List ℕ → List ℕ → Type 0
-StandsAbove source above = (rest : List ℕ) × (source ≡ above ++ (marker ++ rest))
+-- these bytes stand above such a line in the source
+abbrev pub StandsAbove : List ℕ → List ℕ → List ℕ → Type 0
+StandsAbove line source above = (rest : List ℕ) × (source ≡ above ++ (line ++ rest))
 
--- what stands above a marker, then the marker, then what is written for that part alone: `writes`
--- relates a text above a marker to what may be written for it
-abbrev pub IsDerived : (List ℕ → List ℕ → Type 0) → List ℕ → List ℕ → Type 0
-IsDerived writes source derived =
-    (above below : List ℕ) × StandsAbove source above × writes above below
-    × (derived ≡ above ++ marker ++ (10 ∷ []) ++ below)
+-- the impls are written for what stands above the module's line alone: `writes` relates a text to
+-- the impls that may be written for it. A source with a marker is moved: what stands above the
+-- marker, and the module's line in the place of the rest
+abbrev pub IsDerived : (List ℕ → List ℕ → Type 0) → List ℕ → Written → Type 0
+IsDerived writes source written =
+    (above : List ℕ) × writes above (string_bytes written.impls)
+    × MatchOption written.moved (StandsAbove module_line source above)
+    (λ moved. StandsAbove marker source above
+    × (string_bytes moved ≡ above ++ module_line ++ (10 ∷ [])))

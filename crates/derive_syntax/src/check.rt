@@ -14,7 +14,7 @@ use names::check_distinct;
 pub use names::{field_name, variant_name};
 use std::alloc::Global;
 
-/// An error where what stands above the marker cannot be written: a name stands twice, a renamed
+/// An error where no impls can be written for the definitions: a name stands twice, a renamed
 /// name is none of a format, an attribute has no meaning where it stands, or a type is not known.
 pub fn check_source<'a>(alloc: Global, source: &Source<'a>) -> Result<(), Fault> {
     let mut names = Vec::new(alloc);

@@ -102,7 +102,7 @@ fn message(alloc: Global, from: &str, subject: Subject, words: &str) -> Result<S
             format!(in alloc; "`{}` {words}", from.get(..length).unwrap_or(from))
         }
         Subject::EndOfLine => format!(in alloc; "the end of the line {words}"),
-        Subject::Marker => format!(in alloc; "the marker {words}"),
+        Subject::End => format!(in alloc; "the end of the definitions {words}"),
         Subject::Nothing => String::from_str(alloc, words),
     }
 }

@@ -9,8 +9,8 @@ pub enum Subject {
     Token(usize),
     /// The end of a line.
     EndOfLine,
-    /// The end of what stands above the marker.
-    Marker,
+    /// The end of what stands above `mod derived;`.
+    End,
     /// Nothing that has a name.
     Nothing,
 }

@@ -1,6 +1,6 @@
-//! A file of Rattle with a marker, below which impls are written: the structs, enums and attributes
-//! above it, as far as the generator of impls reads them, and what is wrong there, with line and
-//! column.
+//! A file of Rattle that ends in `mod derived;`, the module of the impls that are written: the
+//! structs, enums and attributes above that line, as far as the generator of impls reads them, and
+//! what is wrong there, with line and column.
 #![tactic(auto)]
 
 mod case;
@@ -20,11 +20,11 @@ mod token;
 
 pub use case::Case;
 pub use check::{Missing, check_source, field_name, missing_value, variant_name};
-pub use derived::{Writer, derive_by};
+pub use derived::{Writer, Written, derive_by};
 pub use error::{DeriveError, SourceFault};
 pub use fault::{Fault, Subject};
-pub use marker::MARKER;
-pub use module::module_of;
+pub use marker::{MARKER, MODULE_LINE};
+pub use module::{derived_path, module_of};
 pub use parse::source_of;
 pub use scan::tokens_of;
 pub use syntax::{

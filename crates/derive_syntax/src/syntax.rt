@@ -1,4 +1,4 @@
-//! What stands above the marker, as far as the generator asks for it.
+//! The definitions of a file, as far as the generator asks for it.
 
 use crate::case::Case;
 use crate::token::Token;
@@ -115,7 +115,7 @@ pub struct Definition<'a> {
     pub attributes: Attributes<'a>,
 }
 
-/// What stands above the marker.
+/// What stands above `mod derived;`.
 #[derive(Drop)]
 pub struct Source<'a> {
     /// The structs and enums, in their order.

@@ -1,9 +1,11 @@
-//! Writes the impls of user-defined types: reads the structs and enums above a marker in a file of
-//! Rattle, and writes below it how they are encoded.
+//! Writes the impls of user-defined types: reads the structs and enums of a file of Rattle that
+//! ends in `mod derived;`, and writes the text of that module: how they are encoded.
 #![tactic(auto)]
 
 mod impls;
 mod output;
 
-pub use derive_syntax::{DeriveError, MARKER, SourceFault, module_of};
+pub use derive_syntax::{
+    DeriveError, MARKER, MODULE_LINE, SourceFault, Written, derived_path, module_of,
+};
 pub use impls::derive;

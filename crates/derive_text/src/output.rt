@@ -1,7 +1,6 @@
 //! The impls of structs and enums, as text that `rt fmt` leaves as it is.
 //!
-//! Everything that is said by name is said by its path, so that nothing which the file declares
-//! or brings in stands in for it.
+//! The text is a whole module, which brings in what it says by name.
 
 mod agreement;
 mod chains;
@@ -25,6 +24,7 @@ mod template;
 mod transparent;
 mod tuples;
 mod types;
+mod uses;
 mod variants;
 mod views;
 
@@ -38,8 +38,9 @@ use target::Target;
 use transparent::append_transparent;
 use tuples::append_tuple;
 
-const NO_TYPE: &str = "no struct or enum above the marker has a line `// nanoserde: bin json ron`, \
-    which says in which formats it is read and written";
+const NO_TYPE: &str =
+    "no struct or enum has a line `// nanoserde: bin json ron`, which says in which \
+    formats it is read and written";
 
 /// The impls of each struct and enum for which a format is named.
 pub(crate) fn impls<'a>(
@@ -48,7 +49,7 @@ pub(crate) fn impls<'a>(
     source: &Source<'a>,
     end: usize,
 ) -> Result<String, Fault> {
-    let mut sheet = Sheet::new(alloc, Names::new(alloc, source)?);
+    let mut sheet = Sheet::new(alloc, Names::new(alloc, source)?)?;
     let mut is_empty = true;
     for definition in &source.definitions {
         if definition.attributes.codec.is_some() {

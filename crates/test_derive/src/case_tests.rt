@@ -31,21 +31,21 @@ const ENUM: &str = "enum A {
     HTTPServer_v2,
 }";
 
-const VARIANTS: &str = "lowercase outcome verytasty a z42 field_of httpserver_v2
-UPPERCASE OUTCOME VERYTASTY A Z42 field_of HTTPSERVER_V2
-PascalCase Outcome VeryTasty A Z42 field_of HTTPServer_v2
-camelCase outcome veryTasty a z42 field_of hTTPServer_v2
-snake_case outcome very_tasty a z42 field_of h_t_t_p_server_v2
-SCREAMING_SNAKE_CASE OUTCOME VERY_TASTY A Z42 field_of H_T_T_P_SERVER_V2
-kebab-case outcome very-tasty a z42 field_of h-t-t-p-server-v2
-SCREAMING-KEBAB-CASE OUTCOME VERY-TASTY A Z42 field_of H-T-T-P-SERVER-V2";
+const VARIANTS: &str = "lowercase outcome verytasty a z42 httpserver_v2 field_of
+UPPERCASE OUTCOME VERYTASTY A Z42 HTTPSERVER_V2 field_of
+PascalCase Outcome VeryTasty A Z42 HTTPServer_v2 field_of
+camelCase outcome veryTasty a z42 hTTPServer_v2 field_of
+snake_case outcome very_tasty a z42 h_t_t_p_server_v2 field_of
+SCREAMING_SNAKE_CASE OUTCOME VERY_TASTY A Z42 H_T_T_P_SERVER_V2 field_of
+kebab-case outcome very-tasty a z42 h-t-t-p-server-v2 field_of
+SCREAMING-KEBAB-CASE OUTCOME VERY-TASTY A Z42 H-T-T-P-SERVER-V2 field_of";
 
 /// The names that are written of a type in a case, each after a space.
 fn names(alloc: Global, of: &str, case: &str) -> Result<String, AllocError> {
     let above = format!(in alloc; "// nanoserde: json, rename_all = \"{case}\"\n{of}")?;
     let written = outcome_above(alloc, above.as_str())?;
     let mut names = String::new(alloc);
-    for part in written.as_str().split("{ codes \"").skip(1) {
+    for part in written.as_str().split("codes \"").skip(1) {
         let (name, _after) = part.split_once('"').unwrap_or(("", ""));
         names.push(' ')?;
         names.push_str(name)?;

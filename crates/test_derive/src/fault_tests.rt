@@ -5,7 +5,7 @@ use crate::default_faults::{DEFAULTS, SKIPPED};
 use crate::faults::{ATTRIBUTES, ITEMS, TYPES};
 use crate::mistakes::{COMMENTS, FORMS, OTHERS};
 use crate::outcome::{MODULE, outcome, outcome_above};
-use derive_text::{DeriveError, derive, module_of};
+use derive_text::{DeriveError, derive, derived_path, module_of};
 use std::alloc::{AllocError, Global};
 use std::process::Abort;
 
@@ -70,11 +70,13 @@ fn a_skipped_field_has_a_default(rt: HostRuntime) {
     are_reported(&rt, rt.alloc(), SKIPPED);
 }
 
-const MARKERS: &[(&str, &str)] = &[
+const MODULES: &[(&str, &str)] = &[
     (
         "struct A {\n    a: u8,\n}\n",
-        "4:1: no line is `// ---- written by derive_files`",
+        "4:1: no line is `mod derived;`",
     ),
+    ("mod derived;\nstruct A;\n", "1:1: `mod derived;` stands"),
+    ("\n  mod derived;\n", "2:3: `mod derived;` stands"),
     (
         "// ---- written by derive_files, twice\n",
         "1:1: the marker",
@@ -87,9 +89,46 @@ const MARKERS: &[(&str, &str)] = &[
 ];
 
 #[test]
-fn a_marker_stands_once_and_alone(rt: HostRuntime) {
-    for (source, expected) in MARKERS {
+fn a_file_ends_in_its_module_or_has_one_marker(rt: HostRuntime) {
+    for (source, expected) in MODULES {
         begins(&rt, outcome(rt.alloc(), source), expected);
+    }
+}
+
+const MOVED: &[(&str, &str)] = &[
+    ("mod derived;\n", "// ---- written by derive_files\n"),
+    (
+        "mod derived;\n",
+        "// ---- written by derive_files\r\n\nstruct B;",
+    ),
+    ("", "mod derived;\r\n\n"),
+    ("", "mod derived;"),
+];
+
+/// What a source becomes if it is moved, or nothing.
+fn moved(alloc: Global, source: &str) -> Result<String, DeriveError> {
+    let written = derive(alloc, MODULE, source)?;
+    Ok(written.moved.unwrap_or(String::new(alloc)))
+}
+
+/// Whether a struct with these lines below it is moved to one with this line there.
+fn is_moved(alloc: Global, expected: &str, below: &str) -> Result<bool, DeriveError> {
+    let source = format!(in alloc; "// nanoserde: bin\nstruct A(u8);\n{below}")?;
+    let text = moved(alloc, source.as_str())?;
+    match text
+        .as_str()
+        .strip_prefix("// nanoserde: bin\nstruct A(u8);\n")
+    {
+        Some(line) => Ok(line == expected),
+        None => Ok(text.as_str() == expected),
+    }
+}
+
+#[test]
+fn a_source_with_a_marker_is_moved(rt: HostRuntime) {
+    for (expected, below) in MOVED {
+        let found = is_moved(rt.alloc(), expected, below);
+        assert!(&rt; matches!(found, Ok(true)), "{below}");
     }
 }
 
@@ -107,7 +146,7 @@ fn is_shown(alloc: Global, source: &str, expected: &str) -> Option<bool> {
 
 #[test]
 fn a_fault_is_shown_with_its_line_and_a_caret(rt: HostRuntime) {
-    let source = "struct A {\n\ta: Strng,\n}\n// ---- written by derive_files\n";
+    let source = "struct A {\n\ta: Strng,\n}\nmod derived;\n";
     let expected = "a.rt:2:5: `Strng` is no type that is known: none above has this name, \
         and no `use` brings it in\n\ta: Strng,\n\t   ^\n";
     assert!(&rt;
@@ -124,10 +163,40 @@ fn module(alloc: Global, path: &str) -> Result<String, AllocError> {
     }
 }
 
+/// The file of the impls of a path, or `none`.
+fn beside(alloc: Global, path: &str) -> Result<String, AllocError> {
+    match derived_path(alloc, path)? {
+        Some(path) => Ok(path),
+        None => String::from_str(alloc, "none"),
+    }
+}
+
+const BESIDE: &[(&str, &str)] = &[
+    ("/a/crates/app/src/lib.rt", "/a/crates/app/src/derived.rt"),
+    ("app/src/main.rt", "app/src/derived.rt"),
+    ("app/src/a.rt", "app/src/a/derived.rt"),
+    ("/app/src/a/mod.rt", "/app/src/a/derived.rt"),
+    ("/app/src/a/b.rt.txt", "/app/src/a/b/derived.rt.txt"),
+    ("/a/src.rt", "none"),
+];
+
+/// Whether the impls of a path stand in this file.
+fn is_beside(alloc: Global, path: &str, expected: &str) -> Result<bool, AllocError> {
+    Ok(beside(alloc, path)?.as_str() == expected)
+}
+
+#[test]
+fn impls_stand_where_their_module_does(rt: HostRuntime) {
+    for (path, expected) in BESIDE {
+        assert!(&rt; is_beside(rt.alloc(), path, expected) == Ok(true), "{path}");
+    }
+}
+
 const PATHS: &[(&str, &str)] = &[
     ("/a/crates/app/src/lib.rt", "app.specs.declared"),
     ("/a/crates/app/src/a/b.rt.txt", "app.specs.declared.a.b"),
     ("app/src/main.rt", "app.specs.declared"),
+    ("/app/src/a/mod.rt", "app.specs.declared.a"),
     ("/a/src.rt", "none"),
 ];
 

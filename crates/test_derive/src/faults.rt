@@ -1,7 +1,7 @@
 //! Sources and the fault of each, after `=> `. A line of hyphens parts them. They are texts, since
 //! a table of pairs takes longer to prove the more of them it has.
 
-/// What stands above the marker is no struct or enum, or no whole one.
+/// What stands above `mod derived;` is no struct or enum, or no whole one.
 pub(crate) const ITEMS: &str = r#"union A {
     a: u8,
 }
@@ -55,7 +55,7 @@ struct A(u8, u16, u32, u64, u8);
 => 1:1: this has no end
 ----
 struct A(u8);
-=> 2:1: no struct or enum above the marker has a line"#;
+=> 2:1: no struct or enum has a line"#;
 
 /// A field has a type that is not known here, or that has no format.
 pub(crate) const TYPES: &str = r#"struct A<'a> {

@@ -1,6 +1,7 @@
 //! What is written of each form of a struct.
 
 use crate::forms::{CITING, DEFAULTED, GENERIC, LARGE, PARTS, PASSED, SKIPPED};
+use crate::named_forms::{CLASHING, NAMED};
 use crate::outcome::outcome_above;
 use std::alloc::{AllocError, Global};
 use std::process::Abort;
@@ -38,4 +39,10 @@ fn forms_are_written(rt: HostRuntime) {
     are_written(&rt, alloc, SKIPPED);
     are_written(&rt, alloc, CITING);
     are_written(&rt, alloc, PASSED);
+}
+
+#[test]
+fn a_module_brings_in_what_it_says(rt: HostRuntime) {
+    are_written(&rt, rt.alloc(), NAMED);
+    are_written(&rt, rt.alloc(), CLASHING);
 }

@@ -7,7 +7,7 @@ struct A(u8, u16);
 =>
 type AValues = (u8, u16);
 
-type AFields = nano_schema::Tuple<AValues>;
+type AFields = Tuple<AValues>;
 =>
     ghost view = { λ x. (x.0, x.1) };
 =>
@@ -16,14 +16,14 @@ type AFields = nano_schema::Tuple<AValues>;
 =>
         (&self.0, &self.1)
 =>
-        nano_bin_schema::write_record_bin::<Self, AFields>(self, alloc, output)
+        write_record_bin::<Self, AFields>(self, alloc, output)
 =>
             nano_json_schema::Part { of: &self.1 },
         );
 =>
-        nano_ron_schema::SerRon::ser_ron(&parts, alloc, d, s)
+        SerRon::ser_ron(&parts, alloc, d, s)
 =>
-        nano_ron_schema::read_parts_ron::<Self, AValues>(alloc, state, input)
+        read_parts_ron::<Self, AValues>(alloc, state, input)
 "#;
 
 /// A generic type agrees as its parameters do, and names those alone that it has.
@@ -61,24 +61,31 @@ type ABParts<T, U> = (T, U);
 =>
 type ADParts<U> = U;
 =>
-type AVariants4 = nano_schema::Variant<AE, nano_schema::Unit>;
+type AVariants4 = Variant<ANames<3>, Unit>;
 =>
-type AValues3<U> = nano_schema::Either<U, AValues4>;
+type AValues3<U> = Either<U, AValues4>;
 =>
-type ARefs3<'a, U> = nano_schema::Either<&'a U, ARefs4<'a>>;
+type ARefs3<'a, U> = Either<&'a U, ARefs4<'a>>;
 =>
     type Refs = ARefs<'a, T, U>;
 =>
     ghost is_decodable = { (both_are_read (both_are_read T.is_decodable U.is_decodable)
 ----
 // nanoserde: json
-struct A<T, U, V>(T, U, V);
+struct A<TheFirstOfThemAll, TheSecondOfThemAll, TheThirdOfThemAll>(
+    TheFirstOfThemAll,
+    TheSecondOfThemAll,
+    TheThirdOfThemAll,
+);
+=>
+impl<TheFirstOfThemAll: SerJson, TheSecondOfThemAll: SerJson, TheThirdOfThemAll: SerJson> SerJson
+    for A<TheFirstOfThemAll, TheSecondOfThemAll, TheThirdOfThemAll> {
 =>
 impl<
-    T: nano_json_schema::JsonCodec,
-    U: nano_json_schema::JsonCodec,
-    V: nano_json_schema::JsonCodec,
-> nano_json_schema::JsonCodec for A<T, U, V> {
+    TheFirstOfThemAll: JsonCodec,
+    TheSecondOfThemAll: JsonCodec,
+    TheThirdOfThemAll: JsonCodec,
+> JsonCodec for A<TheFirstOfThemAll, TheSecondOfThemAll, TheThirdOfThemAll> {
 "#;
 
 /// A ghost pair that is too long for a line has a line for each of its two.
@@ -103,7 +110,7 @@ struct A {
     a: Option<u8>,
 }
 =>
-type AFields = nano_schema::Defaulted<AA, Option<u8>, nano_schema::TypeDefault>;
+type AFields = Defaulted<AName, Option<u8>, TypeDefault>;
 ----
 use b::C;
 // nanoserde: ron
@@ -112,7 +119,7 @@ struct A {
     a: u8,
 }
 =>
-type AFields = nano_schema::Defaulted<AA, u8, C>;
+type AFields = Defaulted<AName, u8, C>;
 ----
 // nanoserde: json
 struct A {
@@ -124,7 +131,7 @@ struct A {
 =>
         Ok(-5)
 =>
-impl nano_json_schema::JsonDefaultOf<i8> for AADefault {
+impl JsonDefaultOf<i8> for AADefault {
 ----
 // nanoserde: json
 enum A {
@@ -138,7 +145,7 @@ enum A {
 =>
         String::from_str(alloc, "b")
 =>
-type ABParts = nano_schema::Defaulted<ABA, String, ABADefault>;
+type ABParts = Defaulted<ABName, String, ABADefault>;
 "#;
 
 /// A skipped field is in no row.
@@ -211,6 +218,6 @@ pub(in crate::a) struct A {
 
 struct Rc(pub (u8, u8));
 =>
-impl nano_schema::Label for AAB {
-    ghost label = { codes "a_b" };
+    ghost label = { if I == 0 then codes "a_b"
+        else codes "c" };
 "#;

@@ -20,4 +20,6 @@ mod mistakes;
 #[cfg(test)]
 mod mutation_tests;
 #[cfg(test)]
+mod named_forms;
+#[cfg(test)]
 mod outcome;

@@ -132,7 +132,7 @@ struct A(u8);
 // nanoserde json is read and written.
 // Nanoserde: see the guide.
 struct A(u8);
-=> 4:1: no struct or enum above the marker"#;
+=> 4:1: no struct or enum has a line"#;
 
 /// An attribute or a type is one of Rust or of another crate.
 pub(crate) const OTHERS: &str = r#"#[derive(Serialize, SerJson)]

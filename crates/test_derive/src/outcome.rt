@@ -6,10 +6,10 @@ use std::alloc::{AllocError, Global};
 /// The module of the sources.
 pub(crate) const MODULE: &str = "app.specs.declared.shapes";
 
-/// What becomes of a source: the text that is written, or `LINE:COLUMN: MESSAGE`.
+/// What becomes of a source: the impls that are written, or `LINE:COLUMN: MESSAGE`.
 pub(crate) fn outcome(alloc: Global, source: &str) -> Result<String, AllocError> {
     match derive(alloc, MODULE, source) {
-        Ok(text) => Ok(text),
+        Ok(written) => Ok(written.impls),
         Err(DeriveError::Memory) => Err(AllocError),
         Err(DeriveError::Source(fault)) => {
             format!(in alloc;
@@ -22,8 +22,8 @@ pub(crate) fn outcome(alloc: Global, source: &str) -> Result<String, AllocError>
     }
 }
 
-/// What becomes of what stands above the marker.
+/// What becomes of what stands above `mod derived;`.
 pub(crate) fn outcome_above(alloc: Global, above: &str) -> Result<String, AllocError> {
-    let source = format!(in alloc; "{above}\n// ---- written by derive_files\n")?;
+    let source = format!(in alloc; "{above}\nmod derived;\n")?;
     outcome(alloc, source.as_str())
 }

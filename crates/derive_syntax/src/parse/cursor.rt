@@ -126,7 +126,7 @@ impl<'a> Cursor<'a> {
             },
             None => Fault::At {
                 offset: self.end,
-                subject: Subject::Marker,
+                subject: Subject::End,
                 words,
             },
         }

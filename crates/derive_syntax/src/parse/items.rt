@@ -1,4 +1,4 @@
-//! The items above the marker: structs and enums are taken, lines that end in a semicolon are
+//! The items of a file: structs and enums are taken, lines that end in a semicolon are
 //! passed over, and anything else is an error.
 
 use crate::fault::Fault;

@@ -3,6 +3,7 @@
 
 use crate::output::parameters::{content_types, encoded_types, parameter_in};
 use crate::output::rows::ghost_pairs;
+use crate::output::sheet::Sheet;
 use crate::output::tuples::{PLACES, named};
 use crate::output::types::{argument_of, type_text};
 use derive_syntax::{Content, Definition, Fault, Shape, Token, Type, Variant};
@@ -21,10 +22,19 @@ const UNKNOWN: &str = "is a type parameter within a type that is neither an `Opt
 
 /// The terms of a definition whose name has these parameters.
 pub(crate) fn agreement_of<'a>(
-    alloc: Global,
+    sheet: &mut Sheet,
     definition: &Definition<'a>,
     full: &str,
 ) -> Result<Agreement, Fault> {
+    let terms = terms(sheet.alloc, definition, full)?;
+    Ok(Agreement {
+        agrees: sheet.short(terms.agrees.as_str())?,
+        decodable: terms.decodable,
+    })
+}
+
+/// The terms, in which items are said by their paths.
+fn terms<'a>(alloc: Global, definition: &Definition<'a>, full: &str) -> Result<Agreement, Fault> {
     if definition.parameters.is_empty() {
         return Ok(Agreement {
             agrees: String::from_str(alloc, "agreed")?,

@@ -19,7 +19,7 @@ struct Chain<'a> {
     /// What stands before the parameters of each of these types: a lifetime, or nothing.
     before: &'static str,
     /// What opens the list of a first and a rest.
-    open: &'static str,
+    open: &'a str,
     /// What closes it.
     close: &'static str,
     /// What its two items are.
@@ -42,10 +42,14 @@ pub(crate) fn append_chains<'a>(
         items: Items::Types,
     };
     append_chain(sheet, row, &named, schemas)?;
+    let either = match variants.len() {
+        1 => String::new(sheet.alloc),
+        _ => sheet.short("nano_schema::Either<")?,
+    };
     let values = Chain {
         full: target.values.as_str(),
         before: "",
-        open: "nano_schema::Either<",
+        open: either.as_str(),
         close: ">",
         items: Items::Patterns,
     };
@@ -54,7 +58,7 @@ pub(crate) fn append_chains<'a>(
     let refs = Chain {
         full: target.refs.as_str(),
         before: "<'a",
-        open: "nano_schema::Either<",
+        open: either.as_str(),
         close: ">",
         items: Items::Patterns,
     };

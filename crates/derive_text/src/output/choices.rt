@@ -2,9 +2,9 @@
 
 use crate::output::chains::append_chains;
 use crate::output::codecs::append_codecs;
-use crate::output::fields::{append_labels, label_of, row_fields};
+use crate::output::fields::{append_fields, row_fields};
 use crate::output::forms::CHOICE;
-use crate::output::labels::append_label;
+use crate::output::labels::{append_labels, name_of};
 use crate::output::layout::Items;
 use crate::output::making::making;
 use crate::output::names::in_type_name;
@@ -24,9 +24,14 @@ pub(crate) fn append_choice<'a>(
     target: &Target<'a>,
     variants: &[Variant<'a>],
 ) -> Result<(), AllocError> {
-    let mut schemas = Vec::new(sheet.alloc);
+    let mut names = Vec::new(sheet.alloc);
     for variant in variants {
-        schemas.push(append_variant(sheet, target, variant)?)?;
+        names.push(variant_name(sheet.alloc, variant, target.attributes.case)?)?;
+    }
+    let labels = append_labels(sheet, target.name.text, &names)?;
+    let mut schemas = Vec::new(sheet.alloc);
+    for (variant, label) in variants.iter().zip(labels) {
+        schemas.push(append_variant(sheet, target, variant, label)?)?;
     }
     append_chains(sheet, target, variants, &schemas)?;
     append_view(sheet, target, variants)?;
@@ -34,21 +39,19 @@ pub(crate) fn append_choice<'a>(
     append_codecs(sheet, target, &CHOICE, &CHOICE)
 }
 
-/// Appends the labels of a variant and the type of what it holds, and returns its schema.
+/// Appends the type of what a variant of this label holds, and returns the variant's schema.
 fn append_variant<'a>(
     sheet: &mut Sheet,
     target: &Target<'a>,
     variant: &Variant<'a>,
+    label: String,
 ) -> Result<Leaf, AllocError> {
-    let label = label_of(sheet, target.name.text, variant.name.text)?;
-    let name = variant_name(sheet.alloc, variant, target.attributes.case)?;
-    append_label(sheet, label.as_str(), name.as_str())?;
     let content = append_content(sheet, target, variant)?;
     let mut texts = Vec::new(sheet.alloc);
     texts.push(label)?;
     texts.push(content)?;
     Ok(Leaf {
-        open: "nano_schema::Variant<",
+        open: sheet.short("nano_schema::Variant<")?,
         texts,
         close: ">",
     })
@@ -64,25 +67,26 @@ fn append_content<'a>(
     let mut owner = String::from_str(alloc, target.name.text)?;
     owner.push_str(in_type_name(alloc, variant.name.text)?.as_str())?;
     let kind = match &variant.content {
-        Content::Nothing => return String::from_str(alloc, "nano_schema::Unit"),
-        Content::Parts(parts) if parts.len() == 1 => "Newtype",
-        Content::Parts(_) => "Tuple",
-        Content::Fields(_) => "Struct",
+        Content::Nothing => return sheet.short("nano_schema::Unit"),
+        Content::Parts(parts) if parts.len() == 1 => "nano_schema::Newtype",
+        Content::Parts(_) => "nano_schema::Tuple",
+        Content::Fields(_) => "nano_schema::Struct",
     };
+    let kind = sheet.short(kind)?;
     let types = content_types(alloc, &variant.content)?;
     let parameters = parameters_in(alloc, &target.parameters, &types)?;
-    let mut held = label_of(sheet, owner.as_str(), "Parts")?;
+    let mut held = name_of(sheet, owner.as_str(), "Parts")?;
     held.push_str(bounds(alloc, "", &parameters, "")?.as_str())?;
     match &variant.content {
         Content::Nothing => {}
         Content::Parts(parts) => append_parts(sheet, held.as_str(), parts)?,
         Content::Fields(fields) => {
             let fields = row_fields(alloc, fields)?;
-            let leaves = append_labels(sheet, target, owner.as_str(), &fields, None)?;
+            let leaves = append_fields(sheet, target, owner.as_str(), &fields, None)?;
             append_row(sheet, held.as_str(), &leaves)?;
         }
     }
-    format!(in alloc; "nano_schema::{kind}<{held}>")
+    format!(in alloc; "{kind}<{held}>")
 }
 
 /// Appends the type of the parts of a tuple variant.
@@ -118,7 +122,8 @@ fn append_view<'a>(
     let imports = variant_imports(sheet.alloc, target, variants)?;
     let cases = cases(sheet.alloc, variants)?;
     let making = making(sheet.alloc, variants)?;
-    let mut holes = target.bounded_holes(sheet.alloc)?;
+    let making = sheet.short(making.as_str())?;
+    let mut holes = target.bounded_holes(sheet)?;
     holes.put("IMPORTS", imports.as_str())?;
     holes.put("CASES", cases.as_str())?;
     holes.put("MAKING", making.as_str())?;
@@ -160,11 +165,20 @@ fn append_references<'a>(
     let arms = arms(sheet.alloc, variants)?;
     let either = match variants.len() {
         1 => "",
-        _ => "        use nano_schema::Either;\n\n",
+        _ => import_of_either(sheet)?,
     };
     sheet.import("ghost use Rattle.nano_schema.specs.UserTypes.{LegalVariant};")?;
-    let mut holes = target.bounded_holes(sheet.alloc)?;
+    let mut holes = target.bounded_holes(sheet)?;
     holes.put("EITHER", either)?;
     holes.put("ARMS", arms.as_str())?;
     sheet.write(REFERENCES, &holes)
+}
+
+/// What brings `Either` into a body, where the module cannot bring it in.
+fn import_of_either(sheet: &mut Sheet) -> Result<&'static str, AllocError> {
+    let name = sheet.short("nano_schema::Either")?;
+    Ok(match name.as_str() {
+        "Either" => "",
+        _ => "        use nano_schema::Either;\n\n",
+    })
 }

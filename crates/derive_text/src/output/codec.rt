@@ -69,11 +69,8 @@ impl$BOUNDS nano_$MODULE_schema::$NAMECodec for $FULL {
 
 const BYTES_WRITER: &str = "
 impl$BOUNDS nano_bin_schema::SerBin for $FULL {
-    fn ser_bin(
-        &self,
-        alloc: std::alloc::Global,
-        output: &mut Vec<u8>,
-    ) -> Result<(), std::alloc::AllocError> {
+    fn ser_bin(&self, alloc: std::alloc::Global, output: &mut Vec<u8>) \
+        -> Result<(), std::alloc::AllocError> {
 $BODY
     }
 }";
@@ -82,34 +79,24 @@ const BYTES_READER: &str = "
 impl$BOUNDS nano_bin_schema::DeBin for $FULL {
     ghost is_decodable = { $DECODABLE };
 
-    fn de_bin(
-        alloc: std::alloc::Global,
-        offset: &mut usize,
-        bytes: &[u8],
-    ) -> Result<Self, nano_bin_schema::DeBinErr> {
+    fn de_bin(alloc: std::alloc::Global, offset: &mut usize, bytes: &[u8]) \
+        -> Result<Self, nano_bin_schema::DeBinErr> {
 $BODY
     }
 }";
 
 const TEXT_WRITER: &str = "
 impl$BOUNDS nano_$MODULE_schema::Ser$NAME for $FULL {
-    fn ser_$MODULE(
-        &self,
-        alloc: std::alloc::Global,
-        d: usize,
-        s: &mut nano_$MODULE_schema::Ser$NAMEState,
-    ) -> Result<(), std::alloc::AllocError> {
+    fn ser_$MODULE(&self, alloc: std::alloc::Global, d: usize, \
+        s: &mut nano_$MODULE_schema::Ser$NAMEState) -> Result<(), std::alloc::AllocError> {
 $BODY
     }
 }";
 
 const TEXT_READER: &str = "
 impl$BOUNDS nano_$MODULE_schema::De$NAME for $FULL {
-    fn de_$MODULE(
-        alloc: std::alloc::Global,
-        state: &mut nano_$MODULE_schema::De$NAMEState,
-        input: &mut std::str::Chars<'_>,
-    ) -> nano_$MODULE_schema::$NAMEResult<Self> {
+    fn de_$MODULE(alloc: std::alloc::Global, state: &mut nano_$MODULE_schema::De$NAMEState, \
+        input: &mut std::str::Chars<'_>) -> nano_$MODULE_schema::$NAMEResult<Self> {
 $BODY
     }
 }";

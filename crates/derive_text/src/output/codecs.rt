@@ -4,6 +4,7 @@ use crate::output::codec::{BIN, Codec, DEFINITION, JSON, RON};
 use crate::output::forms::Form;
 use crate::output::sheet::Sheet;
 use crate::output::target::Target;
+use crate::output::template::Holes;
 use derive_syntax::Directions;
 use std::alloc::AllocError;
 
@@ -83,7 +84,8 @@ fn append_impl<'a>(
     let bound = holes.fill(bound)?;
     let bounds = target.bounds(sheet.alloc, bound.as_str())?;
     holes.put("BOUNDS", bounds.as_str())?;
-    sheet.write(template, &holes)
+    let text = holes.fill(template)?;
+    sheet.write(text.as_str(), &Holes::new(sheet.alloc))
 }
 
 /// Brings in what a ghost term cites.

@@ -1,5 +1,6 @@
 //! What stands for the default of a field, and what a skipped field is made of.
 
+use crate::output::labels::name_of;
 use crate::output::sheet::Sheet;
 use crate::output::target::Target;
 use crate::output::template::Holes;
@@ -52,15 +53,15 @@ const TEXT: Given = Given {
 };
 
 /// The name of what stands for the default of a field, and of its type where there is nothing
-/// else. A value that is given is appended as a type, which is called as the field's label is.
+/// else. A value that is given is appended as a type, which is called as the field is.
 pub(crate) fn append_default<'a>(
     sheet: &mut Sheet,
     target: &Target<'a>,
-    label: &str,
+    owner: &str,
     field: Field<'a>,
 ) -> Result<String, AllocError> {
     let (kind, given) = match missing_value(field) {
-        Missing::OfType => return String::from_str(sheet.alloc, "nano_schema::TypeDefault"),
+        Missing::OfType => return sheet.short("nano_schema::TypeDefault"),
         Missing::Path(path) => return String::from_str(sheet.alloc, path),
         Missing::Whole(number) => (&WHOLE, number),
         Missing::Signed(number) => match number.strip_prefix('-') {
@@ -72,8 +73,8 @@ pub(crate) fn append_default<'a>(
     };
     sheet.import(kind.import)?;
     import_constants(sheet, kind, given)?;
-    let wanted = format!(in sheet.alloc; "{label}Default")?;
-    let name = sheet.names.take(sheet.alloc, wanted.as_str())?;
+    let wanted = format!(in sheet.alloc; "{}_default", field.name.text)?;
+    let name = name_of(sheet, owner, wanted.as_str())?;
     append_given(sheet, target, name.as_str(), field, (kind, given))?;
     Ok(name)
 }

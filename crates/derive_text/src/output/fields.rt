@@ -1,8 +1,7 @@
 //! Fields with names, of a struct or of a variant.
 
 use crate::output::defaults::append_default;
-use crate::output::labels::append_label;
-use crate::output::names::in_type_name;
+use crate::output::labels::append_labels;
 use crate::output::rows::Leaf;
 use crate::output::sheet::Sheet;
 use crate::output::target::Target;
@@ -25,38 +24,34 @@ pub(crate) fn row_fields<'a>(
     Ok(in_row)
 }
 
-/// Appends a label for each field, whose name is in this case, and returns the fields as they stand
+/// Appends the labels of fields, whose names are in this case, and returns the fields as they stand
 /// in a schema.
-pub(crate) fn append_labels<'a>(
+pub(crate) fn append_fields<'a>(
     sheet: &mut Sheet,
     target: &Target<'a>,
     owner: &str,
     fields: &[Field<'a>],
     case: Option<Case>,
 ) -> Result<Vec<Leaf>, AllocError> {
-    let mut leaves = Vec::new(sheet.alloc);
+    let mut names = Vec::new(sheet.alloc);
     for field in fields {
-        let label = label_of(sheet, owner, field.name.text)?;
-        let name = field_name(sheet.alloc, *field, case)?;
-        append_label(sheet, label.as_str(), name.as_str())?;
-        leaves.push(schema_field(sheet, target, *field, label.as_str())?)?;
+        names.push(field_name(sheet.alloc, *field, case)?)?;
+    }
+    let labels = append_labels(sheet, owner, &names)?;
+    let mut leaves = Vec::new(sheet.alloc);
+    for (field, label) in fields.iter().zip(labels) {
+        leaves.push(schema_field(sheet, target, owner, *field, label)?)?;
     }
     Ok(leaves)
-}
-
-/// A free name for the label of something.
-pub(crate) fn label_of(sheet: &mut Sheet, owner: &str, name: &str) -> Result<String, AllocError> {
-    let mut wanted = String::from_str(sheet.alloc, owner)?;
-    wanted.push_str(in_type_name(sheet.alloc, name)?.as_str())?;
-    sheet.names.take(sheet.alloc, wanted.as_str())
 }
 
 /// A field as it stands in a schema, after its default, if it has one.
 fn schema_field<'a>(
     sheet: &mut Sheet,
     target: &Target<'a>,
+    owner: &str,
     field: Field<'a>,
-    label: &str,
+    label: String,
 ) -> Result<Leaf, AllocError> {
     let mut texts = Vec::new(sheet.alloc);
     let (open, part) = match (field.attributes.default, optional_part(field.of)) {
@@ -64,10 +59,11 @@ fn schema_field<'a>(
         (None, Some(part)) => ("nano_schema::Optional<", part),
         (None, None) => ("nano_schema::Required<", field.of),
     };
-    texts.push(String::from_str(sheet.alloc, label)?)?;
+    let open = sheet.short(open)?;
+    texts.push(label)?;
     texts.push(type_text(sheet.alloc, part)?)?;
     if field.attributes.default.is_some() {
-        texts.push(append_default(sheet, target, label, field)?)?;
+        texts.push(append_default(sheet, target, owner, field)?)?;
     }
     Ok(Leaf {
         open,

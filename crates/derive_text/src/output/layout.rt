@@ -85,7 +85,7 @@ pub(crate) fn list(
     let laid = if width.saturating_sub(around) <= brackets.items.most() && whole <= COLUMNS {
         flat.clone()?
     } else if brackets.items == Items::Values && are_short(items) {
-        filled(alloc, brackets, items)?
+        filled(alloc, brackets, items, COLUMNS)?
     } else {
         in_lines(alloc, brackets, items)?
     };
@@ -109,7 +109,11 @@ fn width_of_brackets(brackets: Brackets<'_>) -> usize {
 }
 
 /// The list on one line.
-fn in_line(alloc: Global, brackets: Brackets<'_>, items: &[Piece]) -> Result<String, AllocError> {
+pub(crate) fn in_line(
+    alloc: Global,
+    brackets: Brackets<'_>,
+    items: &[Piece],
+) -> Result<String, AllocError> {
     let space = if brackets.items == Items::Fields {
         " "
     } else {
@@ -151,14 +155,19 @@ fn are_short(items: &[Piece]) -> bool {
     items.len() > 1
 }
 
-/// The list with as many items on a line as there are columns for.
-fn filled(alloc: Global, brackets: Brackets<'_>, items: &[Piece]) -> Result<String, AllocError> {
+/// The list with as many items on a line of so many columns as it has space for.
+pub(crate) fn filled(
+    alloc: Global,
+    brackets: Brackets<'_>,
+    items: &[Piece],
+    columns: usize,
+) -> Result<String, AllocError> {
     let indent = brackets.indent.saturating_add(STEP);
     let mut output = String::from_str(alloc, brackets.open)?;
-    let mut used = COLUMNS;
+    let mut used = columns;
     for item in items {
         let width = width(item.flat.as_str()).saturating_add(1);
-        if used.saturating_add(width) >= COLUMNS {
+        if used.saturating_add(width) >= columns {
             start_line(&mut output, indent)?;
             used = indent.saturating_add(width);
         } else {

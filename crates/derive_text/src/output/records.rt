@@ -2,7 +2,7 @@
 
 use crate::output::codecs::append_codecs;
 use crate::output::defaults::made_field;
-use crate::output::fields::{append_labels, field_texts, row_fields};
+use crate::output::fields::{append_fields, field_texts, row_fields};
 use crate::output::forms::RECORD;
 use crate::output::layout::{Brackets, Items, Piece, list};
 use crate::output::rows::{append_row, laid_pairs, paired};
@@ -19,7 +19,7 @@ pub(crate) fn append_record<'a>(
     fields: &[Field<'a>],
 ) -> Result<(), AllocError> {
     let in_row = row_fields(sheet.alloc, fields)?;
-    let leaves = append_labels(
+    let leaves = append_fields(
         sheet,
         target,
         target.name.text,

@@ -8,7 +8,7 @@ use std::alloc::{AllocError, Global};
 #[derive(Drop)]
 pub(crate) struct Leaf {
     /// What opens the list, or nothing.
-    pub(crate) open: &'static str,
+    pub(crate) open: String,
     /// The text, or the items of the list.
     pub(crate) texts: Vec<String>,
     /// What closes the list, or nothing.
@@ -21,7 +21,7 @@ impl Leaf {
         let mut texts = Vec::new(alloc);
         texts.push(text)?;
         Ok(Leaf {
-            open: "",
+            open: String::new(alloc),
             texts,
             close: "",
         })
@@ -44,13 +44,9 @@ impl Leaf {
             }
         }
         let brackets = Brackets {
-            open: self.open,
+            open: self.open.as_str(),
             close: self.close,
-            items: if self.open == "(" {
-                Items::Types
-            } else {
-                Items::Patterns
-            },
+            items: Items::Patterns,
             indent,
             before,
             after: 1,

@@ -61,7 +61,7 @@ pub(crate) fn append_seen<'a>(
     target: &Target<'a>,
     seen: &Seen,
 ) -> Result<(), AllocError> {
-    let mut holes = target.bounded_holes(sheet.alloc)?;
+    let mut holes = target.bounded_holes(sheet)?;
     holes.put("FIELDS", seen.types.as_str())?;
     holes.put("PARTS", seen.refs.as_str())?;
     holes.put("VIEW", seen.view.as_str())?;

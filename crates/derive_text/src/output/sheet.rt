@@ -3,6 +3,7 @@
 use crate::output::layout::{COLUMNS, start_line, width};
 use crate::output::names::Names;
 use crate::output::template::Holes;
+use crate::output::uses::Uses;
 use std::alloc::{AllocError, Global};
 
 /// How far a line is indented that goes on with a ghost member, but for the space before a word.
@@ -19,6 +20,8 @@ pub(crate) struct Sheet {
     text: String,
     /// What brings ghost names in, once for each module.
     imports: Vec<Import>,
+    /// What brings items in.
+    uses: Uses,
 }
 
 /// What brings in ghost names of a module.
@@ -42,13 +45,19 @@ impl Import {
 
 impl Sheet {
     /// Nothing.
-    pub(crate) fn new(alloc: Global, names: Names) -> Sheet {
-        Sheet {
+    pub(crate) fn new(alloc: Global, names: Names) -> Result<Sheet, AllocError> {
+        Ok(Sheet {
             alloc,
             names,
             text: String::new(alloc),
             imports: Vec::new(alloc),
-        }
+            uses: Uses::new(alloc)?,
+        })
+    }
+
+    /// A text in which each item that can be brought in is said by its name alone, and is.
+    pub(crate) fn short(&mut self, text: &str) -> Result<String, AllocError> {
+        self.uses.short(&mut self.names, text)
     }
 
     /// Brings in what a line brings in: `ghost use`, a module, and names between braces.
@@ -76,22 +85,25 @@ impl Sheet {
         self.write("\ntype $NAME = $OF;", &holes)
     }
 
-    /// Appends the lines of a template.
+    /// Appends the lines of a template, in which items are said by their names alone.
     pub(crate) fn write(&mut self, template: &str, holes: &Holes) -> Result<(), AllocError> {
-        let text = holes.fill(template)?;
+        let template = self.short(template)?;
+        let text = holes.fill(template.as_str())?;
         for line in text.split('\n') {
             self.line(line)?;
         }
         Ok(())
     }
 
-    /// Appends a line. One that is too long becomes several if it is the head of an impl, or a
-    /// ghost member with no text in it.
+    /// Appends a line. One that is too long becomes several if it is the head of an impl or of a
+    /// method, or a ghost member with no text in it.
     fn line(&mut self, line: &str) -> Result<(), AllocError> {
         if width(line) <= COLUMNS {
             self.text.push_str(line)?;
         } else if line.starts_with("impl") {
             self.head(line)?;
+        } else if line.starts_with("    fn ") {
+            self.signature(line)?;
         } else if line.starts_with("    ghost ") && line.ends_with(" };") && !line.contains('"') {
             self.member(line)?;
         } else {
@@ -118,6 +130,21 @@ impl Sheet {
         }
         self.text.push_str("> ")?;
         self.text.push_str(rest)
+    }
+
+    /// Appends the head of a method with a line for each of its parameters.
+    fn signature(&mut self, line: &str) -> Result<(), AllocError> {
+        let (name, rest) = line.split_once('(').unwrap_or((line, ""));
+        let (parameters, result) = rest.split_once(") -> ").unwrap_or((rest, ""));
+        self.text.push_str(name)?;
+        self.text.push_str("(\n")?;
+        for parameter in parameters.split(", ") {
+            self.text.push_str("        ")?;
+            self.text.push_str(parameter)?;
+            self.text.push_str(",\n")?;
+        }
+        self.text.push_str("    ) -> ")?;
+        self.text.push_str(result)
     }
 
     /// Appends a ghost member, in lines of as many columns as there are. A line ends at a space,
@@ -152,16 +179,22 @@ impl Sheet {
         Ok(width(part).saturating_add(INDENT))
     }
 
-    /// The lines that bring names in, and then the items.
+    /// What the module is, the lines that bring names in, and then the items.
     pub(crate) fn finish(self) -> Result<String, AllocError> {
-        let mut output = String::from_str(self.alloc, "\n")?;
+        let mut output = String::from_str(self.alloc, HEAD)?;
         for import in &self.imports {
             append_import(&mut output, import)?;
         }
+        output.push('\n')?;
+        output.push_str(self.uses.lines()?.as_str())?;
         output.push_str(self.text.as_str())?;
         Ok(output)
     }
 }
+
+/// The first lines of the module.
+const HEAD: &str =
+    "//! Written by derive_files: how the types of the module above are encoded.\n\n";
 
 /// Appends what brings in names of a module, on each line as many as it has space for.
 fn append_import(output: &mut String, import: &Import) -> Result<(), AllocError> {

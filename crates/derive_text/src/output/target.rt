@@ -50,7 +50,7 @@ impl<'a> Target<'a> {
             row: type_name(sheet, name, end, arguments.as_str())?,
             values: type_name(sheet, name, "Values", arguments.as_str())?,
             refs: type_name(sheet, name, "Refs", borrowed.as_str())?,
-            agreement: agreement_of(sheet.alloc, definition, full.as_str())?,
+            agreement: agreement_of(sheet, definition, full.as_str())?,
             parameters: definition.parameters.clone()?,
             full,
             module,
@@ -71,11 +71,13 @@ impl<'a> Target<'a> {
     }
 
     /// The holes that its names and its parameters stand in, each of which is a `Value`.
-    pub(crate) fn bounded_holes(&self, alloc: Global) -> Result<Holes, AllocError> {
-        let mut holes = self.holes(alloc)?;
-        let bounds = self.bounds(alloc, ": nano_schema::Value")?;
+    pub(crate) fn bounded_holes(&self, sheet: &mut Sheet) -> Result<Holes, AllocError> {
+        let mut holes = self.holes(sheet.alloc)?;
+        let bound = sheet.short(": nano_schema::Value")?;
+        let bounds = self.bounds(sheet.alloc, bound.as_str())?;
         holes.put("BOUNDS", bounds.as_str())?;
-        let borrowed = self.borrowed_bounds(alloc, ": nano_schema::Value + 'a")?;
+        let bound = sheet.short(": nano_schema::Value + 'a")?;
+        let borrowed = self.borrowed_bounds(sheet.alloc, bound.as_str())?;
         holes.put("LIFETIME", borrowed.as_str())?;
         Ok(holes)
     }

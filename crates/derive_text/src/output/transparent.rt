@@ -28,7 +28,8 @@ pub(crate) fn append_transparent<'a>(
     part: Type<'a>,
 ) -> Result<(), AllocError> {
     let of = type_text(sheet.alloc, part)?;
-    let bounds = target.bounds(sheet.alloc, ": nano_schema::Value")?;
+    let bound = sheet.short(": nano_schema::Value")?;
+    let bounds = target.bounds(sheet.alloc, bound.as_str())?;
     let mut holes = target.holes(sheet.alloc)?;
     holes.put("OF", of.as_str())?;
     holes.put("BOUNDS", bounds.as_str())?;

@@ -24,6 +24,7 @@ pub(crate) fn append_tuple<'a>(
     let tuple = bracketed(sheet.alloc, ("(", ")"), &types, Items::Types, (0, before))?;
     sheet.alias(values, tuple.laid.as_str())?;
     let row = format!(in sheet.alloc; "nano_schema::Tuple<{values}>")?;
+    let row = sheet.short(row.as_str())?;
     sheet.alias(target.row.as_str(), row.as_str())?;
     append_seen(sheet, target, &seen(sheet.alloc, target, parts)?)?;
     let write = parts_writer(sheet.alloc, parts.len())?;

@@ -1,0 +1,120 @@
+//! Written by derive_files: how the types of the module above are encoded.
+
+ghost use Rattle.std.specs.Prelude.{codes, ◌==◌, if◌then◌else◌, refl};
+ghost use Rattle.nano_json_schema.specs.Structs.{json_of};
+ghost use Rattle.nano_schema.specs.UserTypes.{agreed};
+ghost use Rattle.nano_ron_schema.specs.Structs.{ron_of};
+
+use super::*;
+use nano_json_schema::{
+    DeJson, DeJsonState, JsonCodec, JsonResult, JsonShape, SerJson, SerJsonState, read_record_json,
+    write_record_json,
+};
+use nano_ron_schema::{
+    DeRon, DeRonState, RonCodec, RonResult, RonShape, SerRon, SerRonState, read_record_ron,
+    write_record_ron,
+};
+use nano_schema::{
+    Borrowed, FieldRefs, Label, Optional, Required, Shape, StructSchema, Value, known_record,
+};
+use std::alloc::{AllocError, Global};
+use std::str::Chars;
+
+struct StateNames<const I: usize> {}
+
+impl<const I: usize> Label for StateNames<I> {
+    ghost label = { if I == 0 then codes "coins"
+        else if I == 1 then codes "times"
+        else codes "player" };
+
+    fn text() -> &'static str {
+        match I {
+            0 => "coins",
+            1 => "times",
+            _ => "player",
+        }
+    }
+}
+
+type StateFields = (
+    Required<StateNames<0>, u32>,
+    (
+        Required<StateNames<1>, HashMap<String, u64>>,
+        Optional<StateNames<2>, String>,
+    ),
+);
+
+impl StructSchema for State {
+    type Values = (u32, (HashMap<String, u64>, Option<String>));
+
+    ghost view = { λ x. (x.coins, (x.times, x.player)) };
+
+    fn make(values: Self::Values) -> Self {
+        let (coins, (times, player)) = values;
+        State {
+            coins,
+            times,
+            player,
+        }
+    }
+}
+
+impl<'a> FieldRefs<'a> for State {
+    type Refs = (&'a u32, (&'a HashMap<String, u64>, &'a Option<String>));
+
+    ghost values = { ⟦<StateFields as Borrowed<'a>>⟧.values };
+
+    fn as_refs(&'a self) -> Self::Refs {
+        (&self.coins, (&self.times, &self.player))
+    }
+}
+
+impl Value for State {
+    ghost means = { λ x. ⟦<StateFields as Shape>⟧.means (⟦<State as StructSchema>⟧.view x) };
+
+    ghost legal = { ⟦<StateFields as Shape>⟧.legal };
+
+    fn known(&self) {
+        known_record::<Self, StateFields>(self);
+    }
+}
+
+// ---- JSON
+
+impl JsonCodec for State {
+    ghost json = { json_of ⟦<State as StructSchema>⟧.view ⟦<StateFields as JsonShape>⟧.codec refl };
+
+    ghost agrees = { agreed };
+}
+
+impl SerJson for State {
+    fn ser_json(&self, alloc: Global, d: usize, s: &mut SerJsonState) -> Result<(), AllocError> {
+        write_record_json::<Self, StateFields>(self, alloc, d, s)
+    }
+}
+
+impl DeJson for State {
+    fn de_json(alloc: Global, state: &mut DeJsonState, input: &mut Chars<'_>) -> JsonResult<Self> {
+        read_record_json::<Self, StateFields>(alloc, state, input)
+    }
+}
+
+// ---- RON
+
+impl RonCodec for State {
+    ghost ron = { ron_of ⟦<State as StructSchema>⟧.view ⟦<StateFields as RonShape>⟧.codec refl };
+
+    ghost agrees = { agreed };
+}
+
+impl SerRon for State {
+    fn ser_ron(&self, alloc: Global, d: usize, s: &mut SerRonState) -> Result<(), AllocError> {
+        write_record_ron::<Self, StateFields>(self, alloc, d, s)
+    }
+}
+
+impl DeRon for State {
+    fn de_ron(alloc: Global, state: &mut DeRonState, input: &mut Chars<'_>) -> RonResult<Self> {
+        read_record_ron::<Self, StateFields>(alloc, state, input)
+    }
+}

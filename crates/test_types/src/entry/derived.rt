@@ -1,0 +1,130 @@
+//! Written by derive_files: how the types of the module above are encoded.
+
+ghost use Rattle.nano_bin_schema.specs.Structs.{bin_of};
+ghost use Rattle.nano_schema.specs.UserTypes.{agreed};
+ghost use Rattle.std.specs.Prelude.{refl};
+ghost use Rattle.nano_json_schema.specs.Structs.{codec_as as json_as};
+ghost use Rattle.nano_ron_schema.specs.Structs.{codec_as as ron_as};
+
+use super::*;
+use nano_bin_schema::{
+    BinCodec, BinShape, DeBin, DeBinErr, SerBin, read_record_bin, write_record_bin,
+};
+use nano_json_schema::{
+    DeJson, DeJsonState, JsonCodec, JsonResult, SerJson, SerJsonState, read_parts_json,
+};
+use nano_ron_schema::{
+    DeRon, DeRonState, RonCodec, RonResult, SerRon, SerRonState, read_parts_ron,
+};
+use nano_schema::{Borrowed, FieldRefs, Shape, StructSchema, Tuple, Value, known_record};
+use std::alloc::{AllocError, Global};
+use std::str::Chars;
+
+type EntryValues = (u64, Option<String>, Point, bool);
+
+type EntryFields = Tuple<EntryValues>;
+
+impl StructSchema for Entry {
+    type Values = EntryValues;
+
+    ghost view = { λ x. (x.0, x.1, x.2, x.3) };
+
+    fn make(values: Self::Values) -> Self {
+        let (first, second, third, fourth) = values;
+        Entry(first, second, third, fourth)
+    }
+}
+
+impl<'a> FieldRefs<'a> for Entry {
+    type Refs = (&'a u64, &'a Option<String>, &'a Point, &'a bool);
+
+    ghost values = { ⟦<EntryFields as Borrowed<'a>>⟧.values };
+
+    fn as_refs(&'a self) -> Self::Refs {
+        (&self.0, &self.1, &self.2, &self.3)
+    }
+}
+
+impl Value for Entry {
+    ghost means = { λ x. ⟦<EntryFields as Shape>⟧.means (⟦<Entry as StructSchema>⟧.view x) };
+
+    ghost legal = { ⟦<EntryFields as Shape>⟧.legal };
+
+    fn known(&self) {
+        known_record::<Self, EntryFields>(self);
+    }
+}
+
+// ---- bytes
+
+impl BinCodec for Entry {
+    ghost bin = { bin_of ⟦<Entry as StructSchema>⟧.view ⟦<EntryFields as BinShape>⟧.codec };
+
+    ghost agrees = { agreed };
+}
+
+impl SerBin for Entry {
+    fn ser_bin(&self, alloc: Global, output: &mut Vec<u8>) -> Result<(), AllocError> {
+        write_record_bin::<Self, EntryFields>(self, alloc, output)
+    }
+}
+
+impl DeBin for Entry {
+    ghost is_decodable = { refl };
+
+    fn de_bin(alloc: Global, offset: &mut usize, bytes: &[u8]) -> Result<Self, DeBinErr> {
+        read_record_bin::<Self, EntryFields>(alloc, offset, bytes)
+    }
+}
+
+// ---- JSON
+
+impl JsonCodec for Entry {
+    ghost json = { json_as ⟦<Entry as StructSchema>⟧.view ⟦<EntryValues as JsonCodec>⟧.json };
+
+    ghost agrees = { agreed };
+}
+
+impl SerJson for Entry {
+    fn ser_json(&self, alloc: Global, d: usize, s: &mut SerJsonState) -> Result<(), AllocError> {
+        let parts = (
+            nano_json_schema::Part { of: &self.0 },
+            nano_json_schema::Part { of: &self.1 },
+            nano_json_schema::Part { of: &self.2 },
+            nano_json_schema::Part { of: &self.3 },
+        );
+        SerJson::ser_json(&parts, alloc, d, s)
+    }
+}
+
+impl DeJson for Entry {
+    fn de_json(alloc: Global, state: &mut DeJsonState, input: &mut Chars<'_>) -> JsonResult<Self> {
+        read_parts_json::<Self, EntryValues>(alloc, state, input)
+    }
+}
+
+// ---- RON
+
+impl RonCodec for Entry {
+    ghost ron = { ron_as ⟦<Entry as StructSchema>⟧.view ⟦<EntryValues as RonCodec>⟧.ron };
+
+    ghost agrees = { agreed };
+}
+
+impl SerRon for Entry {
+    fn ser_ron(&self, alloc: Global, d: usize, s: &mut SerRonState) -> Result<(), AllocError> {
+        let parts = (
+            nano_ron_schema::Part { of: &self.0 },
+            nano_ron_schema::Part { of: &self.1 },
+            nano_ron_schema::Part { of: &self.2 },
+            nano_ron_schema::Part { of: &self.3 },
+        );
+        SerRon::ser_ron(&parts, alloc, d, s)
+    }
+}
+
+impl DeRon for Entry {
+    fn de_ron(alloc: Global, state: &mut DeRonState, input: &mut Chars<'_>) -> RonResult<Self> {
+        read_parts_ron::<Self, EntryValues>(alloc, state, input)
+    }
+}
