@@ -1,0 +1,3 @@
+pub mod LevelsLaws
+pub mod LayersLaws
+pub mod PlacesLaws
