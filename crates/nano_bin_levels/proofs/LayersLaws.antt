@@ -1,4 +1,4 @@
--- What is proved of Layers: the type itself, another type, a list, a pair and an option.
+-- What is proved of Layers: the type itself, another type, a box, a list, a pair and an option.
 use Rattle.std.specs.Prelude.{◌≡◌, ◌<◌, ◌≤◌, ℕ, suc, refl, List, [], ◌∷◌, ◌++◌, map, length}
 use Rattle.std.specs.Prelude.{true, Option, Some, None}
 use Rattle.std.specs.Option.{option_map}
@@ -8,6 +8,7 @@ use Rattle.nano_value.specs.Meaning.{AllOfList, AllOfOption, Meaning, listed, pa
 use Rattle.nano_value.specs.Meaning.{optional}
 use Rattle.nano_meaning.proofs.MeaningLaws.{all_weaker, listed_injective, both_injective}
 use Rattle.nano_bin_bytes.specs.Codec.{Codec, Encoding}
+use Rattle.nano_bin_bytes.specs.BaseCodecs.{codec_as}
 use Rattle.nano_bin_bytes.specs.Scalars.{little_endian}
 use Rattle.nano_bin_bytes.specs.Containers.{EncodesItems, EncodesOption}
 use Rattle.nano_bin_bytes.proofs.CodecLaws.{both_are_read}
@@ -16,7 +17,7 @@ use Rattle.nano_levels.specs.Layers.{greatest}
 use Rattle.nano_levels.proofs.LayersLaws.{maps_same}
 use Rattle.nano_bin_levels.specs.Layers.{IsWithin, Layer}
 
--- ---- the type itself, and another one
+-- ---- the type itself, another one, and one that is seen as another
 
 abbrev pub itself_layer : {A : Type 0} → Layer A A
 itself_layer = record {
@@ -49,6 +50,23 @@ other_layer k read = record {
   legal_same = λ f h m x w s. s;
   rises = λ f h w bytes m e. e;
   is_read = λ f e. read;
+}
+
+-- values that are seen as others: what is in a box, or the fields of a struct
+abbrev pub seen_layer : {A B C : Type 0} (view : C → B) → Layer A B → Layer A C
+seen_layer view p = record {
+  codec = λ f. codec_as view (p.codec f);
+  All = λ P x. p.All P (view x);
+  means = λ m x. p.means m (view x);
+  deep = λ d x. p.deep d (view x);
+  weaker = λ P Q w x h. p.weaker P Q w (view x) h;
+  less = λ d x. p.less d (view x);
+  means_is = λ f x. p.means_is f (view x);
+  means_same = λ m n x e. p.means_same m n (view x) e;
+  written_same = λ f h x e. p.written_same f h (view x) e;
+  legal_same = λ f h m x w s. p.legal_same f h m (view x) w s;
+  rises = p.rises;
+  is_read = p.is_read;
 }
 
 -- ---- lists

@@ -11,3 +11,7 @@ pub mod Comparing
 pub mod Pointing
 pub mod Sameness
 pub mod Indenting
+pub mod BinScalarsLaws
+pub mod Agreeing
+pub mod BinDocuments
+pub mod BinReading

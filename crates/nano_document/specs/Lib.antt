@@ -9,3 +9,5 @@ pub mod Equality
 pub mod Indented
 pub mod EqualityImpls
 pub mod IndentedCodecs
+pub mod BinScalars
+pub mod BinCodecs
