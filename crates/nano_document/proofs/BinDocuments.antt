@@ -1,9 +1,9 @@
 -- A document by its alternative: how it is written as bytes.
-use Rattle.std.proofs.Common.{◌≡◌, ℕ, ℤ, Bool, true, false, cond, List, ◌++◌, Result, Ok, Err, OnOk, String, Vec, Global, string_bytes, ◌∙◌, ap}
+use Rattle.std.proofs.Common.{◌≡◌, ℕ, ℤ, Bool, true, false, cond, List, [], ◌++◌, Result, Ok, Err, OnOk, String, Vec, Global, string_bytes, ◌∙◌, ap}
 use Rattle.std.specs.Result.{is_err}
 use Rattle.nano_bin_bytes.specs.Scalars.{little_endian}
 use Rattle.nano_bin_bytes.specs.Containers.{written_list, written_pair}
-use Rattle.nano_bin.specs.ScalarCodecs.{unit_codec, boolean_codec, string_codec}
+use Rattle.nano_bin.specs.ScalarCodecs.{boolean_codec, string_codec}
 use Rattle.nano_levels.specs.Kinds.{Tagged}
 use Rattle.nano_bin_levels.proofs.LevelsLaws.{written_around}
 use Rattle.nano_document.specs.Decimals.{is_decimal}
@@ -23,7 +23,7 @@ around = (bin_layer.codec bin_codec).canonical.written
 seen_written : (x : Json) (v : Tagged (Fields Json)) → view x ≡ v → written x ≡ around v
 seen_written x v e = written_around bin_nested x ∙ ap around e
 
-pub written-Null : written J.Null ≡ little_endian 2 0 ++ unit_codec.canonical.written tt
+pub written-Null : written J.Null ≡ little_endian 2 0 ++ []
 written-Null = seen_written J.Null _ (ap opened out-Null)
 
 pub written-Bool : (b : Bool) → written (J.Bool b) ≡ little_endian 2 1 ++ boolean_codec.canonical.written b

@@ -5,9 +5,12 @@ use Rattle.nano_value.specs.Sums.{tagged}
 use Rattle.nano_bin_bytes.specs.Codec.{Codec, Encoding}
 use Rattle.nano_bin_bytes.specs.Scalars.{EncodesNumber, EncodesUnsigned}
 use Rattle.nano_bin_bytes.specs.Reading.{Decodes, DecodesTo, DecodesToNothing}
-use Rattle.nano_bin_bytes.specs.Containers.{EncodesCount, EncodesList, EncodesText}
+use Rattle.nano_bin_bytes.specs.Containers.{EncodesCount, EncodesList, EncodesString}
 use Rattle.nano_bin_bytes.specs.Variants.{Variant, EncodesVariant, EncodesEnum, encoding_at, variant_means}
+use Rattle.nano_bin_bytes.proofs.CodecLaws.{same_prefixes}
+use Rattle.nano_meaning.proofs.MeaningLaws.{text_injective}
 use Rattle.nano_bin.specs.ContainerCodecs.{list_of}
+use Rattle.nano_bin.specs.ScalarCodecs.{texts}
 use Rattle.nano_bin.proofs.Readers.{then_reads, as_reads, unsigned_reads, unsigned_rejected, list_reads, list_rejected, list_items_rejected, image_reads, image_rejected, count_rejected}
 use Rattle.nano_bin.proofs.Variants.{content_rejected, tag_rejected}
 use Rattle.nano_bin_levels.specs.Layers.{IsWithin}
@@ -16,6 +19,11 @@ use Rattle.nano_bin_levels.proofs.LayersLaws.{items_within}
 use Rattle.nano_bin_levels.proofs.LevelsLaws.{level_holds, level_within, unrolled}
 use Rattle.nano_document.specs.BinCodecs.{variants, place_of, layers, bin_nested, bin_level, bin_codec, bin_entry, EncodesDocument}
 use Rattle.nano_document.specs.Documents.{json_means}
+use Rattle.nano_document.specs.Decimals.{IsDecimal}
+use Rattle.nano_document.specs.BinScalars.{EncodesDecimal}
+use Rattle.nano_document.specs.declared.json.Json as J
+use Rattle.nano_document.proofs.Deciding.{decimal_tests}
+use Rattle.nano_document.proofs.Documents.{means_decimal}
 use Rattle.nano_document.specs.declared.json.Json.{Json}
 
 -- ---- a variant and the content at its place
@@ -148,3 +156,42 @@ entry_within n bytes m e = record {
   };
   is = e.is;
 }
+
+-- ---- decimals
+
+-- a text with a decimal is encoded as the text is
+as_string : (bytes : List ℕ) (m : Meaning) → EncodesDecimal bytes m → EncodesString bytes m
+as_string bytes m h = record { part = h.part; has = h.has.encodes; is = h.is }
+
+-- where no text stands, no decimal does
+pub no_text : (bytes : List ℕ) → DecodesToNothing EncodesString bytes → DecodesToNothing EncodesDecimal bytes
+no_text bytes none m f =
+    none m (record { prefix = f.prefix; rest = f.rest; whole = f.whole; is_encoded = as_string f.prefix m f.is_encoded })
+
+-- where another text stands, no decimal does
+pub no_decimal : (bytes : List ℕ) (start end : ℕ) (utf8 : List ℕ) → Decodes EncodesString bytes start (text utf8) end
+    → (IsDecimal utf8 → ⊥) → DecodesToNothing EncodesDecimal (drop start bytes)
+no_decimal bytes start end utf8 r other m f =
+    let string = as_string f.prefix m f.is_encoded in
+    let e = same_prefixes texts.laws f.prefix r.prefix f.rest (drop end bytes) m (text utf8) string r.is_encoded (sym f.whole ∙ r.whole) in
+    let there = subst (λ l. EncodesString l m) e.0 string in
+    let same = texts.laws.one_value r.prefix m (text utf8) there r.is_encoded in
+    let part = text_injective f.is_encoded.part utf8 (sym f.is_encoded.is ∙ same) in
+    other (subst IsDecimal part f.is_encoded.has.is_decimal)
+
+-- where one stands, it is one
+pub decimal_reads : (bytes : List ℕ) (start end : ℕ) (utf8 : List ℕ) → Decodes EncodesString bytes start (text utf8) end
+    → IsDecimal utf8 → Decodes EncodesDecimal bytes start (text utf8) end
+decimal_reads bytes start end utf8 r is =
+    as_reads EncodesDecimal bytes start end (text utf8) (text utf8) r (λ a h. record {
+      part = h.part;
+      has = record { encodes = h.has; is_decimal = subst IsDecimal (text_injective utf8 h.part h.is) is };
+      is = h.is;
+    })
+
+pub decimal_means : (bytes : List ℕ) (start end : ℕ) (s : String Global) → Decodes EncodesDecimal bytes start (text (string_bytes s)) end
+    → json_means (J.Decimal s) ≡ tagged 6 (text (string_bytes s))
+decimal_means bytes start end s r =
+    let of = r.is_encoded in
+    let is = subst IsDecimal (sym (text_injective (string_bytes s) of.part of.is)) of.has.is_decimal in
+    means_decimal s (decimal_tests (string_bytes s) is)

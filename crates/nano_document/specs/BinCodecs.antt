@@ -1,9 +1,9 @@
 -- The codec of documents as bytes: a tag, which is the place of the variant in `Json`, and what the
 -- variant holds; one level of it around the levels below.
 use Rattle.std.specs.Prelude.{◌≡◌, ℕ, zero, suc, ℤ, true, refl, List, String}
-use Rattle.std.specs.Prelude.{string_bytes, inl, inr}
+use Rattle.std.specs.Prelude.{string_bytes}
 use Rattle.std.specs.Global.{Global}
-use Rattle.std.proofs.Common.{◌∙◌, ap, lit<}
+use Rattle.std.proofs.Common.{◌∙◌, ap, inl, inr, lit<}
 use Rattle.nano_value.specs.Meaning.{Meaning, number, text, IsImage}
 use Rattle.nano_value.specs.Sums.{tagged}
 use Rattle.nano_bin_bytes.specs.Codec.{Codec, Encoding}
@@ -22,8 +22,8 @@ use Rattle.nano_bin_levels.proofs.PlacesLaws.{after_layer, no_content, places_la
 use Rattle.nano_document.specs.Decimals.{IsHeldDecimal}
 use Rattle.nano_document.specs.IntegerCodecs.{IsInteger}
 use Rattle.nano_document.specs.BinScalars.{EncodesInteger, written_integer, EncodesDecimal}
-use Rattle.nano_document.proofs.BinScalarsLaws.{integer_laws, integer_same, integer_reads_back}
-use Rattle.nano_document.proofs.BinScalarsLaws.{decimal_laws, decimal_reads_back}
+use Rattle.nano_document.specs.BinScalarImpls.{integer_laws, integer_same, integer_reads_back}
+use Rattle.nano_document.specs.BinScalarImpls.{decimal_laws, decimal_reads_back}
 use Rattle.nano_document.specs.Documents.{Fields, view, json_means, depth}
 use Rattle.nano_document.specs.DocumentCodecs.{layers as text_layers, json_nested}
 use Rattle.nano_document.specs.declared.json.Json.{Json}

@@ -10,4 +10,6 @@ pub mod Indented
 pub mod EqualityImpls
 pub mod IndentedCodecs
 pub mod BinScalars
+pub mod BinScalarImpls
 pub mod BinCodecs
+pub mod BinImpls

@@ -4,7 +4,7 @@ ghost use Rattle.nano_meaning.proofs.AgreesLaws.{agreed};
 ghost use Rattle.nano_document.specs.Documents.{json_means};
 ghost use Rattle.nano_document.specs.DocumentCodecs.{json_codec};
 ghost use Rattle.nano_document.specs.BinCodecs.{bin_codec};
-ghost use Rattle.nano_document.proofs.Agreeing.{bin_agrees};
+ghost use Rattle.nano_document.specs.BinImpls.{bin_agrees};
 
 use crate::known::known_json;
 use crate::same::same_json;

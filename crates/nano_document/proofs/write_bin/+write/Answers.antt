@@ -1,7 +1,9 @@
-use Rattle.std.proofs.Common.{◌≡◌, ◌++◌, ◌∙◌, OnOk, take, refl, sym, ap, subst, arith, append_assoc}
+use Rattle.std.proofs.Common.{◌≡◌, ◌++◌, ◌∙◌, OnOk, take, refl, sym, ap, subst, arith, append_assoc, rules}
 use Rattle.std.proofs.lemmas.Grind.{common_steps}
 use Rattle.std.proofs.lemmas.Result.{on_err_weaker}
 use Rattle.std.specs.List.{flat_map}
+use Rattle.std.specs.Int.{w64}
+use Rattle.std.proofs.lemmas.Int.{to_z-of_z}
 use Rattle.nano_value.proofs.ByRank.{was_ok}
 use Rattle.nano_bin_bytes.proofs.CodecLaws.{write_start, write_place, write_places, cut_back}
 use Rattle.nano_bin_bytes.specs.Containers.{written_pair}
@@ -22,7 +24,9 @@ pub append_json-returns-in-U64-clause-ok : goal.append_json-returns-in-U64-claus
 append_json-returns-in-U64-clause-ok t c = rw (c.in-U64.is, written-U64 c.in-U64.number) c.append_variant-in-U64.ensures.ok
 
 pub append_json-returns-in-I64-clause-ok : goal.append_json-returns-in-I64-clause-ok
-append_json-returns-in-I64-clause-ok t c = rw (c.in-I64.is, written-I64 c.in-I64.number) c.append_signed.ensures.ok
+append_json-returns-in-I64-clause-ok t c =
+    let written = rw (to_z-of_z w64 c.in-I64.number (search rules)) at c.append_signed.ensures.ok in
+    rw (c.in-I64.is, written-I64 c.in-I64.number) written
 
 pub append_json-returns-in-Decimal-clause-ok : goal.append_json-returns-in-Decimal-clause-ok
 append_json-returns-in-Decimal-clause-ok t c = rw c.in-Decimal.is c.append_decimal.ensures.ok

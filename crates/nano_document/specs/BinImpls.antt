@@ -1,5 +1,5 @@
 -- What is legal as bytes is what is legal as text.
-use Rattle.std.proofs.Common.{ℕ, zero, suc, refl}
+use Rattle.std.specs.Prelude.{ℕ, zero, suc, refl}
 use Rattle.nano_value.specs.Meaning.{Meaning, LegalPair, LegalText, Agrees}
 use Rattle.nano_meaning.proofs.MeaningLaws.{list_weaker, pair_weaker}
 use Rattle.nano_bin_bytes.specs.Codec as bytes
