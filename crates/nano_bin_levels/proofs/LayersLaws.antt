@@ -122,7 +122,8 @@ module _ {A B : Type 0} (p : Layer A B) where
     less = λ d xs. items_less d (each_deep d xs) xs (omega arith);
     means_is = λ f xs. ap listed (items_mean f xs);
     means_same = λ m n xs e.
-        ap listed (maps_same (p.means m) (p.means n) (p.All (λ y. m y ≡ n y)) (p.means_same m n) xs e);
+        ap listed
+        (maps_same (p.means m) (p.means n) (p.All (λ y. m y ≡ n y)) (p.means_same m n) xs e);
     written_same = λ f h xs e.
         ap (λ l. little_endian 8 (length xs) ++ l)
         (joined_same (p.codec f).canonical.written (p.codec h).canonical.written

@@ -10,8 +10,8 @@ use Rattle.nano_bin_bytes.specs.Scalars.{EncodesNumber, little_endian}
 use Rattle.nano_bin_bytes.proofs.CodecLaws.{same_prefixes, same_heads}
 use Rattle.nano_bin_bytes.proofs.ScalarsLaws.{number_encoding}
 use Rattle.nano_bin_levels.specs.Layers.{Layer}
-use Rattle.nano_bin_levels.specs.Places.{EncodesAfter, LegalPlace, EncodesPlace, BeginsAt, AreTagged}
-use Rattle.nano_bin_levels.specs.Places.{codecs_at}
+use Rattle.nano_bin_levels.specs.Places.{EncodesAfter, LegalPlace, EncodesPlace, BeginsAt}
+use Rattle.nano_bin_levels.specs.Places.{AreTagged, codecs_at}
 
 -- ---- content after a tag
 
@@ -187,7 +187,8 @@ module _ {V : Type 0} {Fields : ℕ → Type 0} (place : V → ℕ) (fields : (v
           (fields y) parts.1
 
       pub place_reads_back : ((place : ℕ) → (codecs place).is_decodable ≡ true) → (v : V)
-          → LegalPlace codecs (place_means v) → EncodesPlace codecs (place_written v) (place_means v)
+          → LegalPlace codecs (place_means v)
+          → EncodesPlace codecs (place_written v) (place_means v)
       place_reads_back read v h =
           let content = (codecs (place v)).canonical.means (fields v) in
           let legal = legal_content codecs (place v) content h in

@@ -1,10 +1,10 @@
 -- What the readers of documents from bytes come to, by the tag that was read.
-use Rattle.std.proofs.Common.{◌≡◌, ◌≢◌, ◌<◌, ℕ, zero, suc, ◌-◌, List, ◌++◌, refl, sym, ◌∙◌, ap, subst, drop, map, Vec, Global, String, string_bytes, inl, inr, arith}
+use Rattle.std.proofs.Common.{◌≡◌, ◌≢◌, ◌<◌, ℕ, zero, suc, ◌-◌, List, ◌++◌, refl, sym, ◌∙◌, subst, drop, Global, String, string_bytes, inl, inr, arith}
 use Rattle.nano_value.specs.Meaning.{Meaning, whole, listed, text}
 use Rattle.nano_value.specs.Sums.{tagged}
 use Rattle.nano_bin_bytes.specs.Codec.{Codec, Encoding}
 use Rattle.nano_bin_bytes.specs.Scalars.{EncodesNumber, EncodesUnsigned}
-use Rattle.nano_bin_bytes.specs.Reading.{Decodes, DecodesTo, DecodesToNothing}
+use Rattle.nano_bin_bytes.specs.Reading.{Decodes, DecodesToNothing}
 use Rattle.nano_bin_bytes.specs.Containers.{EncodesCount, EncodesList, EncodesString}
 use Rattle.nano_bin_bytes.specs.Variants.{Variant, EncodesVariant, EncodesEnum, encoding_at, variant_means}
 use Rattle.nano_bin_bytes.proofs.CodecLaws.{same_prefixes}

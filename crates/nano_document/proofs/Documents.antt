@@ -1,6 +1,5 @@
 -- A document by its alternative: what it means, and how it is written.
-use Rattle.std.proofs.Common.{◌≡◌, ℕ, ℤ, pos, negsuc, FitsSigned, Bool, true, false, cond, List, map, String, Vec, Global, string_bytes, codes, refl, sym, ◌∙◌, ap, subst, arith, rules}
-use Rattle.std.specs.Int.{w64}
+use Rattle.std.proofs.Common.{◌≡◌, ℕ, ℤ, pos, Bool, true, false, cond, List, map, String, Vec, Global, string_bytes, codes, refl, sym, ◌∙◌, ap, subst, rules}
 use Rattle.std.specs.Fmt.{signed_decimal}
 use Rattle.nano_text.specs.Place.{saturating_next}
 use Rattle.nano_value.specs.Meaning.{Meaning, IsText, LegalText, number, whole, truth, text, nothing, listed}

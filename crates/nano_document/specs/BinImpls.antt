@@ -19,26 +19,30 @@ module _ (P Q : Meaning → Type 0) (weaker : (m : Meaning) → P m → Q m) whe
 
 module _ (f : bytes.Codec Json) (g : text.Codec Json) where
   as_text : ((m : Meaning) → f.encoding.legal m → g.encoding.legal m) → (place : ℕ) (m : Meaning)
-      → (bin_codecs bin_layers f place).encoding.legal m → (text_codecs text_layers g place).encoding.legal m
+      → (bin_codecs bin_layers f place).encoding.legal m
+      → (text_codecs text_layers g place).encoding.legal m
   as_text w zero m h = h
   as_text w (suc zero) m h = h
   as_text w (suc (suc zero)) m h = h
   as_text w (suc (suc (suc zero))) m h = h
   as_text w (suc (suc (suc (suc zero)))) m h = list_weaker f.encoding.legal g.encoding.legal w m h
   as_text w (suc (suc (suc (suc (suc zero))))) m h =
-      list_weaker (LegalPair LegalText f.encoding.legal) (LegalPair LegalText g.encoding.legal) (entry_weaker f.encoding.legal g.encoding.legal w) m h
+      list_weaker (LegalPair LegalText f.encoding.legal) (LegalPair LegalText g.encoding.legal)
+      (entry_weaker f.encoding.legal g.encoding.legal w) m h
   as_text w (suc (suc (suc (suc (suc (suc zero)))))) m h = h
   as_text w (suc (suc (suc (suc (suc (suc (suc place))))))) m h = absurd h
 
   as_bytes : ((m : Meaning) → g.encoding.legal m → f.encoding.legal m) → (place : ℕ) (m : Meaning)
-      → (text_codecs text_layers g place).encoding.legal m → (bin_codecs bin_layers f place).encoding.legal m
+      → (text_codecs text_layers g place).encoding.legal m
+      → (bin_codecs bin_layers f place).encoding.legal m
   as_bytes w zero m h = h
   as_bytes w (suc zero) m h = h
   as_bytes w (suc (suc zero)) m h = h
   as_bytes w (suc (suc (suc zero))) m h = h
   as_bytes w (suc (suc (suc (suc zero)))) m h = list_weaker g.encoding.legal f.encoding.legal w m h
   as_bytes w (suc (suc (suc (suc (suc zero))))) m h =
-      list_weaker (LegalPair LegalText g.encoding.legal) (LegalPair LegalText f.encoding.legal) (entry_weaker g.encoding.legal f.encoding.legal w) m h
+      list_weaker (LegalPair LegalText g.encoding.legal) (LegalPair LegalText f.encoding.legal)
+      (entry_weaker g.encoding.legal f.encoding.legal w) m h
   as_bytes w (suc (suc (suc (suc (suc (suc zero)))))) m h = h
   as_bytes w (suc (suc (suc (suc (suc (suc (suc place))))))) m h = absurd h
 
@@ -62,7 +66,8 @@ to_bytes (suc n) m h = record {
   is = h.is;
 }
 
-pub bin_agrees : Agrees json_means json_codec.encoding.legal bin_codec.canonical.means bin_codec.encoding.legal
+pub bin_agrees : Agrees json_means json_codec.encoding.legal bin_codec.canonical.means
+    bin_codec.encoding.legal
 bin_agrees = record {
   means_is = refl;
   allows = λ m h. (h.0, to_bytes h.0 m h.1);

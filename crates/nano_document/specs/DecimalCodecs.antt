@@ -145,4 +145,5 @@ abbrev pub decimals : Encoding
 decimals = one_of decimal_tokens text IsHeldDecimal
 
 abbrev pub decimal_codec : Codec (String Global)
-decimal_codec = codec_as (λ x. string_bytes x) (one_codec decimal_tokens text IsHeldDecimal decimal_one)
+decimal_codec =
+    codec_as (λ x. string_bytes x) (one_codec decimal_tokens text IsHeldDecimal decimal_one)

@@ -59,8 +59,8 @@ pub fn bytes_are_a_tag_and_its_content()
         → EncodesDocument bytes m }
 {}
 
-/// In bytes a number is written as a `U64` unless it is below 0, and a `Decimal` as one exactly if it
-/// is one, else as a `Text`.
+/// In bytes a number is written as a `U64` unless it is below 0, and a `Decimal` as such only if its
+/// text is one, else as a `Text`.
 pub fn equal_documents_have_one_tag()
     ensures number { (z : ℤ) → bin_codec.canonical.written (Json.I64 z) ≡ written_integer z }
     ensures decimal { (s : String Global) → IsDecimal (string_bytes s)

@@ -76,11 +76,7 @@ fn append_json(alloc: Global, json: &Json, output: &mut Vec<u8>) -> Result<(), A
 /// Appends the tag of a list, the count of its documents, and each. On an error, `output` is
 /// unchanged.
 #[cycle(write)]
-fn append_list(
-    alloc: Global,
-    items: &Vec<Json>,
-    output: &mut Vec<u8>,
-) -> Result<(), AllocError>
+fn append_list(alloc: Global, items: &Vec<Json>, output: &mut Vec<u8>) -> Result<(), AllocError>
     ensures ok { OnOk result (output.new.items ≡ output.old.items
         ++ (little_endian 2 6 ++ written_list bin_codec.canonical.written items.now.items)) }
     ensures err { OnErr result (output.new.items ≡ output.old.items) }

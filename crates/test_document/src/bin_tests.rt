@@ -31,10 +31,7 @@ const BYTES: &[(&str, &[u8])] = &[
 ];
 
 /// Bytes of documents that are written otherwise, and their texts.
-const READ_TOO: &[(&[u8], &str)] = &[
-    (&[1, 0, 7], "true"),
-    (&[3, 0, 5, 0, 0, 0, 0, 0, 0, 0], "5"),
-];
+const READ_TOO: &[(&[u8], &str)] = &[(&[1, 0, 7], "true"), (&[3, 0, 5, 0, 0, 0, 0, 0, 0, 0], "5")];
 
 /// Bytes that are no document, and where that is found.
 const NOT_READ: &[(&[u8], usize)] = &[
@@ -47,7 +44,10 @@ const NOT_READ: &[(&[u8], usize)] = &[
     (&[5, 0, 1, 0, 0, 0, 0, 0, 0, 0, 255], 10),
     (&[6, 0, 1, 0, 0, 0, 0, 0, 0, 0], 10),
     (&[6, 0, 1, 0, 0, 0, 0, 0, 0, 0, 9, 0], 10),
-    (&[7, 0, 1, 0, 0, 0, 0, 0, 0, 0, 0, 0, 0, 0, 0, 0, 0, 0, 9, 0], 18),
+    (
+        &[7, 0, 1, 0, 0, 0, 0, 0, 0, 0, 0, 0, 0, 0, 0, 0, 0, 0, 9, 0],
+        18,
+    ),
 ];
 
 fn is_written(alloc: Global, json: &Json, bytes: &[u8]) -> bool {

@@ -1,7 +1,7 @@
 use Rattle.std.proofs.Common.{◌∙◌, drop, sym, subst, string_bytes, true≢false}
 use Rattle.std.proofs.lemmas.Result.{err_from_is_err_and}
 use Rattle.nano_document.specs.Decimals.{IsDecimal}
-use Rattle.nano_document.proofs.BinReading.{no_text, no_decimal, decimal_reads}
+use Rattle.nano_document.proofs.BinReading.{no_text, no_decimal}
 use Rattle.nano_document.proofs.read_bin.read_decimal.Goals as goal
 
 pub returns-in_err-text-clause-err : goal.returns-in_err-text-clause-err
