@@ -6,6 +6,7 @@ use Rattle.nano_value.specs.Meaning.{Meaning, nothing}
 use Rattle.nano_bin_bytes.specs.Codec.{Codec, IsEncoding}
 use Rattle.nano_bin_bytes.specs.BaseCodecs.{codec_as, no_encoding}
 use Rattle.nano_bin_levels.specs.Layers.{IsWithin, Nested}
+use Rattle.nano_bin_levels.proofs.ChainsLaws.{climbs, reaches}
 
 -- the codec that encodes no value
 abbrev pub no_codec : {A : Type 0} → Codec A
@@ -83,16 +84,6 @@ module _ {A : Type 0} (l : Nested A) where
   level_rises zero bytes m h = absurd h
   level_rises (suc n) bytes m h = l.layer.rises (level n) (level (suc n)) (level_rises n) bytes m h
 
-  level_climbs : (k n : ℕ) → IsWithin (level n).encoding (level (k + n)).encoding
-  level_climbs zero n bytes m h = subst (λ j. (level j).encoding.encodes bytes m) (omega arith) h
-  level_climbs (suc k) n bytes m h =
-      subst (λ j. (level j).encoding.encodes bytes m) (omega arith)
-      (level_rises (k + n) bytes m (level_climbs k n bytes m h))
-
-  level_reaches : (n k : ℕ) → IsWithin (level n).encoding (level (n + k)).encoding
-  level_reaches n k bytes m h =
-      subst (λ j. (level j).encoding.encodes bytes m) (omega arith) (level_climbs k n bytes m h)
-
   -- a level encodes what one around the level below it does
   pub level_holds : (n : ℕ) → IsWithin (l.layer.codec (level n)).encoding (level (suc n)).encoding
   unfolding level
@@ -129,11 +120,11 @@ module _ {A : Type 0} (l : Nested A) where
   nested_laws = record {
     is_legal = λ bytes m h. (h.0, (level h.0).encoding.laws.is_legal bytes m h.1);
     one_value = λ bytes x y h j.
-        (level (h.0 + j.0)).encoding.laws.one_value bytes x y (level_reaches h.0 j.0 bytes x h.1)
-        (level_climbs h.0 j.0 bytes y j.1);
+        (level (h.0 + j.0)).encoding.laws.one_value bytes x y (reaches level level_rises h.0 j.0 bytes x h.1)
+        (climbs level level_rises h.0 j.0 bytes y j.1);
     one_prefix = λ a b m n x y h j e.
-        (level (h.0 + j.0)).encoding.laws.one_prefix a b m n x y (level_reaches h.0 j.0 a x h.1)
-        (level_climbs h.0 j.0 b y j.1) e;
+        (level (h.0 + j.0)).encoding.laws.one_prefix a b m n x y (reaches level level_rises h.0 j.0 a x h.1)
+        (climbs level level_rises h.0 j.0 b y j.1) e;
   }
 
   pub reads_back : (x : A) → Legal (l.means x) → Encodes (written x) (l.means x)
@@ -178,3 +169,9 @@ module _ {A : Type 0} (l : Nested A) where
 
   pub unrolled : IsWithin nested_codec.encoding (l.layer.codec nested_codec).encoding
   unrolled bytes m h = level_inside h.0 bytes m h.1
+
+  -- and nothing else does one around it encode
+  pub rolled : IsWithin (l.layer.codec nested_codec).encoding nested_codec.encoding
+  rolled bytes m h =
+      let found = l.layer.gathers level level_rises nested_codec (λ a x e. e) bytes m h in
+      (suc found.0, level_holds found.0 bytes m found.1)

@@ -90,6 +90,17 @@ module _ (tag : ℕ) (small : tag < 65536) where
       tagged = e.tagged;
       content = p.rises f h w e.tail m e.content;
     };
+    gathers = λ c rises h reached bytes m e.
+        let found = p.gathers c rises h reached e.tail m e.content in (
+          found.0,
+          record {
+            head = e.head;
+            tail = e.tail;
+            whole = e.whole;
+            tagged = e.tagged;
+            content = found.1;
+          },
+        );
     is_read = p.is_read;
   }
 
@@ -245,5 +256,10 @@ module _ {V : Type 0} {Fields : ℕ → Type 0} (place : V → ℕ) (fields : (v
           encodes = (layers e.place).rises f h w bytes e.content e.encodes;
           is = e.is;
         };
+        gathers = λ c rises h reached bytes m e.
+            let found = (layers e.place).gathers c rises h reached bytes e.content e.encodes in (
+              found.0,
+              record { place = e.place; content = e.content; encodes = found.1; is = e.is },
+            );
         is_read = λ f e. e;
       }

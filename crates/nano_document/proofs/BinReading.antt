@@ -15,8 +15,8 @@ use Rattle.nano_bin.proofs.Readers.{then_reads, as_reads, unsigned_reads, unsign
 use Rattle.nano_bin.proofs.Variants.{content_rejected, tag_rejected}
 use Rattle.nano_bin_levels.specs.Layers.{IsWithin}
 use Rattle.nano_bin_levels.specs.Places.{EncodesPlace, codecs_at}
-use Rattle.nano_bin_levels.proofs.LayersLaws.{items_within}
-use Rattle.nano_bin_levels.proofs.LevelsLaws.{level_holds, level_within, unrolled}
+use Rattle.nano_bin_levels.proofs.ListsLaws.{items_within}
+use Rattle.nano_bin_levels.proofs.LevelsLaws.{level_holds, level_within, rolled, unrolled}
 use Rattle.nano_document.specs.BinCodecs.{variants, place_of, layers, bin_nested, bin_level, bin_codec, bin_entry, EncodesDocument}
 use Rattle.nano_document.specs.Documents.{json_means}
 use Rattle.nano_document.specs.Decimals.{IsDecimal}
@@ -62,6 +62,16 @@ encodes_document bytes m h =
     let u = unrolled bin_nested bytes m h in
     let found = to_variant bin_codec u.place bytes u.content u.encodes in
     record { variant = found.0; encodes = found.1; is = u.is ∙ found.2 }
+
+-- and encodes a document
+pub document_encodes : (bytes : List ℕ) (m : Meaning) → EncodesDocument bytes m → bin_codec.encoding.encodes bytes m
+document_encodes bytes m d =
+    let v = d.variant in
+    let e = d.encodes in
+    let means = tagged (place_of v.tag) v.content in
+    let of = of_variant bin_codec v.tag e.head e.tail v.content e.tagged e.content in
+    let there = rolled bin_nested (e.head ++ e.tail) means of in
+    subst (bin_codec.encoding.encodes bytes) (sym d.is) (subst (λ l. bin_codec.encoding.encodes l means) (sym e.whole) there)
 
 -- ---- what was read
 

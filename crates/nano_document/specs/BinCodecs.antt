@@ -16,7 +16,8 @@ use Rattle.nano_bin.specs.ContainerCodecs.{list_codec, pair_codec, pair_of}
 use Rattle.nano_levels.specs.Kinds.{Tagged}
 use Rattle.nano_bin_levels.specs.Layers.{Layer, Nested}
 use Rattle.nano_bin_levels.specs.Places.{AreTagged, codecs_at}
-use Rattle.nano_bin_levels.proofs.LayersLaws.{itself_layer, other_layer, list_layer, next_layer}
+use Rattle.nano_bin_levels.proofs.LayersLaws.{itself_layer, other_layer, next_layer}
+use Rattle.nano_bin_levels.proofs.ListsLaws.{list_layer}
 use Rattle.nano_bin_levels.proofs.LevelsLaws.{level, nested_codec}
 use Rattle.nano_bin_levels.proofs.PlacesLaws.{after_layer, no_content, places_layer}
 use Rattle.nano_document.specs.Decimals.{IsHeldDecimal}

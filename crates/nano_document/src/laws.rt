@@ -1,6 +1,6 @@
 //! Laws of documents: functions that do nothing, and whose contract is the law.
 
-ghost use Rattle.std.specs.Prelude.{◌≡◌, ◌<◌, ◌++◌, ℕ, ℤ, List, String, string_bytes};
+ghost use Rattle.std.specs.Prelude.{◌≡◌, ◌↔◌, ◌<◌, ◌++◌, ℕ, ℤ, List, String, string_bytes};
 ghost use Rattle.std.specs.Global.{Global};
 ghost use Rattle.nano_value.specs.Meaning.{Meaning, text};
 ghost use Rattle.nano_meaning.specs.Sums.{tagged};
@@ -52,11 +52,11 @@ pub fn indented_text_decodes_to_the_document(value: &Json)
     value.known();
 }
 
-/// The bytes that encode a document are the tag of a variant and what that holds. A number is the
+/// Bytes encode a document exactly if they are the tag of a variant and what that holds. A number is the
 /// same as a `U64` and as an `I64`.
 pub fn bytes_are_a_tag_and_its_content()
     ensures { (bytes : List ℕ) (m : Meaning) → bin_codec.encoding.encodes bytes m
-        → EncodesDocument bytes m }
+        ↔ EncodesDocument bytes m }
 {}
 
 /// In bytes a number is written as a `U64` unless it is below 0, and a `Decimal` as such only if its
