@@ -1,10 +1,10 @@
 -- A document by its alternative: what it means, and how it is written.
-use Rattle.std.proofs.Common.{◌≡◌, ℕ, ℤ, pos, negsuc, FitsSigned, Bool, true, false, cond, map, String, Vec, Global, string_bytes, codes, refl, sym, ◌∙◌, ap, subst, arith, rules}
-use Rattle.std.specs.Int.{w64}
+use Rattle.std.proofs.Common.{◌≡◌, ℕ, ℤ, pos, Bool, true, false, cond, List, map, String, Vec, Global, string_bytes, codes, refl, sym, ◌∙◌, ap, subst, rules}
 use Rattle.std.specs.Fmt.{signed_decimal}
 use Rattle.nano_text.specs.Place.{saturating_next}
-use Rattle.nano_value.specs.Meaning.{Meaning, LegalText, number, whole, truth, text, nothing, listed}
+use Rattle.nano_value.specs.Meaning.{Meaning, IsText, LegalText, number, whole, truth, text, nothing, listed}
 use Rattle.nano_meaning.specs.Sums.{tagged}
+use Rattle.nano_meaning.proofs.MeaningLaws.{text_injective}
 use Rattle.nano_json.specs.ScalarCodecs.{boolean_codec}
 use Rattle.nano_json.specs.Lists.{written_list}
 use Rattle.nano_json.specs.Lists.{written_entries}
@@ -15,18 +15,10 @@ use Rattle.nano_document.specs.Decimals.{is_decimal, decimal_text}
 use Rattle.nano_document.specs.Documents.{Fields, opened, view, text_tag, json_means, entry_means, most_levels}
 use Rattle.nano_document.specs.DocumentCodecs.{layers, json_layer, json_nested, json_codec, string_codec, decimal_seen}
 use Rattle.nano_document.proofs.Deciding.{decimal_is}
-use Rattle.nano_document.specs.IntegerCodecs.{IsInteger}
 use Rattle.nano_document.specs.declared.json.Json as J
 use Rattle.nano_document.specs.declared.json.Json.{Json, the_lemmas}
 use Rattle.nano_document.specs.declared.json.Json.TheOpen as O
 use Rattle.nano_document.specs.declared.json.Json.TheViews.{out-Json}
-
--- ---- numbers
-
--- what an `i64` holds is a whole number of documents
-pub signed_fits : (z : ℤ) → FitsSigned w64 z → IsInteger z
-signed_fits (pos n) h = let small = h.sfits in omega (arith, small)
-signed_fits (negsuc n) h = h
 
 -- ---- what each alternative is seen as
 
@@ -98,10 +90,13 @@ legal_at place x m e h =
     legal_around json_nested most_levels x (subst (json_layer.codec json_codec).encoding.legal (sym e ∙ json_nested.means_is x)
     (record { place = place; content = m; legal = h; is = refl }))
 
+text_held : (bytes : List ℕ) → LegalText (text bytes) → IsText bytes
+text_held bytes h = subst IsText (sym (text_injective bytes h.part h.is)) h.has
+
 -- a text that may be a decimal
 pub legal_decimal : (s : String Global) → LegalText (text (string_bytes s)) → json_codec.encoding.legal (json_means (J.Decimal s))
 legal_decimal s h = elim (is_decimal (string_bytes s)) as (λ b. is_decimal (string_bytes s) ≡ b → json_codec.encoding.legal (json_means (J.Decimal s))) [
-  | true ↦ λ e. legal_at 6 (J.Decimal s) _ (means_decimal s e) (record { part = string_bytes s; has = decimal_is (string_bytes s) e; is = refl })
+  | true ↦ λ e. legal_at 6 (J.Decimal s) _ (means_decimal s e) (record { part = string_bytes s; has = record { is_decimal = decimal_is (string_bytes s) e; is_text = text_held (string_bytes s) h }; is = refl })
   | false ↦ λ e. legal_at 3 (J.Decimal s) _ (means_no_decimal s e) h
 ] refl
 

@@ -11,3 +11,5 @@ pub mod Comparing
 pub mod Pointing
 pub mod Sameness
 pub mod Indenting
+pub mod BinDocuments
+pub mod BinReading

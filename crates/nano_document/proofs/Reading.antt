@@ -85,7 +85,7 @@ decimal_spans : {start end : Position Token} (s : String Global) → Read Cut de
     → IsDecimal (string_bytes s)
 decimal_spans s h =
     let of = h.decodes.1 in
-    subst IsDecimal (sym (text_injective (string_bytes s) of.part of.is)) of.has.has
+    subst IsDecimal (sym (text_injective (string_bytes s) of.part of.is)) of.has.has.is_decimal
 
 -- where a decimal is read
 pub decimal_at : (levels n : ℕ) → levels ≡ suc n → (s : String Global) → {start end : Position Token}

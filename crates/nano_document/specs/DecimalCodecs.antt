@@ -26,7 +26,7 @@ use Rattle.nano_json_tokens.proofs.CutAgainLaws.{decimal_is_cut as run_is_cut}
 use Rattle.nano_json_tokens.proofs.JsonLaws.{json}
 use Rattle.nano_json.specs.Codec.{Codec, codec_as}
 use Rattle.nano_json.specs.Codec.{Encoding}
-use Rattle.nano_document.specs.Decimals.{IsDecimal}
+use Rattle.nano_document.specs.Decimals.{IsDecimal, IsHeldDecimal}
 
 -- ---- which token carries a decimal
 
@@ -128,21 +128,22 @@ run_textual (c ∷ cs) h = (one c h.0, run_textual cs h.1) where
 
 -- ---- the codec
 
-abbrev pub decimal_one : OneCanonical json decimal_tokens text IsDecimal
+abbrev pub decimal_one : OneCanonical json decimal_tokens text IsHeldDecimal
 decimal_one = record {
   token = λ run. f64 run;
   text = λ run. run;
   injective = text_injective;
   carries_it = λ run. refl;
   is_written = λ run h. record {
-    cut_again = decimal_is_cut run h;
+    cut_again = decimal_is_cut run h.is_decimal;
     has_token = tt;
-    textual = run_textual run (decimal_characters run h);
+    textual = run_textual run (decimal_characters run h.is_decimal);
   };
 }
 
 abbrev pub decimals : Encoding
-decimals = one_of decimal_tokens text IsDecimal
+decimals = one_of decimal_tokens text IsHeldDecimal
 
 abbrev pub decimal_codec : Codec (String Global)
-decimal_codec = codec_as (λ x. string_bytes x) (one_codec decimal_tokens text IsDecimal decimal_one)
+decimal_codec =
+    codec_as (λ x. string_bytes x) (one_codec decimal_tokens text IsHeldDecimal decimal_one)

@@ -7,6 +7,7 @@ use Rattle.nano_text.specs.Characters.{first_is, prefix, following}
 use Rattle.nano_text.specs.Number.{Exponent, fraction_digits, is_letter_e}
 use Rattle.nano_text.specs.Scan.{after_one, after_sign, fraction_at, after_fraction}
 use Rattle.nano_text.specs.Scan.{is_minus_char, exponent_at, after_exponent}
+use Rattle.nano_value.specs.Meaning.{IsText}
 use Rattle.nano_json_tokens.specs.Token.{f64}
 use Rattle.nano_json_tokens.specs.Cut.{IsLexeme, starts_number}
 use Rattle.nano_json_tokens.specs.Written.{written_text}
@@ -14,6 +15,11 @@ use Rattle.nano_json_tokens.specs.Written.{written_text}
 -- a decimal is a text that is all of it one lexeme, of a number with a point or an exponent
 abbrev pub IsDecimal : List ℕ → Type 0
 IsDecimal text = IsLexeme (f64 text) text []
+
+-- a decimal that a program can hold: its length is a `usize`
+pub record IsHeldDecimal (text : List ℕ) : Type 0 where
+  pub is_decimal : IsDecimal text
+  pub is_text : IsText text
 
 -- ---- whether a text is one
 

@@ -9,3 +9,7 @@ pub mod Equality
 pub mod Indented
 pub mod EqualityImpls
 pub mod IndentedCodecs
+pub mod BinScalars
+pub mod BinScalarImpls
+pub mod BinCodecs
+pub mod BinImpls

@@ -3,9 +3,12 @@
 ghost use Rattle.nano_meaning.proofs.AgreesLaws.{agreed};
 ghost use Rattle.nano_document.specs.Documents.{json_means};
 ghost use Rattle.nano_document.specs.DocumentCodecs.{json_codec};
+ghost use Rattle.nano_document.specs.BinCodecs.{bin_codec};
+ghost use Rattle.nano_document.specs.BinImpls.{bin_agrees};
 
 use crate::known::known_json;
 use crate::same::same_json;
+use nano_bin::BinCodec;
 use nano_json::JsonCodec;
 use nano_value::Value;
 
@@ -76,4 +79,10 @@ impl JsonCodec for Json {
     ghost json = { json_codec };
 
     ghost agrees = { agreed };
+}
+
+impl BinCodec for Json {
+    ghost bin = { bin_codec };
+
+    ghost agrees = { bin_agrees };
 }

@@ -1,13 +1,17 @@
 //! Laws of documents: functions that do nothing, and whose contract is the law.
 
-ghost use Rattle.std.specs.Prelude.{◌≡◌, ◌<◌, ◌++◌, ℕ, List, String, string_bytes};
+ghost use Rattle.std.specs.Prelude.{◌≡◌, ◌↔◌, ◌<◌, ◌++◌, ℕ, ℤ, List, String, string_bytes};
 ghost use Rattle.std.specs.Global.{Global};
-ghost use Rattle.nano_value.specs.Meaning.{text};
+ghost use Rattle.nano_value.specs.Meaning.{Meaning, text};
 ghost use Rattle.nano_meaning.specs.Sums.{tagged};
 ghost use Rattle.nano_document.specs.Decimals.{IsDecimal};
 ghost use Rattle.nano_document.specs.Documents.{depth, most_levels, json_means};
 ghost use Rattle.nano_document.specs.DocumentCodecs.{json_codec};
 ghost use Rattle.nano_document.specs.IndentedCodecs.{indented};
+ghost use Rattle.nano_bin_bytes.specs.Scalars.{little_endian};
+ghost use Rattle.nano_bin_bytes.specs.Containers.{written_string};
+ghost use Rattle.nano_document.specs.BinScalars.{written_integer};
+ghost use Rattle.nano_document.specs.BinCodecs.{bin_codec, EncodesDocument};
 ghost use Rattle.nano_grammar.specs.Tokens.{Cuts, TextDecodesTo};
 ghost use Rattle.nano_json_tokens.specs.Cut.{Cut};
 ghost use Rattle.nano_json_tokens.specs.Written.{MayFollow};
@@ -47,3 +51,20 @@ pub fn indented_text_decodes_to_the_document(value: &Json)
 {
     value.known();
 }
+
+/// Bytes encode a document exactly if they are the tag of a variant and what that holds. A number is the
+/// same as a `U64` and as an `I64`.
+pub fn bytes_are_a_tag_and_its_content()
+    ensures { (bytes : List ℕ) (m : Meaning) → bin_codec.encoding.encodes bytes m
+        ↔ EncodesDocument bytes m }
+{}
+
+/// In bytes a number is written as a `U64` unless it is below 0, and a `Decimal` as such only if its
+/// text is one, else as a `Text`.
+pub fn equal_documents_have_one_tag()
+    ensures number { (z : ℤ) → bin_codec.canonical.written (Json.I64 z) ≡ written_integer z }
+    ensures decimal { (s : String Global) → IsDecimal (string_bytes s)
+        → bin_codec.canonical.written (Json.Decimal s) ≡ little_endian 2 4 ++ written_string s }
+    ensures other { (s : String Global) → (IsDecimal (string_bytes s) → ⊥)
+        → bin_codec.canonical.written (Json.Decimal s) ≡ little_endian 2 5 ++ written_string s }
+{}

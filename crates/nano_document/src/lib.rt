@@ -11,8 +11,10 @@ mod known;
 pub mod laws;
 mod pointer;
 mod read;
+mod read_bin;
 mod same;
 mod write;
+mod write_bin;
 
 pub use decimal::is_decimal;
 pub use json::Json;

@@ -18,10 +18,10 @@ use std::alloc::Global;
 use std::str::Chars;
 
 /// How many levels a document may have that is read. Each takes stack.
-const MOST_LEVELS: usize = 128;
+pub(crate) const MOST_LEVELS: usize = 128;
 
-/// A number that was written with a minus sign.
-fn signed(value: i64) -> Json
+/// A number that was read as an `i64`.
+pub(crate) fn signed(value: i64) -> Json
     ensures { json_means result ≡ tagged 2 (number value) }
 {
     if value < 0 {

@@ -4,6 +4,8 @@
 #[cfg(test)]
 mod access_tests;
 #[cfg(test)]
+mod bin_tests;
+#[cfg(test)]
 mod checks;
 #[cfg(test)]
 mod decimal_tests;

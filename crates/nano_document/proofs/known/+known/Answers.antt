@@ -11,7 +11,8 @@ use Rattle.nano_document.specs.DocumentCodecs.{json_codec}
 use Rattle.nano_document.specs.IntegerCodecs.{integers}
 use Rattle.nano_document.specs.declared.json.Json as J
 use Rattle.nano_document.specs.declared.json.Json.{Json}
-use Rattle.nano_document.proofs.Documents.{signed_fits, legal_at, legal_decimal, means-Null, means-Bool, means-U64, means-I64, means-Text, means-List, means-Object}
+use Rattle.nano_document.specs.BinScalarImpls.{signed_fits}
+use Rattle.nano_document.proofs.Documents.{legal_at, legal_decimal, means-Null, means-Bool, means-U64, means-I64, means-Text, means-List, means-Object}
 use Rattle.nano_document.proofs.known.+known.Goals as goal
 
 unsigned_is_legal : (m : Meaning) → LegalUnsigned 64 m → integers.legal m

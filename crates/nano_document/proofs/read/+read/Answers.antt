@@ -19,7 +19,8 @@ use Rattle.nano_document.specs.Documents.{json_means, entry_means}
 use Rattle.nano_document.specs.DocumentCodecs.{level_codec, string_codec}
 use Rattle.nano_document.specs.IntegerCodecs.{IsInteger}
 use Rattle.nano_document.specs.declared.json.Json as J
-use Rattle.nano_document.proofs.Documents.{signed_fits, means-Null, means-Bool, means-U64, means-Text, means-List, means-Object}
+use Rattle.nano_document.specs.BinScalarImpls.{signed_fits}
+use Rattle.nano_document.proofs.Documents.{means-Null, means-Bool, means-U64, means-Text, means-List, means-Object}
 use Rattle.nano_document.proofs.Reading.{one_below, read_at, decimal_at, not_at, not_begun, no_level, pending_is, pending_kind, other_kind}
 use Rattle.nano_document.proofs.Reading.{ItemsHold, EntriesHold, level_laws, entry_laws_at, entry_read_whole, no_entry_whole, document_not}
 use Rattle.nano_document.proofs.read.+read.Goals as goal

@@ -1,4 +1,4 @@
-use Rattle.std.proofs.Common.{◌≡◌, ◌∙◌, sym, subst, string_bytes, refl, true≢false}
+use Rattle.std.proofs.Common.{◌≡◌, ◌∙◌, sym, subst, string_bytes, refl, rules, true≢false}
 use Rattle.nano_text.proofs.PlaceLaws.{moves_none}
 use Rattle.nano_value.specs.Meaning.{text}
 use Rattle.nano_grammar.proofs.TokenCalls.{passed_on, fails_for_memory}
@@ -7,7 +7,7 @@ use Rattle.nano_json_tokens.proofs.JsonLaws.{json}
 use Rattle.nano_json_tokens.specs.State.{pending, place_of}
 use Rattle.nano_json_tokens.specs.Token.{f64}
 use Rattle.nano_json_tokens.specs.declared.token.DeJsonTok.TheVariants as T
-use Rattle.nano_document.specs.Decimals.{IsDecimal}
+use Rattle.nano_document.specs.Decimals.{IsDecimal, IsHeldDecimal}
 use Rattle.nano_document.specs.DecimalCodecs.{decimal_tokens, f64_injective}
 use Rattle.nano_document.proofs.Reading.{pending_is}
 use Rattle.nano_document.proofs.read.read_decimal.Goals as goal
@@ -15,10 +15,10 @@ use Rattle.nano_document.proofs.read.read_decimal.Goals as goal
 pub returns-then-not-is_decimal : goal.returns-then-not-is_decimal
 returns-then-not-is_decimal c =
     let token = pending_is c.args.state.now T.F64 c.requires in
-    one_not json text decimal_tokens.carries IsDecimal refl
+    one_not json text decimal_tokens.carries IsHeldDecimal refl
     (λ x is decimal.
     let same = f64_injective x (string_bytes c.args.state.now.numbuf) (sym is ∙ token) in
-    let numbuf = subst IsDecimal (same ∙ sym c.as_str.ensures.value) decimal in
+    let numbuf = subst IsDecimal (same ∙ sym c.as_str.ensures.value) decimal.is_decimal in
     true≢false (sym (c.is_decimal.ensures.exact.1 numbuf) ∙ c.if-not-is_decimal.true))
     c.err_token.ensures
 
@@ -30,7 +30,7 @@ returns-in_default c =
 pub returns-in_err-next_tok : goal.returns-in_err-next_tok
 returns-in_err-next_tok c =
     passed_on _ _ c.from_residual.result c.from_residual.ensures.1
-    (one_stopped json text decimal_tokens.carries IsDecimal refl c.in_err-next_tok.ensures.fails)
+    (one_stopped json text decimal_tokens.carries IsHeldDecimal refl c.in_err-next_tok.ensures.fails)
 
 pub returns : goal.returns
 returns c =
@@ -41,5 +41,9 @@ returns c =
     let is = subst IsDecimal c.as_str.ensures.value (c.is_decimal.ensures.exact.0
     c.if-not-is_decimal.false) in
     let same : bytes ≡ numbuf = c.in-Ok.ensures.ok ∙ c.as_str-2.ensures.value in
-    one_read json text decimal_tokens.carries IsDecimal bytes (token
-    ∙ sym (λ i. f64 (same i))) (subst IsDecimal (sym same) is) c.in_ok-next_tok.ensures
+    let held : IsHeldDecimal bytes = record {
+      is_decimal = subst IsDecimal (sym same) is;
+      is_text = search rules;
+    } in
+    one_read json text decimal_tokens.carries IsHeldDecimal bytes (token ∙ sym (λ i. f64 (same i)))
+    held c.in_ok-next_tok.ensures
