@@ -1,0 +1,222 @@
+"""Whether what derive wrote is what was declared."""
+import re
+
+from .definitions import Differs, definitions, name_of, same, tidy
+from .impls import Impls, parts_of, value
+
+FORMATS = {"bin": "Bin", "json": "Json", "ron": "Ron"}
+
+
+def row_of(field, label, default):
+    """A field as a row has it."""
+    if "default" in field.attributes:
+        return f"Defaulted<{label},{field.type},{default}>"
+    option = re.fullmatch(r"Option<(.*)>", field.type)
+    return f"Optional<{label},{option[1]}>" if option else f"Required<{label},{field.type}>"
+
+
+def compare_fields(impls, owner, fields, row, case):
+    """Named fields: names, order, types, and what stands where one is missing."""
+    read = [field for field in fields if not field.skipped]
+    got = parts_of(impls.expanded(row))
+    same(f"number of fields of `{owner}`", len(read), len(got))
+    names = None
+    for index, (field, written) in enumerate(zip(read, got)):
+        kind = re.match(r"(\w+)<(\w+)(?:<(\d+)>)?,(.*)>$", written)
+        if not kind:
+            raise Differs(f"`{written}` is no field")
+        names = names or impls.names(kind[2])
+        same(
+            f"name of `{owner}.{field.name}`",
+            name_of(field.name, field.attributes, case, False),
+            names[int(kind[3] or 0)],
+        )
+        default = "TypeDefault"
+        if field.attributes.get("default"):
+            default = written[:-1].rsplit(",", 1)[1]
+            stands = impls.default(field.type, default)
+            wanted = field.attributes["default"]
+            same(
+                f"default of `{owner}.{field.name}`",
+                (wanted, wanted) if stands else wanted,
+                stands or default,
+            )
+        label = kind[2] + (f"<{kind[3]}>" if kind[3] else "")
+        same(f"field `{owner}.{field.name}`", row_of(field, label, default), written)
+    if names is not None:
+        same(f"number of names of `{owner}`", len(read), len(names))
+
+
+def compare_literal(owner, fields, body, head):
+    """A value is made of each field under its own name, and of what a skipped one is made as."""
+    inside = re.search(rf"{head} \{{(.*?)\}}", body, re.S)
+    got = dict(
+        (part.split(":", 1) + [None])[:2]
+        for part in re.split(r",\s*", re.sub(r"\s+", " ", inside[1]).strip(" ,"))
+    )
+    got = {name.strip(): text and text.strip() for name, text in got.items()}
+    same(f"fields that `{owner}` is made of", [field.name for field in fields], list(got))
+    for field in fields:
+        made, wanted = got[field.name], None
+        if field.skipped:
+            wanted = field.attributes.get("default") or "std::default::Default::default()"
+            made = made if made and "default()" in made else value(made or "")
+        same(f"what `{owner}.{field.name}` is made of", wanted, made)
+
+
+def compare_newtype(impls, name, field):
+    """A struct of one part is that part in every format."""
+    same(f"type of `{name}`", field.type, impls.expanded(impls.aliases[f"{name}Fields"]))
+    seen = re.findall(rf"\(λ x\. (.*?)\) ⟦<{name}Fields", impls.text) + re.findall(
+        r"⟧\.means (x.*?) \}", impls.block(f"Value for {name}\\b")
+    )
+    same(f"what `{name}` is seen as", {"x.0"}, set(seen))
+
+
+def compare_struct(impls, name, attributes, content):
+    kind, fields = content
+    if kind == "Newtype":
+        return compare_newtype(impls, name, fields[0])
+    read = [field for field in fields if not field.skipped]
+    schema, refs = impls.block(f"(?:\\w+::)?StructSchema for {name}\\b"), impls.block(
+        f"(?:\\w+::)?FieldRefs<'a> for {name}\\b"
+    )
+    view = re.search(r"ghost view = \{ λ x\.(.*?) \};", schema, re.S)[1]
+    handed = re.search(r"-> Self::Refs \{\n(.*?)\n    \}", refs, re.S)[1]
+    keys = [field.name or str(index) for index, field in enumerate(fields) if not field.skipped]
+    same(
+        f"view of `{name}`",
+        [f"x.{key}" for key in keys],
+        [part.strip() for part in parts_of(view)],
+    )
+    same(
+        f"references of `{name}`",
+        [f"&self.{key}" for key in keys],
+        [part.strip() for part in parts_of(handed)],
+    )
+    taken = parts_of(re.search(r"let (.*?) = values;", schema, re.S)[1])
+    if kind == "Struct":
+        same(f"what `{name}` is made from", keys, [part.strip() for part in taken])
+        compare_literal(name, fields, schema, rf"\n        {name}")
+        compare_fields(
+            impls, name, fields, impls.aliases[f"{name}Fields"], attributes.get("rename_all", "")
+        )
+    else:
+        made = re.search(rf"\n        {name}\((.*?)\)", schema, re.S)[1]
+        same(
+            f"parts of `{name}`",
+            [part.strip() for part in taken],
+            [part.strip() for part in made.split(",")],
+        )
+        wanted = [field.type for field in read]
+        got = re.search(r"type Values = (.*?);", schema, re.S)[1]
+        same(f"types of `{name}`", wanted, flat(impls.expanded(tidy(got)), len(wanted)))
+
+
+def flat(row, count):
+    """The types of a row with so many: one is the row itself."""
+    return [row] if count == 1 else top(row)
+
+
+def top(row):
+    """The items of a tuple, of which each may be a tuple."""
+    items, depth, start = [], 0, 1
+    for place, letter in enumerate(row):
+        depth += (letter in "([<") - (letter in ")]>")
+        if depth == 1 and letter == "," or depth == 0:
+            items.append(row[start:place])
+            start = place + 1
+    return [item for item in items if item]
+
+
+def compare_variant(impls, owner, variant, written, attributes):
+    name, of_variant, kind, fields = variant
+    match = re.fullmatch(r"Variant<(\w+)(?:<(\d+)>)?,(\w+)(?:<(.*)>)?>", written)
+    if not match:
+        raise Differs(f"`{written}` is no variant")
+    names, index, got, row = match.groups()
+    case = attributes.get("rename_all", "")
+    same(
+        f"name of `{owner}::{name}`",
+        name_of(name, of_variant, case, True),
+        impls.names(names)[int(index or 0)],
+    )
+    same(f"content of `{owner}::{name}`", kind, got)
+    if kind == "Struct":
+        compare_fields(impls, f"{owner}::{name}", fields, row, "")
+    elif kind != "Unit":
+        same(
+            f"types of `{owner}::{name}`",
+            [field.type for field in fields],
+            flat(impls.expanded(row), len(fields)),
+        )
+
+
+def compare_enum(impls, name, attributes, variants):
+    rows = [row for row in parts_of(impls.expanded(impls.aliases[f"{name}Variants"]))]
+    same(f"number of variants of `{name}`", len(variants), len(rows))
+    schema, refs = impls.block(f"(?:\\w+::)?EnumSchema for {name}\\b"), impls.block(
+        f"(?:\\w+::)?VariantRefs<'a> for {name}\\b"
+    )
+    arms = re.findall(r"\| (\w+)((?: \w+)*) ↦ (.*)", schema)
+    same(f"variants that `{name}` is seen as", [v[0] for v in variants], [arm[0] for arm in arms])
+    same(
+        f"variants that `{name}` is made as",
+        [v[0] for v in variants],
+        re.findall(r"Self::(\w+)(?= \{|\(|;|\n)", re.sub(r"Self::Values|-> Self", "", schema)),
+    )
+    for index, (variant, arm, row) in enumerate(zip(variants, arms, rows)):
+        fields, last = variant[3], index == len(variants) - 1
+        compare_variant(impls, name, variant, row, attributes)
+        handed = [f"v{place}" for place, field in enumerate(fields) if not field.skipped]
+        same(f"place of `{name}::{variant[0]}`", index, arm[2].count("Later"))
+        same(f"end of `{name}::{variant[0]}`", not last, "First" in arm[2])
+        same(f"view of `{name}::{variant[0]}`", handed, re.findall(r"\bv\d+", arm[2]))
+        if variant[2] == "Struct":
+            compare_literal(f"{name}::{variant[0]}", fields, schema, f"Self::{variant[0]}")
+        compare_refs(name, variant, index, last, refs)
+
+
+def compare_refs(owner, variant, index, last, refs):
+    name, _attributes, kind, fields = variant
+    match = re.search(
+        rf"Self::{name}\b(.*?)=> \{{\n\s+let refs = (.*?);\n(.*?)\n            \}}", refs, re.S
+    )
+    if not match:
+        raise Differs(f"`{owner}::{name}` hands out no references")
+    pattern, handed, chain = match.groups()
+    bound = [part.strip() for part in re.split(r",", pattern.strip(" \n({})")) if part.strip()]
+    if kind == "Struct":
+        bound = [part for part in bound if not part.endswith(": _")]
+        same(f"fields of `{owner}::{name}`", [f.name for f in fields if not f.skipped], bound)
+    same(
+        f"references of `{owner}::{name}`",
+        bound,
+        [part.strip() for part in parts_of(handed) if part.strip() != "()"],
+    )
+    same(
+        f"place of the references of `{owner}::{name}`",
+        (index, not last),
+        (chain.count("Later"), "First" in chain),
+    )
+
+
+def compare(source, text):
+    """Compares the definitions of a source with the text of its impls."""
+    impls, found = Impls(text), definitions(source)
+    if not found:
+        raise Differs("no definition has a format")
+    for kind, name, attributes, content in found:
+        wanted = {
+            way + FORMATS[word.split("_")[-1]]
+            for word in attributes
+            if word.split("_")[-1] in FORMATS
+            for way in ("Ser", "De")
+            if not word.startswith({"Ser": "de_", "De": "ser_"}[way])
+        }
+        got = {
+            trait for trait in impls.traits(name) if re.fullmatch("(Ser|De)(Bin|Json|Ron)", trait)
+        }
+        same(f"formats of `{name}`", wanted, got)
+        (compare_struct if kind == "struct" else compare_enum)(impls, name, attributes, content)
+    return len(found)

@@ -1,0 +1,185 @@
+"""What a source declares: types with formats, their fields and variants, and their names."""
+import re
+
+TOKEN = re.compile(
+    r'//[ ]nanoserde:(?P<attr>[^\n]*)|(?P<skip>//[^\n]*|\s+|/\*.*?\*/)|(?P<text>"(?:[^"\\]|\\.)*")'
+    r"|(?P<word>'?\w+|::|->|↦|.)",
+    re.S,
+)
+PATH = re.compile(r"(?:::)?\b(?:nano_\w+|std(?:::[a-z_]\w*)*)::(?=[A-Z])")
+
+
+class Differs(Exception):
+    """The impls are not those of the definitions."""
+
+
+def same(what, wanted, got):
+    if wanted != got:
+        raise Differs(f"{what}: declared {wanted!r}, written {got!r}")
+
+
+class Cursor:
+    """The tokens of a source: words, strings, and the lines with attributes."""
+
+    def __init__(self, source):
+        self.tokens = []
+        for match in TOKEN.finditer(source):
+            if match["attr"] is not None:
+                self.tokens.append(("attr", match["attr"].strip()))
+            elif match["skip"] is None:
+                self.tokens.append(("token", match["text"] or match["word"]))
+        self.at = 0
+
+    def peek(self):
+        return self.tokens[self.at] if self.at < len(self.tokens) else ("end", "")
+
+    def take(self, wanted=None):
+        kind, token = self.peek()
+        if wanted is not None and token != wanted:
+            raise Differs(f"`{wanted}` expected, and not `{token}`")
+        self.at += 1
+        return token
+
+    def attributes(self):
+        """The attributes here, past other attributes and what says who sees an item."""
+        found = {}
+        while True:
+            kind, token = self.peek()
+            if kind == "attr":
+                self.at += 1
+                for part in re.findall(r'(\w+)(?:\s*=\s*"((?:[^"\\]|\\.)*)")?', token):
+                    found[part[0]] = part[1]
+            elif token == "#":
+                self.at += 1
+                self.balanced()
+            elif token == "pub":
+                self.at += 1
+                if self.peek()[1] == "(" and self.tokens[self.at + 1][1] in (
+                    "crate",
+                    "self",
+                    "super",
+                    "in",
+                ):
+                    self.balanced()
+            else:
+                return found
+
+    def balanced(self):
+        """Past a bracket, with what is in it."""
+        depth = 0
+        while True:
+            token = self.take()
+            depth += (token in "([{<") - (token in ")]}>")
+            if depth == 0:
+                return
+
+    def type_text(self):
+        """A type, up to the comma or the bracket after it."""
+        depth, text = 0, []
+        while True:
+            token = self.peek()[1]
+            if depth == 0 and token in ",)}":
+                return tidy(" ".join(text))
+            depth += (token in "([<") - (token in ")]>")
+            text.append(token)
+            self.at += 1
+
+
+def tidy(text):
+    """A type without spaces, a comma before a bracket, and the paths of what is brought in."""
+    text = PATH.sub("", re.sub(r"\s+", "", text))
+    return re.sub(r",([)\]>])", r"\1", text)
+
+
+class Field:
+    """A field or a part of the definition: its name, its type, and its attributes."""
+
+    def __init__(self, name, type, attributes):
+        self.name, self.type, self.attributes = name, type, attributes
+        self.skipped = "skip" in attributes
+
+
+def fields_of(cursor, closing):
+    fields = []
+    while cursor.peek()[1] != closing:
+        attributes = cursor.attributes()
+        name = None
+        if closing == "}":
+            name = cursor.take()
+            cursor.take(":")
+        fields.append(Field(name, cursor.type_text(), attributes))
+        if cursor.peek()[1] == ",":
+            cursor.take()
+    cursor.take(closing)
+    return fields
+
+
+def content_of(cursor):
+    """What a struct or a variant holds: its kind, and its fields."""
+    token = cursor.peek()[1]
+    if token == "{":
+        cursor.take()
+        return "Struct", fields_of(cursor, "}")
+    if token == "(":
+        cursor.take()
+        fields = fields_of(cursor, ")")
+        return ("Newtype" if len(fields) == 1 else "Tuple"), fields
+    return "Unit", []
+
+
+def definitions(source):
+    """The types that have formats: (kind, name, attributes, content), in their order."""
+    cursor, found = Cursor(source), []
+    while cursor.peek()[0] != "end":
+        attributes = cursor.attributes()
+        token = cursor.take()
+        if token not in ("struct", "enum"):
+            continue
+        name = cursor.take()
+        if cursor.peek()[1] == "<":
+            cursor.balanced()
+        if token == "struct":
+            content = content_of(cursor)
+        else:
+            cursor.take("{")
+            content = []
+            while cursor.peek()[1] != "}":
+                of_variant = cursor.attributes()
+                content.append((cursor.take(), of_variant, *content_of(cursor)))
+                if cursor.peek()[1] == ",":
+                    cursor.take()
+        if any(re.fullmatch(r"(de_|ser_)?(bin|json|ron)", word) for word in attributes):
+            found.append((token, name, attributes, content))
+    return found
+
+
+# ---- names
+
+
+def words_of(name, of_variant):
+    if of_variant:
+        return re.sub(r"(?<!^)(?=[A-Z])", "_", name).lower().split("_")
+    return name.split("_")
+
+
+def renamed(name, case, of_variant):
+    """The name in a case of serde's, whose field names are in snake case and variants in Pascal's."""
+    words = words_of(name, of_variant)
+    capital = lambda word: word[:1].upper() + word[1:]
+    pascal = name if of_variant else "".join(capital(word) for word in words)
+    snake = "_".join(words)
+    return {
+        "": name,
+        "lowercase": name.lower() if of_variant else name,
+        "UPPERCASE": name.upper(),
+        "PascalCase": pascal,
+        "camelCase": pascal[:1].lower() + pascal[1:],
+        "snake_case": snake,
+        "SCREAMING_SNAKE_CASE": snake.upper(),
+        "kebab-case": snake.replace("_", "-"),
+        "SCREAMING-KEBAB-CASE": snake.upper().replace("_", "-"),
+    }[case]
+
+
+def name_of(name, attributes, case, of_variant):
+    return attributes["rename"] if "rename" in attributes else renamed(name, case, of_variant)
