@@ -18,9 +18,9 @@ mod frame_source;
 #[cfg(test)]
 mod frame_tests;
 #[cfg(test)]
-mod json_tests;
-#[cfg(test)]
 mod item_tests;
+#[cfg(test)]
+mod json_tests;
 #[cfg(test)]
 mod key_tests;
 #[cfg(test)]
