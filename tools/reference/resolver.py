@@ -15,10 +15,10 @@ PRELUDE = set("""
     PartialEq Eq PartialOrd Ord From Into AsRef ToString Send Sync Hash Debug Display Error Write
     Read Extend HostRuntime
 """.split())
-# Words of the language itself, and of clauses without an import.
+# Words of the language itself, and of clauses without an import; `lit<` is cut before its `<`.
 LANGUAGE = set("""
     Type Unit tt absurd refl record let in if then else elim with where unfolding data pub abbrev
-    unfoldable do mutual ruleset as cc grind omega search rw _
+    unfoldable do mutual ruleset as cc grind omega search rw lit _
 """.split())
 
 # The modules that the kit makes of a type: its variants, one level of it, its views and its folds.
