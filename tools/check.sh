@@ -7,7 +7,7 @@
 # line is `N passed, M failed`, as that of `rt ci` is. The steps are tools/check_*.py, list_calls.py and
 # what_to_read.py; whether each generated file is what derive_files writes; 1,200 drawn definitions, of which
 # check_impls.py reads what derive wrote; 20,000 drawn cases (fuzz.py), always the same; and worked.tsv with
-# memory refused. It takes half a minute, and runs the programs that `rt ci` left in out/ of conformance_run,
+# memory refused. It takes about a minute, and runs the programs that `rt ci` left in out/ of conformance_run,
 # derive_files and two examples; it wants cc and Python too.
 set -u
 cd "$(dirname "$0")/.." || exit 2
