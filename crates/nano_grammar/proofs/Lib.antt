@@ -20,6 +20,7 @@ pub mod FieldReading
 pub mod FieldCalls
 pub mod UserCalls
 pub mod ItemRuns
+pub mod Plain
 pub mod StructReading
 pub mod ChoicesLaws
 pub mod BothFieldsLaws

@@ -21,7 +21,7 @@ module _ {T : Type 0} (cut : List ℕ → T → List ℕ → Type 0) where
       (h.0, h.1, cuts_append ts us h.0 middle rest h.2 k)
 
   -- what is cut, with one more token after it, is taken
-  leaves_from_cuts : (ts : List T) (text rest : List ℕ) (end : At T)
+  pub leaves_from_cuts : (ts : List T) (text rest : List ℕ) (end : At T)
       → Cuts cut ts text rest → cut rest end.token end.text
       → (start : At T) × cut text start.token start.text × Leaves cut ts start end
   leaves_from_cuts [] text rest end h k =

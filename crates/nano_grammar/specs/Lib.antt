@@ -10,6 +10,7 @@ pub mod Scalars
 pub mod Tuples
 pub mod Outcomes
 pub mod ItemRuns
+pub mod Plain
 -- user-defined types
 pub mod Fields
 pub mod FieldCodec

@@ -4,7 +4,9 @@
 //! Nearly all of it is definitions and lemmas, which contracts of the formats cite.
 #![tactic(auto)]
 
+mod attempts;
 pub mod laws;
 mod whole;
 
+pub use attempts::Attempts;
 pub use whole::{holds_nul, strip_end_message};

@@ -10,10 +10,10 @@ ghost use Rattle.nano_meaning.proofs.AgreesLaws.{agreed};
 ghost use Rattle.nano_json.specs.ScalarCodecs.{IsRangeOf, signed, signed_codec, within_8};
 ghost use Rattle.nano_json.specs.ScalarCodecs.{within_16, within_32, within_64};
 ghost use Rattle.nano_json.specs.Outcomes.{position, Reads};
-ghost use Rattle.nano_json_tokens.specs.Outcomes.{TakesItem, at_comma};
+ghost use Rattle.nano_json_tokens.specs.Outcomes.{TakesPlainly};
 
 use crate::traits::{DeJson, JsonCodec, SerJson};
-use nano_json_tokens::{DeJsonErr, DeJsonState, SerJsonState, end_on_error, take_integer_item};
+use nano_json_tokens::{DeJsonErr, DeJsonState, SerJsonState, end_on_error, take_plain_integer};
 use nano_text::{Place, append_signed};
 use std::alloc::{AllocError, Global};
 use std::str::Chars;
@@ -52,7 +52,7 @@ fn read_signed<T: Signed>(
     Ok(T::narrow(number))
 }
 
-/// Takes a whole number from `min` to `max` after a comma, and the comma after it.
+/// Takes a whole number from `min` to `max`, which stands plainly.
 #[inline(always)]
 fn take_signed_of<T: Signed>(
     place: &mut Place,
@@ -61,11 +61,10 @@ fn take_signed_of<T: Signed>(
     max: i64,
 ) -> Option<T>
     requires { IsRangeOf T.width min max }
-    ensures { TakesItem (signed T.width).encodes (λ x. number (T.value x))
-        (at_comma place.old input.old)
-        (at_comma place.new input.new) result }
+    ensures { TakesPlainly (signed T.width).encodes (λ x. number (T.value x))
+        place.old input.old place.new input.new result }
 {
-    let number = take_integer_item(place, input, min, max)?;
+    let number = take_plain_integer(place, input, min, max)?;
     Some(T::narrow(number))
 }
 
@@ -103,7 +102,12 @@ impl DeJson for i8 {
     }
 
     #[inline(always)]
-    fn de_json_item(_alloc: Global, place: &mut Place, input: &mut Chars<'_>) -> Option<i8> {
+    fn de_json_plain(
+        _alloc: Global,
+        place: &mut Place,
+        input: &mut Chars<'_>,
+        _text: &mut String,
+    ) -> Option<i8> {
         take_signed_of(place, input, i8::MIN as i64, i8::MAX as i64)
     }
 }
@@ -142,7 +146,12 @@ impl DeJson for i16 {
     }
 
     #[inline(always)]
-    fn de_json_item(_alloc: Global, place: &mut Place, input: &mut Chars<'_>) -> Option<i16> {
+    fn de_json_plain(
+        _alloc: Global,
+        place: &mut Place,
+        input: &mut Chars<'_>,
+        _text: &mut String,
+    ) -> Option<i16> {
         take_signed_of(place, input, i16::MIN as i64, i16::MAX as i64)
     }
 }
@@ -181,7 +190,12 @@ impl DeJson for i32 {
     }
 
     #[inline(always)]
-    fn de_json_item(_alloc: Global, place: &mut Place, input: &mut Chars<'_>) -> Option<i32> {
+    fn de_json_plain(
+        _alloc: Global,
+        place: &mut Place,
+        input: &mut Chars<'_>,
+        _text: &mut String,
+    ) -> Option<i32> {
         take_signed_of(place, input, i32::MIN as i64, i32::MAX as i64)
     }
 }
@@ -220,7 +234,12 @@ impl DeJson for i64 {
     }
 
     #[inline(always)]
-    fn de_json_item(_alloc: Global, place: &mut Place, input: &mut Chars<'_>) -> Option<i64> {
+    fn de_json_plain(
+        _alloc: Global,
+        place: &mut Place,
+        input: &mut Chars<'_>,
+        _text: &mut String,
+    ) -> Option<i64> {
         take_signed_of(place, input, i64::MIN, i64::MAX)
     }
 }

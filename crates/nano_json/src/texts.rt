@@ -12,7 +12,10 @@ ghost use Rattle.nano_json.specs.ScalarCodecs.{texts, text_codec};
 ghost use Rattle.nano_json.specs.Outcomes.{position, Reads};
 
 use crate::traits::{DeJson, JsonCodec, SerJson};
-use nano_json_tokens::{DeJsonErr, DeJsonState, SerJsonState, append_string, end_on_error};
+use nano_json_tokens::{
+    DeJsonErr, DeJsonState, SerJsonState, append_string, end_on_error, take_text,
+};
+use nano_text::Place;
 use std::alloc::{AllocError, Global};
 use std::str::Chars;
 
@@ -53,6 +56,23 @@ impl DeJson for String {
     ) -> Result<String, DeJsonErr> {
         let read = read_string(alloc, state, input);
         end_on_error(state, read)
+    }
+
+    #[inline(always)]
+    fn de_json_plain(
+        alloc: Global,
+        place: &mut Place,
+        input: &mut Chars<'_>,
+        text: &mut String,
+    ) -> Option<String> {
+        if !take_text(place, input, text) {
+            return None;
+        }
+        let _length = text.len();
+        match String::from_str(alloc, text.as_str()) {
+            Ok(copy) => Some(copy),
+            Err(_full) => None,
+        }
     }
 }
 

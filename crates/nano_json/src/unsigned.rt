@@ -8,12 +8,12 @@ ghost use Rattle.std.specs.Prelude.{◌≡◌, ◌+◌, ◌^◌};
 ghost use Rattle.nano_value.specs.Meaning.{whole};
 ghost use Rattle.nano_meaning.proofs.AgreesLaws.{agreed};
 ghost use Rattle.nano_json.specs.Outcomes.{position, Reads};
-ghost use Rattle.nano_json_tokens.specs.Outcomes.{TakesItem, at_comma};
+ghost use Rattle.nano_json_tokens.specs.Outcomes.{TakesPlainly};
 ghost use Rattle.nano_json.specs.ScalarCodecs.{unsigned, unsigned_codec, below_8, below_16};
 ghost use Rattle.nano_json.specs.ScalarCodecs.{below_32, below_64};
 
 use crate::traits::{DeJson, JsonCodec, SerJson};
-use nano_json_tokens::{DeJsonErr, DeJsonState, SerJsonState, end_on_error, take_unsigned_item};
+use nano_json_tokens::{DeJsonErr, DeJsonState, SerJsonState, end_on_error, take_plain_unsigned};
 use nano_text::{Place, append_unsigned};
 use std::alloc::{AllocError, Global};
 use std::str::Chars;
@@ -50,15 +50,14 @@ fn read_unsigned<T: Unsigned>(
     Ok(T::narrow(number))
 }
 
-/// Takes a whole number of at most `max` after a comma, and the comma after it.
+/// Takes a whole number of at most `max`, which stands plainly.
 #[inline(always)]
 fn take_unsigned_of<T: Unsigned>(place: &mut Place, input: &mut Chars<'_>, max: u64) -> Option<T>
     requires { 2 ^ T.bits ≡ max + 1 }
-    ensures { TakesItem (unsigned T.bits).encodes (λ x. whole (T.value x))
-        (at_comma place.old input.old)
-        (at_comma place.new input.new) result }
+    ensures { TakesPlainly (unsigned T.bits).encodes (λ x. whole (T.value x))
+        place.old input.old place.new input.new result }
 {
-    let number = take_unsigned_item(place, input, max)?;
+    let number = take_plain_unsigned(place, input, max)?;
     Some(T::narrow(number))
 }
 
@@ -96,7 +95,12 @@ impl DeJson for u8 {
     }
 
     #[inline(always)]
-    fn de_json_item(_alloc: Global, place: &mut Place, input: &mut Chars<'_>) -> Option<u8> {
+    fn de_json_plain(
+        _alloc: Global,
+        place: &mut Place,
+        input: &mut Chars<'_>,
+        _text: &mut String,
+    ) -> Option<u8> {
         take_unsigned_of(place, input, u8::MAX as u64)
     }
 }
@@ -135,7 +139,12 @@ impl DeJson for u16 {
     }
 
     #[inline(always)]
-    fn de_json_item(_alloc: Global, place: &mut Place, input: &mut Chars<'_>) -> Option<u16> {
+    fn de_json_plain(
+        _alloc: Global,
+        place: &mut Place,
+        input: &mut Chars<'_>,
+        _text: &mut String,
+    ) -> Option<u16> {
         take_unsigned_of(place, input, u16::MAX as u64)
     }
 }
@@ -174,7 +183,12 @@ impl DeJson for u32 {
     }
 
     #[inline(always)]
-    fn de_json_item(_alloc: Global, place: &mut Place, input: &mut Chars<'_>) -> Option<u32> {
+    fn de_json_plain(
+        _alloc: Global,
+        place: &mut Place,
+        input: &mut Chars<'_>,
+        _text: &mut String,
+    ) -> Option<u32> {
         take_unsigned_of(place, input, u32::MAX as u64)
     }
 }
@@ -213,7 +227,12 @@ impl DeJson for u64 {
     }
 
     #[inline(always)]
-    fn de_json_item(_alloc: Global, place: &mut Place, input: &mut Chars<'_>) -> Option<u64> {
+    fn de_json_plain(
+        _alloc: Global,
+        place: &mut Place,
+        input: &mut Chars<'_>,
+        _text: &mut String,
+    ) -> Option<u64> {
         take_unsigned_of(place, input, u64::MAX)
     }
 }
@@ -252,7 +271,12 @@ impl DeJson for usize {
     }
 
     #[inline(always)]
-    fn de_json_item(_alloc: Global, place: &mut Place, input: &mut Chars<'_>) -> Option<usize> {
+    fn de_json_plain(
+        _alloc: Global,
+        place: &mut Place,
+        input: &mut Chars<'_>,
+        _text: &mut String,
+    ) -> Option<usize> {
         take_unsigned_of(place, input, usize::MAX as u64)
     }
 }

@@ -1,7 +1,7 @@
 pub mod LexemeKinds
 pub mod Cuts
 pub mod Scanning
-pub mod ItemCalls
+pub mod PlainCalls
 pub mod Capacity
 pub mod BracketCounts
 pub mod Calling

@@ -3,8 +3,8 @@ use Rattle.std.specs.Int.{w64}
 use Rattle.std.proofs.lemmas.Int.{to_z_pos}
 use Rattle.std.proofs.lemmas.Option.{IfSome_then}
 use Rattle.nano_json_tokens.specs.Token.{u64, i64}
-use Rattle.nano_json_tokens.proofs.ItemCalls.{unsigned_lexeme, negative_lexeme}
-use Rattle.nano_json_tokens.proofs.items.take_integer.Goals as goal
+use Rattle.nano_json_tokens.proofs.PlainCalls.{unsigned_lexeme, negative_lexeme}
+use Rattle.nano_json_tokens.proofs.plain.take_integer.Goals as goal
 
 pub returns-then-place-eq45-clause-found : goal.returns-then-place-eq45-clause-found
 returns-then-place-eq45-clause-found c =

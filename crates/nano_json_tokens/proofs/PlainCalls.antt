@@ -1,47 +1,44 @@
--- What the calls come to that take an item of a list at once.
+-- What the calls come to that take a token with none pending.
 use Rattle.std.proofs.Common.{◌≡◌, ℕ, ℤ, List, [], ◌∷◌, true, false, refl, sym, ap, ◌∙◌}
-use Rattle.std.proofs.Common.{subst, ◌||◌, ◌≤ℤ◌, not, T}
+use Rattle.std.proofs.Common.{subst, ◌||◌, ◌≤ℤ◌, not, T, Some, encode_utf8_all}
 use Rattle.std.specs.Int.Signed.{lt_z, lt_z_no}
 use Rattle.std.specs.declared.str.Chars.{Chars}
 use Rattle.std.specs.Str.Iter.{chars_rest}
 use Rattle.std.specs.Char.{is_ascii_digit}
 use Rattle.nano_text.specs.Characters.{following, is_space}
 use Rattle.nano_text.specs.Number.{IsNumber, is_sign}
+use Rattle.nano_text.specs.String.{IsString}
 use Rattle.nano_text.specs.Place.{text_at, remaining, Moves}
 use Rattle.nano_text.specs.declared.place.Place.{Place}
 use Rattle.nano_text.specs.declared.number.Number.TheVariants.{U64, I64}
 use Rattle.nano_text.proofs.PlaceLaws.{moves_none, moves_append, moves_from}
 use Rattle.nano_text.proofs.RemainingText.{first_is-remaining, same_remaining}
-use Rattle.nano_grammar.specs.ItemRuns.{TookItem}
-use Rattle.nano_grammar.specs.Tokens.{At}
-use Rattle.nano_json_tokens.specs.Cut.{Cut, IsLexeme, starts_number, number}
+use Rattle.nano_json_tokens.specs.Cut.{Cut, IsLexeme, IsPunctuator, starts_number, number}
+use Rattle.nano_json_tokens.specs.Cut.{punctuator, quoted}
+use Rattle.nano_json_tokens.specs.Scan.{punctuator_of}
 use Rattle.nano_json_tokens.specs.Outcomes.{at_comma}
 use Rattle.nano_json_tokens.specs.Outcomes.{position}
 use Rattle.nano_json_tokens.specs.State.{pending, place_of}
 use Rattle.nano_json_tokens.specs.declared.state.DeJsonState.{DeJsonState}
-use Rattle.nano_json_tokens.specs.Token.{Token, comma, u64, i64}
-use Rattle.nano_json_tokens.proofs.Cuts.{lexeme_cut}
+use Rattle.nano_json_tokens.specs.Token.{Token, str, comma, u64, i64}
+use Rattle.nano_json_tokens.proofs.Cuts.{lexeme_cut, punctuator_lexeme}
 
--- white space, a lexeme and a comma were passed, over a copy of the input
-pub took_item : {V : Type 0} (S : List Token → V → Type 0) (t : Token) (v : V)
-    (p here there end : Place) (i j k l m : Chars) → chars_rest j ≡ chars_rest i
-    → text_at here k ≡ following is_space (text_at p j) → Moves p j here k
-    → IsLexeme t (text_at here k) (text_at there l) → Moves here k there l
-    → Cut (text_at there l) comma (text_at end m) → Moves there l end m → S (t ∷ []) v
-    → TookItem Cut S comma (at_comma p i) (at_comma end m) v
-took_item S t v p here there end i j k l m same space spaced lexeme moved cut after has =
-    let text = space ∙ ap (following is_space) (same_remaining p.cur j i same) in
-    let first = lexeme_cut (text_at p i) t (text_at there l)
-    (subst (λ (s : List ℕ). IsLexeme t s (text_at there l)) text lexeme) in
-    let item : At Token = record { token = t; text = text_at there l } in (
-      record { at = item; place = there; input = l },
-      (refl, (item, first, refl)),
-      moves_append (moves_from p here j i k same spaced) moved,
-      record {
-        decodes = (t ∷ [], has, (refl, ((at_comma end m).at, cut, refl)));
-        place = after;
-      },
-    )
+-- after white space that was passed, a lexeme was taken
+pub after_space : (t : Token) {text after rest : List ℕ} → after ≡ following is_space text
+    → IsLexeme t after rest → Cut text t rest
+after_space t {text} {after} {rest} space lexeme =
+    lexeme_cut text t rest (subst (λ (s : List ℕ). IsLexeme t s rest) space lexeme)
+
+-- a punctuator was taken there
+pub punctuator_after : (c d : ℕ) (t : Token) {text after rest : List ℕ} → after ≡ following is_space text
+    → after ≡ c ∷ rest → c ≡ d → punctuator_of d ≡ Some t → Cut text t rest
+punctuator_after c d t {text} {after} {rest} space first same is =
+    after_space t space (punctuator (subst (λ (s : List ℕ). IsPunctuator t s rest) (sym first) (punctuator_lexeme c rest t (ap punctuator_of same ∙ is))))
+
+-- a string was taken there
+pub string_after : (bytes characters : List ℕ) {text after rest : List ℕ} → after ≡ following is_space text
+    → IsString after characters rest → bytes ≡ encode_utf8_all characters → Cut text (str bytes) rest
+string_after bytes characters space is same = after_space (str bytes) space (quoted (characters, is, same))
 
 digit_starts : (c : ℕ) → is_ascii_digit c ≡ true → starts_number c ≡ true
 digit_starts c digit = elim (is_sign c) as (λ b. (b || is_ascii_digit c) ≡ true) [
@@ -80,8 +77,9 @@ pub copied : (s : DeJsonState) (i j : Chars) → chars_rest j ≡ chars_rest i
     → Moves (place_of s) i (place_of s) j
 copied s i j same = moves_from (place_of s) (place_of s) j i j same (moves_none (place_of s) j)
 
--- the state stands there, and the comma is pending as before
-pub comma_there : (s t : DeJsonState) (p : Place) (i : Chars) → pending s ≡ comma
-    → t ≡ record s { cur = p.cur; line = p.line; col = p.col } → position t i ≡ at_comma p i
-comma_there s t p i is moved =
-    ap (λ u. position u i) moved ∙ ap (λ k. record { at = record { token = k; text = text_at p i }; place = p; input = i }) is
+-- a state stands there, and a comma is pending
+pub comma_there : (t : DeJsonState) (p : Place) (i : Chars) → pending t ≡ comma → place_of t ≡ p
+    → position t i ≡ at_comma p i
+comma_there t p i is stands =
+    ap (λ k. record { at = record { token = k; text = text_at (place_of t) i }; place = place_of t; input = i }) is
+    ∙ ap (λ q. at_comma q i) stands
