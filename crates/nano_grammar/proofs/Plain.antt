@@ -1,11 +1,14 @@
 -- What the calls come to that take values and fields with no token pending.
 use Rattle.std.proofs.Common.{◌≡◌, ◌<◌, ◌≤◌, ◌+◌, ℕ, Bool, false, List, [], ◌∷◌, ◌++◌, ◌⊎◌, inl, inr, length, cond}
 use Rattle.std.proofs.Common.{refl, sym, ap, subst, ◌∙◌, arith, append_assoc, append-nil, bytes_eq, true}
-use Rattle.nano_value.specs.Meaning.{Meaning}
+use Rattle.std.proofs.Common.{Some, None}
+use Rattle.nano_value.specs.Meaning.{Meaning, IsImage, optional}
+use Rattle.nano_grammar.specs.Scalars.{EncodesOption}
+use Rattle.nano_grammar.specs.Codec.{BeginsValue}
 use Rattle.nano_text.proofs.PlaceLaws.{moves_none}
 use Rattle.nano_grammar.specs.Tokens.{Cutting, Cuts}
 use Rattle.nano_grammar.specs.Codec.{Grammar}
-use Rattle.nano_grammar.specs.Items.{ListPunctuation, EncodedItems, EncodedList}
+use Rattle.nano_grammar.specs.Items.{ListPunctuation, EncodedItems, EncodedList, StartsOtherwise}
 use Rattle.nano_grammar.specs.Outcomes.{Position, Moved}
 use Rattle.nano_grammar.specs.ItemRuns.{TookItem}
 use Rattle.nano_grammar.specs.Plain.{TookPlainly, TookFieldPlainly}
@@ -38,6 +41,30 @@ module _ {T : Type 0} (cut : List ℕ → T → List ℕ → Type 0) where
         moves_none start.place start.input,
         record { decodes = (h.0, h.1, r.2); place = moved },
       )
+
+-- ---- options
+
+module _ {T : Type 0} (cut : List ℕ → T → List ℕ → Type 0) (g : Grammar T) (S : List T → Meaning → Type 0)
+    {text : List ℕ} where
+  -- what is absent
+  pub null_taken : {rest : List ℕ} → cut text g.none rest
+      → TookPlainly cut (λ ts. IsImage optional (EncodesOption g.none S ts)) text rest (optional None)
+  null_taken {rest} h = (g.none ∷ [], record { part = None; has = refl; is = refl }, (rest, h, refl))
+
+  starts_otherwise : (left : List ℕ) (ts : List T) → BeginsValue g ts
+      → ((left : List ℕ) → cut text g.none left → ⊥) → Cuts cut ts text left → StartsOtherwise g.none ts
+  starts_otherwise left [] begins other h = absurd begins
+  starts_otherwise left (t ∷ ts) begins other h = λ e. other h.0 (subst (λ (u : T). cut text u h.0) e h.1)
+
+  -- an item that does not begin with that
+  pub some_taken : {rest : List ℕ} (m : Meaning) → ((ts : List T) (y : Meaning) → S ts y → BeginsValue g ts)
+      → ((left : List ℕ) → cut text g.none left → ⊥) → TookPlainly cut S text rest m
+      → TookPlainly cut (λ ts. IsImage optional (EncodesOption g.none S ts)) text rest (optional (Some m))
+  some_taken {rest} m begins other h = (
+    h.0,
+    record { part = Some m; has = (h.1, starts_otherwise rest h.0 (begins h.0 m h.1) other h.2); is = refl },
+    h.2,
+  )
 
 -- ---- the field of a name
 

@@ -10,7 +10,8 @@ ghost use Rattle.nano_json.specs.ScalarCodecs.{booleans, units, boolean_codec, u
 ghost use Rattle.nano_json.specs.Outcomes.{position, Reads};
 
 use crate::traits::{DeJson, JsonCodec, SerJson};
-use nano_json_tokens::{DeJsonErr, DeJsonState, SerJsonState, end_on_error};
+use nano_json_tokens::{DeJsonErr, DeJsonState, SerJsonState, end_on_error, take_plain_bool};
+use nano_text::Place;
 use std::alloc::{AllocError, Global};
 use std::str::Chars;
 
@@ -53,6 +54,16 @@ impl DeJson for bool {
     ) -> Result<bool, DeJsonErr> {
         let read = read_bool(alloc, state, input);
         end_on_error(state, read)
+    }
+
+    #[inline(always)]
+    fn de_json_plain(
+        _alloc: Global,
+        place: &mut Place,
+        input: &mut Chars<'_>,
+        _text: &mut String,
+    ) -> Option<bool> {
+        take_plain_bool(place, input)
     }
 }
 

@@ -4,7 +4,8 @@ ghost use Rattle.nano_meaning.proofs.AgreesLaws.{option_agrees};
 ghost use Rattle.nano_json.specs.ContainerCodecs.{option_codec};
 
 use crate::traits::{DeJson, JsonCodec, SerJson};
-use nano_json_tokens::{DeJsonErr, DeJsonState, SerJsonState};
+use nano_json_tokens::{DeJsonErr, DeJsonState, SerJsonState, may_be_null, take_null};
+use nano_text::Place;
 use std::alloc::{AllocError, Global};
 use std::str::Chars;
 
@@ -35,5 +36,20 @@ impl<T: DeJson> DeJson for Option<T> {
         }
         let value = T::de_json(alloc, state, input)?;
         Ok(Some(value))
+    }
+
+    #[inline(always)]
+    fn de_json_plain(
+        alloc: Global,
+        place: &mut Place,
+        input: &mut Chars<'_>,
+        text: &mut String,
+    ) -> Option<Option<T>> {
+        if may_be_null(place, input) {
+            take_null(place, input)?;
+            return Some(None);
+        }
+        let value = T::de_json_plain(alloc, place, input, text)?;
+        Some(Some(value))
     }
 }

@@ -141,7 +141,11 @@ module _ (old : DeJsonState) (before : Chars) (new : DeJsonState) (after : Chars
     pub space : remaining new.cur after ≡ following is_space (remaining old.cur before)
     pub place : Moved old before new after
 
--- ==== items that are taken at once
+-- ==== values that are taken with no token pending
+
+-- a boolean alone
+abbrev pub ATruth : List Token → Bool → Type 0
+ATruth ts b = ts ≡ bool b ∷ []
 
 -- a number without a sign alone, of at most that
 abbrev pub AnUnsigned : ℕ → List Token → ℕ → Type 0

@@ -23,7 +23,10 @@ mod writer;
 pub use error::DeJsonErr;
 pub use input::{as_value_error, expect_end};
 pub use nano_text::bytes_left;
-pub use plain::{take_name, take_plain_integer, take_plain_unsigned, take_punctuator, take_text};
+pub use plain::{
+    may_be_null, take_name, take_null, take_plain_bool, take_plain_integer, take_plain_unsigned,
+    take_punctuator, take_text,
+};
 pub use rollback::end_on_error;
 pub use state::DeJsonState;
 pub use strings::append_string;

@@ -4,17 +4,34 @@
 //! Where a call answers that it took nothing, it may have moved the place and the input: callers
 //! hand in copies.
 
-ghost use Rattle.std.specs.Prelude.{◌≡◌, ◌≢◌, [], ◌∷◌, IfSome, Some, true, string_bytes};
+ghost use Rattle.std.specs.Prelude.{◌≡◌, ◌≢◌, ℕ, List, [], ◌∷◌, IfSome, Some, true, false, codes};
+ghost use Rattle.std.specs.Prelude.{string_bytes};
 ghost use Rattle.nano_text.specs.Outcomes.{Counts};
 ghost use Rattle.nano_text.specs.Place.{text_at};
 ghost use Rattle.nano_grammar.specs.Tokens.{Cuts};
-ghost use Rattle.nano_json_tokens.specs.Cut.{Cut};
+ghost use Rattle.nano_json_tokens.specs.Cut.{Cut, BeginsWithWord};
 ghost use Rattle.nano_json_tokens.specs.Outcomes.{TakesPlainly};
-ghost use Rattle.nano_json_tokens.specs.Scan.{AnUnsigned, AnInteger, IsInteger, punctuator_of};
-ghost use Rattle.nano_json_tokens.specs.Token.{Token, str, colon};
+ghost use Rattle.nano_json_tokens.specs.Scan.{ATruth, AnUnsigned, AnInteger, IsInteger, punctuator_of};
+ghost use Rattle.nano_json_tokens.specs.Token.{Token, str, colon, null};
 
+use crate::words::is_word;
 use nano_text::{Place, plain_string, read_string, take_negative, take_unsigned};
 use std::str::Chars;
+
+/// Takes this character, if it is the current one.
+#[inline(always)]
+fn take_character(place: &mut Place, input: &mut Chars<'_>, character: char) -> Option<()>
+    requires { character ≢ 0 }
+    ensures { IfSome result (λ _.
+        (text_at place.old input.old ≡ character ∷ text_at place.new input.new)
+        × Counts place.old input.old place.new input.new) }
+{
+    if place.cur != character {
+        return None;
+    }
+    place.next(input);
+    Some(())
+}
 
 /// Takes this punctuator, if it comes next, and answers whether it did.
 #[inline(always)]
@@ -30,6 +47,85 @@ pub fn take_punctuator(place: &mut Place, input: &mut Chars<'_>, punctuator: cha
     }
     place.next(input);
     true
+}
+
+/// Whether `null` may come next, by its first character.
+#[inline(always)]
+pub fn may_be_null(place: &Place, input: &Chars<'_>) -> bool
+    ensures { result ≡ false → (rest : List ℕ)
+        → Cut (text_at place.now input.now) null rest → ⊥ }
+{
+    let mut here = *place;
+    let mut rest = input.as_str().chars();
+    here.skip_space(&mut rest);
+    here.cur == 'n'
+}
+
+/// Takes `null`.
+#[inline(always)]
+pub fn take_null(place: &mut Place, input: &mut Chars<'_>) -> Option<()>
+    ensures { IfSome result (λ _.
+        Cut (text_at place.old input.old) null (text_at place.new input.new)
+        × Counts place.old input.old place.new input.new) }
+{
+    place.skip_space(input);
+    take_character(place, input, 'n')?;
+    take_character(place, input, 'u')?;
+    take_character(place, input, 'l')?;
+    take_character(place, input, 'l')?;
+    if is_word(place.cur) {
+        return None;
+    }
+    Some(())
+}
+
+/// Takes `true` or `false`.
+#[inline(always)]
+pub fn take_plain_bool(place: &mut Place, input: &mut Chars<'_>) -> Option<bool>
+    ensures { TakesPlainly ATruth (λ b. b) place.old input.old place.new input.new result }
+{
+    place.skip_space(input);
+    if place.cur == 't' {
+        take_true(place, input)?;
+        return Some(true);
+    }
+    take_false(place, input)?;
+    Some(false)
+}
+
+/// Takes `true` from the current character on.
+#[inline(always)]
+fn take_true(place: &mut Place, input: &mut Chars<'_>) -> Option<()>
+    ensures { IfSome result (λ _. BeginsWithWord (codes "true")
+        (text_at place.old input.old) (text_at place.new input.new)
+        × Counts place.old input.old place.new input.new) }
+{
+    take_character(place, input, 't')?;
+    take_character(place, input, 'r')?;
+    take_character(place, input, 'u')?;
+    take_character(place, input, 'e')?;
+    if is_word(place.cur) {
+        return None;
+    }
+    Some(())
+}
+
+/// Takes `false` from the current character on.
+#[inline(always)]
+fn take_false(place: &mut Place, input: &mut Chars<'_>) -> Option<()>
+    ensures { IfSome result (λ _. BeginsWithWord (codes "false")
+        (text_at place.old input.old) (text_at place.new input.new)
+        × Counts place.old input.old place.new input.new) }
+{
+    take_character(place, input, 'f')?;
+    take_character(place, input, 'a')?;
+    take_character(place, input, 'l')?;
+    take_character(place, input, 's')?;
+    take_character(place, input, 'e')?;
+    if is_word(place.cur) {
+        return None;
+    }
+    Some(())
 }
 
 /// Takes a name without an escape and the colon directly after it. The name is a part of the input.
