@@ -12,13 +12,13 @@ use Rattle.nano_grammar.specs.UserOutcomes.{FieldTokens, ReadField, LooksUp, Loo
 use Rattle.nano_grammar.proofs.FieldsLaws.{last_takes, others_known, others_unknown}
 use Rattle.nano_grammar.proofs.FieldReading.{to_first, to_second, first_of, second_of}
 
-or_first : (a b : Bool) → a ≡ true → a || b ≡ true
+pub or_first : (a b : Bool) → a ≡ true → a || b ≡ true
 or_first a b e = ap (λ x. x || b) e
 
-or_second : (a b : Bool) → a ≡ false → a || b ≡ b
+pub or_second : (a b : Bool) → a ≡ false → a || b ≡ b
 or_second a b e = ap (λ x. x || b) e
 
-never : {A : Type 0} {b : Bool} → b ≡ true → b ≡ false → A
+pub never : {A : Type 0} {b : Bool} → b ≡ true → b ≡ false → A
 never t f = absurd (let x = sym t ∙ f in cc x)
 
 -- tokens, and what encodes a value after them

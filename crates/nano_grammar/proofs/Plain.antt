@@ -11,11 +11,12 @@ use Rattle.nano_grammar.specs.Codec.{Grammar}
 use Rattle.nano_grammar.specs.Items.{ListPunctuation, EncodedItems, EncodedList, StartsOtherwise}
 use Rattle.nano_grammar.specs.Outcomes.{Position, Moved}
 use Rattle.nano_grammar.specs.ItemRuns.{TookItem}
-use Rattle.nano_grammar.specs.Plain.{TookPlainly, TookFieldPlainly}
+use Rattle.nano_grammar.specs.Plain.{TookPlainly, TookFieldPlainly, LooksUpPlainly}
 use Rattle.nano_grammar.specs.Fields.{FieldStyle, Field, Shape, Allowed, EncodedField, EncodedFields}
 use Rattle.nano_grammar.specs.Fields.{both_fields, others, LastEncodes}
 use Rattle.nano_grammar.proofs.FieldsLaws.{last_takes, others_known, others_unknown}
 use Rattle.nano_grammar.proofs.FieldReading.{to_first, to_second}
+use Rattle.nano_grammar.proofs.FieldCalls.{or_first, or_second, never}
 use Rattle.nano_grammar.proofs.TokensLaws.{CutLaws, cuts_append, leaves_from_cuts}
 
 module _ {T : Type 0} (cut : List ℕ → T → List ℕ → Type 0) where
@@ -83,37 +84,58 @@ module _ {T : Type 0} (cut : List ℕ → T → List ℕ → Type 0) (name : Lis
         (h.0, last_takes label fs (record { name = name; value = h.0 }) is, h.1);
   }
 
+  module _ {shape : Shape T} {before after : List (Field T) → Type 0} (same : Type 0) {text rest : List ℕ} where
+    -- a field has the name
+    pub field_found : shape.knows name ≡ true → TookFieldPlainly cut name shape.takes before after text rest
+        → LooksUpPlainly cut name shape before after same text rest true
+    field_found is h = record { known_is = sym is; taken = λ _. h; unknown = λ e. never refl e }
+
+    -- none has it
+    pub no_field : shape.knows name ≡ false → same
+        → LooksUpPlainly cut name shape before after same text rest false
+    no_field is all = record { known_is = sym is; taken = λ e. never e refl; unknown = λ _. all }
+
   module _ (a b : Shape T) {text rest : List ℕ} where
     -- the first have the name
-    pub first_taken : {A A' : List (Field T) → Type 0} (B : List (Field T) → Type 0)
-        → a.knows name ≡ true → TookFieldPlainly cut name a.takes A A' text rest
-        → TookFieldPlainly cut name (both_fields a b).takes (λ fs. A fs × B (others a.knows fs))
-        (λ fs. A' fs × B (others a.knows fs)) text rest
-    first_taken B is h =
+    pub first_has : {A A' : List (Field T) → Type 0} (B : List (Field T) → Type 0) {other : Type 0} (same : Type 0)
+        → LooksUpPlainly cut name a A A' other text rest true
+        → LooksUpPlainly cut name (both_fields a b) (λ fs. A fs × B (others a.knows fs))
+        (λ fs. A' fs × B (others a.knows fs)) same text rest true
+    first_has B same k =
+        let is = sym k.known_is in
+        let h = k.taken refl in
         let f : Field T = record { name = name; value = h.value } in
-        record {
+        field_found same (or_first (a.knows name) (b.knows name) is) (record {
           value = h.value;
           allowed = to_first (a.knows name) (a.takes name h.value) (b.takes name h.value) is h.allowed;
           taken = h.taken;
           held = λ fs x. (h.held fs x.0, subst B (sym (others_known a.knows fs f is)) x.1);
-        }
+        })
 
-    -- the second have it
-    pub second_taken : {A A' B B' : List (Field T) → Type 0} → a.knows name ≡ false
+    -- the second are asked for it, where the first have not taken anything
+    pub second_has : {A A' B B' : List (Field T) → Type 0} {other : Type 0} (same : Type 0) {known : Bool}
+        {mid : List ℕ} → mid ≡ text → a.knows name ≡ false
         → ((fs : List (Field T)) (f : Field T) → a.knows f.name ≡ false → A fs → A' (fs ++ f ∷ []))
-        → TookFieldPlainly cut name b.takes B B' text rest
-        → TookFieldPlainly cut name (both_fields a b).takes (λ fs. A fs × B (others a.knows fs))
-        (λ fs. A' fs × B' (others a.knows fs)) text rest
-    second_taken {B' = B'} unknown skips h =
-        let f : Field T = record { name = name; value = h.value } in
+        → (other → same) → LooksUpPlainly cut name b B B' other mid rest known
+        → LooksUpPlainly cut name (both_fields a b) (λ fs. A fs × B (others a.knows fs))
+        (λ fs. A' fs × B' (others a.knows fs)) same text rest known
+    second_has {B' = B'} same still unknown skips all k =
+        let either_knows = or_second (a.knows name) (b.knows name) unknown in
         record {
-          value = h.value;
-          allowed = to_second (a.knows name) (a.takes name h.value) (b.takes name h.value) unknown h.allowed;
-          taken = h.taken;
-          held = λ fs x. (
-            skips fs f unknown x.0,
-            subst B' (sym (others_unknown a.knows fs f unknown)) (h.held (others a.knows fs) x.1),
-          );
+          known_is = k.known_is ∙ sym either_knows;
+          taken = λ is.
+              let h = k.taken is in
+              let f : Field T = record { name = name; value = h.value } in
+              record {
+                value = h.value;
+                allowed = to_second (a.knows name) (a.takes name h.value) (b.takes name h.value) unknown h.allowed;
+                taken = subst (λ (l : List ℕ). Cuts cut h.value l rest) still h.taken;
+                held = λ fs x. (
+                  skips fs f unknown x.0,
+                  subst B' (sym (others_unknown a.knows fs f unknown)) (h.held (others a.knows fs) x.1),
+                );
+              };
+          unknown = λ e. all (k.unknown e);
         }
 
 -- ---- all fields

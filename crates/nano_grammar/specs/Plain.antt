@@ -1,7 +1,7 @@
 -- Values and fields that are taken from a text with no token pending.
-use Rattle.std.specs.Prelude.{ℕ, List, [], ◌∷◌, ◌++◌}
+use Rattle.std.specs.Prelude.{◌≡◌, ℕ, Bool, true, false, List, [], ◌∷◌, ◌++◌}
 use Rattle.nano_grammar.specs.Tokens.{Cuts}
-use Rattle.nano_grammar.specs.Fields.{Field}
+use Rattle.nano_grammar.specs.Fields.{Field, Shape}
 
 module _ {T : Type 0} (cut : List ℕ → T → List ℕ → Type 0) where
   -- an encoding of the value was cut from the text, and that is left
@@ -18,3 +18,11 @@ module _ {T : Type 0} (cut : List ℕ → T → List ℕ → Type 0) where
       pub taken : Cuts cut value text rest
       pub held : (fs : List (Field T)) → before fs
           → after (fs ++ record { name = name; value = value } ∷ [])
+
+  module _ (name : List ℕ) (shape : Shape T) (before after : List (Field T) → Type 0)
+      (same : Type 0) (text rest : List ℕ) where
+    -- whether one of the fields has the name: then its value was taken, and else all is the same
+    pub record LooksUpPlainly (known : Bool) : Type 0 where
+      pub known_is : known ≡ shape.knows name
+      pub taken : known ≡ true → TookFieldPlainly name shape.takes before after text rest
+      pub unknown : known ≡ false → same

@@ -15,7 +15,12 @@ use Rattle.nano_grammar.specs.UserOutcomes.{GivesValues as GivesValuesBy, Misses
 use Rattle.nano_grammar.specs.UserOutcomes.{HoldsFields as HoldsFieldsBy}
 use Rattle.nano_grammar.specs.UserOutcomes.{ReadsChoice as ReadsChoiceBy, ReadsEnum as ReadsEnumBy}
 use Rattle.nano_json_schema.specs.Variants.{is_alone, bytes_of}
-use Rattle.nano_json_schema.specs.Reading.{Field, Shape, Allowed, Encodings}
+use Rattle.nano_json_schema.specs.Reading.{Field, Shape, Allowed, EncodesFields, Encodings}
+use Rattle.std.specs.Prelude.{Option, IfSome}
+use Rattle.std.specs.declared.str.Chars.{Chars}
+use Rattle.nano_text.specs.Place.{text_at, Moves}
+use Rattle.nano_text.specs.declared.place.Place.{Place}
+use Rattle.nano_grammar.specs.Plain.{TookPlainly, LooksUpPlainly}
 use Rattle.nano_json_schema.specs.FieldCodecs.{json_fields}
 use Rattle.nano_json_schema.specs.VariantCodecs.{json_variants}
 use Rattle.nano_json_schema.specs.declared.variants.VariantName.{VariantName}
@@ -63,11 +68,36 @@ module _ (shape : Shape) (holds : List Field → Type 0) where
       → Type 0
   HoldsFields start end result = HoldsFieldsBy json_fields shape holds start end report result
 
--- a call makes a value with this meaning, which is encoded; it fails for want of memory alone
+-- ---- fields that are taken with no token pending
+
+-- a call takes the value of the field with this name, if one has it, and else leaves all the same
+abbrev pub TakesFieldPlainly : List ℕ → Shape → (List Field → Type 0) → (List Field → Type 0) → Type 0
+    → Place → Chars → Place → Chars → Option Bool → Type 0
+TakesFieldPlainly name shape before after same p i q j result = IfSome result
+    (λ known. LooksUpPlainly Cut name shape before after same (text_at p i) (text_at q j) known
+    × Moves p i q j)
+
+module _ (shape : Shape) (holds : List Field → Type 0) where
+  -- a call takes fields between braces: what they mean is encoded there
+  abbrev pub HoldsPlainly : {A : Type 0} → Place → Chars → Place → Chars → Option A → Type 0
+  HoldsPlainly p i q j result = IfSome result (λ _.
+      ((m : Meaning) → ((fs : List Field) → holds fs → shape.means fs m)
+      → TookPlainly Cut (EncodesFields shape) (text_at p i) (text_at q j) m) × Moves p i q j)
+
+  -- a call gives values which mean what the fields do that are held, or none
+  abbrev pub GivesWhole : {A : Type 0} → (A → Meaning) → Option A → Type 0
+  GivesWhole means result =
+      IfSome result (λ values. (fs : List Field) → holds fs → shape.means fs (means values))
+
+-- the meaning is the default, and is encoded
+abbrev pub IsDefault : (List Token → Meaning → Type 0) → Meaning → Meaning → Type 0
+IsDefault encodes m default = (m ≡ default) × HasEncoding encodes m
+
+-- a call makes the default; it fails for want of memory alone
 abbrev pub GivesDefault : {A : Type 0} → (List Token → Meaning → Type 0) → (A → Meaning) → Meaning
     → DeJsonState → Result A DeJsonErr → Type 0
 GivesDefault encodes means default s result = MatchResult result
-    (λ value. (means value ≡ default) × HasEncoding encodes (means value))
+    (λ value. IsDefault encodes (means value) default)
     (λ e. Misses ⊥ (place_of s) (report e))
 
 -- ---- variants

@@ -1,8 +1,9 @@
 //! A field that has a default where it is missing.
 
+ghost use Rattle.std.specs.Prelude.{IfSome};
 ghost use Rattle.std.specs.Option.{option_map};
 ghost use Rattle.nano_json_schema.specs.FieldCodecs.{defaulted_field};
-ghost use Rattle.nano_json_schema.specs.Outcomes.{GivesDefault};
+ghost use Rattle.nano_json_schema.specs.Outcomes.{GivesDefault, IsDefault};
 ghost use Rattle.nano_grammar.specs.Fields.{Holds};
 ghost use Rattle.nano_grammar.proofs.FieldsLaws.{holds_skips};
 
@@ -10,6 +11,7 @@ use crate::fields::{JsonFields, JsonRefs, JsonShape};
 use crate::writer::append_field;
 use nano_json::{DeJson, DeJsonErr, DeJsonState, JsonCodec, SerJson, SerJsonState};
 use nano_schema::{DefaultOf, Defaulted, Label};
+use nano_text::Place;
 use std::alloc::{AllocError, Global};
 use std::str::Chars;
 
@@ -29,12 +31,23 @@ fn missing<T: DeJson, D: JsonDefaultOf<T>>(
     ensures { GivesDefault T.json.encoding.encodes T.json.canonical.means D.DefaultOf.missing
         state.now result }
 {
+    match default_value::<T, D>(alloc) {
+        Some(value) => Ok(value),
+        None => Err(state.err_memory(alloc)),
+    }
+}
+
+/// The default, unless memory ran out.
+fn default_value<T: DeJson, D: JsonDefaultOf<T>>(alloc: Global) -> Option<T>
+    ensures { IfSome result (λ value. IsDefault T.json.encoding.encodes
+        (T.json.canonical.means value) D.DefaultOf.missing) }
+{
     match D::default(alloc) {
         Ok(value) => {
             value.known();
-            Ok(value)
+            Some(value)
         }
-        Err(_error) => Err(state.err_memory(alloc)),
+        Err(_error) => None,
     }
 }
 
@@ -74,6 +87,32 @@ impl<N: Label, T: DeJson, D: JsonDefaultOf<T>> JsonFields for Defaulted<N, T, D>
         let value = T::de_json(alloc, state, input)?;
         *slots = Some(value);
         Ok(true)
+    }
+
+    #[inline(always)]
+    fn take_field(
+        name: &str,
+        slots: &mut Option<T>,
+        alloc: Global,
+        place: &mut Place,
+        input: &mut Chars<'_>,
+        text: &mut String,
+    ) -> Option<bool> {
+        if name != N::text() {
+            return Some(false);
+        }
+        let value = T::de_json_plain(alloc, place, input, text)?;
+        *slots = Some(value);
+        Some(true)
+    }
+
+    #[inline(always)]
+    #[tactic(auto, using(nano_grammar::proofs::DefaultsLaws::meant_values))]
+    fn whole(slots: Option<T>, alloc: Global) -> Option<T> {
+        match slots {
+            Some(value) => Some(value),
+            None => default_value::<T, D>(alloc),
+        }
     }
 
     #[tactic(auto, using(nano_grammar::proofs::DefaultsLaws::meant_values))]

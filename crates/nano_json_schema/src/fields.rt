@@ -7,9 +7,11 @@ ghost use Rattle.nano_json.specs.Outcomes.{position, Keeps};
 ghost use Rattle.nano_grammar.specs.FieldCodec.{FieldsCodec, field_text};
 ghost use Rattle.nano_json_schema.specs.Reading.{Field};
 ghost use Rattle.nano_json_schema.specs.Outcomes.{in_a_row, none_yet, ReadsField, GivesValues};
+ghost use Rattle.nano_json_schema.specs.Outcomes.{TakesFieldPlainly, GivesWhole};
 ghost use Rattle.nano_json_schema.specs.FieldCodecs.{json_fields};
 
 use nano_json::{DeJsonErr, DeJsonState, SerJsonState};
+use nano_text::Place;
 use std::alloc::{AllocError, Global};
 use std::str::Chars;
 
@@ -58,6 +60,37 @@ pub trait JsonFields {
         ensures { ReadsField name.now codec.struct.shape (holds slots.old) (holds slots.new)
             ((slots.new ≡ slots.old) × Keeps state.old input.old state.new input.new)
             (position state.old input.old) (position state.new input.new) result };
+
+    /// Takes the value of the field with this name, where it stands plainly, and puts it in place of
+    /// an earlier one. Answers whether a field has the name; where none has, nothing is taken.
+    ///
+    /// `None` says nothing of what stands there, and the place and the input, which are copies, may
+    /// have moved, as `text` may, which is room for a text. So fields that always answer `None`
+    /// lose speed alone.
+    #[inline(always)]
+    fn take_field(
+        name: &str,
+        slots: &mut Self::Slots,
+        alloc: Global,
+        place: &mut Place,
+        input: &mut Chars<'_>,
+        text: &mut String,
+    ) -> Option<bool>
+        ensures { TakesFieldPlainly name.now codec.struct.shape (holds slots.old) (holds slots.new)
+            ((slots.new ≡ slots.old) × (place.new ≡ place.old) × (input.new ≡ input.old))
+            place.old input.old place.new input.new result }
+    {
+        None
+    }
+
+    /// The values that the slots hold, unless one is missing that must be there.
+    #[inline(always)]
+    fn whole(slots: Self::Slots, alloc: Global) -> Option<Self::Values>
+        ensures { GivesWhole codec.struct.shape (holds slots) codec.canonical.means result }
+    {
+        Self::discard(slots);
+        None
+    }
 
     /// The values that the slots hold. It fails with `Key not found {name}` for the first field
     /// that must be there and is missing.

@@ -15,6 +15,7 @@ mod names;
 mod optional;
 mod pairs;
 mod part;
+mod plain;
 mod read;
 mod record;
 mod required;
@@ -31,7 +32,7 @@ pub use fields::{JsonFields, JsonRefs, JsonShape};
 pub use nano_json::{BothJson, DeJson, DeJsonErr, DeJsonState, JsonCodec, SerJson, SerJsonState};
 pub use part::Part;
 pub use read::read_fields;
-pub use record::{read_parts_json, read_record_json, write_record_json};
+pub use record::{read_parts_json, read_record_json, take_record_json, write_record_json};
 pub use variant_writer::{write_fields_variant, write_unit_variant, write_variant};
 pub use variants::{
     VariantName, read_content, read_fields_content, read_variant_name, unknown_variant,

@@ -10,6 +10,7 @@ use crate::fields::{JsonFields, JsonRefs, JsonShape};
 use crate::writer::append_field;
 use nano_json::{DeJson, DeJsonErr, DeJsonState, JsonCodec, SerJson, SerJsonState};
 use nano_schema::{Label, Optional};
+use nano_text::Place;
 use std::alloc::{AllocError, Global};
 use std::str::Chars;
 
@@ -49,6 +50,28 @@ impl<N: Label, T: DeJson> JsonFields for Optional<N, T> {
         let value = Option::<T>::de_json(alloc, state, input)?;
         *slots = value;
         Ok(true)
+    }
+
+    #[inline(always)]
+    fn take_field(
+        name: &str,
+        slots: &mut Option<T>,
+        alloc: Global,
+        place: &mut Place,
+        input: &mut Chars<'_>,
+        text: &mut String,
+    ) -> Option<bool> {
+        if name != N::text() {
+            return Some(false);
+        }
+        let value = Option::<T>::de_json_plain(alloc, place, input, text)?;
+        *slots = value;
+        Some(true)
+    }
+
+    #[inline(always)]
+    fn whole(slots: Option<T>, _alloc: Global) -> Option<Option<T>> {
+        Some(slots)
     }
 
     fn values(

@@ -6,6 +6,7 @@ ghost use Rattle.nano_grammar.proofs.FieldsLaws.{both_skip};
 
 use crate::fields::{JsonFields, JsonRefs, JsonShape};
 use nano_json::{DeJsonErr, DeJsonState, SerJsonState};
+use nano_text::Place;
 use std::alloc::{AllocError, Global};
 use std::str::Chars;
 
@@ -45,6 +46,39 @@ impl<A: JsonFields, B: JsonFields> JsonFields for (A, B) {
             return Ok(true);
         }
         B::read_field(name, &mut slots.1, alloc, state, input)
+    }
+
+    #[inline(always)]
+    fn take_field(
+        name: &str,
+        slots: &mut (A::Slots, B::Slots),
+        alloc: Global,
+        place: &mut Place,
+        input: &mut Chars<'_>,
+        text: &mut String,
+    ) -> Option<bool> {
+        if A::take_field(name, &mut slots.0, alloc, place, input, text)? {
+            return Some(true);
+        }
+        B::take_field(name, &mut slots.1, alloc, place, input, text)
+    }
+
+    #[inline(always)]
+    fn whole(slots: (A::Slots, B::Slots), alloc: Global) -> Option<(A::Values, B::Values)> {
+        let (first, second) = slots;
+        match A::whole(first, alloc) {
+            Some(values) => match B::whole(second, alloc) {
+                Some(more) => Some((values, more)),
+                None => {
+                    A::discard_values(values);
+                    None
+                }
+            },
+            None => {
+                B::discard(second);
+                None
+            }
+        }
     }
 
     fn values(

@@ -3,16 +3,19 @@
 ghost use Rattle.std.specs.Prelude.{OnOk, OnErr};
 ghost use Rattle.nano_text.specs.Outcomes.{Appends, Unchanged};
 ghost use Rattle.nano_json.specs.Outcomes.{position, ReadsOrEnds};
+ghost use Rattle.nano_json_tokens.specs.Outcomes.{TakesPlainly};
 ghost use Rattle.nano_schema.specs.Views.{SeesAs};
 ghost use Rattle.nano_grammar.specs.FieldCodec.{fields_text};
 ghost use Rattle.nano_json_schema.specs.Reading.{EncodesFields};
 ghost use Rattle.nano_json_schema.specs.FieldCodecs.{json_fields};
 
 use crate::fields::{JsonFields, JsonRefs};
+use crate::plain::take_fields;
 use crate::read::read_fields;
 use crate::writer::write_fields;
 use nano_json::{DeJson, DeJsonErr, DeJsonState, SerJsonState};
 use nano_schema::{FieldRefs, StructSchema};
+use nano_text::Place;
 use std::alloc::{AllocError, Global};
 use std::str::Chars;
 
@@ -33,6 +36,23 @@ pub fn read_record_json<R: StructSchema, F: JsonFields<Values = R::Values>>(
         Ok(values) => Ok(R::make(values)),
         Err(error) => Err(error),
     }
+}
+
+/// Takes a user-defined struct, where it stands plainly. `None` says nothing of what stands there,
+/// and the place and the input, which are copies, may have moved.
+#[inline(always)]
+pub fn take_record_json<R: StructSchema, F: JsonFields<Values = R::Values>>(
+    alloc: Global,
+    place: &mut Place,
+    input: &mut Chars<'_>,
+    text: &mut String,
+) -> Option<R>
+    ensures { TakesPlainly (EncodesFields F.codec.struct.shape)
+        (λ value. F.codec.canonical.means (R.view value))
+        place.old input.old place.new input.new result }
+{
+    let values = take_fields::<F>(alloc, place, input, text)?;
+    Some(R::make(values))
 }
 
 /// Reads a user-defined tuple struct, which is encoded as the tuple of its elements. The

@@ -9,6 +9,7 @@ use crate::fields::{JsonFields, JsonRefs, JsonShape};
 use crate::writer::append_field;
 use nano_json::{DeJson, DeJsonErr, DeJsonState, JsonCodec, SerJson, SerJsonState};
 use nano_schema::{Label, Required};
+use nano_text::Place;
 use std::alloc::{AllocError, Global};
 use std::str::Chars;
 
@@ -48,6 +49,28 @@ impl<N: Label, T: DeJson> JsonFields for Required<N, T> {
         let value = T::de_json(alloc, state, input)?;
         *slots = Some(value);
         Ok(true)
+    }
+
+    #[inline(always)]
+    fn take_field(
+        name: &str,
+        slots: &mut Option<T>,
+        alloc: Global,
+        place: &mut Place,
+        input: &mut Chars<'_>,
+        text: &mut String,
+    ) -> Option<bool> {
+        if name != N::text() {
+            return Some(false);
+        }
+        let value = T::de_json_plain(alloc, place, input, text)?;
+        *slots = Some(value);
+        Some(true)
+    }
+
+    #[inline(always)]
+    fn whole(slots: Option<T>, _alloc: Global) -> Option<T> {
+        slots
     }
 
     fn values(slots: Option<T>, alloc: Global, state: &DeJsonState) -> Result<T, DeJsonErr> {

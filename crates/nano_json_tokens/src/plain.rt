@@ -6,6 +6,7 @@
 
 ghost use Rattle.std.specs.Prelude.{◌≡◌, ◌≢◌, ℕ, List, [], ◌∷◌, IfSome, Some, true, false, codes};
 ghost use Rattle.std.specs.Prelude.{string_bytes};
+ghost use Rattle.nano_text.specs.Characters.{following, is_space};
 ghost use Rattle.nano_text.specs.Outcomes.{Counts};
 ghost use Rattle.nano_text.specs.Place.{text_at};
 ghost use Rattle.nano_grammar.specs.Tokens.{Cuts};
@@ -33,12 +34,14 @@ fn take_character(place: &mut Place, input: &mut Chars<'_>, character: char) -> 
     Some(())
 }
 
-/// Takes this punctuator, if it comes next, and answers whether it did.
+/// Takes this punctuator, if it comes next, and answers whether it did. White space is passed, else.
 #[inline(always)]
 pub fn take_punctuator(place: &mut Place, input: &mut Chars<'_>, punctuator: char) -> bool
     requires { punctuator ≢ 0 }
     ensures taken { result ≡ true → (token : Token) → punctuator_of punctuator ≡ Some token
         → Cut (text_at place.old input.old) token (text_at place.new input.new) }
+    ensures other { result ≡ false
+        → text_at place.new input.new ≡ following is_space (text_at place.old input.old) }
     ensures counts { Counts place.old input.old place.new input.new }
 {
     place.skip_space(input);

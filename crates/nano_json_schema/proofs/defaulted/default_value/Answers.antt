@@ -1,5 +1,5 @@
 use Rattle.std.proofs.Common.{◌∙◌, ap, subst, sym}
-use Rattle.nano_json_schema.proofs.defaulted.missing.Goals as goal
+use Rattle.nano_json_schema.proofs.defaulted.default_value.Goals as goal
 
 pub returns-in-Ok : goal.returns-in-Ok
 returns-in-Ok g c =

@@ -1,0 +1,66 @@
+//! Named fields that stand plainly: they are taken with no token pending, and the place and the
+//! input remain in registers.
+//!
+//! `None` says nothing of what stands there: the place and the input, which are copies, may have
+//! moved, and `read` reads what is there.
+
+ghost use Rattle.std.specs.Prelude.{[]};
+ghost use Rattle.nano_json_tokens.specs.Outcomes.{TakesPlainly};
+ghost use Rattle.nano_json_schema.specs.Reading.{EncodesFields};
+ghost use Rattle.nano_json_schema.specs.Outcomes.{HoldsPlainly};
+
+use crate::fields::JsonFields;
+use nano_json_tokens::{take_name, take_punctuator};
+use nano_text::Place;
+use std::alloc::Global;
+use std::str::Chars;
+
+/// Takes named fields between braces, each of a known name without an escape.
+#[inline(always)]
+pub(crate) fn take_fields<F: JsonFields>(
+    alloc: Global,
+    place: &mut Place,
+    input: &mut Chars<'_>,
+    text: &mut String,
+) -> Option<F::Values>
+    ensures { TakesPlainly (EncodesFields F.codec.struct.shape) F.codec.canonical.means
+        place.old input.old place.new input.new result }
+{
+    let mut slots = F::empty();
+    if let None = take_list::<F>(&mut slots, alloc, place, input, text) {
+        F::discard(slots);
+        return None;
+    }
+    F::whole(slots, alloc)
+}
+
+/// Takes the fields between braces into the slots.
+#[inline(always)]
+fn take_list<F: JsonFields>(
+    slots: &mut F::Slots,
+    alloc: Global,
+    place: &mut Place,
+    input: &mut Chars<'_>,
+    text: &mut String,
+) -> Option<()>
+    requires { F.holds slots.old [] }
+    ensures { HoldsPlainly F.codec.struct.shape (F.holds slots.new)
+        place.old input.old place.new input.new result }
+{
+    if !take_punctuator(place, input, '{') {
+        return None;
+    }
+    'fields: loop {
+        let name = take_name(place, input)?;
+        if !F::take_field(name, slots, alloc, place, input, text)? {
+            return None;
+        }
+        if take_punctuator(place, input, ',') {
+            continue;
+        }
+        if !take_punctuator(place, input, '}') {
+            return None;
+        }
+        return Some(());
+    }
+}
