@@ -10,8 +10,9 @@ ghost use Rattle.nano_json_schema.specs.FieldCodecs.{ascii_names, fields_codec};
 
 use nano_bin::{BinCodec, DeBin, DeBinErr, SerBin, append_part};
 use nano_json::{DeJson, DeJsonErr, DeJsonState, JsonCodec, SerJson, SerJsonState};
-use nano_json_schema::{read_fields, write_fields};
+use nano_json_schema::{read_fields, take_fields, write_fields};
 use nano_schema::{Label, Optional, Required};
+use nano_text::Place;
 use nano_value::Value;
 use std::alloc::{AllocError, Global};
 use std::str::Chars;
@@ -109,5 +110,15 @@ impl DeJson for Item {
     ) -> Result<Item, DeJsonErr> {
         let (value, note) = read_fields::<ItemFields>(alloc, state, input)?;
         Ok(Item { value, note })
+    }
+
+    fn de_json_plain(
+        alloc: Global,
+        place: &mut Place,
+        input: &mut Chars<'_>,
+        text: &mut String,
+    ) -> Option<Item> {
+        let (value, note) = take_fields::<ItemFields>(alloc, place, input, text)?;
+        Some(Item { value, note })
     }
 }

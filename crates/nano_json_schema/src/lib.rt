@@ -31,6 +31,7 @@ pub use defaulted::JsonDefaultOf;
 pub use fields::{JsonFields, JsonRefs, JsonShape};
 pub use nano_json::{BothJson, DeJson, DeJsonErr, DeJsonState, JsonCodec, SerJson, SerJsonState};
 pub use part::Part;
+pub use plain::take_fields;
 pub use read::read_fields;
 pub use record::{read_parts_json, read_record_json, take_record_json, write_record_json};
 pub use variant_writer::{write_fields_variant, write_unit_variant, write_variant};

@@ -1,8 +1,5 @@
 //! Named fields that stand plainly: they are taken with no token pending, and the place and the
-//! input remain in registers.
-//!
-//! `None` says nothing of what stands there: the place and the input, which are copies, may have
-//! moved, and `read` reads what is there.
+//! input remain in registers. Where they do not stand so, `read` reads them.
 
 ghost use Rattle.std.specs.Prelude.{[]};
 ghost use Rattle.nano_json_tokens.specs.Outcomes.{TakesPlainly};
@@ -15,9 +12,10 @@ use nano_text::Place;
 use std::alloc::Global;
 use std::str::Chars;
 
-/// Takes named fields between braces, each of a known name without an escape.
+/// Takes named fields between braces, each of a known name without an escape. `None` says nothing
+/// of what stands there, and the place and the input, which are copies, may have moved.
 #[inline(always)]
-pub(crate) fn take_fields<F: JsonFields>(
+pub fn take_fields<F: JsonFields>(
     alloc: Global,
     place: &mut Place,
     input: &mut Chars<'_>,
