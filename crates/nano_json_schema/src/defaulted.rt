@@ -32,7 +32,7 @@ fn missing<T: DeJson, D: JsonDefaultOf<T>>(
         state.now result }
 {
     match default_value::<T, D>(alloc) {
-        Some(value) => Ok(value),
+        Some(default) => Ok(default),
         None => Err(state.err_memory(alloc)),
     }
 }
@@ -98,12 +98,11 @@ impl<N: Label, T: DeJson, D: JsonDefaultOf<T>> JsonFields for Defaulted<N, T, D>
         input: &mut Chars<'_>,
         text: &mut String,
     ) -> Option<bool> {
-        if name != N::text() {
-            return Some(false);
+        if name == N::text() {
+            *slots = Some(T::de_json_plain(alloc, place, input, text)?);
+            return Some(true);
         }
-        let value = T::de_json_plain(alloc, place, input, text)?;
-        *slots = Some(value);
-        Some(true)
+        Some(false)
     }
 
     #[inline(always)]

@@ -61,12 +61,11 @@ impl<N: Label, T: DeJson> JsonFields for Optional<N, T> {
         input: &mut Chars<'_>,
         text: &mut String,
     ) -> Option<bool> {
-        if name != N::text() {
-            return Some(false);
+        if name == N::text() {
+            *slots = Option::<T>::de_json_plain(alloc, place, input, text)?;
+            return Some(true);
         }
-        let value = Option::<T>::de_json_plain(alloc, place, input, text)?;
-        *slots = value;
-        Some(true)
+        Some(false)
     }
 
     #[inline(always)]

@@ -60,12 +60,11 @@ impl<N: Label, T: DeJson> JsonFields for Required<N, T> {
         input: &mut Chars<'_>,
         text: &mut String,
     ) -> Option<bool> {
-        if name != N::text() {
-            return Some(false);
+        if name == N::text() {
+            *slots = Some(T::de_json_plain(alloc, place, input, text)?);
+            return Some(true);
         }
-        let value = T::de_json_plain(alloc, place, input, text)?;
-        *slots = Some(value);
-        Some(true)
+        Some(false)
     }
 
     #[inline(always)]
