@@ -18,7 +18,7 @@ ghost use Rattle.nano_json.specs.Outcomes.{position, Reads};
 use crate::traits::{DeJson, JsonCodec, SerJson};
 use nano_grammar::Attempts;
 use nano_json_tokens::{
-    DeJsonErr, DeJsonState, DeJsonTok, SerJsonState, bytes_left, end_on_error, take_punctuator,
+    DeJsonErr, DeJsonState, DeJsonTok, SerJsonState, bytes_left, end_on_error, take_directly,
 };
 use nano_text::{Place, rollback_on_error};
 use nano_value::Collect;
@@ -47,7 +47,7 @@ fn take_item<T: DeJson>(
     let mut here = *place;
     let mut rest = input.as_str().chars();
     let item = T::de_json_plain(alloc, &mut here, &mut rest, text)?;
-    if !take_punctuator(&mut here, &mut rest, ',') {
+    if !take_directly(&mut here, &mut rest, ',') {
         return None;
     }
     *place = here;

@@ -52,12 +52,17 @@ fn read_unsigned<T: Unsigned>(
 
 /// Takes a whole number of at most `max`, which stands plainly.
 #[inline(always)]
-fn take_unsigned_of<T: Unsigned>(place: &mut Place, input: &mut Chars<'_>, max: u64) -> Option<T>
+fn take_unsigned_of<T: Unsigned>(
+    place: &mut Place,
+    input: &mut Chars<'_>,
+    max: u64,
+    text: &mut String,
+) -> Option<T>
     requires { 2 ^ T.bits ≡ max + 1 }
     ensures { TakesPlainly (unsigned T.bits).encodes (λ x. whole (T.value x))
         place.old input.old place.new input.new result }
 {
-    let number = take_plain_unsigned(place, input, max)?;
+    let number = take_plain_unsigned(place, input, max, text)?;
     Some(T::narrow(number))
 }
 
@@ -99,9 +104,9 @@ impl DeJson for u8 {
         _alloc: Global,
         place: &mut Place,
         input: &mut Chars<'_>,
-        _text: &mut String,
+        text: &mut String,
     ) -> Option<u8> {
-        take_unsigned_of(place, input, u8::MAX as u64)
+        take_unsigned_of(place, input, u8::MAX as u64, text)
     }
 }
 
@@ -143,9 +148,9 @@ impl DeJson for u16 {
         _alloc: Global,
         place: &mut Place,
         input: &mut Chars<'_>,
-        _text: &mut String,
+        text: &mut String,
     ) -> Option<u16> {
-        take_unsigned_of(place, input, u16::MAX as u64)
+        take_unsigned_of(place, input, u16::MAX as u64, text)
     }
 }
 
@@ -187,9 +192,9 @@ impl DeJson for u32 {
         _alloc: Global,
         place: &mut Place,
         input: &mut Chars<'_>,
-        _text: &mut String,
+        text: &mut String,
     ) -> Option<u32> {
-        take_unsigned_of(place, input, u32::MAX as u64)
+        take_unsigned_of(place, input, u32::MAX as u64, text)
     }
 }
 
@@ -231,9 +236,9 @@ impl DeJson for u64 {
         _alloc: Global,
         place: &mut Place,
         input: &mut Chars<'_>,
-        _text: &mut String,
+        text: &mut String,
     ) -> Option<u64> {
-        take_unsigned_of(place, input, u64::MAX)
+        take_unsigned_of(place, input, u64::MAX, text)
     }
 }
 
@@ -275,8 +280,8 @@ impl DeJson for usize {
         _alloc: Global,
         place: &mut Place,
         input: &mut Chars<'_>,
-        _text: &mut String,
+        text: &mut String,
     ) -> Option<usize> {
-        take_unsigned_of(place, input, usize::MAX as u64)
+        take_unsigned_of(place, input, usize::MAX as u64, text)
     }
 }

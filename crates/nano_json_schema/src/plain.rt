@@ -7,7 +7,7 @@ ghost use Rattle.nano_json_schema.specs.Reading.{EncodesFields};
 ghost use Rattle.nano_json_schema.specs.Outcomes.{HoldsPlainly};
 
 use crate::fields::JsonFields;
-use nano_json_tokens::{take_name, take_punctuator};
+use nano_json_tokens::{take_directly, take_name, take_punctuator};
 use nano_text::Place;
 use std::alloc::Global;
 use std::str::Chars;
@@ -53,7 +53,7 @@ fn take_list<F: JsonFields>(
         if !F::take_field(name, slots, alloc, place, input, text)? {
             return None;
         }
-        if take_punctuator(place, input, ',') {
+        if take_directly(place, input, ',') {
             continue;
         }
         if !take_punctuator(place, input, '}') {

@@ -16,7 +16,7 @@ use Rattle.nano_text.specs.declared.place.Place.{Place}
 use Rattle.nano_text.specs.declared.number.Number.TheVariants.{U64, I64}
 use Rattle.nano_text.proofs.PlaceLaws.{moves_none, moves_append, moves_from}
 use Rattle.nano_text.proofs.RemainingText.{first_is-remaining, same_remaining}
-use Rattle.nano_json_tokens.specs.Cut.{Cut, IsLexeme, IsPunctuator, starts_number, number}
+use Rattle.nano_json_tokens.specs.Cut.{Cut, IsLexeme, IsPunctuator, IsRunOf, starts_number, number}
 use Rattle.nano_json_tokens.specs.Cut.{punctuator, quoted, word, nothing, IsWord}
 use Rattle.nano_json_tokens.specs.Scan.{punctuator_of}
 use Rattle.nano_json_tokens.specs.Outcomes.{at_comma}
@@ -31,12 +31,6 @@ pub after_space : (t : Token) {text after rest : List ℕ} → after ≡ followi
     → IsLexeme t after rest → Cut text t rest
 after_space t {text} {after} {rest} space lexeme =
     lexeme_cut text t rest (subst (λ (s : List ℕ). IsLexeme t s rest) space lexeme)
-
--- a punctuator was taken there
-pub punctuator_after : (c d : ℕ) (t : Token) {text after rest : List ℕ} → after ≡ following is_space text
-    → after ≡ c ∷ rest → c ≡ d → punctuator_of d ≡ Some t → Cut text t rest
-punctuator_after c d t {text} {after} {rest} space first same is =
-    after_space t space (punctuator (subst (λ (s : List ℕ). IsPunctuator t s rest) (sym first) (punctuator_lexeme c rest t (ap punctuator_of same ∙ is))))
 
 -- a string was taken there
 pub string_after : (bytes characters : List ℕ) {text after rest : List ℕ} → after ≡ following is_space text
@@ -65,22 +59,10 @@ no_null_after cur i {text} rest space other h =
     let first = null_starts (following is_space text) rest (cut_lexeme text null rest h) in
     true≢false (sym first ∙ (ap (first_is is_n) (sym space) ∙ (first_is-remaining is_n cur i refl ∙ other)))
 
-digit_starts : (c : ℕ) → is_ascii_digit c ≡ true → starts_number c ≡ true
-digit_starts c digit = elim (is_sign c) as (λ b. (b || is_ascii_digit c) ≡ true) [
-  | true ↦ refl
-  | false ↦ digit
-]
-
--- a number that begins with a digit, or with a minus, is a lexeme
-pub unsigned_lexeme : (cur : ℕ) (i : Chars) (n : ℕ) (run rest : List ℕ) → is_ascii_digit cur ≡ true
-    → IsNumber (remaining cur i) (U64 n) run rest → IsLexeme (u64 n) (remaining cur i) rest
-unsigned_lexeme cur i n run rest digit is =
-    number (first_is-remaining starts_number cur i refl ∙ digit_starts cur digit) (run, is)
-
-pub negative_lexeme : (cur : ℕ) (i : Chars) (z : ℤ) (run rest : List ℕ) → cur ≡ 45
-    → IsNumber (remaining cur i) (I64 z) run rest → IsLexeme (i64 z) (remaining cur i) rest
-negative_lexeme cur i z run rest minus is =
-    number (first_is-remaining starts_number cur i refl ∙ ap starts_number minus) (run, is)
+-- a number that is current is a lexeme, whatever kind of number it is
+pub number_lexeme : (t : Token) (cur : ℕ) (i : Chars) {rest : List ℕ} → starts_number cur ≡ true
+    → IsRunOf t (remaining cur i) rest → IsLexeme t (remaining cur i) rest
+number_lexeme t cur i starts run = number (first_is-remaining starts_number cur i refl ∙ starts) run
 
 -- what is not less, whatever the two were computed from
 pub in_order : (low low_is high high_is : ℤ) → low ≡ low_is → high ≡ high_is → lt_z high low ≡ false

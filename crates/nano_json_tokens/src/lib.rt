@@ -24,8 +24,8 @@ pub use error::DeJsonErr;
 pub use input::{as_value_error, expect_end};
 pub use nano_text::bytes_left;
 pub use plain::{
-    may_be_null, take_name, take_null, take_plain_bool, take_plain_integer, take_plain_unsigned,
-    take_punctuator, take_text,
+    may_be_null, take_directly, take_name, take_null, take_plain_bool, take_plain_integer,
+    take_plain_unsigned, take_punctuator, take_text,
 };
 pub use rollback::end_on_error;
 pub use state::DeJsonState;

@@ -6,7 +6,6 @@
 
 ghost use Rattle.std.specs.Prelude.{◌≡◌, ◌≢◌, ℕ, List, [], ◌∷◌, IfSome, Some, true, false, codes};
 ghost use Rattle.std.specs.Prelude.{string_bytes};
-ghost use Rattle.nano_text.specs.Characters.{following, is_space};
 ghost use Rattle.nano_text.specs.Outcomes.{Counts};
 ghost use Rattle.nano_text.specs.Place.{text_at};
 ghost use Rattle.nano_grammar.specs.Tokens.{Cuts};
@@ -15,8 +14,9 @@ ghost use Rattle.nano_json_tokens.specs.Outcomes.{TakesPlainly};
 ghost use Rattle.nano_json_tokens.specs.Scan.{ATruth, AnUnsigned, AnInteger, IsInteger, punctuator_of};
 ghost use Rattle.nano_json_tokens.specs.Token.{Token, str, colon, null};
 
+use crate::scan::starts_number;
 use crate::words::is_word;
-use nano_text::{Place, plain_string, read_string, take_negative, take_unsigned};
+use nano_text::{Number, Place, plain_string, read_number, read_string, take_negative};
 use std::str::Chars;
 
 /// Takes this character, if it is the current one.
@@ -34,22 +34,32 @@ fn take_character(place: &mut Place, input: &mut Chars<'_>, character: char) -> 
     Some(())
 }
 
-/// Takes this punctuator, if it comes next, and answers whether it did. White space is passed, else.
+/// Takes this punctuator, if it is the current character, and answers whether it did.
 #[inline(always)]
-pub fn take_punctuator(place: &mut Place, input: &mut Chars<'_>, punctuator: char) -> bool
+pub fn take_directly(place: &mut Place, input: &mut Chars<'_>, punctuator: char) -> bool
     requires { punctuator ≢ 0 }
     ensures taken { result ≡ true → (token : Token) → punctuator_of punctuator ≡ Some token
         → Cut (text_at place.old input.old) token (text_at place.new input.new) }
-    ensures other { result ≡ false
-        → text_at place.new input.new ≡ following is_space (text_at place.old input.old) }
+    ensures other { result ≡ false → (place.new ≡ place.old) × (input.new ≡ input.old) }
     ensures counts { Counts place.old input.old place.new input.new }
 {
-    place.skip_space(input);
     if place.cur != punctuator {
         return false;
     }
     place.next(input);
     true
+}
+
+/// Takes this punctuator, if it comes next, and answers whether it did.
+#[inline(always)]
+pub fn take_punctuator(place: &mut Place, input: &mut Chars<'_>, punctuator: char) -> bool
+    requires { punctuator ≢ 0 }
+    ensures taken { result ≡ true → (token : Token) → punctuator_of punctuator ≡ Some token
+        → Cut (text_at place.old input.old) token (text_at place.new input.new) }
+    ensures counts { Counts place.old input.old place.new input.new }
+{
+    place.skip_space(input);
+    take_directly(place, input, punctuator)
 }
 
 /// Whether `null` may come next, by its first character.
@@ -140,7 +150,7 @@ pub fn take_name<'a>(place: &mut Place, input: &mut Chars<'a>) -> Option<&'a str
 {
     place.skip_space(input);
     let name = plain_string(place, input)?;
-    if !take_punctuator(place, input, ':') {
+    if !take_directly(place, input, ':') {
         return None;
     }
     Some(name)
@@ -160,14 +170,24 @@ pub fn take_text(place: &mut Place, input: &mut Chars<'_>, text: &mut String) ->
     }
 }
 
-/// Takes a whole number of at most `max` without a sign.
+/// Takes a whole number of at most `max` without a sign. `buffer` is room for another number.
 #[inline(always)]
-pub fn take_plain_unsigned(place: &mut Place, input: &mut Chars<'_>, max: u64) -> Option<u64>
+pub fn take_plain_unsigned(
+    place: &mut Place,
+    input: &mut Chars<'_>,
+    max: u64,
+    buffer: &mut String,
+) -> Option<u64>
     ensures { TakesPlainly (AnUnsigned max) (λ n. n)
         place.old input.old place.new input.new result }
 {
     place.skip_space(input);
-    let number = take_unsigned(place, input)?;
+    if !starts_number(place.cur) {
+        return None;
+    }
+    let Ok(Number::U64(number)) = read_number(place, input, buffer) else {
+        return None;
+    };
     if number > max {
         return None;
     }
@@ -176,34 +196,39 @@ pub fn take_plain_unsigned(place: &mut Place, input: &mut Chars<'_>, max: u64) -
 
 /// Takes the integer that begins here, where 64 bits hold it with its sign.
 #[inline(always)]
-fn take_integer(place: &mut Place, input: &mut Chars<'_>) -> Option<i64>
+fn take_integer(place: &mut Place, input: &mut Chars<'_>, buffer: &mut String) -> Option<i64>
     ensures found { IfSome result (λ z. IsInteger z
         (text_at place.old input.old) (text_at place.new input.new)) }
     ensures counts { Counts place.old input.old place.new input.new }
 {
-    if place.cur == '-' {
-        return take_negative(place, input);
+    if let Some(number) = take_negative(place, input) {
+        return Some(number);
     }
-    let number = take_unsigned(place, input)?;
-    if number > i64::MAX as u64 {
+    if !starts_number(place.cur) {
         return None;
     }
-    Some(number as i64)
+    match read_number(place, input, buffer) {
+        Ok(Number::U64(number)) if number <= i64::MAX as u64 => Some(number as i64),
+        Ok(Number::I64(number)) => Some(number),
+        _ => None,
+    }
 }
 
-/// Takes a whole number from `min` to `max`, with or without a minus.
+/// Takes a whole number from `min` to `max`, with or without a minus. `buffer` is room for another
+/// number.
 #[inline(always)]
 pub fn take_plain_integer(
     place: &mut Place,
     input: &mut Chars<'_>,
     min: i64,
     max: i64,
+    buffer: &mut String,
 ) -> Option<i64>
     ensures { TakesPlainly (AnInteger min max) (λ z. z)
         place.old input.old place.new input.new result }
 {
     place.skip_space(input);
-    let number = take_integer(place, input)?;
+    let number = take_integer(place, input, buffer)?;
     if number < min || max < number {
         return None;
     }

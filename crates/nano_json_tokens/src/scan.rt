@@ -158,7 +158,7 @@ impl DeJsonState {
 }
 
 #[inline]
-fn starts_number(c: char) -> bool
+pub(crate) fn starts_number(c: char) -> bool
     ensures { result ≡ starts_number c }
 {
     c.is_ascii_digit() || c == '-' || c == '+'

@@ -7,7 +7,7 @@ ghost use Rattle.nano_ron.specs.Codec.{codec_as};
 ghost use Rattle.nano_text.specs.Outcomes.{Appends, AppendsPart};
 ghost use Rattle.nano_grammar.specs.ItemRuns.{PutItems};
 ghost use Rattle.nano_ron_tokens.specs.Cut.{Cut};
-ghost use Rattle.nano_ron_tokens.specs.Outcomes.{Moved};
+ghost use Rattle.nano_ron_tokens.specs.Outcomes.{Moved, TakesItem, at_comma};
 ghost use Rattle.nano_ron_tokens.specs.Token.{comma};
 ghost use Rattle.nano_ron.specs.Lists.{on_a_line, after_indent, written_in, EncodesAll};
 ghost use Rattle.nano_ron.specs.ContainerCodecs.{vector_codec, linked_codec};
@@ -15,8 +15,11 @@ ghost use Rattle.nano_ron_tokens.proofs.StylesLaws.{line_style, indent_style};
 ghost use Rattle.nano_ron.specs.Outcomes.{position, Reads};
 
 use crate::traits::{DeRon, RonCodec, SerRon};
-use nano_ron_tokens::{DeRonErr, DeRonState, DeRonTok, SerRonState, append_comma, end_on_error};
-use nano_text::{bytes_left, rollback_on_error};
+use nano_grammar::Attempts;
+use nano_ron_tokens::{
+    DeRonErr, DeRonState, DeRonTok, SerRonState, append_comma, end_on_error, take_directly,
+};
+use nano_text::{Place, bytes_left, rollback_on_error};
 use nano_value::Collect;
 use std::alloc::{AllocError, Global};
 use std::collections::LinkedList;
@@ -28,13 +31,37 @@ impl<T: RonCodec> RonCodec for Vec<T> {
     ghost agrees = { seen_agrees (list_agrees T.agrees) (λ x. x.items) };
 }
 
-/// Puts the items that stand plainly after a pending comma into a collection. The comma after the
-/// last one is pending then.
+/// Takes the item that stands plainly after a pending comma, and the comma after it. `None` takes
+/// nothing.
+#[inline(always)]
+fn take_item<T: DeRon>(
+    alloc: Global,
+    place: &mut Place,
+    input: &mut Chars<'_>,
+    text: &mut String,
+) -> Option<T>
+    ensures { TakesItem T.ron.encoding.encodes T.means
+        (at_comma place.old input.old) (at_comma place.new input.new) result }
+{
+    let mut here = *place;
+    let mut rest = input.as_str().chars();
+    let item = T::de_ron_plain(alloc, &mut here, &mut rest, text)?;
+    if !take_directly(&mut here, &mut rest, ',') {
+        return None;
+    }
+    *place = here;
+    *input = rest;
+    Some(item)
+}
+
+/// Puts the items that stand plainly after a pending comma into a collection, where it is time to
+/// look for some. The comma after the last one is pending then.
 #[inline(always)]
 fn put_plain_items<T: DeRon, C: Collect<T>>(
     alloc: Global,
     state: &mut DeRonState,
     input: &mut Chars<'_>,
+    attempts: &mut Attempts,
     items: &mut C,
 ) -> Result<(), AllocError>
     ensures ok { OnOk result (PutItems Cut T.ron.encoding.encodes comma C.holds
@@ -44,16 +71,22 @@ fn put_plain_items<T: DeRon, C: Collect<T>>(
     let DeRonTok::Comma = state.tok else {
         return Ok(());
     };
+    if !attempts.is_due() {
+        return Ok(());
+    }
     // Copies, which remain in registers.
     let mut place = state.place();
     let mut rest = input.as_str().chars();
-    'items: while let Some(item) = T::de_ron_item(alloc, &mut place, &mut rest) {
+    let mut found = false;
+    'items: while let Some(item) = take_item::<T>(alloc, &mut place, &mut rest, &mut state.strbuf) {
+        found = true;
         if let Err(full) = items.put(item) {
             state.stand_at(place);
             *input = rest;
             return Err(full);
         }
     }
+    attempts.note(found);
     state.stand_at(place);
     *input = rest;
     Ok(())
@@ -72,13 +105,14 @@ pub(crate) fn read_list<T: DeRon, C: Collect<T>>(
     // A text has fewer than 2^63 bytes, so a `usize` counts its items.
     let _capacity = bytes_left(input);
     let mut items = C::empty(alloc);
+    let mut attempts = Attempts::new();
     state.block_open(alloc, input)?;
     'items: while !state.is_block_close() {
         let item = T::de_ron(alloc, state, input)?;
         let Ok(()) = items.put(item) else {
             return Err(state.err_memory(alloc));
         };
-        let Ok(()) = put_plain_items(alloc, state, input, &mut items) else {
+        let Ok(()) = put_plain_items(alloc, state, input, &mut attempts, &mut items) else {
             return Err(state.err_memory(alloc));
         };
         state.eat_comma_block(alloc, input)?;

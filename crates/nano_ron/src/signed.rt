@@ -8,10 +8,10 @@ ghost use Rattle.nano_meaning.proofs.AgreesLaws.{agreed};
 ghost use Rattle.nano_ron.specs.ScalarCodecs.{IsRangeOf, signed, signed_codec, within_8, within_16};
 ghost use Rattle.nano_ron.specs.ScalarCodecs.{within_32, within_64};
 ghost use Rattle.nano_ron.specs.Outcomes.{position, Reads};
-ghost use Rattle.nano_ron_tokens.specs.Outcomes.{TakesItem, at_comma};
+ghost use Rattle.nano_ron_tokens.specs.Outcomes.{TakesPlainly};
 
 use crate::traits::{DeRon, RonCodec, SerRon};
-use nano_ron_tokens::{DeRonErr, DeRonState, SerRonState, end_on_error, take_integer_item};
+use nano_ron_tokens::{DeRonErr, DeRonState, SerRonState, end_on_error, take_plain_integer};
 use nano_text::{Place, append_signed};
 use std::alloc::{AllocError, Global};
 use std::str::Chars;
@@ -51,20 +51,20 @@ fn read_signed<T: Signed>(
     Ok(T::narrow(number))
 }
 
-/// Takes a whole number from `min` to `max` after a comma, and the comma after it.
+/// Takes a whole number from `min` to `max`, which stands plainly.
 #[inline(always)]
 fn take_signed_of<T: Signed>(
     place: &mut Place,
     input: &mut Chars<'_>,
     min: i64,
     max: i64,
+    text: &mut String,
 ) -> Option<T>
     requires { IsRangeOf T.width min max }
-    ensures { TakesItem (signed T.width).encodes (λ x. number (T.value x))
-        (at_comma place.old input.old)
-        (at_comma place.new input.new) result }
+    ensures { TakesPlainly (signed T.width).encodes (λ x. number (T.value x))
+        place.old input.old place.new input.new result }
 {
-    let number = take_integer_item(place, input, min, max)?;
+    let number = take_plain_integer(place, input, min, max, text)?;
     Some(T::narrow(number))
 }
 
@@ -102,8 +102,13 @@ impl DeRon for i8 {
     }
 
     #[inline(always)]
-    fn de_ron_item(_alloc: Global, place: &mut Place, input: &mut Chars<'_>) -> Option<i8> {
-        take_signed_of(place, input, i8::MIN as i64, i8::MAX as i64)
+    fn de_ron_plain(
+        _alloc: Global,
+        place: &mut Place,
+        input: &mut Chars<'_>,
+        text: &mut String,
+    ) -> Option<i8> {
+        take_signed_of(place, input, i8::MIN as i64, i8::MAX as i64, text)
     }
 }
 
@@ -141,8 +146,13 @@ impl DeRon for i16 {
     }
 
     #[inline(always)]
-    fn de_ron_item(_alloc: Global, place: &mut Place, input: &mut Chars<'_>) -> Option<i16> {
-        take_signed_of(place, input, i16::MIN as i64, i16::MAX as i64)
+    fn de_ron_plain(
+        _alloc: Global,
+        place: &mut Place,
+        input: &mut Chars<'_>,
+        text: &mut String,
+    ) -> Option<i16> {
+        take_signed_of(place, input, i16::MIN as i64, i16::MAX as i64, text)
     }
 }
 
@@ -180,8 +190,13 @@ impl DeRon for i32 {
     }
 
     #[inline(always)]
-    fn de_ron_item(_alloc: Global, place: &mut Place, input: &mut Chars<'_>) -> Option<i32> {
-        take_signed_of(place, input, i32::MIN as i64, i32::MAX as i64)
+    fn de_ron_plain(
+        _alloc: Global,
+        place: &mut Place,
+        input: &mut Chars<'_>,
+        text: &mut String,
+    ) -> Option<i32> {
+        take_signed_of(place, input, i32::MIN as i64, i32::MAX as i64, text)
     }
 }
 
@@ -219,7 +234,12 @@ impl DeRon for i64 {
     }
 
     #[inline(always)]
-    fn de_ron_item(_alloc: Global, place: &mut Place, input: &mut Chars<'_>) -> Option<i64> {
-        take_signed_of(place, input, i64::MIN, i64::MAX)
+    fn de_ron_plain(
+        _alloc: Global,
+        place: &mut Place,
+        input: &mut Chars<'_>,
+        text: &mut String,
+    ) -> Option<i64> {
+        take_signed_of(place, input, i64::MIN, i64::MAX, text)
     }
 }

@@ -10,7 +10,8 @@ ghost use Rattle.nano_ron.specs.ScalarCodecs.{texts, text_codec};
 ghost use Rattle.nano_ron.specs.Outcomes.{position, Reads};
 
 use crate::traits::{DeRon, RonCodec, SerRon};
-use nano_ron_tokens::{DeRonErr, DeRonState, SerRonState, append_string, end_on_error};
+use nano_ron_tokens::{DeRonErr, DeRonState, SerRonState, append_string, end_on_error, take_text};
+use nano_text::Place;
 use std::alloc::{AllocError, Global};
 use std::str::Chars;
 
@@ -51,5 +52,22 @@ impl DeRon for String {
     ) -> Result<String, DeRonErr> {
         let read = read_string(alloc, state, input);
         end_on_error(state, read)
+    }
+
+    #[inline(always)]
+    fn de_ron_plain(
+        alloc: Global,
+        place: &mut Place,
+        input: &mut Chars<'_>,
+        text: &mut String,
+    ) -> Option<String> {
+        if !take_text(place, input, text) {
+            return None;
+        }
+        let _length = text.len();
+        match String::from_str(alloc, text.as_str()) {
+            Ok(copy) => Some(copy),
+            Err(_full) => None,
+        }
     }
 }

@@ -72,7 +72,7 @@ pub trait SerRon: RonCodec {
 pub trait DeRon: RonCodec + Drop {
     ghost use Rattle.nano_ron.specs.Outcomes.{position, ReadsOrEnds};
     ghost use Rattle.nano_ron.specs.Readers.{ReadsText, ReadsWhole};
-    ghost use Rattle.nano_ron_tokens.specs.Outcomes.{TakesItem, at_comma};
+    ghost use Rattle.nano_ron_tokens.specs.Outcomes.{TakesPlainly};
 
     /// Reads the value that the tokens from the pending one on encode. The token after the
     /// value is pending then, which may be the end.
@@ -97,15 +97,21 @@ pub trait DeRon: RonCodec + Drop {
         ensures { ReadsOrEnds Self.ron.encoding.encodes Self.means
             (position state.old input.old) (position state.new input.new) result };
 
-    /// Takes a value of one token after a pending comma, and the comma that stands directly
-    /// after it. Lists call it for one item after the other, and keep the place in registers.
+    /// Takes the value that comes next, where it stands plainly. Lists take one item after the other
+    /// by it, and keep the place and the input in registers. `text` is room for a text: what it
+    /// holds counts for nothing before and after.
     ///
-    /// `None` takes nothing. It says nothing of what stands there: `de_ron` reads it then. So a type
-    /// that always answers `None` loses speed alone.
+    /// `None` says nothing of what stands there, and the place and the input, which are copies, may
+    /// have moved: `de_ron` reads it then. So a type that always answers `None` loses speed alone.
     #[inline(always)]
-    fn de_ron_item(_alloc: Global, _place: &mut Place, _input: &mut Chars<'_>) -> Option<Self>
-        ensures { TakesItem Self.ron.encoding.encodes Self.means
-            (at_comma _place.old _input.old) (at_comma _place.new _input.new) result }
+    fn de_ron_plain(
+        alloc: Global,
+        place: &mut Place,
+        input: &mut Chars<'_>,
+        text: &mut String,
+    ) -> Option<Self>
+        ensures { TakesPlainly Self.ron.encoding.encodes Self.means
+            place.old input.old place.new input.new result }
     {
         None
     }

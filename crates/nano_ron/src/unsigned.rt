@@ -6,12 +6,12 @@ ghost use Rattle.std.specs.Prelude.{◌≡◌, ◌+◌, ◌^◌};
 ghost use Rattle.nano_value.specs.Meaning.{whole};
 ghost use Rattle.nano_meaning.proofs.AgreesLaws.{agreed};
 ghost use Rattle.nano_ron.specs.Outcomes.{position, Reads};
-ghost use Rattle.nano_ron_tokens.specs.Outcomes.{TakesItem, at_comma};
+ghost use Rattle.nano_ron_tokens.specs.Outcomes.{TakesPlainly};
 ghost use Rattle.nano_ron.specs.ScalarCodecs.{unsigned, unsigned_codec, below_8, below_16};
 ghost use Rattle.nano_ron.specs.ScalarCodecs.{below_32, below_64};
 
 use crate::traits::{DeRon, RonCodec, SerRon};
-use nano_ron_tokens::{DeRonErr, DeRonState, SerRonState, end_on_error, take_unsigned_item};
+use nano_ron_tokens::{DeRonErr, DeRonState, SerRonState, end_on_error, take_plain_unsigned};
 use nano_text::{Place, append_unsigned};
 use std::alloc::{AllocError, Global};
 use std::str::Chars;
@@ -49,15 +49,19 @@ fn read_unsigned<T: Unsigned>(
     Ok(T::narrow(number))
 }
 
-/// Takes a whole number of at most `max` after a comma, and the comma after it.
+/// Takes a whole number of at most `max`, which stands plainly.
 #[inline(always)]
-fn take_unsigned_of<T: Unsigned>(place: &mut Place, input: &mut Chars<'_>, max: u64) -> Option<T>
+fn take_unsigned_of<T: Unsigned>(
+    place: &mut Place,
+    input: &mut Chars<'_>,
+    max: u64,
+    text: &mut String,
+) -> Option<T>
     requires { 2 ^ T.bits ≡ max + 1 }
-    ensures { TakesItem (unsigned T.bits).encodes (λ x. whole (T.value x))
-        (at_comma place.old input.old)
-        (at_comma place.new input.new) result }
+    ensures { TakesPlainly (unsigned T.bits).encodes (λ x. whole (T.value x))
+        place.old input.old place.new input.new result }
 {
-    let number = take_unsigned_item(place, input, max)?;
+    let number = take_plain_unsigned(place, input, max, text)?;
     Some(T::narrow(number))
 }
 
@@ -95,8 +99,13 @@ impl DeRon for u8 {
     }
 
     #[inline(always)]
-    fn de_ron_item(_alloc: Global, place: &mut Place, input: &mut Chars<'_>) -> Option<u8> {
-        take_unsigned_of(place, input, u8::MAX as u64)
+    fn de_ron_plain(
+        _alloc: Global,
+        place: &mut Place,
+        input: &mut Chars<'_>,
+        text: &mut String,
+    ) -> Option<u8> {
+        take_unsigned_of(place, input, u8::MAX as u64, text)
     }
 }
 
@@ -134,8 +143,13 @@ impl DeRon for u16 {
     }
 
     #[inline(always)]
-    fn de_ron_item(_alloc: Global, place: &mut Place, input: &mut Chars<'_>) -> Option<u16> {
-        take_unsigned_of(place, input, u16::MAX as u64)
+    fn de_ron_plain(
+        _alloc: Global,
+        place: &mut Place,
+        input: &mut Chars<'_>,
+        text: &mut String,
+    ) -> Option<u16> {
+        take_unsigned_of(place, input, u16::MAX as u64, text)
     }
 }
 
@@ -173,8 +187,13 @@ impl DeRon for u32 {
     }
 
     #[inline(always)]
-    fn de_ron_item(_alloc: Global, place: &mut Place, input: &mut Chars<'_>) -> Option<u32> {
-        take_unsigned_of(place, input, u32::MAX as u64)
+    fn de_ron_plain(
+        _alloc: Global,
+        place: &mut Place,
+        input: &mut Chars<'_>,
+        text: &mut String,
+    ) -> Option<u32> {
+        take_unsigned_of(place, input, u32::MAX as u64, text)
     }
 }
 
@@ -212,8 +231,13 @@ impl DeRon for u64 {
     }
 
     #[inline(always)]
-    fn de_ron_item(_alloc: Global, place: &mut Place, input: &mut Chars<'_>) -> Option<u64> {
-        take_unsigned_of(place, input, u64::MAX)
+    fn de_ron_plain(
+        _alloc: Global,
+        place: &mut Place,
+        input: &mut Chars<'_>,
+        text: &mut String,
+    ) -> Option<u64> {
+        take_unsigned_of(place, input, u64::MAX, text)
     }
 }
 
@@ -251,7 +275,12 @@ impl DeRon for usize {
     }
 
     #[inline(always)]
-    fn de_ron_item(_alloc: Global, place: &mut Place, input: &mut Chars<'_>) -> Option<usize> {
-        take_unsigned_of(place, input, usize::MAX as u64)
+    fn de_ron_plain(
+        _alloc: Global,
+        place: &mut Place,
+        input: &mut Chars<'_>,
+        text: &mut String,
+    ) -> Option<usize> {
+        take_unsigned_of(place, input, usize::MAX as u64, text)
     }
 }

@@ -4,7 +4,7 @@ pub mod Comments
 pub mod LexemeKinds
 pub mod Cuts
 pub mod AfterGaps
-pub mod ItemCalls
+pub mod PlainCalls
 pub mod Capacity
 pub mod StylesLaws
 pub mod Calling

@@ -1,7 +1,7 @@
 -- What the calls of a reader's state and of a writer's come to.
 use Rattle.std.specs.Prelude.{◌≡◌, ◌≢◌, ◌⊎◌, ◌≤◌, ◌<◌, ◌≤ℤ◌, ◌<ℤ◌, ℕ, ℤ, Bool, true, false, Some}
 use Rattle.std.specs.Prelude.{List, [], ◌∷◌, ◌++◌, length, codes, decimal, Result, IsOk, IfOk}
-use Rattle.std.specs.Prelude.{MatchOption, MatchResult, Option, String, string_bytes, string_capacity}
+use Rattle.std.specs.Prelude.{MatchOption, IfSome, MatchResult, Option, String, string_bytes, string_capacity}
 use Rattle.std.specs.declared.str.Chars.{Chars}
 use Rattle.nano_text.specs.Place.{remaining, text_at, Moves}
 use Rattle.nano_grammar.specs.Tokens.{At, Leaves}
@@ -11,6 +11,8 @@ use Rattle.nano_grammar.specs.Outcomes.{NothingCut as NothingCutBy, Reads as Rea
 use Rattle.nano_grammar.specs.Outcomes.{Moved as MovedTo}
 use Rattle.nano_grammar.specs.Outcomes.{ReadsOrEnds as ReadsOrEndsBy, GoesWrong as GoesWrongBy}
 use Rattle.nano_text.specs.declared.place.Place.{Place}
+use Rattle.nano_grammar.specs.ItemRuns.{TookItem}
+use Rattle.nano_grammar.specs.Plain.{TookPlainly}
 use Rattle.nano_grammar.specs.Faults.{AreTokens}
 use Rattle.nano_ron_tokens.specs.declared.error.DeRonErr.{DeRonErr}
 use Rattle.nano_ron_tokens.specs.declared.state.DeRonState.{DeRonState}
@@ -214,18 +216,23 @@ abbrev pub ReadsOrEnds : {V A : Type 0} → (List Token → V → Type 0) → (A
 ReadsOrEnds encodes means start end result =
     ReadsOrEndsBy Cut encodes start end report means ended result
 
--- ---- items of lists that are taken at once
+-- ---- values that are taken with no token pending
+
+-- a value was taken from the text; where none was, nothing is said
+abbrev pub TakesPlainly : {V A : Type 0} → (List Token → V → Type 0) → (A → V) → Place → Chars
+    → Place → Chars → Option A → Type 0
+TakesPlainly encodes means p i q j result = IfSome result
+    (λ x. TookPlainly Cut encodes (text_at p i) (text_at q j) (means x) × Moves p i q j)
 
 -- a comma is pending there
 abbrev pub at_comma : Place → Chars → Position Token
 at_comma p i = record { at = record { token = comma; text = text_at p i }; place = p; input = i }
 
--- after the pending comma an item was taken, and then another token is pending; or nothing was
+-- after the pending comma an item was taken, and another comma is pending; or nothing was
 abbrev pub TakesItem : {V A : Type 0} → (List Token → V → Type 0) → (A → V) → Position Token
     → Position Token → Option A → Type 0
 TakesItem encodes means start end result = MatchOption result (end ≡ start)
-    (λ x. (item : Position Token) × Leaves Cut (comma ∷ []) start.at item.at × MovedTo start item
-    × Read Cut encodes item end (means x))
+    (λ x. TookItem Cut encodes comma start end (means x))
 
 -- what was read is handed on: the state is unchanged, or at the end of the text where nothing was
 -- read

@@ -144,7 +144,7 @@ pub record GoesOn (s : DeRonState) (input : List ℕ) (e : DeRonErr) : Type 0 wh
 abbrev pub IsValueError : DeRonErr → DeRonErr → Type 0
 IsValueError error result = IsValueErrorOf (report error) (report result)
 
--- ==== items that are taken at once
+-- ==== values that are taken with no token pending
 
 -- a number without a sign alone, of at most that
 abbrev pub AnUnsigned : ℕ → List Token → ℕ → Type 0

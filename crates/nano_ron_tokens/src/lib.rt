@@ -6,8 +6,8 @@ mod error;
 mod gaps;
 mod helpers;
 mod input;
-mod items;
 pub mod laws;
+mod plain;
 mod punctuation;
 mod rollback;
 mod scan;
@@ -20,7 +20,7 @@ mod writer;
 
 pub use error::DeRonErr;
 pub use input::{as_value_error, expect_end};
-pub use items::{take_integer_item, take_unsigned_item};
+pub use plain::{take_directly, take_plain_integer, take_plain_unsigned, take_text};
 pub use rollback::end_on_error;
 pub use state::DeRonState;
 pub use strings::append_string;

@@ -4,11 +4,11 @@ use Rattle.nano_grammar.specs.ItemRuns.{PutItems}
 use Rattle.nano_grammar.proofs.ItemRuns.{put_none, put_more, item_less, put_moved}
 use Rattle.nano_ron_tokens.specs.Cut.{Cut}
 use Rattle.nano_ron_tokens.specs.Outcomes.{position}
-use Rattle.nano_ron_tokens.specs.State.{token_of, place_of}
+use Rattle.nano_ron_tokens.specs.State.{token_of, place_of, pending}
 use Rattle.nano_ron_tokens.specs.declared.state.DeRonState.{DeRonState}
 use Rattle.nano_ron_tokens.specs.Token.{blocks, comma}
 use Rattle.nano_ron_tokens.proofs.RonLaws.{block_brackets}
-use Rattle.nano_ron_tokens.proofs.ItemCalls.{copied, at_comma_is, comma_there}
+use Rattle.nano_ron_tokens.proofs.PlainCalls.{copied, at_comma_is, comma_there}
 use Rattle.nano_ron.proofs.Ron.{ron_laws}
 use Rattle.nano_ron.proofs.lists.put_plain_items.Goals as goal
 
@@ -20,7 +20,7 @@ items-init g c =
       rw c.place-place.ensures
           (put_none ron_laws blocks block_brackets g.T.RonCodec.ron.encoding.laws g.C.Collect.holds c.args.items.now
           (at_comma_is s c.args.input.now c.chars-rest.result is same) (copied s c.args.input.now c.chars-rest.result same)),
-      refl,
+      c.in-Comma.is,
     )
 
 pub items-smaller : goal.items-smaller
@@ -33,18 +33,23 @@ items-preserved g c =
 pub returns-clause-ok : goal.returns-clause-ok
 returns-clause-ok g c =
     let s = c.args.state.now in
-    let is = ap (λ t. token_of t (string_bytes s.strbuf) (string_bytes s.numbuf) (string_bytes s.identbuf)) c.in-Comma.is in
-    let p = c.de_ron_item.new._place in
-    let stand : DeRonState → DeRonState = λ t. record t { cur = p.cur; line = p.line; col = p.col } in
-    let stood = c.stand_at-2.ensures ∙ ap stand c.items.invariant.1 in
+    let here = c.items.state in
+    let there = c.stand_at-2.new.self in
+    let p = c.take_item.new.place in
+    let is = ap pending c.stand_at-2.ensures
+    ∙ ap (λ t. token_of t (string_bytes c.take_item.new.text) (string_bytes here.numbuf) (string_bytes here.identbuf)) c.items.invariant.1 in
+    let stands = ap place_of c.stand_at-2.ensures in
     subst (λ q. PutItems Cut g.T.RonCodec.ron.encoding.encodes comma g.C.Collect.holds (position s c.args.input.now) q c.args.items.now c.items.items)
-    (sym (comma_there s c.stand_at-2.new.self c.de_ron_item.new._place c.de_ron_item.new._input is stood ∙ c.in_default-de_ron_item.ensures)) c.items.invariant.0
+    (sym (comma_there there p c.take_item.new.input is stands ∙ c.in_default-take_item.ensures)) c.items.invariant.0
 
 pub returns-in-Err-clause-err : goal.returns-in-Err-clause-err
 returns-in-Err-clause-err g c =
     let run = put_moved ron_laws blocks block_brackets g.T.RonCodec.ron.encoding.laws g.C.Collect.holds c.items.invariant.0 in
     let item = c.in-Some.ensures in
     rw c.stand_at.ensures (moves_append run (moves_append item.2 item.3.place))
+
+pub returns-then-not-is_due-clause-ok : goal.returns-then-not-is_due-clause-ok
+returns-then-not-is_due-clause-ok g c = put_none ron_laws blocks block_brackets g.T.RonCodec.ron.encoding.laws g.C.Collect.holds c.args.items.now refl (moves_none (place_of c.args.state.now) c.args.input.now)
 
 pub returns-in_default : goal.returns-in_default
 returns-in_default g c = record {
