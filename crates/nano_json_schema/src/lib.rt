@@ -30,6 +30,7 @@ pub use contents::{JsonContent, ReadContent, WriteContent};
 pub use defaulted::JsonDefaultOf;
 pub use fields::{JsonFields, JsonRefs, JsonShape};
 pub use nano_json::{BothJson, DeJson, DeJsonErr, DeJsonState, JsonCodec, SerJson, SerJsonState};
+pub use nano_text::Place;
 pub use part::Part;
 pub use plain::take_fields;
 pub use read::read_fields;

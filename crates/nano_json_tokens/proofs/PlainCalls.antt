@@ -16,7 +16,7 @@ use Rattle.nano_text.specs.declared.place.Place.{Place}
 use Rattle.nano_text.specs.declared.number.Number.TheVariants.{U64, I64}
 use Rattle.nano_text.proofs.PlaceLaws.{moves_none, moves_append, moves_from}
 use Rattle.nano_text.proofs.RemainingText.{first_is-remaining, same_remaining}
-use Rattle.nano_json_tokens.specs.Cut.{Cut, IsLexeme, IsPunctuator, IsRunOf, starts_number, number}
+use Rattle.nano_json_tokens.specs.Cut.{Cut, IsLexeme, IsPunctuator, starts_number, number}
 use Rattle.nano_json_tokens.specs.Cut.{punctuator, quoted, word, nothing, IsWord}
 use Rattle.nano_json_tokens.specs.Scan.{punctuator_of}
 use Rattle.nano_json_tokens.specs.Outcomes.{at_comma}
@@ -59,10 +59,16 @@ no_null_after cur i {text} rest space other h =
     let first = null_starts (following is_space text) rest (cut_lexeme text null rest h) in
     true≢false (sym first ∙ (ap (first_is is_n) (sym space) ∙ (first_is-remaining is_n cur i refl ∙ other)))
 
--- a number that is current is a lexeme, whatever kind of number it is
-pub number_lexeme : (t : Token) (cur : ℕ) (i : Chars) {rest : List ℕ} → starts_number cur ≡ true
-    → IsRunOf t (remaining cur i) rest → IsLexeme t (remaining cur i) rest
-number_lexeme t cur i starts run = number (first_is-remaining starts_number cur i refl ∙ starts) run
+-- a number begins where the current character starts one, or where a digit or a minus is current
+pub starts_here : (cur : ℕ) (i : Chars) → starts_number cur ≡ true
+    → first_is starts_number (remaining cur i) ≡ true
+starts_here cur i starts = first_is-remaining starts_number cur i refl ∙ starts
+
+pub digit_starts : (c : ℕ) → is_ascii_digit c ≡ true → starts_number c ≡ true
+digit_starts c digit = elim (is_sign c) as (λ b. (b || is_ascii_digit c) ≡ true) [
+  | true ↦ refl
+  | false ↦ digit
+]
 
 -- what is not less, whatever the two were computed from
 pub in_order : (low low_is high high_is : ℤ) → low ≡ low_is → high ≡ high_is → lt_z high low ≡ false

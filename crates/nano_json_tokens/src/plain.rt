@@ -11,12 +11,16 @@ ghost use Rattle.nano_text.specs.Place.{text_at};
 ghost use Rattle.nano_grammar.specs.Tokens.{Cuts};
 ghost use Rattle.nano_json_tokens.specs.Cut.{Cut, BeginsWithWord};
 ghost use Rattle.nano_json_tokens.specs.Outcomes.{TakesPlainly};
-ghost use Rattle.nano_json_tokens.specs.Scan.{ATruth, AnUnsigned, AnInteger, IsInteger, punctuator_of};
+ghost use Rattle.nano_json_tokens.specs.Scan.{ATruth, AnUnsigned, AnInteger, IsInteger, IsNumberOf};
+ghost use Rattle.nano_json_tokens.specs.Scan.{punctuator_of};
+ghost use Rattle.nano_text.specs.Number.{IsNumber};
 ghost use Rattle.nano_json_tokens.specs.Token.{Token, str, colon, null};
 
 use crate::scan::starts_number;
 use crate::words::is_word;
-use nano_text::{Number, Place, plain_string, read_number, read_string, take_negative};
+use nano_text::{
+    Number, Place, plain_string, read_number, read_string, take_negative, take_unsigned,
+};
 use std::str::Chars;
 
 /// Takes this character, if it is the current one.
@@ -170,6 +174,46 @@ pub fn take_text(place: &mut Place, input: &mut Chars<'_>, text: &mut String) ->
     }
 }
 
+/// Takes a number. One that is no whole number of few digits, or that does not end in its line, is
+/// read apart; `buffer` is room for its text.
+#[inline(always)]
+fn take_number(place: &mut Place, input: &mut Chars<'_>, buffer: &mut String) -> Option<Number>
+    ensures { IfSome result (λ number.
+        IsNumberOf number (text_at place.old input.old) (text_at place.new input.new)
+        × Counts place.old input.old place.new input.new) }
+{
+    if let Some(value) = take_unsigned(place, input) {
+        return Some(Number::U64(value));
+    }
+    if let Some(value) = take_negative(place, input) {
+        return Some(Number::I64(value));
+    }
+    if !starts_number(place.cur) {
+        return None;
+    }
+    // Lends copies, so that the place and the input themselves remain in registers.
+    let mut here = *place;
+    let mut rest = input.as_str().chars();
+    let number = read_apart(&mut here, &mut rest, buffer)?;
+    *place = here;
+    *input = rest;
+    Some(number)
+}
+
+/// Reads any number, of which few come here.
+#[cold]
+#[inline(never)]
+fn read_apart(place: &mut Place, input: &mut Chars<'_>, buffer: &mut String) -> Option<Number>
+    ensures found { IfSome result (λ number. (run : List ℕ)
+        × IsNumber (text_at place.old input.old) number run (text_at place.new input.new)) }
+    ensures counts { Counts place.old input.old place.new input.new }
+{
+    match read_number(place, input, buffer) {
+        Ok(number) => Some(number),
+        Err(_fault) => None,
+    }
+}
+
 /// Takes a whole number of at most `max` without a sign. `buffer` is room for another number.
 #[inline(always)]
 pub fn take_plain_unsigned(
@@ -182,34 +226,22 @@ pub fn take_plain_unsigned(
         place.old input.old place.new input.new result }
 {
     place.skip_space(input);
-    if !starts_number(place.cur) {
-        return None;
+    match take_number(place, input, buffer)? {
+        Number::U64(number) if number <= max => Some(number),
+        _ => None,
     }
-    let Ok(Number::U64(number)) = read_number(place, input, buffer) else {
-        return None;
-    };
-    if number > max {
-        return None;
-    }
-    Some(number)
 }
 
 /// Takes the integer that begins here, where 64 bits hold it with its sign.
 #[inline(always)]
 fn take_integer(place: &mut Place, input: &mut Chars<'_>, buffer: &mut String) -> Option<i64>
-    ensures found { IfSome result (λ z. IsInteger z
-        (text_at place.old input.old) (text_at place.new input.new)) }
-    ensures counts { Counts place.old input.old place.new input.new }
+    ensures { IfSome result (λ z.
+        IsInteger z (text_at place.old input.old) (text_at place.new input.new)
+        × Counts place.old input.old place.new input.new) }
 {
-    if let Some(number) = take_negative(place, input) {
-        return Some(number);
-    }
-    if !starts_number(place.cur) {
-        return None;
-    }
-    match read_number(place, input, buffer) {
-        Ok(Number::U64(number)) if number <= i64::MAX as u64 => Some(number as i64),
-        Ok(Number::I64(number)) => Some(number),
+    match take_number(place, input, buffer)? {
+        Number::U64(number) if number <= i64::MAX as u64 => Some(number as i64),
+        Number::I64(number) => Some(number),
         _ => None,
     }
 }

@@ -5,7 +5,7 @@ use Rattle.std.specs.Int.Signed.{lt_z, lt_z_no}
 use Rattle.std.specs.declared.str.Chars.{Chars}
 use Rattle.std.specs.Str.Iter.{chars_rest}
 use Rattle.std.specs.Char.{is_ascii_digit}
-use Rattle.nano_text.specs.Characters.{following, is_space}
+use Rattle.nano_text.specs.Characters.{following, first_is, is_space}
 use Rattle.nano_text.specs.Number.{IsNumber, is_sign}
 use Rattle.nano_text.specs.String.{IsString}
 use Rattle.nano_text.specs.Place.{text_at, remaining, Moves}
@@ -13,7 +13,7 @@ use Rattle.nano_text.specs.declared.place.Place.{Place}
 use Rattle.nano_text.specs.declared.number.Number.TheVariants.{U64, I64}
 use Rattle.nano_text.proofs.PlaceLaws.{moves_none, moves_append, moves_from}
 use Rattle.nano_text.proofs.RemainingText.{first_is-remaining, same_remaining}
-use Rattle.nano_ron_tokens.specs.Cut.{Cut, IsLexeme, IsPunctuator, IsRunOf, starts_number, number}
+use Rattle.nano_ron_tokens.specs.Cut.{Cut, IsLexeme, IsPunctuator, starts_number, number}
 use Rattle.nano_ron_tokens.specs.Cut.{punctuator, quoted}
 use Rattle.nano_ron_tokens.specs.Scan.{punctuator_of}
 use Rattle.nano_ron_tokens.specs.Outcomes.{at_comma}
@@ -37,10 +37,16 @@ pub string_after : (bytes characters : List ℕ) {text after rest : List ℕ} �
     → IsString after characters rest → bytes ≡ encode_utf8_all characters → Cut text (str bytes) rest
 string_after bytes characters space is same = after_space (str bytes) space (quoted (characters, is, same))
 
--- a number that is current is a lexeme, whatever kind of number it is
-pub number_lexeme : (t : Token) (cur : ℕ) (i : Chars) {rest : List ℕ} → starts_number cur ≡ true
-    → IsRunOf t (remaining cur i) rest → IsLexeme t (remaining cur i) rest
-number_lexeme t cur i starts run = number (first_is-remaining starts_number cur i refl ∙ starts) run
+-- a number begins where the current character starts one, or where a digit or a minus is current
+pub starts_here : (cur : ℕ) (i : Chars) → starts_number cur ≡ true
+    → first_is starts_number (remaining cur i) ≡ true
+starts_here cur i starts = first_is-remaining starts_number cur i refl ∙ starts
+
+pub digit_starts : (c : ℕ) → is_ascii_digit c ≡ true → starts_number c ≡ true
+digit_starts c digit = elim (is_sign c) as (λ b. ((b || is_ascii_digit c) || (c == 46)) ≡ true) [
+  | true ↦ refl
+  | false ↦ rw digit refl
+]
 
 -- what is not less, whatever the two were computed from
 pub in_order : (low low_is high high_is : ℤ) → low ≡ low_is → high ≡ high_is → lt_z high low ≡ false

@@ -19,6 +19,8 @@ pub(crate) struct Codec {
     pub(crate) reader: (&'static str, &'static str),
     /// The ghost terms that an impl that reads cites.
     pub(crate) says_decodable: bool,
+    /// Whether values that stand plainly are taken at once.
+    pub(crate) takes_plainly: bool,
 }
 
 /// Bytes.
@@ -31,6 +33,7 @@ pub(crate) const BIN: Codec = Codec {
     writer: (BYTES_WRITER, "alloc, output"),
     reader: (BYTES_READER, "alloc, offset, bytes"),
     says_decodable: true,
+    takes_plainly: false,
 };
 
 /// JSON.
@@ -43,6 +46,7 @@ pub(crate) const JSON: Codec = Codec {
     writer: (TEXT_WRITER, "alloc, d, s"),
     reader: (TEXT_READER, "alloc, state, input"),
     says_decodable: false,
+    takes_plainly: true,
 };
 
 /// RON.
@@ -55,6 +59,7 @@ pub(crate) const RON: Codec = Codec {
     writer: (TEXT_WRITER, "alloc, d, s"),
     reader: (TEXT_READER, "alloc, state, input"),
     says_decodable: false,
+    takes_plainly: false,
 };
 
 /// The impl that says how values are encoded.
@@ -98,5 +103,5 @@ impl$BOUNDS nano_$MODULE_schema::De$NAME for $FULL {
     fn de_$MODULE(alloc: std::alloc::Global, state: &mut nano_$MODULE_schema::De$NAMEState, \
         input: &mut std::str::Chars<'_>) -> nano_$MODULE_schema::$NAMEResult<Self> {
 $BODY
-    }
+    }$TAKER
 }";

@@ -40,10 +40,17 @@ fn append_codec<'a>(
         sheet.import(*line)?;
     }
     import_cited(sheet, target.agreement.agrees.as_str())?;
-    append_impl(sheet, target, codec, CODEC, (DEFINITION, form.term, ""))?;
+    append_impl(sheet, target, codec, CODEC, (DEFINITION, form.term, ""), "")?;
     if directions.writes {
         let (writer, arguments) = codec.writer;
-        append_impl(sheet, target, codec, SER, (writer, form.write, arguments))?;
+        append_impl(
+            sheet,
+            target,
+            codec,
+            SER,
+            (writer, form.write, arguments),
+            "",
+        )?;
     }
     if !directions.reads {
         return Ok(());
@@ -52,7 +59,15 @@ fn append_codec<'a>(
         import_cited(sheet, target.agreement.decodable.as_str())?;
     }
     let (reader, arguments) = codec.reader;
-    append_impl(sheet, target, codec, DE, (reader, form.read, arguments))
+    let taker = if codec.takes_plainly { form.taker } else { "" };
+    append_impl(
+        sheet,
+        target,
+        codec,
+        DE,
+        (reader, form.read, arguments),
+        taker,
+    )
 }
 
 const CODEC: &str = ": nano_$MODULE_schema::$NAMECodec";
@@ -62,13 +77,14 @@ const SER: &str = ": nano_$MODULE_schema::Ser$NAME";
 const DE: &str = ": nano_$MODULE_schema::De$NAME";
 
 /// Appends an impl, whose parameters have this bound: its template, its body, and the arguments
-/// there.
+/// there, and a further method.
 fn append_impl<'a>(
     sheet: &mut Sheet,
     target: &Target<'a>,
     codec: &Codec,
     bound: &str,
     (template, body, arguments): (&str, &str, &str),
+    taker: &str,
 ) -> Result<(), AllocError> {
     let mut holes = target.holes(sheet.alloc)?;
     holes.put("MODULE", codec.module)?;
@@ -81,6 +97,8 @@ fn append_impl<'a>(
     holes.put("DECODABLE", target.agreement.decodable.as_str())?;
     let body = holes.fill(body)?;
     holes.put("BODY", body.as_str())?;
+    let taker = holes.fill(taker)?;
+    holes.put("TAKER", taker.as_str())?;
     let bound = holes.fill(bound)?;
     let bounds = target.bounds(sheet.alloc, bound.as_str())?;
     holes.put("BOUNDS", bounds.as_str())?;

@@ -11,6 +11,8 @@ pub(crate) struct Form<'a> {
     pub(crate) write: &'a str,
     /// What reads a value.
     pub(crate) read: &'static str,
+    /// The method that takes a value which stands plainly, or nothing.
+    pub(crate) taker: &'static str,
 }
 
 const REFL: &str = "ghost use Rattle.std.specs.Prelude.{refl};";
@@ -32,7 +34,15 @@ pub(crate) const RECORD: Form = Form {
         ⟦<$ROW as nano_$MODULE_schema::$NAMEShape>⟧.codec$PROOF",
     write: "        nano_$MODULE_schema::write_record_$MODULE::<Self, $ROW>(self, $ARGUMENTS)",
     read: "        nano_$MODULE_schema::read_record_$MODULE::<Self, $ROW>($ARGUMENTS)",
+    taker: RECORD_TAKER,
 };
+
+const RECORD_TAKER: &str = "
+
+    fn de_$MODULE_plain(alloc: std::alloc::Global, place: &mut nano_$MODULE_schema::Place, \
+        input: &mut std::str::Chars<'_>, text: &mut String) -> Option<Self> {
+        nano_$MODULE_schema::take_record_$MODULE::<Self, $ROW>(alloc, place, input, text)
+    }";
 
 /// An enum, by its variants.
 pub(crate) const CHOICE: Form = Form {
@@ -54,6 +64,7 @@ pub(crate) const CHOICE: Form = Form {
         ⟦<$ROW as nano_$MODULE_schema::$NAMEShapes>⟧.$CHOSEN",
     write: "        nano_$MODULE_schema::write_choice_$MODULE::<Self, $ROW>(self, $ARGUMENTS)",
     read: "        nano_$MODULE_schema::read_choice_$MODULE::<Self, $ROW>($ARGUMENTS)",
+    taker: "",
 };
 
 const HELD: [&[&str]; 3] = [
@@ -71,6 +82,7 @@ pub(crate) const TRANSPARENT: Form = Form {
             Ok(value) => Ok($TYPE(value)),
             Err(error) => Err(error),
         }",
+    taker: "",
 };
 
 /// A struct of several parts, which is their tuple in a text. What writes it is given.
@@ -81,5 +93,6 @@ pub(crate) fn tupled(write: &str) -> Form<'_> {
             ⟦<$VALUES as nano_$MODULE_schema::$NAMECodec>⟧.$MODULE",
         write,
         read: "        nano_$MODULE_schema::read_parts_$MODULE::<Self, $VALUES>($ARGUMENTS)",
+        taker: "",
     }
 }

@@ -7,8 +7,8 @@ ghost use Rattle.nano_ron_schema.specs.Structs.{ron_of};
 
 use super::*;
 use nano_json_schema::{
-    DeJson, DeJsonState, JsonCodec, JsonResult, JsonShape, SerJson, SerJsonState, read_record_json,
-    write_record_json,
+    DeJson, DeJsonState, JsonCodec, JsonResult, JsonShape, Place, SerJson, SerJsonState,
+    read_record_json, take_record_json, write_record_json,
 };
 use nano_ron_schema::{
     DeRon, DeRonState, RonCodec, RonResult, RonShape, SerRon, SerRonState, read_record_ron,
@@ -96,6 +96,15 @@ impl SerJson for State {
 impl DeJson for State {
     fn de_json(alloc: Global, state: &mut DeJsonState, input: &mut Chars<'_>) -> JsonResult<Self> {
         read_record_json::<Self, StateFields>(alloc, state, input)
+    }
+
+    fn de_json_plain(
+        alloc: Global,
+        place: &mut Place,
+        input: &mut Chars<'_>,
+        text: &mut String,
+    ) -> Option<Self> {
+        take_record_json::<Self, StateFields>(alloc, place, input, text)
     }
 }
 

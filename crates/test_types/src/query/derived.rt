@@ -7,7 +7,10 @@ ghost use Rattle.nano_json_schema.specs.Structs.{json_of};
 
 use super::*;
 use nano_bin_schema::{BinCodec, BinShape, DeBin, DeBinErr, read_record_bin};
-use nano_json_schema::{DeJson, DeJsonState, JsonCodec, JsonResult, JsonShape, read_record_json};
+use nano_json_schema::{
+    DeJson, DeJsonState, JsonCodec, JsonResult, JsonShape, Place, read_record_json,
+    take_record_json,
+};
 use nano_schema::{
     Borrowed, FieldRefs, Label, Optional, Required, Shape, StructSchema, Value, known_record,
 };
@@ -91,5 +94,14 @@ impl JsonCodec for Query {
 impl DeJson for Query {
     fn de_json(alloc: Global, state: &mut DeJsonState, input: &mut Chars<'_>) -> JsonResult<Self> {
         read_record_json::<Self, QueryFields>(alloc, state, input)
+    }
+
+    fn de_json_plain(
+        alloc: Global,
+        place: &mut Place,
+        input: &mut Chars<'_>,
+        text: &mut String,
+    ) -> Option<Self> {
+        take_record_json::<Self, QueryFields>(alloc, place, input, text)
     }
 }

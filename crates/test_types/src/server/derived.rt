@@ -11,8 +11,8 @@ use nano_bin_schema::{
     BinCodec, BinShape, DeBin, DeBinErr, SerBin, read_record_bin, write_record_bin,
 };
 use nano_json_schema::{
-    DeJson, DeJsonState, JsonCodec, JsonResult, JsonShape, SerJson, SerJsonState, read_record_json,
-    write_record_json,
+    DeJson, DeJsonState, JsonCodec, JsonResult, JsonShape, Place, SerJson, SerJsonState,
+    read_record_json, take_record_json, write_record_json,
 };
 use nano_ron_schema::{
     DeRon, DeRonState, RonCodec, RonResult, RonShape, SerRon, SerRonState, read_record_ron,
@@ -141,6 +141,15 @@ impl SerJson for Server {
 impl DeJson for Server {
     fn de_json(alloc: Global, state: &mut DeJsonState, input: &mut Chars<'_>) -> JsonResult<Self> {
         read_record_json::<Self, ServerFields>(alloc, state, input)
+    }
+
+    fn de_json_plain(
+        alloc: Global,
+        place: &mut Place,
+        input: &mut Chars<'_>,
+        text: &mut String,
+    ) -> Option<Self> {
+        take_record_json::<Self, ServerFields>(alloc, place, input, text)
     }
 }
 
