@@ -18,13 +18,13 @@ mod frame_source;
 #[cfg(test)]
 mod frame_tests;
 #[cfg(test)]
-mod item_tests;
-#[cfg(test)]
 mod json_tests;
 #[cfg(test)]
 mod key_tests;
 #[cfg(test)]
 mod line_tests;
+#[cfg(test)]
+mod plain_tests;
 #[cfg(test)]
 mod ron_tests;
 #[cfg(test)]
