@@ -3,6 +3,7 @@
 #![tactic(auto)]
 
 mod bytes_alone;
+mod containers;
 mod errors;
 mod fields;
 mod format;

@@ -1,5 +1,8 @@
 //! The outcome of an input as a value of one type, through the bounds of its formats. What a type
 //! has of its own is one function for each way in and out: each is built once for each type.
+//!
+//! The bounds are a reader and a writer of each format. A bound that joins two, as `BothBin` does,
+//! would be proved beside them for each type.
 
 use crate::errors::{bin, code, json, json_code, not_a_text, ron, ron_code};
 use crate::format::Format;
@@ -7,14 +10,14 @@ use crate::json_state::{json_begun, json_left, json_start};
 use crate::outcome::Outcome;
 use crate::ron_state::{ron_begun, ron_left, ron_start};
 use nanoserde::{
-    BothBin, BothJson, BothRon, DeBinErr, DeJsonErr, DeJsonState, DeRonErr, DeRonState,
-    SerJsonState, SerRonState, json_to_bin, normal_json, normal_ron, ron_to_bin,
+    DeBin, DeBinErr, DeJson, DeJsonErr, DeJsonState, DeRon, DeRonErr, DeRonState, SerBin, SerJson,
+    SerJsonState, SerRon, SerRonState, json_to_bin, normal_json, normal_ron, ron_to_bin,
 };
 use std::alloc::{AllocError, Global};
 use std::str;
 
 /// The outcome of an input in a format, of a type that has all three.
-pub(crate) fn of_type<T: BothBin + BothJson + BothRon>(
+pub(crate) fn of_type<T: SerBin + DeBin + SerJson + DeJson + SerRon + DeRon>(
     alloc: Global,
     format: Format,
     input: &[u8],
@@ -32,7 +35,7 @@ pub(crate) fn of_type<T: BothBin + BothJson + BothRon>(
 }
 
 /// The outcome of bytes.
-pub(crate) fn of_bytes<T: BothBin>(
+pub(crate) fn of_bytes<T: SerBin + DeBin>(
     alloc: Global,
     format: Format,
     input: &[u8],
@@ -50,7 +53,7 @@ pub(crate) fn of_bytes<T: BothBin>(
 }
 
 /// What is written of the value that was read, or the error.
-fn code_of<T: BothBin>(
+fn code_of<T: SerBin + Drop>(
     alloc: Global,
     read: Result<T, DeBinErr>,
 ) -> Result<Result<Vec<u8>, DeBinErr>, AllocError> {
@@ -77,7 +80,7 @@ fn split_offset(format: Format, input: &[u8]) -> Option<(usize, &[u8])> {
 }
 
 /// The text of the value that bytes begin with.
-fn rewritten<T: BothBin + BothJson + BothRon>(
+fn rewritten<T: DeBin + SerJson + SerRon>(
     alloc: Global,
     format: Format,
     input: &[u8],
@@ -89,7 +92,7 @@ fn rewritten<T: BothBin + BothJson + BothRon>(
 }
 
 /// A value as a text: at level 0, or at the greatest.
-fn text_of<T: BothJson + BothRon>(
+fn text_of<T: SerJson + SerRon>(
     alloc: Global,
     format: Format,
     value: &T,
@@ -113,7 +116,7 @@ fn text_of<T: BothJson + BothRon>(
 }
 
 /// The outcome of a text.
-fn of_text<T: BothBin + BothJson + BothRon>(
+fn of_text<T: SerBin + DeBin + SerJson + DeJson + SerRon + DeRon>(
     alloc: Global,
     format: Format,
     text: &str,
@@ -121,16 +124,15 @@ fn of_text<T: BothBin + BothJson + BothRon>(
     match format {
         Format::JsonBin => json_code(alloc, json_to_bin::<T>(alloc, text)),
         Format::RonBin => ron_code(alloc, ron_to_bin::<T>(alloc, text)),
-        Format::Ron => ron(alloc, normal_ron::<T>(alloc, text)),
-        Format::RonWhole => ron(alloc, ron_of(alloc, T::deserialize_ron_whole(alloc, text))),
-        Format::RonAgain => ron(alloc, ron_again::<T>(alloc, text)),
-        Format::RonState => ron_at::<T>(alloc, text),
+        Format::Ron | Format::RonWhole | Format::RonAgain | Format::RonState => {
+            of_ron::<T>(alloc, format, text)
+        }
         _ => of_json::<T>(alloc, format, text),
     }
 }
 
 /// The outcome of a JSON text, in JSON.
-pub(crate) fn of_json<T: BothJson>(
+pub(crate) fn of_json<T: SerJson + DeJson>(
     alloc: Global,
     format: Format,
     text: &str,
@@ -148,7 +150,10 @@ pub(crate) fn of_json<T: BothJson>(
 }
 
 /// What is written of the value that was read.
-fn json_of<T: BothJson>(alloc: Global, read: Result<T, DeJsonErr>) -> Result<String, DeJsonErr> {
+fn json_of<T: SerJson + Drop>(
+    alloc: Global,
+    read: Result<T, DeJsonErr>,
+) -> Result<String, DeJsonErr> {
     match read {
         Ok(value) => match value.serialize_json(alloc) {
             Ok(text) => Ok(text),
@@ -159,7 +164,7 @@ fn json_of<T: BothJson>(alloc: Global, read: Result<T, DeJsonErr>) -> Result<Str
 }
 
 /// What is written of the value that is read second, whatever the first reading gave.
-fn json_again<T: BothJson>(alloc: Global, text: &str) -> Result<String, DeJsonErr> {
+fn json_again<T: SerJson + DeJson>(alloc: Global, text: &str) -> Result<String, DeJsonErr> {
     let mut input = text.chars();
     let mut state = json_begun(alloc, &mut input);
     let _first = T::de_json(alloc, &mut state, &mut input);
@@ -167,7 +172,7 @@ fn json_again<T: BothJson>(alloc: Global, text: &str) -> Result<String, DeJsonEr
 }
 
 /// What is read in a state, and the state afterwards.
-fn json_at<T: BothJson>(alloc: Global, text: &str) -> Result<Outcome, AllocError> {
+fn json_at<T: SerJson + DeJson>(alloc: Global, text: &str) -> Result<Outcome, AllocError> {
     let Some((mut state, mut input)) = json_start(alloc, text)? else {
         return Ok(Outcome::Unknown);
     };
@@ -175,8 +180,23 @@ fn json_at<T: BothJson>(alloc: Global, text: &str) -> Result<Outcome, AllocError
     json_left(alloc, read, &state, &input)
 }
 
+/// The outcome of a RON text, in RON.
+fn of_ron<T: SerRon + DeRon>(
+    alloc: Global,
+    format: Format,
+    text: &str,
+) -> Result<Outcome, AllocError> {
+    match format {
+        Format::Ron => ron(alloc, normal_ron::<T>(alloc, text)),
+        Format::RonWhole => ron(alloc, ron_of(alloc, T::deserialize_ron_whole(alloc, text))),
+        Format::RonAgain => ron(alloc, ron_again::<T>(alloc, text)),
+        Format::RonState => ron_at::<T>(alloc, text),
+        _ => Ok(Outcome::Unknown),
+    }
+}
+
 /// What is written of the value that was read.
-fn ron_of<T: BothRon>(alloc: Global, read: Result<T, DeRonErr>) -> Result<String, DeRonErr> {
+fn ron_of<T: SerRon + Drop>(alloc: Global, read: Result<T, DeRonErr>) -> Result<String, DeRonErr> {
     match read {
         Ok(value) => match value.serialize_ron(alloc) {
             Ok(text) => Ok(text),
@@ -187,7 +207,7 @@ fn ron_of<T: BothRon>(alloc: Global, read: Result<T, DeRonErr>) -> Result<String
 }
 
 /// What is written of the value that is read second, whatever the first reading gave.
-fn ron_again<T: BothRon>(alloc: Global, text: &str) -> Result<String, DeRonErr> {
+fn ron_again<T: SerRon + DeRon>(alloc: Global, text: &str) -> Result<String, DeRonErr> {
     let mut input = text.chars();
     let mut state = ron_begun(alloc, &mut input);
     let _first = T::de_ron(alloc, &mut state, &mut input);
@@ -195,7 +215,7 @@ fn ron_again<T: BothRon>(alloc: Global, text: &str) -> Result<String, DeRonErr> 
 }
 
 /// What is read in a state, and the state afterwards.
-fn ron_at<T: BothRon>(alloc: Global, text: &str) -> Result<Outcome, AllocError> {
+fn ron_at<T: SerRon + DeRon>(alloc: Global, text: &str) -> Result<Outcome, AllocError> {
     let Some((mut state, mut input)) = ron_start(alloc, text)? else {
         return Ok(Outcome::Unknown);
     };
