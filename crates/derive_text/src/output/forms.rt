@@ -11,6 +11,8 @@ pub(crate) struct Form<'a> {
     pub(crate) write: &'a str,
     /// What reads a value.
     pub(crate) read: &'static str,
+    /// Whether what is read is said by the codec, and not by what its parts mean.
+    pub(crate) is_by_codec: bool,
 }
 
 const REFL: &str = "ghost use Rattle.std.specs.Prelude.{refl};";
@@ -32,6 +34,7 @@ pub(crate) const RECORD: Form = Form {
         ⟦<$ROW as nano_$MODULE_schema::$NAMEShape>⟧.codec$PROOF",
     write: "        nano_$MODULE_schema::write_record_$MODULE::<Self, $ROW>(self, $ARGUMENTS)",
     read: "        nano_$MODULE_schema::read_record_$MODULE::<Self, $ROW>($ARGUMENTS)",
+    is_by_codec: true,
 };
 
 /// An enum, by its variants.
@@ -54,6 +57,7 @@ pub(crate) const CHOICE: Form = Form {
         ⟦<$ROW as nano_$MODULE_schema::$NAMEShapes>⟧.$CHOSEN",
     write: "        nano_$MODULE_schema::write_choice_$MODULE::<Self, $ROW>(self, $ARGUMENTS)",
     read: "        nano_$MODULE_schema::read_choice_$MODULE::<Self, $ROW>($ARGUMENTS)",
+    is_by_codec: true,
 };
 
 const HELD: [&[&str]; 3] = [
@@ -71,6 +75,7 @@ pub(crate) const TRANSPARENT: Form = Form {
             Ok(value) => Ok($TYPE(value)),
             Err(error) => Err(error),
         }",
+    is_by_codec: false,
 };
 
 /// A struct of several parts, which is their tuple in a text. What writes it is given.
@@ -81,5 +86,6 @@ pub(crate) fn tupled(write: &str) -> Form<'_> {
             ⟦<$VALUES as nano_$MODULE_schema::$NAMECodec>⟧.$MODULE",
         write,
         read: "        nano_$MODULE_schema::read_parts_$MODULE::<Self, $VALUES>($ARGUMENTS)",
+        is_by_codec: false,
     }
 }
