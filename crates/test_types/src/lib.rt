@@ -3,8 +3,8 @@
 //!
 //! `Server`, `Event`, `Signal` and `Query` are described once by a schema, and `derive_files` wrote
 //! each format from it. So are `Site`, `Clock` and `Notice`, which have attributes, `Tagged` and
-//! `Reply`, which have type parameters, `Ranked` and `Wanted`, whose parameters have bounds, and
-//! `Point` and `Entry`, whose parts have no names.
+//! `Reply`, which have type parameters, `Ranked`, `Wanted`, `Ranks` and `Best`, whose parameters
+//! have bounds, and `Point` and `Entry`, whose parts have no names.
 //! `Limits` and `Tags` are encoded as their one field. `Command` implements bytes and `Message`
 //! implements JSON by hand, without a schema.
 #![tactic(auto)]
@@ -19,6 +19,7 @@ mod notice;
 mod point;
 mod query;
 mod ranked;
+mod ranks;
 mod reply;
 mod server;
 mod signal;
@@ -36,6 +37,7 @@ pub use notice::Notice;
 pub use point::Point;
 pub use query::Query;
 pub use ranked::{Ranked, Wanted};
+pub use ranks::{Best, Ranks};
 pub use reply::Reply;
 pub use server::Server;
 pub use signal::Signal;
