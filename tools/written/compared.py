@@ -206,7 +206,7 @@ def compare(source, text):
     impls, found = Impls(text), definitions(source)
     if not found:
         raise Differs("no definition has a format")
-    for kind, name, attributes, content in found:
+    for kind, name, bounds, attributes, content in found:
         wanted = {
             way + FORMATS[word.split("_")[-1]]
             for word in attributes
@@ -218,5 +218,7 @@ def compare(source, text):
             trait for trait in impls.traits(name) if re.fullmatch("(Ser|De)(Bin|Json|Ron)", trait)
         }
         same(f"formats of `{name}`", wanted, got)
+        for trait, written in impls.bounds(name):
+            same(f"bounds of `{trait}` for `{name}`", bounds, written)
         (compare_struct if kind == "struct" else compare_enum)(impls, name, attributes, content)
     return len(found)

@@ -9,6 +9,11 @@ TOKEN = re.compile(
 PATH = re.compile(r"(?:::)?\b(?:nano_\w+|std(?:::[a-z_]\w*)*)::(?=[A-Z])")
 
 
+# How a module below says where a path begins.
+FROM_BELOW = {"self": "super", "super": "super::super"}
+RESTRICTIONS = [["(", word, ")"] for word in ("crate", "self", "super")]
+
+
 class Differs(Exception):
     """The impls are not those of the definitions."""
 
@@ -54,12 +59,8 @@ class Cursor:
                 self.balanced()
             elif token == "pub":
                 self.at += 1
-                if self.peek()[1] == "(" and self.tokens[self.at + 1][1] in (
-                    "crate",
-                    "self",
-                    "super",
-                    "in",
-                ):
+                words = [token for _kind, token in self.tokens[self.at : self.at + 3]]
+                if words[:2] == ["(", "in"] or words in RESTRICTIONS:
                     self.balanced()
             else:
                 return found
@@ -73,16 +74,42 @@ class Cursor:
             if depth == 0:
                 return
 
-    def type_text(self):
-        """A type, up to the comma or the bracket after it."""
+    def type_text(self, ends=",)}"):
+        """A type, or a type and its bounds, up to one of these tokens, as a module below says it."""
         depth, text = 0, []
         while True:
             token = self.peek()[1]
-            if depth == 0 and token in ",)}":
+            if depth == 0 and token in ends:
                 return tidy(" ".join(text))
             depth += (token in "([<") - (token in ")]>")
+            if token in FROM_BELOW and text[-1:] != ["::"]:
+                token = FROM_BELOW[token]
             text.append(token)
             self.at += 1
+
+    def parameters(self):
+        """The bounds of the type parameters, if there are any."""
+        if self.peek()[1] != "<":
+            return []
+        self.take()
+        bounds = []
+        while self.peek()[1] != ">":
+            bounds.append(self.type_text(",>"))
+            if self.peek()[1] == ",":
+                self.take()
+        self.take(">")
+        return [bound for bound in bounds if ":" in bound]
+
+    def where(self):
+        """The bounds after `where`, if there are any."""
+        bounds = []
+        if self.peek()[1] == "where":
+            self.take()
+            while self.peek()[1] not in "{;":
+                bounds.append(self.type_text(",{;"))
+                if self.peek()[1] == ",":
+                    self.take()
+        return bounds
 
 
 def tidy(text):
@@ -128,7 +155,7 @@ def content_of(cursor):
 
 
 def definitions(source):
-    """The types that have formats: (kind, name, attributes, content), in their order."""
+    """The types that have formats: (kind, name, bounds, attributes, content), in their order."""
     cursor, found = Cursor(source), []
     while cursor.peek()[0] != "end":
         attributes = cursor.attributes()
@@ -136,10 +163,10 @@ def definitions(source):
         if token not in ("struct", "enum"):
             continue
         name = cursor.take()
-        if cursor.peek()[1] == "<":
-            cursor.balanced()
+        bounds = cursor.parameters() + cursor.where()
         if token == "struct":
             content = content_of(cursor)
+            bounds += cursor.where()
         else:
             cursor.take("{")
             content = []
@@ -149,7 +176,7 @@ def definitions(source):
                 if cursor.peek()[1] == ",":
                     cursor.take()
         if any(re.fullmatch(r"(de_|ser_)?(bin|json|ron)", word) for word in attributes):
-            found.append((token, name, attributes, content))
+            found.append((token, name, bounds, attributes, content))
     return found
 
 

@@ -18,15 +18,49 @@ TYPES = [
     "[u16; 3]",
     "std::vec::Vec<Option<bool>>",
     "BTreeMap<String, u32>",
+    "std::option::Option<u64>",
+    "Vec<Option<Box<u8>>>",
+    "Option<Vec<Box<(u8, [Option<String>; 3])>>>",
+    "LinkedList<BTreeMap<u8, (u8, (bool, Vec<()>))>>",
+    "crate::b::B",
+    "self::super::c::C",
+    "Option<super::c::C>",
+    "(super::super::d::D, self::super::c::C)",
 ]
+# Types with the parameters A and B, and what may be asked of them.
+GENERIC = [
+    "A",
+    "Option<B>",
+    "Vec<Option<Box<A>>>",
+    "(B, u8)",
+    "LinkedList<std::vec::Vec<A>>",
+    "Vec<(u8, (A, super::c::C), Option<Vec<B>>)>",
+]
+TRAITS = ["Clone", "PartialEq<u8>", "'static", "super::c::T", "self::super::c::U<Vec<u8>>"]
 CASES = ["lowercase", "UPPERCASE", "PascalCase", "camelCase", "snake_case", "SCREAMING_SNAKE_CASE"]
 
 
-def drawn_fields(draw, names, in_line):
+def drawn_head(draw, end):
+    """The parameters of a type, its bounds, which `end` follows, and the types that it may name."""
+    if draw.random() < 0.6:
+        return "", end, TYPES
+    parameters, where = [], []
+    for name in "AB":
+        traits = " + ".join(draw.sample(TRAITS, draw.randrange(1, 3)))
+        kind = draw.randrange(3)
+        parameters.append(name + (f": {traits}" if kind == 1 else ""))
+        where += [f"{name}: {traits}"] * (kind == 2)
+    if draw.random() < 0.3:
+        where.append("Vec<A>: Clone")
+    clause = f" where {', '.join(where)}" if where else ""
+    return f"<{', '.join(parameters)}>", clause + end, TYPES + GENERIC
+
+
+def drawn_fields(draw, types, names, in_line):
     """Fields, of which the first is not skipped."""
     lines = []
     for name in names:
-        type = draw.choice(TYPES)
+        type = draw.choice(types)
         attributes = []
         if draw.random() < 0.25:
             attributes.append(f'rename = "{draw.choice("xyz")}_{name}"')
@@ -38,7 +72,7 @@ def drawn_fields(draw, names, in_line):
         }
         if type[0] in plain and "<" not in type and draw.random() < 0.3:
             attributes.append(f'default = "{plain[type[0]]}"')
-        elif draw.random() < 0.2:
+        elif draw.random() < 0.2 and type != "A":
             attributes.append("default")
         elif lines and type[:1] in "ui" and draw.random() < 0.2:
             attributes = ["skip"]
@@ -57,16 +91,21 @@ def drawn(draw, number):
         else ""
     )
     words = ["first", "second_one", "the_third", "x", "last_of_all", "y2"]
+    parameters, end, types = drawn_head(draw, " {")
     lines = [
-        "use std::collections::BTreeMap;",
+        "use std::collections::{BTreeMap, LinkedList};",
         f"// nanoserde: {formats}{case}",
         "#[derive(Drop)]",
-        f"pub struct S{number} {{",
+        f"pub struct S{number}{parameters}{end}",
     ]
-    lines += drawn_fields(draw, draw.sample(words, draw.randrange(1, 7)), "pub ") + ["}"]
-    parts = ", ".join("pub " + draw.choice(TYPES) for _ in range(draw.randrange(1, 5)))
-    lines += [f"// nanoserde: {formats}", "#[derive(Drop)]", f"pub struct T{number}({parts});"]
-    lines += [f"// nanoserde: {formats}{case}", "#[derive(Drop)]", f"pub enum E{number} {{"]
+    lines += drawn_fields(draw, types, draw.sample(words, draw.randrange(1, 7)), "pub ") + ["}"]
+    parameters, end, types = drawn_head(draw, ";")
+    parts = ", ".join("pub " + draw.choice(types) for _ in range(draw.randrange(1, 5)))
+    lines += [f"// nanoserde: {formats}", "#[derive(Drop)]"]
+    lines.append(f"pub struct T{number}{parameters}({parts}){end}")
+    parameters, end, types = drawn_head(draw, " {")
+    lines += [f"// nanoserde: {formats}{case}", "#[derive(Drop)]"]
+    lines.append(f"pub enum E{number}{parameters}{end}")
     for name in draw.sample(["Stop", "MoveOn", "Say", "ListAll", "Wait"], draw.randrange(1, 6)):
         if draw.random() < 0.2:
             lines.append(f'    // nanoserde: rename = "{name}_again"')
@@ -75,12 +114,12 @@ def drawn(draw, number):
             lines.append(f"    {name},")
         elif kind == 1:
             lines.append(
-                f"    {name}({', '.join(draw.choice(TYPES) for _ in range(draw.randrange(1, 5)))}),"
+                f"    {name}({', '.join(draw.choice(types) for _ in range(draw.randrange(1, 5)))}),"
             )
         else:
             lines += (
                 [f"    {name} {{"]
-                + drawn_fields(draw, draw.sample(words, draw.randrange(1, 5)), "    ")
+                + drawn_fields(draw, types, draw.sample(words, draw.randrange(1, 5)), "    ")
                 + ["    },"]
             )
     return "\n".join(lines + ["}", "", "mod derived;", ""])

@@ -42,6 +42,13 @@ class Impls:
             )
         )
 
+    def bounds(self, name):
+        """Each trait of a type, and the bounds after `where` in its impl."""
+        heads = rf"^impl(?:<[^{{]*?>)? (?:\w+::)*(\w+)(?:<'a>)? for {name}\b([^{{]*)\{{$"
+        for trait, rest in re.findall(heads, self.text, re.M):
+            where = rest.partition("\nwhere\n")[2]
+            yield trait, [tidy(line) for line in where.split(",\n") if line.strip()]
+
     def expanded(self, type):
         """A row of fields or variants with its aliases written out."""
         while True:

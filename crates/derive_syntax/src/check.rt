@@ -1,5 +1,6 @@
 //! What is asked of structs and enums beyond their grammar.
 
+mod bounds;
 mod defaults;
 mod definitions;
 mod known;

@@ -28,6 +28,6 @@ pub use module::{derived_path, module_of};
 pub use parse::source_of;
 pub use scan::tokens_of;
 pub use syntax::{
-    Attributes, Content, Definition, Directions, Field, Shape, Source, Type, Variant,
+    Attributes, Bound, Content, Definition, Directions, Field, Shape, Source, Type, Variant,
 };
 pub use token::{Token, TokenKind};

@@ -1,6 +1,7 @@
 //! From tokens to structs and enums.
 
 mod attributes;
+mod bounds;
 mod brackets;
 mod cursor;
 mod fields;

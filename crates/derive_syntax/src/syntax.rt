@@ -7,6 +7,20 @@ use crate::token::Token;
 #[derive(Clone, Copy)]
 pub struct Type<'a>(pub &'a [Token<'a>]);
 
+impl<'a> Type<'a> {
+    /// The first of these type parameters that stands in it. A word within a path is none.
+    pub fn parameter_of(self, parameters: &[Token<'a>]) -> Option<Token<'a>> {
+        let mut in_path = false;
+        for token in self.0 {
+            if !in_path && token.is_among(parameters) {
+                return Some(*token);
+            }
+            in_path = token.is("::");
+        }
+        None
+    }
+}
+
 /// Whether a format is read, and whether it is written.
 #[derive(Clone, Copy, PartialEq)]
 pub struct Directions {
@@ -102,6 +116,15 @@ pub enum Shape<'a> {
     Variants(Vec<Variant<'a>>),
 }
 
+/// What is asked of a type that names type parameters.
+#[derive(Drop)]
+pub struct Bound<'a> {
+    /// The type.
+    pub of: Type<'a>,
+    /// The traits that it has, and the lifetimes that it outlives.
+    pub traits: Vec<Type<'a>>,
+}
+
 /// A user-defined type.
 #[derive(Drop)]
 pub struct Definition<'a> {
@@ -109,6 +132,8 @@ pub struct Definition<'a> {
     pub name: Token<'a>,
     /// Its type parameters.
     pub parameters: Vec<Token<'a>>,
+    /// Their bounds, and those after `where`.
+    pub bounds: Vec<Bound<'a>>,
     /// What it is made of.
     pub shape: Shape<'a>,
     /// What stands above it.

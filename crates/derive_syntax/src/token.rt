@@ -41,6 +41,16 @@ impl<'a> Token<'a> {
         }
     }
 
+    /// Whether it is one of these words.
+    pub fn is_among(self, words: &[Token<'a>]) -> bool {
+        for word in words {
+            if word.text == self.text {
+                return true;
+            }
+        }
+        false
+    }
+
     /// What stands between the quotes of a string literal.
     pub fn quoted(self) -> &'a str {
         let text = self.text.strip_prefix('"').unwrap_or(self.text);

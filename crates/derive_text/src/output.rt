@@ -3,6 +3,7 @@
 //! The text is a whole module, which brings in what it says by name.
 
 mod agreement;
+mod bounds;
 mod chains;
 mod choices;
 mod codec;
@@ -10,9 +11,11 @@ mod codecs;
 mod defaults;
 mod fields;
 mod forms;
+mod held;
 mod labels;
 mod layout;
 mod making;
+mod means;
 mod names;
 mod parameters;
 mod records;

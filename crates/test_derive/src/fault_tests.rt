@@ -2,7 +2,7 @@
 
 use crate::case_faults::CASES;
 use crate::default_faults::{DEFAULTS, SKIPPED};
-use crate::faults::{ATTRIBUTES, ITEMS, TYPES};
+use crate::faults::{ATTRIBUTES, BOUNDS, ITEMS, TYPES};
 use crate::mistakes::{COMMENTS, FORMS, OTHERS};
 use crate::outcome::{MODULE, outcome, outcome_above};
 use derive_text::{DeriveError, derive, derived_path, module_of};
@@ -33,6 +33,11 @@ fn items_are_structs_and_enums(rt: HostRuntime) {
 #[test]
 fn types_are_known(rt: HostRuntime) {
     are_reported(&rt, rt.alloc(), TYPES);
+}
+
+#[test]
+fn bounds_are_those_of_a_type(rt: HostRuntime) {
+    are_reported(&rt, rt.alloc(), BOUNDS);
 }
 
 #[test]

@@ -63,10 +63,20 @@ pub(crate) const TYPES: &str = r#"struct A<'a> {
 }
 => 1:10: `'a` is a lifetime
 ----
-struct A<T: B> {
-    a: T,
+struct A {
+    a: Vec<::std::string::String>,
 }
-=> 1:11: `:` stands where a comma or `>` is wanted
+=> 2:12: `::` begins no path here
+----
+struct A {
+    a: super::,
+}
+=> 2:15: `,` stands where a name is wanted
+----
+struct A {
+    a: crate,
+}
+=> 2:13: `,` stands where `::` is wanted
 ----
 struct A {
     a: &'a str,
@@ -111,9 +121,64 @@ struct A {
 ----
 // nanoserde: json
 struct A<T> {
-    a: Box<T>,
+    a: Vec<BTreeMap<u8, T>>,
 }
-=> 3:12: `T` is a type parameter within a type"#;
+=> 3:12: `BTreeMap` is no type that is known
+----
+use std::collections::BTreeMap;
+// nanoserde: json
+struct A<T> {
+    a: Vec<BTreeMap<u8, T>>,
+}
+=> 4:25: `T` is a type parameter within a type
+----
+// nanoserde: json
+struct A<T>([T; 2]);
+=> 2:14: `T` is a type parameter within a type"#;
+
+/// What is asked of a type parameter is no bound, or one that the impls have.
+pub(crate) const BOUNDS: &str = r#"struct A<T: > {
+    a: T,
+}
+=> 1:13: `>` stands where a trait is wanted
+----
+struct A<T: ?Sized> {
+    a: T,
+}
+=> 1:13: `?` stands where a trait is wanted
+----
+struct A<T: Clone + 'a> {
+    a: T,
+}
+=> 1:21: `'a` is a lifetime
+----
+struct A<T: Fn(u8)> {
+    a: T,
+}
+=> 1:15: `(` stands where a comma or `>` is wanted
+----
+struct A<T>
+where
+    T,
+{
+    a: T,
+}
+=> 3:6: `,` stands where `:` and a trait are wanted
+----
+struct A<T, U>
+where
+    T: Clone
+    U: Clone,
+{
+    a: T,
+}
+=> 4:5: `U` stands where a comma or the end of the bounds is wanted
+----
+// nanoserde: json
+struct A<T: Clone, U>(T, U)
+where
+    U: Ord + nano_json::DeJson;
+=> 4:25: `DeJson` is a bound that each impl has"#;
 
 /// An attribute has no meaning where it stands.
 pub(crate) const ATTRIBUTES: &str = r#"// nanoserde: bin jsn

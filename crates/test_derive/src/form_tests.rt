@@ -1,6 +1,7 @@
 //! What is written of each form of a struct.
 
 use crate::forms::{CITING, DEFAULTED, GENERIC, LARGE, PARTS, PASSED, SKIPPED};
+use crate::generic_forms::{BOUNDED, HELD, PATHS};
 use crate::named_forms::{CLASHING, NAMED};
 use crate::outcome::outcome_above;
 use std::alloc::{AllocError, Global};
@@ -39,6 +40,13 @@ fn forms_are_written(rt: HostRuntime) {
     are_written(&rt, alloc, SKIPPED);
     are_written(&rt, alloc, CITING);
     are_written(&rt, alloc, PASSED);
+}
+
+#[test]
+fn forms_with_parameters_and_paths_are_written(rt: HostRuntime) {
+    are_written(&rt, rt.alloc(), BOUNDED);
+    are_written(&rt, rt.alloc(), HELD);
+    are_written(&rt, rt.alloc(), PATHS);
 }
 
 #[test]

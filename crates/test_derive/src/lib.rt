@@ -16,6 +16,8 @@ mod form_tests;
 #[cfg(test)]
 mod forms;
 #[cfg(test)]
+mod generic_forms;
+#[cfg(test)]
 mod mistakes;
 #[cfg(test)]
 mod mutation_tests;

@@ -53,16 +53,10 @@ enum A {
 }
 => 2:11: `=` gives a variant a number
 ----
-struct A<T>
-where
-    T: B,
-{
+struct A<T = u8> {
     a: T,
 }
-=> 2:1: `where` begins bounds
-----
-struct A<T>(T) where T: B;
-=> 1:16: `where` begins bounds
+=> 1:12: `=` stands where a comma or `>` is wanted
 ----
 struct A {
     r#type: u8,

@@ -29,7 +29,7 @@ pub struct Server {
 
 // nanoserde: de_json
 // nanoserde: ser_json
-struct Pair<A, B> {
+struct Pair<A: Clone, B> where B: super::C {
     a: A,
     b: std::option::Option<B>,
 }

@@ -3,7 +3,8 @@
 //!
 //! `Server`, `Event`, `Signal` and `Query` are described once by a schema, and `derive_files` wrote
 //! each format from it. So are `Site`, `Clock` and `Notice`, which have attributes, `Tagged` and
-//! `Reply`, which have type parameters, and `Point` and `Entry`, whose parts have no names.
+//! `Reply`, which have type parameters, `Ranked`, `Wanted`, `Ranks` and `Best`, whose parameters
+//! have bounds, and `Point` and `Entry`, whose parts have no names.
 //! `Limits` and `Tags` are encoded as their one field. `Command` implements bytes and `Message`
 //! implements JSON by hand, without a schema.
 #![tactic(auto)]
@@ -17,6 +18,8 @@ mod message;
 mod notice;
 mod point;
 mod query;
+mod ranked;
+mod ranks;
 mod reply;
 mod server;
 mod signal;
@@ -33,6 +36,8 @@ pub use message::Message;
 pub use notice::Notice;
 pub use point::Point;
 pub use query::Query;
+pub use ranked::{Ranked, Wanted};
+pub use ranks::{Best, Ranks};
 pub use reply::Reply;
 pub use server::Server;
 pub use signal::Signal;

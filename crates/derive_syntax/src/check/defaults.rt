@@ -1,6 +1,6 @@
 //! What a field has where it is missing, or where it is skipped.
 
-use crate::check::known::{is_among, is_defined, is_imported};
+use crate::check::known::{is_defined, is_imported};
 use crate::check::names::within;
 use crate::fault::Fault;
 use crate::syntax::{Definition, Field, Source, Type};
@@ -85,19 +85,14 @@ pub(crate) fn check_default<'a>(
 
 /// An error where the default of a type parameter is wanted.
 fn check_parameters<'a>(definition: &Definition<'a>, field: Field<'a>) -> Result<(), Fault> {
-    for token in field.of.0 {
-        if !is_among(&definition.parameters, *token) {
-            continue;
-        }
-        match (field.attributes.skip, field.attributes.default) {
-            (Some(word), _) => return Err(word.fault(NO_PARAMETER)),
-            (None, Some(word)) if field.of.0.len() == 1 => {
-                return Err(word.fault(NO_PARAMETER));
-            }
-            _ => {}
-        }
+    if field.of.parameter_of(&definition.parameters).is_none() {
+        return Ok(());
     }
-    Ok(())
+    match (field.attributes.skip, field.attributes.default) {
+        (Some(word), _) => Err(word.fault(NO_PARAMETER)),
+        (None, Some(word)) if field.of.0.len() == 1 => Err(word.fault(NO_PARAMETER)),
+        _ => Ok(()),
+    }
 }
 
 /// An error where a skipped field cannot have this.

@@ -1,6 +1,7 @@
 //! One struct or enum.
 
 use crate::case::Case;
+use crate::check::bounds::check_bounds;
 use crate::check::defaults::check_default;
 use crate::check::known::check_type;
 use crate::check::names::{EncodedName, check_distinct, check_encoded, check_name};
@@ -24,6 +25,9 @@ pub(crate) fn check_definition<'a>(
     check_attributes(definition.attributes, definition)?;
     check_transparent(definition)?;
     check_case(definition)?;
+    if definition.attributes.codec.is_some() {
+        check_bounds(definition)?;
+    }
     let case = definition.attributes.case;
     match &definition.shape {
         Shape::Fields(fields) => check_fields(alloc, source, definition, fields, case),

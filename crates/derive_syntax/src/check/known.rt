@@ -45,7 +45,7 @@ fn check_word<'a>(
     check_number(word, definition.attributes)?;
     let is_known = PRELUDE.contains(&word.text)
         || word.text == "Box"
-        || is_among(&definition.parameters, word)
+        || word.is_among(&definition.parameters)
         || is_defined(source, word)
         || is_imported(&source.imported, word);
     if is_known {
@@ -83,16 +83,6 @@ fn check_number(word: Token<'_>, attributes: Attributes<'_>) -> Result<(), Fault
 pub(crate) fn is_defined<'a>(source: &Source<'a>, word: Token<'a>) -> bool {
     for definition in &source.definitions {
         if definition.name.text == word.text {
-            return true;
-        }
-    }
-    false
-}
-
-/// Whether this word is one of them.
-pub(crate) fn is_among<'a>(words: &[Token<'a>], word: Token<'a>) -> bool {
-    for other in words {
-        if other.text == word.text {
             return true;
         }
     }

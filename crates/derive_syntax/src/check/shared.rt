@@ -1,6 +1,6 @@
 //! Types of the library that share what they hold, or that may borrow it.
 
-use crate::check::known::{is_among, is_defined, is_imported};
+use crate::check::known::{is_defined, is_imported};
 use crate::syntax::{Definition, Source};
 use crate::token::Token;
 
@@ -38,7 +38,7 @@ fn is_named<'a>(
     word: Token<'a>,
     module: &str,
 ) -> bool {
-    if is_among(&definition.parameters, word) || is_defined(source, word) {
+    if word.is_among(&definition.parameters) || is_defined(source, word) {
         return false;
     }
     !is_imported(&source.imported, word) || is_from(&source.imported, word, module)

@@ -62,9 +62,9 @@ impl<'a> Cursor<'a> {
         }
     }
 
-    /// Whether the token after the next one is this word or punctuation.
-    pub(crate) fn is_before(&self, text: &str) -> bool {
-        match self.tokens.get(self.taken.saturating_add(1)) {
+    /// Whether the token so many after the next one is this word or punctuation.
+    pub(crate) fn is_ahead(&self, count: usize, text: &str) -> bool {
+        match self.tokens.get(self.taken.saturating_add(count)) {
             Some(token) => token.is(text),
             None => false,
         }
@@ -106,7 +106,7 @@ impl<'a> Cursor<'a> {
     /// Takes the next token, which is to be a name.
     pub(crate) fn name(&mut self) -> Result<Token<'a>, Fault> {
         match self.peek() {
-            Some(token) if token.is("r") && self.is_before("#") => Err(token.fault(RAW)),
+            Some(token) if token.is("r") && self.is_ahead(1, "#") => Err(token.fault(RAW)),
             Some(token) if token.kind == TokenKind::Word && !is_keyword(token.text) => {
                 let _ = self.next();
                 Ok(token)

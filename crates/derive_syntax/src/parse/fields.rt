@@ -28,12 +28,15 @@ pub(crate) fn visibility<'a>(cursor: &mut Cursor<'a>) -> Result<(), Fault> {
 
 /// Whether a bracket comes next that says where something is seen, and is not that of a type.
 fn is_restriction(cursor: &Cursor<'_>) -> bool {
-    for word in ["crate", "super", "self", "in"] {
-        if cursor.is_at("(") && cursor.is_before(word) {
+    if !cursor.is_at("(") {
+        return false;
+    }
+    for word in ["crate", "super", "self"] {
+        if cursor.is_ahead(1, word) && cursor.is_ahead(2, ")") {
             return true;
         }
     }
-    false
+    cursor.is_ahead(1, "in")
 }
 
 /// Takes fields with names, from their bracket to its end.

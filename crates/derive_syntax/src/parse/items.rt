@@ -3,6 +3,7 @@
 
 use crate::fault::Fault;
 use crate::parse::attributes::{Below, attributes};
+use crate::parse::bounds::{parameters, where_clause};
 use crate::parse::brackets::check_brackets;
 use crate::parse::cursor::Cursor;
 use crate::parse::fields::{fields, parts, variants, visibility};
@@ -118,13 +119,14 @@ fn definition<'a>(
         let _ = cursor.take("struct");
     }
     let name = cursor.name()?;
-    let parameters = parameters(alloc, cursor)?;
-    without_bounds(cursor)?;
+    let mut bounds = Vec::new(alloc);
+    let parameters = parameters(alloc, cursor, &mut bounds)?;
+    where_clause(alloc, cursor, &mut bounds)?;
     let shape = if is_enum {
         Shape::Variants(variants(alloc, cursor)?)
     } else if cursor.is_at("(") {
         let parts = parts(alloc, cursor)?;
-        without_bounds(cursor)?;
+        where_clause(alloc, cursor, &mut bounds)?;
         cursor.expect(";", "stands where `;` is wanted")?;
         Shape::Parts(parts)
     } else {
@@ -133,49 +135,8 @@ fn definition<'a>(
     Ok(Definition {
         name,
         parameters,
+        bounds,
         shape,
         attributes,
     })
-}
-
-/// An error at a `where`.
-fn without_bounds(cursor: &Cursor<'_>) -> Result<(), Fault> {
-    if cursor.is_at("where") {
-        Err(cursor.fault("begins bounds: a type parameter has no bound here"))
-    } else {
-        Ok(())
-    }
-}
-
-/// Takes type parameters, if there are any.
-fn parameters<'a>(alloc: Global, cursor: &mut Cursor<'a>) -> Result<Vec<Token<'a>>, Fault> {
-    if !cursor.take("<") {
-        return Ok(Vec::new(alloc));
-    }
-    let parameters = listed_parameters(alloc, cursor)?;
-    cursor.expect(
-        ">",
-        "stands where a comma or `>` is wanted: a type parameter has no bound here",
-    )?;
-    Ok(parameters)
-}
-
-/// Takes type parameters, as long as there are commas between them.
-fn listed_parameters<'a>(alloc: Global, cursor: &mut Cursor<'a>) -> Result<Vec<Token<'a>>, Fault> {
-    let mut parameters = Vec::new(alloc);
-    for _turn in cursor.tokens {
-        parameters.push(parameter(cursor)?)?;
-        if !cursor.take(",") || cursor.is_at(">") {
-            break;
-        }
-    }
-    Ok(parameters)
-}
-
-/// Takes a type parameter.
-fn parameter<'a>(cursor: &mut Cursor<'a>) -> Result<Token<'a>, Fault> {
-    if cursor.is_at_kind(TokenKind::Lifetime) {
-        return Err(cursor.fault("is a lifetime: a type that is read owns what it holds"));
-    }
-    cursor.name()
 }

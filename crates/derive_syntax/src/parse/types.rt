@@ -87,6 +87,9 @@ fn start<'a>(cursor: &mut Cursor<'a>, open: &mut Vec<Bracket>) -> Result<Next, F
             "begins no type that can be read and written: no reference, pointer, function or \
              trait is one",
         )),
+        Some(token) if token.is("::") => Err(token.fault(
+            "begins no path here: leave it out, as in `std::vec::Vec`",
+        )),
         Some(token) if token.kind == TokenKind::Word => path(cursor, open),
         _ => Err(cursor.fault("stands where a type is wanted")),
     }
@@ -99,11 +102,10 @@ fn is_pointer(token: Token<'_>) -> bool {
 
 /// Takes a path, and the bracket of its arguments.
 fn path<'a>(cursor: &mut Cursor<'a>, open: &mut Vec<Bracket>) -> Result<Next, Fault> {
-    let _ = cursor.take("crate") || cursor.take("super");
+    root(cursor)?;
     for _turn in cursor.tokens {
-        let _ = cursor.take("::");
         let _ = cursor.name()?;
-        if !cursor.is_at("::") {
+        if !cursor.take("::") {
             break;
         }
     }
@@ -112,6 +114,20 @@ fn path<'a>(cursor: &mut Cursor<'a>, open: &mut Vec<Bracket>) -> Result<Next, Fa
         return Ok(Next::Start);
     }
     Ok(Next::After)
+}
+
+/// Takes what a path from the crate or from a module begins with, each step with its colons.
+fn root<'a>(cursor: &mut Cursor<'a>) -> Result<(), Fault> {
+    if cursor.take("crate") || cursor.take("self") {
+        cursor.expect("::", "stands where `::` is wanted")?;
+    }
+    for _turn in cursor.tokens {
+        if !cursor.take("super") {
+            break;
+        }
+        cursor.expect("::", "stands where `::` is wanted")?;
+    }
+    Ok(())
 }
 
 /// Takes the beginning of a type, or the end of a bracket.

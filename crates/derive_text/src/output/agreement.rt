@@ -1,11 +1,10 @@
 //! That the codec of a type is of what its values mean. A type parameter's codec says so of its
 //! values, and the codec of a generic type says it by those of its parameters.
 
-use crate::output::parameters::{content_types, encoded_types, parameter_in};
+use crate::output::held::{field_terms, inner_tuple_terms, tuple_terms};
+use crate::output::parameters::{content_types, encoded_types};
 use crate::output::rows::ghost_pairs;
 use crate::output::sheet::Sheet;
-use crate::output::tuples::{PLACES, named};
-use crate::output::types::{argument_of, type_text};
 use derive_syntax::{Content, Definition, Fault, Shape, Token, Type, Variant};
 use std::alloc::{AllocError, Global};
 
@@ -17,8 +16,6 @@ pub(crate) struct Agreement {
     /// That what is written as bytes is read back.
     pub(crate) decodable: String,
 }
-
-const UNKNOWN: &str = "is a type parameter within a type that is neither an `Option` nor a `Vec`";
 
 /// The terms of a definition whose name has these parameters.
 pub(crate) fn agreement_of<'a>(
@@ -57,14 +54,14 @@ fn of_fields<'a>(
     types: &[Type<'a>],
     full: &str,
 ) -> Result<Agreement, Fault> {
-    let agree = all_agree(alloc, &definition.parameters, types)?;
-    let pairs = ghost_pairs(alloc, &agree, "pair_agrees ", " ")?;
-    let decode = all_decodable(alloc, &definition.parameters, types)?;
+    let terms = all_terms(alloc, &definition.parameters, types)?;
+    let pairs = paired_terms(alloc, &terms)?;
     Ok(Agreement {
         agrees: format!(in alloc;
-            "seen_agrees {pairs} ⟦<{full} as nano_schema::StructSchema>⟧.view"
+            "seen_agrees {} ⟦<{full} as nano_schema::StructSchema>⟧.view",
+            pairs.agrees
         )?,
-        decodable: ghost_pairs(alloc, &decode, "both_are_read ", " ")?,
+        decodable: pairs.decodable,
     })
 }
 
@@ -74,14 +71,8 @@ fn of_parts<'a>(
     definition: &Definition<'a>,
     types: &[Type<'a>],
 ) -> Result<Agreement, Fault> {
-    let agree = all_agree(alloc, &definition.parameters, types)?;
-    let pairs = in_turn(alloc, &agree, "pair_agrees ", " ")?;
-    let view = in_turn(alloc, &named(alloc, "x.", &PLACES, types.len())?, "", ", ")?;
-    let decode = all_decodable(alloc, &definition.parameters, types)?;
-    Ok(Agreement {
-        agrees: format!(in alloc; "seen_agrees {pairs} (λ x. {view})")?,
-        decodable: in_turn(alloc, &decode, "both_are_read ", " ")?,
-    })
+    let terms = all_terms(alloc, &definition.parameters, types)?;
+    Ok(tuple_terms(alloc, &terms)?)
 }
 
 /// The terms of an enum of these variants.
@@ -118,122 +109,50 @@ fn of_content<'a>(
     content: &Content<'a>,
 ) -> Result<Agreement, Fault> {
     let types = content_types(alloc, content)?;
-    let agree = all_agree(alloc, parameters, &types)?;
-    let decode = all_decodable(alloc, parameters, &types)?;
     if types.is_empty() {
         return Ok(Agreement {
             agrees: agreed_of(alloc, "()")?,
             decodable: String::from_str(alloc, "refl")?,
         });
     }
+    let terms = all_terms(alloc, parameters, &types)?;
     match content {
-        Content::Parts(parts) if parts.len() > 1 => {
-            let pairs = in_turn(alloc, &agree, "pair_agrees ", " ")?;
-            let view = in_turn(alloc, &named(alloc, "x.", &PLACES, parts.len())?, "", ", ")?;
-            Ok(Agreement {
-                agrees: format!(in alloc; "(seen_agrees {pairs} (λ x. {view}))")?,
-                decodable: in_turn(alloc, &decode, "both_are_read ", " ")?,
-            })
-        }
-        _ => Ok(Agreement {
-            agrees: ghost_pairs(alloc, &agree, "pair_agrees ", " ")?,
-            decodable: ghost_pairs(alloc, &decode, "both_are_read ", " ")?,
-        }),
+        Content::Parts(parts) if parts.len() > 1 => Ok(inner_tuple_terms(alloc, &terms)?),
+        _ => Ok(paired_terms(alloc, &terms)?),
     }
 }
 
-/// The texts as pairs of a ghost term, each text before the pair of the later ones.
-fn in_turn(
-    alloc: Global,
-    texts: &[String],
-    before: &str,
-    between: &str,
-) -> Result<String, AllocError> {
-    let mut pairs = String::new(alloc);
-    for text in texts.iter().rev() {
-        pairs = if pairs.is_empty() {
-            text.clone()?
-        } else {
-            format!(in alloc; "({before}{text}{between}{pairs})")?
-        };
-    }
-    Ok(pairs)
-}
-
-/// That the codec of each of these types is of what its values mean.
-fn all_agree<'a>(
+/// The terms of each of these types.
+fn all_terms<'a>(
     alloc: Global,
     parameters: &[Token<'a>],
     types: &[Type<'a>],
-) -> Result<Vec<String>, Fault> {
+) -> Result<Vec<Agreement>, Fault> {
     let mut terms = Vec::new(alloc);
     for of in types {
-        terms.push(agrees(alloc, parameters, *of)?)?;
+        terms.push(field_terms(alloc, parameters, *of)?)?;
     }
     Ok(terms)
 }
 
-/// That what is written of each of these types as bytes is read back.
-fn all_decodable<'a>(
-    alloc: Global,
-    parameters: &[Token<'a>],
-    types: &[Type<'a>],
-) -> Result<Vec<String>, AllocError> {
-    let mut terms = Vec::new(alloc);
-    for of in types {
-        terms.push(decodable(alloc, parameters, *of)?)?;
+/// The terms of types that have these, as nested pairs.
+fn paired_terms(alloc: Global, terms: &[Agreement]) -> Result<Agreement, AllocError> {
+    let mut agree = Vec::new(alloc);
+    let mut decode = Vec::new(alloc);
+    for of in terms {
+        agree.push(of.agrees.clone()?)?;
+        decode.push(of.decodable.clone()?)?;
     }
-    Ok(terms)
-}
-
-/// That the codec of a type is of what its values mean.
-fn agrees<'a>(alloc: Global, parameters: &[Token<'a>], of: Type<'a>) -> Result<String, Fault> {
-    let mut open = String::new(alloc);
-    let mut close = String::new(alloc);
-    let mut inner = of;
-    for _turn in of.0 {
-        if parameter_in(parameters, inner).is_none() {
-            break;
-        }
-        if let Some(part) = argument_of(inner, "Option") {
-            open.push_str("(option_agrees ")?;
-            close = format!(in alloc; "){close}")?;
-            inner = part;
-        } else if let Some(part) = argument_of(inner, "Vec") {
-            open.push_str("(seen_agrees (list_agrees ")?;
-            close = format!(in alloc; ") (λ x. x.items)){close}")?;
-            inner = part;
-        }
-    }
-    let term = match (parameter_in(parameters, inner), inner.0) {
-        (Some(_), [parameter]) => format!(in alloc; "{}.agrees", parameter.text)?,
-        (Some(parameter), _) => return Err(parameter.fault(UNKNOWN)),
-        (None, _) => known(alloc, inner)?,
-    };
-    Ok(format!(in alloc; "{open}{term}{close}")?)
-}
-
-/// That the codec of a type without parameters is of what its values mean.
-fn known<'a>(alloc: Global, of: Type<'a>) -> Result<String, AllocError> {
-    agreed_of(alloc, type_text(alloc, of)?.as_str())
+    Ok(Agreement {
+        agrees: ghost_pairs(alloc, &agree, "pair_agrees ", " ")?,
+        decodable: ghost_pairs(alloc, &decode, "both_are_read ", " ")?,
+    })
 }
 
 /// That the codec of the type of this text is of what its values mean.
-fn agreed_of(alloc: Global, text: &str) -> Result<String, AllocError> {
+pub(crate) fn agreed_of(alloc: Global, text: &str) -> Result<String, AllocError> {
     format!(in alloc;
         "(agreed {{means = ⟦<{text} as nano_schema::Value>⟧.means}} \
         {{legal = ⟦<{text} as nano_schema::Value>⟧.legal}})"
     )
-}
-
-/// That what is written of a type as bytes is read back.
-fn decodable<'a>(
-    alloc: Global,
-    parameters: &[Token<'a>],
-    of: Type<'a>,
-) -> Result<String, AllocError> {
-    match parameter_in(parameters, of) {
-        Some(parameter) => format!(in alloc; "{}.is_decodable", parameter.text),
-        None => String::from_str(alloc, "refl"),
-    }
 }

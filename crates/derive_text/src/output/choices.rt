@@ -98,7 +98,7 @@ fn append_parts<'a>(sheet: &mut Sheet, held: &str, parts: &[Type<'a>]) -> Result
 }
 
 const VIEW: &str = "
-impl$BOUNDS nano_schema::EnumSchema for $FULL {
+impl$BOUNDS nano_schema::EnumSchema for $FULL$OPEN
 $IMPORTS
     type Values = $VALUES;
 
@@ -133,7 +133,7 @@ fn append_view<'a>(
 const EITHER: &str =
     "ghost use Rattle.nano_schema.specs.declared.choices.Either.TheVariants.{First, Later};";
 
-const REFERENCES: &str = "impl$LIFETIME nano_schema::VariantRefs<'a> for $FULL {
+const REFERENCES: &str = "impl$LIFETIME nano_schema::VariantRefs<'a> for $FULL$OPEN
     type Refs = $REFS;
 
     ghost values = { ⟦<$ROW as nano_schema::BorrowedChoices<'a>>⟧.values };
@@ -144,7 +144,7 @@ $ARMS        }
     }
 }
 
-impl$BOUNDS nano_schema::Value for $FULL {
+impl$BOUNDS nano_schema::Value for $FULL$OPEN
     ghost means = { λ x. ⟦<$ROW as nano_schema::Choices>⟧.means 0 \
         (⟦<$FULL as nano_schema::EnumSchema>⟧.view x) };
 

@@ -66,14 +66,14 @@ pub(crate) const RON: Codec = Codec {
 pub(crate) const DEFINITION: &str = "
 // ---- $HEADING
 
-impl$BOUNDS nano_$MODULE_schema::$NAMECodec for $FULL {
+impl$BOUNDS nano_$MODULE_schema::$NAMECodec for $FULL$OPEN
     ghost $MODULE = { $BODY };
 
     ghost agrees = { $AGREES };
 }";
 
 const BYTES_WRITER: &str = "
-impl$BOUNDS nano_bin_schema::SerBin for $FULL {
+impl$BOUNDS nano_bin_schema::SerBin for $FULL$OPEN
     fn ser_bin(&self, alloc: std::alloc::Global, output: &mut Vec<u8>) \
         -> Result<(), std::alloc::AllocError> {
 $BODY
@@ -81,7 +81,7 @@ $BODY
 }";
 
 const BYTES_READER: &str = "
-impl$BOUNDS nano_bin_schema::DeBin for $FULL {
+impl$BOUNDS nano_bin_schema::DeBin for $FULL$OPEN
     ghost is_decodable = { $DECODABLE };
 
     fn de_bin(alloc: std::alloc::Global, offset: &mut usize, bytes: &[u8]) \
@@ -91,7 +91,7 @@ $BODY
 }";
 
 const TEXT_WRITER: &str = "
-impl$BOUNDS nano_$MODULE_schema::Ser$NAME for $FULL {
+impl$BOUNDS nano_$MODULE_schema::Ser$NAME for $FULL$OPEN
     fn ser_$MODULE(&self, alloc: std::alloc::Global, d: usize, \
         s: &mut nano_$MODULE_schema::Ser$NAMEState) -> Result<(), std::alloc::AllocError> {
 $BODY
@@ -99,7 +99,7 @@ $BODY
 }";
 
 const TEXT_READER: &str = "
-impl$BOUNDS nano_$MODULE_schema::De$NAME for $FULL {
+impl$BOUNDS nano_$MODULE_schema::De$NAME for $FULL$OPEN
     fn de_$MODULE(alloc: std::alloc::Global, state: &mut nano_$MODULE_schema::De$NAMEState, \
         input: &mut std::str::Chars<'_>) -> nano_$MODULE_schema::$NAMEResult<Self> {
 $BODY

@@ -2,6 +2,7 @@
 
 use crate::output::codec::{BIN, Codec, DEFINITION, JSON, RON};
 use crate::output::forms::Form;
+use crate::output::means::with_law;
 use crate::output::sheet::Sheet;
 use crate::output::target::Target;
 use crate::output::template::Holes;
@@ -59,15 +60,19 @@ fn append_codec<'a>(
         import_cited(sheet, target.agreement.decodable.as_str())?;
     }
     let (reader, arguments) = codec.reader;
-    let taker = if codec.takes_plainly { form.taker } else { "" };
-    append_impl(
-        sheet,
-        target,
-        codec,
-        DE,
-        (reader, form.read, arguments),
-        taker,
-    )
+    let read = if target.is_deep && form.is_by_codec {
+        with_law(sheet, codec, form.read)?
+    } else {
+        String::from_str(sheet.alloc, form.read)?
+    };
+    // Of a deep type it would need the law, too.
+    let taker = if codec.takes_plainly && !target.is_deep {
+        form.taker
+    } else {
+        ""
+    };
+    let body = (reader, read.as_str(), arguments);
+    append_impl(sheet, target, codec, DE, body, taker)
 }
 
 const CODEC: &str = ": nano_$MODULE_schema::$NAMECodec";

@@ -4,7 +4,7 @@ use crate::output::labels::name_of;
 use crate::output::sheet::Sheet;
 use crate::output::target::Target;
 use crate::output::template::Holes;
-use crate::output::types::type_text;
+use crate::output::types::{path_text, type_text};
 use derive_syntax::{Field, Missing, missing_value};
 use std::alloc::{AllocError, Global};
 
@@ -62,7 +62,7 @@ pub(crate) fn append_default<'a>(
 ) -> Result<String, AllocError> {
     let (kind, given) = match missing_value(field) {
         Missing::OfType => return sheet.short("nano_schema::TypeDefault"),
-        Missing::Path(path) => return String::from_str(sheet.alloc, path),
+        Missing::Path(path) => return path_text(sheet.alloc, path),
         Missing::Whole(number) => (&WHOLE, number),
         Missing::Signed(number) => match number.strip_prefix('-') {
             Some(digits) => (&NEGATIVE, digits),

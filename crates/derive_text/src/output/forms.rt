@@ -13,6 +13,8 @@ pub(crate) struct Form<'a> {
     pub(crate) read: &'static str,
     /// The method that takes a value which stands plainly, or nothing.
     pub(crate) taker: &'static str,
+    /// Whether what is read is said by the codec, and not by what its parts mean.
+    pub(crate) is_by_codec: bool,
 }
 
 const REFL: &str = "ghost use Rattle.std.specs.Prelude.{refl};";
@@ -35,6 +37,7 @@ pub(crate) const RECORD: Form = Form {
     write: "        nano_$MODULE_schema::write_record_$MODULE::<Self, $ROW>(self, $ARGUMENTS)",
     read: "        nano_$MODULE_schema::read_record_$MODULE::<Self, $ROW>($ARGUMENTS)",
     taker: RECORD_TAKER,
+    is_by_codec: true,
 };
 
 const RECORD_TAKER: &str = "
@@ -65,6 +68,7 @@ pub(crate) const CHOICE: Form = Form {
     write: "        nano_$MODULE_schema::write_choice_$MODULE::<Self, $ROW>(self, $ARGUMENTS)",
     read: "        nano_$MODULE_schema::read_choice_$MODULE::<Self, $ROW>($ARGUMENTS)",
     taker: "",
+    is_by_codec: true,
 };
 
 const HELD: [&[&str]; 3] = [
@@ -83,6 +87,7 @@ pub(crate) const TRANSPARENT: Form = Form {
             Err(error) => Err(error),
         }",
     taker: "",
+    is_by_codec: false,
 };
 
 /// A struct of several parts, which is their tuple in a text. What writes it is given.
@@ -94,5 +99,6 @@ pub(crate) fn tupled(write: &str) -> Form<'_> {
         write,
         read: "        nano_$MODULE_schema::read_parts_$MODULE::<Self, $VALUES>($ARGUMENTS)",
         taker: "",
+        is_by_codec: false,
     }
 }

@@ -1,6 +1,6 @@
 //! Names of the items that are written or brought in, each of which no item of the file has.
 
-use derive_syntax::{Content, Field, Missing, Shape, Source, Token, Type, missing_value};
+use derive_syntax::{Bound, Content, Field, Missing, Shape, Source, Token, Type, missing_value};
 use std::alloc::{AllocError, Global};
 
 /// The names that are taken.
@@ -19,10 +19,20 @@ impl Names {
         for definition in &source.definitions {
             names.add(alloc, definition.name.text)?;
             names.add_all(alloc, &definition.parameters)?;
+            names.add_bounds(alloc, &definition.bounds)?;
             names.add_named(alloc, &definition.shape)?;
         }
         names.add_all(alloc, &source.imported)?;
         Ok(names)
+    }
+
+    /// Adds the words of bounds.
+    fn add_bounds<'a>(&mut self, alloc: Global, bounds: &[Bound<'a>]) -> Result<(), AllocError> {
+        for bound in bounds {
+            self.add_all(alloc, bound.of.0)?;
+            self.add_types(alloc, &bound.traits)?;
+        }
+        Ok(())
     }
 
     /// Adds what a type is made of.

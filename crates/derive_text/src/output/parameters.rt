@@ -1,19 +1,7 @@
 //! The type parameters that types name.
 
-use derive_syntax::{Content, Field, Token, Type};
+use derive_syntax::{Content, Field, Shape, Token, Type, Variant};
 use std::alloc::{AllocError, Global};
-
-/// The first of the parameters that stands in a type.
-pub(crate) fn parameter_in<'a>(parameters: &[Token<'a>], of: Type<'a>) -> Option<Token<'a>> {
-    for token in of.0 {
-        for parameter in parameters {
-            if parameter.text == token.text {
-                return Some(*token);
-            }
-        }
-    }
-    None
-}
 
 /// Those of the parameters that stand in one of the types, in their order.
 pub(crate) fn parameters_in<'a>(
@@ -33,7 +21,7 @@ pub(crate) fn parameters_in<'a>(
 /// Whether a parameter stands in one of the types.
 fn is_named<'a>(parameter: Token<'a>, types: &[Type<'a>]) -> bool {
     for of in types {
-        if parameter_in(&[parameter], *of).is_some() {
+        if of.parameter_of(&[parameter]).is_some() {
             return true;
         }
     }
@@ -64,6 +52,27 @@ pub(crate) fn content_types<'a>(
         Content::Parts(parts) => parts.clone(),
         Content::Fields(fields) => encoded_types(alloc, fields),
     }
+}
+
+/// The types of what a definition is made of, as far as they are read and written.
+pub(crate) fn shape_types<'a>(
+    alloc: Global,
+    shape: &Shape<'a>,
+) -> Result<Vec<Type<'a>>, AllocError> {
+    match shape {
+        Shape::Fields(fields) => encoded_types(alloc, fields),
+        Shape::Parts(parts) => parts.clone(),
+        Shape::Variants(variants) => variant_types(alloc, variants),
+    }
+}
+
+/// The types of what variants hold, as far as they are read and written.
+fn variant_types<'a>(alloc: Global, variants: &[Variant<'a>]) -> Result<Vec<Type<'a>>, AllocError> {
+    let mut types = Vec::new(alloc);
+    for variant in variants {
+        types.extend_from_slice(&content_types(alloc, &variant.content)?)?;
+    }
+    Ok(types)
 }
 
 /// Parameters with a bound each, in angle brackets with what stands before them, if there is

@@ -22,7 +22,7 @@ pub(crate) struct Seen {
 }
 
 const RECORD: &str = "
-impl$BOUNDS nano_schema::StructSchema for $FULL {
+impl$BOUNDS nano_schema::StructSchema for $FULL$OPEN
     type Values = $FIELDS;
 
     ghost view = { λ x. $VIEW };
@@ -33,7 +33,7 @@ impl$BOUNDS nano_schema::StructSchema for $FULL {
     }
 }
 
-impl$LIFETIME nano_schema::FieldRefs<'a> for $FULL {
+impl$LIFETIME nano_schema::FieldRefs<'a> for $FULL$OPEN
     type Refs = $PARTS;
 
     ghost values = { ⟦<$ROW as nano_schema::Borrowed<'a>>⟧.values };
@@ -43,7 +43,7 @@ impl$LIFETIME nano_schema::FieldRefs<'a> for $FULL {
     }
 }
 
-impl$BOUNDS nano_schema::Value for $FULL {
+impl$BOUNDS nano_schema::Value for $FULL$OPEN
     ghost means = { λ x. ⟦<$ROW as nano_schema::Shape>⟧.means \
         (⟦<$FULL as nano_schema::StructSchema>⟧.view x) };
 

@@ -22,6 +22,8 @@ pub(crate) struct Sheet {
     imports: Vec<Import>,
     /// What brings items in.
     uses: Uses,
+    /// The functions that say what values mean in a format, by the format's module.
+    pub(crate) laws: Vec<(&'static str, String)>,
 }
 
 /// What brings in ghost names of a module.
@@ -52,6 +54,7 @@ impl Sheet {
             text: String::new(alloc),
             imports: Vec::new(alloc),
             uses: Uses::new(alloc)?,
+            laws: Vec::new(alloc),
         })
     }
 

@@ -1,7 +1,9 @@
 //! The type whose impls are written.
 
 use crate::output::agreement::{Agreement, agreement_of};
-use crate::output::parameters::bounds;
+use crate::output::bounds::opening;
+use crate::output::held::are_deep;
+use crate::output::parameters::{bounds, shape_types};
 use crate::output::sheet::Sheet;
 use crate::output::template::Holes;
 use derive_syntax::{Attributes, Definition, Fault, Shape, Token};
@@ -25,8 +27,12 @@ pub(crate) struct Target<'a> {
     pub(crate) name: Token<'a>,
     /// Its parameters, each alone.
     pub(crate) parameters: Vec<Token<'a>>,
+    /// What opens each of its impls: its bounds, and a bracket.
+    pub(crate) open: String,
     /// What stands above it.
     pub(crate) attributes: Attributes<'a>,
+    /// Whether a type parameter stands deep in what it is made of.
+    pub(crate) is_deep: bool,
     /// The ghost terms for its codecs.
     pub(crate) agreement: Agreement,
 }
@@ -52,6 +58,11 @@ impl<'a> Target<'a> {
             refs: type_name(sheet, name, "Refs", borrowed.as_str())?,
             agreement: agreement_of(sheet, definition, full.as_str())?,
             parameters: definition.parameters.clone()?,
+            open: opening(sheet.alloc, &definition.bounds)?,
+            is_deep: are_deep(
+                &definition.parameters,
+                &shape_types(sheet.alloc, &definition.shape)?,
+            ),
             full,
             module,
             name: definition.name,
@@ -67,6 +78,7 @@ impl<'a> Target<'a> {
         holes.put("ROW", self.row.as_str())?;
         holes.put("VALUES", self.values.as_str())?;
         holes.put("REFS", self.refs.as_str())?;
+        holes.put("OPEN", self.open.as_str())?;
         Ok(holes)
     }
 

@@ -11,7 +11,7 @@ use std::alloc::AllocError;
 const VALUE: &str = "
 type $ROW = $OF;
 
-impl$BOUNDS nano_schema::Value for $FULL {
+impl$BOUNDS nano_schema::Value for $FULL$OPEN
     ghost means = { λ x. ⟦<$ROW as nano_schema::Value>⟧.means x.0 };
 
     ghost legal = { ⟦<$ROW as nano_schema::Value>⟧.legal };
