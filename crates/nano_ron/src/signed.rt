@@ -58,13 +58,12 @@ fn take_signed_of<T: Signed>(
     input: &mut Chars<'_>,
     min: i64,
     max: i64,
-    text: &mut String,
 ) -> Option<T>
     requires { IsRangeOf T.width min max }
     ensures { TakesPlainly (signed T.width).encodes (λ x. number (T.value x))
         place.old input.old place.new input.new result }
 {
-    let number = take_plain_integer(place, input, min, max, text)?;
+    let number = take_plain_integer(place, input, min, max)?;
     Some(T::narrow(number))
 }
 
@@ -106,9 +105,9 @@ impl DeRon for i8 {
         _alloc: Global,
         place: &mut Place,
         input: &mut Chars<'_>,
-        text: &mut String,
+        _text: &mut String,
     ) -> Option<i8> {
-        take_signed_of(place, input, i8::MIN as i64, i8::MAX as i64, text)
+        take_signed_of(place, input, i8::MIN as i64, i8::MAX as i64)
     }
 }
 
@@ -150,9 +149,9 @@ impl DeRon for i16 {
         _alloc: Global,
         place: &mut Place,
         input: &mut Chars<'_>,
-        text: &mut String,
+        _text: &mut String,
     ) -> Option<i16> {
-        take_signed_of(place, input, i16::MIN as i64, i16::MAX as i64, text)
+        take_signed_of(place, input, i16::MIN as i64, i16::MAX as i64)
     }
 }
 
@@ -194,9 +193,9 @@ impl DeRon for i32 {
         _alloc: Global,
         place: &mut Place,
         input: &mut Chars<'_>,
-        text: &mut String,
+        _text: &mut String,
     ) -> Option<i32> {
-        take_signed_of(place, input, i32::MIN as i64, i32::MAX as i64, text)
+        take_signed_of(place, input, i32::MIN as i64, i32::MAX as i64)
     }
 }
 
@@ -238,8 +237,8 @@ impl DeRon for i64 {
         _alloc: Global,
         place: &mut Place,
         input: &mut Chars<'_>,
-        text: &mut String,
+        _text: &mut String,
     ) -> Option<i64> {
-        take_signed_of(place, input, i64::MIN, i64::MAX, text)
+        take_signed_of(place, input, i64::MIN, i64::MAX)
     }
 }

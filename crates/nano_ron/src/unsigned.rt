@@ -51,17 +51,12 @@ fn read_unsigned<T: Unsigned>(
 
 /// Takes a whole number of at most `max`, which stands plainly.
 #[inline(always)]
-fn take_unsigned_of<T: Unsigned>(
-    place: &mut Place,
-    input: &mut Chars<'_>,
-    max: u64,
-    text: &mut String,
-) -> Option<T>
+fn take_unsigned_of<T: Unsigned>(place: &mut Place, input: &mut Chars<'_>, max: u64) -> Option<T>
     requires { 2 ^ T.bits ≡ max + 1 }
     ensures { TakesPlainly (unsigned T.bits).encodes (λ x. whole (T.value x))
         place.old input.old place.new input.new result }
 {
-    let number = take_plain_unsigned(place, input, max, text)?;
+    let number = take_plain_unsigned(place, input, max)?;
     Some(T::narrow(number))
 }
 
@@ -103,9 +98,9 @@ impl DeRon for u8 {
         _alloc: Global,
         place: &mut Place,
         input: &mut Chars<'_>,
-        text: &mut String,
+        _text: &mut String,
     ) -> Option<u8> {
-        take_unsigned_of(place, input, u8::MAX as u64, text)
+        take_unsigned_of(place, input, u8::MAX as u64)
     }
 }
 
@@ -147,9 +142,9 @@ impl DeRon for u16 {
         _alloc: Global,
         place: &mut Place,
         input: &mut Chars<'_>,
-        text: &mut String,
+        _text: &mut String,
     ) -> Option<u16> {
-        take_unsigned_of(place, input, u16::MAX as u64, text)
+        take_unsigned_of(place, input, u16::MAX as u64)
     }
 }
 
@@ -191,9 +186,9 @@ impl DeRon for u32 {
         _alloc: Global,
         place: &mut Place,
         input: &mut Chars<'_>,
-        text: &mut String,
+        _text: &mut String,
     ) -> Option<u32> {
-        take_unsigned_of(place, input, u32::MAX as u64, text)
+        take_unsigned_of(place, input, u32::MAX as u64)
     }
 }
 
@@ -235,9 +230,9 @@ impl DeRon for u64 {
         _alloc: Global,
         place: &mut Place,
         input: &mut Chars<'_>,
-        text: &mut String,
+        _text: &mut String,
     ) -> Option<u64> {
-        take_unsigned_of(place, input, u64::MAX, text)
+        take_unsigned_of(place, input, u64::MAX)
     }
 }
 
@@ -279,8 +274,8 @@ impl DeRon for usize {
         _alloc: Global,
         place: &mut Place,
         input: &mut Chars<'_>,
-        text: &mut String,
+        _text: &mut String,
     ) -> Option<usize> {
-        take_unsigned_of(place, input, usize::MAX as u64, text)
+        take_unsigned_of(place, input, usize::MAX as u64)
     }
 }

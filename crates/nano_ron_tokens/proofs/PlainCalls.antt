@@ -37,16 +37,22 @@ pub string_after : (bytes characters : List ℕ) {text after rest : List ℕ} �
     → IsString after characters rest → bytes ≡ encode_utf8_all characters → Cut text (str bytes) rest
 string_after bytes characters space is same = after_space (str bytes) space (quoted (characters, is, same))
 
--- a number begins where the current character starts one, or where a digit or a minus is current
-pub starts_here : (cur : ℕ) (i : Chars) → starts_number cur ≡ true
-    → first_is starts_number (remaining cur i) ≡ true
-starts_here cur i starts = first_is-remaining starts_number cur i refl ∙ starts
-
-pub digit_starts : (c : ℕ) → is_ascii_digit c ≡ true → starts_number c ≡ true
+digit_starts : (c : ℕ) → is_ascii_digit c ≡ true → starts_number c ≡ true
 digit_starts c digit = elim (is_sign c) as (λ b. ((b || is_ascii_digit c) || (c == 46)) ≡ true) [
   | true ↦ refl
   | false ↦ rw digit refl
 ]
+
+-- a number that begins with a digit, or with a minus, is a lexeme
+pub unsigned_lexeme : (cur : ℕ) (i : Chars) (n : ℕ) (run rest : List ℕ) → is_ascii_digit cur ≡ true
+    → IsNumber (remaining cur i) (U64 n) run rest → IsLexeme (u64 n) (remaining cur i) rest
+unsigned_lexeme cur i n run rest digit is =
+    number (first_is-remaining starts_number cur i refl ∙ digit_starts cur digit) (run, is)
+
+pub negative_lexeme : (cur : ℕ) (i : Chars) (z : ℤ) (run rest : List ℕ) → cur ≡ 45
+    → IsNumber (remaining cur i) (I64 z) run rest → IsLexeme (i64 z) (remaining cur i) rest
+negative_lexeme cur i z run rest minus is =
+    number (first_is-remaining starts_number cur i refl ∙ ap starts_number minus) (run, is)
 
 -- what is not less, whatever the two were computed from
 pub in_order : (low low_is high high_is : ℤ) → low ≡ low_is → high ≡ high_is → lt_z high low ≡ false

@@ -5,14 +5,12 @@ use Rattle.std.specs.Prelude.{Result, MatchResult, string_capacity, ◌≤◌, �
 use Rattle.std.specs.declared.str.Chars.{Chars}
 use Rattle.nano_text.specs.Characters.{line_feed, prefix, following, first_is}
 use Rattle.nano_text.specs.Place.{remaining}
-use Rattle.nano_text.specs.Number.{IsNumber}
-use Rattle.nano_text.specs.declared.number.Number.{Number}
 use Rattle.nano_grammar.specs.Outcomes.{NothingCut, TookNext, IsValueError as IsValueErrorOf}
 use Rattle.nano_grammar.specs.Outcomes.{HoldsNul, end_message}
 use Rattle.nano_ron_tokens.specs.declared.scan.Rejection.{Rejection}
 use Rattle.nano_ron_tokens.specs.declared.scan.Rejection.TheVariants.{Memory}
 use Rattle.nano_ron_tokens.specs.declared.state.DeRonState.{DeRonState}
-use Rattle.nano_ron_tokens.specs.Cut.{Cut, is_word, starts_number, Skip, IsSkip, skip_text, IsGap, IsUnended}
+use Rattle.nano_ron_tokens.specs.Cut.{Cut, is_word, Skip, IsSkip, skip_text, IsGap, IsUnended}
 use Rattle.nano_text.specs.Characters.{is_space}
 use Rattle.nano_ron_tokens.specs.Cut.{IsOneLine, HoldsNoEnd, IsLexeme}
 use Rattle.nano_ron_tokens.specs.Outcomes.{Outgrows, Moved, position, report, Says}
@@ -156,11 +154,6 @@ AnUnsigned max ts n = (ts ≡ u64 n ∷ []) × (n ≤ max)
 abbrev pub AnInteger : ℤ → ℤ → List Token → ℤ → Type 0
 AnInteger min max ts z =
     (t : Token) × (ts ≡ t ∷ []) × (integer_of t ≡ Some z) × (min ≤ℤ z) × (z ≤ℤ max)
-
--- the text begins with the number, and the rest comes after it
-abbrev pub IsNumberOf : Number → List ℕ → List ℕ → Type 0
-IsNumberOf number text rest =
-    (first_is starts_number text ≡ true) × ((run : List ℕ) × IsNumber text number run rest)
 
 -- the text begins with a lexeme of the whole number
 abbrev pub IsInteger : ℤ → List ℕ → List ℕ → Type 0

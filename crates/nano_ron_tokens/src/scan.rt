@@ -170,7 +170,7 @@ impl DeRonState {
 }
 
 #[inline]
-pub(crate) fn starts_number(c: char) -> bool
+fn starts_number(c: char) -> bool
     ensures { result ≡ starts_number c }
 {
     c == '+' || c == '-' || c.is_ascii_digit() || c == '.'
