@@ -21,10 +21,10 @@ fields-smaller g c =
     let left = text_at c.take_field.new.place c.take_field.new.input in
     let rest = text_at c.take_directly.new.place c.take_directly.new.input in
     let field = (c.in_ok-take_field.ensures.0).taken c.if-not-branch.false in
-    let mark = c.take_directly.ensures.taken c.if-take_directly.true comma refl in
+    let token_cut = c.take_directly.ensures.taken c.if-take_directly.true comma refl in
     let one = some_shorter json_laws (str c.in_ok-name.name.now) (colon ∷ []) here mid refl c.in_ok-name.ensures.taken in
     let two = cuts_shorter json_laws field.value mid left field.taken in
-    let three = cuts_shorter json_laws (comma ∷ []) left rest (rest, mark, refl) in
+    let three = cuts_shorter json_laws (comma ∷ []) left rest (rest, token_cut, refl) in
     omega (arith, one, two, three)
 
 pub fields-preserved : goal.fields-preserved
@@ -33,8 +33,8 @@ fields-preserved g c =
     let looked = c.in_ok-take_field.ensures in
     let known = sym looked.0.known_is ∙ c.if-not-branch.false in
     let field = looked.0.taken c.if-not-branch.false in
-    let mark = c.take_directly.ensures.taken c.if-take_directly.true comma refl in (
-      more_taken json_fields shape c.in_ok-name.name.now c.fields.invariant.0 c.in_ok-name.ensures.taken known field mark,
+    let token_cut = c.take_directly.ensures.taken c.if-take_directly.true comma refl in (
+      more_taken json_fields shape c.in_ok-name.name.now c.fields.invariant.0 c.in_ok-name.ensures.taken known field token_cut,
       moves_append c.fields.invariant.1
           (moves_append c.in_ok-name.ensures.counts (moves_append looked.1 c.take_directly.ensures.counts)),
     )
@@ -47,9 +47,9 @@ returns-in-fields g c =
     let field = looked.0.taken c.if-not-branch.false in
     let left = text_at c.take_field.new.place c.take_field.new.input in
     let rest = text_at c.take_punctuator-in-fields.new.place c.take_punctuator-in-fields.new.input in
-    let mark = c.take_punctuator-in-fields.ensures.taken c.if-not-take_punctuator-2.false curly_close refl in
+    let token_cut = c.take_punctuator-in-fields.ensures.taken c.if-not-take_punctuator-2.false curly_close refl in
     let same = c.take_directly.ensures.other c.if-take_directly.false in
-    let closing = subst (λ (l : List ℕ). Cut l curly_close rest) (λ i. text_at (same.0 i) (same.1 i)) mark in (
+    let closing = subst (λ (l : List ℕ). Cut l curly_close rest) (λ i. text_at (same.0 i) (same.1 i)) token_cut in (
       all_fields_taken json_fields shape c.in_ok-name.name.now c.fields.invariant.0 c.in_ok-name.ensures.taken known field closing,
       moves_append c.fields.invariant.1 (moves_append c.in_ok-name.ensures.counts
           (moves_append looked.1 (moves_append c.take_directly.ensures.counts c.take_punctuator-in-fields.ensures.counts))),

@@ -22,6 +22,6 @@ returns g c =
     let taken =
     subst (λ (text : List ℕ). TookPlainly Cut encodes text (text_at q k) (g.T.Value.means c.in_ok-item.item))
     (same_remaining p.cur j i same) item.0 in
-    let mark = c.take_directly.ensures.taken c.if-not-take_directly.false comma refl in
+    let token_cut = c.take_directly.ensures.taken c.if-not-take_directly.false comma refl in
     item_taken Cut comma (at_comma p i) (at_comma c.take_directly.new.place c.take_directly.new.input) (text_at q k) refl taken
-    mark (moves_append (moves_from p q j i k same item.1) c.take_directly.ensures.counts)
+    token_cut (moves_append (moves_from p q j i k same item.1) c.take_directly.ensures.counts)
