@@ -22,7 +22,6 @@ const BYTES: &[(&str, Option<u8>, usize, usize)] = &[
     ("007,8", Some(7), 0, 4),
     ("7 ,8", Some(7), 0, 2),
     ("7]", Some(7), 0, 2),
-    ("7", Some(7), 0, 1),
     ("256,8", None, 0, 0),
     ("18446744073709551616,8", None, 0, 0),
     ("-1,8", None, 0, 0),
@@ -46,6 +45,7 @@ const INTEGERS: &[(&str, Option<i8>, usize, usize)] = &[
 /// Numbers that JSON reads apart: a text, what an `i8` there is, and the line and column after it.
 const APART: &[(&str, i8, usize, usize)] = &[
     ("7\n}", 7, 1, 0),
+    ("7", 7, 0, 1),
     ("0000000000000000000000007]", 7, 0, 26),
     ("+7]", 7, 0, 3),
     ("-12\n]", -12, 1, 0),
@@ -121,18 +121,15 @@ fn plain_tokens(rt: HostRuntime) {
     holds(&rt, may_be_null(&place, &input), "null may come");
     holds(&rt, take_null(&mut place, &mut input).is_some(), "null");
     holds(&rt, take_punctuator(&mut place, &mut input, '}'), "}");
-    holds(
-        &rt,
-        place.line == 0 && place.col == 30,
-        "the end of the object",
-    );
+    let ends = place.line == 0 && place.col == 27;
+    holds(&rt, ends, "the end of the object");
 }
 
 /// The same calls of RON, and integers of a range.
 #[test]
 fn plain_tokens_of_ron(rt: HostRuntime) {
     let mut buffer = String::new(rt.alloc());
-    let (mut place, mut input) = first_place("\"a\",9,-9");
+    let (mut place, mut input) = first_place("\"a\",9,-9]");
     let text = nano_ron_tokens::take_text(&mut place, &mut input, &mut buffer);
     holds(&rt, text && buffer.as_str() == "a", "a text of RON");
     let comma = nano_ron_tokens::take_directly(&mut place, &mut input, ',');

@@ -6,7 +6,8 @@ ghost use Rattle.std.specs.Prelude.{codes};
 
 use crate::type_checks::{holds, is_made, is_so};
 use nano_json_schema::{
-    ReadContent as JsonContent, read_fields as read_json, write_fields as write_json,
+    Place, ReadContent as JsonContent, read_fields as read_json, take_fields,
+    write_fields as write_json,
 };
 use nano_ron_schema::{
     Part, ReadContent as RonContent, RonChoices, read_fields as read_ron, read_variant_name,
@@ -94,6 +95,34 @@ fn is_written_in_bytes(alloc: Global) -> Result<bool, AllocError> {
     Ok(output.as_slice() == [9u8, 7, 0, 0, 0].as_slice())
 }
 
+/// Whether the field is taken where it stands plainly, and the last one of its name counts.
+fn is_taken(alloc: Global) -> bool {
+    let mut text = String::new(alloc);
+    let mut slots = <Field as JsonFields>::empty();
+    let (mut place, mut input) = first_place("7}");
+    let taken = Field::take_field(
+        "value", &mut slots, alloc, &mut place, &mut input, &mut text,
+    );
+    let known = taken == Some(true) && Field::whole(slots, alloc) == Some(7);
+    let (mut place, mut input) = first_place("{\"value\":1,\n\"value\": 2 }]");
+    let last = take_fields::<Field>(alloc, &mut place, &mut input, &mut text);
+    let (mut other, mut rest) = first_place("{\"note\":1}");
+    let unknown = take_fields::<Field>(alloc, &mut other, &mut rest, &mut text);
+    known && last == Some(2) && place.cur == ']' && unknown.is_none()
+}
+
+/// The place at the first character of a text.
+fn first_place(text: &str) -> (Place, Chars<'_>) {
+    let mut input = text.chars();
+    let mut place = Place {
+        cur: '\0',
+        line: 0,
+        col: 0,
+    };
+    place.next(&mut input);
+    (place, input)
+}
+
 #[test]
 fn parts_and_bytes(rt: HostRuntime) {
     holds(&rt, is_item(), "an item");
@@ -102,6 +131,7 @@ fn parts_and_bytes(rt: HostRuntime) {
     holds(&rt, is_in_bytes(rt.alloc()).unwrap_or(false), "bytes");
     is_so(&rt, is_written_in_bytes(rt.alloc()), "code");
     <Field as BinFields>::discard(7);
+    holds(&rt, is_taken(rt.alloc()), "a field that stands plainly");
     <Field as JsonFields>::discard(Some(7));
     <Field as JsonFields>::discard_values(7);
     <Field as RonFields>::discard(Some(7));
