@@ -15,8 +15,8 @@ ghost use Rattle.std.specs.Prelude.{codes, ◌==◌, if◌then◌else◌, refl};
 =>
 use super::*;
 use nano_json_schema::{
-    DeJson, DeJsonState, JsonCodec, JsonResult, JsonShape, SerJson, SerJsonState, read_record_json,
-    write_record_json,
+    DeJson, DeJsonState, JsonCodec, JsonResult, JsonShape, Place, SerJson, SerJsonState,
+    read_record_json, take_record_json, write_record_json,
 };
 use nano_schema::{
     Borrowed, FieldRefs, Label, Optional, Required, Shape, StructSchema, Value, known_record,
