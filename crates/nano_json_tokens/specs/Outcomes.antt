@@ -4,7 +4,7 @@ use Rattle.std.specs.Prelude.{List, [], ◌∷◌, ◌++◌, length, codes, deci
 use Rattle.std.specs.Prelude.{MatchOption, IfSome, MatchResult, Option, String, string_bytes, string_capacity}
 use Rattle.std.specs.declared.str.Chars.{Chars}
 use Rattle.nano_text.specs.Place.{remaining, text_at, Moves}
-use Rattle.nano_grammar.specs.Tokens.{At, Leaves}
+use Rattle.nano_grammar.specs.Tokens.{At, Cuts, Leaves}
 use Rattle.nano_grammar.specs.Outcomes.{Report, Position, IsMadeAt as MadeAt, Fails, Stops}
 use Rattle.nano_grammar.specs.Outcomes.{RejectsToken, TookNext, Took, TookComma}
 use Rattle.nano_grammar.specs.Outcomes.{NothingCut as NothingCutBy, Reads as ReadsBy, Read}
@@ -12,7 +12,6 @@ use Rattle.nano_grammar.specs.Outcomes.{Moved as MovedTo}
 use Rattle.nano_grammar.specs.Outcomes.{ReadsOrEnds as ReadsOrEndsBy, GoesWrong as GoesWrongBy}
 use Rattle.nano_text.specs.declared.place.Place.{Place}
 use Rattle.nano_grammar.specs.ItemRuns.{TookItem}
-use Rattle.nano_grammar.specs.Plain.{TookPlainly}
 use Rattle.nano_grammar.specs.Faults.{AreTokens}
 use Rattle.nano_json_tokens.specs.declared.error.DeJsonErr.{DeJsonErr}
 use Rattle.nano_json_tokens.specs.declared.state.DeJsonState.{DeJsonState}
@@ -225,8 +224,8 @@ ReadsOrEnds encodes means start end result =
 -- a value was taken from the text; where none was, nothing is said
 abbrev pub TakesPlainly : {V A : Type 0} → (List Token → V → Type 0) → (A → V) → Place → Chars
     → Place → Chars → Option A → Type 0
-TakesPlainly encodes means p i q j result = IfSome result
-    (λ x. TookPlainly Cut encodes (text_at p i) (text_at q j) (means x) × Moves p i q j)
+TakesPlainly encodes means p i q j result = IfSome result (λ x. ((ts : List Token)
+    × encodes ts (means x) × Cuts Cut ts (text_at p i) (text_at q j)) × Moves p i q j)
 
 -- a comma is pending there
 abbrev pub at_comma : Place → Chars → Position Token
