@@ -8,7 +8,8 @@
 //
 // An OP is read (a value is read and dropped) or norm (it is also written, and that is dropped).
 // Megabytes are 10^6 bytes of what the Rust crate writes. The format `indented` is JSON as
-// `serde_json::to_string_pretty` writes it, and is only read.
+// `serde_json::to_string_pretty` writes it, and is only read. The kind `sorted` is a map that each peer
+// writes with its keys in ascending order, as the port writes every map.
 #![allow(warnings)]
 extern crate alloc;
 mod alone;
@@ -28,6 +29,7 @@ use data::*;
 use nano::*;
 use records::{Rec, RecB};
 use serde::{de::DeserializeOwned, Serialize};
+use std::collections::BTreeMap;
 use std::hint::black_box;
 
 mod port {
@@ -238,6 +240,39 @@ where
     }
 }
 
+/// What the format's other crate reads and writes of a map, with its keys in ascending order.
+fn sorted_work(format: &str, input: &[u8]) {
+    let ron = ron_options();
+    let map: Map = match format {
+        "bin" => bincode::deserialize(input).unwrap(),
+        "ron" => ron.from_str(text(input)).unwrap(),
+        _ => serde_json::from_str(text(input)).unwrap(),
+    };
+    let sorted: BTreeMap<&String, &i32> = map.iter().collect();
+    match format {
+        "bin" => drop(black_box(bincode::serialize(&sorted).unwrap())),
+        "ron" => drop(black_box(ron.to_string(&sorted).unwrap())),
+        _ => drop(black_box(serde_json::to_string(&sorted).unwrap())),
+    }
+}
+
+/// Maps that the peers, too, write in ascending order. They are raced alone, and not listed.
+fn sorted_case(race: &Race, target: usize) {
+    for (format, peer) in FORMATS.into_iter().zip(PEERS).take(3) {
+        let case = format!("{format}/sorted");
+        if race.list || !race.wants(&case, &[peer, "port"]) {
+            continue;
+        }
+        let size = input_of(format, &mk_map(1000)).len();
+        let input = input_of(format, &mk_map(1000 * target / size));
+        let mut other = || sorted_work(format, &input);
+        let mut port =
+            || assert!(black_box(port::op(codec_of(format), 3, 2, &input, &mut [])) >= 0);
+        let mut peers: [(&str, &mut dyn FnMut()); 2] = [(peer, &mut other), ("port", &mut port)];
+        race.run(&case, "norm", input.len(), &mut peers);
+    }
+}
+
 fn toml_case(race: &Race, target: usize) {
     if !race.wants("toml/file", &["nanoserde", "toml", "port"]) {
         return;
@@ -274,6 +309,7 @@ fn main() {
         case::<Vec<String>, Vec<String>>(&race, 2, "strings", target, mk_str);
         case::<Map, Map>(&race, 3, "map", target, mk_map);
         case::<Vec<Rec>, Vec<RecB>>(&race, 4, "records", target, mk_rec);
+        sorted_case(&race, target);
         toml_case(&race, target);
     }
 }
