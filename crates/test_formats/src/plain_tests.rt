@@ -153,14 +153,15 @@ fn plain_tokens_of_ron(rt: HostRuntime) {
 #[test]
 fn attempts(rt: HostRuntime) {
     let mut attempts = Attempts::new();
-    let mut looks = 0;
-    for _ in 0..15 {
-        if attempts.is_due() {
-            attempts.note(false);
-            looks += 1;
-        }
-    }
-    holds(&rt, looks == 4, "looks after 0, 1, 3 and 7 items");
+    holds(&rt, attempts.is_due(), "a first look");
+    attempts.note(false);
+    holds(&rt, !attempts.is_due(), "an item passes");
+    holds(&rt, attempts.is_due(), "a second look");
+    attempts.note(false);
+    holds(&rt, !attempts.is_due(), "three items pass: the first");
+    holds(&rt, !attempts.is_due(), "the second");
+    holds(&rt, !attempts.is_due(), "the third");
+    holds(&rt, attempts.is_due(), "a third look");
     let mut attempts = Attempts::new();
     attempts.note(true);
     holds(&rt, attempts.is_due(), "a look that finds some");
