@@ -68,15 +68,15 @@ raced() {
 filtered=${3:-}
 for _ in 1 2 3 4 5; do raced 1; done > "$out/log"
 raced 10 >> "$out/log"
-# A line has the case, its size, and the names and speeds of the two peers and of the port.
-awk '$1 ~ /.(read|norm)$/ && NF == 8 {
-    print $1, $2 < 5 ? 1 : 10, $8 / ($4 + 0 > $6 + 0 ? $4 : $6), $3, $4, $5, $6, $7, $8
+# A line has the case, its size, and the names and speeds of the two peers, of the port, and of more peers.
+awk '$1 ~ /.(read|norm)$/ && NF >= 8 {
+    print $1, $2 < 5 ? 1 : 10, $8 / ($4 + 0 > $6 + 0 ? $4 : $6), $0
 }' "$out/log" | sort -k 1,1 -k 2,2n -k 3,3n | awk '
-    function middle(   word, part, i) {
+    function middle(   word, words, part, i) {
         if (!many) return
-        split(line[int((many + 1) / 2)], word, " ")
+        words = split(line[int((many + 1) / 2)], word, " ")
         split(word[1], part, "/")
-        for (i = 4; i < 9; i += 2)
+        for (i = 6; i < words; i += 2)
             print part[1] "/" part[2] "/" word[i] "/" part[3], word[2], word[i + 1]
         many = 0
     }

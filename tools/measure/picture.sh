@@ -16,6 +16,7 @@ awk '
         formats["bin"] = "Binary"; formats["json"] = "JSON"; formats["ron"] = "RON"
         formats["toml"] = "TOML"
     }
+    $1 ~ /simdjson|rapidjson/ { next }
     { split($1, part, "/"); key = part[1] " " part[2] " " part[4] " " $2 }
     FILENAME == ARGV[1] {
         formats_seen[part[1]] = 1

@@ -70,6 +70,21 @@ awk '
     function megabytes(name) {
         return name in peak ? sprintf("%.0f", peak[name] * 1024 / 1e6) : ""
     }
+    # The instructions of a peer in C++, and the speed here over its own.
+    function anchor(case, name,   size, words) {
+        words = " " millions(case "/" name "/read", 1) " |"
+        for (size = 1; size <= 10; size += 9)
+            words = words " " over(speed[case "/port/read " size], speed[case "/" name "/read " size]) " |"
+        return words
+    }
+    function over(here, there) {
+        return here == "" || there == "" ? "" : more(sprintf("%.2f", here / there), 1)
+    }
+    function anchors(format, kind,   case) {
+        case = format "/" kind
+        print "| " title[format] " | " type[kind] " | " millions(case "/port/read", 1) " |" \
+            anchor(case, "simdjson") anchor(case, "rapidjson")
+    }
     function three(case, format,   one, other, here) {
         one = megabytes(case "/nanoserde/read")
         other = megabytes(case "/" peer[format] "/read")
@@ -113,4 +128,9 @@ awk '
         }
         print "\n| | nanoserde | toml | here |\n|---|---|---|---|"
         print "| a TOML file |" three("toml/file", "toml")
+
+        print "\n| Format | Kind | here | simdjson | speed, 1 MB | 10 MB | RapidJSON | speed, 1 MB | 10 MB |"
+        print "|---|---|---|---|---|---|---|---|---|"
+        for (k = 1; k <= 5; k++) anchors("json", kinds[k])
+        for (k = 1; k <= 5; k++) anchors("indented", kinds[k])
     }' "$1" "$2" "$3"

@@ -1,8 +1,9 @@
 // One case alone in its process.
+use crate::anchors::{padded, ANCHORS};
 use crate::data::*;
 use crate::nano::*;
 use crate::records::{Rec, RecB};
-use crate::{codec_of, decoded, encoded, input_of, measured_region, peer_work, port, text};
+use crate::{anchor_read, codec_of, decoded, encoded, input_of, measured_region, peer_work, port, text};
 use serde::{de::DeserializeOwned, Serialize};
 use std::hint::black_box;
 
@@ -84,6 +85,10 @@ where
         "port" => measured(&mut || {
             assert!(port::op(codec, kind, 2 * write as u32, input, &mut []) >= 0)
         }),
+        anchor if ANCHORS.contains(&anchor) => {
+            let padded = padded(input);
+            measured(&mut || assert!(anchor_read(anchor, kind, &padded) >= 0))
+        }
         _ => measured(&mut || peer_work::<T, B>(parts[0], write, input)),
     }
 }

@@ -1,4 +1,5 @@
-// The port and its peers in one process: nanoserde, serde_json, bincode, ron and toml.
+// The port and its peers in one process: nanoserde, serde_json, bincode, ron and toml, and for JSON that is
+// read simdjson and RapidJSON, where they are installed.
 //
 //     peers --list                              the cases, FORMAT/KIND/PEER/OP, one a line
 //     peers --runs N --sizes 1,10 [--filter TEXT]   MB/s of each case, the median of N runs in which
@@ -13,6 +14,7 @@
 #![allow(warnings)]
 extern crate alloc;
 mod alone;
+mod anchors;
 mod data;
 mod nano_serde_bin;
 mod nano_serde_json;
@@ -25,6 +27,7 @@ mod nano {
     pub use crate::nano_serde_ron::*;
     pub use crate::nano_toml::*;
 }
+use anchors::ANCHORS;
 use data::*;
 use nano::*;
 use records::{Rec, RecB};
@@ -204,7 +207,8 @@ where
 {
     for (format, peer) in FORMATS.into_iter().zip(PEERS) {
         let (case, codec) = (format!("{format}/{name}"), codec_of(format));
-        if !race.wants(&case, &["nanoserde", peer, "port"]) {
+        let names = [&["nanoserde", peer, "port"], ANCHORS].concat();
+        if !race.wants(&case, &names) {
             continue;
         }
         let size = input_of(format, &make(1000)).len();
@@ -218,6 +222,9 @@ where
             assert_eq!(written, normal.len() as i64, "{case}");
             // a map is written in ascending order by the port alone
             assert!(kind == 3 || output[..normal.len()] == normal[..]);
+            if peer == "serde_json" {
+                check_anchors(kind, &input);
+            }
         }
         let ops = [("read", false), ("norm", true)];
         for (op, write) in ops.into_iter().take(if format == "indented" { 1 } else { 2 }) {
@@ -233,11 +240,34 @@ where
             let number = 2 * write as u32;
             let mut port =
                 || assert!(black_box(port::op(codec, kind, number, &input, &mut [])) >= 0);
-            let mut peers: [(&str, &mut dyn FnMut()); 3] =
-                [("nanoserde", &mut nanoserde), (peer, &mut other), ("port", &mut port)];
+            let mut peers: Vec<(&str, &mut dyn FnMut())> =
+                vec![("nanoserde", &mut nanoserde), (peer, &mut other), ("port", &mut port)];
+            let padded = anchors::padded(&input);
+            let mut works: Vec<_> = ANCHORS
+                .iter()
+                .filter(|_| peer == "serde_json" && !write)
+                .map(|anchor| (*anchor, || assert!(anchor_read(anchor, kind, &padded) >= 0)))
+                .collect();
+            peers.extend(works.iter_mut().map(|(anchor, work)| (*anchor, work as &mut dyn FnMut())));
             race.run(&case, op, input.len(), &mut peers);
         }
     }
+}
+
+/// The peers in C++ read an input, and refuse it with another character in the place of its first comma.
+fn check_anchors(kind: u32, input: &[u8]) {
+    for anchor in ANCHORS {
+        let mut padded = anchors::padded(input);
+        assert!(anchor_read(anchor, kind, &padded) > 0, "{anchor}");
+        let comma = input.iter().position(|byte| *byte == b',').unwrap();
+        padded[comma] = b';';
+        assert_eq!(anchor_read(anchor, kind, &padded), -1, "{anchor}");
+    }
+}
+
+/// What a peer in C++ says of an input that has room after it.
+pub fn anchor_read(anchor: &str, kind: u32, padded: &[u8]) -> i64 {
+    black_box(anchors::read(anchor, kind, padded, padded.len() - anchors::PADDING))
 }
 
 /// What the format's other crate reads and writes of a map, with its keys in ascending order.
