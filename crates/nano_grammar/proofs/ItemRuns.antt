@@ -2,13 +2,18 @@
 use Rattle.std.proofs.Common.{◌≡◌, ◌≢◌, ◌<◌, ◌≤◌, List, [], ◌∷◌, ◌++◌, sym, ◌∙◌, ap, subst, refl, ℕ, arith, inl, inr}
 use Rattle.std.proofs.Common.{append-nil, append_assoc}
 use Rattle.nano_grammar.proofs.TokensLaws.{CutLaws, tokens_left, leaves_shorter}
-use Rattle.nano_grammar.specs.Tokens.{Cutting, Leaves, Spans}
+use Rattle.nano_grammar.specs.Tokens.{At, Cutting, Leaves, Spans}
 use Rattle.nano_grammar.specs.Codec.{Grammar, IsEncoding, AreBrackets}
 use Rattle.nano_grammar.specs.Items.{ListPunctuation}
 use Rattle.nano_grammar.proofs.Containers.{ReadSoFar}
 use Rattle.nano_grammar.proofs.Reading.{value_shorter}
 use Rattle.nano_grammar.proofs.CollectingCalls.{Filled, filled_next, comma_not}
-use Rattle.nano_text.proofs.PlaceLaws.{moves_none, moves_append}
+use Rattle.nano_text.proofs.PlaceLaws.{moves_none, moves_append, moves_from}
+use Rattle.nano_text.proofs.RemainingText.{same_remaining}
+use Rattle.nano_text.specs.Place.{text_at, Moves}
+use Rattle.nano_text.specs.declared.place.Place.{Place}
+use Rattle.std.specs.declared.str.Chars.{Chars}
+use Rattle.std.specs.Str.Iter.{chars_rest}
 use Rattle.nano_grammar.specs.ItemRuns.{TookItem, TookItems, PutItems}
 use Rattle.nano_grammar.specs.Outcomes.{Position, Moved, TookComma, Read}
 use Rattle.nano_grammar.specs.Outcomes.{Report, Fails, GoesWrong, ReadsNone}
@@ -209,3 +214,27 @@ module _ {T : Type 0} {c : Cutting T} {g : Grammar T} (r : CutLaws c g)
     run_comma_not holds whole h item run bad =
         let all = up_to_more run.items (up_to_first h item) run.taken in
         comma_not r punctuation are s is_itself whole all.filled all.read bad
+
+-- ---- where a token is pending
+
+abbrev at_text : {T : Type 0} → T → List ℕ → At T
+at_text t text = record { token = t; text = text }
+
+abbrev stands_at : {T : Type 0} → T → Place → Chars → Position T
+stands_at t p i = record { at = at_text t (text_at p i); place = p; input = i }
+
+-- a copy of the input is where the input is
+pub copied : (p : Place) (i j : Chars) → chars_rest j ≡ chars_rest i → Moves p i p j
+copied p i j same = moves_from p p j i j same (moves_none p j)
+
+-- and there the same comes after the token
+pub at_copy : {T : Type 0} {t u : T} (p : Place) (i j : Chars) → t ≡ u → chars_rest j ≡ chars_rest i
+    → at_text t (text_at p i) ≡ at_text u (text_at p j)
+at_copy {T} {t} {u} p i j is same =
+    ap (λ (s : T). at_text s (text_at p i)) is ∙ ap (at_text u) (same_remaining p.cur i j (sym same))
+
+-- one token at one place
+pub same_position : {T : Type 0} {t u : T} {p q : Place} (i : Chars) → t ≡ u → p ≡ q
+    → stands_at t p i ≡ stands_at u q i
+same_position {T} {t} {u} {p} {q} i is stands =
+    ap (λ (s : T). stands_at s p i) is ∙ ap (λ (r : Place). stands_at u r i) stands

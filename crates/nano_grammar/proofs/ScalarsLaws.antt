@@ -1,6 +1,7 @@
 -- What is proved of Scalars.
 use Rattle.std.specs.Prelude.{◌≡◌, ℕ, List, [], ◌∷◌, ◌++◌, refl, ◌<◌, ◌^◌, ℤ, FitsSigned}
-use Rattle.std.proofs.Common.{sym, ◌∙◌, subst, ap, arith, ◌+◌, pos, negsuc, ◌≤ℤ◌}
+use Rattle.std.proofs.Common.{sym, ◌∙◌, subst, ap, arith, ◌+◌, pos, negsuc, ◌≤ℤ◌, false, not, T}
+use Rattle.std.specs.Int.Signed.{lt_z, lt_z_no}
 use Rattle.std.specs.Int.{w8, w16, w32, w64, Width}
 use Rattle.std.proofs.lemmas.Int.{ints}
 use Rattle.nano_value.specs.Meaning.{Meaning, LegalUnit}
@@ -178,3 +179,10 @@ fits_range w (negsuc k) (pos n) z h fits =
     (subst (λ j. negsuc j ≤ℤ z) (sym h.0) (at_least w n z h.1 fits), at_most w n z h.1 fits)
 fits_range w (negsuc k) (negsuc n) z h fits = absurd h
 fits_range w (pos k) max z h fits = absurd h
+
+-- what is not less, whatever the two were computed from
+pub in_order : (low low_is high high_is : ℤ) → low ≡ low_is → high ≡ high_is → lt_z high low ≡ false
+    → low_is ≤ℤ high_is
+in_order low low_is high high_is low_same high_same e =
+    subst (λ m. low_is ≤ℤ m) high_same
+    (subst (λ m. m ≤ℤ high) low_same (lt_z_no {a = high} {b = low} (subst (λ b. T (not b)) (sym e) tt)))

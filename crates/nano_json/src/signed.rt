@@ -59,13 +59,12 @@ fn take_signed_of<T: Signed>(
     input: &mut Chars<'_>,
     min: i64,
     max: i64,
-    text: &mut String,
 ) -> Option<T>
     requires { IsRangeOf T.width min max }
     ensures { TakesPlainly (signed T.width).encodes (λ x. number (T.value x))
         place.old input.old place.new input.new result }
 {
-    let number = take_plain_integer(place, input, min, max, text)?;
+    let number = take_plain_integer(place, input, min, max)?;
     Some(T::narrow(number))
 }
 
@@ -107,9 +106,9 @@ impl DeJson for i8 {
         _alloc: Global,
         place: &mut Place,
         input: &mut Chars<'_>,
-        text: &mut String,
+        _text: &mut String,
     ) -> Option<i8> {
-        take_signed_of(place, input, i8::MIN as i64, i8::MAX as i64, text)
+        take_signed_of(place, input, i8::MIN as i64, i8::MAX as i64)
     }
 }
 
@@ -151,9 +150,9 @@ impl DeJson for i16 {
         _alloc: Global,
         place: &mut Place,
         input: &mut Chars<'_>,
-        text: &mut String,
+        _text: &mut String,
     ) -> Option<i16> {
-        take_signed_of(place, input, i16::MIN as i64, i16::MAX as i64, text)
+        take_signed_of(place, input, i16::MIN as i64, i16::MAX as i64)
     }
 }
 
@@ -195,9 +194,9 @@ impl DeJson for i32 {
         _alloc: Global,
         place: &mut Place,
         input: &mut Chars<'_>,
-        text: &mut String,
+        _text: &mut String,
     ) -> Option<i32> {
-        take_signed_of(place, input, i32::MIN as i64, i32::MAX as i64, text)
+        take_signed_of(place, input, i32::MIN as i64, i32::MAX as i64)
     }
 }
 
@@ -239,8 +238,8 @@ impl DeJson for i64 {
         _alloc: Global,
         place: &mut Place,
         input: &mut Chars<'_>,
-        text: &mut String,
+        _text: &mut String,
     ) -> Option<i64> {
-        take_signed_of(place, input, i64::MIN, i64::MAX, text)
+        take_signed_of(place, input, i64::MIN, i64::MAX)
     }
 }

@@ -52,17 +52,12 @@ fn read_unsigned<T: Unsigned>(
 
 /// Takes a whole number of at most `max`, which stands plainly.
 #[inline(always)]
-fn take_unsigned_of<T: Unsigned>(
-    place: &mut Place,
-    input: &mut Chars<'_>,
-    max: u64,
-    text: &mut String,
-) -> Option<T>
+fn take_unsigned_of<T: Unsigned>(place: &mut Place, input: &mut Chars<'_>, max: u64) -> Option<T>
     requires { 2 ^ T.bits ≡ max + 1 }
     ensures { TakesPlainly (unsigned T.bits).encodes (λ x. whole (T.value x))
         place.old input.old place.new input.new result }
 {
-    let number = take_plain_unsigned(place, input, max, text)?;
+    let number = take_plain_unsigned(place, input, max)?;
     Some(T::narrow(number))
 }
 
@@ -104,9 +99,9 @@ impl DeJson for u8 {
         _alloc: Global,
         place: &mut Place,
         input: &mut Chars<'_>,
-        text: &mut String,
+        _text: &mut String,
     ) -> Option<u8> {
-        take_unsigned_of(place, input, u8::MAX as u64, text)
+        take_unsigned_of(place, input, u8::MAX as u64)
     }
 }
 
@@ -148,9 +143,9 @@ impl DeJson for u16 {
         _alloc: Global,
         place: &mut Place,
         input: &mut Chars<'_>,
-        text: &mut String,
+        _text: &mut String,
     ) -> Option<u16> {
-        take_unsigned_of(place, input, u16::MAX as u64, text)
+        take_unsigned_of(place, input, u16::MAX as u64)
     }
 }
 
@@ -192,9 +187,9 @@ impl DeJson for u32 {
         _alloc: Global,
         place: &mut Place,
         input: &mut Chars<'_>,
-        text: &mut String,
+        _text: &mut String,
     ) -> Option<u32> {
-        take_unsigned_of(place, input, u32::MAX as u64, text)
+        take_unsigned_of(place, input, u32::MAX as u64)
     }
 }
 
@@ -236,9 +231,9 @@ impl DeJson for u64 {
         _alloc: Global,
         place: &mut Place,
         input: &mut Chars<'_>,
-        text: &mut String,
+        _text: &mut String,
     ) -> Option<u64> {
-        take_unsigned_of(place, input, u64::MAX, text)
+        take_unsigned_of(place, input, u64::MAX)
     }
 }
 
@@ -280,8 +275,8 @@ impl DeJson for usize {
         _alloc: Global,
         place: &mut Place,
         input: &mut Chars<'_>,
-        text: &mut String,
+        _text: &mut String,
     ) -> Option<usize> {
-        take_unsigned_of(place, input, usize::MAX as u64, text)
+        take_unsigned_of(place, input, usize::MAX as u64)
     }
 }

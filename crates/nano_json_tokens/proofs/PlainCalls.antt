@@ -1,30 +1,21 @@
 -- What the calls come to that take a token with none pending.
-use Rattle.std.proofs.Common.{◌≡◌, ℕ, ℤ, List, [], ◌∷◌, true, false, refl, sym, ap, ◌∙◌}
-use Rattle.std.proofs.Common.{subst, ◌||◌, ◌≤ℤ◌, not, T, Some, encode_utf8_all}
+use Rattle.std.proofs.Common.{◌≡◌, ℕ, ℤ, List, true, false, refl, sym, ap, ◌∙◌}
+use Rattle.std.proofs.Common.{subst, ◌||◌, encode_utf8_all}
 use Rattle.std.proofs.Common.{Bool, ◌==◌}
 use Rattle.std.proofs.lemmas.Bool.{true≢false}
 use Rattle.nano_text.specs.Characters.{first_is}
-use Rattle.std.specs.Int.Signed.{lt_z, lt_z_no}
 use Rattle.std.specs.declared.str.Chars.{Chars}
-use Rattle.std.specs.Str.Iter.{chars_rest}
 use Rattle.std.specs.Char.{is_ascii_digit}
 use Rattle.nano_text.specs.Characters.{following, is_space}
 use Rattle.nano_text.specs.Number.{IsNumber, is_sign}
 use Rattle.nano_text.specs.String.{IsString}
-use Rattle.nano_text.specs.Place.{text_at, remaining, Moves}
-use Rattle.nano_text.specs.declared.place.Place.{Place}
+use Rattle.nano_text.specs.Place.{remaining}
 use Rattle.nano_text.specs.declared.number.Number.TheVariants.{U64, I64}
-use Rattle.nano_text.proofs.PlaceLaws.{moves_none, moves_append, moves_from}
-use Rattle.nano_text.proofs.RemainingText.{first_is-remaining, same_remaining}
-use Rattle.nano_json_tokens.specs.Cut.{Cut, IsLexeme, IsPunctuator, starts_number, number}
+use Rattle.nano_text.proofs.RemainingText.{first_is-remaining}
+use Rattle.nano_json_tokens.specs.Cut.{Cut, IsLexeme, starts_number, number}
 use Rattle.nano_json_tokens.specs.Cut.{punctuator, quoted, word, nothing, IsWord}
-use Rattle.nano_json_tokens.specs.Scan.{punctuator_of}
-use Rattle.nano_json_tokens.specs.Outcomes.{at_comma}
-use Rattle.nano_json_tokens.specs.Outcomes.{position}
-use Rattle.nano_json_tokens.specs.State.{pending, place_of}
-use Rattle.nano_json_tokens.specs.declared.state.DeJsonState.{DeJsonState}
-use Rattle.nano_json_tokens.specs.Token.{Token, str, comma, null, u64, i64}
-use Rattle.nano_json_tokens.proofs.Cuts.{lexeme_cut, cut_lexeme, punctuator_lexeme}
+use Rattle.nano_json_tokens.specs.Token.{Token, str, null, u64, i64}
+use Rattle.nano_json_tokens.proofs.Cuts.{lexeme_cut, cut_lexeme}
 
 -- after white space that was passed, a lexeme was taken
 pub after_space : (t : Token) {text after rest : List ℕ} → after ≡ following is_space text
@@ -59,40 +50,19 @@ no_null_after cur i {text} rest space other h =
     let first = null_starts (following is_space text) rest (cut_lexeme text null rest h) in
     true≢false (sym first ∙ (ap (first_is is_n) (sym space) ∙ (first_is-remaining is_n cur i refl ∙ other)))
 
--- a number begins where the current character starts one, or where a digit or a minus is current
-pub starts_here : (cur : ℕ) (i : Chars) → starts_number cur ≡ true
-    → first_is starts_number (remaining cur i) ≡ true
-starts_here cur i starts = first_is-remaining starts_number cur i refl ∙ starts
-
-pub digit_starts : (c : ℕ) → is_ascii_digit c ≡ true → starts_number c ≡ true
+digit_starts : (c : ℕ) → is_ascii_digit c ≡ true → starts_number c ≡ true
 digit_starts c digit = elim (is_sign c) as (λ b. (b || is_ascii_digit c) ≡ true) [
   | true ↦ refl
   | false ↦ digit
 ]
 
--- what is not less, whatever the two were computed from
-pub in_order : (low low_is high high_is : ℤ) → low ≡ low_is → high ≡ high_is → lt_z high low ≡ false
-    → low_is ≤ℤ high_is
-in_order low low_is high high_is low_same high_same e =
-    subst (λ m. low_is ≤ℤ m) high_same
-    (subst (λ m. m ≤ℤ high) low_same (lt_z_no {a = high} {b = low} (subst (λ b. T (not b)) (sym e) tt)))
+-- a number that begins with a digit, or with a minus, is a lexeme
+pub unsigned_lexeme : (cur : ℕ) (i : Chars) (n : ℕ) (run rest : List ℕ) → is_ascii_digit cur ≡ true
+    → IsNumber (remaining cur i) (U64 n) run rest → IsLexeme (u64 n) (remaining cur i) rest
+unsigned_lexeme cur i n run rest digit is =
+    number (first_is-remaining starts_number cur i refl ∙ digit_starts cur digit) (run, is)
 
--- ---- a state at a comma
-
--- where a comma is pending, the place and a copy of the input are where the state is
-pub at_comma_is : (s : DeJsonState) (i j : Chars) → pending s ≡ comma → chars_rest j ≡ chars_rest i
-    → (position s i).at ≡ (at_comma (place_of s) j).at
-at_comma_is s i j is same =
-    ap (λ t. record { token = t; text = remaining s.cur i }) is
-    ∙ ap (λ (text : List ℕ). record { token = comma; text = text }) (same_remaining s.cur i j (sym same))
-
-pub copied : (s : DeJsonState) (i j : Chars) → chars_rest j ≡ chars_rest i
-    → Moves (place_of s) i (place_of s) j
-copied s i j same = moves_from (place_of s) (place_of s) j i j same (moves_none (place_of s) j)
-
--- a state stands there, and a comma is pending
-pub comma_there : (t : DeJsonState) (p : Place) (i : Chars) → pending t ≡ comma → place_of t ≡ p
-    → position t i ≡ at_comma p i
-comma_there t p i is stands =
-    ap (λ k. record { at = record { token = k; text = text_at (place_of t) i }; place = place_of t; input = i }) is
-    ∙ ap (λ q. at_comma q i) stands
+pub negative_lexeme : (cur : ℕ) (i : Chars) (z : ℤ) (run rest : List ℕ) → cur ≡ 45
+    → IsNumber (remaining cur i) (I64 z) run rest → IsLexeme (i64 z) (remaining cur i) rest
+negative_lexeme cur i z run rest minus is =
+    number (first_is-remaining starts_number cur i refl ∙ ap starts_number minus) (run, is)

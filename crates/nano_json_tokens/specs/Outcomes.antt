@@ -7,8 +7,7 @@ use Rattle.nano_text.specs.Place.{remaining, text_at, Moves}
 use Rattle.nano_grammar.specs.Tokens.{At, Cuts, Leaves}
 use Rattle.nano_grammar.specs.Outcomes.{Report, Position, IsMadeAt as MadeAt, Fails, Stops}
 use Rattle.nano_grammar.specs.Outcomes.{RejectsToken, TookNext, Took, TookComma}
-use Rattle.nano_grammar.specs.Outcomes.{NothingCut as NothingCutBy, Reads as ReadsBy, Read}
-use Rattle.nano_grammar.specs.Outcomes.{Moved as MovedTo}
+use Rattle.nano_grammar.specs.Outcomes.{NothingCut as NothingCutBy, Reads as ReadsBy}
 use Rattle.nano_grammar.specs.Outcomes.{ReadsOrEnds as ReadsOrEndsBy, GoesWrong as GoesWrongBy}
 use Rattle.nano_text.specs.declared.place.Place.{Place}
 use Rattle.nano_grammar.specs.ItemRuns.{TookItem}

@@ -4,9 +4,6 @@ use Rattle.std.specs.Prelude.{Option, Some, None, bytes_eq, if◌then◌else◌,
 use Rattle.std.specs.Prelude.{string_capacity, ◌⊎◌, [], ◌∷◌, ◌≤◌, ◌≤ℤ◌, ℤ}
 use Rattle.std.specs.declared.str.Chars.{Chars}
 use Rattle.nano_text.specs.Place.{remaining}
-use Rattle.nano_text.specs.Characters.{first_is}
-use Rattle.nano_text.specs.Number.{IsNumber}
-use Rattle.nano_text.specs.declared.number.Number.{Number}
 use Rattle.nano_text.specs.Characters.{prefix, following}
 use Rattle.nano_grammar.specs.Outcomes.{NothingCut, TookNext, IsValueError as IsValueErrorOf}
 use Rattle.nano_grammar.specs.Outcomes.{HoldsNul, end_message}
@@ -14,7 +11,7 @@ use Rattle.nano_json_tokens.specs.declared.scan.Rejection.{Rejection}
 use Rattle.nano_json_tokens.specs.declared.scan.Rejection.TheVariants.{Memory}
 use Rattle.nano_json_tokens.specs.declared.state.DeJsonState.{DeJsonState}
 use Rattle.nano_text.specs.Characters.{is_space}
-use Rattle.nano_json_tokens.specs.Cut.{is_word, starts_number, IsLexeme}
+use Rattle.nano_json_tokens.specs.Cut.{is_word, IsLexeme}
 use Rattle.nano_json_tokens.specs.Outcomes.{Outgrows, Moved, position, report, Says, Takes}
 use Rattle.nano_json_tokens.specs.State.{KeepsOtherBuffers, pending}
 use Rattle.nano_json_tokens.specs.Token.{Token, str, u64, i64, f64, bool, null, colon, curly_open}
@@ -158,11 +155,6 @@ AnUnsigned max ts n = (ts ≡ u64 n ∷ []) × (n ≤ max)
 abbrev pub AnInteger : ℤ → ℤ → List Token → ℤ → Type 0
 AnInteger min max ts z =
     (t : Token) × (ts ≡ t ∷ []) × (integer_of t ≡ Some z) × (min ≤ℤ z) × (z ≤ℤ max)
-
--- the text begins with the number, and the rest comes after it
-abbrev pub IsNumberOf : Number → List ℕ → List ℕ → Type 0
-IsNumberOf number text rest =
-    (first_is starts_number text ≡ true) × ((run : List ℕ) × IsNumber text number run rest)
 
 -- the text begins with a lexeme of the whole number
 abbrev pub IsInteger : ℤ → List ℕ → List ℕ → Type 0

@@ -11,16 +11,12 @@ ghost use Rattle.nano_text.specs.Place.{text_at};
 ghost use Rattle.nano_grammar.specs.Tokens.{Cuts};
 ghost use Rattle.nano_json_tokens.specs.Cut.{Cut, BeginsWithWord};
 ghost use Rattle.nano_json_tokens.specs.Outcomes.{TakesPlainly};
-ghost use Rattle.nano_json_tokens.specs.Scan.{ATruth, AnUnsigned, AnInteger, IsInteger, IsNumberOf};
+ghost use Rattle.nano_json_tokens.specs.Scan.{ATruth, AnUnsigned, AnInteger, IsInteger};
 ghost use Rattle.nano_json_tokens.specs.Scan.{punctuator_of};
-ghost use Rattle.nano_text.specs.Number.{IsNumber};
 ghost use Rattle.nano_json_tokens.specs.Token.{Token, str, colon, null};
 
-use crate::scan::starts_number;
 use crate::words::is_word;
-use nano_text::{
-    Number, Place, plain_string, read_number, read_string, take_negative, take_unsigned,
-};
+use nano_text::{Place, plain_string, read_string, take_negative, take_unsigned};
 use std::str::Chars;
 
 /// Takes this character, if it is the current one.
@@ -174,93 +170,50 @@ pub fn take_text(place: &mut Place, input: &mut Chars<'_>, text: &mut String) ->
     }
 }
 
-/// Takes a number. One that is no whole number of few digits, or that does not end in its line, is
-/// read apart; `buffer` is room for its text.
+/// Takes a whole number of at most `max` without a sign.
 #[inline(always)]
-fn take_number(place: &mut Place, input: &mut Chars<'_>, buffer: &mut String) -> Option<Number>
-    ensures { IfSome result (λ number.
-        IsNumberOf number (text_at place.old input.old) (text_at place.new input.new)
-        × Counts place.old input.old place.new input.new) }
-{
-    if let Some(value) = take_unsigned(place, input) {
-        return Some(Number::U64(value));
-    }
-    if let Some(value) = take_negative(place, input) {
-        return Some(Number::I64(value));
-    }
-    if !starts_number(place.cur) {
-        return None;
-    }
-    // Lends copies, so that the place and the input themselves remain in registers.
-    let mut here = *place;
-    let mut rest = input.as_str().chars();
-    let number = read_apart(&mut here, &mut rest, buffer)?;
-    *place = here;
-    *input = rest;
-    Some(number)
-}
-
-/// Reads any number, of which few come here.
-#[cold]
-#[inline(never)]
-fn read_apart(place: &mut Place, input: &mut Chars<'_>, buffer: &mut String) -> Option<Number>
-    ensures found { IfSome result (λ number. (run : List ℕ)
-        × IsNumber (text_at place.old input.old) number run (text_at place.new input.new)) }
-    ensures counts { Counts place.old input.old place.new input.new }
-{
-    match read_number(place, input, buffer) {
-        Ok(number) => Some(number),
-        Err(_fault) => None,
-    }
-}
-
-/// Takes a whole number of at most `max` without a sign. `buffer` is room for another number.
-#[inline(always)]
-pub fn take_plain_unsigned(
-    place: &mut Place,
-    input: &mut Chars<'_>,
-    max: u64,
-    buffer: &mut String,
-) -> Option<u64>
+pub fn take_plain_unsigned(place: &mut Place, input: &mut Chars<'_>, max: u64) -> Option<u64>
     ensures { TakesPlainly (AnUnsigned max) (λ n. n)
         place.old input.old place.new input.new result }
 {
     place.skip_space(input);
-    match take_number(place, input, buffer)? {
-        Number::U64(number) if number <= max => Some(number),
-        _ => None,
+    let number = take_unsigned(place, input)?;
+    if number > max {
+        return None;
     }
+    Some(number)
 }
 
 /// Takes the integer that begins here, where 64 bits hold it with its sign.
 #[inline(always)]
-fn take_integer(place: &mut Place, input: &mut Chars<'_>, buffer: &mut String) -> Option<i64>
-    ensures { IfSome result (λ z.
-        IsInteger z (text_at place.old input.old) (text_at place.new input.new)
-        × Counts place.old input.old place.new input.new) }
+fn take_integer(place: &mut Place, input: &mut Chars<'_>) -> Option<i64>
+    ensures found { IfSome result (λ z. IsInteger z
+        (text_at place.old input.old) (text_at place.new input.new)) }
+    ensures counts { Counts place.old input.old place.new input.new }
 {
-    match take_number(place, input, buffer)? {
-        Number::U64(number) if number <= i64::MAX as u64 => Some(number as i64),
-        Number::I64(number) => Some(number),
-        _ => None,
+    if place.cur == '-' {
+        return take_negative(place, input);
     }
+    let number = take_unsigned(place, input)?;
+    if number > i64::MAX as u64 {
+        return None;
+    }
+    Some(number as i64)
 }
 
-/// Takes a whole number from `min` to `max`, with or without a minus. `buffer` is room for another
-/// number.
+/// Takes a whole number from `min` to `max`, with or without a minus.
 #[inline(always)]
 pub fn take_plain_integer(
     place: &mut Place,
     input: &mut Chars<'_>,
     min: i64,
     max: i64,
-    buffer: &mut String,
 ) -> Option<i64>
     ensures { TakesPlainly (AnInteger min max) (λ z. z)
         place.old input.old place.new input.new result }
 {
     place.skip_space(input);
-    let number = take_integer(place, input, buffer)?;
+    let number = take_integer(place, input)?;
     if number < min || max < number {
         return None;
     }

@@ -2,10 +2,10 @@
 use Rattle.std.proofs.Common.{◌≡◌, ◌≢◌, ℕ, ◌+◌, ◌-◌, ◌<◌, ◌≤◌, ◌^◌, min, List, [], ◌∷◌, ◌++◌, true}
 use Rattle.std.proofs.Common.{false, Some, None, pos, neg_ℤ, arith, refl, ap, sym, ◌∙◌, subst}
 use Rattle.std.proofs.Common.{append_assoc, append-nil, add-one, drop, take, length, length-append}
-use Rattle.std.proofs.Common.{get_or, chars, IsUtf8}
+use Rattle.std.proofs.Common.{get_or, chars, IsUtf8, ne_eqb}
 use Rattle.std.proofs.Math.Nat.{pow-le-pow_right}
 use Rattle.std.proofs.Math.Seq.{drop-cons}
-use Rattle.std.proofs.lemmas.List.{take_at, take-append-drop}
+use Rattle.std.proofs.lemmas.List.{take-append-drop}
 use Rattle.std.proofs.lemmas.Str.{IsUtf8-take, IsUtf8-past_char, chars-append, chars_past_char}
 use Rattle.std.proofs.lemmas.Str.{encode_ascii, IsCharBoundary-at_seam}
 use Rattle.std.specs.Char.{is_ascii_digit, digit_value}
@@ -17,15 +17,16 @@ use Rattle.std.specs.declared.str.Chars.{Chars}
 use Rattle.nano_text.specs.declared.number.Number.{Number}
 use Rattle.nano_text.specs.declared.number.Number.TheVariants.{U64, I64}
 use Rattle.nano_text.specs.declared.place.Place.{Place}
-use Rattle.nano_text.proofs.LaneMasks.{all_append}
 use Rattle.nano_text.specs.Characters.{first_is, prefix, following}
 use Rattle.nano_text.specs.Number.{Run, IsNumber, continues, run_text}
 use Rattle.nano_text.specs.Place.{held, remaining, text_at, before_nul, IsInLine, Passes, Moves}
+use Rattle.nano_text.specs.Place.{place_after, saturating_next}
 use Rattle.nano_text.proofs.DigitValues.{digits-chars}
 use Rattle.nano_text.proofs.InLine.{in_line_line, in_line_col}
+use Rattle.nano_text.proofs.PlaceLaws.{passes_append}
 use Rattle.nano_text.proofs.RemainingText.{remaining_more}
 use Rattle.nano_text.proofs.Runs.{digits_split}
-use Rattle.nano_text.proofs.Prefixes.{digits_cut, digits_in_line, drop_prefix}
+use Rattle.nano_text.proofs.Prefixes.{digits_cut, digits_in_line, drop_prefix, take_prefix, prefix_boundary}
 use Rattle.nano_text.proofs.Utf8Prefixes.{prefix-append-following, prefix-before_nul}
 use Rattle.nano_text.proofs.Utf8Prefixes.{following-before_nul}
 
@@ -54,6 +55,16 @@ module _ (text : List ℕ) (len next : ℕ) (utf8 : IsUtf8 text) (count : len �
       ∙ chars_past_char (following is_ascii_digit text) (drop (len + 1) text) next (digits_cut text utf8).after_utf8
       (rw (encode_ascii next ascii) after_digits)
 
+  -- what remains once they are taken, too
+  pub rest_after : (cur : ℕ) (before after : Chars) → text ≡ chars_rest before → cur ≡ next
+      → chars_rest after ≡ drop (len + 1) text
+      → remaining cur after ≡ before_nul (following is_ascii_digit (held before))
+  unfolding remaining
+  rest_after cur before after same current left =
+      ap (λ (n : ℕ). before_nul (n ∷ held after)) current
+      ∙ ap before_nul (ap (λ (bs : List ℕ). next ∷ chars bs) left
+      ∙ (sym chars_after ∙ ap (λ (bs : List ℕ). following is_ascii_digit (chars bs)) same))
+
   -- the digits and that character
   abbrev run : List ℕ
   run = prefix is_ascii_digit text ++ (next ∷ [])
@@ -67,30 +78,61 @@ module _ (text : List ℕ) (len next : ℕ) (utf8 : IsUtf8 text) (count : len �
   run_len : length run ≡ len + 1
   run_len = omega (arith, count, length-append (prefix is_ascii_digit text) (next ∷ []))
 
-  taken : take (len + 1) text ≡ run
-  taken = ap (take (len + 1)) run_split ∙ take_at run (drop (len + 1) text) (len + 1) run_len
-
   pub run_boundary : IsCharBoundary text (len + 1)
   run_boundary =
       subst (λ (n : ℕ). IsCharBoundary text n) run_len
       (IsCharBoundary-at_seam text run (drop (len + 1) text) run_split utf8_after)
 
-  pub run_passes : (p q : Place) (after : List ℕ) → 32 ≤ next → p.col < 2 ^ 64 → q.line ≡ p.line
-      → q.col ≡ min (p.col + (len + 1)) (2 ^ 64 - 1) → after ≡ drop (len + 1) text
-      → Passes p (chars text) q (chars after)
-  run_passes p q after graphic small line col left =
-      let utf8_run = IsUtf8-take text (len + 1) utf8 run_boundary in
-      let in_line = subst (AllByRecursion IsInLine) (sym taken)
-      (all_append IsInLine (prefix is_ascii_digit text) (next ∷ []) (digits_in_line text) ((graphic, omega (arith, ascii)), tt)) in
+  -- the digits alone
+  digits_taken : take len text ≡ prefix is_ascii_digit text
+  digits_taken = ap (λ (n : ℕ). take n text) count ∙ take_prefix is_ascii_digit refl digits_cut text
+
+  digits_left : chars (drop len text) ≡ next ∷ chars (drop (len + 1) text)
+  digits_left =
+      ap chars (ap (λ (n : ℕ). drop n text) count ∙ drop_prefix is_ascii_digit refl digits_cut text)
+      ∙ ((digits_cut text utf8).after_is ∙ chars_after)
+
+  -- the place once they are taken
+  abbrev pub past_digits : Place → Place
+  past_digits p = record { cur = p.cur; line = p.line; col = min (p.col + len) (2 ^ 64 - 1) }
+
+  digits_pass : (p : Place) → p.col < 2 ^ 64
+      → Passes p (chars text) (past_digits p) (next ∷ chars (drop (len + 1) text))
+  digits_pass p small =
+      let utf8_run = IsUtf8-take text len utf8 (prefix_boundary is_ascii_digit refl digits_cut text len utf8 count) in
+      let in_line = subst (AllByRecursion IsInLine) (sym digits_taken) (digits_in_line text) in
       record {
-        taken = chars (take (len + 1) text);
-        split = ap chars (sym (take-append-drop (len + 1) text))
-            ∙ (chars-append (take (len + 1) text) (drop (len + 1) text) utf8_run
-            ∙ ap (λ (bs : List ℕ). chars (take (len + 1) text) ++ chars bs) (sym left));
-        line = line ∙ sym (in_line_line p (take (len + 1) text) utf8_run in_line);
-        col = col ∙ (ap (λ (n : ℕ). min (p.col + n) (2 ^ 64 - 1)) (sym run_len ∙ ap length (sym taken))
-            ∙ sym (in_line_col p (take (len + 1) text) utf8_run in_line small));
+        taken = chars (take len text);
+        split = ap chars (sym (take-append-drop len text))
+            ∙ (chars-append (take len text) (drop len text) utf8_run
+            ∙ ap (λ (cs : List ℕ). chars (take len text) ++ cs) digits_left);
+        line = sym (in_line_line p (take len text) utf8_run in_line);
+        col = ap (λ (n : ℕ). min (p.col + n) (2 ^ 64 - 1)) (count ∙ ap length (sym digits_taken))
+            ∙ sym (in_line_col p (take len text) utf8_run in_line small);
       }
+
+  -- the line and column once that character is taken, too
+  pub after_feed : (p : Place) → next ≡ 10
+      → ((place_after (past_digits p) (next ∷ [])).line ≡ saturating_next p.line)
+      × ((place_after (past_digits p) (next ∷ [])).col ≡ 0)
+  after_feed p feed = rw feed (refl, refl)
+
+  pub after_other : (p : Place) → next ≢ 10
+      → ((place_after (past_digits p) (next ∷ [])).line ≡ p.line)
+      × ((place_after (past_digits p) (next ∷ [])).col ≡ min (p.col + (len + 1)) (2 ^ 64 - 1))
+  after_other p other = rw (ne_eqb next 10 other) (refl, omega arith)
+
+  pub run_passes : (p q : Place) (after : List ℕ) → p.col < 2 ^ 64
+      → q.line ≡ (place_after (past_digits p) (next ∷ [])).line
+      → q.col ≡ (place_after (past_digits p) (next ∷ [])).col → after ≡ drop (len + 1) text
+      → Passes p (chars text) q (chars after)
+  run_passes p q after small line col left =
+      passes_append {p = p} {q = past_digits p} {r = q} (digits_pass p small) (record {
+        taken = next ∷ [];
+        split = ap (λ (bs : List ℕ). next ∷ chars bs) (sym left);
+        line = line;
+        col = col;
+      })
 
   -- and all of it is of the text, if that begins at the current character
   pub advances_number : (p q : Place) (before after : Chars) → text ≡ chars_rest before → chars_rest after ≡ drop (len + 1) text

@@ -1,7 +1,7 @@
 //! Whole numbers of few digits, which nearly all numbers are: their digits are looked at in one
 //! loop, and taken at once. Anything else falls back to `run`; no input is consumed.
 
-ghost use Rattle.std.specs.Prelude.{◌≡◌, ◌≢◌, ◌<◌, ◌≤◌, ◌^◌, true, false, IfSome, length, get_or};
+ghost use Rattle.std.specs.Prelude.{◌≡◌, ◌≢◌, ◌<◌, ◌^◌, true, false, IfSome, length, get_or};
 ghost use Rattle.std.specs.Prelude.{pos, neg_ℤ};
 ghost use Rattle.std.specs.Char.{is_ascii_digit, digit_value};
 ghost use Rattle.std.specs.Str.Iter.{chars_rest};
@@ -28,12 +28,12 @@ pub(crate) struct Ahead {
     pub(crate) next: u8,
 }
 
-/// Whether a whole number surely ends before this character, which is in its line: those from the
-/// space up to the point, `]` and `}`.
+/// Whether a whole number surely ends before this character: those from the tab up to the point,
+/// `]` and `}`.
 fn ends_whole(byte: u8) -> bool
-    ensures { result ≡ true → (continues None None byte ≡ false) × (32 ≤ byte) × (byte < 128) }
+    ensures { result ≡ true → (continues None None byte ≡ false) × (byte < 128) }
 {
-    byte == b',' || byte >= b' ' && byte < b'.' || byte == b']' || byte == b'}'
+    byte >= b'\t' && byte < b'.' || byte == b']' || byte == b'}'
 }
 
 /// Looks at the digits that these bytes begin with, after a first digit. `None` where they are
@@ -47,11 +47,16 @@ fn digits_ahead(first: u64, bytes: &[u8]) -> Option<Ahead>
     ensures next { IfSome result (λ ahead. (ahead.len < length bytes.now)
         × (ahead.next ≡ get_or bytes.now ahead.len 0)) }
     ensures ends { IfSome result (λ ahead. (continues None None ahead.next ≡ false)
-        × (32 ≤ ahead.next) × (ahead.next < 128)) }
+        × (ahead.next < 128)) }
 {
     let mut value = first;
     for (len, byte) in bytes.iter().enumerate() {
         if !byte.is_ascii_digit() {
+            // Nearly each number of a list ends so, and nothing more is asked of this byte.
+            if *byte == b',' {
+                let next = b',';
+                return Some(Ahead { len, value, next });
+            }
             if !ends_whole(*byte) {
                 return None;
             }
@@ -72,7 +77,6 @@ pub(crate) fn stand_after(p: &mut Place, i: &mut Chars<'_>, ahead: Ahead)
     requires len { ahead.len ≡ length (prefix is_ascii_digit (chars_rest i.old)) }
     requires within { ahead.len < length (chars_rest i.old) }
     requires next { ahead.next ≡ get_or (chars_rest i.old) ahead.len 0 }
-    requires in_line { 32 ≤ ahead.next }
     requires ascii { ahead.next < 128 }
     ensures rest { text_at p.new i.new ≡ before_nul (following is_ascii_digit (held i.old)) }
     ensures cur { p.new.cur ≡ ahead.next }
@@ -80,9 +84,14 @@ pub(crate) fn stand_after(p: &mut Place, i: &mut Chars<'_>, ahead: Ahead)
 {
     let text = i.as_str();
     let (_digits, rest) = text.split_at(ahead.len + 1);
-    p.col = p.col.saturating_add(ahead.len + 1);
-    p.cur = char::from(ahead.next);
     *i = rest.chars();
+    p.cur = char::from(ahead.next);
+    if ahead.next == b'\n' {
+        p.line = p.line.saturating_add(1);
+        p.col = 0;
+        return;
+    }
+    p.col = p.col.saturating_add(ahead.len + 1);
 }
 
 /// The digits of the whole number that begins at a digit, which is taken already, and goes on with
@@ -96,7 +105,7 @@ pub(crate) fn unsigned_ahead(cur: char, bytes: &[u8]) -> Option<Ahead>
     ensures next { IfSome result (λ ahead. (ahead.len < length bytes.now)
         × (ahead.next ≡ get_or bytes.now ahead.len 0)) }
     ensures ends { IfSome result (λ ahead. (continues None None ahead.next ≡ false)
-        × (32 ≤ ahead.next) × (ahead.next < 128)) }
+        × (ahead.next < 128)) }
 {
     if !cur.is_ascii_digit() {
         return None;
@@ -116,7 +125,7 @@ pub(crate) fn negative_ahead(cur: char, bytes: &[u8]) -> Option<Ahead>
     ensures next { IfSome result (λ ahead. (ahead.len < length bytes.now)
         × (ahead.next ≡ get_or bytes.now ahead.len 0)) }
     ensures ends { IfSome result (λ ahead. (continues None None ahead.next ≡ false)
-        × (32 ≤ ahead.next) × (ahead.next < 128)) }
+        × (ahead.next < 128)) }
 {
     if cur != '-' {
         return None;

@@ -40,15 +40,12 @@ const INTEGERS: &[(&str, Option<i8>, usize, usize)] = &[
     ("128,1", None, 0, 0),
     ("-,1", None, 0, 0),
     ("18446744073709551615,1", None, 0, 0),
-];
-
-/// Numbers that JSON reads apart: a text, what an `i8` there is, and the line and column after it.
-const APART: &[(&str, i8, usize, usize)] = &[
-    ("7\n}", 7, 1, 0),
-    ("7", 7, 0, 1),
-    ("0000000000000000000000007]", 7, 0, 26),
-    ("+7]", 7, 0, 3),
-    ("-12\n]", -12, 1, 0),
+    ("7\n}", Some(7), 1, 0),
+    ("-12\n]", Some(-12), 1, 0),
+    ("7\r\n]", Some(7), 0, 2),
+    ("7", None, 0, 0),
+    ("+7]", None, 0, 0),
+    ("0000000000000000000000007]", None, 0, 0),
 ];
 
 /// Whether the place is there, where a value was taken.
@@ -76,13 +73,6 @@ fn is_integer(alloc: Global, text: &str, value: Option<i8>, line: usize, col: us
     json == value && ron == value && stands_in_json && stands(&ron, place, line, col)
 }
 
-fn is_apart(alloc: Global, text: &str, value: i8, line: usize, col: usize) -> bool {
-    let mut buffer = String::new(alloc);
-    let (mut place, mut input) = first_place(text);
-    let json = i8::de_json_plain(alloc, &mut place, &mut input, &mut buffer);
-    json == Some(value) && stands(&json, place, line, col)
-}
-
 #[test]
 fn plain_numbers(rt: HostRuntime) {
     let alloc = rt.alloc();
@@ -92,19 +82,15 @@ fn plain_numbers(rt: HostRuntime) {
     for (text, value, line, col) in INTEGERS {
         holds(&rt, is_integer(alloc, text, *value, *line, *col), text);
     }
-    for (text, value, line, col) in APART {
-        holds(&rt, is_apart(alloc, text, *value, *line, *col), text);
-    }
 }
 
 /// Tokens of an object, one after the other.
 #[test]
 fn plain_tokens(rt: HostRuntime) {
-    let mut buffer = String::new(rt.alloc());
     let (mut place, mut input) = first_place(" {\"a\": 9,\"b\":true,\"c\":null}");
     holds(&rt, take_punctuator(&mut place, &mut input, '{'), "{");
     holds(&rt, take_name(&mut place, &mut input) == Some("a"), "a");
-    let number = take_plain_unsigned(&mut place, &mut input, 9, &mut buffer);
+    let number = take_plain_unsigned(&mut place, &mut input, 9);
     holds(&rt, number == Some(9), "9");
     holds(&rt, take_directly(&mut place, &mut input, ','), ",");
     holds(&rt, take_name(&mut place, &mut input) == Some("b"), "b");
@@ -137,7 +123,7 @@ fn plain_tokens_of_ron(rt: HostRuntime) {
     holds(&rt, comma && number == Some(9), "a number of RON");
     holds(&rt, take_directly(&mut place, &mut input, ','), "a comma");
     let (mut here, mut rest) = first_place("-9");
-    let few = take_plain_integer(&mut here, &mut rest, -8, 8, &mut buffer);
+    let few = take_plain_integer(&mut here, &mut rest, -8, 8);
     let all = nano_ron_tokens::take_plain_integer(&mut place, &mut input, -9, 8);
     holds(&rt, few.is_none() && all == Some(-9), "a range");
     let (mut place, mut input) = first_place("\n\"a\\u0062\"]");

@@ -2,13 +2,12 @@ use Rattle.std.proofs.Common.{refl, ap, sym, subst, ◌∙◌, string_bytes}
 use Rattle.nano_text.proofs.PlaceLaws.{moves_none, moves_append}
 use Rattle.nano_grammar.specs.ItemRuns.{PutItems}
 use Rattle.nano_grammar.proofs.ItemRuns.{put_none, put_more, item_less, put_moved}
+use Rattle.nano_grammar.proofs.ItemRuns.{copied, at_copy, same_position}
 use Rattle.nano_ron_tokens.specs.Cut.{Cut}
 use Rattle.nano_ron_tokens.specs.Outcomes.{position}
 use Rattle.nano_ron_tokens.specs.State.{token_of, place_of, pending}
-use Rattle.nano_ron_tokens.specs.declared.state.DeRonState.{DeRonState}
 use Rattle.nano_ron_tokens.specs.Token.{blocks, comma}
 use Rattle.nano_ron_tokens.proofs.RonLaws.{block_brackets}
-use Rattle.nano_ron_tokens.proofs.PlainCalls.{copied, at_comma_is, comma_there}
 use Rattle.nano_ron.proofs.Ron.{ron_laws}
 use Rattle.nano_ron.proofs.lists.put_plain_items.Goals as goal
 
@@ -19,7 +18,7 @@ items-init g c =
     let is = ap (λ t. token_of t (string_bytes s.strbuf) (string_bytes s.numbuf) (string_bytes s.identbuf)) c.in-Comma.is in (
       rw c.place-place.ensures
           (put_none ron_laws blocks block_brackets g.T.RonCodec.ron.encoding.laws g.C.Collect.holds c.args.items.now
-          (at_comma_is s c.args.input.now c.chars-rest.result is same) (copied s c.args.input.now c.chars-rest.result same)),
+          (at_copy (place_of s) c.args.input.now c.chars-rest.result is same) (copied (place_of s) c.args.input.now c.chars-rest.result same)),
       c.in-Comma.is,
     )
 
@@ -34,13 +33,11 @@ pub returns-clause-ok : goal.returns-clause-ok
 returns-clause-ok g c =
     let s = c.args.state.now in
     let here = c.items.state in
-    let there = c.stand_at-2.new.self in
-    let p = c.take_item.new.place in
     let is = ap pending c.stand_at-2.ensures
     ∙ ap (λ t. token_of t (string_bytes c.take_item.new.text) (string_bytes here.numbuf) (string_bytes here.identbuf)) c.items.invariant.1 in
     let stands = ap place_of c.stand_at-2.ensures in
     subst (λ q. PutItems Cut g.T.RonCodec.ron.encoding.encodes comma g.C.Collect.holds (position s c.args.input.now) q c.args.items.now c.items.items)
-    (sym (comma_there there p c.take_item.new.input is stands ∙ c.in_default-take_item.ensures)) c.items.invariant.0
+    (sym (same_position c.take_item.new.input is stands ∙ c.in_default-take_item.ensures)) c.items.invariant.0
 
 pub returns-in-Err-clause-err : goal.returns-in-Err-clause-err
 returns-in-Err-clause-err g c =

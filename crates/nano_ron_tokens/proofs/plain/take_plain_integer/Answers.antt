@@ -5,9 +5,10 @@ use Rattle.nano_text.specs.Place.{text_at}
 use Rattle.nano_text.proofs.PlaceLaws.{moves_append}
 use Rattle.nano_grammar.specs.Plain.{TookPlainly}
 use Rattle.nano_grammar.proofs.Plain.{one_taken}
+use Rattle.nano_grammar.proofs.ScalarsLaws.{in_order}
 use Rattle.nano_ron_tokens.specs.Cut.{Cut}
 use Rattle.nano_ron_tokens.specs.Scan.{AnInteger}
-use Rattle.nano_ron_tokens.proofs.PlainCalls.{after_space, in_order}
+use Rattle.nano_ron_tokens.proofs.PlainCalls.{after_space}
 use Rattle.nano_ron_tokens.proofs.plain.take_plain_integer.Goals as goal
 
 pub returns : goal.returns
