@@ -2,7 +2,7 @@
 //!
 //! A caller in generic code that needs one of these facts calls the function; none of them does
 //! anything else.
-ghost use Rattle.std.specs.Prelude.{◌≡◌, ◌+◌, ◌++◌, ◌↔◌, ℕ, List, IfOk, IfErr};
+ghost use Rattle.std.specs.Prelude.{◌≡◌, ◌+◌, ◌++◌, ◌↔◌, ℕ, List, IfOk, IfErr, true};
 ghost use Rattle.nano_value.specs.Meaning.{Meaning};
 ghost use Rattle.nano_bin_bytes.specs.declared.error.DeBinKind.{DeBinKind};
 ghost use Rattle.nano_bin_bytes.specs.Reading.{DecodesTo};
@@ -13,7 +13,7 @@ ghost use Rattle.nano_bin_bytes.specs.Promises.{OneValue, NoneBeginsAnother};
 
 use crate::traits::{BinCodec, BothBin, DeBin, SerBin};
 use nano_bin_bytes::DeBinErr;
-use nano_value::{Key, Value};
+use nano_value::{ExactEq, Key, Value};
 use std::alloc::Global;
 use std::collections::{BTreeMap, BTreeSet, HashMap, HashSet};
 use std::hash::Hash;
@@ -47,6 +47,28 @@ pub fn read_back_whole<T: BothBin>(alloc: Global, written: &T, d: &[u8]) -> Resu
 {
     written.known();
     T::deserialize_bin_whole(alloc, d)
+}
+
+/// Reads back what was written, as `read_back` does, where `==` of the type is exact. The value
+/// that is read is equal to the written one by `==`, and the only error is out of memory.
+pub fn read_back_equal<T: BothBin + ExactEq>(
+    alloc: Global,
+    written: &T,
+    offset: &mut usize,
+    bytes: &[u8],
+) -> Result<T, DeBinErr>
+    ensures equal { IfOk result (λ read.
+        StandsAt (T.bin.canonical.written written.now) bytes.now offset.old
+        → T.eq read written.now ≡ true) }
+    ensures ok { IfOk result (λ read.
+        StandsAt (T.bin.canonical.written written.now) bytes.now offset.old
+        → ReadsBack (T.bin.canonical.written written.now) offset.old offset.new
+        (T.means written.now) (T.means read)) }
+    ensures err { IfErr result (FailsForMemory (T.bin.canonical.written written.now)
+        bytes.now offset.old offset.new) }
+{
+    T::eq_agrees();
+    read_back(alloc, written, offset, bytes)
 }
 
 /// Reads two values back whose encodings were placed one after the other.

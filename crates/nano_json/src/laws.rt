@@ -20,7 +20,7 @@ pub use nano_json_tokens::laws::{
     the_end_follows_white_space,
 };
 use nano_json_tokens::{DeJsonErr, DeJsonState};
-use nano_value::{Key, Value};
+use nano_value::{ExactEq, Key, Value};
 use std::alloc::Global;
 use std::collections::{BTreeMap, BTreeSet, HashMap, HashSet};
 use std::hash::Hash;
@@ -128,6 +128,17 @@ pub fn read_back_whole<T: BothJson>(alloc: Global, written: &T) -> Result<T, DeJ
         Ok(text) => T::deserialize_json_whole(alloc, text.as_str()),
         Err(_rejected) => Err(DeJsonState::new(alloc).err_memory(alloc)),
     }
+}
+
+/// Writes a value and reads it again, where `==` of the type is exact. A sound value is read back
+/// as one that is equal to it by `==`, and the only error is out of memory.
+pub fn read_back_equal<T: BothJson + ExactEq>(alloc: Global, written: &T) -> Result<T, DeJsonErr>
+    ensures { MatchResult result
+        (λ read. T.json.sound written.now → T.eq read written.now ≡ true)
+        (λ e. T.json.sound written.now → e.memory ≡ true) }
+{
+    T::eq_agrees();
+    read_back(alloc, written)
 }
 
 /// A hashed and an ordered set of the same items are written as the same text at each level. The

@@ -1,6 +1,7 @@
 pub mod AgreesLaws
 pub mod AscendingLaws
 pub mod LastValuesLaws
+pub mod ExactEqLaws
 pub mod ExactLaws
 pub mod InOrderLaws
 pub mod MeaningLaws

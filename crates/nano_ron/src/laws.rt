@@ -19,7 +19,7 @@ pub use nano_ron_tokens::laws::{
     a_text_is_cut_in_one_way, gaps_are_skipped, taken_tokens_begin_the_text, the_end_follows_gaps,
 };
 use nano_ron_tokens::{DeRonErr, DeRonState};
-use nano_value::{Key, Value};
+use nano_value::{ExactEq, Key, Value};
 use std::alloc::Global;
 use std::collections::{BTreeMap, BTreeSet, HashMap, HashSet};
 use std::hash::Hash;
@@ -127,6 +127,17 @@ pub fn read_back_whole<T: BothRon>(alloc: Global, written: &T) -> Result<T, DeRo
         Ok(text) => T::deserialize_ron_whole(alloc, text.as_str()),
         Err(_rejected) => Err(DeRonState::new(alloc).err_memory(alloc)),
     }
+}
+
+/// Writes a value and reads it again, where `==` of the type is exact. A sound value is read back
+/// as one that is equal to it by `==`, and the only error is out of memory.
+pub fn read_back_equal<T: BothRon + ExactEq>(alloc: Global, written: &T) -> Result<T, DeRonErr>
+    ensures { MatchResult result
+        (λ read. T.ron.sound written.now → T.eq read written.now ≡ true)
+        (λ e. T.ron.sound written.now → e.memory ≡ true) }
+{
+    T::eq_agrees();
+    read_back(alloc, written)
 }
 
 /// A hashed and an ordered set of the same items are written as the same text at each level. The

@@ -8,6 +8,7 @@
 mod bools;
 mod boxes;
 mod collect;
+mod exact_eq;
 pub mod laws;
 mod lists;
 mod maps;
@@ -24,5 +25,6 @@ mod unsigned;
 mod value;
 
 pub use collect::{Collect, CollectEntries};
+pub use exact_eq::ExactEq;
 pub use ordered::{entries_by_rank, entries_in_order, items_in_order};
 pub use value::{Key, OrderedKey, Value};

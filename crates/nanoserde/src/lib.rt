@@ -26,23 +26,25 @@ pub use nano_json::{
     laws as json_laws,
 };
 pub use nano_json_schema::{
-    JsonFields, JsonRefs, JsonResult, JsonShape, JsonShapes, read_choice_json, read_parts_json,
-    read_record_json, write_choice_json, write_record_json,
+    JsonDefaultOf, JsonFields, JsonRefs, JsonResult, JsonShape, JsonShapes, Place,
+    read_choice_json, read_parts_json, read_record_json, take_record_json, write_choice_json,
+    write_record_json,
 };
 pub use nano_ron::{
     BothRon, DeRon, DeRonErr, DeRonState, DeRonTok, RonCodec, SerRon, SerRonState, laws as ron_laws,
 };
 pub use nano_ron_schema::{
-    RonFields, RonRefs, RonResult, RonShape, RonShapes, read_choice_ron, read_parts_ron,
-    read_record_ron, write_choice_ron, write_record_ron,
+    RonDefaultOf, RonFields, RonRefs, RonResult, RonShape, RonShapes, read_choice_ron,
+    read_parts_ron, read_record_ron, write_choice_ron, write_record_ron,
 };
 pub use nano_schema::{
-    Borrowed, BorrowedChoices, Choices, Either, EnumSchema, FieldRefs, Label, Newtype, Optional,
-    Required, Shape, Struct, StructSchema, Tuple, Unit, Variant, VariantRefs, known_record,
-    known_variant,
+    Borrowed, BorrowedChoices, Choices, DefaultOf, Defaulted, Either, EnumSchema, FieldRefs, Label,
+    Newtype, Optional, Required, Shape, Struct, StructSchema, Tuple, TypeDefault, Unit, Variant,
+    VariantRefs, known_record, known_variant,
 };
 pub use nano_toml::{Toml, TomlErr, TomlParser, TomlTok, laws as toml_laws};
 pub use nano_value::{
-    Key, OrderedKey, Value, entries_by_rank, entries_in_order, items_in_order, laws as value_laws,
+    ExactEq, Key, OrderedKey, Value, entries_by_rank, entries_in_order, items_in_order,
+    laws as value_laws,
 };
 pub use normal::{normal_bin, normal_json, normal_ron};

@@ -2,6 +2,7 @@
 //! how a user-defined type is written. Each file is one that a user copies.
 
 mod choice;
+mod equal;
 mod holder;
 mod item;
 mod plain;

@@ -80,7 +80,10 @@ fn are_back(alloc: Global) -> Result<bool, DeBinErr> {
     let one = laws::read_back(alloc, &7u8, &mut offset, &[77, 7, 8, 2, 1])?;
     let two = laws::read_both_back(alloc, &8u8, &258u16, &mut offset, &[77, 7, 8, 2, 1])?;
     let whole = laws::read_back_whole(alloc, &258u16, &[2, 1])?;
-    Ok(one == 7 && two.0 == 8 && two.1 == 258 && whole == 258 && offset == 5)
+    let mut place = 1;
+    let equal = laws::read_back_equal(alloc, &7u8, &mut place, &[77, 7, 8])?;
+    let places = offset == 5 && place == 2;
+    Ok(one == 7 && two.0 == 8 && two.1 == 258 && whole == 258 && equal == 7 && places)
 }
 
 #[test]

@@ -12,7 +12,8 @@ use std::collections::{BTreeMap, BTreeSet, HashMap, HashSet};
 fn is_back(alloc: Global, value: Option<u8>) -> Result<bool, DeJsonErr> {
     let first = laws::read_back(alloc, &value)?;
     let whole = laws::read_back_whole(alloc, &value)?;
-    Ok(first == value && whole == value)
+    let equal = laws::read_back_equal(alloc, &value)?;
+    Ok(first == value && whole == value && equal == value)
 }
 
 /// What a slice is written as.

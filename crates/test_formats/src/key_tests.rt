@@ -1,7 +1,9 @@
 //! Keys of each type, entries and items in order, and `known` of each type through its bound.
 
 use crate::checks::{holds, is_so};
-use nano_value::{Key, OrderedKey, Value, entries_by_rank, entries_in_order, items_in_order, laws};
+use nano_value::{
+    ExactEq, Key, OrderedKey, Value, entries_by_rank, entries_in_order, items_in_order, laws,
+};
 use std::alloc::{AllocError, Global};
 use std::collections::{BTreeMap, BTreeSet, HashMap, HashSet, LinkedList};
 
@@ -147,4 +149,43 @@ fn in_order(rt: HostRuntime) {
     holds(&rt, ranks(&true, &false) == (0, 0), "no ranks");
     laws::tables_hold_last_values::<u8, bool>();
     laws::ascending_is_in_order::<u8, bool>();
+}
+
+/// Whether `==` distinguishes two values of a type where it is exact.
+fn differ<T: ExactEq>(one: &T, other: &T) -> bool {
+    T::eq_agrees();
+    one == one && one != other
+}
+
+/// Two hash maps of one entry each, with the same key.
+fn two_maps(alloc: Global) -> Result<(HashMap<u8, bool>, HashMap<u8, bool>), AllocError> {
+    let mut one = HashMap::new(alloc);
+    let mut other = HashMap::new(alloc);
+    let _none = one.insert(1u8, true)?;
+    let _none = other.insert(1u8, false)?;
+    Ok((one, other))
+}
+
+/// Whether two hash maps differ where the values do, and each is equal to itself.
+fn maps_differ(alloc: Global) -> Result<bool, AllocError> {
+    let (one, other) = two_maps(alloc)?;
+    laws::equal_maps_mean_the_same(&one, &other);
+    Ok(one == one && one != other)
+}
+
+#[test]
+fn equality_is_exact(rt: HostRuntime) {
+    holds(&rt, differ(&1u8, &2), "a number");
+    holds(&rt, differ(&-1i32, &1), "a signed number");
+    holds(&rt, differ(&true, &false), "a boolean");
+    holds(&rt, differ(&Some(1u8), &None), "an option");
+    holds(&rt, differ(&[1u8, 2], &[2, 1]), "an array");
+    holds(&rt, differ(&(1u8, true), &(1, false)), "a pair");
+    holds(&rt, differ(&(1u8, 2u8, 3u8), &(1, 2, 4)), "three parts");
+    holds(
+        &rt,
+        differ(&(1u8, 2u8, 3u8, 4u8), &(0, 2, 3, 4)),
+        "four parts",
+    );
+    is_so(&rt, maps_differ(rt.alloc()), "hash maps");
 }

@@ -11,8 +11,9 @@ use std::collections::{BTreeMap, BTreeSet, HashMap, HashSet};
 fn is_back(alloc: Global, value: Option<u8>) -> Result<bool, DeRonErr> {
     let first = laws::read_back(alloc, &value)?;
     let whole = laws::read_back_whole(alloc, &value)?;
+    let equal = laws::read_back_equal(alloc, &value)?;
     let read = Option::<u8>::deserialize_ron(alloc, "1 // x")?;
-    Ok(first == value && whole == value && read == value)
+    Ok(first == value && whole == value && equal == value && read == value)
 }
 
 /// What a slice is written as.
