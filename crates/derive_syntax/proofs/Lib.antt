@@ -1,2 +1,3 @@
 mod Cases
 mod Places
+mod ShownLemmas

@@ -1,8 +1,11 @@
 //! Why nothing was written, with line and column.
 
-ghost use Rattle.std.specs.Prelude.{IfOk};
+ghost use Rattle.std.specs.Prelude.{◌≡◌, IfOk, OnOk, map, take};
+ghost use Rattle.std.specs.Io.KnownBytes.{Appends};
+ghost use Rattle.std.specs.Str.{chars};
 ghost use Rattle.derive_syntax.specs.Errors.{IsErrorIn};
 ghost use Rattle.derive_syntax.specs.Place.{StandsIn};
+ghost use Rattle.derive_syntax.specs.Shown.{blank, line_at, pointed, shown};
 
 use crate::fault::{Fault, Subject};
 use crate::place::Place;
@@ -35,17 +38,43 @@ impl SourceFault {
     /// Prints `name:line:column: message`, with line and column counted from 1, then the line, and
     /// a caret under the character. `source` is the text that was given. The output's errors are
     /// passed on, with what was written before.
-    pub fn show<W: Write>(&self, output: &mut W, name: &str, source: &str) -> io::Result<()> {
-        let shown = source.lines().nth(self.line).unwrap_or("");
+    pub fn show<W: Write>(&self, output: &mut W, name: &str, source: &str) -> io::Result<()>
+        ensures { OnOk result (Appends (W.contents output.old) (W.contents output.new)
+            (shown self.now name.now source.now)) }
+    {
         let line = self.line.saturating_add(1);
         let column = self.column.saturating_add(1);
         writeln!(output, "{name}:{line}:{column}: {}", self.message)?;
-        writeln!(output, "{shown}")?;
-        for c in shown.chars().take(self.column) {
-            write!(output, "{}", if c == '\t' { c } else { ' ' })?;
-        }
-        writeln!(output, "^")
+        print_pointed(output, line_at(source, self.line), self.column)
     }
+}
+
+/// A line of a source, counted from 0, or the empty one where the source has no such line.
+fn line_at(source: &str, row: usize) -> &str
+    ensures { result.now ≡ line_at source.now row }
+{
+    source.lines().nth(row).unwrap_or("")
+}
+
+/// Prints a line, and a caret under the character after so many.
+fn print_pointed<W: Write>(output: &mut W, line: &str, before: usize) -> io::Result<()>
+    ensures { OnOk result (Appends (W.contents output.old) (W.contents output.new)
+        (pointed line.now before)) }
+{
+    writeln!(output, "{line}")?;
+    print_blanks(output, line, before)?;
+    writeln!(output, "^")
+}
+
+/// Prints white space under so many characters of a line.
+fn print_blanks<W: Write>(output: &mut W, line: &str, count: usize) -> io::Result<()>
+    ensures { OnOk result (Appends (W.contents output.old) (W.contents output.new)
+        (map blank (take count (chars line.now)))) }
+{
+    for c in line.chars().take(count) {
+        write!(output, "{}", if c == '\t' { c } else { ' ' })?;
+    }
+    Ok(())
 }
 
 impl From<AllocError> for DeriveError {

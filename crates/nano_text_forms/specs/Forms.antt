@@ -1,10 +1,10 @@
 -- What a text of either form is, and what is written in it.
 use Rattle.std.specs.Prelude.{◌≢◌, ℕ, List, Option, Some, None, cond, codes, eqb, encode_utf8_all}
-use Rattle.std.specs.Prelude.{◌≡◌, Bool, true, false, String}
+use Rattle.std.specs.Prelude.{◌≡◌, Bool, true, false, String, string_bytes}
 use Rattle.std.specs.List.{ends_with}
 use Rattle.std.specs.Global.{Global}
 use Rattle.nano_value.specs.Meaning.{Meaning}
-use Rattle.nano_grammar.specs.Outcomes.{WholeDecodesTo}
+use Rattle.nano_grammar.specs.Outcomes.{WholeDecodesTo, Report, ReadsNoWhole}
 use Rattle.nano_json_tokens.specs.Cut.{Cut as JsonCut}
 use Rattle.nano_json_tokens.specs.Token.{end as json_end}
 use Rattle.nano_ron_tokens.specs.Cut.{Cut as RonCut}
@@ -44,3 +44,19 @@ pub record IsOf (failed : Bool) (words : String Global) (line column : ℕ) (rej
   pub memory : failed ≡ true → rejection ≡ Memory
   pub text : failed ≡ false
       → rejection ≡ Text (record { words = words; line = line; column = column })
+
+-- the rejection has the words and the place of an error of which the fact holds, or it is out of
+-- memory
+abbrev pub Reports : (Report → Type 0) → Rejection → Type 0
+Reports fact (Text fault) = fact (record {
+  memory = false;
+  message = string_bytes fault.words;
+  line = fault.line;
+  col = fault.column;
+})
+Reports fact Memory = Unit {0}
+
+-- the error is the reader's: the whole text, in its form, encodes no value
+abbrev pub RejectsWhole : Form → JsonEncoding → RonEncoding → List ℕ → Rejection → Type 0
+RejectsWhole Json json ron bytes = Reports (ReadsNoWhole JsonCut json.encodes bytes json_end)
+RejectsWhole Ron json ron bytes = Reports (ReadsNoWhole RonCut ron.encodes bytes ron_end)

@@ -1,7 +1,7 @@
 //! The forms of a text, and values read from one and written.
 
 ghost use Rattle.std.specs.Prelude.{◌≡◌, IfOk, IfErr, string_bytes};
-ghost use Rattle.nano_text_forms.specs.Forms.{form_of, IsWhole, NotOfMemory, written};
+ghost use Rattle.nano_text_forms.specs.Forms.{form_of, IsWhole, NotOfMemory, RejectsWhole, written};
 
 use crate::rejection::Rejection;
 use nano_json::{DeJson, SerJson};
@@ -43,6 +43,8 @@ impl Form {
             IsWhole self T.json.encoding T.ron.encoding text.now (T.means value)) }
         ensures rejected { IfErr result (λ rejection. NotOfMemory rejection
             → (m : _) → IsWhole self T.json.encoding T.ron.encoding text.now m → ⊥) }
+        ensures reported { IfErr result
+            (RejectsWhole self T.json.encoding T.ron.encoding text.now) }
     {
         match self {
             Form::Json => Ok(T::deserialize_json_whole(alloc, text)?),
