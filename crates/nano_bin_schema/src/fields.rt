@@ -6,7 +6,7 @@ ghost use Rattle.nano_bin_bytes.specs.Codec.{Codec};
 ghost use Rattle.nano_bin.specs.ContainerCodecs.{option_codec, pair_codec};
 
 use nano_bin::{BinCodec, DeBin, DeBinErr, SerBin};
-use nano_schema::{Defaulted, Optional, Required};
+use nano_schema::{Aliased, Defaulted, Optional, Required};
 use std::alloc::{AllocError, Global};
 
 /// Fields that have an encoding as bytes.
@@ -152,6 +152,40 @@ impl<'a, N, T: SerBin + 'a, D> BinRefs<'a> for Defaulted<N, T, D> {
 
     fn write(refs: &&'a T, alloc: Global, output: &mut Vec<u8>) -> Result<(), AllocError> {
         refs.ser_bin(alloc, output)
+    }
+}
+
+impl<N, F: BinShape> BinShape for Aliased<N, F> {
+    type Values = F::Values;
+
+    ghost codec = { F.codec };
+}
+
+impl<N, F: BinFields> BinFields for Aliased<N, F> {
+    type Values = F::Values;
+
+    ghost codec = { F.codec };
+
+    fn read(alloc: Global, offset: &mut usize, bytes: &[u8]) -> Result<F::Values, DeBinErr> {
+        F::read(alloc, offset, bytes)
+    }
+
+    fn discard(values: F::Values) {
+        F::discard(values);
+    }
+}
+
+impl<'a, N, F: BinRefs<'a>> BinRefs<'a> for Aliased<N, F> {
+    type Values = F::Values;
+
+    type Refs = F::Refs;
+
+    ghost values = { F.values };
+
+    ghost codec = { F.codec };
+
+    fn write(refs: &F::Refs, alloc: Global, output: &mut Vec<u8>) -> Result<(), AllocError> {
+        F::write(refs, alloc, output)
     }
 }
 

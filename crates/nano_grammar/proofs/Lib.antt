@@ -24,9 +24,12 @@ pub mod Plain
 pub mod StructReading
 pub mod ChoicesLaws
 pub mod BothFieldsLaws
+pub mod AliasesLaws
+pub mod AliasCalls
 pub mod DefaultsLaws
 pub mod FieldCodecLaws
 pub mod FieldsLaws
+pub mod NoFieldsLaws
 pub mod ItemLaws
 pub mod ListsLaws
 pub mod MapsLaws

@@ -1,6 +1,6 @@
 -- What the calls come to that take values and fields with no token pending.
-use Rattle.std.proofs.Common.{◌≡◌, ◌<◌, ◌≤◌, ◌+◌, ℕ, Bool, false, List, [], ◌∷◌, ◌++◌, ◌⊎◌, inl, inr, length, cond}
-use Rattle.std.proofs.Common.{refl, sym, ap, subst, ◌∙◌, arith, append_assoc, append-nil, bytes_eq, true}
+use Rattle.std.proofs.Common.{◌≡◌, ◌<◌, ◌≤◌, ◌+◌, ℕ, Bool, false, List, [], ◌∷◌, ◌++◌, inl, inr, length}
+use Rattle.std.proofs.Common.{refl, sym, ap, subst, ◌∙◌, arith, append_assoc, bytes_eq, true}
 use Rattle.std.proofs.Common.{Some, None}
 use Rattle.nano_value.specs.Meaning.{Meaning, IsImage, optional}
 use Rattle.nano_grammar.specs.Scalars.{EncodesOption}
@@ -8,7 +8,7 @@ use Rattle.nano_grammar.specs.Codec.{BeginsValue}
 use Rattle.nano_text.proofs.PlaceLaws.{moves_none}
 use Rattle.nano_grammar.specs.Tokens.{Cutting, Cuts}
 use Rattle.nano_grammar.specs.Codec.{Grammar}
-use Rattle.nano_grammar.specs.Items.{ListPunctuation, EncodedItems, EncodedList, StartsOtherwise}
+use Rattle.nano_grammar.specs.Items.{ListPunctuation, EncodedItems, StartsOtherwise}
 use Rattle.nano_grammar.specs.Outcomes.{Position, Moved}
 use Rattle.nano_grammar.specs.ItemRuns.{TookItem}
 use Rattle.nano_grammar.specs.Plain.{TookPlainly, TookFieldPlainly, LooksUpPlainly}

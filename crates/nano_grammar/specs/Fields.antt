@@ -3,7 +3,7 @@
 use Rattle.std.specs.Prelude.{◌≡◌, ℕ, ◌||◌, Bool, true, false, List, [], ◌∷◌, ◌++◌, Option, Some}
 use Rattle.std.specs.Prelude.{None, bytes_eq, if◌then◌else◌, ◌&&◌, not, codes, ◌⊎◌}
 use Rattle.std.specs.List.{AllByRecursion, list_all}
-use Rattle.nano_value.specs.Meaning.{Meaning, paired, IsImage, BothOfPair}
+use Rattle.nano_value.specs.Meaning.{Meaning, nothing, paired, IsImage, BothOfPair, LegalUnit}
 use Rattle.nano_grammar.specs.Items.{EncodedList}
 use Rattle.nano_grammar.specs.Tokens.{Cutting, IsValueText, At, Leaves}
 use Rattle.nano_grammar.specs.Scalars.{NoneStyle}
@@ -104,6 +104,15 @@ module _ {T : Type 0} {g : Grammar T} (name : List ℕ) (s : Encoding g) where
     means = LastEncodes name s.encodes;
     legal = s.legal;
   }
+
+-- no fields: none is known, and whatever fields a text has, they mean nothing
+abbrev pub no_fields : {T : Type 0} → Shape T
+no_fields = record {
+  knows = λ n. false;
+  takes = λ n us. ⊥;
+  means = λ fs m. m ≡ nothing;
+  legal = LegalUnit;
+}
 
 -- fields and more fields, which mean the pair of what both mean; the second see only the fields
 -- that the first do not know

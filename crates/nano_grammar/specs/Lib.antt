@@ -13,6 +13,7 @@ pub mod ItemRuns
 pub mod Plain
 -- user-defined types
 pub mod Fields
+pub mod Aliases
 pub mod FieldCodec
 pub mod Variants
 pub mod VariantCodec

@@ -1,11 +1,13 @@
 -- Laws of tokens and lists, over any cut and any encoding.
 use Rattle.std.specs.Prelude.{◌≡◌, ◌≢◌, ◌↔◌, ◌⊎◌, ℕ, List, [], ◌∷◌, ◌++◌, Bool, false, Some, None}
+use Rattle.std.specs.Prelude.{map}
 use Rattle.std.specs.List.{flat_map, AllByRecursion}
 use Rattle.nano_grammar.specs.Items.{ListPunctuation, OneValue, EncodedList}
 use Rattle.nano_grammar.specs.Tokens.{At, Begins, BeginsAt, Leaves, Spans, TextDecodesTo, IsOneWay}
 use Rattle.nano_grammar.specs.Tokens.{NoneBeginsAnother, DecodesToNothing}
 use Rattle.nano_grammar.specs.Faults.{Reason, Fault}
 use Rattle.nano_grammar.specs.Fields.{Field, last, others}
+use Rattle.nano_grammar.specs.Aliases.{under_own}
 
 module _ {T : Type 0} (cut : List ℕ → T → List ℕ → Type 0) where
   -- taking tokens up to another one is the same as beginning with them and that one
@@ -96,3 +98,10 @@ module _ (T : Type 0) where
   OtherNamesAreSeen =
       (knows : List ℕ → Bool) (name : List ℕ) (fs : List (Field T)) → knows name ≡ false
       → last name (others knows fs) ≡ last name fs
+
+  -- of the fields with a name or its alias, the last one counts, as of one name
+  abbrev pub LastOfBothNamesCounts : Type 0
+  LastOfBothNamesCounts =
+      (alias own : List ℕ) (f : Field T) (before after : List (Field T))
+      → (f.name ≡ alias) ⊎ (f.name ≡ own) → NoneNamed alias after → NoneNamed own after
+      → last own (map (under_own alias own) (before ++ f ∷ after)) ≡ Some f.value

@@ -4,10 +4,12 @@ use Rattle.std.specs.Prelude.{◌≡◌, ℕ, true, List, Option, ℤ, String, s
 use Rattle.std.specs.Global.{Global}
 use Rattle.std.specs.Int.{w8, w16, w32, w64}
 use Rattle.nano_value.specs.Meaning.{Meaning}
+use Rattle.nano_grammar.proofs.AliasesLaws.{alias_field}
 use Rattle.nano_grammar.proofs.BothFieldsLaws.{also_fields}
 use Rattle.nano_grammar.proofs.DefaultsLaws.{default_field}
 use Rattle.nano_grammar.specs.FieldCodec.{AreNames, FieldsCodec}
 use Rattle.nano_grammar.proofs.FieldCodecLaws.{must_field, may_field}
+use Rattle.nano_grammar.proofs.NoFieldsLaws.{no_field}
 use Rattle.nano_grammar.specs.Fields.{FieldStyle}
 use Rattle.nano_json_tokens.proofs.JsonLaws.{json, curly_style, entry_style, null_style}
 use Rattle.nano_json_tokens.proofs.JsonLaws.{curly_brackets, tuple_style, block_brackets}
@@ -57,6 +59,15 @@ defaulted_field = default_field json_fields
 abbrev pub optional_field : {A : Type 0} → List ℕ → Codec A
     → FieldsCodec json_fields (Option A)
 optional_field = may_field json_fields
+
+-- a field with an alias and an own name
+abbrev pub aliased_field : {A : Type 0} → List ℕ → List ℕ → FieldsCodec json_fields A
+    → FieldsCodec json_fields A
+aliased_field = alias_field
+
+-- no fields
+abbrev pub no_fields : {A : Type 0} → FieldsCodec json_fields A
+no_fields = no_field json_fields
 
 -- fields, and more fields
 abbrev pub fields_pair : {A B : Type 0} → FieldsCodec json_fields A → FieldsCodec json_fields B

@@ -26,6 +26,7 @@ use Rattle.nano_json_schema.specs.VariantCodecs.{json_variants}
 use Rattle.nano_json_schema.specs.declared.variants.VariantName.{VariantName}
 use Rattle.nano_grammar.specs.Promises.{LastFieldCounts as Counts, MissingNameHasNoField as Missing}
 use Rattle.nano_grammar.specs.Promises.{OtherNamesAreSeen as Seen}
+use Rattle.nano_grammar.specs.Promises.{LastOfBothNamesCounts as BothNames}
 use Rattle.nano_json_tokens.specs.declared.token.DeJsonTok.TheVariants.{Eof}
 
 -- ---- tokens
@@ -120,6 +121,10 @@ ReadsEnum variants means start end result =
 -- of the fields with one name, the last counts
 abbrev pub LastFieldCounts : Type 0
 LastFieldCounts = Counts Token
+
+-- of the fields with a name or its alias, the last counts, as of one name
+abbrev pub LastOfBothNamesCounts : Type 0
+LastOfBothNamesCounts = BothNames Token
 
 -- a name is missing where no field has it
 abbrev pub MissingNameHasNoField : Type 0

@@ -1,11 +1,16 @@
 //! Laws of the definitions that the contracts cite: each function does nothing, and its contract is
 //! the law.
 ghost use Rattle.nano_json_schema.specs.Outcomes.{LastFieldCounts, MissingNameHasNoField};
-ghost use Rattle.nano_json_schema.specs.Outcomes.{OtherNamesAreSeen};
+ghost use Rattle.nano_json_schema.specs.Outcomes.{OtherNamesAreSeen, LastOfBothNamesCounts};
 
 /// Of the fields with one name, the last counts.
 pub fn the_last_field_counts()
     ensures { LastFieldCounts }
+{}
+
+/// Of the fields with a name or its alias, the last counts, as of one name.
+pub fn the_last_of_both_names_counts()
+    ensures { LastOfBothNamesCounts }
 {}
 
 /// A name is missing where no field has it.

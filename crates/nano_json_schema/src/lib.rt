@@ -3,12 +3,14 @@
 //! An enum is the name of a variant alone, or between braces a name with its content.
 #![tactic(auto)]
 
+mod aliased;
 mod brackets;
 mod choice;
 mod choices;
 mod contents;
 mod defaulted;
 mod defaults;
+mod empty;
 mod fields;
 pub mod laws;
 mod names;
@@ -24,6 +26,7 @@ mod variant_writer;
 mod variants;
 mod writer;
 
+pub use aliased::JsonField;
 pub use choice::{read_choice_json, write_choice_json};
 pub use choices::{JsonChoiceRefs, JsonChoices, JsonShapes};
 pub use contents::{JsonContent, ReadContent, WriteContent};

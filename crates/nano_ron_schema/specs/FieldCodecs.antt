@@ -4,10 +4,12 @@ use Rattle.nano_ron_tokens.specs.Token.{Token, parens, paren_punctuation, ident}
 pub use Rattle.nano_grammar.proofs.StructCodecLaws.{fields_codec}
 use Rattle.nano_value.specs.Meaning.{Meaning}
 use Rattle.nano_grammar.specs.Codec.{Codec, ListStyle}
+use Rattle.nano_grammar.proofs.AliasesLaws.{alias_field}
 use Rattle.nano_grammar.proofs.BothFieldsLaws.{also_fields}
 use Rattle.nano_grammar.proofs.DefaultsLaws.{default_field}
 use Rattle.nano_grammar.specs.FieldCodec.{AreNames, FieldsCodec}
 use Rattle.nano_grammar.proofs.FieldCodecLaws.{must_field, may_field}
+use Rattle.nano_grammar.proofs.NoFieldsLaws.{no_field}
 use Rattle.nano_grammar.specs.Fields.{FieldStyle}
 use Rattle.nano_ron_tokens.specs.Cut.{IsName, ron_grammar}
 use Rattle.nano_ron_tokens.proofs.RonLaws.{ron, parens_are, paren_brackets}
@@ -69,6 +71,15 @@ defaulted_field = default_field ron_fields
 -- a field that may be missing, and is not written where it is none
 abbrev pub optional_field : {A : Type 0} → List ℕ → Codec ron ron_grammar A → FieldsCodec ron_fields (Option A)
 optional_field = may_field ron_fields
+
+-- a field with an alias and an own name
+abbrev pub aliased_field : {A : Type 0} → List ℕ → List ℕ → FieldsCodec ron_fields A
+    → FieldsCodec ron_fields A
+aliased_field = alias_field
+
+-- no fields
+abbrev pub no_fields : {A : Type 0} → FieldsCodec ron_fields A
+no_fields = no_field ron_fields
 
 -- fields, and more fields
 abbrev pub fields_pair : {A B : Type 0} → FieldsCodec ron_fields A → FieldsCodec ron_fields B

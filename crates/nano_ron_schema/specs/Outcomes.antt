@@ -21,6 +21,7 @@ use Rattle.nano_ron_schema.specs.FieldCodecs.{ron_fields}
 use Rattle.nano_ron_schema.specs.VariantCodecs.{ron_variants}
 use Rattle.nano_grammar.specs.Promises.{LastFieldCounts as Counts, MissingNameHasNoField as Missing}
 use Rattle.nano_grammar.specs.Promises.{OtherNamesAreSeen as Seen}
+use Rattle.nano_grammar.specs.Promises.{LastOfBothNamesCounts as BothNames}
 use Rattle.nano_text.specs.Characters.{line_feed}
 use Rattle.nano_grammar.specs.FieldCodec.{WrittenField, field_text as field_text_of}
 use Rattle.nano_grammar.specs.FieldCodec.{fields_text as fields_text_of}
@@ -64,6 +65,13 @@ module _ (name : List ℕ) (shape : Shape) (before after : List Field → Type 0
       (λ _. ReadField Cut (head name) name (Allowed shape) before after start end)
       (λ e. ReadsNone Cut (FieldTokens (head name) name (Allowed shape)) start end (report e))
 
+-- a call reads the field of the one name, while the other is pending in its place
+abbrev pub ReadsUnder : {A : Type 0} → List ℕ → List ℕ → Shape → (List Field → Type 0)
+    → (List Field → Type 0) → Position Token → Position Token → Result A DeRonErr → Type 0
+ReadsUnder own name shape before after start end result = MatchResult result
+    (λ _. ReadField Cut (head name) own shape.takes before after start end)
+    (λ e. ReadsNone Cut (FieldTokens (head name) own shape.takes) start end (report e))
+
 module _ (shape : Shape) (holds : List Field → Type 0) where
   -- a call gives values which mean what the fields do that are held
   abbrev pub GivesValues : {A : Type 0} → (A → Meaning) → DeRonState → Result A DeRonErr
@@ -101,6 +109,10 @@ ReadsEnum variants means start end result =
 -- if a name occurs more than once, its last field counts
 abbrev pub LastFieldCounts : Type 0
 LastFieldCounts = Counts Token
+
+-- of the fields with a name or its alias, the last counts, as of one name
+abbrev pub LastOfBothNamesCounts : Type 0
+LastOfBothNamesCounts = BothNames Token
 
 -- a name is missing where no field has it
 abbrev pub MissingNameHasNoField : Type 0

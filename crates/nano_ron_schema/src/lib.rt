@@ -3,12 +3,14 @@
 //! enum is the name of a variant, and directly after it the content if it has one.
 #![tactic(auto)]
 
+mod aliased;
 mod brackets;
 mod choice;
 mod choices;
 mod contents;
 mod defaulted;
 mod defaults;
+mod empty;
 mod fields;
 pub mod laws;
 mod optional;
@@ -22,6 +24,7 @@ mod variant_writer;
 mod variants;
 mod writer;
 
+pub use aliased::RonField;
 pub use choice::{read_choice_ron, write_choice_ron};
 pub use choices::{RonChoiceRefs, RonChoices, RonShapes};
 pub use contents::{ReadContent, RonContent, WriteContent};

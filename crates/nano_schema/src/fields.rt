@@ -4,6 +4,7 @@ ghost use Rattle.std.specs.Option.{option_map};
 ghost use Rattle.nano_value.specs.Meaning.{Meaning, optional, paired, pair_map, LegalOption};
 ghost use Rattle.nano_value.specs.Meaning.{LegalPair};
 
+use crate::labels::Label;
 use nano_value::Value;
 use std::marker::PhantomData;
 
@@ -36,6 +37,52 @@ pub struct Defaulted<N, T, D> {
     pub of: PhantomData<T>,
     /// What it has where it is missing.
     pub missing: PhantomData<D>,
+}
+
+/// A field that is also read under a second name, the alias, and is written under its own: by the
+/// alias and the field, which is one of the above or has an alias already.
+#[derive(Drop)]
+pub struct Aliased<N, F> {
+    /// The alias.
+    pub alias: PhantomData<N>,
+    /// The field.
+    pub field: PhantomData<F>,
+}
+
+/// The label of a field is its name.
+impl<N: Label, T> Label for Required<N, T> {
+    ghost label = { N.label };
+
+    fn text() -> &'static str {
+        N::text()
+    }
+}
+
+/// The label of a field is its name.
+impl<N: Label, T> Label for Optional<N, T> {
+    ghost label = { N.label };
+
+    fn text() -> &'static str {
+        N::text()
+    }
+}
+
+/// The label of a field is its name.
+impl<N: Label, T, D> Label for Defaulted<N, T, D> {
+    ghost label = { N.label };
+
+    fn text() -> &'static str {
+        N::text()
+    }
+}
+
+/// The label of a field is its own name.
+impl<N, F: Label> Label for Aliased<N, F> {
+    ghost label = { F.label };
+
+    fn text() -> &'static str {
+        F::text()
+    }
 }
 
 /// One field, or fields and more fields: what their values mean.
@@ -141,6 +188,30 @@ impl<'a, N, T: Value + 'a, D> Borrowed<'a> for Defaulted<N, T, D> {
 
     fn known(refs: &&'a T) {
         refs.known();
+    }
+}
+
+impl<N, F: Shape> Shape for Aliased<N, F> {
+    type Values = F::Values;
+
+    ghost means = { F.means };
+
+    ghost legal = { F.legal };
+}
+
+impl<'a, N, F: Borrowed<'a>> Borrowed<'a> for Aliased<N, F> {
+    type Values = F::Values;
+
+    type Refs = F::Refs;
+
+    ghost values = { F.values };
+
+    ghost means = { F.means };
+
+    ghost legal = { F.legal };
+
+    fn known(refs: &F::Refs) {
+        F::known(refs);
     }
 }
 

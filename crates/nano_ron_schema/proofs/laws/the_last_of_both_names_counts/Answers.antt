@@ -1,0 +1,6 @@
+use Rattle.nano_grammar.proofs.AliasesLaws.{last_of_both}
+use Rattle.nano_ron_tokens.specs.Token.{Token}
+use Rattle.nano_ron_schema.proofs.laws.the_last_of_both_names_counts.Goals as goal
+
+pub returns : goal.returns
+returns c = last_of_both Token
