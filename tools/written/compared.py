@@ -18,10 +18,14 @@ def row_of(field, label, default):
 def compare_fields(impls, owner, fields, row, case):
     """Named fields: names, order, types, and what stands where one is missing."""
     read = [field for field in fields if not field.skipped]
-    got = parts_of(impls.expanded(row))
+    got = [] if row == "Unit" else parts_of(impls.expanded(row))
     same(f"number of fields of `{owner}`", len(read), len(got))
     names = None
-    for index, (field, written) in enumerate(zip(read, got)):
+    for field, written in zip(read, got):
+        aliases = []
+        while around := re.match(r"Aliased<(\w+)<(\d+)>,(.*)>$", written):
+            aliases = [impls.names(around[1])[int(around[2])]] + aliases
+            written = around[3]
         kind = re.match(r"(\w+)<(\w+)(?:<(\d+)>)?,(.*)>$", written)
         if not kind:
             raise Differs(f"`{written}` is no field")
@@ -31,6 +35,7 @@ def compare_fields(impls, owner, fields, row, case):
             name_of(field.name, field.attributes, case, False),
             names[int(kind[3] or 0)],
         )
+        same(f"aliases of `{owner}.{field.name}`", field.aliases, aliases)
         default = "TypeDefault"
         if field.attributes.get("default"):
             default = written[:-1].rsplit(",", 1)[1]
@@ -44,7 +49,8 @@ def compare_fields(impls, owner, fields, row, case):
         label = kind[2] + (f"<{kind[3]}>" if kind[3] else "")
         same(f"field `{owner}.{field.name}`", row_of(field, label, default), written)
     if names is not None:
-        same(f"number of names of `{owner}`", len(read), len(names))
+        wanted = len(read) + sum(len(field.aliases) for field in read)
+        same(f"number of names of `{owner}`", wanted, len(names))
 
 
 def compare_literal(owner, fields, body, head):
@@ -53,6 +59,7 @@ def compare_literal(owner, fields, body, head):
     got = dict(
         (part.split(":", 1) + [None])[:2]
         for part in re.split(r",\s*", re.sub(r"\s+", " ", inside[1]).strip(" ,"))
+        if part
     )
     got = {name.strip(): text and text.strip() for name, text in got.items()}
     same(f"fields that `{owner}` is made of", [field.name for field in fields], list(got))
@@ -78,6 +85,9 @@ def compare_struct(impls, name, attributes, content):
     if kind == "Newtype":
         return compare_newtype(impls, name, fields[0])
     read = [field for field in fields if not field.skipped]
+    if not read:
+        meaning = impls.block(f"(?:\\w+::)?Value for {name}\\b")
+        same(f"row of `{name}`", ["Unit", "Unit"], re.findall(r"<(?:\w+::)?(\w+) as \S*Shape>", meaning))
     schema, refs = impls.block(f"(?:\\w+::)?StructSchema for {name}\\b"), impls.block(
         f"(?:\\w+::)?FieldRefs<'a> for {name}\\b"
     )
@@ -87,7 +97,7 @@ def compare_struct(impls, name, attributes, content):
     same(
         f"view of `{name}`",
         [f"x.{key}" for key in keys],
-        [part.strip() for part in parts_of(view)],
+        [part.strip() for part in parts_of(view) if part.strip() != "tt"],
     )
     same(
         f"references of `{name}`",
@@ -95,12 +105,11 @@ def compare_struct(impls, name, attributes, content):
         [part.strip() for part in parts_of(handed)],
     )
     taken = parts_of(re.search(r"let (.*?) = values;", schema, re.S)[1])
-    if kind == "Struct":
+    if kind in ("Struct", "Unit"):
         same(f"what `{name}` is made from", keys, [part.strip() for part in taken])
         compare_literal(name, fields, schema, rf"\n        {name}")
-        compare_fields(
-            impls, name, fields, impls.aliases[f"{name}Fields"], attributes.get("rename_all", "")
-        )
+        row = impls.aliases[f"{name}Fields"] if read else "Unit"
+        compare_fields(impls, name, fields, row, attributes.get("rename_all", ""))
     else:
         made = re.search(rf"\n        {name}\((.*?)\)", schema, re.S)[1]
         same(
@@ -201,6 +210,33 @@ def compare_refs(owner, variant, index, last, refs):
     )
 
 
+def compare_key(impls, kind, name, attributes, content):
+    """A key has both impls: its order is that of what it holds, or of its variants as declared."""
+    keys = {trait for trait in impls.traits(name) if trait in ("Key", "OrderedKey")}
+    same(f"keys of `{name}`", {"Key", "OrderedKey"} if "key" in attributes else set(), keys)
+    if not keys:
+        return
+    traits = ("Key", "OrderedKey")
+    key, sorted_key = (impls.block(rf"(?:\w+::)?{trait} for {name}\b") for trait in traits)
+    order = re.search(r"ghost order = \{ (.*?) \};", key, re.S)[1]
+    if kind == "enum":
+        same(f"order of `{name}`", "variants", order)
+        for block in (key, sorted_key):
+            listed = re.search(r"\(IsPlaced .*?\((.*?∷\s+)\[\]\)\)", block, re.S)[1]
+            wanted = [f"{name}_{variant[0]}" for variant in content]
+            same(f"values of `{name}`", wanted, re.findall(r"\w+", listed))
+        return
+    of = "Fields" if content[0] == "Newtype" else "Values"
+    row = re.fullmatch(r"⟦<(\w+)(?:<.*>)? as (?:\w+::)?Key>⟧\.order", order)
+    same(f"order of `{name}`", f"{name}{of}", row and row[1])
+    places = len(content[1])
+    for block, member in ((key, "exact"), (sorted_key, "follows")):
+        term = re.search(rf"ghost {member} = \{{ (.*) \}};", block, re.S)[1]
+        parts = re.findall(r"\b([xy]\.\d)\b", term.rsplit(f".{member}", 1)[1])
+        wanted = [f"{value}.{place}" for value in "xy" for place in range(places)]
+        same(f"parts of `{member}` of `{name}`", wanted, parts)
+
+
 def compare(source, text):
     """Compares the definitions of a source with the text of its impls."""
     impls, found = Impls(text), definitions(source)
@@ -218,6 +254,7 @@ def compare(source, text):
             trait for trait in impls.traits(name) if re.fullmatch("(Ser|De)(Bin|Json|Ron)", trait)
         }
         same(f"formats of `{name}`", wanted, got)
+        compare_key(impls, kind, name, attributes, content)
         for trait, written in impls.bounds(name):
             same(f"bounds of `{trait}` for `{name}`", bounds, written)
         (compare_struct if kind == "struct" else compare_enum)(impls, name, attributes, content)

@@ -52,8 +52,11 @@ class Cursor:
             kind, token = self.peek()
             if kind == "attr":
                 self.at += 1
-                for part in re.findall(r'(\w+)(?:\s*=\s*"((?:[^"\\]|\\.)*)")?', token):
-                    found[part[0]] = part[1]
+                for word, text in re.findall(r'(\w+)(?:\s*=\s*"((?:[^"\\]|\\.)*)")?', token):
+                    if word == "alias":
+                        found.setdefault("aliases", []).append(text)
+                    else:
+                        found[word] = text
             elif token == "#":
                 self.at += 1
                 self.balanced()
@@ -124,6 +127,7 @@ class Field:
     def __init__(self, name, type, attributes):
         self.name, self.type, self.attributes = name, type, attributes
         self.skipped = "skip" in attributes
+        self.aliases = attributes.get("aliases", [])
 
 
 def fields_of(cursor, closing):

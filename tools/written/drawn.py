@@ -57,7 +57,7 @@ def drawn_head(draw, end):
 
 
 def drawn_fields(draw, types, names, in_line):
-    """Fields, of which the first is not skipped."""
+    """Fields, of which each may be skipped."""
     lines = []
     for name in names:
         type = draw.choice(types)
@@ -74,8 +74,11 @@ def drawn_fields(draw, types, names, in_line):
             attributes.append(f'default = "{plain[type[0]]}"')
         elif draw.random() < 0.2 and type != "A":
             attributes.append("default")
-        elif lines and type[:1] in "ui" and draw.random() < 0.2:
+        elif type[:1] in "ui" and draw.random() < 0.2:
             attributes = ["skip"]
+        if attributes != ["skip"] and draw.random() < 0.25:
+            aliases = [f'alias = "{old}_{name}"' for old in draw.sample("abc", draw.randrange(1, 3))]
+            attributes += aliases
         lines += [f"    // nanoserde: {', '.join(attributes)}"] * bool(attributes) + [
             f"    {in_line}{name}: {type},"
         ]
@@ -91,14 +94,16 @@ def drawn(draw, number):
         else ""
     )
     words = ["first", "second_one", "the_third", "x", "last_of_all", "y2"]
-    parameters, end, types = drawn_head(draw, " {")
+    names = draw.sample(words, draw.randrange(7))
+    is_unit = not names and draw.random() < 0.5
+    parameters, end, types = drawn_head(draw, ";" if is_unit else " {")
     lines = [
         "use std::collections::{BTreeMap, LinkedList};",
-        f"// nanoserde: {formats}{case}",
+        f"// nanoserde: {formats}{case if names else ''}",
         "#[derive(Drop)]",
         f"pub struct S{number}{parameters}{end}",
     ]
-    lines += drawn_fields(draw, types, draw.sample(words, draw.randrange(1, 7)), "pub ") + ["}"]
+    lines += drawn_fields(draw, types, names, "pub ") + ["}"] * (not is_unit)
     parameters, end, types = drawn_head(draw, ";")
     parts = ", ".join("pub " + draw.choice(types) for _ in range(draw.randrange(1, 5)))
     lines += [f"// nanoserde: {formats}", "#[derive(Drop)]"]
@@ -119,7 +124,7 @@ def drawn(draw, number):
         else:
             lines += (
                 [f"    {name} {{"]
-                + drawn_fields(draw, types, draw.sample(words, draw.randrange(1, 5)), "    ")
+                + drawn_fields(draw, types, draw.sample(words, draw.randrange(5)), "    ")
                 + ["    },"]
             )
     return "\n".join(lines + ["}", "", "mod derived;", ""])

@@ -3,6 +3,7 @@
 mod bounds;
 mod defaults;
 mod definitions;
+mod keys;
 mod known;
 mod names;
 mod shared;

@@ -9,7 +9,7 @@ const FORM: &str =
     colon";
 
 /// The words with which an attribute begins.
-const WORDS: [&str; 14] = [
+const WORDS: [&str; 15] = [
     "bin",
     "json",
     "ron",
@@ -20,6 +20,7 @@ const WORDS: [&str; 14] = [
     "ser_json",
     "ser_ron",
     "transparent",
+    "key",
     "rename",
     "rename_all",
     "default",

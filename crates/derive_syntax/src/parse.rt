@@ -8,5 +8,5 @@ mod fields;
 mod items;
 mod types;
 
-pub(crate) use attributes::AS_COMMENT;
+pub(crate) use attributes::{AS_COMMENT, KEY_TRAITS};
 pub use items::source_of;

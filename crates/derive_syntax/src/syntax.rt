@@ -1,7 +1,8 @@
 //! The definitions of a file, as far as the generator asks for it.
 
 use crate::case::Case;
-use crate::token::Token;
+use crate::token::{Token, TokenKind};
+use std::alloc::{AllocError, Global};
 
 /// A type: its tokens.
 #[derive(Clone, Copy)]
@@ -52,8 +53,14 @@ pub struct Attributes<'a> {
     pub ron: Directions,
     /// The word `transparent`.
     pub transparent: Option<Token<'a>>,
+    /// The word `key`.
+    pub key: Option<Token<'a>>,
+    /// How many of the traits are derived that a key has.
+    pub key_traits: usize,
     /// The text after `rename`.
     pub rename: Option<Token<'a>>,
+    /// The tokens of these comments, and of what stands between them.
+    pub above: &'a [Token<'a>],
     /// The text after `rename_all`.
     pub rename_all: Option<Token<'a>>,
     /// The case that this text names.
@@ -70,6 +77,25 @@ pub struct Attributes<'a> {
     pub is_serde: bool,
     /// The name of an attribute of Rust by which something is left out.
     pub cfg: Option<Token<'a>>,
+}
+
+impl<'a> Attributes<'a> {
+    /// The texts after `alias`, in their order.
+    pub fn aliases(self, alloc: Global) -> Result<Vec<Token<'a>>, AllocError> {
+        let mut aliases = Vec::new(alloc);
+        let mut in_comment = false;
+        let mut is_alias = false;
+        for token in self.above {
+            match token.kind {
+                TokenKind::Attribute => in_comment = true,
+                TokenKind::AttributeEnd => in_comment = false,
+                TokenKind::Word => is_alias = token.text == "alias",
+                TokenKind::Text if in_comment && is_alias => aliases.push(*token)?,
+                _ => {}
+            }
+        }
+        Ok(aliases)
+    }
 }
 
 /// A field with a name.
@@ -108,7 +134,7 @@ pub struct Variant<'a> {
 /// What a user-defined type is made of.
 #[derive(Drop)]
 pub enum Shape<'a> {
-    /// A struct with named fields.
+    /// A struct with named fields, or with nothing.
     Fields(Vec<Field<'a>>),
     /// A tuple struct, or a newtype.
     Parts(Vec<Type<'a>>),

@@ -12,6 +12,8 @@ mod defaults;
 mod fields;
 mod forms;
 mod held;
+mod key_names;
+mod keys;
 mod labels;
 mod layout;
 mod making;
@@ -33,6 +35,7 @@ mod views;
 
 use choices::append_choice;
 use derive_syntax::{Definition, Fault, Shape, Source};
+use keys::append_key;
 use names::Names;
 use records::append_record;
 use sheet::Sheet;
@@ -81,5 +84,5 @@ fn append_impls<'a>(
         },
         Shape::Variants(variants) => append_choice(sheet, &target, variants)?,
     }
-    Ok(())
+    append_key(sheet, &target, &definition.shape)
 }

@@ -35,6 +35,10 @@ struct A {
 struct A(u8, u8);
 => 1:34: `"camelCase"` is for fields with names
 ----
+// nanoserde: json, rename_all = "camelCase"
+struct A;
+=> 1:34: `"camelCase"` is for fields with names
+----
 // nanoserde: json
 enum A {
     // nanoserde: rename_all = "camelCase"

@@ -85,7 +85,7 @@ struct A<T> {
 }
 => 3:19: `default` is for a field of a type that is known"#;
 
-/// A skipped field has no default, or its type has no field left.
+/// A skipped field has no default.
 pub(crate) const SKIPPED: &str = r#"// nanoserde: json ron
 struct A {
     // nanoserde: skip
@@ -122,13 +122,6 @@ struct A {
     a: u8,
 }
 => 3:35: `"256"` is no number of
-----
-// nanoserde: json ron
-struct A {
-    // nanoserde: skip
-    a: u8,
-}
-=> 4:5: `a` is skipped as each field
 ----
 // nanoserde: json ron
 struct A {

@@ -1,8 +1,10 @@
 //! Sources at fault, and what is said of each.
 
+use crate::alias_faults::ALIASES;
 use crate::case_faults::CASES;
 use crate::default_faults::{DEFAULTS, SKIPPED};
 use crate::faults::{ATTRIBUTES, BOUNDS, ITEMS, TYPES};
+use crate::key_faults::{KEYS, PARTS};
 use crate::mistakes::{COMMENTS, FORMS, OTHERS};
 use crate::outcome::{MODULE, outcome, outcome_above};
 use derive_text::{DeriveError, derive, derived_path, module_of};
@@ -43,6 +45,17 @@ fn bounds_are_those_of_a_type(rt: HostRuntime) {
 #[test]
 fn attributes_stand_where_they_have_a_meaning(rt: HostRuntime) {
     are_reported(&rt, rt.alloc(), ATTRIBUTES);
+}
+
+#[test]
+fn aliases_stand_above_fields_and_are_other_names(rt: HostRuntime) {
+    are_reported(&rt, rt.alloc(), ALIASES);
+}
+
+#[test]
+fn keys_are_types_that_can_be_compared(rt: HostRuntime) {
+    are_reported(&rt, rt.alloc(), KEYS);
+    are_reported(&rt, rt.alloc(), PARTS);
 }
 
 #[test]

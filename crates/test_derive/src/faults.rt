@@ -20,11 +20,11 @@ impl A {}
 mod a {}
 => 1:7: `{` begins a module
 ----
-struct A;
-=> 1:9: `;` stands where `{` is wanted
+struct A();
+=> 1:10: `)` stands where a type is wanted: leave
 ----
-struct A {}
-=> 1:11: `}` stands where a field is wanted
+enum A { B() }
+=> 1:12: `)` stands where a type is wanted: leave
 ----
 struct A {
     a: u8

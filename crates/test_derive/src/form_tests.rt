@@ -1,8 +1,9 @@
 //! What is written of each form of a struct.
 
-use crate::forms::{CITING, DEFAULTED, GENERIC, LARGE, PARTS, PASSED, SKIPPED};
+use crate::forms::{CITING, DEFAULTED, EMPTY, GENERIC, LARGE, PARTS, PASSED, SKIPPED};
 use crate::generic_forms::{BOUNDED, HELD, PATHS};
-use crate::named_forms::{CLASHING, NAMED};
+use crate::key_forms::KEYS;
+use crate::named_forms::{ALIASED, CLASHING, NAMED};
 use crate::outcome::outcome_above;
 use std::alloc::{AllocError, Global};
 use std::process::Abort;
@@ -47,6 +48,21 @@ fn forms_with_parameters_and_paths_are_written(rt: HostRuntime) {
     are_written(&rt, rt.alloc(), BOUNDED);
     are_written(&rt, rt.alloc(), HELD);
     are_written(&rt, rt.alloc(), PATHS);
+}
+
+#[test]
+fn an_alias_stands_around_its_field(rt: HostRuntime) {
+    are_written(&rt, rt.alloc(), ALIASED);
+}
+
+#[test]
+fn types_of_which_nothing_is_read_are_written(rt: HostRuntime) {
+    are_written(&rt, rt.alloc(), EMPTY);
+}
+
+#[test]
+fn keys_are_written(rt: HostRuntime) {
+    are_written(&rt, rt.alloc(), KEYS);
 }
 
 #[test]

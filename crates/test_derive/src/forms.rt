@@ -182,6 +182,61 @@ enum A {
             a: std::default::Default::default(),
 "#;
 
+/// Where no field is read and written, the row is that of nothing, and has no name of its own.
+pub(crate) const EMPTY: &str = r#"// nanoserde: bin json ron
+pub struct A;
+=>
+impl StructSchema for A {
+    type Values = ();
+
+    ghost view = { λ x. tt };
+
+    fn make(values: Self::Values) -> Self {
+        let () = values;
+        A {}
+    }
+}
+=>
+    type Refs = ();
+
+    ghost values = { ⟦<Unit as Borrowed<'a>>⟧.values };
+=>
+        write_record_bin::<Self, Unit>(self, alloc, output)
+----
+// nanoserde: json
+struct Unit {}
+=>
+        read_record_json::<Self, nano_schema::Unit>(alloc, state, input)
+----
+// nanoserde: ron
+struct A {
+    // nanoserde: skip, default = "7"
+    a: u8,
+}
+=>
+        A { a: 7 }
+----
+// nanoserde: json
+enum A<T> {
+    B {},
+    C(T),
+    D {
+        // nanoserde: skip
+        a: u8,
+    },
+}
+=>
+type AVariants3 = Variant<ANames<2>, Struct<Unit>>;
+=>
+      | D v0 ↦ Later (Later tt)
+=>
+                return Self::B {};
+=>
+            Self::B {} => {
+=>
+            Self::D { a: _ } => {
+"#;
+
 /// A struct without bytes brings in what it cites.
 pub(crate) const CITING: &str = r#"// nanoserde: json
 struct A {

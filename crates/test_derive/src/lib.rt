@@ -2,6 +2,8 @@
 #![tactic(auto)]
 
 #[cfg(test)]
+mod alias_faults;
+#[cfg(test)]
 mod case_faults;
 #[cfg(test)]
 mod case_tests;
@@ -17,6 +19,10 @@ mod form_tests;
 mod forms;
 #[cfg(test)]
 mod generic_forms;
+#[cfg(test)]
+mod key_faults;
+#[cfg(test)]
+mod key_forms;
 #[cfg(test)]
 mod mistakes;
 #[cfg(test)]

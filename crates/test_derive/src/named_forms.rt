@@ -32,6 +32,53 @@ struct ANames<const I: usize> {}
 type AFields = (Required<ANames<0>, u8>, Optional<ANames<1>, String>);
 "#;
 
+/// An alias is a further name of the type of names, and stands around its field.
+pub(crate) const ALIASED: &str = r#"// nanoserde: json, rename_all = "camelCase"
+struct A {
+    // nanoserde: alias = "one"
+    the_first: u8,
+    // nanoserde: alias = "two"
+    // nanoserde: default, alias = "two_2"
+    #[doc(alias = "no")]
+    second: Option<String>,
+    // nanoserde: skip
+    third: u8,
+    // nanoserde: alias = "the old name of it"
+    a_name_that_is_rather_long: HashMap<String, Vec<Option<String>>>,
+}
+use std::collections::HashMap;
+=>
+            0 => "theFirst",
+            1 => "one",
+            2 => "second",
+            3 => "two",
+            4 => "two_2",
+            5 => "aNameThatIsRatherLong",
+            _ => "the old name of it",
+=>
+type AFields = (
+    Aliased<ANames<1>, Required<ANames<0>, u8>>,
+    (
+        Aliased<ANames<4>, Aliased<ANames<3>, Defaulted<ANames<2>, Option<String>, TypeDefault>>>,
+        Aliased<ANames<6>, Required<ANames<5>, HashMap<String, Vec<Option<String>>>>>,
+    ),
+);
+----
+// nanoserde: ron
+struct B<A> {
+    // nanoserde: alias = "old"
+    new: Box<Vec<Option<(LinkedList<Vec<Vec<Vec<u8>>>>, (A, A, A))>>>,
+}
+use std::collections::LinkedList;
+=>
+struct BNames<const I: usize> {}
+=>
+type BFields<A> = Aliased<
+    BNames<1>,
+    Required<BNames<0>, Box<Vec<Option<(LinkedList<Vec<Vec<Vec<u8>>>>, (A, A, A))>>>>,
+>;
+"#;
+
 /// What has the name of something in the file is said by its path.
 pub(crate) const CLASHING: &str = r#"use crate::a::*;
 use std::alloc::Global;

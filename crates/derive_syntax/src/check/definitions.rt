@@ -3,17 +3,19 @@
 use crate::case::Case;
 use crate::check::bounds::check_bounds;
 use crate::check::defaults::check_default;
+use crate::check::keys::check_key;
 use crate::check::known::check_type;
 use crate::check::names::{EncodedName, check_distinct, check_encoded, check_name};
 use crate::fault::Fault;
 use crate::parse::AS_COMMENT;
 use crate::syntax::{Attributes, Content, Definition, Field, Shape, Source, Type, Variant};
+use crate::token::Token;
 use std::alloc::Global;
 
 const NO_CODEC: &str = "stands in a type with no formats: write `// nanoserde: bin json ron` above \
     it, or those of the three that it has";
 
-const NO_FIELD: &str = "is skipped as each field here is: one at least is read and written";
+const SKIPPED: &str = "is for a field that is read, and this one is skipped";
 
 /// An error where a struct or an enum cannot be written.
 pub(crate) fn check_definition<'a>(
@@ -24,6 +26,7 @@ pub(crate) fn check_definition<'a>(
     check_distinct(&definition.parameters)?;
     check_attributes(definition.attributes, definition)?;
     check_transparent(definition)?;
+    check_key(definition)?;
     check_case(definition)?;
     if definition.attributes.codec.is_some() {
         check_bounds(definition)?;
@@ -59,6 +62,7 @@ fn check_case<'a>(definition: &Definition<'a>) -> Result<(), Fault> {
     };
     match &definition.shape {
         Shape::Parts(_) => Err(text.fault(NO_NAMES)),
+        Shape::Fields(fields) if fields.is_empty() => Err(text.fault(NO_NAMES)),
         _ if case.has_hyphens() && attributes.ron.is_used() => Err(text.fault(HYPHENS)),
         _ => Ok(()),
     }
@@ -78,24 +82,41 @@ fn check_fields<'a>(
         names.push(field.name)?;
         check_attributes(field.attributes, definition)?;
         check_default(source, definition, *field)?;
+        let aliases = field.attributes.aliases(alloc)?;
         if field.attributes.skip.is_some() {
+            check_none(&aliases)?;
             continue;
         }
         check_type(source, definition, field.of)?;
         let name = EncodedName::of_field(alloc, *field, case)?;
         check_name(&name, definition.attributes)?;
         encoded_names.push(name)?;
+        add_aliases(alloc, definition, &aliases, &mut encoded_names)?;
     }
     check_distinct(&names)?;
-    check_some(fields, &encoded_names)?;
     check_encoded(&encoded_names)
 }
 
-/// An error where each field is skipped.
-fn check_some<'a>(fields: &[Field<'a>], encoded_names: &[EncodedName<'a>]) -> Result<(), Fault> {
-    match fields.first() {
-        Some(field) if encoded_names.is_empty() => Err(field.name.fault(NO_FIELD)),
-        _ => Ok(()),
+/// Adds the aliases of a field to the names, or an error where one cannot be written.
+fn add_aliases<'a>(
+    alloc: Global,
+    definition: &Definition<'a>,
+    aliases: &[Token<'a>],
+    encoded_names: &mut Vec<EncodedName<'a>>,
+) -> Result<(), Fault> {
+    for alias in aliases {
+        let name = EncodedName::of_alias(alloc, *alias)?;
+        check_name(&name, definition.attributes)?;
+        encoded_names.push(name)?;
+    }
+    Ok(())
+}
+
+/// An error where a field that is skipped has an alias.
+fn check_none(aliases: &[Token<'_>]) -> Result<(), Fault> {
+    match aliases.first() {
+        Some(alias) => Err(alias.fault(SKIPPED)),
+        None => Ok(()),
     }
 }
 

@@ -28,6 +28,14 @@ impl<'a> EncodedName<'a> {
         })
     }
 
+    /// A second name of a field.
+    pub(crate) fn of_alias(alloc: Global, alias: Token<'a>) -> Result<EncodedName<'a>, AllocError> {
+        Ok(EncodedName {
+            text: String::from_str(alloc, alias.quoted())?,
+            token: alias,
+        })
+    }
+
     /// The name of a variant, whose type has this case.
     pub(crate) fn of_variant(
         alloc: Global,

@@ -31,7 +31,10 @@ const NO_ATTRIBUTES: Attributes = Attributes {
     json: UNTOUCHED,
     ron: UNTOUCHED,
     transparent: None,
+    key: None,
+    key_traits: 0,
     rename: None,
+    above: &[],
     rename_all: None,
     case: None,
     default: None,
@@ -48,6 +51,7 @@ pub(crate) fn attributes<'a>(
     below: Below,
 ) -> Result<Attributes<'a>, Fault> {
     let mut attributes = NO_ATTRIBUTES;
+    let start = cursor.position();
     for _turn in cursor.tokens {
         if cursor.is_at_kind(TokenKind::Attribute) {
             let _ = cursor.next();
@@ -60,7 +64,10 @@ pub(crate) fn attributes<'a>(
             break;
         }
     }
-    Ok(attributes)
+    Ok(Attributes {
+        above: cursor.since(start),
+        ..attributes
+    })
 }
 
 impl<'a> Attributes<'a> {
@@ -93,6 +100,8 @@ fn rust_attribute<'a>(
     for _turn in cursor.tokens {
         if is_derive {
             attributes.is_serde = check_macro(cursor)? || attributes.is_serde;
+            let found = usize::from(is_key_trait(cursor));
+            attributes.key_traits = attributes.key_traits.saturating_add(found);
         }
         if cursor.take("[") {
             depth = depth.saturating_add(1);
@@ -117,6 +126,16 @@ fn check_macro(cursor: &Cursor<'_>) -> Result<bool, Fault> {
     }
     Ok(cursor.is_at("Serialize") || cursor.is_at("Deserialize"))
 }
+
+/// Whether the next token is a trait that a key has.
+fn is_key_trait(cursor: &Cursor<'_>) -> bool {
+    match cursor.peek() {
+        Some(token) => KEY_TRAITS.contains(&token.text),
+        None => false,
+    }
+}
+
+pub(crate) const KEY_TRAITS: [&str; 5] = ["PartialEq", "Eq", "PartialOrd", "Ord", "Hash"];
 
 pub(crate) const AS_COMMENT: &str = "is written as a comment: `// nanoserde: ..`";
 
@@ -167,6 +186,11 @@ fn read_word<'a>(
             attributes.case = Some(case_of(text)?);
             set(&mut attributes.rename_all, text, word)
         }
+        "alias" => {
+            above(below == Below::Field, word, FIELD)?;
+            value(cursor)?;
+            Ok(())
+        }
         "skip" => {
             above(below == Below::Field, word, FIELD)?;
             set(&mut attributes.skip, word, word)
@@ -182,6 +206,10 @@ fn read_word<'a>(
             above(below == Below::Definition, word, DEFINITION)?;
             set(&mut attributes.transparent, word, word)
         }
+        "key" => {
+            above(below == Below::Definition, word, DEFINITION)?;
+            set(&mut attributes.key, word, word)
+        }
         _ => read_codec(attributes, below, word),
     }
 }
@@ -193,7 +221,8 @@ const FIELD: &str = "stands only above a field with a name";
 const FIELD_OR_VARIANT: &str = "stands only above a field with a name or a variant";
 
 const NO_ATTRIBUTE: &str = "is no attribute: those of a type are bin, json, ron, each of them also \
-    with de_ or ser_ before it, rename_all and transparent; those of a field rename, default and skip";
+    with de_ or ser_ before it, key, rename_all and transparent; those of a field rename, alias, \
+    default and skip";
 
 const NO_CASE: &str = "is no case: those of names are lowercase, UPPERCASE, PascalCase, camelCase, \
     snake_case, SCREAMING_SNAKE_CASE, kebab-case and SCREAMING-KEBAB-CASE";

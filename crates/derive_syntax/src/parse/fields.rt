@@ -39,13 +39,10 @@ fn is_restriction(cursor: &Cursor<'_>) -> bool {
     cursor.is_ahead(1, "in")
 }
 
-/// Takes fields with names, from their bracket to its end.
+/// Takes fields with names, of which there may be none, from their bracket to its end.
 pub(crate) fn fields<'a>(alloc: Global, cursor: &mut Cursor<'a>) -> Result<Vec<Field<'a>>, Fault> {
     cursor.expect("{", "stands where `{` is wanted")?;
     let fields = listed_fields(alloc, cursor)?;
-    if fields.is_empty() {
-        return Err(cursor.fault("stands where a field is wanted"));
-    }
     cursor.expect("}", "stands where a comma or `}` is wanted")?;
     Ok(fields)
 }
@@ -122,8 +119,12 @@ fn next_part<'a>(
     count: usize,
 ) -> Result<Option<Type<'a>>, Fault> {
     attributes(cursor, Below::Part)?.of_nothing()?;
-    if count > 0 && cursor.is_at(")") {
-        return Ok(None);
+    if cursor.is_at(")") {
+        return if count > 0 {
+            Ok(None)
+        } else {
+            Err(cursor.fault(NO_PART))
+        };
     }
     if count >= MOST_PARTS {
         return Err(cursor.fault("begins a fifth part: there are one to four without names"));
@@ -131,6 +132,8 @@ fn next_part<'a>(
     visibility(cursor)?;
     Ok(Some(parse_type(alloc, cursor)?))
 }
+
+const NO_PART: &str = "stands where a type is wanted: leave the brackets out where there is none";
 
 /// Takes variants, from their bracket to its end.
 pub(crate) fn variants<'a>(

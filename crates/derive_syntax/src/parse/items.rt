@@ -129,6 +129,8 @@ fn definition<'a>(
         where_clause(alloc, cursor, &mut bounds)?;
         cursor.expect(";", "stands where `;` is wanted")?;
         Shape::Parts(parts)
+    } else if cursor.take(";") {
+        Shape::Fields(Vec::new(alloc))
     } else {
         Shape::Fields(fields(alloc, cursor)?)
     };

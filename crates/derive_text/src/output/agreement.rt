@@ -109,12 +109,6 @@ fn of_content<'a>(
     content: &Content<'a>,
 ) -> Result<Agreement, Fault> {
     let types = content_types(alloc, content)?;
-    if types.is_empty() {
-        return Ok(Agreement {
-            agrees: agreed_of(alloc, "()")?,
-            decodable: String::from_str(alloc, "refl")?,
-        });
-    }
     let terms = all_terms(alloc, parameters, &types)?;
     match content {
         Content::Parts(parts) if parts.len() > 1 => Ok(inner_tuple_terms(alloc, &terms)?),
@@ -135,8 +129,14 @@ fn all_terms<'a>(
     Ok(terms)
 }
 
-/// The terms of types that have these, as nested pairs.
+/// The terms of types that have these, as nested pairs, or of nothing.
 fn paired_terms(alloc: Global, terms: &[Agreement]) -> Result<Agreement, AllocError> {
+    if terms.is_empty() {
+        return Ok(Agreement {
+            agrees: agreed_of(alloc, "()")?,
+            decodable: String::from_str(alloc, "refl")?,
+        });
+    }
     let mut agree = Vec::new(alloc);
     let mut decode = Vec::new(alloc);
     for of in terms {

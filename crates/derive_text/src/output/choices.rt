@@ -2,7 +2,7 @@
 
 use crate::output::chains::append_chains;
 use crate::output::codecs::append_codecs;
-use crate::output::fields::{append_fields, row_fields};
+use crate::output::fields::{append_fields, are_skipped, row_fields};
 use crate::output::forms::CHOICE;
 use crate::output::labels::{append_labels, name_of};
 use crate::output::layout::Items;
@@ -54,6 +54,7 @@ fn append_variant<'a>(
         open: sheet.short("nano_schema::Variant<")?,
         texts,
         close: ">",
+        around: Vec::new(sheet.alloc),
     })
 }
 
@@ -70,6 +71,7 @@ fn append_content<'a>(
         Content::Nothing => return sheet.short("nano_schema::Unit"),
         Content::Parts(parts) if parts.len() == 1 => "nano_schema::Newtype",
         Content::Parts(_) => "nano_schema::Tuple",
+        Content::Fields(fields) if are_skipped(fields) => return sheet.short(EMPTY),
         Content::Fields(_) => "nano_schema::Struct",
     };
     let kind = sheet.short(kind)?;
@@ -88,6 +90,9 @@ fn append_content<'a>(
     }
     format!(in alloc; "{kind}<{held}>")
 }
+
+/// The schema of a struct variant of which no field is read and written.
+const EMPTY: &str = "nano_schema::Struct<nano_schema::Unit>";
 
 /// Appends the type of the parts of a tuple variant.
 fn append_parts<'a>(sheet: &mut Sheet, held: &str, parts: &[Type<'a>]) -> Result<(), AllocError> {

@@ -2,7 +2,7 @@
 
 use crate::output::defaults::append_default;
 use crate::output::labels::append_labels;
-use crate::output::rows::Leaf;
+use crate::output::rows::{Around, Leaf};
 use crate::output::sheet::Sheet;
 use crate::output::target::Target;
 use crate::output::template::Holes;
@@ -24,6 +24,16 @@ pub(crate) fn row_fields<'a>(
     Ok(in_row)
 }
 
+/// Whether none of the fields is read and written.
+pub(crate) fn are_skipped<'a>(fields: &[Field<'a>]) -> bool {
+    for field in fields {
+        if field.attributes.skip.is_none() {
+            return false;
+        }
+    }
+    true
+}
+
 /// Appends the labels of fields, whose names are in this case, and returns the fields as they stand
 /// in a schema.
 pub(crate) fn append_fields<'a>(
@@ -33,16 +43,39 @@ pub(crate) fn append_fields<'a>(
     fields: &[Field<'a>],
     case: Option<Case>,
 ) -> Result<Vec<Leaf>, AllocError> {
-    let mut names = Vec::new(sheet.alloc);
-    for field in fields {
-        names.push(field_name(sheet.alloc, *field, case)?)?;
-    }
-    let labels = append_labels(sheet, owner, &names)?;
+    let names = names_of(sheet.alloc, fields, case)?;
+    let mut labels = append_labels(sheet, owner, &names)?.into_iter();
     let mut leaves = Vec::new(sheet.alloc);
-    for (field, label) in fields.iter().zip(labels) {
-        leaves.push(schema_field(sheet, target, owner, *field, label)?)?;
+    for field in fields {
+        let Some(label) = labels.next() else {
+            break;
+        };
+        let mut leaf = schema_field(sheet, target, owner, *field, label)?;
+        for _alias in &field.attributes.aliases(sheet.alloc)? {
+            if let Some(label) = labels.next() {
+                let open = sheet.short("nano_schema::Aliased<")?;
+                leaf.around.push(Around { open, label })?;
+            }
+        }
+        leaves.push(leaf)?;
     }
     Ok(leaves)
+}
+
+/// The names of fields, each before its aliases.
+fn names_of<'a>(
+    alloc: Global,
+    fields: &[Field<'a>],
+    case: Option<Case>,
+) -> Result<Vec<String>, AllocError> {
+    let mut names = Vec::new(alloc);
+    for field in fields {
+        names.push(field_name(alloc, *field, case)?)?;
+        for alias in &field.attributes.aliases(alloc)? {
+            names.push(String::from_str(alloc, alias.quoted())?)?;
+        }
+    }
+    Ok(names)
 }
 
 /// A field as it stands in a schema, after its default, if it has one.
@@ -69,6 +102,7 @@ fn schema_field<'a>(
         open,
         texts,
         close: ">",
+        around: Vec::new(sheet.alloc),
     })
 }
 

@@ -114,7 +114,7 @@ pub(crate) fn in_line(
     brackets: Brackets<'_>,
     items: &[Piece],
 ) -> Result<String, AllocError> {
-    let space = if brackets.items == Items::Fields {
+    let space = if brackets.items == Items::Fields && !items.is_empty() {
         " "
     } else {
         ""

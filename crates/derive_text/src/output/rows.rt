@@ -4,6 +4,15 @@ use crate::output::layout::{Brackets, COLUMNS, Items, Piece, list, start_line, w
 use crate::output::sheet::Sheet;
 use std::alloc::{AllocError, Global};
 
+/// What stands around an item: a list of a label and the item.
+#[derive(Drop)]
+pub(crate) struct Around {
+    /// What opens the list.
+    pub(crate) open: String,
+    /// The label.
+    pub(crate) label: String,
+}
+
 /// One item of a row: a text, or a list between brackets.
 #[derive(Drop)]
 pub(crate) struct Leaf {
@@ -13,6 +22,8 @@ pub(crate) struct Leaf {
     pub(crate) texts: Vec<String>,
     /// What closes the list, or nothing.
     pub(crate) close: &'static str,
+    /// What stands around the list, from within.
+    pub(crate) around: Vec<Around>,
 }
 
 impl Leaf {
@@ -24,6 +35,7 @@ impl Leaf {
             open: String::new(alloc),
             texts,
             close: "",
+            around: Vec::new(alloc),
         })
     }
 
@@ -43,20 +55,48 @@ impl Leaf {
                 return Ok(piece);
             }
         }
+        let mut level = self.around.len();
         let brackets = Brackets {
             open: self.open.as_str(),
             close: self.close,
-            items: Items::Patterns,
-            indent,
-            before,
-            after: 1,
+            ..within(level, indent, before)
         };
-        list(alloc, brackets, &pieces)
+        let mut piece = list(alloc, brackets, &pieces)?;
+        for around in &self.around {
+            level = level.saturating_sub(1);
+            let brackets = Brackets {
+                open: around.open.as_str(),
+                ..within(level, indent, before)
+            };
+            let label = Piece::of(alloc, around.label.as_str())?;
+            piece = list(alloc, brackets, &[label, piece])?;
+        }
+        Ok(piece)
     }
 }
 
-/// Appends the name of a type that is nested pairs of these.
+/// What stands around the arguments of a type, so many lists within one that begins after so many
+/// columns of a line that is indented so far.
+fn within<'a>(level: usize, indent: usize, before: usize) -> Brackets<'a> {
+    let inner = indent.saturating_add(level.saturating_mul(4));
+    Brackets {
+        open: "<",
+        close: ">",
+        items: Items::Patterns,
+        indent: inner,
+        before: if level == 0 { before } else { inner },
+        after: 1,
+    }
+}
+
+/// The row of no fields.
+pub(crate) const NO_ROW: &str = "nano_schema::Unit";
+
+/// Appends the name of a type that is nested pairs of these, if there are any.
 pub(crate) fn append_row(sheet: &mut Sheet, name: &str, leaves: &[Leaf]) -> Result<(), AllocError> {
+    if leaves.is_empty() {
+        return Ok(());
+    }
     let before = name.len().saturating_add("type  = ".len());
     let row = pairs(sheet.alloc, leaves, Items::Types, 0, before)?;
     sheet.alias(name, row.laid.as_str())

@@ -1,5 +1,6 @@
 //! What is written, line by line.
 
+use crate::output::keys::Known;
 use crate::output::layout::{COLUMNS, start_line, width};
 use crate::output::names::Names;
 use crate::output::template::Holes;
@@ -8,6 +9,8 @@ use std::alloc::{AllocError, Global};
 
 /// How far a line is indented that goes on with a ghost member, but for the space before a word.
 const INDENT: usize = 7;
+/// How much further a case in it is indented.
+const CASE: usize = 2;
 
 /// What is written so far.
 #[derive(Drop)]
@@ -24,6 +27,8 @@ pub(crate) struct Sheet {
     uses: Uses,
     /// The functions that say what values mean in a format, by the format's module.
     pub(crate) laws: Vec<(&'static str, String)>,
+    /// The keys that were written.
+    pub(crate) keys: Vec<Known>,
 }
 
 /// What brings in ghost names of a module.
@@ -55,6 +60,7 @@ impl Sheet {
             imports: Vec::new(alloc),
             uses: Uses::new(alloc)?,
             laws: Vec::new(alloc),
+            keys: Vec::new(alloc),
         })
     }
 
@@ -151,7 +157,8 @@ impl Sheet {
     }
 
     /// Appends a ghost member, in lines of as many columns as there are. A line ends at a space,
-    /// but at none after a comma, nor between `⟦` and `⟧`.
+    /// but at none after a comma, nor between `⟦` and `⟧`. Each case has a line, and what closes
+    /// the cases begins one.
     fn member(&mut self, line: &str) -> Result<(), AllocError> {
         let (start, term) = line.split_once(" = { ").unwrap_or((line, ""));
         self.text.push_str(start)?;
@@ -173,13 +180,16 @@ impl Sheet {
     /// columns. Answers how many it has then.
     fn word(&mut self, part: &str, used: usize) -> Result<usize, AllocError> {
         let whole = used.saturating_add(width(part));
-        if part == " };" || whole.saturating_add(3) <= COLUMNS {
+        let case = if part == " |" { CASE } else { 0 };
+        let begins_line = case > 0 || part == " ])";
+        if part == " };" || !begins_line && whole.saturating_add(3) <= COLUMNS {
             self.text.push_str(part)?;
             return Ok(whole);
         }
-        start_line(&mut self.text, INDENT)?;
+        let indent = INDENT.saturating_add(case);
+        start_line(&mut self.text, indent)?;
         self.text.push_str(part)?;
-        Ok(width(part).saturating_add(INDENT))
+        Ok(width(part).saturating_add(indent))
     }
 
     /// What the module is, the lines that bring names in, and then the items.

@@ -2,8 +2,10 @@
 
 use crate::output::agreement::{Agreement, agreement_of};
 use crate::output::bounds::opening;
+use crate::output::fields::are_skipped;
 use crate::output::held::are_deep;
 use crate::output::parameters::{bounds, shape_types};
+use crate::output::rows::NO_ROW;
 use crate::output::sheet::Sheet;
 use crate::output::template::Holes;
 use derive_syntax::{Attributes, Definition, Fault, Shape, Token};
@@ -14,7 +16,7 @@ use std::alloc::{AllocError, Global};
 pub(crate) struct Target<'a> {
     /// Its name, with its parameters.
     pub(crate) full: String,
-    /// The name of its row of fields or variants, with its parameters.
+    /// The name of its row of fields or variants, with its parameters, or of the row of no fields.
     pub(crate) row: String,
     /// The name of the type of the values of its fields or of the content of its variants, with
     /// its parameters.
@@ -48,12 +50,8 @@ impl<'a> Target<'a> {
         let arguments = bounds(sheet.alloc, "", &definition.parameters, "")?;
         let full = format!(in sheet.alloc; "{name}{arguments}")?;
         let borrowed = bounds(sheet.alloc, "<'a", &definition.parameters, "")?;
-        let end = match definition.shape {
-            Shape::Variants(_) => "Variants",
-            _ => "Fields",
-        };
         Ok(Target {
-            row: type_name(sheet, name, end, arguments.as_str())?,
+            row: row_name(sheet, definition, arguments.as_str())?,
             values: type_name(sheet, name, "Values", arguments.as_str())?,
             refs: type_name(sheet, name, "Refs", borrowed.as_str())?,
             agreement: agreement_of(sheet, definition, full.as_str())?,
@@ -103,6 +101,20 @@ impl<'a> Target<'a> {
     pub(crate) fn borrowed_bounds(&self, alloc: Global, bound: &str) -> Result<String, AllocError> {
         bounds(alloc, "<'a", &self.parameters, bound)
     }
+}
+
+/// The name of the row of a definition with these arguments, or of the one that has nothing.
+fn row_name<'a>(
+    sheet: &mut Sheet,
+    definition: &Definition<'a>,
+    arguments: &str,
+) -> Result<String, AllocError> {
+    let end = match &definition.shape {
+        Shape::Variants(_) => "Variants",
+        Shape::Fields(fields) if are_skipped(fields) => return sheet.short(NO_ROW),
+        _ => "Fields",
+    };
+    type_name(sheet, definition.name.text, end, arguments)
 }
 
 /// A free name that begins and ends so, with arguments.

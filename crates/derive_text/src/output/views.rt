@@ -6,16 +6,29 @@ use crate::output::target::Target;
 use derive_syntax::{Content, Variant};
 use std::alloc::{AllocError, Global};
 
-/// Lines that bring in the ghost names of the variants, on each line as many as it has space for.
+/// Lines that bring in the ghost names of the variants.
 pub(crate) fn variant_imports<'a>(
     alloc: Global,
     target: &Target<'a>,
     variants: &[Variant<'a>],
 ) -> Result<String, AllocError> {
+    let mut names = Vec::new(alloc);
+    for variant in variants {
+        names.push(String::from_str(alloc, variant.name.text)?)?;
+    }
+    imports_of(alloc, target, &names)
+}
+
+/// Lines that bring in these ghost names of variants, on each line as many as it has space for.
+pub(crate) fn imports_of<'a>(
+    alloc: Global,
+    target: &Target<'a>,
+    names: &[String],
+) -> Result<String, AllocError> {
     let mut lines = String::new(alloc);
     let mut last = String::new(alloc);
-    for variant in variants {
-        let name = variant.name.text;
+    for name in names {
+        let name = name.as_str();
         let longer = match last.strip_suffix("};\n") {
             Some(start) => format!(in alloc; "{start}, {name}}};\n")?,
             None => variant_import(alloc, target, name)?,
