@@ -142,7 +142,7 @@ WAYS = {
     "/*/": [(ron_format, "COMMENT", lambda ported: re.compile(r"/\*/|" + ported.pattern, re.DOTALL))],
     '""': [(toml_tokens.TomlReader, "string", empty_text)],
     "closing triple quotes": [(toml_tokens.TomlReader, "string", triple_quotes)],
-    "a.b": [(toml_tokens.TomlReader, "cut", dotted)],
+    "a.b": [(toml_tokens.TomlReader, "cut_word", dotted)],
     "[[a]] on a key of another kind": [(toml_format, "array_header", array_header)],
     "counts": [(binary, "counted", counted)],
     "a text that is cut short": [(binary, "text", cut_text)],

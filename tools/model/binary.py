@@ -1,5 +1,5 @@
 """Bytes: how a value is read and written. Section Binary of docs/FORMATS.md."""
-from .type_tree import last_values, ordered
+from .type_tree import Type, collected
 
 
 class BinFault(Exception):
@@ -49,8 +49,6 @@ def read(type, data, at):
     if kind == "bool":  # 0 is false, any other true
         value, at = number(data, at, 1)
         return value != 0, at
-    if kind == "unit":
-        return (), at
     if kind == "String":
         return text(data, *number(data, at, 8))
     if kind == "option":  # 1 and an item, and any other byte is none
@@ -59,28 +57,23 @@ def read(type, data, at):
             return (), at
         item, at = read(type.parts[0], data, at)
         return (item,), at
-    if kind == "box":
-        return read(type.parts[0], data, at)
-    if kind in ("tuple", "array", "struct"):
+    if kind in ("unit", "tuple", "array", "struct"):
         return read_parts(type.parts, data, at)
     if kind == "enum":  # the place of the variant as a u16; another is the kind Own
         index, end = number(data, at, 2)
         if index >= len(type.variants):
             raise BinFault("Own", at, 0, len(data))
-        content, at = read_parts(type.variants[index].parts, data, end)
+        content, at = read(type.variants[index].content, data, end)
         return (index, content), at
     count, at = counted(type, *number(data, at, 8))
-    if kind == "map":
-        pairs = []
-        for _ in range(count):
-            pair, at = read_parts(type.parts, data, at)
-            pairs.append(pair)
-        return last_values(pairs), at
-    items = []
-    for _ in range(count):
-        item, at = read(type.parts[0], data, at)
-        items.append(item)
-    return (ordered(items) if kind == "set" else tuple(items)), at
+    item = item_of(type)
+    items, at = read_parts((item for _ in range(count)), data, at)
+    return collected(kind, items), at
+
+
+def item_of(type):
+    """What stands in a container, one after another: of a map its pairs."""
+    return Type("tuple", type.parts) if type.kind == "map" else type.parts[0]
 
 
 def read_parts(parts, data, at):
@@ -99,22 +92,16 @@ def write(type, value):
         return value.to_bytes(type.size, "little", signed=type.low < 0)
     if kind == "bool":
         return bytes([value])
-    if kind == "unit":
-        return b""
     if kind == "String":
         return size(value.encode()) + value.encode()
     if kind == "option":
         return b"\1" + write(type.parts[0], value[0]) if value else b"\0"
-    if kind == "box":
-        return write(type.parts[0], value)
-    if kind in ("tuple", "array", "struct"):
+    if kind in ("unit", "tuple", "array", "struct"):
         return write_parts(type.parts, value)
     if kind == "enum":
         index, content = value
-        return index.to_bytes(2, "little") + write_parts(type.variants[index].parts, content)
-    if kind == "map":
-        return size(value) + b"".join(write_parts(type.parts, pair) for pair in value)
-    return size(value) + b"".join(write(type.parts[0], item) for item in value)
+        return index.to_bytes(2, "little") + write(type.variants[index].content, content)
+    return size(value) + write_parts([item_of(type)] * len(value), value)
 
 
 def size(items):

@@ -74,8 +74,8 @@ class JsonReader(Reader):
         if has_content:
             self.ask("Colon", ":")
         for index, variant in enumerate(variants):
-            if variant.name == name and bool(variant.parts) == has_content:
-                content = values.read_content(self, variant) if has_content else ()
+            if variant.name == name and (variant.content.kind != "unit") == has_content:
+                content = values.read(self, variant.content) if has_content else ()
                 if has_content:
                     self.close(CURLY)
                 return index, content

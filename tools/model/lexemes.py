@@ -13,19 +13,20 @@ def number(text, at, end):
     """A run: it is taken as long as it goes, and then it is good or it is no token."""
     run = RUN.match(text, at, end)
     whole, point, after, exponent, power = run.groups()
-    if exponent is not None:  # a digit before the exponent and one in it
-        good = (whole or after) and power
-    else:
-        good = whole or after
-    if good and (point or exponent):
-        return "F64", run.group(), run.end()
-    if good and len(whole.lstrip("0")) <= 20:
-        value = int(run.group())
-        if run.group()[0] == "-" and value >= LEAST:
-            return "I64", value, run.end()
-        if run.group()[0] != "-" and value <= MOST:
-            return "U64", value, run.end()
-    return None, None, run.end()
+    if not (whole or after) or exponent and not power:  # a digit, and one in the exponent
+        return None, None, run.end()
+    kind, value = ("F64", run.group()) if point or exponent else integer(run.group())
+    return kind, value, run.end()
+
+
+def integer(digits):
+    """The kind and the value of digits with a sign or none, or no kind where no token has the value."""
+    if len(digits.lstrip("+-0")) > 20:
+        return None, None
+    value = int(digits)
+    if digits[0] == "-":
+        return ("I64", value) if value >= LEAST else (None, None)
+    return ("U64", value) if value <= MOST else (None, None)
 
 
 def string(text, at, end):

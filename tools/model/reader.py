@@ -80,10 +80,8 @@ class Reader:
 
     def shown(self):
         """The pending token as errors name it: of a string, a decimal and a word the kind alone."""
-        if self.tok in ("U64", "I64"):
-            return f"{self.tok}({self.value})"
-        if self.tok == "Bool":
-            return "Bool(true)" if self.value else "Bool(false)"
+        if self.tok in ("U64", "I64", "Bool"):
+            return f"{self.tok}({str(self.value).lower()})"
         if self.tok == "Char":
             return f"Char({shown_char(self.value)})"
         return self.tok
@@ -101,7 +99,10 @@ class Reader:
             return self.PUNCTUATION[char], None, at + 1
         if char != '"' and char not in self.NUMBERS:
             return self.cut_word(at, end)
-        what = "string" if char == '"' else "number"
+        return self.cut_lexeme("string" if char == '"' else "number", at, end)
+
+    def cut_lexeme(self, what, at, end):
+        """The same of a token that is a string or a number."""
         tok, value, self.at = getattr(lexemes, what)(self.text, at, end)
         if tok is None:
             raise self.err_parse(what)

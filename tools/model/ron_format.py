@@ -73,7 +73,7 @@ class RonReader(Reader):
         self.ask("Ident", "Identifier")
         for index, variant in enumerate(variants):
             if variant.name == name:
-                return index, values.read_content(self, variant) if variant.parts else ()
+                return index, () if variant.content.kind == "unit" else values.read(self, variant.content)
         raise self.error(f"Enum not defined {name}")
 
 

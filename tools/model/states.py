@@ -18,8 +18,9 @@ ALONE = {"json": {"string", "whole_field", "next_str", "is_null"},
          "ron": {"ident", "paren_open", "paren_close", "eat_comma_paren", "is_paren_close", "next_ident", "is_none"}}
 ASKS = {"colon": ("Colon", ":"), "string": ("Str", "String"), "ident": ("Ident", "Identifier")}
 BRACKETS = {"block": BLOCK, "curly": CURLY, "paren": PAREN}
-TESTS = {"next_str": "Str", "is_null": "Null", "next_ident": "Ident", "is_block_close": "BlockClose",
+TESTS = {"next_str": "Str", "next_ident": "Ident", "is_block_close": "BlockClose",
          "is_curly_close": "CurlyClose", "is_paren_close": "ParenClose"}
+BOUNDS = {"u64_range": [2**64 - 1], "i64_range": [-(2**63), 2**63 - 1]}
 ERRORS = {"err_exp": "Unexpected key k", "err_nf": "Key not found k", "err_enum": "Enum not defined V",
           "err_range": "Value out of range x ", "err_type": "Token wrong type x ", "err_parse": "Cannot parse x "}
 
@@ -83,15 +84,11 @@ def called(format, reader, word):
     if name in ALONE["ron" if format == "json" else "json"]:
         raise type_tree.Unknown(word)
     if name in TESTS:
-        return "true" if reader.tok == TESTS[name] else "false"
-    if name == "is_none":
-        return "true" if reader.is_absent() else "false"
-    if name == "u64_range":
-        return str(reader.u64_range(*numbers or [2**64 - 1]))
-    if name == "i64_range":
-        return str(reader.i64_range(*numbers or [-(2**63), 2**63 - 1]))
-    if name == "as_bool":
-        return "true" if reader.as_bool() else "false"
+        return str(reader.tok == TESTS[name]).lower()
+    if name in ("is_null", "is_none"):
+        return str(reader.is_absent()).lower()
+    if name in ("as_bool", "u64_range", "i64_range"):
+        return str(getattr(reader, name)(*numbers or BOUNDS.get(name, []))).lower()
     if name == "as_string":
         return reader.as_string()
     if name == "err_memory":

@@ -66,10 +66,8 @@ def shown(kind, content):
     """A value as the listing has it."""
     if kind == "Str":
         return JsonForm.quoted(content)
-    if kind == "Bool":
-        return "true" if content else "false"
-    if kind == "Num":
-        return str(content)
+    if kind in ("Bool", "Num"):
+        return str(content).lower()
     if kind in ("Dec", "Date"):
         return f"{kind.lower()} {content}"
     if kind in ("Nan", "Inf"):

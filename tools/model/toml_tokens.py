@@ -2,10 +2,9 @@
 import re
 
 from .debug import shown_text
-from .lexemes import LEAST, MOST
+from .lexemes import integer
 from .reader import Reader
 
-PUNCTUATION = {",": "Comma", "[": "BlockOpen", "]": "BlockClose", "=": "Equals"}
 SKIPPED = re.compile(r"(?:[ \t\r\n]|#[^\n]*)*")
 WORD = re.compile(r"[A-Za-z_][A-Za-z_.-]*")
 WORDS = {"true": ("Bool", True), "false": ("Bool", False), "inf": ("Inf", False), "nan": ("Nan", False)}
@@ -17,27 +16,19 @@ PIECE = re.compile(r'[^"\\]+|"+|\\.', re.DOTALL)
 class TomlReader(Reader):
     """A reader of TOML: the pending token is the last that was taken."""
 
-    name = "Toml"
+    PUNCTUATION = {",": "Comma", "[": "BlockOpen", "]": "BlockClose", "=": "Equals"}
 
-    def next_tok(self):
-        """Takes the next token, after white space and comments."""
-        end = self.text_end()
-        self.at = SKIPPED.match(self.text, self.at, end).end()
-        self.tok, self.value, self.at = self.cut(self.at, end)
+    def skipped(self, at, end):
+        """White space and comments, in any number."""
+        return SKIPPED.match(self.text, at, end).end()
 
-    def cut(self, at, end):
-        """The token at this place."""
-        text = self.text
-        if at == end:
-            return "Eof", None, at
-        char = text[at]
-        if char in PUNCTUATION:
-            return PUNCTUATION[char], None, at + 1
-        if char == '"':
-            return self.string(at, end)
-        if char in "+-0123456789":
-            return self.number(at, end)
-        word = WORD.match(text, at, end)
+    def cut_lexeme(self, what, at, end):
+        """A string or a number."""
+        return self.string(at, end) if what == "string" else self.number(at, end)
+
+    def cut_word(self, at, end):
+        """A word as long as it goes."""
+        word = WORD.match(self.text, at, end)
         if word is None:
             raise self.err_lexeme("tokenizer", at)
         tok, value = WORDS.get(word.group(), ("Ident", word.group()))
@@ -86,13 +77,10 @@ class TomlReader(Reader):
             return "Date", kept, number.end()
         if point and digits:
             return "F64", kept, number.end()
-        if digits and len(kept.lstrip("-0")) <= 20:
-            value = int(kept)
-            if sign == "-" and value >= LEAST:
-                return "I64", value, number.end()
-            if sign != "-" and value <= MOST:
-                return "U64", value, number.end()
-        raise self.err_lexeme("number", number.end())
+        tok, value = integer(kept) if digits else (None, None)
+        if tok is None:
+            raise self.err_lexeme("number", number.end())
+        return tok, value, number.end()
 
     def special(self, at, end, minus):
         """`nan` or `inf` after a sign. After `i` without `n` the error says nan."""
@@ -109,7 +97,7 @@ class TomlReader(Reader):
         if self.tok in ("Ident", "Str", "F64", "Date"):
             return f"{self.tok}({shown_text(self.value)})"
         if self.tok in ("Nan", "Inf"):
-            return f"{self.tok}({'true' if self.value else 'false'})"
+            return f"{self.tok}({str(self.value).lower()})"
         return super().shown()
 
     def want(self, *toks):

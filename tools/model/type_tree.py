@@ -27,17 +27,17 @@ class Field(NamedTuple):
     and then is not written, or `default`."""
 
     name: str
+    aliases: list  # other names under which it is read
     type: Type
     kind: str
     default: Any
 
 
 class Variant(NamedTuple):
-    """A variant: its name, the types of its parts or fields, and its fields."""
+    """A variant: its name, and its content as a tuple, a struct or the unit."""
 
     name: str
-    parts: tuple = ()
-    fields: tuple = ()
+    content: Type
 
 
 class Unknown(Exception):
@@ -50,6 +50,12 @@ ALIASES = {
     "Pair": "Option<([u32; 4], String)>",
     "Limits": "HashMap<String, u64>",
     "Tags": "BTreeMap<String, Vec<String>>",
+    "UserId": "u64",
+    "HallName": "String",
+    "Seat": "(HallName, u16)",
+    "Visits": "BTreeMap<UserId, u32>",
+    "Greetings": "HashMap<Role, String>",
+    "Seats": "BTreeSet<Seat>",
     "Test": "[i32; 1]",
     "Plain": "i32",
     "Point": "(i32, i32, String)",
@@ -58,7 +64,7 @@ ALIASES = {
     "Reply": "Reply<i32, String>",
 }
 
-# The types of the tables in docs/FORMATS.md. A field is `name: type`, and its default if it has
+# The types of the tables in docs/FORMATS.md. A field is `name|alias: type`, and its default if it has
 # one. A skipped field is neither read nor written, so it is no field here. A variant is a name, its
 # parts or its fields.
 STRUCTS = {
@@ -67,7 +73,11 @@ STRUCTS = {
     "Server": ["host: String", "port: u16", "tags: Tags", "limits: Limits", "note: Option<String>"],
     "Site": ["host: String", ("port: u16", 8080), ("first: String", "index"),
              ("tags: Vec<String>", ()), ("owner: Option<String>", ())],
+    "Moved": ["host|hostname: String", "contact|owner|admin: Option<String>", ("port|tcp_port: u16", 8080)],
     "Clock": [("offset: i32", -5), ("running: bool", True)],
+    "Marker": [], "Empty": [], "Count": [],
+    "Trip": ["there: Marker", "new: Option<Empty>", "steps: Vec<Step>"],
+    "Hall": ["visits: Visits", "greetings: Greetings", "taken: Seats"],
     "Tagged": ["first: A", "other: Option<B>", "more: Vec<A>", ("times: u32", 1)],
 }
 ENUMS = {
@@ -77,6 +87,9 @@ ENUMS = {
     "Command": ["Stop", "Move(u32, String)", "Wait(u64)"],
     "Message": ["Hello", "Move(i32, String)", "Wait(u64)", {"Say": ["text: String", "times: u32"]}],
     "Notice": ["gone", "Move(i32, String)", {"said": ["text: String", ("times: u32", 1)]}],
+    "Change": ["Started", {"Renamed": ["from|old: String", "to: String"]}],
+    "Step": [{"Rest": []}, "Walk(u16)", {"Stop": []}],
+    "Role": ["Guest", "Member", "Moderator", "Owner"],
     "Reply": ["Found(A)", "Failed(B, u32)", {"Listed": ["items: Vec<A>", "next: Option<B>"]}],
 }
 PARAMETERS = {"Holder": 1, "Tagged": 2, "Reply": 2}
@@ -84,7 +97,7 @@ PARAMETERS = {"Holder": 1, "Tagged": 2, "Reply": 2}
 ONLY = {"Command": "bin", "Message": "json", "u128": "bin", "i128": "bin"}
 
 NAME = re.compile(r"\s*([A-Za-z]\w*|[()\[\]<>,;]|\d+)")
-CONTAINERS = {"Option": "option", "Box": "box", "Vec": "list", "LinkedList": "linked",
+CONTAINERS = {"Option": "option", "Vec": "list", "LinkedList": "linked",
               "HashSet": "set", "BTreeSet": "set", "HashMap": "map", "BTreeMap": "map"}
 
 
@@ -148,6 +161,8 @@ def named(word, parts, given):
         return Type("int", size=bits // 8, low=low, high=high)
     if word in ("bool", "String") and not parts:
         return Type(word)
+    if word == "Box" and len(parts) == 1:  # it is what it holds
+        return parts[0]
     if word in CONTAINERS and len(parts) == (2 if word.endswith("Map") else 1):
         return Type(CONTAINERS[word], parts)
     if word in ALIASES and not parts:
@@ -156,39 +171,36 @@ def named(word, parts, given):
         raise Unknown(word)
     given = dict(zip("AB", parts))
     if word in STRUCTS:
-        found = fields(STRUCTS[word], given)
-        return Type("struct", tuple(field.type for field in found), found)
+        return struct(STRUCTS[word], given)
     if word in ENUMS:
         return Type("enum", variants=tuple(variant(line, given) for line in ENUMS[word]))
     raise Unknown(word)
 
 
-def fields(lines, given):
-    """The fields of a struct or of a variant. One whose type is written `Option<..>` may be missing."""
+def struct(lines, given):
+    """A struct of these fields. One whose type is written `Option<..>` may be missing."""
     found = []
     for line in lines:
         line, *default = line if isinstance(line, tuple) else (line,)
-        name, written = line.split(": ")
+        names, written = line.split(": ")
+        name, *aliases = names.split("|")
         kind = "default" if default else "optional" if written.startswith("Option<") else "required"
-        found.append(Field(name, read(NAME.findall(written), given)[0], kind, *default or [()]))
-    return tuple(found)
+        type = read(NAME.findall(written), given)[0]
+        found.append(Field(name, aliases, type, kind, *default or [()]))
+    return Type("struct", tuple(field.type for field in found), tuple(found))
 
 
 def variant(line, given):
     """A variant of an enum."""
     if isinstance(line, dict):
         ((name, lines),) = line.items()
-        found = fields(lines, given)
-        return Variant(name, tuple(field.type for field in found), found)
+        return Variant(name, struct(lines, given))
     name, _, parts = line.partition("(")
-    return Variant(name, read_list(NAME.findall(parts), ")", given)[0] if parts else ())
+    return Variant(name, Type("tuple", read_list(NAME.findall(parts), ")", given)[0]) if parts else Type("unit"))
 
 
-def ordered(items):
-    """The value of a set: each item once, ascending."""
-    return tuple(sorted(set(items)))
-
-
-def last_values(pairs):
-    """The value of a map: each key with its last value, ascending by key."""
-    return tuple(sorted(dict(pairs).items()))
+def collected(kind, items):
+    """The value of a container: ascending a set has each item once, a map each key with its last value."""
+    if kind == "map":
+        return tuple(sorted(dict(items).items()))
+    return tuple(sorted(set(items)) if kind == "set" else items)

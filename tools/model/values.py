@@ -3,7 +3,7 @@
 See What each type asks, in order, in docs/ERRORS.md, and the tables of types in docs/FORMATS.md.
 """
 from .reader import BLOCK, CURLY, GREATEST
-from .type_tree import last_values, ordered
+from .type_tree import collected
 
 
 def read(reader, type):
@@ -23,8 +23,6 @@ def read(reader, type):
             reader.next_tok()
             return ()
         return (read(reader, type.parts[0]),)
-    if kind == "box":
-        return read(reader, type.parts[0])
     if kind in ("tuple", "array"):
         return read_parts(reader, type.parts)
     if kind == "struct":
@@ -32,33 +30,26 @@ def read(reader, type):
     if kind == "enum":
         return reader.variant(type.variants)
     if kind == "map":
-        return last_values(read_pairs(reader, *type.parts))
-    items = read_items(reader, type.parts[0])
-    return ordered(items) if kind == "set" else tuple(items)
+        return collected(kind, read_list(reader, CURLY, lambda: read_pair(reader, *type.parts)))
+    return collected(kind, read_list(reader, BLOCK, lambda: read(reader, type.parts[0])))
 
 
-def read_items(reader, item):
-    """LIST(`[`, `]`): one comma between two items, and optionally one after the last."""
+def read_list(reader, brackets, read_item):
+    """LIST: one comma between two items, and optionally one after the last."""
     items = []
-    reader.open(BLOCK)
-    while reader.tok != "BlockClose":
-        items.append(read(reader, item))
-        reader.eat_comma(BLOCK)
-    reader.close(BLOCK)
+    reader.open(brackets)
+    while reader.tok != brackets.close:
+        items.append(read_item())
+        reader.eat_comma(brackets)
+    reader.close(brackets)
     return items
 
 
-def read_pairs(reader, key, value):
-    """LIST(`{`, `}`) of key, Colon, value."""
-    pairs = []
-    reader.open(CURLY)
-    while reader.tok != "CurlyClose":
-        name = read(reader, key)
-        reader.ask("Colon", ":")
-        pairs.append((name, read(reader, value)))
-        reader.eat_comma(CURLY)
-    reader.close(CURLY)
-    return pairs
+def read_pair(reader, key, value):
+    """A key, Colon, a value."""
+    name = read(reader, key)
+    reader.ask("Colon", ":")
+    return name, read(reader, value)
 
 
 def read_parts(reader, parts):
@@ -74,14 +65,14 @@ def read_parts(reader, parts):
 
 def read_fields(reader, fields):
     """LIST of named fields in any order. Missing ones are looked for after the closing bracket."""
-    known = {field.name: field.type for field in fields}
-    found = {}  # of a name that occurs twice the last field counts
+    known = {name: field for field in fields for name in (field.name, *field.aliases)}
+    found = {}  # of the names of a field that occur, the last one counts
     reader.open(reader.FIELDS)
     while reader.tok == reader.NAME:
         name = reader.value
         if name in known:
             reader.next_colon()
-            found[name] = read(reader, known[name])
+            found[known[name].name] = read(reader, known[name].type)
         else:
             reader.unknown_field(name)
         reader.eat_comma(reader.FIELDS)
@@ -92,11 +83,6 @@ def read_fields(reader, fields):
             raise reader.error(f"Key not found {field.name}")
         values.append(found.get(field.name, field.default))
     return tuple(values)
-
-
-def read_content(reader, variant):
-    """The content of a variant that has one."""
-    return read_fields(reader, variant.fields) if variant.fields else read_parts(reader, variant.parts)
 
 
 def deserialize(reader, type, whole):
@@ -111,29 +97,22 @@ def deserialize(reader, type, whole):
 def write(form, type, value, level=0):
     """The text that is written at a level, in one of the two forms."""
     kind = type.kind
-    if kind == "int":
-        return str(value)
-    if kind == "bool":
-        return "true" if value else "false"
+    if kind in ("int", "bool"):
+        return str(value).lower()
     if kind == "String":
         return form.quoted(value)
     if kind == "unit":
         return form.UNIT
     if kind == "option":
         return write(form, type.parts[0], value[0], level) if value else form.NONE
-    if kind == "box":
-        return write(form, type.parts[0], value, level)
     if kind == "tuple":
         return write_parts(form, type.parts, value, level)
     if kind == "struct":
         return write_fields(form, type.fields, value, level)
     if kind == "enum":
-        variant, content = type.variants[value[0]], value[1]
-        if variant.fields:
-            return form.content(variant.name, write_fields(form, variant.fields, content, level))
-        if variant.parts:
-            return form.content(variant.name, write_parts(form, variant.parts, content, level))
-        return form.name(variant.name)
+        name, content = type.variants[value[0]]
+        has_content = content.kind != "unit"
+        return form.content(name, write(form, content, value[1], level)) if has_content else form.name(name)
     deeper = min(level + 1, GREATEST)
     if kind == "array":
         return write_parts(form, type.parts, value, deeper)

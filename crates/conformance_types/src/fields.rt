@@ -7,28 +7,11 @@ pub fn escape(alloc: Global, bytes: &[u8]) -> Result<String, AllocError> {
     let mut text = String::new(alloc);
     for byte in bytes {
         match *byte {
-            b'%' | 0..=0x1f | 0x7f..=0xff => {
-                text.push('%')?;
-                push_digits(&mut text, *byte, b'A')?;
-            }
+            b'%' | 0..=0x1f | 0x7f..=0xff => write!(text, "%{byte:02X}")?,
             plain => text.push(char::from(plain))?,
         }
     }
     Ok(text)
-}
-
-/// Appends the two hexadecimal digits of a byte. `ten` is the digit of ten.
-pub(crate) fn push_digits(text: &mut String, byte: u8, ten: u8) -> Result<(), AllocError> {
-    text.push(digit_of(byte / 16, ten))?;
-    text.push(digit_of(byte % 16, ten))
-}
-
-/// The hexadecimal digit of a number below sixteen.
-fn digit_of(number: u8, ten: u8) -> char {
-    match number {
-        0..=9 => char::from(b'0'.wrapping_add(number)),
-        _ => char::from(ten.wrapping_add(number.wrapping_sub(10))),
-    }
 }
 
 /// The bytes of a field, or `None` where a `%` has no two digits after it.

@@ -49,39 +49,39 @@ pub enum Format {
     Run,
 }
 
+/// The formats that a case can name, by their names.
+const NAMES: &[(&str, Format)] = &[
+    ("bin", Format::Bin),
+    ("bin-whole", Format::BinWhole),
+    ("bin-json", Format::BinJson),
+    ("bin-ron", Format::BinRon),
+    ("json", Format::Json),
+    ("json-whole", Format::JsonWhole),
+    ("json-bin", Format::JsonBin),
+    ("ron", Format::Ron),
+    ("ron-whole", Format::RonWhole),
+    ("ron-bin", Format::RonBin),
+    ("bin-written", Format::BinWritten),
+    ("json-written", Format::JsonWritten),
+    ("ron-written", Format::RonWritten),
+    ("bin-at", Format::BinAt),
+    ("json-state", Format::JsonState),
+    ("ron-state", Format::RonState),
+    ("json-write", Format::JsonWrite),
+    ("ron-write", Format::RonWrite),
+    ("toml-date", Format::TomlDate),
+    ("run", Format::Run),
+];
+
 impl Format {
     /// The format of this name.
     pub fn of(word: &str) -> Option<Format> {
-        match word {
-            "bin" => Some(Format::Bin),
-            "bin-whole" => Some(Format::BinWhole),
-            "bin-json" => Some(Format::BinJson),
-            "bin-ron" => Some(Format::BinRon),
-            "json" => Some(Format::Json),
-            "json-whole" => Some(Format::JsonWhole),
-            "json-bin" => Some(Format::JsonBin),
-            "ron" => Some(Format::Ron),
-            "ron-whole" => Some(Format::RonWhole),
-            "ron-bin" => Some(Format::RonBin),
-            _ => Format::of_state(word),
+        for (name, format) in NAMES {
+            if *name == word {
+                return Some(*format);
+            }
         }
-    }
-
-    /// The format of this name, where its cases have a state, or an outcome of their own.
-    fn of_state(word: &str) -> Option<Format> {
-        match word {
-            "bin-written" => Some(Format::BinWritten),
-            "json-written" => Some(Format::JsonWritten),
-            "ron-written" => Some(Format::RonWritten),
-            "bin-at" => Some(Format::BinAt),
-            "json-state" => Some(Format::JsonState),
-            "ron-state" => Some(Format::RonState),
-            "json-write" => Some(Format::JsonWrite),
-            "ron-write" => Some(Format::RonWrite),
-            "toml-date" => Some(Format::TomlDate),
-            "run" => Some(Format::Run),
-            _ => None,
-        }
+        None
     }
 
     /// The same format, for an input that is a value.

@@ -1,6 +1,6 @@
 //! The outcome of an input.
 
-use crate::fields::{escape, push_digits};
+use crate::fields::escape;
 use std::alloc::{AllocError, Global};
 
 /// The outcome of an input. Out of memory is no such answer, but an `AllocError`.
@@ -70,7 +70,7 @@ fn pairs(alloc: Global, bytes: &[u8]) -> Result<String, AllocError> {
         if !text.is_empty() {
             text.push(' ')?;
         }
-        push_digits(&mut text, *byte, b'a')?;
+        write!(text, "{byte:02x}")?;
     }
     Ok(text)
 }

@@ -21,28 +21,30 @@ pub(crate) struct Start<'a> {
 pub(crate) fn start_of(state: &str) -> Option<Start<'_>> {
     let (token, rest) = state.split_once(' ')?;
     let (place, text) = rest.split_once(' ')?;
+    let (line, col) = place_of(place)?;
+    let (token, content) = token_of(token)?;
+    Some(Start {
+        token,
+        content,
+        line,
+        col,
+        text,
+    })
+}
+
+/// A line and a column.
+fn place_of(place: &str) -> Option<(usize, usize)> {
     let (line, col) = place.split_once(':')?;
-    let line: usize = line.parse().ok()?;
-    let col: usize = col.parse().ok()?;
-    match token.split_once('(') {
-        None => Some(Start {
-            token,
-            content: "",
-            line,
-            col,
-            text,
-        }),
-        Some((token, rest)) => {
-            let content = rest.strip_suffix(')')?;
-            Some(Start {
-                token,
-                content,
-                line,
-                col,
-                text,
-            })
-        }
-    }
+    Some((line.parse().ok()?, col.parse().ok()?))
+}
+
+/// The name of a token, and what it carries, which is nothing where it has no parentheses.
+fn token_of(token: &str) -> Option<(&str, &str)> {
+    let Some((name, rest)) = token.split_once('(') else {
+        return Some((token, ""));
+    };
+    let content = rest.strip_suffix(')')?;
+    Some((name, content))
 }
 
 /// The character of the debug form of one.

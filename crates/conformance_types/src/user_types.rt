@@ -12,7 +12,9 @@ use std::alloc::{AllocError, Global};
 use std::collections::{BTreeSet, HashMap, HashSet, LinkedList};
 use std::str;
 use test_types::{
-    Clock, Command, Entry, Event, Message, Notice, Point, Reply, Server, Signal, Site, Tagged,
+    Change, Clock, Command, Count, Empty, Entry, Event, Greetings, Hall, HallName, Marker, Message,
+    Moved, Notice, Point, Reply, Role, Seat, Seats, Server, Signal, Site, Step, Tagged, Trip,
+    UserId, Visits,
 };
 
 /// The four lists and sets, as a tuple.
@@ -74,9 +76,31 @@ fn of_example(
         "Entry" => of_type::<Entry>(alloc, format, input),
         "Site" => of_type::<Site>(alloc, format, input),
         "Clock" => of_type::<Clock>(alloc, format, input),
+        "Marker" => of_type::<Marker>(alloc, format, input),
+        "Empty" => of_type::<Empty>(alloc, format, input),
+        "Count" => of_type::<Count>(alloc, format, input),
+        "Step" => of_type::<Step>(alloc, format, input),
+        "Trip" => of_type::<Trip>(alloc, format, input),
         "Notice" => of_type::<Notice>(alloc, format, input),
+        "Moved" => of_type::<Moved>(alloc, format, input),
+        "Change" => of_type::<Change>(alloc, format, input),
         "Tagged" => of_type::<Tagged<i32, String>>(alloc, format, input),
         "Reply" => of_type::<Reply<i32, String>>(alloc, format, input),
+        _ => of_key(alloc, format, kind, input),
+    }
+}
+
+/// A type of `test_types` that is a key or that holds some, or one of bytes alone.
+fn of_key(alloc: Global, format: Format, kind: &str, input: &[u8]) -> Result<Outcome, AllocError> {
+    match kind {
+        "UserId" => of_type::<UserId>(alloc, format, input),
+        "HallName" => of_type::<HallName>(alloc, format, input),
+        "Role" => of_type::<Role>(alloc, format, input),
+        "Seat" => of_type::<Seat>(alloc, format, input),
+        "Visits" => of_type::<Visits>(alloc, format, input),
+        "Greetings" => of_type::<Greetings>(alloc, format, input),
+        "Seats" => of_type::<Seats>(alloc, format, input),
+        "Hall" => of_type::<Hall>(alloc, format, input),
         _ => of_bytes_alone(alloc, format, kind, input),
     }
 }

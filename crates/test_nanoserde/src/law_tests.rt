@@ -4,22 +4,29 @@
 use crate::type_checks::holds;
 use nano_show_answers::laws as answers;
 use nanoserde::records::{Choice, Holder, Item};
-use nanoserde::{DeBin, DeJson, laws, normal_bin};
+use nanoserde::{DeBin, DeJson, ExactEq, laws, normal_bin};
 use test_types::Query;
+
+/// What an `Item` holds.
+type ItemValues = (i32, Option<String>);
 
 #[test]
 fn laws_can_be_called(_rt: HostRuntime) {
     nano_json_schema::laws::the_last_field_counts();
     nano_json_schema::laws::a_missing_name_has_no_field();
     nano_json_schema::laws::other_names_are_seen();
+    nano_json_schema::laws::the_last_of_both_names_counts();
     nano_ron_schema::laws::the_last_field_counts();
     nano_ron_schema::laws::a_missing_name_has_no_field();
     nano_ron_schema::laws::other_names_are_seen();
+    nano_ron_schema::laws::the_last_of_both_names_counts();
     laws::normal_bytes::<Item>();
     laws::normal_json_texts::<Choice>();
     laws::normal_ron_texts::<Choice>();
     laws::json_as_bytes::<Item>();
     laws::ron_as_bytes::<Holder<Item>>();
+    laws::equal_records_mean_the_same::<Item, ItemValues>();
+    Item::eq_agrees();
     answers::one_answer();
     answers::answer_or_rejection();
 }

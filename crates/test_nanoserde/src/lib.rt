@@ -4,6 +4,8 @@
 #![tactic(auto)]
 
 #[cfg(test)]
+mod alias_tests;
+#[cfg(test)]
 mod default_tests;
 #[cfg(test)]
 mod law_tests;

@@ -2,19 +2,26 @@
 //! copies.
 //!
 //! `Server`, `Event`, `Signal` and `Query` are described once by a schema, and `derive_files` wrote
-//! each format from it. So are `Site`, `Clock` and `Notice`, which have attributes, `Tagged` and
-//! `Reply`, which have type parameters, `Ranked`, `Wanted`, `Ranks` and `Best`, whose parameters
-//! have bounds, and `Point` and `Entry`, whose parts have no names.
+//! each format from it. So are `Site`, `Clock`, `Notice`, `Moved` and `Change`, which have
+//! attributes, `Tagged` and `Reply`, which have type parameters, `Ranked`, `Wanted`, `Ranks` and
+//! `Best`, whose parameters have bounds, `Point` and `Entry`, whose parts have no names, `Marker`,
+//! `Empty` and `Count`, of which nothing is read or written, with `Step` and `Trip`, which hold
+//! such, and `UserId`, `HallName`, `Role` and `Seat`, which are keys of the maps and items of the
+//! set of `Hall`.
 //! `Limits` and `Tags` are encoded as their one field. `Command` implements bytes and `Message`
 //! implements JSON by hand, without a schema.
 #![tactic(auto)]
 
 mod clock;
 mod command;
+mod empty;
 mod entry;
 mod event;
+mod hall;
+mod keys;
 mod limits;
 mod message;
+mod moved;
 mod notice;
 mod point;
 mod query;
@@ -29,10 +36,14 @@ mod tags;
 
 pub use clock::Clock;
 pub use command::Command;
+pub use empty::{Count, Empty, Marker, Step, Trip};
 pub use entry::Entry;
 pub use event::Event;
+pub use hall::{Greetings, Hall, Seats, Visits};
+pub use keys::{HallName, Role, Seat, UserId};
 pub use limits::Limits;
 pub use message::Message;
+pub use moved::{Change, Moved};
 pub use notice::Notice;
 pub use point::Point;
 pub use query::Query;
