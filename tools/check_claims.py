@@ -1,10 +1,12 @@
 #!/usr/bin/env python3
 """Finds what the documents cite, and fails on a name or a file that is not there.
 
-A name in backticks is looked for among the names of the sources, of the definitions, of the proofs
-and of the case tables; a path among the files. Words of Rust, of the toolchain, and of other
-libraries are listed below. Numbers of cases in tables are counted, and a clause that
-GUARANTEES.md cites of a function is looked for in a contract of that function. Usage, at the top of the repository: python3 tools/check_claims.py
+The documents are README.md, CONTRIBUTING.md, those of docs, and the README.md of a crate. A name
+in backticks is looked for among the names of the sources, of the definitions, of the proofs and of
+the case tables; a path among the files. Words of Rust, of the toolchain, and of other libraries are
+listed below. Numbers of cases in tables are counted, and a clause that GUARANTEES.md cites of a
+function is looked for in a contract of that function.
+Usage, at the top of the repository: python3 tools/check_claims.py
 """
 import pathlib
 import re
@@ -121,7 +123,9 @@ def clauses_of(path):
 def main():
     names, faults = known_names(), 0
     documents = [pathlib.Path("README.md"), pathlib.Path("CONTRIBUTING.md")]
-    for path in [*documents, *sorted(pathlib.Path("docs").glob("*.md"))]:
+    for folder in ("docs/*.md", "crates/*/README.md"):
+        documents += sorted(pathlib.Path(".").glob(folder))
+    for path in documents:
         for number, fault in [*faults_of(path, names), *counts_of(path), *clauses_of(path)]:
             print(f"{path}:{number}: {fault}")
             faults += 1
