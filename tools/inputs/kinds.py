@@ -17,9 +17,9 @@ class Kind(NamedTuple):
 
 
 class Field(NamedTuple):
-    """A field, and whether it may be missing."""
+    """A field by the names under which it is read, and whether it may be missing."""
 
-    name: str
+    names: tuple
     type: Kind
     can_miss: bool
 
@@ -30,13 +30,19 @@ OUTER = {"Option": "option", "Box": "box", "Vec": "list", "LinkedList": "list", 
 SAME = {"Test": "[i32; 1]", "Plain": "i32", "Point": "(i32, i32, String)", "Limits": "HashMap<String, u64>",
         "Entry": "(u64, Option<String>, Point, bool)", "Tags": "BTreeMap<String, Vec<String>>",
         "Pair": "Option<([u32; 4], String)>",
+        "UserId": "u64", "HallName": "String", "Seat": "(HallName, u16)", "Seats": "BTreeSet<Seat>",
+        "Visits": "BTreeMap<UserId, u32>", "Greetings": "HashMap<Role, String>",
         "Lists": "(Vec<i32>, LinkedList<i32>, HashSet<i32>, BTreeSet<i32>)"}
-# Fields by name; `?` marks one that may be missing. Skipped fields are never read.
+# Fields by name, with aliases after `|`; `?` marks one that may be missing. Skipped fields are never read.
 STRUCTS = {
     "Item": "value: i32, note?: Option<String>",
     "Server": "host: String, port: u16, tags: Tags, limits: Limits, note?: Option<String>",
     "Site": "host: String, port?: u16, first?: String, tags?: Vec<String>, owner?: Option<String>",
     "Clock": "offset?: i32, running?: bool",
+    "Moved": "host|hostname: String, contact|owner|admin?: Option<String>, port|tcp_port?: u16",
+    "Marker": "", "Empty": "", "Count": "",
+    "Trip": "there: Marker, new?: Option<Empty>, steps: Vec<Step>",
+    "Hall": "visits: Visits, greetings: Greetings, taken: Seats",
     "Tagged": "first: i32, other?: Option<String>, more: Vec<i32>, times?: u32",
 }
 ENUMS = {
@@ -46,6 +52,9 @@ ENUMS = {
     "Command": ["Stop", "Move(u32, String)", "Wait(u64)"],
     "Message": ["Hello", "Move(i32, String)", "Wait(u64)", "Say{text: String, times: u32}"],
     "Notice": ["gone", "Move(i32, String)", "said{text: String, times?: u32}"],
+    "Change": ["Started", "Renamed{from|old: String, to: String}"],
+    "Step": ["Rest{}", "Walk(u16)", "Stop{}"],
+    "Role": ["Guest", "Member", "Moderator", "Owner"],
     "Reply": ["Found(i32)", "Failed(String, u32)", "Listed{items: Vec<i32>, next?: Option<String>}"],
 }
 
@@ -68,7 +77,7 @@ def read(words):
         words.pop(0)
         parts = parts_until(words, ">")
         if word == "Holder":
-            return Kind("struct", fields=(Field("x", parts[0], False),))
+            return Kind("struct", fields=(Field(("x",), parts[0], False),))
         return Kind(OUTER[word], parts)
     return named(word)
 
@@ -101,9 +110,9 @@ def named(word):
 
 def fields_of(text):
     found = []
-    for field in re.split(r", (?=\w+\??:)", text):
-        name, _, kind = field.partition(": ")
-        found.append(Field(name.rstrip("?"), parse(kind), name.endswith("?")))
+    for field in re.split(r", (?=[\w|]+\??:)", text) if text else ():
+        names, _, kind = field.partition(": ")
+        found.append(Field(tuple(names.rstrip("?").split("|")), parse(kind), names.endswith("?")))
     return tuple(found)
 
 

@@ -59,9 +59,9 @@ class Spelling:
         spelled = []
         for field in fields:
             if not self.draw.chance(0.35 if field.can_miss else 0.02):
-                spelled.append(self.field(field.name, self.value(field.type)))
+                spelled.append(self.field(self.draw.pick(field.names), self.value(field.type)))
             if self.draw.chance(0.08):
-                spelled.append(self.field(field.name, self.value(field.type)))
+                spelled.append(self.field(self.draw.pick(field.names), self.value(field.type)))
         if self.draw.chance(self.other_fields):
             spelled.append(self.other_field())
         if self.draw.chance(0.4):
