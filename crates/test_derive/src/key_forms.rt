@@ -58,8 +58,8 @@ impl Key for B {
 
     ghost order = { variants };
 
-    ghost exact = { variants_tell (λ x. elim x as (IsPlaced ⟦<B as Value>⟧.means
-=>
+    ghost exact = { variants_tell (λ x. elim x as (IsPlaced ⟦<B as Value>⟧.means (B_Low ∷ B_High
+        ∷ [])) [
           | B_Low ↦ placed refl
           | B_High ↦ placed refl
         ]) ⟦<B as PartialEq>⟧.eq refl };
