@@ -12,6 +12,8 @@ mod law_tests;
 #[cfg(test)]
 mod part_tests;
 #[cfg(test)]
+mod plain_record_tests;
+#[cfg(test)]
 mod show_source;
 #[cfg(test)]
 mod show_tests;
