@@ -4,10 +4,10 @@
 
 ghost use Rattle.std.specs.Prelude.{codes};
 
+use crate::plain_record_tests::first_place;
 use crate::type_checks::{holds, is_made, is_so};
 use nano_json_schema::{
-    Place, ReadContent as JsonContent, read_fields as read_json, take_fields,
-    write_fields as write_json,
+    ReadContent as JsonContent, read_fields as read_json, take_fields, write_fields as write_json,
 };
 use nano_ron_schema::{
     Part, ReadContent as RonContent, RonChoices, read_fields as read_ron, read_variant_name,
@@ -109,18 +109,6 @@ fn is_taken(alloc: Global) -> bool {
     let (mut other, mut rest) = first_place("{\"note\":1}");
     let unknown = take_fields::<Field>(alloc, &mut other, &mut rest, &mut text);
     known && last == Some(2) && place.cur == ']' && unknown.is_none()
-}
-
-/// The place at the first character of a text.
-fn first_place(text: &str) -> (Place, Chars<'_>) {
-    let mut input = text.chars();
-    let mut place = Place {
-        cur: '\0',
-        line: 0,
-        col: 0,
-    };
-    place.next(&mut input);
-    (place, input)
 }
 
 #[test]

@@ -4,6 +4,7 @@
 use crate::type_checks::holds;
 use nano_json_schema::{DeJson, Place};
 use std::alloc::Global;
+use std::str::Chars;
 use test_types::Moved;
 
 /// A host, who answers for it, and a port.
@@ -39,6 +40,18 @@ const MOVED: &[(&str, Option<Found>, usize)] = &[
     ("{\"host\":7},", None, 0),
 ];
 
+/// The place at the first character of a text.
+pub(crate) fn first_place(text: &str) -> (Place, Chars<'_>) {
+    let mut input = text.chars();
+    let mut place = Place {
+        cur: '\0',
+        line: 0,
+        col: 0,
+    };
+    place.next(&mut input);
+    (place, input)
+}
+
 /// Whether that was found.
 fn is_found(moved: &Moved, found: Found) -> bool {
     let contact = match &moved.contact {
@@ -51,13 +64,7 @@ fn is_found(moved: &Moved, found: Found) -> bool {
 /// Whether this is taken of a text, up to this column.
 fn is_taken(alloc: Global, text: &str, found: Option<Found>, column: usize) -> bool {
     let mut buffer = String::new(alloc);
-    let mut input = text.chars();
-    let mut place = Place {
-        cur: '\0',
-        line: 0,
-        col: 0,
-    };
-    place.next(&mut input);
+    let (mut place, mut input) = first_place(text);
     let taken = Moved::de_json_plain(alloc, &mut place, &mut input, &mut buffer);
     match (&taken, found) {
         (Some(moved), Some(found)) => is_found(moved, found) && place.col == column,
