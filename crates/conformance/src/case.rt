@@ -1,8 +1,7 @@
 //! A case, and what comes of it.
 
-use crate::asked::Asked;
 use crate::calls::outcome_of;
-use crate::findings::{Difference, Findings, reported};
+use crate::findings::Findings;
 use crate::names::is_named;
 use crate::questions::ask_further;
 use conformance_types::{Format, Outcome, unescape};
@@ -94,22 +93,30 @@ impl<'a> Case<'a> {
         outcome_of(alloc, self.format, self.kind, &self.input)
     }
 
-    /// What differs, in the answer and where it is accepted in what else is asked of it, which is
-    /// counted after what was asked of other cases.
-    pub fn findings(&self, alloc: Global, asked: Asked) -> Result<Findings, AllocError> {
+    /// Adds what differs, in the answer and where it is accepted in what else is asked of it.
+    pub(crate) fn ask(&self, alloc: Global, findings: &mut Findings) -> Result<(), AllocError> {
         let outcome = self.run(alloc)?;
-        let mut findings = Findings::new(alloc, asked);
-        if !self.is_wanted(alloc, &outcome)? {
-            let wanted = reported(alloc, self.verdict, self.answer)?;
-            let difference = Difference::new(alloc, "answer", wanted.as_str(), &outcome)?;
-            findings.differences.push(difference)?;
+        self.compare(alloc, &outcome, findings)?;
+        ask_further(alloc, self, &outcome, findings)
+    }
+
+    /// Adds what differs in the answer, and in the names of the differences from the Rust crate.
+    fn compare(
+        &self,
+        alloc: Global,
+        outcome: &Outcome,
+        findings: &mut Findings,
+    ) -> Result<(), AllocError> {
+        if !self.is_wanted(alloc, outcome)? {
+            let (verdict, answer) = (self.verdict, self.answer);
+            let wanted = format!(in alloc; "{verdict} {answer}")?;
+            findings.differs(alloc, "answer", wanted.as_str(), outcome)?;
         }
-        if !is_named(self.rust_crate, self.names, &outcome) {
-            let difference = Difference::new(alloc, "the name", self.names, &outcome)?;
-            findings.differences.push(difference)?;
+        if is_named(self.rust_crate, self.names, outcome) {
+            Ok(())
+        } else {
+            findings.differs(alloc, "the name", self.names, outcome)
         }
-        ask_further(alloc, self, &outcome, &mut findings)?;
-        Ok(findings)
     }
 
     /// Whether this is the wanted answer.
