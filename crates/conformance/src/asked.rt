@@ -140,15 +140,16 @@ impl Asked {
 
     /// Appends how often each question failed that did.
     fn append_failed(&self, out: &mut String) -> Result<(), AllocError> {
-        let mut before = "failed: ";
+        let mut has_failed = false;
         for (question, name) in QUESTIONS {
             let failed = self.of(*question).failed;
             if failed != 0 {
-                write!(out, "{before}{failed} {name}")?;
-                before = ", ";
+                out.push_str(if has_failed { ", " } else { "failed: " })?;
+                write!(out, "{failed} {name}")?;
+                has_failed = true;
             }
         }
-        if before == ", " {
+        if has_failed {
             Ok(())
         } else {
             out.push_str("failed: none")

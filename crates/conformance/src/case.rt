@@ -51,26 +51,16 @@ impl NoCase {
 impl<'a> Case<'a> {
     /// The case of a line, or why the line is none.
     pub fn of_line(alloc: Global, line: &'a str) -> Result<Result<Case<'a>, NoCase>, AllocError> {
-        let fields: Vec<&str> = line.split('\t').collect(alloc)?;
-        match fields.as_slice() {
-            [format, kind, input, verdict, answer] => {
-                let given = (*verdict, *answer, "", "");
-                Case::of_fields(alloc, (*format, *kind, *input), given)
-            }
-            [format, kind, input, verdict, answer, rust_crate, names] => {
-                let given = (*verdict, *answer, *rust_crate, *names);
-                Case::of_fields(alloc, (*format, *kind, *input), given)
-            }
-            _ => Ok(Err(NoCase::Fields)),
+        match fields_of(line) {
+            5 | 7 => (),
+            _ => return Ok(Err(NoCase::Fields)),
         }
-    }
-
-    /// The case of these fields.
-    fn of_fields(
-        alloc: Global,
-        (format, kind, input): (&'a str, &'a str, &'a str),
-        (verdict, answer, rust_crate, names): (&'a str, &'a str, &'a str, &'a str),
-    ) -> Result<Result<Case<'a>, NoCase>, AllocError> {
+        let (format, rest) = field_of(line);
+        let (kind, rest) = field_of(rest);
+        let (input, rest) = field_of(rest);
+        let (verdict, rest) = field_of(rest);
+        let (answer, rest) = field_of(rest);
+        let (rust_crate, names) = field_of(rest);
         let Some(format) = Format::of(format) else {
             return Ok(Err(NoCase::Format));
         };
@@ -127,4 +117,20 @@ impl<'a> Case<'a> {
         let answer = outcome.answer(alloc)?;
         Ok(outcome.verdict() == self.verdict && answer.as_str() == self.answer)
     }
+}
+
+/// The number of fields of a line, which tabs part.
+fn fields_of(line: &str) -> usize {
+    let mut fields = 1usize;
+    for byte in line.as_bytes() {
+        if *byte == b'\t' {
+            fields = fields.saturating_add(1);
+        }
+    }
+    fields
+}
+
+/// The first field, and those after it, which are empty where there are none.
+fn field_of(line: &str) -> (&str, &str) {
+    line.split_once('\t').unwrap_or((line, ""))
 }

@@ -19,17 +19,25 @@ pub fn differences_of(
     }
     let line = write_out(alloc, line)?;
     match Case::of_line(alloc, line.as_str())? {
-        Ok(case) => {
-            let mut findings = Findings::new(alloc, *asked);
-            case.ask(alloc, &mut findings)?;
-            *asked = findings.asked;
-            report.push_str(findings.report.as_str())?;
-            Ok(Some(findings.differ))
-        }
+        Ok(case) => Ok(Some(differences_in(alloc, &case, asked, report)?)),
         Err(no_case) => {
             let reason = no_case.reason();
             write!(report, "  no case: {reason}\n")?;
             Ok(Some(1))
         }
     }
+}
+
+/// The number of questions of a case that answer otherwise.
+fn differences_in(
+    alloc: Global,
+    case: &Case<'_>,
+    asked: &mut Asked,
+    report: &mut String,
+) -> Result<usize, AllocError> {
+    let mut findings = Findings::new(alloc, *asked);
+    case.ask(alloc, &mut findings)?;
+    *asked = findings.asked;
+    report.push_str(findings.report.as_str())?;
+    Ok(findings.differ)
 }
