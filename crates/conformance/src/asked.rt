@@ -40,6 +40,21 @@ impl Question {
             Question::OtherOrder => "the same entries in the other order",
         }
     }
+
+    /// The place of its count.
+    fn place(self) -> usize {
+        match self {
+            Question::Code => 0,
+            Question::WholeCode => 1,
+            Question::CodePrefix => 2,
+            Question::Text => 3,
+            Question::WholeText => 4,
+            Question::TextPrefix => 5,
+            Question::SecondReading => 6,
+            Question::TextAsBytes => 7,
+            Question::OtherOrder => 8,
+        }
+    }
 }
 
 /// How often one question was asked.
@@ -68,74 +83,55 @@ impl Count {
     }
 }
 
+/// The questions in the order in which they are counted, each with what was asked so often.
+const QUESTIONS: &[(Question, &str)] = &[
+    (Question::Code, "codes"),
+    (Question::WholeCode, "whole codes"),
+    (Question::CodePrefix, "prefixes of codes"),
+    (Question::Text, "texts"),
+    (Question::WholeText, "whole texts"),
+    (Question::TextPrefix, "prefixes of texts"),
+    (Question::SecondReading, "second readings"),
+    (Question::TextAsBytes, "texts as bytes"),
+    (Question::OtherOrder, "in the other order"),
+];
+
 /// How often each question was asked.
 #[derive(Clone, Copy)]
 pub struct Asked {
-    code: Count,
-    whole_code: Count,
-    code_prefix: Count,
-    text: Count,
-    whole_text: Count,
-    text_prefix: Count,
-    second_reading: Count,
-    text_as_bytes: Count,
-    other_order: Count,
+    /// A count for each question, at its place.
+    counts: [Count; 9],
 }
 
 impl Asked {
     /// Nothing was asked.
     pub fn new() -> Asked {
-        let none = Count::NONE;
         Asked {
-            code: none,
-            whole_code: none,
-            code_prefix: none,
-            text: none,
-            whole_text: none,
-            text_prefix: none,
-            second_reading: none,
-            text_as_bytes: none,
-            other_order: none,
+            counts: [Count::NONE; 9],
         }
     }
 
     /// Counts a question.
     pub(crate) fn count(&mut self, question: Question, is_right: bool) {
-        match question {
-            Question::Code => self.code = self.code.after(is_right),
-            Question::WholeCode => self.whole_code = self.whole_code.after(is_right),
-            Question::CodePrefix => self.code_prefix = self.code_prefix.after(is_right),
-            Question::Text => self.text = self.text.after(is_right),
-            Question::WholeText => self.whole_text = self.whole_text.after(is_right),
-            Question::TextPrefix => self.text_prefix = self.text_prefix.after(is_right),
-            Question::SecondReading => self.second_reading = self.second_reading.after(is_right),
-            Question::TextAsBytes => self.text_as_bytes = self.text_as_bytes.after(is_right),
-            Question::OtherOrder => self.other_order = self.other_order.after(is_right),
+        if let Some(count) = self.counts.get_mut(question.place()) {
+            *count = count.after(is_right);
         }
     }
 
-    /// Each count, with what was asked so often.
-    fn rows(&self) -> [(&'static str, Count); 9] {
-        [
-            ("codes", self.code),
-            ("whole codes", self.whole_code),
-            ("prefixes of codes", self.code_prefix),
-            ("texts", self.text),
-            ("whole texts", self.whole_text),
-            ("prefixes of texts", self.text_prefix),
-            ("second readings", self.second_reading),
-            ("texts as bytes", self.text_as_bytes),
-            ("in the other order", self.other_order),
-        ]
+    /// How often this question was asked.
+    fn of(&self, question: Question) -> Count {
+        match self.counts.get(question.place()) {
+            Some(count) => *count,
+            None => Count::NONE,
+        }
     }
 
     /// Appends which questions failed, and how often each was asked.
     pub fn append(&self, out: &mut String) -> Result<(), AllocError> {
         self.append_failed(out)?;
-        let rows = self.rows();
         let mut before = "; asked: ";
-        for (name, count) in &rows {
-            let asked = count.asked;
+        for (question, name) in QUESTIONS {
+            let asked = self.of(*question).asked;
             write!(out, "{before}{asked} {name}")?;
             before = ", ";
         }
@@ -144,16 +140,16 @@ impl Asked {
 
     /// Appends how often each question failed that did.
     fn append_failed(&self, out: &mut String) -> Result<(), AllocError> {
-        let rows = self.rows();
-        let mut before = "failed: ";
-        for (name, count) in &rows {
-            let failed = count.failed;
+        let mut has_failed = false;
+        for (question, name) in QUESTIONS {
+            let failed = self.of(*question).failed;
             if failed != 0 {
-                write!(out, "{before}{failed} {name}")?;
-                before = ", ";
+                out.push_str(if has_failed { ", " } else { "failed: " })?;
+                write!(out, "{failed} {name}")?;
+                has_failed = true;
             }
         }
-        if before == ", " {
+        if has_failed {
             Ok(())
         } else {
             out.push_str("failed: none")

@@ -1,8 +1,7 @@
 //! A case, and what comes of it.
 
-use crate::asked::Asked;
 use crate::calls::outcome_of;
-use crate::findings::{Difference, Findings, reported};
+use crate::findings::Findings;
 use crate::names::is_named;
 use crate::questions::ask_further;
 use conformance_types::{Format, Outcome, unescape};
@@ -52,26 +51,16 @@ impl NoCase {
 impl<'a> Case<'a> {
     /// The case of a line, or why the line is none.
     pub fn of_line(alloc: Global, line: &'a str) -> Result<Result<Case<'a>, NoCase>, AllocError> {
-        let fields: Vec<&str> = line.split('\t').collect(alloc)?;
-        match fields.as_slice() {
-            [format, kind, input, verdict, answer] => {
-                let given = (*verdict, *answer, "", "");
-                Case::of_fields(alloc, (*format, *kind, *input), given)
-            }
-            [format, kind, input, verdict, answer, rust_crate, names] => {
-                let given = (*verdict, *answer, *rust_crate, *names);
-                Case::of_fields(alloc, (*format, *kind, *input), given)
-            }
-            _ => Ok(Err(NoCase::Fields)),
+        match fields_of(line) {
+            5 | 7 => (),
+            _ => return Ok(Err(NoCase::Fields)),
         }
-    }
-
-    /// The case of these fields.
-    fn of_fields(
-        alloc: Global,
-        (format, kind, input): (&'a str, &'a str, &'a str),
-        (verdict, answer, rust_crate, names): (&'a str, &'a str, &'a str, &'a str),
-    ) -> Result<Result<Case<'a>, NoCase>, AllocError> {
+        let (format, rest) = field_of(line);
+        let (kind, rest) = field_of(rest);
+        let (input, rest) = field_of(rest);
+        let (verdict, rest) = field_of(rest);
+        let (answer, rest) = field_of(rest);
+        let (rust_crate, names) = field_of(rest);
         let Some(format) = Format::of(format) else {
             return Ok(Err(NoCase::Format));
         };
@@ -94,22 +83,30 @@ impl<'a> Case<'a> {
         outcome_of(alloc, self.format, self.kind, &self.input)
     }
 
-    /// What differs, in the answer and where it is accepted in what else is asked of it, which is
-    /// counted after what was asked of other cases.
-    pub fn findings(&self, alloc: Global, asked: Asked) -> Result<Findings, AllocError> {
+    /// Adds what differs, in the answer and where it is accepted in what else is asked of it.
+    pub(crate) fn ask(&self, alloc: Global, findings: &mut Findings) -> Result<(), AllocError> {
         let outcome = self.run(alloc)?;
-        let mut findings = Findings::new(alloc, asked);
-        if !self.is_wanted(alloc, &outcome)? {
-            let wanted = reported(alloc, self.verdict, self.answer)?;
-            let difference = Difference::new(alloc, "answer", wanted.as_str(), &outcome)?;
-            findings.differences.push(difference)?;
+        self.compare(alloc, &outcome, findings)?;
+        ask_further(alloc, self, &outcome, findings)
+    }
+
+    /// Adds what differs in the answer, and in the names of the differences from the Rust crate.
+    fn compare(
+        &self,
+        alloc: Global,
+        outcome: &Outcome,
+        findings: &mut Findings,
+    ) -> Result<(), AllocError> {
+        if !self.is_wanted(alloc, outcome)? {
+            let (verdict, answer) = (self.verdict, self.answer);
+            let wanted = format!(in alloc; "{verdict} {answer}")?;
+            findings.differs(alloc, "answer", wanted.as_str(), outcome)?;
         }
-        if !is_named(self.rust_crate, self.names, &outcome) {
-            let difference = Difference::new(alloc, "the name", self.names, &outcome)?;
-            findings.differences.push(difference)?;
+        if is_named(self.rust_crate, self.names, outcome) {
+            Ok(())
+        } else {
+            findings.differs(alloc, "the name", self.names, outcome)
         }
-        ask_further(alloc, self, &outcome, &mut findings)?;
-        Ok(findings)
     }
 
     /// Whether this is the wanted answer.
@@ -120,4 +117,20 @@ impl<'a> Case<'a> {
         let answer = outcome.answer(alloc)?;
         Ok(outcome.verdict() == self.verdict && answer.as_str() == self.answer)
     }
+}
+
+/// The number of fields of a line, which tabs part.
+fn fields_of(line: &str) -> usize {
+    let mut fields = 1usize;
+    for byte in line.as_bytes() {
+        if *byte == b'\t' {
+            fields = fields.saturating_add(1);
+        }
+    }
+    fields
+}
+
+/// The first field, and those after it, which are empty where there are none.
+fn field_of(line: &str) -> (&str, &str) {
+    line.split_once('\t').unwrap_or((line, ""))
 }

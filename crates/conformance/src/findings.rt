@@ -4,45 +4,15 @@ use crate::asked::{Asked, Question};
 use conformance_types::Outcome;
 use std::alloc::{AllocError, Global};
 
-/// Something of a case that differs.
-#[derive(Drop)]
-pub struct Difference {
-    /// What was asked.
-    pub question: &'static str,
-    /// What was wanted.
-    pub wanted: String,
-    /// What the case gave.
-    pub got: String,
-}
-
-impl Difference {
-    /// A difference from what is wanted in words.
-    pub(crate) fn new(
-        alloc: Global,
-        question: &'static str,
-        wanted: &str,
-        outcome: &Outcome,
-    ) -> Result<Difference, AllocError> {
-        Ok(Difference {
-            question,
-            wanted: String::from_str(alloc, wanted)?,
-            got: reported(alloc, outcome.verdict(), outcome.answer(alloc)?.as_str())?,
-        })
-    }
-}
-
-/// A verdict and an answer in one text.
-pub(crate) fn reported(alloc: Global, verdict: &str, answer: &str) -> Result<String, AllocError> {
-    format!(in alloc; "{verdict} {answer}")
-}
-
 /// What came of a case.
 #[derive(Drop)]
-pub struct Findings {
+pub(crate) struct Findings {
     /// How often each question was asked.
-    pub asked: Asked,
-    /// What differs.
-    pub differences: Vec<Difference>,
+    pub(crate) asked: Asked,
+    /// How many questions answered otherwise.
+    pub(crate) differ: usize,
+    /// What these answered, a line each.
+    pub(crate) report: String,
 }
 
 impl Findings {
@@ -50,7 +20,8 @@ impl Findings {
     pub(crate) fn new(alloc: Global, asked: Asked) -> Findings {
         Findings {
             asked,
-            differences: Vec::new(alloc),
+            differ: 0,
+            report: String::new(alloc),
         }
     }
 
@@ -65,10 +36,26 @@ impl Findings {
     ) -> Result<(), AllocError> {
         self.asked.count(question, is_right);
         if is_right {
-            return Ok(());
+            Ok(())
+        } else {
+            self.differs(alloc, question.name(), wanted, outcome)
         }
-        let difference = Difference::new(alloc, question.name(), wanted, outcome)?;
-        self.differences.push(difference)?;
-        Ok(())
+    }
+
+    /// Reports what came in the place of what is wanted.
+    pub(crate) fn differs(
+        &mut self,
+        alloc: Global,
+        question: &str,
+        wanted: &str,
+        outcome: &Outcome,
+    ) -> Result<(), AllocError> {
+        self.differ = self.differ.saturating_add(1);
+        let (verdict, answer) = (outcome.verdict(), outcome.answer(alloc)?);
+        let report = &mut self.report;
+        write!(
+            report,
+            "  {question}: wanted {wanted}, got {verdict} {answer}\n"
+        )
     }
 }

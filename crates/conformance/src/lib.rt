@@ -3,6 +3,7 @@
 //! whether what is written is read back, prefixes, and the same entries in the other order.
 #![tactic(auto)]
 
+mod answers;
 mod asked;
 mod calls;
 mod case;
@@ -23,6 +24,5 @@ pub use calls::outcome_of;
 pub use case::{Case, NoCase};
 pub use conformance_types::{Format, Outcome, code, escape, unescape};
 pub use counterparts::counterpart;
-pub use findings::{Difference, Findings};
 pub use repeat::write_out;
 pub use table::differences_of;

@@ -43,17 +43,13 @@ fn ask_other_order(
     };
     match outcome_of(alloc, case.format.read(), other.as_str(), &case.input)? {
         Outcome::Unknown => Ok(()),
+        same if outcome.is_same(&same) => {
+            findings.ask(alloc, Question::OtherOrder, true, "", &same)
+        }
         same => {
             let answer = outcome.answer(alloc)?;
             let wanted = format!(in alloc; "{answer} as {other}")?;
-            let is_right = outcome.is_same(&same);
-            findings.ask(
-                alloc,
-                Question::OtherOrder,
-                is_right,
-                wanted.as_str(),
-                &same,
-            )
+            findings.ask(alloc, Question::OtherOrder, false, wanted.as_str(), &same)
         }
     }
 }
@@ -67,34 +63,45 @@ fn ask_code(
     findings: &mut Findings,
 ) -> Result<(), AllocError> {
     let wanted = Outcome::Code(Vec::from_slice(alloc, code)?);
-    let answer = wanted.answer(alloc)?;
-    let read = outcome_of(alloc, Format::Bin, kind, code)?;
-    findings.ask(
+    let (one, whole) = (Question::Code, Question::WholeCode);
+    ask_same(alloc, one, (Format::Bin, kind, code), &wanted, findings)?;
+    ask_same(
         alloc,
-        Question::Code,
-        wanted.is_same(&read),
-        answer.as_str(),
-        &read,
-    )?;
-    let read = outcome_of(alloc, Format::BinWhole, kind, code)?;
-    findings.ask(
-        alloc,
-        Question::WholeCode,
-        wanted.is_same(&read),
-        answer.as_str(),
-        &read,
+        whole,
+        (Format::BinWhole, kind, code),
+        &wanted,
+        findings,
     )?;
     for end in 0..code.len() {
-        let cut = outcome_of(alloc, Format::Bin, kind, &code[..end])?;
-        findings.ask(
-            alloc,
-            Question::CodePrefix,
-            cut.is_too_short(),
-            "TooShort",
-            &cut,
-        )?;
+        ask_short(alloc, kind, &code[..end], findings)?;
     }
     Ok(())
+}
+
+/// What is read of an input is what is wanted.
+fn ask_same(
+    alloc: Global,
+    question: Question,
+    (format, kind, input): (Format, &str, &[u8]),
+    wanted: &Outcome,
+    findings: &mut Findings,
+) -> Result<(), AllocError> {
+    let read = outcome_of(alloc, format, kind, input)?;
+    let answer = wanted.answer(alloc)?;
+    let is_right = wanted.is_same(&read);
+    findings.ask(alloc, question, is_right, answer.as_str(), &read)
+}
+
+/// A proper prefix of a code is too short.
+fn ask_short(
+    alloc: Global,
+    kind: &str,
+    code: &[u8],
+    findings: &mut Findings,
+) -> Result<(), AllocError> {
+    let cut = outcome_of(alloc, Format::Bin, kind, code)?;
+    let is_right = cut.is_too_short();
+    findings.ask(alloc, Question::CodePrefix, is_right, "TooShort", &cut)
 }
 
 /// A written text is its own normal form, as a whole input too, and every proper prefix is
@@ -107,22 +114,14 @@ fn ask_text(
     findings: &mut Findings,
 ) -> Result<(), AllocError> {
     let wanted = Outcome::Text(Vec::from_slice(alloc, text)?);
-    let answer = wanted.answer(alloc)?;
-    let read = outcome_of(alloc, whole.prefix(), kind, text)?;
-    findings.ask(
-        alloc,
-        Question::Text,
-        wanted.is_same(&read),
-        answer.as_str(),
-        &read,
-    )?;
-    let read = outcome_of(alloc, whole, kind, text)?;
-    findings.ask(
+    let begun = (whole.prefix(), kind, text);
+    ask_same(alloc, Question::Text, begun, &wanted, findings)?;
+    ask_same(
         alloc,
         Question::WholeText,
-        wanted.is_same(&read),
-        answer.as_str(),
-        &read,
+        (whole, kind, text),
+        &wanted,
+        findings,
     )?;
     ask_prefixes(alloc, kind, whole, text, findings)
 }
@@ -154,32 +153,28 @@ fn ask_prefixes(
     text: &[u8],
     findings: &mut Findings,
 ) -> Result<(), AllocError> {
-    let is_open = match text.first() {
-        Some(b'[' | b'{' | b'(' | b'"') => true,
-        _ => false,
-    };
-    if !is_open {
-        return Ok(());
+    match text.first() {
+        Some(b'[' | b'{' | b'(' | b'"') => (),
+        _ => return Ok(()),
     }
+    let (one, second) = (Question::TextPrefix, Question::SecondReading);
     for end in 0..text.len() {
-        let cut = outcome_of(alloc, whole.prefix(), kind, &text[..end])?;
-        findings.ask(
-            alloc,
-            Question::TextPrefix,
-            cut.is_error(),
-            "an error",
-            &cut,
-        )?;
-        let second = outcome_of(alloc, whole.again(), kind, &text[..end])?;
-        findings.ask(
-            alloc,
-            Question::SecondReading,
-            second.is_error(),
-            "an error",
-            &second,
-        )?;
+        let cut = &text[..end];
+        ask_rejected(alloc, one, (whole.prefix(), kind, cut), findings)?;
+        ask_rejected(alloc, second, (whole.again(), kind, cut), findings)?;
     }
     Ok(())
+}
+
+/// An input is rejected.
+fn ask_rejected(
+    alloc: Global,
+    question: Question,
+    (format, kind, input): (Format, &str, &[u8]),
+    findings: &mut Findings,
+) -> Result<(), AllocError> {
+    let read = outcome_of(alloc, format, kind, input)?;
+    findings.ask(alloc, question, read.is_error(), "an error", &read)
 }
 
 /// The value of a text has bytes, and these are their own normal form. A type that has no bytes is

@@ -1,5 +1,6 @@
 //! Calls of a state of RON's reader: what is answered, and the state afterwards.
 
+use crate::answers::append_answer;
 use conformance_types::{OUT_OF_MEMORY, Outcome, append_ron_state, ron_fault, ron_start};
 use nanoserde::{DeRonErr, DeRonState};
 use std::alloc::{AllocError, Global};
@@ -8,34 +9,38 @@ use std::str::Chars;
 
 /// What calls answer in a state, one after the other, and the state after each.
 pub(crate) fn ron_calls(alloc: Global, calls: &str, text: &str) -> Result<Outcome, AllocError> {
-    match ron_start(alloc, text)? {
-        None => Ok(Outcome::Unknown),
-        Some((mut state, mut input)) => answers_of(alloc, &mut state, &mut input, calls),
+    let mut state = DeRonState::new(alloc);
+    let Some(mut input) = ron_start(&mut state, text)? else {
+        return Ok(Outcome::Unknown);
+    };
+    let mut answers = String::new(alloc);
+    if append_answers(alloc, &mut state, &mut input, calls, &mut answers)? {
+        Ok(Outcome::Text(answers.into_bytes()))
+    } else {
+        Ok(Outcome::Unknown)
     }
 }
 
-/// What each call answers, and the state after it. A call that runs out of memory is the last.
-fn answers_of(
+/// Appends what each call answers, and the state after it. A call that runs out of memory is the
+/// last. Returns whether each has a name that is known.
+fn append_answers(
     alloc: Global,
     state: &mut DeRonState,
     input: &mut Chars<'_>,
     calls: &str,
-) -> Result<Outcome, AllocError> {
-    let mut answers = String::new(alloc);
+    answers: &mut String,
+) -> Result<bool, AllocError> {
     for call in calls.split(' ') {
         let Some(answer) = taken(alloc, state, input, call)? else {
-            return Ok(Outcome::Unknown);
+            return Ok(false);
         };
-        if !answers.is_empty() {
-            answers.push_str(" | ")?;
-        }
-        answers.push_str(answer.as_str())?;
-        append_ron_state(&mut answers, state, input)?;
+        append_answer(answers, answer.as_str())?;
+        append_ron_state(answers, state, input)?;
         if answer.as_str() == OUT_OF_MEMORY {
             break;
         }
     }
-    Ok(Outcome::Text(answers.into_bytes()))
+    Ok(true)
 }
 
 /// A value, or the error.

@@ -2,6 +2,7 @@
 
 use crate::asked::Asked;
 use crate::case::Case;
+use crate::findings::Findings;
 use crate::repeat::write_out;
 use std::alloc::{AllocError, Global};
 
@@ -18,21 +19,25 @@ pub fn differences_of(
     }
     let line = write_out(alloc, line)?;
     match Case::of_line(alloc, line.as_str())? {
-        Ok(case) => {
-            let findings = case.findings(alloc, *asked)?;
-            *asked = findings.asked;
-            for difference in &findings.differences {
-                let question = difference.question;
-                let wanted = difference.wanted.as_str();
-                let got = difference.got.as_str();
-                write!(report, "  {question}: wanted {wanted}, got {got}\n")?;
-            }
-            Ok(Some(findings.differences.len()))
-        }
+        Ok(case) => Ok(Some(differences_in(alloc, &case, asked, report)?)),
         Err(no_case) => {
             let reason = no_case.reason();
             write!(report, "  no case: {reason}\n")?;
             Ok(Some(1))
         }
     }
+}
+
+/// The number of questions of a case that answer otherwise.
+fn differences_in(
+    alloc: Global,
+    case: &Case<'_>,
+    asked: &mut Asked,
+    report: &mut String,
+) -> Result<usize, AllocError> {
+    let mut findings = Findings::new(alloc, *asked);
+    case.ask(alloc, &mut findings)?;
+    *asked = findings.asked;
+    report.push_str(findings.report.as_str())?;
+    Ok(findings.differ)
 }

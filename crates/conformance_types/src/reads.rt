@@ -68,15 +68,30 @@ fn code_of<T: SerBin + Drop>(
 fn split_offset(format: Format, input: &[u8]) -> Option<(usize, &[u8])> {
     match format {
         Format::Bin => Some((0, input)),
-        Format::BinAt => {
-            let place = input.iter().position(|byte| *byte == b' ')?;
-            let (number, rest) = input.split_at_checked(place)?;
-            let number = str::from_utf8(number).ok()?;
-            let (_space, bytes) = rest.split_first()?;
-            Some((number.parse().ok()?, bytes))
-        }
+        Format::BinAt => offset_of(input),
         _ => None,
     }
+}
+
+/// The number that the bytes begin with, and those after the space after it.
+fn offset_of(input: &[u8]) -> Option<(usize, &[u8])> {
+    let mut offset = 0usize;
+    let mut rest = input;
+    for byte in input {
+        if let [_, after @ ..] = rest {
+            rest = after;
+        }
+        match *byte {
+            b' ' => return Some((offset, rest)),
+            digit @ b'0'..=b'9' => {
+                offset = offset
+                    .wrapping_mul(10)
+                    .wrapping_add(usize::from(digit - b'0'));
+            }
+            _ => return None,
+        }
+    }
+    None
 }
 
 /// The text of the value that bytes begin with.
@@ -173,7 +188,8 @@ fn json_again<T: SerJson + DeJson>(alloc: Global, text: &str) -> Result<String, 
 
 /// What is read in a state, and the state afterwards.
 fn json_at<T: SerJson + DeJson>(alloc: Global, text: &str) -> Result<Outcome, AllocError> {
-    let Some((mut state, mut input)) = json_start(alloc, text)? else {
+    let mut state = DeJsonState::new(alloc);
+    let Some(mut input) = json_start(&mut state, text)? else {
         return Ok(Outcome::Unknown);
     };
     let read = json_of(alloc, T::de_json(alloc, &mut state, &mut input));
@@ -216,7 +232,8 @@ fn ron_again<T: SerRon + DeRon>(alloc: Global, text: &str) -> Result<String, DeR
 
 /// What is read in a state, and the state afterwards.
 fn ron_at<T: SerRon + DeRon>(alloc: Global, text: &str) -> Result<Outcome, AllocError> {
-    let Some((mut state, mut input)) = ron_start(alloc, text)? else {
+    let mut state = DeRonState::new(alloc);
+    let Some(mut input) = ron_start(&mut state, text)? else {
         return Ok(Outcome::Unknown);
     };
     let read = ron_of(alloc, T::de_ron(alloc, &mut state, &mut input));

@@ -1,22 +1,34 @@
 //! A state of RON's reader as a case has it.
 
 use crate::outcome::Outcome;
-use crate::start::{Left, Start, character, reported, start_of};
+use crate::start::{Left, Start, reported, start_of};
 use nanoserde::{DeRonErr, DeRonState, DeRonTok};
 use std::alloc::{AllocError, Global};
 use std::str::Chars;
 
-/// The state that a case describes, with the characters after its current one, or `None` where it
-/// describes none.
-pub fn ron_start(alloc: Global, text: &str) -> Result<Option<(DeRonState, Chars<'_>)>, AllocError> {
+/// Puts a reader into the state that a case describes, and answers with the characters after its
+/// current one, or `None` where it describes none.
+pub fn ron_start<'a>(
+    state: &mut DeRonState,
+    text: &'a str,
+) -> Result<Option<Chars<'a>>, AllocError> {
     let Some(start) = start_of(text) else {
         return Ok(None);
     };
-    let mut input = start.text.chars();
-    match set_up(alloc, &start, &mut input)? {
-        None => Ok(None),
-        Some(state) => Ok(Some((state, input))),
+    let Some(tok) = token(&start) else {
+        return Ok(None);
+    };
+    match tok {
+        DeRonTok::Str => state.strbuf.push_str(start.content)?,
+        DeRonTok::F64 => state.numbuf.push_str(start.content)?,
+        _ => state.identbuf.push_str(start.content)?,
     }
+    let mut input = start.text.chars();
+    state.tok = tok;
+    state.cur = input.next().unwrap_or('\0');
+    state.line = start.line;
+    state.col = start.col;
+    Ok(Some(input))
 }
 
 /// The state in which a text is read from its beginning on. Its first token may be none.
@@ -27,43 +39,13 @@ pub(crate) fn ron_begun(alloc: Global, input: &mut Chars<'_>) -> DeRonState {
     state
 }
 
-/// The state that is described, whose first character is taken from the input.
-fn set_up(
-    alloc: Global,
-    start: &Start<'_>,
-    input: &mut Chars<'_>,
-) -> Result<Option<DeRonState>, AllocError> {
-    let Some(tok) = token(start) else {
-        return Ok(None);
-    };
-    let mut state = DeRonState::new(alloc);
-    match tok {
-        DeRonTok::Str => state.strbuf.push_str(start.content)?,
-        DeRonTok::F64 => state.numbuf.push_str(start.content)?,
-        _ => state.identbuf.push_str(start.content)?,
-    }
-    state.tok = tok;
-    state.cur = input.next().unwrap_or('\0');
-    state.line = start.line;
-    state.col = start.col;
-    Ok(Some(state))
-}
-
 /// The pending token.
 fn token(start: &Start<'_>) -> Option<DeRonTok> {
-    let content = start.content;
     match start.token {
-        "U64" => Some(DeRonTok::U64(content.parse().ok()?)),
-        "I64" => Some(DeRonTok::I64(content.parse().ok()?)),
-        "Bool" => Some(DeRonTok::Bool(content == "true")),
-        "Char" => Some(DeRonTok::Char(character(content)?)),
-        name => punctuator(name),
-    }
-}
-
-/// The token of this name that carries nothing.
-fn punctuator(name: &str) -> Option<DeRonTok> {
-    match name {
+        "U64" => Some(DeRonTok::U64(start.unsigned?)),
+        "I64" => Some(DeRonTok::I64(start.signed?)),
+        "Bool" => Some(DeRonTok::Bool(start.content == "true")),
+        "Char" => Some(DeRonTok::Char(start.character?)),
         "Ident" => Some(DeRonTok::Ident),
         "Str" => Some(DeRonTok::Str),
         "F64" => Some(DeRonTok::F64),

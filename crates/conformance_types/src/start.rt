@@ -9,6 +9,12 @@ pub(crate) struct Start<'a> {
     pub(crate) token: &'a str,
     /// What it carries, which stands in parentheses.
     pub(crate) content: &'a str,
+    /// What it carries as a number of `u64`, where it is one.
+    pub(crate) unsigned: Option<u64>,
+    /// What it carries as a number of `i64`, where it is one.
+    pub(crate) signed: Option<i64>,
+    /// The character of which it carries the debug form.
+    pub(crate) character: Option<char>,
     /// The line.
     pub(crate) line: usize,
     /// The column.
@@ -17,39 +23,29 @@ pub(crate) struct Start<'a> {
     pub(crate) text: &'a str,
 }
 
-/// The state that is described, or `None` where it is none.
+/// The state that is described, or `None` where it has no place.
 pub(crate) fn start_of(state: &str) -> Option<Start<'_>> {
-    let (token, rest) = state.split_once(' ')?;
-    let (place, text) = rest.split_once(' ')?;
-    let (line, col) = place_of(place)?;
-    let (token, content) = token_of(token)?;
+    let (token, rest) = parted(state, ' ');
+    let (place, text) = parted(rest, ' ');
+    let (line, col) = parted(place, ':');
+    let (token, content) = parted(token, '(');
+    let content = content.strip_suffix(')').unwrap_or(content);
     Some(Start {
         token,
         content,
-        line,
-        col,
+        unsigned: content.parse().ok(),
+        signed: content.parse().ok(),
+        character: content.chars().nth(1),
+        line: line.parse().ok()?,
+        col: col.parse().ok()?,
         text,
     })
 }
 
-/// A line and a column.
-fn place_of(place: &str) -> Option<(usize, usize)> {
-    let (line, col) = place.split_once(':')?;
-    Some((line.parse().ok()?, col.parse().ok()?))
-}
-
-/// The name of a token, and what it carries, which is nothing where it has no parentheses.
-fn token_of(token: &str) -> Option<(&str, &str)> {
-    let Some((name, rest)) = token.split_once('(') else {
-        return Some((token, ""));
-    };
-    let content = rest.strip_suffix(')')?;
-    Some((name, content))
-}
-
-/// The character of the debug form of one.
-pub(crate) fn character(content: &str) -> Option<char> {
-    content.chars().nth(1)
+/// What stands before the first of these characters and what stands after it, or the whole text
+/// and nothing.
+fn parted(text: &str, between: char) -> (&str, &str) {
+    text.split_once(between).unwrap_or((text, ""))
 }
 
 /// What a call answers that ran out of memory.
