@@ -52,6 +52,12 @@ impl Json {
     /// Nothing else is rejected so. Any other error except out of memory reports that no such
     /// document is encoded at the beginning of the text, with one more token or the end after it.
     /// The message is `Value out of range levels>{levels} ` at a document inside so many others.
+    ///
+    /// # Examples
+    ///
+    /// ```
+    /// Some(levels) => Json::deserialize_json_whole_within(alloc, levels, text),
+    /// ```
     pub fn deserialize_json_whole_within(
         alloc: Global,
         levels: usize,

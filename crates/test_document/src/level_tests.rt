@@ -44,15 +44,15 @@ fn comes_to(read: Result<Json, DeJsonErr>, message: &str, col: usize) -> bool {
     }
 }
 
-/// Whether a limit is kept by the call of a whole input and by that of a beginning.
-fn is_kept(alloc: Global, text: &str, limit: usize, message: &str, col: usize) -> bool {
+/// Whether a limit holds for the call of a whole input and for that of a beginning.
+fn is_limit(alloc: Global, text: &str, limit: usize, message: &str, col: usize) -> bool {
     let whole = Json::deserialize_json_whole_within(alloc, limit, text);
     let beginning = Json::deserialize_json_within(alloc, limit, text);
     comes_to(whole, message, col) && comes_to(beginning, message, col)
 }
 
 #[test]
-fn limits_are_kept(rt: HostRuntime) {
+fn limits_are_of_levels(rt: HostRuntime) {
     let alloc = rt.alloc();
     for (levels, inner, limit, message, col) in LIMITS {
         let Ok(text) = nested(alloc, *levels, inner) else {
@@ -60,7 +60,7 @@ fn limits_are_kept(rt: HostRuntime) {
         };
         holds(
             &rt,
-            is_kept(alloc, text.as_str(), *limit, message, *col),
+            is_limit(alloc, text.as_str(), *limit, message, *col),
             text.as_str(),
         );
     }
