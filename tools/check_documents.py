@@ -20,6 +20,7 @@ from model.reader import BLOCK, CURLY, Fault
 CRATE = os.path.join(TOOLS, "..", "crates", "example_document")
 PROGRAM = os.path.join(CRATE, "out", "example_document")
 LEVELS = 128
+sys.setrecursionlimit(20000)
 SHOWN = 200
 
 
@@ -35,10 +36,10 @@ class Decimal(str):
     """The text of a number with a point or an exponent."""
 
 
-def read(reader, levels):
-    """The document that the pending token begins."""
+def read(reader, limit, levels):
+    """The document that the pending token begins, with so many of the limit's levels left."""
     if levels == 0:
-        raise reader.err_range(f"levels>{LEVELS}")
+        raise reader.err_range(f"levels>{limit}")
     if reader.tok not in ("BlockOpen", "CurlyOpen"):
         if reader.tok not in ("Null", "Bool", "Str", "U64", "I64", "F64"):
             raise reader.err_token("value")
@@ -48,25 +49,26 @@ def read(reader, levels):
     brackets, of_all = (BLOCK, []) if reader.tok == "BlockOpen" else (CURLY, Object())
     reader.open(brackets)
     while reader.tok != brackets.close:
-        of_all.append(read(reader, levels - 1) if brackets is BLOCK else entry(reader, levels - 1))
+        inner = read if brackets is BLOCK else entry
+        of_all.append(inner(reader, limit, levels - 1))
         reader.eat_comma(brackets)
     reader.close(brackets)
     return of_all
 
 
-def entry(reader, levels):
+def entry(reader, limit, levels):
     """A name, a colon and a document."""
     name = reader.as_string()
     reader.next_tok()
     reader.ask("Colon", ":")
-    return name, read(reader, levels)
+    return name, read(reader, limit, levels)
 
 
-def whole(text):
-    """The document that a whole text is."""
+def whole(text, limit=LEVELS):
+    """The document of at most so many levels that a whole text is."""
     reader = JsonReader(text)
     reader.next_tok()
-    document = read(reader, LEVELS)
+    document = read(reader, limit, limit)
     reader.end_of_input()
     return document
 
@@ -134,8 +136,8 @@ def shown(text, line, column):
 def answer_of(words, text):
     """The status, and what is printed."""
     try:
-        document = whole(text)
         word, *more = words
+        document = whole(text, int(more[0])) if word == "within" else whole(text)
         if word == "get":
             document = found(document, more[0])
         if word == "set":
@@ -175,7 +177,7 @@ def main():
             if came != wanted:
                 faults += 1
                 print(f"{where}: {who} answers {str(came)[:SHOWN]}, not {str(wanted)[:SHOWN]}")
-        if status == "0" and words[0] in ("compact", "indent") and by_python(data):
+        if status == "0" and words[0] in ("compact", "indent", "within") and by_python(data):
             if by_python(data) != by_python(wanted[1]):
                 faults += 1
                 print(f"{where}: Python reads another value from what is written")

@@ -4,6 +4,7 @@ pub mod DecimalText
 pub mod Documents
 pub mod Reading
 pub mod Sound
+pub mod Converting
 pub mod Numbers
 pub mod Alternatives
 pub mod Finding

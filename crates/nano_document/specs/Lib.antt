@@ -3,6 +3,7 @@ pub mod Documents
 pub mod DecimalCodecs
 pub mod IntegerCodecs
 pub mod DocumentCodecs
+pub mod Conversions
 pub mod Held
 pub mod Pointers
 pub mod Equality

@@ -1,12 +1,14 @@
 //! Laws of documents: functions that do nothing, and whose contract is the law.
 
 ghost use Rattle.std.specs.Prelude.{◌≡◌, ◌↔◌, ◌<◌, ◌++◌, ℕ, ℤ, List, String, string_bytes};
+ghost use Rattle.std.specs.Prelude.{MatchResult, true};
 ghost use Rattle.std.specs.Global.{Global};
 ghost use Rattle.nano_value.specs.Meaning.{Meaning, text};
 ghost use Rattle.nano_meaning.specs.Sums.{tagged};
 ghost use Rattle.nano_document.specs.Decimals.{IsDecimal};
 ghost use Rattle.nano_document.specs.Documents.{depth, most_levels, json_means};
 ghost use Rattle.nano_document.specs.DocumentCodecs.{json_codec};
+ghost use Rattle.nano_document.specs.Conversions.{IsWrittenDocument};
 ghost use Rattle.nano_document.specs.IndentedCodecs.{indented};
 ghost use Rattle.nano_bin_bytes.specs.Scalars.{little_endian};
 ghost use Rattle.nano_bin_bytes.specs.Containers.{written_string};
@@ -17,7 +19,10 @@ ghost use Rattle.nano_json_tokens.specs.Cut.{Cut};
 ghost use Rattle.nano_json_tokens.specs.Written.{MayFollow};
 
 use crate::json::Json;
+use nano_json::laws::written_tokens_encode_a_sound_value;
+use nano_json::{BothJson, DeJsonErr};
 use nano_value::Value;
+use std::alloc::Global;
 
 /// A document of at most 128 levels is sound: what is written of it is read back.
 pub fn a_document_of_few_levels_is_sound()
@@ -68,3 +73,16 @@ pub fn equal_documents_have_one_tag()
     ensures other { (s : String Global) → (IsDecimal (string_bytes s) → ⊥)
         → bin_codec.canonical.written (Json.Decimal s) ≡ little_endian 2 5 ++ written_string s }
 {}
+
+/// Makes a document of a value and reads the value from it, where the value's canonical tokens are
+/// those that a document is written with. A sound value comes back as one that means the same, and
+/// the only error is out of memory.
+pub fn a_value_comes_back<T: BothJson>(alloc: Global, value: &T) -> Result<T, DeJsonErr>
+    ensures { (x : Json) → IsWrittenDocument (T.json.canonical.tokens value.now) x
+        → T.json.sound value.now → MatchResult result
+        (λ read. T.means read ≡ T.means value.now) (λ e. e.memory ≡ true) }
+{
+    written_tokens_encode_a_sound_value(value);
+    let document = Json::from_value(alloc, value)?;
+    document.to_value(alloc)
+}

@@ -3,6 +3,7 @@
 #![tactic(auto)]
 
 mod access;
+mod convert;
 mod decimal;
 mod held;
 mod indented;
@@ -13,6 +14,7 @@ mod pointer;
 mod read;
 mod read_bin;
 mod same;
+mod within;
 mod write;
 mod write_bin;
 

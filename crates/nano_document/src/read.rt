@@ -3,10 +3,11 @@
 //! On an error, a reader here may leave the state at any position, unless it says where.
 
 ghost use Rattle.std.specs.Prelude.{◌≡◌, map, string_bytes};
+ghost use Rattle.nano_json_tokens.specs.Outcomes.{Says};
 ghost use Rattle.nano_value.specs.Meaning.{number, text, listed};
 ghost use Rattle.nano_meaning.specs.Sums.{tagged};
 ghost use Rattle.nano_json.specs.Outcomes.{position, Reads};
-ghost use Rattle.nano_document.specs.Documents.{json_means, entry_means};
+ghost use Rattle.nano_document.specs.Documents.{json_means, entry_means, levels_message};
 ghost use Rattle.nano_document.specs.DecimalCodecs.{decimals};
 ghost use Rattle.nano_document.specs.DocumentCodecs.{level_codec, items_at, entry_at, entries_at};
 
@@ -51,10 +52,23 @@ fn read_decimal(
     Ok(text)
 }
 
-/// Reads a document of at most so many levels.
+/// The error of a document inside more others than the limit: `Value out of range levels>{limit} `.
+#[cold]
+#[inline(never)]
+fn too_deep(alloc: Global, limit: usize, state: &DeJsonState) -> DeJsonErr
+    ensures { Says state.now (levels_message limit) result }
+{
+    match format!(in alloc; "levels>{limit}") {
+        Ok(what) => state.err_range(alloc, what.as_str()),
+        Err(_rejected) => state.err_memory(alloc),
+    }
+}
+
+/// Reads a document of at most so many levels. An error of one with more says the limit.
 #[cycle(read)]
-fn read_json(
+pub(crate) fn read_json(
     alloc: Global,
+    limit: usize,
     levels: usize,
     state: &mut DeJsonState,
     input: &mut Chars<'_>,
@@ -63,7 +77,7 @@ fn read_json(
         (position state.old input.old) (position state.new input.new) result }
 {
     if levels == 0 {
-        return Err(state.err_range(alloc, "levels>128"));
+        return Err(too_deep(alloc, limit, state));
     }
     match state.tok {
         DeJsonTok::Null => {
@@ -84,8 +98,14 @@ fn read_json(
         }
         DeJsonTok::F64 => Ok(Json::Decimal(read_decimal(alloc, state, input)?)),
         DeJsonTok::Str => Ok(Json::Text(String::de_json(alloc, state, input)?)),
-        DeJsonTok::BlockOpen => Ok(Json::List(read_items(alloc, levels - 1, state, input)?)),
-        DeJsonTok::CurlyOpen => Ok(Json::Object(read_entries(alloc, levels - 1, state, input)?)),
+        DeJsonTok::BlockOpen => Ok(Json::List(read_items(alloc, limit, levels - 1, state, input)?)),
+        DeJsonTok::CurlyOpen => Ok(Json::Object(read_entries(
+            alloc,
+            limit,
+            levels - 1,
+            state,
+            input,
+        )?)),
         _ => Err(state.err_token(alloc, "value")),
     }
 }
@@ -94,6 +114,7 @@ fn read_json(
 #[cycle(read)]
 fn read_items(
     alloc: Global,
+    limit: usize,
     levels: usize,
     state: &mut DeJsonState,
     input: &mut Chars<'_>,
@@ -106,7 +127,7 @@ fn read_items(
     let mut items = Vec::new(alloc);
     state.block_open(alloc, input)?;
     'items: while !state.is_block_close() {
-        let item = read_json(alloc, levels, state, input)?;
+        let item = read_json(alloc, limit, levels, state, input)?;
         let Ok(()) = items.push(item) else {
             return Err(state.err_memory(alloc));
         };
@@ -120,6 +141,7 @@ fn read_items(
 #[cycle(read)]
 fn read_entries(
     alloc: Global,
+    limit: usize,
     levels: usize,
     state: &mut DeJsonState,
     input: &mut Chars<'_>,
@@ -133,7 +155,7 @@ fn read_entries(
     let mut entries = Vec::new(alloc);
     state.curly_open(alloc, input)?;
     'entries: while !state.is_curly_close() {
-        let entry = read_entry(alloc, levels, state, input)?;
+        let entry = read_entry(alloc, limit, levels, state, input)?;
         let Ok(()) = entries.push(entry) else {
             return Err(state.err_memory(alloc));
         };
@@ -147,6 +169,7 @@ fn read_entries(
 #[cycle(read)]
 fn read_entry(
     alloc: Global,
+    limit: usize,
     levels: usize,
     state: &mut DeJsonState,
     input: &mut Chars<'_>,
@@ -156,7 +179,7 @@ fn read_entry(
 {
     let name = String::de_json(alloc, state, input)?;
     state.colon(alloc, input)?;
-    let value = read_json(alloc, levels, state, input)?;
+    let value = read_json(alloc, limit, levels, state, input)?;
     Ok((name, value))
 }
 
@@ -166,7 +189,7 @@ impl DeJson for Json {
         state: &mut DeJsonState,
         input: &mut Chars<'_>,
     ) -> Result<Json, DeJsonErr> {
-        let read = read_json(alloc, MOST_LEVELS, state, input);
+        let read = read_json(alloc, MOST_LEVELS, MOST_LEVELS, state, input);
         end_on_error(state, read)
     }
 }

@@ -3,7 +3,7 @@
 use crate::checks::holds;
 use nano_document::{Json, laws};
 use nano_json::{DeJson, DeJsonErr, SerJson};
-use std::alloc::{AllocError, Global};
+use std::alloc::Global;
 
 /// Texts, and what is written of the documents that they are.
 const TEXTS: &[(&str, &str)] = &[
@@ -65,54 +65,6 @@ fn documents_are_read_and_written(rt: HostRuntime) {
     for text in NOT_READ {
         holds(&rt, again(alloc, text).is_err(), text);
     }
-}
-
-/// So many opening brackets, a text, and as many closing ones.
-fn nested(alloc: Global, levels: usize, text: &str) -> Result<String, AllocError> {
-    let mut out = String::new(alloc);
-    for _ in 0..levels {
-        out.push('[')?;
-    }
-    out.push_str(text)?;
-    for _ in 0..levels {
-        out.push(']')?;
-    }
-    Ok(out)
-}
-
-/// Whether the error of a text is that it has too many levels, in this column.
-fn is_too_deep(alloc: Global, text: &str, col: usize) -> bool {
-    match Json::deserialize_json(alloc, text) {
-        Ok(_document) => false,
-        Err(error) => {
-            error.msg.as_str() == "Value out of range levels>128 "
-                && error.line == 0
-                && error.col == col
-        }
-    }
-}
-
-fn levels_are_counted(alloc: Global) -> Result<bool, AllocError> {
-    let most = nested(alloc, 127, "1")?;
-    let empty = nested(alloc, 128, "")?;
-    let more = nested(alloc, 128, "1")?;
-    let deep = nested(alloc, 129, "")?;
-    Ok(
-        is_again(alloc, most.as_str(), most.as_str())
-            && is_again(alloc, empty.as_str(), empty.as_str())
-            && is_too_deep(alloc, more.as_str(), 130)
-            && is_too_deep(alloc, deep.as_str(), 130),
-    )
-}
-
-#[test]
-fn levels_are_counted_to_128(rt: HostRuntime) {
-    let alloc = rt.alloc();
-    holds(
-        &rt,
-        levels_are_counted(alloc).unwrap_or(false),
-        "128 levels",
-    );
 }
 
 /// Whether the documents of a list are as they stand in the text below.

@@ -8,10 +8,14 @@ mod bin_tests;
 #[cfg(test)]
 mod checks;
 #[cfg(test)]
+mod convert_tests;
+#[cfg(test)]
 mod decimal_tests;
 #[cfg(test)]
 mod document_tests;
 #[cfg(test)]
 mod indented_tests;
+#[cfg(test)]
+mod level_tests;
 #[cfg(test)]
 mod type_tests;

@@ -144,7 +144,7 @@ read_entry-returns-in_err-value t c =
 -- ---- read_json
 
 pub read_json-returns-then-levels-eq0 : goal.read_json-returns-then-levels-eq0
-read_json-returns-then-levels-eq0 t c = no_level c.args.levels c.if-levels-eq0.true refl c.err_range.ensures.1
+read_json-returns-then-levels-eq0 t c = no_level c.args.levels c.if-levels-eq0.true refl c.too_deep.ensures.1
 
 pub read_json-returns-in_ok-next_tok-in-Null : goal.read_json-returns-in_ok-next_tok-in-Null
 read_json-returns-in_ok-next_tok-in-Null t c =
