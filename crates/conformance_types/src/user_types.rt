@@ -13,7 +13,7 @@ use std::collections::{BTreeSet, HashMap, HashSet, LinkedList};
 use std::str;
 use test_types::{
     Change, Clock, Command, Count, Empty, Entry, Event, Greetings, Hall, HallName, Marker, Message,
-    Moved, Notice, Point, Reply, Role, Seat, Seats, Server, Signal, Site, Step, Tagged, Trip,
+    Moved, Notice, Point, Proxy, Reply, Role, Seat, Seats, Server, Signal, Site, Step, Tagged, Trip,
     UserId, Visits,
 };
 
@@ -84,6 +84,7 @@ fn of_example(
         "Notice" => of_type::<Notice>(alloc, format, input),
         "Moved" => of_type::<Moved>(alloc, format, input),
         "Change" => of_type::<Change>(alloc, format, input),
+        "Proxy" => of_type::<Proxy>(alloc, format, input),
         "Tagged" => of_type::<Tagged<i32, String>>(alloc, format, input),
         "Reply" => of_type::<Reply<i32, String>>(alloc, format, input),
         _ => of_key(alloc, format, kind, input),
