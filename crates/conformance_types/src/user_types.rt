@@ -52,6 +52,7 @@ fn of_deep(alloc: Global, format: Format, kind: &str, input: &[u8]) -> Result<Ou
         "Vec<Option<Holder<Item>>>" => of_list::<Option<Holder<Item>>>(alloc, format, input),
         "Vec<Option<Holder<Choice>>>" => of_list::<Option<Holder<Choice>>>(alloc, format, input),
         "Vec<Option<Holder<Event>>>" => of_list::<Option<Holder<Event>>>(alloc, format, input),
+        "Vec<Proxy>" => of_list::<Proxy>(alloc, format, input),
         _ => of_example(alloc, format, kind, input),
     }
 }

@@ -117,7 +117,7 @@ struct C {
 // nanoserde: json deny_unknown
 struct D;
 =>
-        read_record_json_strict::<Self, ()>(alloc, state, input)
+        read_record_json_strict::<Self, Unit>(alloc, state, input)
 "#;
 
 /// What has the name of something in the file is said by its path.
