@@ -13,8 +13,8 @@ use std::collections::{BTreeSet, HashMap, HashSet, LinkedList};
 use std::str;
 use test_types::{
     Change, Clock, Command, Count, Empty, Entry, Event, Greetings, Hall, HallName, Marker, Message,
-    Moved, Notice, Point, Proxy, Reply, Role, Seat, Seats, Server, Signal, Site, Step, Tagged, Trip,
-    UserId, Visits,
+    Moved, Notice, Point, Proxy, Reply, Role, Seat, Seats, Server, Signal, Site, Step, Tagged,
+    Trip, UserId, Visits,
 };
 
 /// The four lists and sets, as a tuple.

@@ -36,8 +36,8 @@ pub use fields::{JsonFields, JsonRefs, JsonShape};
 pub use nano_json::{BothJson, DeJson, DeJsonErr, DeJsonState, JsonCodec, SerJson, SerJsonState};
 pub use nano_text::Place;
 pub use part::Part;
-pub use plain::{take_fields, take_fields_strict};
-pub use read::{read_fields, read_fields_strict};
+pub use plain::take_fields;
+pub use read::read_fields;
 pub use record::{
     read_parts_json, read_record_json, read_record_json_strict, take_record_json,
     take_record_json_strict, write_record_json,

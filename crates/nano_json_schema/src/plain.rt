@@ -31,7 +31,7 @@ pub fn take_fields<F: JsonFields>(
 
 /// The same where each name must be known, which is so of all that is taken here.
 #[inline(always)]
-pub fn take_fields_strict<F: JsonFields>(
+pub(crate) fn take_fields_strict<F: JsonFields>(
     alloc: Global,
     place: &mut Place,
     input: &mut Chars<'_>,

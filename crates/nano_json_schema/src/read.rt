@@ -42,7 +42,7 @@ pub fn read_fields<F: JsonFields>(
 /// The same where each name must be known. A field of another name is rejected by
 /// `Unexpected key {name}`, once its name, the colon, and the first token of what comes after them
 /// are cut.
-pub fn read_fields_strict<F: JsonFields>(
+pub(crate) fn read_fields_strict<F: JsonFields>(
     alloc: Global,
     state: &mut DeJsonState,
     input: &mut Chars<'_>,

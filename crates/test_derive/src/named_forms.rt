@@ -80,7 +80,8 @@ type BFields<A> = Aliased<
 "#;
 
 /// A struct that denies unknown names is strict in JSON alone.
-pub(crate) const STRICT: &str = r#"// nanoserde: bin json ron, deny_unknown, rename_all = "camelCase"
+pub(crate) const STRICT: &str =
+    r#"// nanoserde: bin json ron, deny_unknown, rename_all = "camelCase"
 struct A {
     the_first: u8,
 }
