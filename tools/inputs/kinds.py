@@ -40,6 +40,7 @@ STRUCTS = {
     "Site": "host: String, port?: u16, first?: String, tags?: Vec<String>, owner?: Option<String>",
     "Clock": "offset?: i32, running?: bool",
     "Moved": "host|hostname: String, contact|owner|admin?: Option<String>, port|tcp_port?: u16",
+    "Proxy": "host|hostname: String, port?: Option<u16>",
     "Marker": "", "Empty": "", "Count": "",
     "Trip": "there: Marker, new?: Option<Empty>, steps: Vec<Step>",
     "Hall": "visits: Visits, greetings: Greetings, taken: Seats",

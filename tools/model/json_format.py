@@ -48,9 +48,11 @@ class JsonReader(Reader):
             if depth == 0:
                 return
 
-    def unknown_field(self, _):
-        """A name that the struct does not have."""
+    def unknown_field(self, name, strict):
+        """A name that the struct does not have: what comes after it is skipped, unless the struct denies it."""
         self.next_colon()
+        if strict:
+            raise self.error(f"Unexpected key {name}")
         self.whole_field()
 
     def unit(self):

@@ -55,7 +55,7 @@ class RonReader(Reader):
         """A boolean, or an integer from 0 up, of which 0 is false and any other true."""
         return self.value != 0 if self.tok == "U64" else super().as_bool()
 
-    def unknown_field(self, name):
+    def unknown_field(self, name, _):
         """A name that the struct does not have."""
         raise self.error(f"Unexpected key {name}")
 

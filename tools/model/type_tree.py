@@ -17,6 +17,7 @@ class Type(NamedTuple):
     parts: tuple = ()  # the types of its items, parts or fields, one after another
     fields: tuple = ()  # of a struct
     variants: tuple = ()  # of an enum
+    strict: bool = False  # whether a struct of JSON has no other fields
     size: int = 0  # an integer's bytes
     low: int = 0  # the range of an integer
     high: int = 0
@@ -74,6 +75,7 @@ STRUCTS = {
     "Site": ["host: String", ("port: u16", 8080), ("first: String", "index"),
              ("tags: Vec<String>", ()), ("owner: Option<String>", ())],
     "Moved": ["host|hostname: String", "contact|owner|admin: Option<String>", ("port|tcp_port: u16", 8080)],
+    "Proxy": ["host|hostname: String", "port: Option<u16>"],
     "Clock": [("offset: i32", -5), ("running: bool", True)],
     "Marker": [], "Empty": [], "Count": [],
     "Trip": ["there: Marker", "new: Option<Empty>", "steps: Vec<Step>"],
@@ -92,6 +94,7 @@ ENUMS = {
     "Role": ["Guest", "Member", "Moderator", "Owner"],
     "Reply": ["Found(A)", "Failed(B, u32)", {"Listed": ["items: Vec<A>", "next: Option<B>"]}],
 }
+STRICT = {"Proxy"}  # these are `deny_unknown`
 PARAMETERS = {"Holder": 1, "Tagged": 2, "Reply": 2}
 # These have one format alone.
 ONLY = {"Command": "bin", "Message": "json", "u128": "bin", "i128": "bin"}
@@ -171,7 +174,7 @@ def named(word, parts, given):
         raise Unknown(word)
     given = dict(zip("AB", parts))
     if word in STRUCTS:
-        return struct(STRUCTS[word], given)
+        return struct(STRUCTS[word], given)._replace(strict=word in STRICT)
     if word in ENUMS:
         return Type("enum", variants=tuple(variant(line, given) for line in ENUMS[word]))
     raise Unknown(word)

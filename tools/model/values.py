@@ -26,7 +26,7 @@ def read(reader, type):
     if kind in ("tuple", "array"):
         return read_parts(reader, type.parts)
     if kind == "struct":
-        return read_fields(reader, type.fields)
+        return read_fields(reader, type.fields, type.strict)
     if kind == "enum":
         return reader.variant(type.variants)
     if kind == "map":
@@ -63,7 +63,7 @@ def read_parts(reader, parts):
     return tuple(values)
 
 
-def read_fields(reader, fields):
+def read_fields(reader, fields, strict):
     """LIST of named fields in any order. Missing ones are looked for after the closing bracket."""
     known = {name: field for field in fields for name in (field.name, *field.aliases)}
     found = {}  # of the names of a field that occur, the last one counts
@@ -74,7 +74,7 @@ def read_fields(reader, fields):
             reader.next_colon()
             found[known[name].name] = read(reader, known[name].type)
         else:
-            reader.unknown_field(name)
+            reader.unknown_field(name, strict)
         reader.eat_comma(reader.FIELDS)
     reader.close(reader.FIELDS)
     values = []

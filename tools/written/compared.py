@@ -237,6 +237,16 @@ def compare_key(impls, kind, name, attributes, content):
         same(f"parts of `{member}` of `{name}`", wanted, parts)
 
 
+def compare_strict(impls, name, attributes):
+    """What encodes and reads a struct in JSON is strict where it denies unknown names, and only there."""
+    calls = []
+    for trait in {"JsonCodec", "DeJson"} & impls.traits(name):
+        block = impls.block(rf"(?:\w+::)?{trait} for {name}\b")
+        calls += re.findall(r"\b(?:strict_)?json_of\b|\b(?:read|take)_record_json\w*", block)
+    wanted = ["deny_unknown" in attributes] * len(calls)
+    same(f"whether `{name}` is strict", wanted, ["strict" in call for call in calls])
+
+
 def compare(source, text):
     """Compares the definitions of a source with the text of its impls."""
     impls, found = Impls(text), definitions(source)
@@ -255,6 +265,7 @@ def compare(source, text):
         }
         same(f"formats of `{name}`", wanted, got)
         compare_key(impls, kind, name, attributes, content)
+        compare_strict(impls, name, attributes)
         for trait, written in impls.bounds(name):
             same(f"bounds of `{trait}` for `{name}`", bounds, written)
         (compare_struct if kind == "struct" else compare_enum)(impls, name, attributes, content)

@@ -95,11 +95,12 @@ def drawn(draw, number):
     )
     words = ["first", "second_one", "the_third", "x", "last_of_all", "y2"]
     names = draw.sample(words, draw.randrange(7))
+    denied = " deny_unknown" if "json" in formats and draw.random() < 0.3 else ""
     is_unit = not names and draw.random() < 0.5
     parameters, end, types = drawn_head(draw, ";" if is_unit else " {")
     lines = [
         "use std::collections::{BTreeMap, LinkedList};",
-        f"// nanoserde: {formats}{case if names else ''}",
+        f"// nanoserde: {formats}{case if names else ''}{denied}",
         "#[derive(Drop)]",
         f"pub struct S{number}{parameters}{end}",
     ]

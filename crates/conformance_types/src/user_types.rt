@@ -13,8 +13,8 @@ use std::collections::{BTreeSet, HashMap, HashSet, LinkedList};
 use std::str;
 use test_types::{
     Change, Clock, Command, Count, Empty, Entry, Event, Greetings, Hall, HallName, Marker, Message,
-    Moved, Notice, Point, Reply, Role, Seat, Seats, Server, Signal, Site, Step, Tagged, Trip,
-    UserId, Visits,
+    Moved, Notice, Point, Proxy, Reply, Role, Seat, Seats, Server, Signal, Site, Step, Tagged,
+    Trip, UserId, Visits,
 };
 
 /// The four lists and sets, as a tuple.
@@ -52,6 +52,7 @@ fn of_deep(alloc: Global, format: Format, kind: &str, input: &[u8]) -> Result<Ou
         "Vec<Option<Holder<Item>>>" => of_list::<Option<Holder<Item>>>(alloc, format, input),
         "Vec<Option<Holder<Choice>>>" => of_list::<Option<Holder<Choice>>>(alloc, format, input),
         "Vec<Option<Holder<Event>>>" => of_list::<Option<Holder<Event>>>(alloc, format, input),
+        "Vec<Proxy>" => of_list::<Proxy>(alloc, format, input),
         _ => of_example(alloc, format, kind, input),
     }
 }
@@ -84,6 +85,7 @@ fn of_example(
         "Notice" => of_type::<Notice>(alloc, format, input),
         "Moved" => of_type::<Moved>(alloc, format, input),
         "Change" => of_type::<Change>(alloc, format, input),
+        "Proxy" => of_type::<Proxy>(alloc, format, input),
         "Tagged" => of_type::<Tagged<i32, String>>(alloc, format, input),
         "Reply" => of_type::<Reply<i32, String>>(alloc, format, input),
         _ => of_key(alloc, format, kind, input),

@@ -9,7 +9,7 @@ const FORM: &str =
     colon";
 
 /// The words with which an attribute begins.
-const WORDS: [&str; 15] = [
+const WORDS: [&str; 16] = [
     "bin",
     "json",
     "ron",
@@ -23,6 +23,7 @@ const WORDS: [&str; 15] = [
     "key",
     "rename",
     "rename_all",
+    "deny_unknown",
     "default",
     "skip",
 ];

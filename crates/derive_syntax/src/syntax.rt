@@ -65,6 +65,8 @@ pub struct Attributes<'a> {
     pub rename_all: Option<Token<'a>>,
     /// The case that this text names.
     pub case: Option<Case>,
+    /// The word `deny_unknown`.
+    pub deny_unknown: Option<Token<'a>>,
     /// The word `default`.
     pub default: Option<Token<'a>>,
     /// The text after `default`.

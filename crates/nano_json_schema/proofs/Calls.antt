@@ -5,7 +5,7 @@ use Rattle.std.specs.declared.str.Chars.{Chars}
 use Rattle.nano_text.specs.Place.{remaining, text_at, Advances, Moves}
 use Rattle.nano_text.proofs.PlaceLaws.{moves_append, moves_none, moves_advance, advances_append}
 use Rattle.nano_grammar.specs.Outcomes.{Position, Report, Fails, TookNext, Took, ReadsNone, StandsAt}
-use Rattle.nano_grammar.specs.Outcomes.{ReadsNoneAndEnds, GoesWrong as GoesWrongBy}
+use Rattle.nano_grammar.specs.Outcomes.{ReadsNoneAndEnds, GoesWrong as GoesWrongBy, IsMadeAt}
 use Rattle.nano_grammar.specs.Faults.{AreTokens, Reason, wrong, uncut, MayFollow, NoneBegins, Fault}
 use Rattle.nano_grammar.proofs.FaultLaws.{goes_wrong, stopped_here, uncut_token, none_ended}
 use Rattle.nano_grammar.proofs.FaultLaws.{nothing_decodes}
@@ -14,10 +14,12 @@ use Rattle.nano_json_tokens.specs.Cut.{Cut}
 use Rattle.nano_json_tokens.specs.Outcomes.{report, position, Keeps, NothingCut}
 use Rattle.nano_json_tokens.specs.Outcomes.{EndsOnError, TookText, LacksText}
 use Rattle.nano_json_tokens.specs.State.{at, ended, pending, place_of, token_of}
+use Rattle.nano_json_tokens.specs.Skipped.{SkippedField}
 use Rattle.nano_json_tokens.specs.Token.{Token, str, colon, IsStr, curly_close, curly_open}
 use Rattle.nano_json_tokens.specs.declared.error.DeJsonErr.{DeJsonErr}
 use Rattle.nano_json_tokens.specs.declared.state.DeJsonState.{DeJsonState}
 use Rattle.nano_json_tokens.proofs.Calling.{gives_up}
+use Rattle.nano_json_schema.specs.FieldCodecs.{nothing_after}
 use Rattle.nano_json_schema.specs.Outcomes.{TakesTokens, TakesTokensOrEnds, is_str}
 use Rattle.nano_json_tokens.specs.declared.token.DeJsonTok.{DeJsonTok}
 use Rattle.nano_json_tokens.specs.declared.token.DeJsonTok.TheVariants.{Str}
@@ -56,6 +58,25 @@ ended_take {mid = mid} {new} {read = Err e} tokens none start j h k =
     let up = gives_up mid new j h.state in
     subst (λ (r : Result _ DeJsonErr). TakesTokensOrEnds tokens none start (position new j) r) (sym h.same)
     (record { fails = none_ended Cut none ended up k; ended = ap (λ (p : Position Token). p.at) up })
+
+-- ---- after a name that is not known
+
+-- a field was passed over
+pub field_passed : {same_buffers : Type 0} {start end : Position Token}
+    → (us : List Token) × SkippedField us × Took Cut same_buffers start end us
+    → (us : List Token) × SkippedField us × Took Cut (Unit {0}) start end us
+field_passed k = (
+  k.0,
+  k.1,
+  record { taken = k.2.taken; buffers = tt; place = k.2.place },
+)
+
+-- nothing may stand here
+pub nothing_here : (s : DeJsonState) (i : Chars) (e : Report) → IsMadeAt (place_of s) e
+    → ReadsNone Cut (λ us (x : Unit {0}). nothing_after.Value us) (position s i) (position s i) e
+nothing_here s i e made =
+    let Nothing : List Token → Unit {0} → Type 0 = λ us x. nothing_after.Value us in
+    fails_here (goes_wrong Cut Nothing (position s i) refl (λ x h. h) (λ us x h. h)) made
 
 -- where no string is pending, no name is
 pub no_name_here : (s : DeJsonState) (i : Chars) (ts : List Token) → (IsStr (pending s) → ⊥)

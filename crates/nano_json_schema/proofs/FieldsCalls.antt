@@ -19,10 +19,10 @@ use Rattle.nano_grammar.proofs.StructReading.{struct_field_taken, struct_closing
 use Rattle.nano_json_tokens.specs.Cut.{Cut}
 use Rattle.nano_json_tokens.specs.Token.{Token, str, colon, comma, curly_open, curly_close}
 use Rattle.nano_json.proofs.Json.{json_laws}
-use Rattle.nano_json_schema.specs.Reading.{Field, Shape, Allowed, EncodesField, EncodesFields}
+use Rattle.nano_json_schema.specs.Reading.{Field, Shape, Allowed, EncodesField, EncodesFieldsWith}
 use Rattle.nano_json_schema.specs.Reading.{name_bytes, TakesSome, IsNamed, FieldLeft, head_left}
 use Rattle.nano_json_schema.specs.Reading.{StandsAfter, GoesOn, ReachedName, TookColon, TookField}
-use Rattle.nano_json_schema.specs.FieldCodecs.{json_fields}
+use Rattle.nano_json_schema.specs.FieldCodecs.{AfterUnknown, fields_with}
 use Rattle.nano_json_schema.specs.Outcomes.{is_str}
 use Rattle.nano_json_schema.proofs.Calls.{name_goes_on, no_name_pending}
 
@@ -43,76 +43,77 @@ head_some : (name : Option (List ℕ)) (n : List ℕ) {start end : Position Toke
 head_some None n head = (str n, colon ∷ [], refl, head.head)
 head_some (Some name) n head = (colon, [], refl, head.head)
 
-module _ (shape : Shape) {before after : List Field → Type 0} {start mid end : Position Token} (name : Option (List ℕ)) where
-  -- its name and the colon, and the value after them
-  pub field_taken : (n : List ℕ) → TookColon name start mid n
-      → ReadField Cut [] n (Allowed shape) before after mid end
-      → TookField name start end shape before after
-  field_taken n head h =
-      let some = head_some name n head in
-      record {
-        decodes = λ here stands. (
-          record { name = n; value = h.value },
-          field_after json_fields json_laws n (Allowed shape) here mid.at end.at h.value (head_from name n head here stands) h.allowed h.taken,
-          h.held,
-        );
-        some = (
-          some.0,
-          some.1 ++ h.value,
-          some.2,
-          leaves_append Cut (some.0 ∷ some.1) h.value start.at mid.at end.at some.3 h.taken,
-        );
-        place = moves_append head.place h.place;
-      }
+module _ (unknown : AfterUnknown) where
+  module _ (shape : Shape) {before after : List Field → Type 0} {start mid end : Position Token} (name : Option (List ℕ)) where
+    -- its name and the colon, and the value after them
+    pub field_taken : (n : List ℕ) → TookColon name start mid n
+        → ReadField Cut [] n (Allowed unknown shape) before after mid end
+        → TookField name start end unknown shape before after
+    field_taken n head h =
+        let some = head_some name n head in
+        record {
+          decodes = λ here stands. (
+            record { name = n; value = h.value },
+            field_after (fields_with unknown) json_laws n (Allowed unknown shape) here mid.at end.at h.value (head_from name n head here stands) h.allowed h.taken,
+            h.held,
+          );
+          some = (
+            some.0,
+            some.1 ++ h.value,
+            some.2,
+            leaves_append Cut (some.0 ∷ some.1) h.value start.at mid.at end.at some.3 h.taken,
+          );
+          place = moves_append head.place h.place;
+        }
 
--- what may come after its name is left of a field
-value_leads : (shape : Shape) (name : Option (List ℕ)) (n : List ℕ) (pending : Token) → IsNamed name n
-    → LeadsTo (FieldLeft name shape) (FieldTokens [] n (Allowed shape)) (head_left name (str n)) pending
-value_leads shape None n pending named us more rest next f h is =
-    let k = field_after_leads json_fields json_laws n (Allowed shape) pending us more rest next f h is in
-    (k.0, k.0, k.2, k.3, (refl, k.4), k.5)
-value_leads shape (Some name) n pending named us more rest next f h is =
-    let same = ap (λ (x : List ℕ). str x ∷ us) named in
-    let field = subst (λ (ts : List Token). EncodesField shape ts f) same h in
-    let k =
-    field_after_leads json_fields json_laws n (Allowed shape) pending (str n ∷ us) more rest next f field
-    (ap (λ (xs : List Token). str n ∷ xs) is) in
-    (k.0, k.0, k.2, k.3, (refl, k.4), k.5)
+  -- what may come after its name is left of a field
+  value_leads : (shape : Shape) (name : Option (List ℕ)) (n : List ℕ) (pending : Token) → IsNamed name n
+      → LeadsTo (FieldLeft unknown name shape) (FieldTokens [] n (Allowed unknown shape)) (head_left name (str n)) pending
+  value_leads shape None n pending named us more rest next f h is =
+      let k = field_after_leads (fields_with unknown) json_laws n (Allowed unknown shape) pending us more rest next f h is in
+      (k.0, k.0, k.2, k.3, (refl, k.4), k.5)
+  value_leads shape (Some name) n pending named us more rest next f h is =
+      let same = ap (λ (x : List ℕ). str x ∷ us) named in
+      let field = subst (λ (ts : List Token). EncodesField unknown shape ts f) same h in
+      let k =
+      field_after_leads (fields_with unknown) json_laws n (Allowed unknown shape) pending (str n ∷ us) more rest next f field
+      (ap (λ (xs : List Token). str n ∷ xs) is) in
+      (k.0, k.0, k.2, k.3, (refl, k.4), k.5)
 
-pub value_not : (shape : Shape) {start mid end : Position Token} (name : Option (List ℕ)) {e : Report} (n : List ℕ)
-    → TookColon name start mid n → ReadsNone Cut (FieldTokens [] n (Allowed shape)) mid end e
-    → ReadsNone Cut (FieldLeft name shape) start end e
-value_not shape {mid = mid} name n head bad =
-    none_in Cut (FieldLeft name shape) (FieldTokens [] n (Allowed shape)) (head_left name (str n))
-    (value_leads shape name n mid.at.token head.named) head.head head.place bad
+  pub value_not : (shape : Shape) {start mid end : Position Token} (name : Option (List ℕ)) {e : Report} (n : List ℕ)
+      → TookColon name start mid n → ReadsNone Cut (FieldTokens [] n (Allowed unknown shape)) mid end e
+      → ReadsNone Cut (FieldLeft unknown name shape) start end e
+  value_not shape {mid = mid} name n head bad =
+      none_in Cut (FieldLeft unknown name shape) (FieldTokens [] n (Allowed unknown shape)) (head_left name (str n))
+      (value_leads shape name n mid.at.token head.named) head.head head.place bad
 
--- a field begins with its name and a colon
-colon_leads : (shape : Shape) (name : Option (List ℕ)) (pending : Token)
-    → LeadsTo (FieldLeft name shape) (AreTokens (head_left name pending)) [] pending
-colon_leads shape None pending us more rest next f h is =
-    let k = first_token f.value next more in
-    let whole = ap (λ (xs : List Token). xs ++ next ∷ more) (sym h.0) ∙ is in
-    let left : colon ∷ (f.value ++ next ∷ more) ≡ rest = cc whole in (
-      pending ∷ (colon ∷ []),
-      tt,
-      k.0,
-      k.1,
-      refl,
-      ap (λ (xs : List Token). pending ∷ (colon ∷ xs)) (sym k.2)
-          ∙ ap (λ (xs : List Token). pending ∷ xs) left,
-    )
-colon_leads shape (Some name) pending us more rest next f h is =
-    let k = first_token f.value next more in
-    let after : us ≡ colon ∷ f.value = cc h.0 in
-    let whole = ap (λ (xs : List Token). xs ++ next ∷ more) (sym after) ∙ is in
-    (colon ∷ [], tt, k.0, k.1, refl, ap (λ (xs : List Token). colon ∷ xs) (sym k.2) ∙ whole)
+  -- a field begins with its name and a colon
+  colon_leads : (shape : Shape) (name : Option (List ℕ)) (pending : Token)
+      → LeadsTo (FieldLeft unknown name shape) (AreTokens (head_left name pending)) [] pending
+  colon_leads shape None pending us more rest next f h is =
+      let k = first_token f.value next more in
+      let whole = ap (λ (xs : List Token). xs ++ next ∷ more) (sym h.0) ∙ is in
+      let left : colon ∷ (f.value ++ next ∷ more) ≡ rest = cc whole in (
+        pending ∷ (colon ∷ []),
+        tt,
+        k.0,
+        k.1,
+        refl,
+        ap (λ (xs : List Token). pending ∷ (colon ∷ xs)) (sym k.2)
+            ∙ ap (λ (xs : List Token). pending ∷ xs) left,
+      )
+  colon_leads shape (Some name) pending us more rest next f h is =
+      let k = first_token f.value next more in
+      let after : us ≡ colon ∷ f.value = cc h.0 in
+      let whole = ap (λ (xs : List Token). xs ++ next ∷ more) (sym after) ∙ is in
+      (colon ∷ [], tt, k.0, k.1, refl, ap (λ (xs : List Token). colon ∷ xs) (sym k.2) ∙ whole)
 
-pub colon_not : (shape : Shape) {start end : Position Token} (name : Option (List ℕ)) {e : Report}
-    → ReadsNone Cut (AreTokens (head_left name start.at.token)) start end e
-    → ReadsNone Cut (FieldLeft name shape) start end e
-colon_not shape {start} name bad =
-    none_first Cut (FieldLeft name shape) (AreTokens (head_left name start.at.token))
-    (colon_leads shape name start.at.token) bad
+  pub colon_not : (shape : Shape) {start end : Position Token} (name : Option (List ℕ)) {e : Report}
+      → ReadsNone Cut (AreTokens (head_left name start.at.token)) start end e
+      → ReadsNone Cut (FieldLeft unknown name shape) start end e
+  colon_not shape {start} name bad =
+      none_first Cut (FieldLeft unknown name shape) (AreTokens (head_left name start.at.token))
+      (colon_leads shape name start.at.token) bad
 
 -- ---- all fields
 
@@ -129,8 +130,8 @@ left_on following here (inl l) =
 left_on following here (inr p) = omega (arith, ap (tokens_left json_laws.is_end) p.1)
 
 -- a turn takes a token
-pub turn_shorter : {shape : Shape} {before after : List Field → Type 0} {start mid end : Position Token}
-    {name next : Option (List ℕ)} → TookField name start mid shape before after → ReachedName GoesOn next mid end
+pub turn_shorter : {unknown : AfterUnknown} {shape : Shape} {before after : List Field → Type 0} {start mid end : Position Token}
+    {name next : Option (List ℕ)} → TookField name start mid unknown shape before after → ReachedName GoesOn next mid end
     → tokens_left json_laws.is_end end.at < tokens_left json_laws.is_end start.at
 turn_shorter {start = start} {mid} {end} {next = next} field more =
     let some = field.some in
@@ -149,13 +150,13 @@ here_is_now : (name : Option (Bor (List ℕ))) (here now : At Token) → name �
     → StandsAfter (name_bytes name) here now → here ≡ now
 here_is_now name here now e = subst (λ o. StandsAfter (name_bytes o) here now) e
 
-module _ (struct : Struct Token) where
+module _ (unknown : AfterUnknown) (struct : Struct Token) where
   -- fields are read so far and held, and the reader stands at the next name or after it
   pub record SoFar (holds : List Field → Type 0) (start now : Position Token) (name : Option (Bor (List ℕ)))
       : Type 0 where
     pub here : At Token
     pub stands : StandsAfter (name_bytes name) here now.at
-    pub read : FieldsSoFar json_fields json_laws struct holds start.at here
+    pub read : FieldsSoFar (fields_with unknown) json_laws struct holds start.at here
     pub place : Moved start now
 
   pub none_so_far : {holds : List Field → Type 0} {start now : Position Token} {name : Option (Bor (List ℕ))}
@@ -164,46 +165,46 @@ module _ (struct : Struct Token) where
   none_so_far {holds} {start} h opened = record {
     here = opened.here;
     stands = opened.stands;
-    read = fields_start json_fields json_laws struct holds start.at opened.here opened.reached h;
+    read = fields_start (fields_with unknown) json_laws struct holds start.at opened.here opened.reached h;
     place = opened.place;
   }
 
   pub opening_not : {start end : Position Token} {e : Report}
       → ReadsNone Cut (AreTokens (curly_open ∷ [])) start end e
-      → ReadsNone Cut (EncodesFields struct.shape) start end e
+      → ReadsNone Cut (EncodesFieldsWith unknown struct.shape) start end e
   opening_not {start} bad =
-      none_first Cut (EncodesFields struct.shape) (AreTokens (curly_open ∷ []))
-      (struct_opening_leads json_fields json_laws struct start.at.token) bad
+      none_first Cut (EncodesFieldsWith unknown struct.shape) (AreTokens (curly_open ∷ []))
+      (struct_opening_leads (fields_with unknown) json_laws struct start.at.token) bad
 
   -- what is left of a field where the reader stands, after the fields so far
   field_left : {holds : List Field → Type 0} (start here now : At Token) (name : Option (List ℕ))
-      → (read : FieldsSoFar json_fields json_laws struct holds start here) → StandsAfter name here now
+      → (read : FieldsSoFar (fields_with unknown) json_laws struct holds start here) → StandsAfter name here now
       → here.token ≢ curly_close
-      → (ts : List Token) × LeadsTo (EncodesFields struct.shape) (FieldLeft name struct.shape) ts now.token
+      → (ts : List Token) × LeadsTo (EncodesFieldsWith unknown struct.shape) (FieldLeft unknown name struct.shape) ts now.token
       × Leaves Cut ts start now
   field_left {holds} start here now None read stands other =
-      let ts = fields_taken json_fields json_laws struct holds start here read in
-      let Whole = EncodesFields struct.shape in
-      let Part = FieldLeft None struct.shape in (
+      let ts = fields_taken (fields_with unknown) json_laws struct holds start here read in
+      let Whole = EncodesFieldsWith unknown struct.shape in
+      let Part = FieldLeft unknown None struct.shape in (
         ts,
         subst (λ (z : At Token). LeadsTo Whole Part ts z.token) stands
-            (struct_field_leads json_fields json_laws struct holds start here read other),
+            (struct_field_leads (fields_with unknown) json_laws struct holds start here read other),
         subst (λ (z : At Token). Leaves Cut ts start z) stands read.read.so_far.taken,
       )
   field_left {holds} start here now (Some name) read stands other =
-      let ts = fields_taken json_fields json_laws struct holds start here read in (
+      let ts = fields_taken (fields_with unknown) json_laws struct holds start here read in (
         ts ++ str name ∷ [],
         after_name,
         leaves_append Cut ts (str name ∷ []) start here now read.read.so_far.taken stands.0,
       ) where
-        after_name : LeadsTo (EncodesFields struct.shape) (FieldLeft (Some name) struct.shape)
-            (fields_taken json_fields json_laws struct holds start here read ++ str name ∷ []) now.token
+        after_name : LeadsTo (EncodesFieldsWith unknown struct.shape) (FieldLeft unknown (Some name) struct.shape)
+            (fields_taken (fields_with unknown) json_laws struct holds start here read ++ str name ∷ []) now.token
         after_name us more rest next m e is =
-            let ts = fields_taken json_fields json_laws struct holds start here read in
+            let ts = fields_taken (fields_with unknown) json_laws struct holds start here read in
             let joined = append_assoc ts (str name ∷ []) (now.token ∷ rest) in
             let named = ap (λ (t : Token). ts ++ t ∷ (now.token ∷ rest)) stands.0.0 in
             let k =
-            struct_field_leads json_fields json_laws struct holds start here read other us more
+            struct_field_leads (fields_with unknown) json_laws struct holds start here read other us more
             (now.token ∷ rest) next m e (is ∙ (joined ∙ named)) in
             let whole = ap (λ (xs : List Token). xs ++ k.2 ∷ k.3) (sym k.4.0) ∙ k.5 in
             let first : str k.1.name ≡ here.token = cc whole in
@@ -220,59 +221,59 @@ module _ (struct : Struct Token) where
       (h : SoFar holds start now name) where
     module _ (named : name ≡ None → is_str now.at.token ≡ true) where
       pub more_so_far : {after : List Field → Type 0} {mid next : Position Token} {other : Option (Bor (List ℕ))}
-          → TookField (name_bytes name) now mid struct.shape holds after
+          → TookField (name_bytes name) now mid unknown struct.shape holds after
           → ReachedName GoesOn (name_bytes other) mid next → SoFar after start next other
       more_so_far {after} {mid} field more = record {
         here = more.here;
         stands = more.stands;
         read =
-            fields_next json_fields json_laws struct holds after start.at h.here mid.at more.here h.read
+            fields_next (fields_with unknown) json_laws struct holds after start.at h.here mid.at more.here h.read
             (goes_on name h.here now.at h.stands named) (field.decodes h.here h.stands) more.reached;
         place = moves_append h.place (moves_append field.place more.place);
       }
 
       pub field_not : {end : Position Token} {e : Report}
-          → ReadsNone Cut (FieldLeft (name_bytes name) struct.shape) now end e
-          → ReadsNone Cut (EncodesFields struct.shape) start end e
+          → ReadsNone Cut (FieldLeft unknown (name_bytes name) struct.shape) now end e
+          → ReadsNone Cut (EncodesFieldsWith unknown struct.shape) start end e
       field_not bad =
           let k =
           field_left start.at h.here now.at (name_bytes name) h.read h.stands
           (goes_on name h.here now.at h.stands named) in
-          none_in Cut (EncodesFields struct.shape) (FieldLeft (name_bytes name) struct.shape) k.0 k.1 k.2 h.place bad
+          none_in Cut (EncodesFieldsWith unknown struct.shape) (FieldLeft unknown (name_bytes name) struct.shape) k.0 k.1 k.2 h.place bad
 
       pub comma_not : {after : List Field → Type 0} {mid end : Position Token} {e : Report}
-          → TookField (name_bytes name) now mid struct.shape holds after
+          → TookField (name_bytes name) now mid unknown struct.shape holds after
           → Fails ((mid.at.token ≢ curly_close) × GoesWrong Cut (AreTokens (comma ∷ [])) mid end) mid end e
-          → ReadsNone Cut (EncodesFields struct.shape) start end e
+          → ReadsNone Cut (EncodesFieldsWith unknown struct.shape) start end e
       comma_not {mid = mid} field bad =
           let read = field.decodes h.here h.stands in
-          let ts = fields_taken json_fields json_laws struct holds start.at h.here h.read in
+          let ts = fields_taken (fields_with unknown) json_laws struct holds start.at h.here h.read in
           let moved = moves_append h.place field.place in
-          fails_after (λ w. wrong_in Cut (EncodesFields struct.shape) (AreTokens (comma ∷ [])) (ts ++ read.1.0)
-          (struct_comma_leads json_fields json_laws struct holds start.at h.here h.read mid.at read.0 read.1
+          fails_after (λ w. wrong_in Cut (EncodesFieldsWith unknown struct.shape) (AreTokens (comma ∷ [])) (ts ++ read.1.0)
+          (struct_comma_leads (fields_with unknown) json_laws struct holds start.at h.here h.read mid.at read.0 read.1
           (goes_on name h.here now.at h.stands named) w.0)
-          (struct_field_taken json_fields json_laws struct holds start.at h.here h.read mid.at read.0 read.1) moved w.1) moved bad
+          (struct_field_taken (fields_with unknown) json_laws struct holds start.at h.here h.read mid.at read.0 read.1) moved w.1) moved bad
 
     -- no field begins here
     module _ (none : (name ≡ None) × (is_str now.at.token ≡ false)) where
-      read_here : FieldsSoFar json_fields json_laws struct holds start.at now.at
+      read_here : FieldsSoFar (fields_with unknown) json_laws struct holds start.at now.at
       read_here =
-          subst (λ (z : At Token). FieldsSoFar json_fields json_laws struct holds start.at z)
+          subst (λ (z : At Token). FieldsSoFar (fields_with unknown) json_laws struct holds start.at z)
           (here_is_now name h.here now.at none.0 h.stands) h.read
 
       pub fields_held : {same_buffers : Type 0} {end : Position Token} → Took Cut same_buffers now end (curly_close ∷ [])
-          → HeldFields json_fields struct.shape holds start end
+          → HeldFields (fields_with unknown) struct.shape holds start end
       fields_held {end = end} close = record {
-        found = struct_found json_fields json_laws struct holds start.at now.at read_here end.at close.taken;
-        missing = struct_missing json_fields json_laws struct holds start.at now.at read_here end.at close.taken;
+        found = struct_found (fields_with unknown) json_laws struct holds start.at now.at read_here end.at close.taken;
+        missing = struct_missing (fields_with unknown) json_laws struct holds start.at now.at read_here end.at close.taken;
         place = moves_append h.place close.place;
       }
 
       pub closing_not : {end : Position Token} {e : Report}
           → ReadsNone Cut (AreTokens (curly_close ∷ [])) now end e
-          → ReadsNone Cut (EncodesFields struct.shape) start end e
+          → ReadsNone Cut (EncodesFieldsWith unknown struct.shape) start end e
       closing_not bad =
-          none_in Cut (EncodesFields struct.shape) (AreTokens (curly_close ∷ []))
-          (fields_taken json_fields json_laws struct holds start.at now.at read_here)
-          (struct_closing_leads json_fields json_laws struct holds start.at now.at read_here
+          none_in Cut (EncodesFieldsWith unknown struct.shape) (AreTokens (curly_close ∷ []))
+          (fields_taken (fields_with unknown) json_laws struct holds start.at now.at read_here)
+          (struct_closing_leads (fields_with unknown) json_laws struct holds start.at now.at read_here
           (no_name_pending now.at.token none.1)) read_here.read.so_far.taken h.place bad

@@ -1,13 +1,13 @@
 -- Named fields in JSON: between braces, with their names as they are between quotes. A
--- field whose name is not known is passed over.
-use Rattle.std.specs.Prelude.{◌≡◌, ℕ, true, List, Option, ℤ, String, string_bytes}
+-- field whose name is not known is passed over, or rejected where the struct is strict.
+use Rattle.std.specs.Prelude.{◌≡◌, ◌++◌, ℕ, true, List, [], Option, ℤ, String, string_bytes}
 use Rattle.std.specs.Global.{Global}
 use Rattle.std.specs.Int.{w8, w16, w32, w64}
 use Rattle.nano_value.specs.Meaning.{Meaning}
 use Rattle.nano_grammar.proofs.AliasesLaws.{alias_field}
 use Rattle.nano_grammar.proofs.BothFieldsLaws.{also_fields}
 use Rattle.nano_grammar.proofs.DefaultsLaws.{default_field}
-use Rattle.nano_grammar.specs.FieldCodec.{AreNames, FieldsCodec}
+use Rattle.nano_grammar.specs.FieldCodec.{AreNames, FieldsCanonical, FieldsCodec}
 use Rattle.nano_grammar.proofs.FieldCodecLaws.{must_field, may_field}
 use Rattle.nano_grammar.proofs.NoFieldsLaws.{no_field}
 use Rattle.nano_grammar.specs.Fields.{FieldStyle}
@@ -16,7 +16,7 @@ use Rattle.nano_json_tokens.proofs.JsonLaws.{curly_brackets, tuple_style, block_
 use Rattle.nano_json_tokens.specs.Cut.{json_grammar}
 use Rattle.nano_json_tokens.proofs.ScalarsLaws.{str_injective}
 use Rattle.nano_json_tokens.specs.Skipped.{SkippedField}
-use Rattle.nano_json_tokens.specs.Token.{str}
+use Rattle.nano_json_tokens.specs.Token.{Token, str}
 use Rattle.nano_json_tokens.proofs.BracketCounts.{skipped_apart}
 use Rattle.nano_json_tokens.specs.Names.{IsPlainName, are_ascii_names, quoted_name}
 use Rattle.nano_json_tokens.proofs.NamesLaws.{name_is_written, each_ascii}
@@ -28,8 +28,22 @@ use Rattle.nano_json.specs.ScalarCodecs.{below_64, within_8, within_16, within_3
 use Rattle.nano_json.specs.ScalarCodecs.{text_codec}
 pub use Rattle.nano_json.specs.ContainerCodecs.{array_codec, pair_codec, triple_codec}
 
-abbrev pub json_fields : FieldStyle json json_grammar
-json_fields = record {
+-- what may come after a name that is not known, of which nothing is a proper prefix of another
+pub record AfterUnknown : Type 1 where
+  pub Value : List Token → Type 0
+  pub apart : (us more : List Token) → Value us → Value (us ++ more) → more ≡ []
+
+-- a value of any type, which is passed over
+abbrev pub passed_over : AfterUnknown
+passed_over = record { Value = SkippedField; apart = skipped_apart }
+
+-- nothing: no field has such a name
+abbrev pub nothing_after : AfterUnknown
+nothing_after = record { Value = λ us. ⊥; apart = λ us more h k. absurd h }
+
+-- fields with this after a name that is not known
+abbrev pub fields_with : AfterUnknown → FieldStyle json json_grammar
+fields_with unknown = record {
   list = curly_style;
   brackets = curly_brackets;
   pair = entry_style;
@@ -37,12 +51,19 @@ json_fields = record {
   name = λ name. str name;
   injective = str_injective;
   begins = λ name. tt;
-  Skipped = SkippedField;
-  skipped_apart = skipped_apart;
+  Skipped = unknown.Value;
+  skipped_apart = unknown.apart;
   IsName = IsPlainName;
   name_text = quoted_name;
   name_is_written = name_is_written;
 }
+
+abbrev pub json_fields : FieldStyle json json_grammar
+json_fields = fields_with passed_over
+
+-- fields of a strict struct: each name is known
+abbrev pub strict_fields : FieldStyle json json_grammar
+strict_fields = fields_with nothing_after
 
 -- ---- the schema of a user-defined struct
 
@@ -74,10 +95,38 @@ abbrev pub fields_pair : {A B : Type 0} → FieldsCodec json_fields A → Fields
     → FieldsCodec json_fields (A × B)
 fields_pair = also_fields
 
+-- the same fields of a strict struct. What is written is the same, and what the fields of a text mean
+abbrev pub strict_canonical : {A : Type 0} → FieldsCanonical json_fields A
+    → FieldsCanonical strict_fields A
+strict_canonical f = record {
+  means = f.means;
+  names = f.names;
+  fields = f.fields;
+  same_texts = f.same_texts;
+}
+
+abbrev pub strict : {A : Type 0} → FieldsCodec json_fields A → FieldsCodec strict_fields A
+strict f = record {
+  canonical = strict_canonical f.canonical;
+  struct = f.struct;
+  sound = f.sound;
+  are_named = f.are_named;
+  are_known = f.are_known;
+  others_unknown = f.others_unknown;
+  are_taken = f.are_taken;
+  are_meant = f.are_meant;
+  meant_is_sound = f.meant_is_sound;
+  are_written = λ names. f.are_written (record { each = names.each });
+}
+
 -- names of ASCII can be written: `ascii_names refl` checks it for given names
 pub ascii_names : {names : List (List ℕ)} → are_ascii_names names ≡ true
     → AreNames json_fields names
 ascii_names {names} h = record { each = each_ascii names h }
+
+pub strict_names : {names : List (List ℕ)} → are_ascii_names names ≡ true
+    → AreNames strict_fields names
+strict_names {names} h = record { each = each_ascii names h }
 
 -- ==== parts of tuple structs
 

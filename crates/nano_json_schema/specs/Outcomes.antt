@@ -15,13 +15,13 @@ use Rattle.nano_grammar.specs.UserOutcomes.{GivesValues as GivesValuesBy, Misses
 use Rattle.nano_grammar.specs.UserOutcomes.{HoldsFields as HoldsFieldsBy}
 use Rattle.nano_grammar.specs.UserOutcomes.{ReadsChoice as ReadsChoiceBy, ReadsEnum as ReadsEnumBy}
 use Rattle.nano_json_schema.specs.Variants.{is_alone, bytes_of}
-use Rattle.nano_json_schema.specs.Reading.{Field, Shape, Allowed, EncodesFields, Encodings}
+use Rattle.nano_json_schema.specs.Reading.{Field, Shape, Allowed, EncodesFieldsWith, Encodings}
 use Rattle.std.specs.Prelude.{Option, IfSome}
 use Rattle.std.specs.declared.str.Chars.{Chars}
 use Rattle.nano_text.specs.Place.{text_at, Moves}
 use Rattle.nano_text.specs.declared.place.Place.{Place}
 use Rattle.nano_grammar.specs.Plain.{TookPlainly, LooksUpPlainly}
-use Rattle.nano_json_schema.specs.FieldCodecs.{json_fields}
+use Rattle.nano_json_schema.specs.FieldCodecs.{AfterUnknown, fields_with}
 use Rattle.nano_json_schema.specs.VariantCodecs.{json_variants}
 use Rattle.nano_json_schema.specs.declared.variants.VariantName.{VariantName}
 use Rattle.nano_grammar.specs.Promises.{LastFieldCounts as Counts, MissingNameHasNoField as Missing}
@@ -52,12 +52,19 @@ module _ (name : List ℕ) (shape : Shape) (before after : List Field → Type 0
   ReadsField same start end result =
       ReadsFieldBy Cut [] name shape before after same start end report result
 
-  -- a call reads the value after this name, or skips it where no field has the name
-  abbrev pub TakesValue : {A : Type 0} → Position Token → Position Token → Result A DeJsonErr
-      → Type 0
-  TakesValue start end result = MatchResult result
-      (λ _. ReadField Cut [] name (Allowed shape) before after start end)
-      (λ e. ReadsNone Cut (FieldTokens [] name (Allowed shape)) start end (report e))
+  -- a call reads the value after this name, or takes what may come there where no field has the name
+  abbrev pub TakesValue : {A : Type 0} → AfterUnknown → Position Token → Position Token
+      → Result A DeJsonErr → Type 0
+  TakesValue unknown start end result = MatchResult result
+      (λ _. ReadField Cut [] name (Allowed unknown shape) before after start end)
+      (λ e. ReadsNone Cut (FieldTokens [] name (Allowed unknown shape)) start end (report e))
+
+-- a call takes what may come after a name that is not known, or none of it stands here
+abbrev pub TakesUnknown : {A : Type 0} → AfterUnknown → Position Token → Position Token
+    → Result A DeJsonErr → Type 0
+TakesUnknown unknown start end result = MatchResult result
+    (λ _. (us : List Token) × unknown.Value us × Took Cut (Unit {0}) start end us)
+    (λ e. ReadsNone Cut (λ us (x : Unit {0}). unknown.Value us) start end (report e))
 
 module _ (shape : Shape) (holds : List Field → Type 0) where
   -- a call gives values which mean what the fields do that are held
@@ -65,9 +72,10 @@ module _ (shape : Shape) (holds : List Field → Type 0) where
   GivesValues means s result = GivesValuesBy shape holds report means (place_of s) result
 
   -- a call takes fields between braces
-  abbrev pub HoldsFields : {A : Type 0} → Position Token → Position Token → Result A DeJsonErr
-      → Type 0
-  HoldsFields start end result = HoldsFieldsBy json_fields shape holds start end report result
+  abbrev pub HoldsFields : {A : Type 0} → AfterUnknown → Position Token → Position Token
+      → Result A DeJsonErr → Type 0
+  HoldsFields unknown start end result =
+      HoldsFieldsBy (fields_with unknown) shape holds start end report result
 
 -- ---- fields that are taken with no token pending
 
@@ -80,10 +88,12 @@ TakesFieldPlainly name shape before after same p i q j result = IfSome result
 
 module _ (shape : Shape) (holds : List Field → Type 0) where
   -- a call takes fields between braces: what they mean is encoded there
-  abbrev pub HoldsPlainly : {A : Type 0} → Place → Chars → Place → Chars → Option A → Type 0
-  HoldsPlainly p i q j result = IfSome result (λ _.
+  abbrev pub HoldsPlainly : {A : Type 0} → AfterUnknown → Place → Chars → Place → Chars → Option A
+      → Type 0
+  HoldsPlainly unknown p i q j result = IfSome result (λ _.
       ((m : Meaning) → ((fs : List Field) → holds fs → shape.means fs m)
-      → TookPlainly Cut (EncodesFields shape) (text_at p i) (text_at q j) m) × Moves p i q j)
+      → TookPlainly Cut (EncodesFieldsWith unknown shape) (text_at p i) (text_at q j) m)
+      × Moves p i q j)
 
   -- a call gives values which mean what the fields do that are held, or none
   abbrev pub GivesWhole : {A : Type 0} → (A → Meaning) → Option A → Type 0

@@ -8,7 +8,8 @@ use Rattle.nano_value.specs.Meaning.{Meaning}
 use Rattle.nano_grammar.specs.Fields.{Field as FieldOf, EncodedField as EncodedFieldOf}
 use Rattle.nano_grammar.specs.Fields.{Allowed as AllowedOf, EncodedFields, Shape as ShapeOf}
 use Rattle.nano_json_tokens.specs.Token.{Token, str, colon, comma, curly_close}
-use Rattle.nano_json_schema.specs.FieldCodecs.{json_fields}
+use Rattle.nano_json_schema.specs.FieldCodecs.{AfterUnknown, fields_with, json_fields}
+use Rattle.nano_json_schema.specs.FieldCodecs.{strict_fields}
 use Rattle.nano_text.specs.Place.{remaining}
 use Rattle.nano_grammar.specs.Outcomes.{Position, Moved, Fails, ReadsNone}
 use Rattle.nano_grammar.specs.Tokens.{At, Leaves, Spans}
@@ -37,17 +38,25 @@ Field = FieldOf Token
 abbrev pub Shape : Type 1
 Shape = ShapeOf Token
 
--- after a known name what it takes, after any other a skipped field
-abbrev pub Allowed : Shape → List ℕ → List Token → Type 0
-Allowed = AllowedOf json_fields
+-- after a known name what it takes, after any other what may come there
+abbrev pub Allowed : AfterUnknown → Shape → List ℕ → List Token → Type 0
+Allowed unknown = AllowedOf (fields_with unknown)
 
 -- a name, a colon, and what may come after that name
-abbrev pub EncodesField : Shape → List Token → Field → Type 0
-EncodesField shape = EncodedFieldOf json_fields (Allowed shape)
+abbrev pub EncodesField : AfterUnknown → Shape → List Token → Field → Type 0
+EncodesField unknown shape = EncodedFieldOf (fields_with unknown) (Allowed unknown shape)
 
 -- named fields between braces, and what they mean
 abbrev pub EncodesFields : Shape → List Token → Meaning → Type 0
 EncodesFields shape = EncodedFields json_fields shape
+
+-- named fields between braces, each of a known name, and what they mean
+abbrev pub EncodesKnownFields : Shape → List Token → Meaning → Type 0
+EncodesKnownFields shape = EncodedFields strict_fields shape
+
+-- the one or the other, by what may come after a name that is not known
+abbrev pub EncodesFieldsWith : AfterUnknown → Shape → List Token → Meaning → Type 0
+EncodesFieldsWith unknown shape = EncodedFields (fields_with unknown) shape
 
 -- ==== names
 
@@ -122,9 +131,9 @@ IsNamed None name = Unit {0}
 IsNamed (Some taken) name = taken ≡ name
 
 -- what is left of a field: all of it, or what comes after its name where that was taken in place
-abbrev pub FieldLeft : Option (List ℕ) → Shape → List Token → Field → Type 0
-FieldLeft None shape ts f = EncodesField shape ts f
-FieldLeft (Some name) shape ts f = EncodesField shape (str name ∷ ts) f
+abbrev pub FieldLeft : AfterUnknown → Option (List ℕ) → Shape → List Token → Field → Type 0
+FieldLeft unknown None shape ts f = EncodesField unknown shape ts f
+FieldLeft unknown (Some name) shape ts f = EncodesField unknown shape (str name ∷ ts) f
 
 module _ (name : Option (List ℕ)) (start end : Position Token) where
   -- the field has this name, and what was left of it and of a colon was taken
@@ -137,19 +146,19 @@ module _ (name : Option (List ℕ)) (start end : Position Token) where
   TakesColonAfter result = MatchResult result (λ taken. TookColon taken.now)
       (λ e. ReadsNone Cut (AreTokens (head_left name start.at.token)) start end (report e))
 
-  module _ (shape : Shape) (before after : List Field → Type 0) where
+  module _ (unknown : AfterUnknown) (shape : Shape) (before after : List Field → Type 0) where
     -- wherever the field begins, it was taken. Where the fields before it were held, they are held
     -- with it
     pub record TookField : Type 0 where
       pub decodes : (here : At Token) → StandsAfter name here start.at
-          → (f : Field) × Spans Cut (EncodesField shape) here end.at f
+          → (f : Field) × Spans Cut (EncodesField unknown shape) here end.at f
           × ((fs : List Field) → before fs → after (fs ++ f ∷ []))
       pub some : TakesSome start.at end.at
       pub place : Moved start end
 
     abbrev pub TakesField : {A : Type 0} → Result A DeJsonErr → Type 0
     TakesField result = MatchResult result (λ _. TookField)
-        (λ e. ReadsNone Cut (FieldLeft name shape) start end (report e))
+        (λ e. ReadsNone Cut (FieldLeft unknown name shape) start end (report e))
 
 -- ==== variants
 

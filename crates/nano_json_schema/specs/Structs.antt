@@ -8,6 +8,7 @@ use Rattle.nano_json.specs.Codec.{Codec}
 -- what a tuple struct needs, passed on
 pub use Rattle.nano_json.specs.Codec.{codec_as}
 use Rattle.nano_json_schema.specs.FieldCodecs.{json_fields, ascii_names, fields_codec}
+use Rattle.nano_json_schema.specs.FieldCodecs.{strict, strict_names}
 use Rattle.nano_json_tokens.specs.Names.{are_ascii_names}
 
 -- a struct as the values of its fields, and their format. The last is `refl`: it checks that the
@@ -19,3 +20,12 @@ json_of view fields good =
     let all = fields.canonical.names in
     let parts = and_parts (are_ascii_names all) (are_distinct all) (sym good) in
     codec_as view (fields_codec fields (ascii_names {names = all} parts.0) parts.1)
+
+-- the same of a strict struct, which has no fields but those
+abbrev pub strict_json_of : {A B : Type 0} (view : A → B) (fields : FieldsCodec json_fields B)
+    → true ≡ (are_ascii_names fields.canonical.names && are_distinct fields.canonical.names)
+    → Codec A
+strict_json_of view fields good =
+    let all = fields.canonical.names in
+    let parts = and_parts (are_ascii_names all) (are_distinct all) (sym good) in
+    codec_as view (fields_codec (strict fields) (strict_names {names = all} parts.0) parts.1)

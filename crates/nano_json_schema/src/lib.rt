@@ -22,6 +22,7 @@ mod read;
 mod record;
 mod required;
 mod tuples;
+mod unknown;
 mod variant_writer;
 mod variants;
 mod writer;
@@ -37,7 +38,10 @@ pub use nano_text::Place;
 pub use part::Part;
 pub use plain::take_fields;
 pub use read::read_fields;
-pub use record::{read_parts_json, read_record_json, take_record_json, write_record_json};
+pub use record::{
+    read_parts_json, read_record_json, read_record_json_strict, take_record_json,
+    take_record_json_strict, write_record_json,
+};
 pub use variant_writer::{write_fields_variant, write_unit_variant, write_variant};
 pub use variants::{
     VariantName, read_content, read_fields_content, read_variant_name, unknown_variant,

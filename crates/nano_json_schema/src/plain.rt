@@ -3,10 +3,12 @@
 
 ghost use Rattle.std.specs.Prelude.{[]};
 ghost use Rattle.nano_json_tokens.specs.Outcomes.{TakesPlainly};
-ghost use Rattle.nano_json_schema.specs.Reading.{EncodesFields};
+ghost use Rattle.nano_json_schema.specs.Reading.{EncodesFields, EncodesKnownFields};
+ghost use Rattle.nano_json_schema.specs.Reading.{EncodesFieldsWith};
 ghost use Rattle.nano_json_schema.specs.Outcomes.{HoldsPlainly};
 
 use crate::fields::JsonFields;
+use crate::unknown::{Rejected, Skipped, Unknown};
 use nano_json_tokens::{take_directly, take_name, take_punctuator};
 use nano_text::Place;
 use std::alloc::Global;
@@ -24,8 +26,36 @@ pub fn take_fields<F: JsonFields>(
     ensures { TakesPlainly (EncodesFields F.codec.struct.shape) F.codec.canonical.means
         place.old input.old place.new input.new result }
 {
+    take_values::<F, Skipped>(alloc, place, input, text)
+}
+
+/// The same where each name must be known, which is so of all that is taken here.
+#[inline(always)]
+pub(crate) fn take_fields_strict<F: JsonFields>(
+    alloc: Global,
+    place: &mut Place,
+    input: &mut Chars<'_>,
+    text: &mut String,
+) -> Option<F::Values>
+    ensures { TakesPlainly (EncodesKnownFields F.codec.struct.shape) F.codec.canonical.means
+        place.old input.old place.new input.new result }
+{
+    take_values::<F, Rejected>(alloc, place, input, text)
+}
+
+/// Takes named fields between braces, whatever may come after a name that is not known.
+#[inline(always)]
+fn take_values<F: JsonFields, U: Unknown>(
+    alloc: Global,
+    place: &mut Place,
+    input: &mut Chars<'_>,
+    text: &mut String,
+) -> Option<F::Values>
+    ensures { TakesPlainly (EncodesFieldsWith U.after F.codec.struct.shape) F.codec.canonical.means
+        place.old input.old place.new input.new result }
+{
     let mut slots = F::empty();
-    if let None = take_list::<F>(&mut slots, alloc, place, input, text) {
+    if let None = take_list::<F, U>(&mut slots, alloc, place, input, text) {
         F::discard(slots);
         return None;
     }
@@ -34,7 +64,7 @@ pub fn take_fields<F: JsonFields>(
 
 /// Takes the fields between braces into the slots.
 #[inline(always)]
-fn take_list<F: JsonFields>(
+fn take_list<F: JsonFields, U: Unknown>(
     slots: &mut F::Slots,
     alloc: Global,
     place: &mut Place,
@@ -42,7 +72,7 @@ fn take_list<F: JsonFields>(
     text: &mut String,
 ) -> Option<()>
     requires { F.holds slots.old [] }
-    ensures { HoldsPlainly F.codec.struct.shape (F.holds slots.new)
+    ensures { HoldsPlainly F.codec.struct.shape (F.holds slots.new) U.after
         place.old input.old place.new input.new result }
 {
     if !take_punctuator(place, input, '{') {

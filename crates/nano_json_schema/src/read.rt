@@ -6,12 +6,14 @@ ghost use Rattle.std.specs.Prelude.{◌≡◌, [], None};
 ghost use Rattle.nano_json.specs.Outcomes.{position, Reads, ReadsOrEnds};
 ghost use Rattle.nano_json.specs.State.{pending};
 ghost use Rattle.nano_json.specs.Token.{IsStr};
-ghost use Rattle.nano_json_schema.specs.Reading.{EncodesFields, name_bytes, TakesField};
+ghost use Rattle.nano_json_schema.specs.Reading.{EncodesFields, EncodesKnownFields};
+ghost use Rattle.nano_json_schema.specs.Reading.{EncodesFieldsWith, name_bytes, TakesField};
 ghost use Rattle.nano_json_schema.specs.Reading.{TakesColonAfter};
 ghost use Rattle.nano_json_schema.specs.Outcomes.{HoldsFields, TakesValue};
 
 use crate::fields::JsonFields;
 use crate::names::{is_at_field, next_field, open_fields, take_name};
+use crate::unknown::{Rejected, Skipped, Unknown};
 use nano_json::{DeJsonErr, DeJsonState, end_on_error};
 use std::alloc::Global;
 use std::str::Chars;
@@ -33,21 +35,36 @@ pub fn read_fields<F: JsonFields>(
     ensures { ReadsOrEnds (EncodesFields F.codec.struct.shape) F.codec.canonical.means
         (position state.old input.old) (position state.new input.new) result }
 {
-    let read = read_values::<F>(alloc, state, input);
+    let read = read_values::<F, Skipped>(alloc, state, input);
     end_on_error(state, read)
 }
 
-/// Reads named fields between braces.
-fn read_values<F: JsonFields>(
+/// The same where each name must be known. A field of another name is rejected by
+/// `Unexpected key {name}`, once its name, the colon, and the first token of what comes after them
+/// are cut.
+pub(crate) fn read_fields_strict<F: JsonFields>(
     alloc: Global,
     state: &mut DeJsonState,
     input: &mut Chars<'_>,
 ) -> Result<F::Values, DeJsonErr>
-    ensures { Reads (EncodesFields F.codec.struct.shape) F.codec.canonical.means
+    ensures { ReadsOrEnds (EncodesKnownFields F.codec.struct.shape) F.codec.canonical.means
+        (position state.old input.old) (position state.new input.new) result }
+{
+    let read = read_values::<F, Rejected>(alloc, state, input);
+    end_on_error(state, read)
+}
+
+/// Reads named fields between braces.
+fn read_values<F: JsonFields, U: Unknown>(
+    alloc: Global,
+    state: &mut DeJsonState,
+    input: &mut Chars<'_>,
+) -> Result<F::Values, DeJsonErr>
+    ensures { Reads (EncodesFieldsWith U.after F.codec.struct.shape) F.codec.canonical.means
         (position state.old input.old) (position state.new input.new) result }
 {
     let mut slots = F::empty();
-    match read_list::<F>(&mut slots, alloc, state, input) {
+    match read_list::<F, U>(&mut slots, alloc, state, input) {
         Ok(()) => F::values(slots, alloc, state),
         Err(error) => {
             F::discard(slots);
@@ -57,28 +74,28 @@ fn read_values<F: JsonFields>(
 }
 
 /// Reads the fields between braces into the slots, in place of earlier ones of their names.
-fn read_list<F: JsonFields>(
+fn read_list<F: JsonFields, U: Unknown>(
     slots: &mut F::Slots,
     alloc: Global,
     state: &mut DeJsonState,
     input: &mut Chars<'_>,
 ) -> Result<(), DeJsonErr>
     requires { F.holds slots.old [] }
-    ensures { HoldsFields F.codec.struct.shape (F.holds slots.new)
+    ensures { HoldsFields F.codec.struct.shape (F.holds slots.new) U.after
         (position state.old input.old) (position state.new input.new) result }
 {
     let mut moved = String::new(alloc);
     let mut name = open_fields(alloc, state, input)?;
     'fields: while is_at_field(name, state) {
-        read_any::<F>(name, &mut moved, slots, alloc, state, input)?;
+        read_any::<F, U>(name, &mut moved, slots, alloc, state, input)?;
         name = next_field(alloc, state, input)?;
     }
     state.curly_close(alloc, input)
 }
 
-/// Reads a field, whose name is taken in place or pending, or skips it where the name is not
-/// known.
-fn read_any<F: JsonFields>(
+/// Reads a field, whose name is taken in place or pending, or takes what may come after it where the
+/// name is not known.
+fn read_any<F: JsonFields, U: Unknown>(
     name: Option<&str>,
     moved: &mut String,
     slots: &mut F::Slots,
@@ -89,10 +106,10 @@ fn read_any<F: JsonFields>(
     requires { name ≡ None → IsStr (pending state.old) }
     ensures { TakesField (name_bytes name.entry)
         (position state.old input.old) (position state.new input.new)
-        F.codec.struct.shape (F.holds slots.old) (F.holds slots.new) result }
+        U.after F.codec.struct.shape (F.holds slots.old) (F.holds slots.new) result }
 {
     let name = take_colon(name, moved, alloc, state, input)?;
-    read_named::<F>(name, slots, alloc, state, input)
+    read_named::<F, U>(name, slots, alloc, state, input)
 }
 
 /// Takes the colon after the name of a field, which is taken in place or pending, and answers the
@@ -121,8 +138,8 @@ fn take_colon<'n>(
     }
 }
 
-/// Reads the value after this name, or skips it where the name is not known.
-fn read_named<F: JsonFields>(
+/// Reads the value after this name, or takes what may come there where the name is not known.
+fn read_named<F: JsonFields, U: Unknown>(
     name: &str,
     slots: &mut F::Slots,
     alloc: Global,
@@ -130,10 +147,10 @@ fn read_named<F: JsonFields>(
     input: &mut Chars<'_>,
 ) -> Result<(), DeJsonErr>
     ensures { TakesValue name.now F.codec.struct.shape (F.holds slots.old) (F.holds slots.new)
-        (position state.old input.old) (position state.new input.new) result }
+        U.after (position state.old input.old) (position state.new input.new) result }
 {
     if F::read_field(name, slots, alloc, state, input)? {
         return Ok(());
     }
-    state.whole_field(alloc, input)
+    U::take(name, alloc, state, input)
 }

@@ -6,12 +6,12 @@ ghost use Rattle.nano_json.specs.Outcomes.{position, ReadsOrEnds};
 ghost use Rattle.nano_json_tokens.specs.Outcomes.{TakesPlainly};
 ghost use Rattle.nano_schema.specs.Views.{SeesAs};
 ghost use Rattle.nano_grammar.specs.FieldCodec.{fields_text};
-ghost use Rattle.nano_json_schema.specs.Reading.{EncodesFields};
+ghost use Rattle.nano_json_schema.specs.Reading.{EncodesFields, EncodesKnownFields};
 ghost use Rattle.nano_json_schema.specs.FieldCodecs.{json_fields};
 
 use crate::fields::{JsonFields, JsonRefs};
-use crate::plain::take_fields;
-use crate::read::read_fields;
+use crate::plain::{take_fields, take_fields_strict};
+use crate::read::{read_fields, read_fields_strict};
 use crate::writer::write_fields;
 use nano_json::{DeJson, DeJsonErr, DeJsonState, SerJsonState};
 use nano_schema::{FieldRefs, StructSchema};
@@ -38,6 +38,27 @@ pub fn read_record_json<R: StructSchema, F: JsonFields<Values = R::Values>>(
     }
 }
 
+/// Reads a user-defined struct that has no fields but its own: one whose name is not known is
+/// rejected by `Unexpected key {name}`, once its name, the colon, and the first token of what comes
+/// after them are cut. The token after the struct is pending then, which may be the end.
+///
+/// An error other than out of memory says that no such struct is encoded there, with one more token
+/// or the end after it. Every error leaves the state at the end of the text.
+pub fn read_record_json_strict<R: StructSchema, F: JsonFields<Values = R::Values>>(
+    alloc: Global,
+    state: &mut DeJsonState,
+    input: &mut Chars<'_>,
+) -> Result<R, DeJsonErr>
+    ensures { ReadsOrEnds (EncodesKnownFields F.codec.struct.shape)
+        (λ value. F.codec.canonical.means (R.view value))
+        (position state.old input.old) (position state.new input.new) result }
+{
+    match read_fields_strict::<F>(alloc, state, input) {
+        Ok(values) => Ok(R::make(values)),
+        Err(error) => Err(error),
+    }
+}
+
 /// Takes a user-defined struct, where it stands plainly. `None` says nothing of what stands there,
 /// and the place and the input, which are copies, may have moved.
 #[inline(always)]
@@ -52,6 +73,23 @@ pub fn take_record_json<R: StructSchema, F: JsonFields<Values = R::Values>>(
         place.old input.old place.new input.new result }
 {
     let values = take_fields::<F>(alloc, place, input, text)?;
+    Some(R::make(values))
+}
+
+/// Takes a user-defined struct that has no fields but its own, where it stands plainly. `None` says
+/// nothing of what stands there, and the place and the input, which are copies, may have moved.
+#[inline(always)]
+pub fn take_record_json_strict<R: StructSchema, F: JsonFields<Values = R::Values>>(
+    alloc: Global,
+    place: &mut Place,
+    input: &mut Chars<'_>,
+    text: &mut String,
+) -> Option<R>
+    ensures { TakesPlainly (EncodesKnownFields F.codec.struct.shape)
+        (λ value. F.codec.canonical.means (R.view value))
+        place.old input.old place.new input.new result }
+{
+    let values = take_fields_strict::<F>(alloc, place, input, text)?;
     Some(R::make(values))
 }
 

@@ -27,8 +27,8 @@ pub use nano_json::{
 };
 pub use nano_json_schema::{
     JsonDefaultOf, JsonFields, JsonRefs, JsonResult, JsonShape, JsonShapes, Place,
-    read_choice_json, read_parts_json, read_record_json, take_record_json, write_choice_json,
-    write_record_json,
+    read_choice_json, read_parts_json, read_record_json, read_record_json_strict, take_record_json,
+    take_record_json_strict, write_choice_json, write_record_json,
 };
 pub use nano_ron::{
     BothRon, DeRon, DeRonErr, DeRonState, DeRonTok, RonCodec, SerRon, SerRonState, laws as ron_laws,

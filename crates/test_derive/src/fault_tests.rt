@@ -7,6 +7,7 @@ use crate::faults::{ATTRIBUTES, BOUNDS, ITEMS, TYPES};
 use crate::key_faults::{KEYS, PARTS};
 use crate::mistakes::{COMMENTS, FORMS, OTHERS};
 use crate::outcome::{MODULE, outcome, outcome_above};
+use crate::strict_faults::DENIED;
 use derive_text::{DeriveError, derive, derived_path, module_of};
 use std::alloc::{AllocError, Global};
 use std::process::Abort;
@@ -76,6 +77,11 @@ fn attributes_and_types_of_others_are_named(rt: HostRuntime) {
 #[test]
 fn a_case_is_one_of_the_names_here(rt: HostRuntime) {
     are_reported(&rt, rt.alloc(), CASES);
+}
+
+#[test]
+fn unknown_names_are_denied_by_structs_of_json(rt: HostRuntime) {
+    are_reported(&rt, rt.alloc(), DENIED);
 }
 
 #[test]

@@ -3,7 +3,7 @@
 use crate::forms::{CITING, DEFAULTED, EMPTY, GENERIC, LARGE, PARTS, PASSED, SKIPPED};
 use crate::generic_forms::{BOUNDED, HELD, PATHS};
 use crate::key_forms::KEYS;
-use crate::named_forms::{ALIASED, CLASHING, NAMED};
+use crate::named_forms::{ALIASED, CLASHING, NAMED, STRICT};
 use crate::outcome::outcome_above;
 use std::alloc::{AllocError, Global};
 use std::process::Abort;
@@ -53,6 +53,11 @@ fn forms_with_parameters_and_paths_are_written(rt: HostRuntime) {
 #[test]
 fn an_alias_stands_around_its_field(rt: HostRuntime) {
     are_written(&rt, rt.alloc(), ALIASED);
+}
+
+#[test]
+fn a_struct_that_denies_unknown_names_is_strict_in_json(rt: HostRuntime) {
+    are_written(&rt, rt.alloc(), STRICT);
 }
 
 #[test]

@@ -31,3 +31,5 @@ mod mutation_tests;
 mod named_forms;
 #[cfg(test)]
 mod outcome;
+#[cfg(test)]
+mod strict_faults;

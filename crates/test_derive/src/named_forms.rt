@@ -79,6 +79,48 @@ type BFields<A> = Aliased<
 >;
 "#;
 
+/// A struct that denies unknown names is strict in JSON alone.
+pub(crate) const STRICT: &str =
+    r#"// nanoserde: bin json ron, deny_unknown, rename_all = "camelCase"
+struct A {
+    the_first: u8,
+}
+=>
+ghost use Rattle.nano_json_schema.specs.Structs.{strict_json_of};
+=>
+    ghost json = { strict_json_of ⟦<A as StructSchema>⟧.view ⟦<AFields as JsonShape>⟧.codec refl };
+=>
+        write_record_json::<Self, AFields>(self, alloc, d, s)
+=>
+        read_record_json_strict::<Self, AFields>(alloc, state, input)
+=>
+        take_record_json_strict::<Self, AFields>(alloc, place, input, text)
+=>
+    ghost ron = { ron_of ⟦<A as StructSchema>⟧.view ⟦<AFields as RonShape>⟧.codec refl };
+=>
+        read_record_ron::<Self, AFields>(alloc, state, input)
+----
+// nanoserde: de_json deny_unknown
+struct B<T> {
+    a: Vec<Option<T>>,
+}
+// nanoserde: json
+struct C {
+    b: u8,
+}
+=>
+        match read_record_json_strict::<Self, BFields<T>>(alloc, state, input) {
+            Ok(value) => {
+                means_as_json::<Self>(&value);
+=>
+        read_record_json::<Self, CFields>(alloc, state, input)
+----
+// nanoserde: json deny_unknown
+struct D;
+=>
+        read_record_json_strict::<Self, Unit>(alloc, state, input)
+"#;
+
 /// What has the name of something in the file is said by its path.
 pub(crate) const CLASHING: &str = r#"use crate::a::*;
 use std::alloc::Global;

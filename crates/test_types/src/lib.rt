@@ -2,7 +2,7 @@
 //! copies.
 //!
 //! `Server`, `Event`, `Signal` and `Query` are described once by a schema, and `derive_files` wrote
-//! each format from it. So are `Site`, `Clock`, `Notice`, `Moved` and `Change`, which have
+//! each format from it. So are `Site`, `Clock`, `Notice`, `Moved`, `Change` and `Proxy`, which have
 //! attributes, `Tagged` and `Reply`, which have type parameters, `Ranked`, `Wanted`, `Ranks` and
 //! `Best`, whose parameters have bounds, `Point` and `Entry`, whose parts have no names, `Marker`,
 //! `Empty` and `Count`, of which nothing is read or written, with `Step` and `Trip`, which hold
@@ -24,6 +24,7 @@ mod message;
 mod moved;
 mod notice;
 mod point;
+mod proxy;
 mod query;
 mod ranked;
 mod ranks;
@@ -46,6 +47,7 @@ pub use message::Message;
 pub use moved::{Change, Moved};
 pub use notice::Notice;
 pub use point::Point;
+pub use proxy::Proxy;
 pub use query::Query;
 pub use ranked::{Ranked, Wanted};
 pub use ranks::{Best, Ranks};

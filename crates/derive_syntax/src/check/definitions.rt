@@ -28,6 +28,7 @@ pub(crate) fn check_definition<'a>(
     check_transparent(definition)?;
     check_key(definition)?;
     check_case(definition)?;
+    check_unknown(definition)?;
     if definition.attributes.codec.is_some() {
         check_bounds(definition)?;
     }
@@ -65,6 +66,24 @@ fn check_case<'a>(definition: &Definition<'a>) -> Result<(), Fault> {
         Shape::Fields(fields) if fields.is_empty() => Err(text.fault(NO_NAMES)),
         _ if case.has_hyphens() && attributes.ron.is_used() => Err(text.fault(HYPHENS)),
         _ => Ok(()),
+    }
+}
+
+const NOT_READ: &str = "is for JSON that is read: write `json` or `de_json` beside it";
+
+const NO_STRUCT: &str = "is for a struct with named fields: a variant with fields skips those of \
+    other names";
+
+/// An error where fields of unknown names are denied that no reader of JSON would skip.
+fn check_unknown<'a>(definition: &Definition<'a>) -> Result<(), Fault> {
+    let attributes = definition.attributes;
+    let Some(word) = attributes.deny_unknown else {
+        return Ok(());
+    };
+    match &definition.shape {
+        Shape::Fields(_) if attributes.json.reads => Ok(()),
+        Shape::Fields(_) => Err(word.fault(NOT_READ)),
+        _ => Err(word.fault(NO_STRUCT)),
     }
 }
 

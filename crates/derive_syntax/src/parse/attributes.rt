@@ -37,6 +37,7 @@ const NO_ATTRIBUTES: Attributes = Attributes {
     above: &[],
     rename_all: None,
     case: None,
+    deny_unknown: None,
     default: None,
     default_path: None,
     skip: None,
@@ -202,14 +203,9 @@ fn read_word<'a>(
             }
             set(&mut attributes.default, word, word)
         }
-        "transparent" => {
-            above(below == Below::Definition, word, DEFINITION)?;
-            set(&mut attributes.transparent, word, word)
-        }
-        "key" => {
-            above(below == Below::Definition, word, DEFINITION)?;
-            set(&mut attributes.key, word, word)
-        }
+        "transparent" => set_above(&mut attributes.transparent, below, word),
+        "key" => set_above(&mut attributes.key, below, word),
+        "deny_unknown" => set_above(&mut attributes.deny_unknown, below, word),
         _ => read_codec(attributes, below, word),
     }
 }
@@ -221,8 +217,8 @@ const FIELD: &str = "stands only above a field with a name";
 const FIELD_OR_VARIANT: &str = "stands only above a field with a name or a variant";
 
 const NO_ATTRIBUTE: &str = "is no attribute: those of a type are bin, json, ron, each of them also \
-    with de_ or ser_ before it, key, rename_all and transparent; those of a field rename, alias, \
-    default and skip";
+    with de_ or ser_ before it, key, rename_all, deny_unknown and transparent; those of a field \
+    rename, alias, default and skip";
 
 const NO_CASE: &str = "is no case: those of names are lowercase, UPPERCASE, PascalCase, camelCase, \
     snake_case, SCREAMING_SNAKE_CASE, kebab-case and SCREAMING-KEBAB-CASE";
@@ -244,6 +240,16 @@ fn case_of(text: Token<'_>) -> Result<Case, Fault> {
         Some(case) => Ok(case),
         None => Err(text.fault(NO_CASE)),
     }
+}
+
+/// Sets a word that stands above a struct or an enum.
+fn set_above<'a>(
+    place: &mut Option<Token<'a>>,
+    below: Below,
+    word: Token<'a>,
+) -> Result<(), Fault> {
+    above(below == Below::Definition, word, DEFINITION)?;
+    set(place, word, word)
 }
 
 /// Sets what is to be set once.

@@ -1,7 +1,7 @@
 //! The impls of a type in each of its formats.
 
 use crate::output::codec::{BIN, Codec, DEFINITION, JSON, RON};
-use crate::output::forms::Form;
+use crate::output::forms::{Form, STRICT};
 use crate::output::means::with_law;
 use crate::output::sheet::Sheet;
 use crate::output::target::Target;
@@ -21,7 +21,12 @@ pub(crate) fn append_codecs<'a>(
     let [_, json, ron] = in_text.imports;
     let named = target.attributes;
     append_codec(sheet, target, in_bytes, bin, &BIN, named.bin)?;
-    append_codec(sheet, target, in_text, json, &JSON, named.json)?;
+    if named.deny_unknown.is_some() {
+        let [_, strict, _] = STRICT.imports;
+        append_codec(sheet, target, &STRICT, strict, &JSON, named.json)?;
+    } else {
+        append_codec(sheet, target, in_text, json, &JSON, named.json)?;
+    }
     append_codec(sheet, target, in_text, ron, &RON, named.ron)
 }
 

@@ -47,6 +47,31 @@ const RECORD_TAKER: &str = "
         nano_$MODULE_schema::take_record_$MODULE::<Self, $ROW>(alloc, place, input, text)
     }";
 
+/// A struct by its fields in JSON, where it has no others.
+pub(crate) const STRICT: Form = Form {
+    imports: [
+        &[],
+        &[
+            "ghost use Rattle.nano_json_schema.specs.Structs.{strict_json_of};",
+            REFL,
+        ],
+        &[],
+    ],
+    term: "strict_json_of ⟦<$FULL as nano_schema::StructSchema>⟧.view \
+        ⟦<$ROW as nano_json_schema::JsonShape>⟧.codec$PROOF",
+    write: "        nano_json_schema::write_record_json::<Self, $ROW>(self, $ARGUMENTS)",
+    read: "        nano_json_schema::read_record_json_strict::<Self, $ROW>($ARGUMENTS)",
+    taker: STRICT_TAKER,
+    is_by_codec: true,
+};
+
+const STRICT_TAKER: &str = "
+
+    fn de_json_plain(alloc: std::alloc::Global, place: &mut nano_json_schema::Place, \
+        input: &mut std::str::Chars<'_>, text: &mut String) -> Option<Self> {
+        nano_json_schema::take_record_json_strict::<Self, $ROW>(alloc, place, input, text)
+    }";
+
 /// An enum, by its variants.
 pub(crate) const CHOICE: Form = Form {
     imports: [

@@ -5,12 +5,12 @@ use Rattle.nano_grammar.proofs.Plain.{none_taken, more_taken, all_fields_taken, 
 use Rattle.nano_json_tokens.specs.Cut.{Cut}
 use Rattle.nano_json_tokens.specs.Token.{str, colon, comma, curly_open, curly_close}
 use Rattle.nano_json.proofs.Json.{json_laws}
-use Rattle.nano_json_schema.specs.FieldCodecs.{json_fields}
+use Rattle.nano_json_schema.specs.FieldCodecs.{fields_with}
 use Rattle.nano_json_schema.proofs.plain.take_list.Goals as goal
 
 pub fields-init : goal.fields-init
 fields-init g c = (
-  none_taken json_fields g.F.JsonFields.codec.struct.shape c.requires (c.take_punctuator.ensures.taken c.if-not-take_punctuator.false curly_open refl),
+  none_taken (fields_with g.U.Unknown.after) g.F.JsonFields.codec.struct.shape c.requires (c.take_punctuator.ensures.taken c.if-not-take_punctuator.false curly_open refl),
   c.take_punctuator.ensures.counts,
 )
 
@@ -34,7 +34,7 @@ fields-preserved g c =
     let known = sym looked.0.known_is ∙ c.if-not-branch.false in
     let field = looked.0.taken c.if-not-branch.false in
     let token_cut = c.take_directly.ensures.taken c.if-take_directly.true comma refl in (
-      more_taken json_fields shape c.in_ok-name.name.now c.fields.invariant.0 c.in_ok-name.ensures.taken known field token_cut,
+      more_taken (fields_with g.U.Unknown.after) shape c.in_ok-name.name.now c.fields.invariant.0 c.in_ok-name.ensures.taken known field token_cut,
       moves_append c.fields.invariant.1
           (moves_append c.in_ok-name.ensures.counts (moves_append looked.1 c.take_directly.ensures.counts)),
     )
@@ -50,7 +50,7 @@ returns-in-fields g c =
     let token_cut = c.take_punctuator-in-fields.ensures.taken c.if-not-take_punctuator-2.false curly_close refl in
     let same = c.take_directly.ensures.other c.if-take_directly.false in
     let closing = subst (λ (l : List ℕ). Cut l curly_close rest) (λ i. text_at (same.0 i) (same.1 i)) token_cut in (
-      all_fields_taken json_fields shape c.in_ok-name.name.now c.fields.invariant.0 c.in_ok-name.ensures.taken known field closing,
+      all_fields_taken (fields_with g.U.Unknown.after) shape c.in_ok-name.name.now c.fields.invariant.0 c.in_ok-name.ensures.taken known field closing,
       moves_append c.fields.invariant.1 (moves_append c.in_ok-name.ensures.counts
           (moves_append looked.1 (moves_append c.take_directly.ensures.counts c.take_punctuator-in-fields.ensures.counts))),
     )

@@ -7,7 +7,7 @@ use Rattle.nano_json_schema.proofs.read.read_list.Given as goal
 
 abbrev pub invariant-fields : goal.invariant-fields
 invariant-fields g l =
-    SoFar g.F.JsonFields.codec.struct (g.F.JsonFields.holds l.slots) (position l.fn.state l.fn.input) (position l.state l.input) l.name
+    SoFar g.U.Unknown.after g.F.JsonFields.codec.struct (g.F.JsonFields.holds l.slots) (position l.fn.state l.fn.input) (position l.state l.input) l.name
 
 abbrev pub decreases-fields : goal.decreases-fields
 decreases-fields g l = tokens_left json_laws.is_end (at l.state l.input)

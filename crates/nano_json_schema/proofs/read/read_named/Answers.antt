@@ -2,13 +2,13 @@ use Rattle.std.proofs.Common.{[], sym, ◌∙◌, subst}
 use Rattle.std.proofs.lemmas.Result.{MatchResult-weaker}
 use Rattle.nano_grammar.proofs.TokenCalls.{passed_on}
 use Rattle.nano_grammar.proofs.FieldCalls.{known_read, known_not, skipped_read, skipped_not}
-use Rattle.nano_json_schema.specs.FieldCodecs.{json_fields}
+use Rattle.nano_json_schema.specs.FieldCodecs.{fields_with}
 use Rattle.nano_json_schema.proofs.Calls.{still_there}
 use Rattle.nano_json_schema.proofs.read.read_named.Goals as goal
 
 pub returns-then-branch : goal.returns-then-branch
 returns-then-branch g c =
-    known_read json_fields c.args.name.now g.F.JsonFields.codec.struct.shape [] (rw c.if-branch.true at c.in_ok-read_field.ensures)
+    known_read (fields_with g.U.Unknown.after) c.args.name.now g.F.JsonFields.codec.struct.shape [] (rw c.if-branch.true at c.in_ok-read_field.ensures)
 
 pub returns : goal.returns
 returns g c =
@@ -16,12 +16,12 @@ returns g c =
     let h = c.in_ok-read_field.ensures in
     let unknown = sym h.known_is ∙ c.if-branch.false in
     let same = h.unknown c.if-branch.false in
-    MatchResult-weaker c.whole_field.result c.whole_field.ensures
-    (λ _ k. skipped_read json_fields c.args.name.now shape unknown (still_there same.1) k.0 k.1 k.2 (λ fs f e x.
+    MatchResult-weaker c.take.result c.take.ensures
+    (λ _ k. skipped_read (fields_with g.U.Unknown.after) c.args.name.now shape unknown (still_there same.1) k.0 k.1 k.2 (λ fs f e x.
     g.met.F.JsonFields.skips c.read_field.new.slots fs f e (subst (λ s. g.F.JsonFields.holds s fs) (sym same.0) x)))
-    (λ e k. skipped_not json_fields c.args.name.now shape unknown (still_there same.1) k.fails)
+    (λ e k. skipped_not (fields_with g.U.Unknown.after) c.args.name.now shape unknown (still_there same.1) k)
 
 pub returns-in_err-read_field : goal.returns-in_err-read_field
 returns-in_err-read_field g c =
     passed_on _ _ c.from_residual.result c.from_residual.ensures.1
-    (known_not json_fields c.args.name.now g.F.JsonFields.codec.struct.shape [] c.in_err-read_field.ensures)
+    (known_not (fields_with g.U.Unknown.after) c.args.name.now g.F.JsonFields.codec.struct.shape [] c.in_err-read_field.ensures)
