@@ -73,7 +73,8 @@ fn split_offset(format: Format, input: &[u8]) -> Option<(usize, &[u8])> {
     }
 }
 
-/// The number that the bytes begin with, and those after the space after it.
+/// The number that the bytes begin with, or the greatest where it is more, and those after the space
+/// after it.
 fn offset_of(input: &[u8]) -> Option<(usize, &[u8])> {
     let mut offset = 0usize;
     let mut rest = input;
@@ -85,8 +86,8 @@ fn offset_of(input: &[u8]) -> Option<(usize, &[u8])> {
             b' ' => return Some((offset, rest)),
             digit @ b'0'..=b'9' => {
                 offset = offset
-                    .wrapping_mul(10)
-                    .wrapping_add(usize::from(digit - b'0'));
+                    .saturating_mul(10)
+                    .saturating_add(usize::from(digit - b'0'));
             }
             _ => return None,
         }
