@@ -1,6 +1,6 @@
 //! Documents that are read with a limit of levels which the caller sets.
 
-ghost use Rattle.nano_json.specs.Readers.{ReadsText, ReadsWhole};
+ghost use Rattle.nano_document.specs.FirstFaults.{ReadsOrFirstError, WholeOrFirstError};
 ghost use Rattle.nano_document.specs.Documents.{json_means};
 ghost use Rattle.nano_document.specs.DocumentCodecs.{level_codec};
 
@@ -30,7 +30,7 @@ impl Json {
         levels: usize,
         input: &str,
     ) -> Result<Json, DeJsonErr>
-        ensures { ReadsText (level_codec levels).encoding.encodes json_means input.now result }
+        ensures { ReadsOrFirstError (level_codec levels).encoding.encodes input.now json_means result }
     {
         let mut state = DeJsonState::new(alloc);
         let mut chars = input.chars();
@@ -63,7 +63,7 @@ impl Json {
         levels: usize,
         input: &str,
     ) -> Result<Json, DeJsonErr>
-        ensures { ReadsWhole (level_codec levels).encoding.encodes json_means input.now result }
+        ensures { WholeOrFirstError (level_codec levels).encoding.encodes input.now json_means result }
     {
         let mut state = DeJsonState::new(alloc);
         let mut characters = input.chars();
