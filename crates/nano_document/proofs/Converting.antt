@@ -1,18 +1,15 @@
 -- What is read from the text of another value.
-use Rattle.std.proofs.Common.{◌≡◌, ℕ, true, false, List, [], encode_utf8_all, chars, refl, sym, ◌∙◌, ap, subst, arith}
+use Rattle.std.proofs.Common.{◌≡◌, ℕ, true, List, encode_utf8_all, sym, ap, subst}
 use Rattle.std.specs.Prelude.{Result, MatchResult}
-use Rattle.std.proofs.lemmas.Bool.{false≢true, true_from_ne_false}
+use Rattle.std.proofs.lemmas.Bool.{true_from_ne_false}
 use Rattle.std.proofs.lemmas.Result.{MatchResult-weaker}
 use Rattle.nano_value.specs.Meaning.{Meaning}
 use Rattle.nano_grammar.specs.Codec.{IsEncoding}
-use Rattle.nano_grammar.specs.Outcomes.{Report, ReadsNoWhole, WholeDecodesTo}
 use Rattle.nano_grammar.specs.Tokens.{IsValueText}
 use Rattle.nano_grammar.proofs.WholeInputs.{written_whole, one_whole}
-use Rattle.nano_json.specs.Codec.{Codec}
 use Rattle.nano_json.specs.Readers.{ReadsWhole}
 use Rattle.nano_json.proofs.Json.{json_laws}
-use Rattle.nano_json_tokens.specs.Cut.{Cut, json_grammar}
-use Rattle.nano_json_tokens.specs.Outcomes.{report}
+use Rattle.nano_json_tokens.specs.Cut.{json_grammar}
 use Rattle.nano_json_tokens.specs.Token.{Token, end}
 use Rattle.nano_json_tokens.specs.declared.error.DeJsonErr.{DeJsonErr}
 use Rattle.nano_json_tokens.proofs.JsonLaws.{json}
@@ -21,32 +18,7 @@ use Rattle.nano_document.specs.DocumentCodecs.{json_codec}
 use Rattle.nano_document.specs.declared.json.Json.{Json}
 use Rattle.nano_document.specs.Conversions.{ReadsAll, IsWrittenDocument}
 
--- memory ran out before anything was read
-pub ran_out : {V : Type 0} (encodes : List Token → V → Type 0) (bytes : List ℕ) (e : Report)
-    → e.memory ≡ true → (e.memory ≡ true → e.message ≡ []) → e.line ≡ 0 → e.col ≡ 0
-    → ReadsNoWhole Cut encodes bytes end e
-ran_out encodes bytes e memory silent line col = record {
-  rejected = λ known. absurd (false≢true (sym known ∙ memory));
-  silent = silent;
-  trailing = λ known. absurd (false≢true (sym known ∙ memory));
-  fault = λ known. absurd (false≢true (sym known ∙ memory));
-  past = λ known. absurd (false≢true (sym known ∙ memory));
-  place = record {
-    taken = [];
-    after = chars bytes;
-    split = refl;
-    lines = line;
-    columns = col;
-    within = omega arith;
-  };
-}
-
 module _ {A : Type 0} (encodes : List Token → Meaning → Type 0) (means : A → Meaning) where
-  -- a text that is the same
-  pub of_text : (bytes text : List ℕ) (result : Result A DeJsonErr) → bytes ≡ encode_utf8_all text
-      → ReadsWhole encodes means bytes result → ReadsWhole encodes means (encode_utf8_all text) result
-  of_text bytes text result is h = subst (λ (b : List ℕ). ReadsWhole encodes means b result) is h
-
   -- what is read from a text is what its tokens encode
   pub reads_all : {P : Meaning → Type 0} → IsEncoding json_grammar P encodes
       → (ts : List Token) (bytes text : List ℕ) (result : Result A DeJsonErr)
@@ -57,7 +29,6 @@ module _ {A : Type 0} (encodes : List Token → Meaning → Type 0) (means : A �
       (λ x found m encoded. one_whole json_laws laws end bytes m (means x) (written_whole json_laws laws ts text bytes m written is encoded) found)
       (λ e none known m encoded. none.rejected known m (written_whole json_laws laws ts text bytes m written is encoded))
 
-module _ {A : Type 0} (encodes : List Token → Meaning → Type 0) (means : A → Meaning) where
   -- a value is read from the document that was made of it
   pub leads_back : {P : Meaning → Type 0} → IsEncoding json_grammar P encodes
       → (ts : List Token) (x made : Json) (m : Meaning) (result : Result A DeJsonErr)

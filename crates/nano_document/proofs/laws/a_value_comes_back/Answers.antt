@@ -1,8 +1,6 @@
-use Rattle.std.proofs.Common.{◌≡◌, sym}
 use Rattle.std.proofs.lemmas.Bool.{true_from_ne_false}
 use Rattle.nano_grammar.proofs.TokenCalls.{passed_on}
 use Rattle.nano_document.specs.Documents.{json_means}
-use Rattle.nano_document.specs.Conversions.{IsWrittenDocument}
 use Rattle.nano_document.proofs.Converting.{leads_back}
 use Rattle.nano_document.proofs.laws.a_value_comes_back.Goals as goal
 

@@ -4,7 +4,7 @@ use Rattle.nano_grammar.proofs.WholeInputs.{text_read}
 use Rattle.nano_json.proofs.Json.{json_laws, begun}
 use Rattle.nano_document.specs.DocumentCodecs.{level_codec}
 use Rattle.nano_document.proofs.FirstErrors.{uncut_first, wrong_first}
-use Rattle.nano_document.proofs.within.Json.deserialize_json_within.Goals as goal
+use Rattle.nano_document.proofs.json.Json.deserialize_json_within.Goals as goal
 
 pub returns : goal.returns
 returns c =

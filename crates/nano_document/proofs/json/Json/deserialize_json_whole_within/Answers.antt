@@ -5,7 +5,7 @@ use Rattle.nano_json_tokens.specs.Token.{end}
 use Rattle.nano_json.proofs.Json.{json_laws, begun}
 use Rattle.nano_document.specs.DocumentCodecs.{level_codec}
 use Rattle.nano_document.proofs.FirstErrors.{uncut_first, wrong_first, whole_first, whole_past}
-use Rattle.nano_document.proofs.within.Json.deserialize_json_whole_within.Goals as goal
+use Rattle.nano_document.proofs.json.Json.deserialize_json_whole_within.Goals as goal
 
 -- where no token is cut
 pub returns-in-Err : goal.returns-in-Err

@@ -1,13 +1,7 @@
 use Rattle.std.proofs.Common.{◌∙◌}
-use Rattle.nano_document.specs.Documents.{json_means}
 use Rattle.nano_document.specs.DocumentCodecs.{json_codec}
-use Rattle.nano_document.proofs.Converting.{of_text, reads_all}
-use Rattle.nano_document.proofs.convert.Json.to_value.Goals as goal
-
-pub returns-in-Ok-clause-text : goal.returns-in-Ok-clause-text
-returns-in-Ok-clause-text g c =
-    of_text g.T.JsonCodec.json.encoding.encodes g.T.Value.means c.as_str.result.now (json_codec.canonical.text 0 c.args.self.now) c.deserialize_json_whole.result
-    (c.as_str.ensures.value ∙ c.in-Ok.ensures) c.deserialize_json_whole.ensures
+use Rattle.nano_document.proofs.Converting.{reads_all}
+use Rattle.nano_document.proofs.json.Json.to_value.Goals as goal
 
 pub returns-in-Ok-clause-tokens : goal.returns-in-Ok-clause-tokens
 returns-in-Ok-clause-tokens g c =

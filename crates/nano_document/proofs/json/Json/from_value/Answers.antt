@@ -1,15 +1,9 @@
-use Rattle.std.proofs.Common.{◌∙◌, encode_utf8_all}
+use Rattle.std.proofs.Common.{◌∙◌}
 use Rattle.nano_json.proofs.Json.{legal_there}
 use Rattle.nano_document.specs.Documents.{json_means}
 use Rattle.nano_document.specs.DocumentCodecs.{json_codec}
-use Rattle.nano_document.proofs.Converting.{of_text, reads_all}
-use Rattle.nano_document.proofs.convert.Json.from_value.Goals as goal
-
-pub returns-in-Ok-clause-text : goal.returns-in-Ok-clause-text
-returns-in-Ok-clause-text g c =
-    let S = json_codec.encoding.encodes in
-    of_text S json_means c.as_str.result.now (g.T.JsonCodec.json.canonical.text 0 c.args.value.now) c.deserialize_json_whole.result
-    (c.as_str.ensures.value ∙ c.in-Ok.ensures) c.deserialize_json_whole.ensures
+use Rattle.nano_document.proofs.Converting.{reads_all}
+use Rattle.nano_document.proofs.json.Json.from_value.Goals as goal
 
 pub returns-in-Ok-clause-tokens : goal.returns-in-Ok-clause-tokens
 returns-in-Ok-clause-tokens g c =
