@@ -154,14 +154,14 @@ module _ {V : Type 0} (S : List Token → V → Type 0) where
       let v = other.wrong in
       let first = same_at Cut json_laws.one_way (remaining_text bytes) v.first w.first v.is_first w.is_first in
       same_from w.first v.first first w.here v.here w.reason v.reason w.fault v.fault one.before other.before
-      where
-        same_from : (m n : At Token) → n ≡ m → (here there : At Token) (reason : Reason Cut here)
-            (other : Reason Cut there) → (f : Fault Cut S m here reason) → (g : Fault Cut S n there other)
-            → IsBeginning S (before_fault reason f.tokens) → IsBeginning S (before_fault other g.tokens)
-            → here ≡ there
-        same_from m n is here there reason other f g h k =
-            same_place m here there reason other f (record {
-              tokens = g.tokens;
-              taken = subst (λ (x : At Token). Leaves Cut g.tokens x there) is g.taken;
-              none = g.none;
-            }) h k
+    where
+      same_from : (m n : At Token) → n ≡ m → (here there : At Token) (reason : Reason Cut here)
+          (other : Reason Cut there) → (f : Fault Cut S m here reason) → (g : Fault Cut S n there other)
+          → IsBeginning S (before_fault reason f.tokens) → IsBeginning S (before_fault other g.tokens)
+          → here ≡ there
+      same_from m n is here there reason other f g h k =
+          same_place m here there reason other f (record {
+            tokens = g.tokens;
+            taken = subst (λ (x : At Token). Leaves Cut g.tokens x there) is g.taken;
+            none = g.none;
+          }) h k

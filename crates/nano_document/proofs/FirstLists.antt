@@ -1,7 +1,8 @@
 -- The first faults of items between brackets.
 use Rattle.std.proofs.Common.{◌≡◌, ◌≢◌, ◌+◌, ◌<◌, inl, inr, suc, List, [], ◌∷◌, ◌++◌, length}
 use Rattle.std.proofs.Common.{refl, sym, ap, ◌∙◌, subst, append_assoc, append-nil, length-append}
-use Rattle.std.proofs.Common.{arith, Bool, true, false, cond, ◌≤◌, ◌^◌, chars_rest}
+use Rattle.std.proofs.Common.{arith, Bool, true, false, cond, ◌≤◌, ◌^◌}
+use Rattle.std.specs.Str.Iter.{chars_rest}
 use Rattle.std.specs.declared.str.Chars.{Chars}
 use Rattle.nano_text.specs.Place.{text_at}
 use Rattle.nano_text.proofs.PlaceLaws.{moves_append}

@@ -23,8 +23,9 @@ impl Json {
     /// # Errors
     ///
     /// No such document is encoded at the beginning of the text with one more token or the end
-    /// after it, or memory ran out (`memory`). The message is `Value out of range levels>{levels} `
-    /// at a document inside so many others.
+    /// after it, or memory ran out (`memory`). Any other error is the first one of the text: what
+    /// stands before it can begin such a document. The message is `Value out of range
+    /// levels>{levels} ` at a document inside so many others, and at a name there.
     pub fn deserialize_json_within(
         alloc: Global,
         levels: usize,
@@ -50,8 +51,10 @@ impl Json {
     /// Where the beginning of the text decodes to such a document, and another token or a NUL
     /// follows it, the message of the error is `Cannot parse end `, or the error is out of memory.
     /// Nothing else is rejected so. Any other error except out of memory reports that no such
-    /// document is encoded at the beginning of the text, with one more token or the end after it.
-    /// The message is `Value out of range levels>{levels} ` at a document inside so many others.
+    /// document is encoded at the beginning of the text, with one more token or the end after it,
+    /// and is the first one of the text: what stands before it can begin such a document. The
+    /// message is `Value out of range levels>{levels} ` at a document inside so many others, and at
+    /// a name there.
     ///
     /// # Examples
     ///
