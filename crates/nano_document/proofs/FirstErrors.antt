@@ -1,5 +1,5 @@
 -- What the readers of texts know of the first error.
-use Rattle.std.proofs.Common.{◌≡◌, ◌≢◌, ◌∙◌, inl, inr, ℕ, List, [], ◌∷◌, ◌++◌, chars, sym}
+use Rattle.std.proofs.Common.{◌≡◌, ◌∙◌, inl, inr, ℕ, List, [], ◌∷◌, ◌++◌, chars, sym}
 use Rattle.std.proofs.Common.{ap, refl, subst, false, append_assoc, append-nil}
 use Rattle.std.proofs.lemmas.List.{append_cancel_left}
 use Rattle.nano_text.specs.Place.{remaining_text, text_at}
@@ -16,7 +16,7 @@ use Rattle.nano_grammar.proofs.WholeInputs.{Begun, text_uncut, text_not, whole_n
 use Rattle.nano_json_tokens.specs.Cut.{Cut}
 use Rattle.nano_json_tokens.specs.Token.{Token, end as last}
 use Rattle.nano_json.proofs.Json.{json_laws}
-use Rattle.nano_document.specs.FirstFaults.{GoesWrongFirst, TextGoesWrongFirst, IsFirstError}
+use Rattle.nano_document.specs.FirstFaults.{GoesWrongFirst, IsFirstError}
 use Rattle.nano_document.specs.FirstFaults.{FailsFirst, WholeFailsFirst, IsBeginning, before_fault}
 use Rattle.nano_document.specs.FirstFaults.{HasOneFirstError}
 use Rattle.nano_document.proofs.FirstFaults.{begins_shorter}

@@ -6,7 +6,7 @@ use Rattle.std.specs.declared.str.Chars.{Chars}
 use Rattle.nano_text.specs.Place.{text_at}
 use Rattle.nano_text.proofs.PlaceLaws.{moves_append, moves_none}
 use Rattle.nano_value.specs.Meaning.{Meaning, IsImage}
-use Rattle.nano_grammar.specs.Faults.{AreTokens, Reason, wrong, uncut, MayFollow, Fault, NoneBegins}
+use Rattle.nano_grammar.specs.Faults.{AreTokens, Reason, wrong, uncut, MayFollow, NoneBegins}
 use Rattle.nano_grammar.specs.Outcomes.{Report, Position, Moved, IsMadeAt, Fails, GoesWrong}
 use Rattle.nano_grammar.specs.Scalars.{EncodesOne}
 use Rattle.nano_grammar.specs.Tokens.{At, Leaves}
@@ -16,7 +16,7 @@ use Rattle.nano_grammar.proofs.TokenCalls.{fails_after, fails_as, fails_here}
 use Rattle.nano_grammar.proofs.TokensLaws.{leaves_append}
 use Rattle.nano_json_tokens.proofs.JsonLaws.{json}
 use Rattle.nano_json_tokens.specs.Cut.{Cut}
-use Rattle.nano_json_tokens.specs.Outcomes.{position, report, Reads}
+use Rattle.nano_json_tokens.specs.Outcomes.{position, Reads}
 use Rattle.nano_json_tokens.specs.Token.{Token, null, colon, comma, block_open, curly_open, str}
 use Rattle.nano_json_tokens.specs.declared.error.DeJsonErr.{DeJsonErr}
 use Rattle.nano_json_tokens.specs.State.{token_of}

@@ -1,10 +1,9 @@
 -- The first faults of items between brackets.
-use Rattle.std.proofs.Common.{◌≡◌, ◌≢◌, ◌+◌, ◌<◌, inl, inr, suc, List, [], ◌∷◌, ◌++◌, length}
+use Rattle.std.proofs.Common.{◌≡◌, ◌≢◌, ◌<◌, inl, inr, suc, List, [], ◌∷◌, ◌++◌, length}
 use Rattle.std.proofs.Common.{refl, sym, ap, ◌∙◌, subst, append_assoc, append-nil, length-append}
 use Rattle.std.proofs.Common.{arith, Bool, true, false, cond, ◌≤◌, ◌^◌}
 use Rattle.std.specs.Str.Iter.{chars_rest}
 use Rattle.std.specs.declared.str.Chars.{Chars}
-use Rattle.nano_text.specs.Place.{text_at}
 use Rattle.nano_text.proofs.PlaceLaws.{moves_append}
 use Rattle.nano_text.proofs.RemainingText.{remaining_fewer}
 use Rattle.nano_value.specs.Meaning.{Meaning, listed, usize_bound}
@@ -12,12 +11,10 @@ use Rattle.nano_grammar.specs.Codec.{IsEncoding, AreBrackets}
 use Rattle.nano_grammar.specs.Faults.{AreTokens}
 use Rattle.nano_grammar.specs.Items.{ListPunctuation, EncodedList}
 use Rattle.nano_grammar.specs.Lists.{EncodesAll}
-use Rattle.nano_grammar.specs.Outcomes.{Report, Position, Fails, Read, GoesWrong}
-use Rattle.nano_grammar.specs.Tokens.{Spans}
+use Rattle.nano_grammar.specs.Outcomes.{Report, Position, Fails, Read}
 use Rattle.nano_grammar.proofs.CollectingCalls.{Filled, all_lead}
 use Rattle.nano_grammar.proofs.Containers.{read_opening_leads, read_item_leads, read_comma_leads}
 use Rattle.nano_grammar.proofs.Containers.{read_closing_leads, item_taken}
-use Rattle.nano_grammar.proofs.TokenCalls.{fails_after}
 use Rattle.nano_grammar.proofs.TokensLaws.{tokens_left}
 use Rattle.nano_grammar.proofs.TupleCalls.{not_closing}
 use Rattle.nano_json_tokens.specs.Cut.{Cut, json_grammar}
