@@ -57,7 +57,9 @@ def read(reader, limit, levels):
 
 
 def entry(reader, limit, levels):
-    """A name, a colon and a document."""
+    """A name, a colon and a document. Where no level is left for that, the name is too much."""
+    if levels == 0:
+        raise reader.err_range(f"levels>{limit}")
     name = reader.as_string()
     reader.next_tok()
     reader.ask("Colon", ":")

@@ -2,6 +2,9 @@ pub mod Deciding
 pub mod DecimalParts
 pub mod DecimalText
 pub mod Documents
+pub mod FirstFaults
+pub mod FirstLists
+pub mod FirstErrors
 pub mod Reading
 pub mod Sound
 pub mod Converting

@@ -4,6 +4,7 @@ pub mod DecimalCodecs
 pub mod IntegerCodecs
 pub mod DocumentCodecs
 pub mod Conversions
+pub mod FirstFaults
 pub mod Held
 pub mod Pointers
 pub mod Equality

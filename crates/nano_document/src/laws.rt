@@ -7,7 +7,8 @@ ghost use Rattle.nano_value.specs.Meaning.{Meaning, text};
 ghost use Rattle.nano_meaning.specs.Sums.{tagged};
 ghost use Rattle.nano_document.specs.Decimals.{IsDecimal};
 ghost use Rattle.nano_document.specs.Documents.{depth, most_levels, json_means};
-ghost use Rattle.nano_document.specs.DocumentCodecs.{json_codec};
+ghost use Rattle.nano_document.specs.DocumentCodecs.{json_codec, level_codec};
+ghost use Rattle.nano_document.specs.FirstFaults.{HasOneFirstError};
 ghost use Rattle.nano_document.specs.Conversions.{IsWrittenDocument};
 ghost use Rattle.nano_document.specs.IndentedCodecs.{indented};
 ghost use Rattle.nano_bin_bytes.specs.Scalars.{little_endian};
@@ -27,6 +28,12 @@ use std::alloc::Global;
 /// A document of at most 128 levels is sound: what is written of it is read back.
 pub fn a_document_of_few_levels_is_sound()
     ensures { (x : Json) → depth x < most_levels → json_codec.sound x }
+{}
+
+/// Where a text goes wrong first is one place.
+pub fn a_text_has_one_first_error()
+    ensures { (levels : ℕ) (bytes : List ℕ)
+        → HasOneFirstError (level_codec levels).encoding.encodes bytes }
 {}
 
 /// A `Decimal` means the decimal that its text is, and is written as it stands; of a text that is

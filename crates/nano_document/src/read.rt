@@ -6,10 +6,12 @@ ghost use Rattle.std.specs.Prelude.{◌≡◌, map, string_bytes};
 ghost use Rattle.nano_json_tokens.specs.Outcomes.{Says};
 ghost use Rattle.nano_value.specs.Meaning.{number, text, listed};
 ghost use Rattle.nano_meaning.specs.Sums.{tagged};
-ghost use Rattle.nano_json.specs.Outcomes.{position, Reads};
+ghost use Rattle.nano_json.specs.Outcomes.{position};
 ghost use Rattle.nano_document.specs.Documents.{json_means, entry_means, levels_message};
+ghost use Rattle.nano_document.specs.FirstFaults.{ReadsOrFirstFault};
 ghost use Rattle.nano_document.specs.DecimalCodecs.{decimals};
-ghost use Rattle.nano_document.specs.DocumentCodecs.{level_codec, items_at, entry_at, entries_at};
+ghost use Rattle.nano_document.specs.DocumentCodecs.{level_codec, string_codec};
+ghost use Rattle.nano_document.specs.DocumentCodecs.{items_at, entry_at, entries_at};
 
 use crate::decimal::is_decimal;
 use crate::json::Json;
@@ -39,7 +41,7 @@ fn read_decimal(
     input: &mut Chars<'_>,
 ) -> Result<String, DeJsonErr>
     requires { state.now.tok ≡ DeJsonTok.F64 }
-    ensures { Reads decimals.encodes (λ x. text (string_bytes x))
+    ensures { ReadsOrFirstFault decimals.encodes (λ x. text (string_bytes x))
         (position state.old input.old) (position state.new input.new) result }
 {
     if !is_decimal(state.numbuf.as_str()) {
@@ -50,6 +52,22 @@ fn read_decimal(
     };
     state.next_tok(alloc, input)?;
     Ok(text)
+}
+
+/// Reads a text.
+fn read_text(
+    alloc: Global,
+    state: &mut DeJsonState,
+    input: &mut Chars<'_>,
+) -> Result<String, DeJsonErr>
+    ensures { ReadsOrFirstFault string_codec.encoding.encodes (λ x. text (string_bytes x))
+        (position state.old input.old) (position state.new input.new) result }
+{
+    let _length = state.strbuf.len();
+    match state.tok {
+        DeJsonTok::Str => String::de_json(alloc, state, input),
+        _ => Err(state.err_token(alloc, "string")),
+    }
 }
 
 /// The error of a document inside more others than the limit: `Value out of range levels>{limit} `.
@@ -73,7 +91,7 @@ pub(crate) fn read_json(
     state: &mut DeJsonState,
     input: &mut Chars<'_>,
 ) -> Result<Json, DeJsonErr>
-    ensures { Reads (level_codec levels).encoding.encodes json_means
+    ensures { ReadsOrFirstFault (level_codec levels).encoding.encodes json_means
         (position state.old input.old) (position state.new input.new) result }
 {
     if levels == 0 {
@@ -97,7 +115,7 @@ pub(crate) fn read_json(
             Ok(signed(value))
         }
         DeJsonTok::F64 => Ok(Json::Decimal(read_decimal(alloc, state, input)?)),
-        DeJsonTok::Str => Ok(Json::Text(String::de_json(alloc, state, input)?)),
+        DeJsonTok::Str => Ok(Json::Text(read_text(alloc, state, input)?)),
         DeJsonTok::BlockOpen => Ok(Json::List(read_items(alloc, limit, levels - 1, state, input)?)),
         DeJsonTok::CurlyOpen => Ok(Json::Object(read_entries(
             alloc,
@@ -119,7 +137,8 @@ fn read_items(
     state: &mut DeJsonState,
     input: &mut Chars<'_>,
 ) -> Result<Vec<Json>, DeJsonErr>
-    ensures { Reads (items_at levels).encodes (λ items. listed (map json_means items.items))
+    ensures { ReadsOrFirstFault (items_at levels).encodes
+        (λ items. listed (map json_means items.items))
         (position state.old input.old) (position state.new input.new) result }
 {
     // A text has fewer than 2^63 bytes, so a `usize` counts its items.
@@ -146,7 +165,7 @@ fn read_entries(
     state: &mut DeJsonState,
     input: &mut Chars<'_>,
 ) -> Result<Vec<(String, Json)>, DeJsonErr>
-    ensures { Reads (entries_at levels).encodes
+    ensures { ReadsOrFirstFault (entries_at levels).encodes
         (λ entries. listed (map (entry_means json_means) entries.items))
         (position state.old input.old) (position state.new input.new) result }
 {
@@ -165,7 +184,8 @@ fn read_entries(
     Ok(entries)
 }
 
-/// Reads a name, a colon and a document of at most so many levels.
+/// Reads a name, a colon and a document of at most so many levels. Of 0 there is none, so the error
+/// is at the name.
 #[cycle(read)]
 fn read_entry(
     alloc: Global,
@@ -174,10 +194,13 @@ fn read_entry(
     state: &mut DeJsonState,
     input: &mut Chars<'_>,
 ) -> Result<(String, Json), DeJsonErr>
-    ensures { Reads (entry_at levels).encodes (entry_means json_means)
+    ensures { ReadsOrFirstFault (entry_at levels).encodes (entry_means json_means)
         (position state.old input.old) (position state.new input.new) result }
 {
-    let name = String::de_json(alloc, state, input)?;
+    if levels == 0 {
+        return Err(too_deep(alloc, limit, state));
+    }
+    let name = read_text(alloc, state, input)?;
     state.colon(alloc, input)?;
     let value = read_json(alloc, limit, levels, state, input)?;
     Ok((name, value))

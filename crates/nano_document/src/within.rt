@@ -1,6 +1,6 @@
 //! Documents that are read with a limit of levels which the caller sets.
 
-ghost use Rattle.nano_json.specs.Readers.{ReadsText, ReadsWhole};
+ghost use Rattle.nano_document.specs.FirstFaults.{ReadsOrFirstError, WholeOrFirstError};
 ghost use Rattle.nano_document.specs.Documents.{json_means};
 ghost use Rattle.nano_document.specs.DocumentCodecs.{level_codec};
 
@@ -23,14 +23,15 @@ impl Json {
     /// # Errors
     ///
     /// No such document is encoded at the beginning of the text with one more token or the end
-    /// after it, or memory ran out (`memory`). The message is `Value out of range levels>{levels} `
-    /// at a document inside so many others.
+    /// after it, or memory ran out (`memory`). Any other error is the first one of the text: what
+    /// stands before it can begin such a document. The message is `Value out of range
+    /// levels>{levels} ` at a document inside so many others, and at a name there.
     pub fn deserialize_json_within(
         alloc: Global,
         levels: usize,
         input: &str,
     ) -> Result<Json, DeJsonErr>
-        ensures { ReadsText (level_codec levels).encoding.encodes json_means input.now result }
+        ensures { ReadsOrFirstError (level_codec levels).encoding.encodes input.now json_means result }
     {
         let mut state = DeJsonState::new(alloc);
         let mut chars = input.chars();
@@ -50,8 +51,10 @@ impl Json {
     /// Where the beginning of the text decodes to such a document, and another token or a NUL
     /// follows it, the message of the error is `Cannot parse end `, or the error is out of memory.
     /// Nothing else is rejected so. Any other error except out of memory reports that no such
-    /// document is encoded at the beginning of the text, with one more token or the end after it.
-    /// The message is `Value out of range levels>{levels} ` at a document inside so many others.
+    /// document is encoded at the beginning of the text, with one more token or the end after it,
+    /// and is the first one of the text: what stands before it can begin such a document. The
+    /// message is `Value out of range levels>{levels} ` at a document inside so many others, and at
+    /// a name there.
     ///
     /// # Examples
     ///
@@ -63,7 +66,7 @@ impl Json {
         levels: usize,
         input: &str,
     ) -> Result<Json, DeJsonErr>
-        ensures { ReadsWhole (level_codec levels).encoding.encodes json_means input.now result }
+        ensures { WholeOrFirstError (level_codec levels).encoding.encodes input.now json_means result }
     {
         let mut state = DeJsonState::new(alloc);
         let mut characters = input.chars();

@@ -112,4 +112,5 @@ fn what_a_document_holds(rt: HostRuntime) {
     holds(&rt, is_found(alloc).unwrap_or(false), "found");
     holds(&rt, is_taken_out(alloc).unwrap_or(false), "taken out");
     laws::a_document_of_few_levels_is_sound();
+    laws::a_text_has_one_first_error();
 }

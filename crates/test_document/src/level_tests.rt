@@ -72,7 +72,7 @@ fn entries_are_levels(alloc: Global) -> bool {
         && comes_to(
             Json::deserialize_json_whole_within(alloc, 2, text),
             "Value out of range levels>2 ",
-            12,
+            10,
         )
 }
 

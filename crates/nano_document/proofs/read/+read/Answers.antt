@@ -1,18 +1,17 @@
-use Rattle.std.proofs.Common.{◌-◌, ◌<◌, ◌^◌, pos, FitsSigned, map, refl, sym, ◌∙◌, ap, rules}
+use Rattle.std.proofs.Common.{◌-◌, ◌<◌, ◌^◌, ◌∷◌, [], pos, FitsSigned, map, refl, sym, ◌∙◌, ap, rules}
 use Rattle.std.specs.Int.{w64}
 use Rattle.std.proofs.lemmas.Int.{to_z-of_z}
 use Rattle.nano_value.specs.Meaning.{number, truth, nothing, listed}
 use Rattle.nano_meaning.specs.Sums.{tagged}
 use Rattle.nano_meaning.proofs.LastValuesLaws.{one_more_listed}
 use Rattle.nano_grammar.proofs.CollectingCalls.{turn_shorter, filled_none, filled_next, filled_no_more, all_read}
-use Rattle.nano_grammar.proofs.CollectingCalls.{opening_not, item_not, comma_not, closing_not}
-use Rattle.nano_grammar.proofs.TokenCalls.{passed_on}
-use Rattle.nano_grammar.proofs.ReadingCalls.{one_read, one_stopped, unit_read, unit_stopped, entry_read, key_not, colon_not}
+use Rattle.nano_grammar.proofs.TokenCalls.{passed_on, fails_as}
+use Rattle.nano_grammar.proofs.ReadingCalls.{one_read, one_stopped, unit_read, unit_stopped, entry_read}
 use Rattle.nano_json_tokens.specs.Token.{blocks, curlies}
 use Rattle.nano_json_tokens.proofs.JsonLaws.{json, block_brackets, curly_brackets}
 use Rattle.nano_json_tokens.proofs.ScalarsLaws.{truth_tokens, signed_tokens}
 use Rattle.nano_json_tokens.specs.State.{pending}
-use Rattle.nano_json_tokens.specs.Token.{null, colon, integer_of}
+use Rattle.nano_json_tokens.specs.Token.{null, colon, comma, integer_of, block_open, block_close, curly_open, curly_close}
 use Rattle.nano_json_tokens.specs.declared.token.DeJsonTok.TheVariants as T
 use Rattle.nano_json.proofs.Json.{json_laws, few_left, close_is, not_close, curly_is, not_curly}
 use Rattle.nano_document.specs.Documents.{json_means, entry_means}
@@ -21,8 +20,10 @@ use Rattle.nano_document.specs.IntegerCodecs.{IsInteger}
 use Rattle.nano_document.specs.declared.json.Json as J
 use Rattle.nano_document.specs.BinScalarImpls.{signed_fits}
 use Rattle.nano_document.proofs.Documents.{means-Null, means-Bool, means-U64, means-Text, means-List, means-Object}
-use Rattle.nano_document.proofs.Reading.{one_below, read_at, decimal_at, not_at, not_begun, no_level, pending_is, pending_kind, other_kind}
-use Rattle.nano_document.proofs.Reading.{ItemsHold, EntriesHold, level_laws, entry_laws_at, entry_read_whole, no_entry_whole, document_not}
+use Rattle.nano_document.proofs.FirstFaults.{not_taken, none_after_token, unmoved, one_alone, is_colon, is_comma, is_block_open, is_curly_open}
+use Rattle.nano_document.proofs.FirstLists.{few_more, opening_first, item_first, comma_first, closing_first}
+use Rattle.nano_document.proofs.Reading.{one_below, read_at, decimal_at, first_at, none_after, not_begun, no_level, no_entry, pending_is, pending_kind, other_kind}
+use Rattle.nano_document.proofs.Reading.{ItemsHold, EntriesHold, level_laws, entry_laws_at, entry_read_whole, name_first, colon_first, document_first}
 use Rattle.nano_document.proofs.read.+read.Goals as goal
 
 -- ---- read_items
@@ -52,24 +53,30 @@ read_items-returns-in_default t c =
 pub read_items-returns-in_err-block_open : goal.read_items-returns-in_err-block_open
 read_items-returns-in_err-block_open t c =
     passed_on _ _ c.from_residual.result c.from_residual.ensures.1
-    (opening_not json_laws blocks block_brackets (level_laws c.args.levels) ItemsHold listed c.in_err-block_open.ensures.fails)
+    (opening_first blocks block_brackets (level_laws c.args.levels) ItemsHold
+    (not_taken block_open is_block_open refl (λ n. unmoved (c.in_err-block_open.ensures.unchanged n)) c.in_err-block_open.ensures.fails))
 
 pub read_items-returns-in_err-item : goal.read_items-returns-in_err-item
 read_items-returns-in_err-item t c =
+    let few = few_more c.args.state.now c.args.input.now (search (rules, c.bytes_left-capacity.ensures.value, c.bytes_left-capacity.ensures.small)) in
     let other = not_close (pending c.items.state) (sym c.items-test.ensures) in
     passed_on _ _ c.from_residual-in_err-item.result c.from_residual-in_err-item.ensures.1
-    (item_not json_laws blocks block_brackets (level_laws c.args.levels) ItemsHold listed c.items.invariant other c.in_err-item.ensures)
+    (item_first blocks block_brackets (level_laws c.args.levels) ItemsHold few c.items.invariant other c.in_err-item.ensures)
 
 pub read_items-returns-in_err-eat_comma_block : goal.read_items-returns-in_err-eat_comma_block
 read_items-returns-in_err-eat_comma_block t c =
+    let few = few_more c.args.state.now c.args.input.now (search (rules, c.bytes_left-capacity.ensures.value, c.bytes_left-capacity.ensures.small)) in
+    let h = c.in_err-eat_comma_block.ensures in
     passed_on _ _ c.from_residual-in_err-eat_comma_block.result c.from_residual-in_err-eat_comma_block.ensures.1
-    (comma_not json_laws blocks block_brackets (level_laws c.args.levels) ItemsHold listed c.items.invariant c.in_ok-item.ensures c.in_err-eat_comma_block.ensures.1.fails)
+    (comma_first blocks block_brackets (level_laws c.args.levels) ItemsHold few c.items.invariant c.in_ok-item.ensures h.0
+    (not_taken comma is_comma refl (λ n. unmoved (h.1.unchanged n)) (fails_as (λ k. k.1) h.1.fails)))
 
 pub read_items-returns-in_err-block_close : goal.read_items-returns-in_err-block_close
 read_items-returns-in_err-block_close t c =
+    let few = few_more c.args.state.now c.args.input.now (search (rules, c.bytes_left-capacity.ensures.value, c.bytes_left-capacity.ensures.small)) in
     let closing = close_is (pending c.items.state) (sym c.items-test.ensures) in
     passed_on _ _ c.from_residual-in_err-block_close.result c.from_residual-in_err-block_close.ensures.1
-    (closing_not json_laws blocks block_brackets (level_laws c.args.levels) ItemsHold listed c.items.invariant closing c.in_err-block_close.ensures.fails)
+    (closing_first blocks block_brackets (level_laws c.args.levels) ItemsHold few c.items.invariant closing (none_after_token block_close closing c.in_err-block_close.ensures.fails))
 
 -- ---- read_entries
 
@@ -98,24 +105,30 @@ read_entries-returns-in_default t c =
 pub read_entries-returns-in_err-curly_open : goal.read_entries-returns-in_err-curly_open
 read_entries-returns-in_err-curly_open t c =
     passed_on _ _ c.from_residual.result c.from_residual.ensures.1
-    (opening_not json_laws curlies curly_brackets (entry_laws_at c.args.levels) EntriesHold listed c.in_err-curly_open.ensures.fails)
+    (opening_first curlies curly_brackets (entry_laws_at c.args.levels) EntriesHold
+    (not_taken curly_open is_curly_open refl (λ n. unmoved (c.in_err-curly_open.ensures.unchanged n)) c.in_err-curly_open.ensures.fails))
 
 pub read_entries-returns-in_err-entry : goal.read_entries-returns-in_err-entry
 read_entries-returns-in_err-entry t c =
+    let few = few_more c.args.state.now c.args.input.now (search (rules, c.bytes_left-capacity.ensures.value, c.bytes_left-capacity.ensures.small)) in
     let other = not_curly (pending c.entries.state) (sym c.entries-test.ensures) in
     passed_on _ _ c.from_residual-in_err-entry.result c.from_residual-in_err-entry.ensures.1
-    (item_not json_laws curlies curly_brackets (entry_laws_at c.args.levels) EntriesHold listed c.entries.invariant other c.in_err-entry.ensures)
+    (item_first curlies curly_brackets (entry_laws_at c.args.levels) EntriesHold few c.entries.invariant other c.in_err-entry.ensures)
 
 pub read_entries-returns-in_err-eat_comma_curly : goal.read_entries-returns-in_err-eat_comma_curly
 read_entries-returns-in_err-eat_comma_curly t c =
+    let few = few_more c.args.state.now c.args.input.now (search (rules, c.bytes_left-capacity.ensures.value, c.bytes_left-capacity.ensures.small)) in
+    let h = c.in_err-eat_comma_curly.ensures in
     passed_on _ _ c.from_residual-in_err-eat_comma_curly.result c.from_residual-in_err-eat_comma_curly.ensures.1
-    (comma_not json_laws curlies curly_brackets (entry_laws_at c.args.levels) EntriesHold listed c.entries.invariant c.in_ok-entry.ensures c.in_err-eat_comma_curly.ensures.1.fails)
+    (comma_first curlies curly_brackets (entry_laws_at c.args.levels) EntriesHold few c.entries.invariant c.in_ok-entry.ensures h.0
+    (not_taken comma is_comma refl (λ n. unmoved (h.1.unchanged n)) (fails_as (λ k. k.1) h.1.fails)))
 
 pub read_entries-returns-in_err-curly_close : goal.read_entries-returns-in_err-curly_close
 read_entries-returns-in_err-curly_close t c =
+    let few = few_more c.args.state.now c.args.input.now (search (rules, c.bytes_left-capacity.ensures.value, c.bytes_left-capacity.ensures.small)) in
     let closing = curly_is (pending c.entries.state) (sym c.entries-test.ensures) in
     passed_on _ _ c.from_residual-in_err-curly_close.result c.from_residual-in_err-curly_close.ensures.1
-    (closing_not json_laws curlies curly_brackets (entry_laws_at c.args.levels) EntriesHold listed c.entries.invariant closing c.in_err-curly_close.ensures.fails)
+    (closing_first curlies curly_brackets (entry_laws_at c.args.levels) EntriesHold few c.entries.invariant closing (none_after_token curly_close closing c.in_err-curly_close.ensures.fails))
 
 -- ---- read_entry
 
@@ -124,22 +137,25 @@ read_entry-returns t c =
     let S = (level_codec c.args.levels).encoding.encodes in
     entry_read_whole c.args.levels _ _ (entry_read json_laws colon string_codec.encoding.laws S c.in_ok-name.ensures c.in_ok-colon.ensures c.in_ok-value.ensures)
 
+pub read_entry-returns-then-levels-eq0 : goal.read_entry-returns-then-levels-eq0
+read_entry-returns-then-levels-eq0 t c = no_entry c.args.levels c.if-levels-eq0.true refl c.too_deep.ensures.1
+
 pub read_entry-returns-in_err-name : goal.read_entry-returns-in_err-name
 read_entry-returns-in_err-name t c =
-    let S = (level_codec c.args.levels).encoding.encodes in
     passed_on _ _ c.from_residual.result c.from_residual.ensures.1
-    (no_entry_whole c.args.levels (key_not json_laws colon string_codec.encoding.laws S c.in_err-name.ensures))
+    (name_first c.args.levels (c.args.levels - 1) (one_below c.args.levels c.if-levels-eq0.false) c.in_err-name.ensures)
 
 pub read_entry-returns-in_err-colon : goal.read_entry-returns-in_err-colon
 read_entry-returns-in_err-colon t c =
-    let S = (level_codec c.args.levels).encoding.encodes in
+    let h = c.in_err-colon.ensures in
     passed_on _ _ c.from_residual-in_err-colon.result c.from_residual-in_err-colon.ensures.1
-    (no_entry_whole c.args.levels (colon_not json_laws colon string_codec.encoding.laws S c.in_ok-name.ensures c.in_err-colon.ensures.fails))
+    (colon_first c.args.levels (c.args.levels - 1) (one_below c.args.levels c.if-levels-eq0.false) c.in_ok-name.ensures
+    (not_taken colon is_colon refl (λ n. unmoved (h.unchanged n)) h.fails))
 
 pub read_entry-returns-in_err-value : goal.read_entry-returns-in_err-value
 read_entry-returns-in_err-value t c =
     passed_on _ _ c.from_residual-in_err-value.result c.from_residual-in_err-value.ensures.1
-    (no_entry_whole c.args.levels (document_not c.args.levels c.in_ok-name.ensures c.in_ok-colon.ensures c.in_err-value.ensures))
+    (document_first c.args.levels (c.args.levels - 1) (one_below c.args.levels c.if-levels-eq0.false) c.in_ok-name.ensures c.in_ok-colon.ensures c.in_err-value.ensures)
 
 -- ---- read_json
 
@@ -153,9 +169,11 @@ read_json-returns-in_ok-next_tok-in-Null t c =
 
 pub read_json-returns-in_err-next_tok-in-Null : goal.read_json-returns-in_err-next_tok-in-Null
 read_json-returns-in_err-next_tok-in-Null t c =
+    let is = pending_is c.args.state.now T.Null c.in-Null.is in
     let kind = pending_kind c.args.state.now T.Null c.in-Null.is in
     passed_on _ _ c.from_residual.result c.from_residual.ensures.1
-    (not_at c.args.levels (c.args.levels - 1) (one_below c.args.levels c.if-levels-eq0.false) 0 kind (unit_stopped json null refl c.in_err-next_tok-in-Null.ensures.fails))
+    (none_after c.args.levels (c.args.levels - 1) (one_below c.args.levels c.if-levels-eq0.false) 0 kind nothing
+    (record { one = ap (λ u. u ∷ []) is; is = refl }) (unit_stopped json null refl c.in_err-next_tok-in-Null.ensures.fails))
 
 pub read_json-returns-in_ok-next_tok-in-Bool : goal.read_json-returns-in_ok-next_tok-in-Bool
 read_json-returns-in_ok-next_tok-in-Bool t c =
@@ -165,9 +183,12 @@ read_json-returns-in_ok-next_tok-in-Bool t c =
 
 pub read_json-returns-in_err-next_tok-in-Bool : goal.read_json-returns-in_err-next_tok-in-Bool
 read_json-returns-in_err-next_tok-in-Bool t c =
+    let is = pending_is c.args.state.now (T.Bool c.in-Bool.truth) c.in-Bool.is in
     let kind = pending_kind c.args.state.now (T.Bool c.in-Bool.truth) c.in-Bool.is in
     passed_on _ _ c.from_residual-in_err-next_tok-in-Bool.result c.from_residual-in_err-next_tok-in-Bool.ensures.1
-    (not_at c.args.levels (c.args.levels - 1) (one_below c.args.levels c.if-levels-eq0.false) 1 kind (one_stopped json truth truth_tokens.carries (λ _. Unit {0}) refl c.in_err-next_tok-in-Bool.ensures.fails))
+    (none_after c.args.levels (c.args.levels - 1) (one_below c.args.levels c.if-levels-eq0.false) 1 kind (truth c.in-Bool.truth)
+    (one_alone truth truth_tokens.carries (λ _. Unit {0}) (pending c.args.state.now) c.in-Bool.truth is tt)
+    (one_stopped json truth truth_tokens.carries (λ _. Unit {0}) refl c.in_err-next_tok-in-Bool.ensures.fails))
 
 pub read_json-returns-in_ok-next_tok-in-U64 : goal.read_json-returns-in_ok-next_tok-in-U64
 read_json-returns-in_ok-next_tok-in-U64 t c =
@@ -178,9 +199,13 @@ read_json-returns-in_ok-next_tok-in-U64 t c =
 
 pub read_json-returns-in_err-next_tok-in-U64 : goal.read_json-returns-in_err-next_tok-in-U64
 read_json-returns-in_err-next_tok-in-U64 t c =
+    let is = ap integer_of (pending_is c.args.state.now (T.U64 c.in-U64.value) c.in-U64.is) in
+    let few : c.in-U64.value < 2 ^ 64 = search rules in
     let kind = pending_kind c.args.state.now (T.U64 c.in-U64.value) c.in-U64.is in
     passed_on _ _ c.from_residual-in_err-next_tok-in-U64.result c.from_residual-in_err-next_tok-in-U64.ensures.1
-    (not_at c.args.levels (c.args.levels - 1) (one_below c.args.levels c.if-levels-eq0.false) 2 kind (one_stopped json number signed_tokens.carries IsInteger refl c.in_err-next_tok-in-U64.ensures.fails))
+    (none_after c.args.levels (c.args.levels - 1) (one_below c.args.levels c.if-levels-eq0.false) 2 kind (number (pos c.in-U64.value))
+    (one_alone number signed_tokens.carries IsInteger (pending c.args.state.now) (pos c.in-U64.value) is few)
+    (one_stopped json number signed_tokens.carries IsInteger refl c.in_err-next_tok-in-U64.ensures.fails))
 
 pub read_json-returns-in_ok-next_tok-in-I64 : goal.read_json-returns-in_ok-next_tok-in-I64
 read_json-returns-in_ok-next_tok-in-I64 t c =
@@ -191,9 +216,13 @@ read_json-returns-in_ok-next_tok-in-I64 t c =
 
 pub read_json-returns-in_err-next_tok-in-I64 : goal.read_json-returns-in_err-next_tok-in-I64
 read_json-returns-in_err-next_tok-in-I64 t c =
+    let is = ap integer_of (pending_is c.args.state.now (T.I64 c.in-I64.value) c.in-I64.is) in
+    let fits : FitsSigned w64 c.in-I64.value = search rules in
     let kind = pending_kind c.args.state.now (T.I64 c.in-I64.value) c.in-I64.is in
     passed_on _ _ c.from_residual-in_err-next_tok-in-I64.result c.from_residual-in_err-next_tok-in-I64.ensures.1
-    (not_at c.args.levels (c.args.levels - 1) (one_below c.args.levels c.if-levels-eq0.false) 2 kind (one_stopped json number signed_tokens.carries IsInteger refl c.in_err-next_tok-in-I64.ensures.fails))
+    (none_after c.args.levels (c.args.levels - 1) (one_below c.args.levels c.if-levels-eq0.false) 2 kind (number c.in-I64.value)
+    (one_alone number signed_tokens.carries IsInteger (pending c.args.state.now) c.in-I64.value is (signed_fits c.in-I64.value fits))
+    (one_stopped json number signed_tokens.carries IsInteger refl c.in_err-next_tok-in-I64.ensures.fails))
 
 pub read_json-returns-in_ok-read_decimal-in-F64 : goal.read_json-returns-in_ok-read_decimal-in-F64
 read_json-returns-in_ok-read_decimal-in-F64 t c =
@@ -203,17 +232,17 @@ pub read_json-returns-in_err-read_decimal-in-F64 : goal.read_json-returns-in_err
 read_json-returns-in_err-read_decimal-in-F64 t c =
     let kind = pending_kind c.args.state.now T.F64 c.in-F64.is in
     passed_on _ _ c.from_residual-in_err-read_decimal-in-F64.result c.from_residual-in_err-read_decimal-in-F64.ensures.1
-    (not_at c.args.levels (c.args.levels - 1) (one_below c.args.levels c.if-levels-eq0.false) 6 kind c.in_err-read_decimal-in-F64.ensures)
+    (first_at c.args.levels (c.args.levels - 1) (one_below c.args.levels c.if-levels-eq0.false) 6 kind c.in_err-read_decimal-in-F64.ensures)
 
-pub read_json-returns-in_ok-de_json-in-Str : goal.read_json-returns-in_ok-de_json-in-Str
-read_json-returns-in_ok-de_json-in-Str t c =
-    read_at c.args.levels (c.args.levels - 1) (one_below c.args.levels c.if-levels-eq0.false) 3 (J.Text c.in_ok-de_json-in-Str.field-0) _ (means-Text c.in_ok-de_json-in-Str.field-0) c.in_ok-de_json-in-Str.ensures
+pub read_json-returns-in_ok-read_text-in-Str : goal.read_json-returns-in_ok-read_text-in-Str
+read_json-returns-in_ok-read_text-in-Str t c =
+    read_at c.args.levels (c.args.levels - 1) (one_below c.args.levels c.if-levels-eq0.false) 3 (J.Text c.in_ok-read_text-in-Str.field-0) _ (means-Text c.in_ok-read_text-in-Str.field-0) c.in_ok-read_text-in-Str.ensures
 
-pub read_json-returns-in_err-de_json-in-Str : goal.read_json-returns-in_err-de_json-in-Str
-read_json-returns-in_err-de_json-in-Str t c =
+pub read_json-returns-in_err-read_text-in-Str : goal.read_json-returns-in_err-read_text-in-Str
+read_json-returns-in_err-read_text-in-Str t c =
     let kind = pending_kind c.args.state.now T.Str c.in-Str.is in
-    passed_on _ _ c.from_residual-in_err-de_json-in-Str.result c.from_residual-in_err-de_json-in-Str.ensures.1
-    (not_at c.args.levels (c.args.levels - 1) (one_below c.args.levels c.if-levels-eq0.false) 3 kind c.in_err-de_json-in-Str.ensures.fails)
+    passed_on _ _ c.from_residual-in_err-read_text-in-Str.result c.from_residual-in_err-read_text-in-Str.ensures.1
+    (first_at c.args.levels (c.args.levels - 1) (one_below c.args.levels c.if-levels-eq0.false) 3 kind c.in_err-read_text-in-Str.ensures)
 
 pub read_json-returns-in_ok-read_items-in-BlockOpen : goal.read_json-returns-in_ok-read_items-in-BlockOpen
 read_json-returns-in_ok-read_items-in-BlockOpen t c =
@@ -223,7 +252,7 @@ pub read_json-returns-in_err-read_items-in-BlockOpen : goal.read_json-returns-in
 read_json-returns-in_err-read_items-in-BlockOpen t c =
     let kind = pending_kind c.args.state.now T.BlockOpen c.in-BlockOpen.is in
     passed_on _ _ c.from_residual-in_err-read_items-in-BlockOpen.result c.from_residual-in_err-read_items-in-BlockOpen.ensures.1
-    (not_at c.args.levels (c.args.levels - 1) (one_below c.args.levels c.if-levels-eq0.false) 4 kind c.in_err-read_items-in-BlockOpen.ensures)
+    (first_at c.args.levels (c.args.levels - 1) (one_below c.args.levels c.if-levels-eq0.false) 4 kind c.in_err-read_items-in-BlockOpen.ensures)
 
 pub read_json-returns-in_ok-read_entries-in-CurlyOpen : goal.read_json-returns-in_ok-read_entries-in-CurlyOpen
 read_json-returns-in_ok-read_entries-in-CurlyOpen t c =
@@ -233,7 +262,7 @@ pub read_json-returns-in_err-read_entries-in-CurlyOpen : goal.read_json-returns-
 read_json-returns-in_err-read_entries-in-CurlyOpen t c =
     let kind = pending_kind c.args.state.now T.CurlyOpen c.in-CurlyOpen.is in
     passed_on _ _ c.from_residual-in_err-read_entries-in-CurlyOpen.result c.from_residual-in_err-read_entries-in-CurlyOpen.ensures.1
-    (not_at c.args.levels (c.args.levels - 1) (one_below c.args.levels c.if-levels-eq0.false) 5 kind c.in_err-read_entries-in-CurlyOpen.ensures)
+    (first_at c.args.levels (c.args.levels - 1) (one_below c.args.levels c.if-levels-eq0.false) 5 kind c.in_err-read_entries-in-CurlyOpen.ensures)
 
 pub read_json-returns-in_default : goal.read_json-returns-in_default
 read_json-returns-in_default t c =
