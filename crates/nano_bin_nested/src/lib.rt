@@ -1,0 +1,2 @@
+//! Types that contain themselves as bytes.
+#![tactic(auto)]
