@@ -1,0 +1,6 @@
+//! User-defined types that contain themselves, as bytes.
+#![tactic(auto)]
+
+mod tree;
+
+pub use tree::Tree;
