@@ -1,6 +1,6 @@
 -- What is proved of a type that contains itself, where its values are seen by one layer: what is
 -- read, what is rejected, and what is legal.
-use Rattle.std.proofs.Common.{◌≡◌, ◌<◌, ℕ, suc, List, drop, Result, Ok, Err, IfOk, IfErr, sym, ◌∙◌, subst, ap}
+use Rattle.std.proofs.Common.{◌≡◌, ◌<◌, ℕ, suc, List, [], ◌∷◌, map, refl, drop, Result, Ok, Err, IfOk, IfErr, sym, ◌∙◌, subst, ap}
 use Rattle.nano_value.specs.Meaning.{Meaning}
 use Rattle.nano_bin_bytes.specs.declared.error.DeBinErr.{DeBinErr}
 use Rattle.nano_bin_bytes.specs.Codec.{Codec}
@@ -72,3 +72,10 @@ module _ {A : Type 0} (l : Nested A) where
       let here = subst (λ w. seen_codec.encoding.legal (l.layer.means l.means w)) (sym e) h in
       let there = l.layer.legal_same (nested_codec l) (level l n) l.means (l.view x) inner here in
       (suc n, subst (l.layer.codec (level l n)).encoding.legal (sym (l.means_is x)) there)
+
+-- ---- how deep the parts of a value are
+
+pub steps_deep : {A : Type 0} (d : A → ℕ) (xs : List A)
+    → map (λ n. suc n) (map d xs) ≡ map (λ x. suc (d x)) xs
+steps_deep d [] = refl
+steps_deep d (x ∷ xs) = λ i. suc (d x) ∷ steps_deep d xs i

@@ -1,15 +1,13 @@
 //! Enums that contain themselves, as bytes.
 
-ghost use Rattle.std.specs.Prelude.{◌≡◌, ◌++◌, IfOk, IfErr, OnOk, OnErr};
-ghost use Rattle.nano_bin_bytes.specs.Scalars.{little_endian};
+ghost use Rattle.std.specs.Prelude.{IfOk, IfErr};
 ghost use Rattle.nano_bin_bytes.specs.Reading.{Decodes, ReadsNone};
 ghost use Rattle.nano_bin_bytes.specs.Variants.{EncodesEnum};
 
 use crate::choices::BinChoicesWithin;
-use crate::traits::WritesBin;
-use nano_bin::{DeBin, DeBinErr, SerBin, append_part};
+use nano_bin::{DeBin, DeBinErr};
 use nano_schema::EnumSchema;
-use std::alloc::{AllocError, Global};
+use std::alloc::Global;
 
 /// Reads an enum that contains itself from `offset` on, and sets `offset` after it, where so many
 /// levels may follow. A tag that no variant has is rejected with the kind `Own`, with the tag's
@@ -31,40 +29,4 @@ pub fn read_choice_within<L, E: EnumSchema, V: BinChoicesWithin<L, Values = E::V
     let values = V::read(levels, tag, *offset, alloc, &mut at, bytes)?;
     *offset = at;
     Ok(E::make(values))
-}
-
-/// Appends a tag, and content that holds no values of the enum. On an error, `output` is unchanged.
-pub fn append_variant<T: SerBin>(
-    alloc: Global,
-    tag: u16,
-    content: &T,
-    output: &mut Vec<u8>,
-) -> Result<(), AllocError>
-    ensures ok { OnOk result (output.new.items ≡ output.old.items
-        ++ (little_endian 2 tag ++ T.bin.canonical.written content.now)) }
-    ensures err { OnErr result (output.new.items ≡ output.old.items) }
-{
-    let start = output.len();
-    tag.ser_bin(alloc, output)?;
-    append_part(alloc, content, output, start)
-}
-
-/// Appends a tag, and content that holds values of the enum. On an error, `output` is unchanged.
-pub fn append_within<T: WritesBin>(
-    alloc: Global,
-    tag: u16,
-    content: &T,
-    output: &mut Vec<u8>,
-) -> Result<(), AllocError>
-    ensures ok { OnOk result (output.new.items ≡ output.old.items
-        ++ (little_endian 2 tag ++ T.bin.canonical.written content.now)) }
-    ensures err { OnErr result (output.new.items ≡ output.old.items) }
-{
-    let start = output.len();
-    tag.ser_bin(alloc, output)?;
-    let written = content.write_bin(alloc, output);
-    if written.is_err() {
-        output.truncate(start);
-    }
-    written
 }
