@@ -14,6 +14,7 @@ use Rattle.nano_bin_levels.proofs.LevelsLaws.{nested_codec}
 use Rattle.nano_schema.specs.declared.choices.Either.{Either}
 use Rattle.nano_schema.specs.declared.choices.Either.TheVariants.{First, Later}
 use Rattle.nano_bin_nested.specs.ChoiceLayers.{ChoiceLayer, last_variant, next_variant, choice_layer}
+use Rattle.nano_bin_nested.proofs.NestedLaws.{steps_deep}
 use Rattle.test_nested.specs.declared.tree.Tree.{Tree}
 use Rattle.test_nested.specs.declared.tree.Tree.TheOpen.{Tree-F}
 use Rattle.test_nested.specs.declared.tree.Tree.TheViews.{out-Tree}
@@ -62,15 +63,10 @@ pub means_opened : (y : Tree-F Tree) → means_step (map-Tree Tree Meaning tree_
 means_opened (Tree-F.Leaf n) = refl
 means_opened (Tree-F.Node xs) = refl
 
-pub items_deep : (xs : List Tree)
-    → map (λ n. suc n) (map tree_depth xs) ≡ map (λ x. suc (tree_depth x)) xs
-items_deep [] = refl
-items_deep (x ∷ xs) = λ i. suc (tree_depth x) ∷ items_deep xs i
-
 pub depth_opened : (y : Tree-F Tree) → depth_step (map-Tree Tree ℕ tree_depth y)
     ≡ tree_layer.deep tree_depth (opened y)
 depth_opened (Tree-F.Leaf n) = refl
-depth_opened (Tree-F.Node xs) = ap greatest (items_deep xs.items)
+depth_opened (Tree-F.Node xs) = ap greatest (steps_deep tree_depth xs.items)
 
 abbrev pub tree_nested : Nested Tree
 tree_nested = record {

@@ -1,6 +1,12 @@
 //! User-defined types that contain themselves, as bytes.
 #![tactic(auto)]
 
+mod chain;
+mod expression;
+mod folder;
 mod tree;
 
+pub use chain::Chain;
+pub use expression::Expression;
+pub use folder::Folder;
 pub use tree::Tree;

@@ -6,8 +6,8 @@ ghost use Rattle.test_nested.specs.Trees.{tree_view, tree_means, tree_codec};
 
 use super::*;
 use nano_bin_nested::{
-    BinCodec, DeBin, DeBinErr, Levels, ReadsBin, SerBin, Within, WritesBin, append_variant,
-    append_within, no_memory, read_choice_within,
+    BinCodec, DeBin, DeBinErr, Levels, Plain, ReadsBin, SerBin, Within, WritesBin, append_variant,
+    append_variant_within, no_memory, read_choice_within,
 };
 use nano_schema::{Either, EnumSchema, Newtype, Value, Variant};
 use std::alloc::{AllocError, Global};
@@ -16,7 +16,7 @@ struct TreeNames<const I: usize> {}
 
 type TreeVariants1 = Variant<TreeNames<1>, Within<Newtype<Vec<Tree>>>>;
 
-type TreeVariants = (Variant<TreeNames<0>, Newtype<i32>>, TreeVariants1);
+type TreeVariants = (Variant<TreeNames<0>, Plain<Newtype<i32>>>, TreeVariants1);
 
 type TreeValues = Either<i32, Vec<Tree>>;
 
@@ -59,7 +59,7 @@ impl WritesBin for Tree {
     fn write_bin(&self, alloc: Global, output: &mut Vec<u8>) -> Result<(), AllocError> {
         match self {
             Self::Leaf(value) => append_variant(alloc, 0, value, output),
-            Self::Node(value) => append_within(alloc, 1, value, output),
+            Self::Node(value) => append_variant_within(alloc, 1, value, output),
         }
     }
 }
