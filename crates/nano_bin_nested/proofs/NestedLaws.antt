@@ -1,7 +1,6 @@
 -- What is proved of a type that contains itself, where its values are seen by one layer: what is
 -- read, what is rejected, and what is legal.
 use Rattle.std.proofs.Common.{◌≡◌, ◌<◌, ℕ, suc, List, [], ◌∷◌, map, refl, drop, Result, Ok, Err, IfOk, IfErr, sym, ◌∙◌, subst, ap}
-use Rattle.nano_value.specs.Meaning.{Meaning}
 use Rattle.nano_bin_bytes.specs.declared.error.DeBinErr.{DeBinErr}
 use Rattle.nano_bin_bytes.specs.Codec.{Codec}
 use Rattle.nano_bin_bytes.specs.Reading.{Decodes, DecodesToNothing, ReadsNone}

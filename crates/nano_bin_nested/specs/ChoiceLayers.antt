@@ -1,6 +1,6 @@
 -- The variants of an enum around values of the enum itself: each variant is a layer, and so are all
 -- of them together.
-use Rattle.std.specs.Prelude.{◌≡◌, ◌<◌, ◌≤◌, ◌+◌, ℕ, zero, suc, ◌&&◌, refl, List, ◌++◌, true}
+use Rattle.std.specs.Prelude.{◌≡◌, ◌<◌, ◌≤◌, ◌+◌, ℕ, zero, suc, refl, List, ◌++◌, true}
 use Rattle.std.proofs.Common.{sym, ◌∙◌, ap, arith}
 use Rattle.nano_value.specs.Meaning.{Meaning}
 use Rattle.nano_value.specs.Sums.{tagged, count_variants}

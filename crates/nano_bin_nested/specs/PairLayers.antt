@@ -1,9 +1,8 @@
 -- Two parts, each of which may hold values of the type itself.
-use Rattle.std.specs.Prelude.{◌≡◌, ◌<◌, ◌+◌, ℕ, suc, max, refl, ◌++◌}
+use Rattle.std.specs.Prelude.{◌<◌, ◌+◌, ℕ, suc, max, refl, ◌++◌}
 use Rattle.std.proofs.Common.{sym, subst, arith}
 use Rattle.nano_value.specs.Meaning.{Meaning, paired}
 use Rattle.nano_meaning.proofs.MeaningLaws.{both_injective}
-use Rattle.nano_bin_bytes.specs.Codec.{Codec}
 use Rattle.nano_bin_bytes.proofs.CodecLaws.{both_are_read}
 use Rattle.nano_bin.specs.ContainerCodecs.{pair_codec}
 use Rattle.nano_bin_levels.specs.Layers.{Layer}

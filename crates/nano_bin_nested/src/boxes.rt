@@ -6,7 +6,12 @@ use nano_bin_bytes::no_memory;
 use std::alloc::{AllocError, Global};
 
 impl<T: BinCodec + Drop, L: ReadsBin<T>> ReadsBin<Box<T>> for L {
-    fn read_bin(&self, alloc: Global, offset: &mut usize, bytes: &[u8]) -> Result<Box<T>, DeBinErr> {
+    fn read_bin(
+        &self,
+        alloc: Global,
+        offset: &mut usize,
+        bytes: &[u8],
+    ) -> Result<Box<T>, DeBinErr> {
         let mut at = *offset;
         let value: T = ReadsBin::<T>::read_bin(self, alloc, &mut at, bytes)?;
         let Ok(value) = Box::new(alloc, value) else {

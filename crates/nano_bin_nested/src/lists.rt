@@ -9,7 +9,12 @@ use nano_bin_bytes::no_memory;
 use std::alloc::{AllocError, Global};
 
 impl<T: BinCodec + Drop, L: ReadsBin<T>> ReadsBin<Vec<T>> for L {
-    fn read_bin(&self, alloc: Global, offset: &mut usize, bytes: &[u8]) -> Result<Vec<T>, DeBinErr> {
+    fn read_bin(
+        &self,
+        alloc: Global,
+        offset: &mut usize,
+        bytes: &[u8],
+    ) -> Result<Vec<T>, DeBinErr> {
         let mut at = *offset;
         let count = usize::de_bin(alloc, &mut at, bytes)?;
         let mut items = Vec::new(alloc);

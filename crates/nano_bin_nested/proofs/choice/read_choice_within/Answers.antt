@@ -1,9 +1,8 @@
-use Rattle.std.proofs.Common.{◌≡◌, ◌+◌, ◌≤◌, refl, Err, drop, sym, ◌∙◌, subst, ap, arith}
+use Rattle.std.proofs.Common.{◌≡◌, ◌+◌, refl, sym, ◌∙◌, subst, ap, arith}
 use Rattle.std.proofs.lemmas.Result.{err_from_is_err_and}
-use Rattle.nano_value.specs.Sums.{tagged, count_variants}
+use Rattle.nano_value.specs.Sums.{tagged}
 use Rattle.nano_bin_bytes.specs.Reading.{Decodes}
-use Rattle.nano_bin_bytes.specs.Variants.{legal_bodies, EncodesEnum}
-use Rattle.nano_bin.proofs.Readers.{unsigned_reads, unsigned_rejected}
+use Rattle.nano_bin_bytes.specs.Variants.{EncodesEnum}
 use Rattle.nano_bin.proofs.Variants.{variant_reads, content_rejected, tag_rejected}
 use Rattle.nano_bin_nested.proofs.choice.read_choice_within.Goals as goal
 
