@@ -1,7 +1,11 @@
 //! User-defined types that contain themselves, as bytes.
 #![tactic(auto)]
 
+#[cfg(test)]
+mod bin_tests;
 mod chain;
+#[cfg(test)]
+mod checks;
 mod expression;
 mod folder;
 mod tree;

@@ -70,7 +70,9 @@ impl ReadsBin<Chain> for Levels {
             return Err(no_memory(*offset, bytes));
         };
         match below.first() {
-            Some(below) => read_record_within::<Levels, Chain, ChainFields>(below, alloc, offset, bytes),
+            Some(below) => read_record_within::<Levels, Chain, ChainFields>(
+                below, alloc, offset, bytes,
+            ),
             None => Err(no_memory(*offset, bytes)),
         }
     }

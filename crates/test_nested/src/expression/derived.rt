@@ -27,7 +27,10 @@ type ExpressionVariants2 = (
     ExpressionVariants3,
 );
 
-type ExpressionVariants = (Variant<ExpressionNames<0>, Plain<Newtype<i64>>>, ExpressionVariants2);
+type ExpressionVariants = (
+    Variant<ExpressionNames<0>, Plain<Newtype<i64>>>,
+    ExpressionVariants2,
+);
 
 type ExpressionValues3 = (Box<Expression>, Box<Expression>);
 
@@ -112,7 +115,9 @@ impl ReadsBin<Expression> for Levels {
         };
         match below.first() {
             Some(below) => {
-                read_choice_within::<Levels, Expression, ExpressionVariants>(below, alloc, offset, bytes)
+                read_choice_within::<Levels, Expression, ExpressionVariants>(
+                    below, alloc, offset, bytes,
+                )
             }
             None => Err(no_memory(*offset, bytes)),
         }

@@ -65,12 +65,19 @@ impl SerBin for Folder {
 
 impl ReadsBin<Folder> for Levels {
     #[cycle(read)]
-    fn read_bin(&self, alloc: Global, offset: &mut usize, bytes: &[u8]) -> Result<Folder, DeBinErr> {
+    fn read_bin(
+        &self,
+        alloc: Global,
+        offset: &mut usize,
+        bytes: &[u8],
+    ) -> Result<Folder, DeBinErr> {
         let Levels::More(below) = self else {
             return Err(no_memory(*offset, bytes));
         };
         match below.first() {
-            Some(below) => read_record_within::<Levels, Folder, FolderFields>(below, alloc, offset, bytes),
+            Some(below) => read_record_within::<Levels, Folder, FolderFields>(
+                below, alloc, offset, bytes,
+            ),
             None => Err(no_memory(*offset, bytes)),
         }
     }

@@ -77,7 +77,9 @@ impl ReadsBin<Tree> for Levels {
             return Err(no_memory(*offset, bytes));
         };
         match below.first() {
-            Some(below) => read_choice_within::<Levels, Tree, TreeVariants>(below, alloc, offset, bytes),
+            Some(below) => read_choice_within::<Levels, Tree, TreeVariants>(
+                below, alloc, offset, bytes,
+            ),
             None => Err(no_memory(*offset, bytes)),
         }
     }
