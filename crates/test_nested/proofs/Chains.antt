@@ -1,5 +1,5 @@
 -- A chain by its fields: how it is written, and that it is legal.
-use Rattle.std.proofs.Common.{◌≡◌, ℕ, List, ◌++◌, Option, Box, Global, refl}
+use Rattle.std.proofs.Common.{◌≡◌, ◌++◌, Option, Box, Global, refl}
 use Rattle.std.specs.Option.{option_map}
 use Rattle.nano_value.specs.Meaning.{Meaning, whole, optional}
 use Rattle.nano_bin_bytes.specs.Codec.{Codec}

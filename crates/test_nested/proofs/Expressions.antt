@@ -1,11 +1,10 @@
 -- An expression by its variant: what it is seen as, how it is written, and that it is legal.
-use Rattle.std.proofs.Common.{◌≡◌, ℤ, List, ℕ, ◌++◌, Box, Global, inl, inr, refl, rules}
+use Rattle.std.proofs.Common.{◌≡◌, ℤ, ◌++◌, Box, Global, inl, inr, refl, rules}
 use Rattle.nano_value.specs.Meaning.{Meaning, number, paired}
 use Rattle.nano_bin_bytes.specs.Codec.{Codec}
 use Rattle.nano_bin_bytes.specs.Scalars.{little_endian}
 use Rattle.nano_bin_bytes.specs.BaseCodecs.{codec_as}
 use Rattle.nano_bin.specs.ScalarCodecs.{i64_codec}
-use Rattle.nano_bin.specs.ContainerCodecs.{pair_codec}
 use Rattle.nano_schema.specs.declared.choices.Either.TheVariants.{First, Later}
 use Rattle.nano_bin_nested.proofs.NestedLaws.{written_seen, seen_legal}
 use Rattle.test_nested.specs.declared.expression.Expression.{Expression, Number, Negated, Sum}

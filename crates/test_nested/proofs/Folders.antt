@@ -1,5 +1,5 @@
 -- A folder by its fields: how it is written, and that it is legal.
-use Rattle.std.proofs.Common.{◌≡◌, List, ◌++◌, map, Vec, Global, string_bytes, refl}
+use Rattle.std.proofs.Common.{◌≡◌, ◌++◌, map, Vec, Global, string_bytes, refl}
 use Rattle.nano_value.specs.Meaning.{text, listed}
 use Rattle.nano_bin_bytes.specs.Codec.{Codec}
 use Rattle.nano_bin_bytes.specs.BaseCodecs.{codec_as}

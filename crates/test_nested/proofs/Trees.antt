@@ -1,7 +1,6 @@
 -- A tree by its variant: what it is seen as, how it is written, and that it is legal.
-use Rattle.std.proofs.Common.{◌≡◌, ℤ, List, ℕ, ◌++◌, map, Vec, Global, inl, inr, refl, ap, rules}
-use Rattle.std.specs.Int.{w32}
-use Rattle.nano_value.specs.Meaning.{Meaning, LegalSigned, LegalList, number, listed}
+use Rattle.std.proofs.Common.{◌≡◌, ℤ, ◌++◌, map, Vec, Global, inl, inr, refl, rules}
+use Rattle.nano_value.specs.Meaning.{number, listed}
 use Rattle.nano_bin_bytes.specs.Codec.{Codec}
 use Rattle.nano_bin_bytes.specs.Scalars.{little_endian}
 use Rattle.nano_bin_bytes.specs.BaseCodecs.{codec_as}
@@ -10,9 +9,7 @@ use Rattle.nano_bin.specs.ContainerCodecs.{list_codec}
 use Rattle.nano_schema.specs.declared.choices.Either.TheVariants.{First, Later}
 use Rattle.nano_bin_nested.proofs.NestedLaws.{written_seen, seen_legal}
 use Rattle.test_nested.specs.declared.tree.Tree.{Tree, Leaf, Node, the_lemmas}
-use Rattle.test_nested.specs.declared.tree.Tree.TheOpen as O
-use Rattle.test_nested.specs.declared.tree.Tree.TheViews.{out-Tree}
-use Rattle.test_nested.specs.Trees.{opened, tree_view, tree_means, tree_nested, tree_codec}
+use Rattle.test_nested.specs.Trees.{tree_view, tree_means, tree_nested, tree_codec}
 
 abbrev pub trees_codec : Codec (Vec Tree Global)
 trees_codec = codec_as (λ x. x.items) (list_codec tree_codec)

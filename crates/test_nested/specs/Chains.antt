@@ -1,7 +1,7 @@
 -- A chain by its fields, and its codec.
 use Rattle.std.specs.Prelude.{◌≡◌, ℕ, suc, refl, Option, Some, None, Box}
 use Rattle.std.specs.Global.{Global}
-use Rattle.std.proofs.Common.{◌∙◌, ap}
+use Rattle.std.proofs.Common.{◌∙◌}
 use Rattle.std.specs.Option.{option_map}
 use Rattle.nano_value.specs.Meaning.{Meaning, whole, optional, paired}
 use Rattle.nano_bin.specs.ScalarCodecs.{u32_codec}

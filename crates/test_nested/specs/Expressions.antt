@@ -1,5 +1,5 @@
 -- An expression by the contents of its variants, and its codec.
-use Rattle.std.specs.Prelude.{◌≡◌, ◌≤◌, ℕ, suc, ℤ, max, refl, Box}
+use Rattle.std.specs.Prelude.{◌≡◌, ℕ, suc, ℤ, max, refl, Box}
 use Rattle.std.specs.Global.{Global}
 use Rattle.std.proofs.Common.{◌∙◌, lit≤}
 use Rattle.nano_value.specs.Meaning.{Meaning, number, paired}

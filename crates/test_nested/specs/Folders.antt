@@ -1,5 +1,5 @@
 -- A folder by its fields, and its codec.
-use Rattle.std.specs.Prelude.{◌≡◌, ℕ, suc, List, map, refl, String, Vec, string_bytes}
+use Rattle.std.specs.Prelude.{◌≡◌, ℕ, suc, map, refl, String, Vec, string_bytes}
 use Rattle.std.specs.Global.{Global}
 use Rattle.std.proofs.Common.{◌∙◌, ap}
 use Rattle.nano_value.specs.Meaning.{Meaning, text, listed, paired}

@@ -1,5 +1,5 @@
 -- A tree by the contents of its variants, and its codec.
-use Rattle.std.specs.Prelude.{◌≡◌, ◌≤◌, ℕ, suc, ℤ, List, [], ◌∷◌, map, refl, Vec}
+use Rattle.std.specs.Prelude.{◌≡◌, ℕ, suc, ℤ, map, refl, Vec}
 use Rattle.std.specs.Global.{Global}
 use Rattle.std.proofs.Common.{◌∙◌, ap, lit≤}
 use Rattle.nano_value.specs.Meaning.{Meaning, number, listed}
