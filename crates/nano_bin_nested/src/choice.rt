@@ -1,8 +1,10 @@
 //! Enums that contain themselves, as bytes.
 
-ghost use Rattle.std.specs.Prelude.{IfOk, IfErr};
-ghost use Rattle.nano_bin_bytes.specs.Reading.{Decodes, ReadsNone};
+ghost use Rattle.std.specs.Prelude.{◌≡◌, Err, IfOk, IfErr};
+ghost use Rattle.nano_bin_bytes.specs.Reading.{rejection, Decodes, ReadsNone};
+ghost use Rattle.nano_bin_bytes.specs.declared.error.DeBinKind.TheVariants.{Own};
 ghost use Rattle.nano_bin_bytes.specs.Variants.{EncodesEnum};
+ghost use Rattle.nano_bin_schema.specs.Enums.{HasUnknownTag};
 
 use crate::choices::BinChoicesWithin;
 use nano_bin::{DeBin, DeBinErr};
@@ -23,6 +25,8 @@ pub fn read_choice_within<L, E: EnumSchema, V: BinChoicesWithin<L, Values = E::V
         bytes.now offset.old (V.chosen.means 0 (E.view value)) offset.new) }
     ensures err { IfErr result
         (ReadsNone (EncodesEnum V.chosen.bodies) bytes.now offset.old offset.new) }
+    ensures own { HasUnknownTag V.chosen.bodies bytes.now offset.old
+        → result ≡ Err (rejection Own offset.old 0 bytes.now) }
 {
     let mut at = *offset;
     let tag = u16::de_bin(alloc, &mut at, bytes)?;
