@@ -1,3 +1,7 @@
 //! Codecs of types that contain themselves, level by level, over any tokens: the laws of a list, a
 //! pair, an option, and alternatives that differ in their first token.
 #![tactic(auto)]
+
+mod levels;
+
+pub use levels::Levels;

@@ -1,0 +1,2 @@
+pub mod ChoiceReaders
+pub mod NestedLaws

@@ -1,0 +1,8 @@
+-- what is appended, and the items that are left, are all
+use Rattle.std.proofs.Common.{drop}
+use Rattle.nano_bin_bytes.proofs.CodecLaws.{WritesSoFar}
+use Rattle.nano_bin_nested.proofs.lists.append_items.Given as goal
+
+abbrev pub invariant-loop-item : goal.invariant-loop-item
+invariant-loop-item g l =
+    WritesSoFar g.T.BinCodec.bin.canonical.written l.fn.output.items l.output.items (drop l.item-index l.item-items) l.item-items

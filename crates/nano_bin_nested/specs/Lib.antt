@@ -1,0 +1,2 @@
+pub mod ChoiceLayers
+pub mod PairLayers

@@ -1,0 +1,60 @@
+//! Vectors of values that contain themselves: the count, and the items.
+
+ghost use Rattle.std.specs.Prelude.{◌≡◌, ◌≤◌, ◌++◌, take, length, OnOk, OnErr};
+ghost use Rattle.std.specs.List.{flat_map};
+
+use crate::traits::{ReadsBin, WritesBin};
+use nano_bin::{BinCodec, DeBin, DeBinErr, SerBin};
+use nano_bin_bytes::no_memory;
+use std::alloc::{AllocError, Global};
+
+impl<T: BinCodec + Drop, L: ReadsBin<T>> ReadsBin<Vec<T>> for L {
+    fn read_bin(
+        &self,
+        alloc: Global,
+        offset: &mut usize,
+        bytes: &[u8],
+    ) -> Result<Vec<T>, DeBinErr> {
+        let mut at = *offset;
+        let count = usize::de_bin(alloc, &mut at, bytes)?;
+        let mut items = Vec::new(alloc);
+        for _ in 0..count {
+            let item: T = ReadsBin::<T>::read_bin(self, alloc, &mut at, bytes)?;
+            if items.push(item).is_err() {
+                return Err(no_memory(at, bytes));
+            }
+        }
+        *offset = at;
+        Ok(items)
+    }
+}
+
+impl<T: WritesBin> WritesBin for Vec<T> {
+    fn write_bin(&self, alloc: Global, output: &mut Vec<u8>) -> Result<(), AllocError> {
+        let start = output.len();
+        self.len().ser_bin(alloc, output)?;
+        append_items(alloc, self, output, start)
+    }
+}
+
+/// Appends the items of a list. On error, it truncates `output` back to its first `start` bytes.
+fn append_items<T: WritesBin>(
+    alloc: Global,
+    items: &Vec<T>,
+    output: &mut Vec<u8>,
+    start: usize,
+) -> Result<(), AllocError>
+    requires { start ≤ length output.old.items }
+    ensures ok { OnOk result
+        (output.new.items ≡ output.old.items ++ flat_map T.bin.canonical.written items.now.items) }
+    ensures err { OnErr result (output.new.items ≡ take start output.old.items) }
+{
+    for item in items {
+        let written = item.write_bin(alloc, output);
+        if written.is_err() {
+            output.truncate(start);
+            return written;
+        }
+    }
+    Ok(())
+}

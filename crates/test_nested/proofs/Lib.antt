@@ -1,0 +1,4 @@
+mod Trees
+mod Expressions
+mod Chains
+mod Folders
