@@ -63,6 +63,7 @@ fn read_text(
     ensures { ReadsOrFirstFault string_codec.encoding.encodes (λ x. text (string_bytes x))
         (position state.old input.old) (position state.new input.new) result }
 {
+    // A `usize` counts the bytes of the pending text.
     let _length = state.strbuf.len();
     match state.tok {
         DeJsonTok::Str => String::de_json(alloc, state, input),
