@@ -3,8 +3,8 @@
 
 use crate::Tree;
 use crate::checks::holds;
-use nano_bin_nested::{BinChoicesWithin, BinFieldsWithin, DeBinErr, Levels, Other, Within};
 use nano_bin::DeBinKind;
+use nano_bin_nested::{BinChoicesWithin, BinFieldsWithin, DeBinErr, Levels, Other, Within};
 use nano_schema::{Either, Newtype, Variant};
 use std::alloc::Global;
 
