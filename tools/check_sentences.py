@@ -15,16 +15,16 @@ MOST = 40
 PLANNED = {
     "README.md": 102,
     "CONTRIBUTING.md": 115,
-    "docs/ARCHITECTURE.md": 170,
-    "docs/DECISIONS.md": 174,
+    "docs/ARCHITECTURE.md": 178,
+    "docs/DECISIONS.md": 177,
     "docs/DIFFERENCES.md": None,
     "docs/ERRORS.md": None,
     "docs/FORMATS.md": None,
-    "docs/GUARANTEES.md": 220,
+    "docs/GUARANTEES.md": 223,
     "docs/GUIDE.md": 340,
     "docs/SECURITY.md": 72,
     "docs/SPEED.md": None,
-    "docs/USER_TYPES.md": 228,
+    "docs/USER_TYPES.md": 244,
 }
 
 

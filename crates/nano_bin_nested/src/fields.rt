@@ -12,8 +12,8 @@ use nano_schema::{Defaulted, Newtype, Optional, Required, Struct};
 use std::alloc::Global;
 use std::marker::PhantomData;
 
-/// Fields whose values hold no values of the type that has the fields.
-pub struct Plain<F>(PhantomData<F>);
+/// Other fields: their values hold no values of the type that has the fields.
+pub struct Other<F>(PhantomData<F>);
 
 /// A field whose value holds values of the type that has the field.
 pub struct Within<F>(PhantomData<F>);
@@ -43,7 +43,7 @@ pub trait BinFieldsWithin<L> {
     fn discard(values: Self::Values);
 }
 
-impl<L, F: BinFields> BinFieldsWithin<L> for Plain<F> {
+impl<L, F: BinFields> BinFieldsWithin<L> for Other<F> {
     type Values = F::Values;
 
     ghost codec = { F.codec };

@@ -15,7 +15,7 @@ mod traits;
 pub use append::{append_part_within, append_variant, append_variant_within};
 pub use choice::read_choice_within;
 pub use choices::BinChoicesWithin;
-pub use fields::{BinFieldsWithin, Plain, Within};
+pub use fields::{BinFieldsWithin, Other, Within};
 pub use nano_bin::{BinCodec, BothBin, DeBin, DeBinErr, SerBin};
 pub use nano_bin_bytes::no_memory;
 pub use nano_levels::Levels;

@@ -8,6 +8,8 @@ mod chain;
 mod checks;
 mod expression;
 mod folder;
+#[cfg(test)]
+mod part_tests;
 mod tree;
 
 pub use chain::Chain;
