@@ -1,5 +1,5 @@
-//! The calls by which rows of fields and variants are read, where values of the type itself stand in
-//! them. Each is made once, with what it returns.
+//! The calls by which rows of fields and variants are read, where values of the type itself stand
+//! in them. Each is made once, with what it returns.
 
 use crate::Tree;
 use crate::checks::holds;
