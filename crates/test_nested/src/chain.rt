@@ -1,6 +1,5 @@
 //! A chain: its schema, and then bytes.
 
-// nanoserde: bin
 /// A number, and what follows it.
 #[derive(PartialEq, Debug, Drop)]
 pub struct Chain {
@@ -10,4 +9,4 @@ pub struct Chain {
     pub next: Option<Box<Chain>>,
 }
 
-mod derived;
+mod encodings;

@@ -1,6 +1,5 @@
 //! An expression: its schema, and then bytes.
 
-// nanoserde: bin
 /// An expression.
 #[derive(PartialEq, Debug, Drop)]
 pub enum Expression {
@@ -12,4 +11,4 @@ pub enum Expression {
     Sum(Box<Expression>, Box<Expression>),
 }
 
-mod derived;
+mod encodings;

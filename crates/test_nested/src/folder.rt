@@ -1,6 +1,5 @@
 //! A folder: its schema, and then bytes.
 
-// nanoserde: bin
 /// A folder.
 #[derive(PartialEq, Debug, Drop)]
 pub struct Folder {
@@ -10,4 +9,4 @@ pub struct Folder {
     pub folders: Vec<Folder>,
 }
 
-mod derived;
+mod encodings;

@@ -1,6 +1,5 @@
 //! A tree: its schema, and then bytes.
 
-// nanoserde: bin
 /// A tree.
 #[derive(PartialEq, Debug, Drop)]
 pub enum Tree {
@@ -10,4 +9,4 @@ pub enum Tree {
     Node(Vec<Tree>),
 }
 
-mod derived;
+mod encodings;

@@ -1,0 +1,133 @@
+//! How the types of the module above are encoded.
+
+ghost use Rattle.std.specs.Prelude.{refl};
+ghost use Rattle.nano_schema.specs.UserTypes.{agreed};
+ghost use Rattle.test_nested.specs.Expressions.{expression_view, expression_means};
+ghost use Rattle.test_nested.specs.Expressions.{expression_codec};
+
+use super::*;
+use nano_bin_nested::{
+    BinCodec, DeBin, DeBinErr, Levels, Plain, ReadsBin, SerBin, Within, WritesBin,
+    append_part_within, append_variant, append_variant_within, no_memory, read_choice_within,
+};
+use nano_schema::{Either, EnumSchema, Newtype, Value, Variant};
+use std::alloc::{AllocError, Global};
+
+struct ExpressionNames<const I: usize> {}
+
+type ExpressionSumParts = (
+    Within<Newtype<Box<Expression>>>,
+    Within<Newtype<Box<Expression>>>,
+);
+
+type ExpressionVariants3 = Variant<ExpressionNames<2>, ExpressionSumParts>;
+
+type ExpressionVariants2 = (
+    Variant<ExpressionNames<1>, Within<Newtype<Box<Expression>>>>,
+    ExpressionVariants3,
+);
+
+type ExpressionVariants = (
+    Variant<ExpressionNames<0>, Plain<Newtype<i64>>>,
+    ExpressionVariants2,
+);
+
+type ExpressionValues3 = (Box<Expression>, Box<Expression>);
+
+type ExpressionValues2 = Either<Box<Expression>, ExpressionValues3>;
+
+type ExpressionValues = Either<i64, ExpressionValues2>;
+
+impl EnumSchema for Expression {
+    type Values = ExpressionValues;
+
+    ghost view = { expression_view };
+
+    fn make(values: Self::Values) -> Self {
+        let later = match values {
+            Either::First(values) => return Self::Number(values),
+            Either::Later(later) => later,
+        };
+        let later = match later {
+            Either::First(values) => return Self::Negated(values),
+            Either::Later(later) => later,
+        };
+        let (first, second) = later;
+        Self::Sum(first, second)
+    }
+}
+
+impl Value for Expression {
+    ghost means = { expression_means };
+
+    ghost legal = { expression_codec.encoding.legal };
+
+    fn known(&self) {
+        match self {
+            Self::Number(value) => value.known(),
+            Self::Negated(value) => value.known(),
+            Self::Sum(first, second) => {
+                first.known();
+                second.known();
+            }
+        }
+    }
+}
+
+// ---- bytes
+
+impl BinCodec for Expression {
+    ghost bin = { expression_codec };
+
+    ghost agrees = { agreed };
+}
+
+impl WritesBin for Expression {
+    fn write_bin(&self, alloc: Global, output: &mut Vec<u8>) -> Result<(), AllocError> {
+        let start = output.len();
+        match self {
+            Self::Number(value) => append_variant(alloc, 0, value, output),
+            Self::Negated(value) => append_variant_within(alloc, 1, value, output),
+            Self::Sum(first, second) => {
+                append_variant_within(alloc, 2, first, output)?;
+                append_part_within(alloc, second, output, start)
+            }
+        }
+    }
+}
+
+impl SerBin for Expression {
+    fn ser_bin(&self, alloc: Global, output: &mut Vec<u8>) -> Result<(), AllocError> {
+        self.write_bin(alloc, output)
+    }
+}
+
+impl ReadsBin<Expression> for Levels {
+    #[cycle(read)]
+    fn read_bin(
+        &self,
+        alloc: Global,
+        offset: &mut usize,
+        bytes: &[u8],
+    ) -> Result<Expression, DeBinErr> {
+        let Levels::More(below) = self else {
+            return Err(no_memory(*offset, bytes));
+        };
+        match below.first() {
+            Some(below) => {
+                read_choice_within::<Levels, Expression, ExpressionVariants>(
+                    below, alloc, offset, bytes,
+                )
+            }
+            None => Err(no_memory(*offset, bytes)),
+        }
+    }
+}
+
+impl DeBin for Expression {
+    ghost is_decodable = { refl };
+
+    fn de_bin(alloc: Global, offset: &mut usize, bytes: &[u8]) -> Result<Expression, DeBinErr> {
+        Levels::most().read_bin(alloc, offset, bytes)
+    }
+}
