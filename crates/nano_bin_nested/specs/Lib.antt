@@ -1,2 +1,2 @@
-pub mod ChoiceLayers
-pub mod PairLayers
+pub mod ChoiceLayerCodecs
+pub mod PairLayerCodecs

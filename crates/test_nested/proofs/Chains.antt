@@ -9,7 +9,7 @@ use Rattle.nano_bin.specs.ContainerCodecs.{option_codec}
 use Rattle.nano_bin_nested.proofs.NestedLaws.{written_seen, seen_legal}
 use Rattle.test_nested.specs.declared.chain.Chain.{Chain}
 use Rattle.test_nested.specs.declared.chain.Chain.TheViews.{out-Chain}
-use Rattle.test_nested.specs.Chains.{chain_view, chain_means, chain_nested, chain_codec}
+use Rattle.test_nested.specs.ChainCodecs.{chain_view, chain_means, chain_nested, chain_codec}
 
 abbrev pub rest_codec : Codec (Option (Box Chain Global))
 rest_codec = option_codec (codec_as (λ b. b.value) chain_codec)

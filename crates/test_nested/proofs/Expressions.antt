@@ -9,8 +9,8 @@ use Rattle.nano_schema.specs.declared.choices.Either.TheVariants.{First, Later}
 use Rattle.nano_bin_nested.proofs.NestedLaws.{written_seen, seen_legal}
 use Rattle.test_nested.specs.declared.expression.Expression.{Expression, Number, Negated, Sum}
 use Rattle.test_nested.specs.declared.expression.Expression.{the_lemmas}
-use Rattle.test_nested.specs.Expressions.{expression_view, expression_means, expression_nested}
-use Rattle.test_nested.specs.Expressions.{expression_codec}
+use Rattle.test_nested.specs.ExpressionCodecs.{expression_view, expression_means, expression_nested}
+use Rattle.test_nested.specs.ExpressionCodecs.{expression_codec}
 
 abbrev pub box_codec : Codec (Box Expression Global)
 box_codec = codec_as (λ x. x.value) expression_codec

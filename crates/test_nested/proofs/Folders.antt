@@ -8,7 +8,7 @@ use Rattle.nano_bin.specs.ContainerCodecs.{list_codec}
 use Rattle.nano_bin_nested.proofs.NestedLaws.{written_seen, seen_legal}
 use Rattle.test_nested.specs.declared.folder.Folder.{Folder}
 use Rattle.test_nested.specs.declared.folder.Folder.TheViews.{out-Folder}
-use Rattle.test_nested.specs.Folders.{folder_view, folder_means, folder_nested, folder_codec}
+use Rattle.test_nested.specs.FolderCodecs.{folder_view, folder_means, folder_nested, folder_codec}
 
 abbrev pub folders_codec : Codec (Vec Folder Global)
 folders_codec = codec_as (λ x. x.items) (list_codec folder_codec)

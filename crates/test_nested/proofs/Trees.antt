@@ -9,7 +9,7 @@ use Rattle.nano_bin.specs.ContainerCodecs.{list_codec}
 use Rattle.nano_schema.specs.declared.choices.Either.TheVariants.{First, Later}
 use Rattle.nano_bin_nested.proofs.NestedLaws.{written_seen, seen_legal}
 use Rattle.test_nested.specs.declared.tree.Tree.{Tree, Leaf, Node, the_lemmas}
-use Rattle.test_nested.specs.Trees.{tree_view, tree_means, tree_nested, tree_codec}
+use Rattle.test_nested.specs.TreeCodecs.{tree_view, tree_means, tree_nested, tree_codec}
 
 abbrev pub trees_codec : Codec (Vec Tree Global)
 trees_codec = codec_as (λ x. x.items) (list_codec tree_codec)

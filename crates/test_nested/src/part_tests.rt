@@ -1,5 +1,5 @@
-//! The calls by which rows of fields and variants are read, where values of the type itself stand in
-//! them. Each is made once, with what it returns.
+//! The calls by which rows of fields and variants are read, where values of the type itself stand
+//! in them. Each is made once, with what it returns.
 
 use crate::Tree;
 use crate::checks::holds;
@@ -36,7 +36,7 @@ fn are_read(alloc: Global) -> Result<bool, DeBinErr> {
     Ok(are_so && offset == 8)
 }
 
-/// Whether no tree is read where no level may follow, and the offset stays.
+/// Whether no tree is read where no level may follow, and the offset is unchanged.
 fn are_out(alloc: Global) -> bool {
     let mut offset = 1;
     match <Fields as BinFieldsWithin<Levels>>::read(&Levels::Out, alloc, &mut offset, FIELDS) {
@@ -55,7 +55,7 @@ fn is_chosen(alloc: Global) -> Result<bool, DeBinErr> {
     }
 }
 
-/// Whether a tag that no variant has is rejected at its place, and the offset stays.
+/// Whether a tag that no variant has is rejected at its place, and the offset is unchanged.
 fn is_unknown(alloc: Global) -> bool {
     let mut offset = 2;
     let levels = Levels::most();

@@ -2,7 +2,7 @@
 
 ghost use Rattle.std.specs.Prelude.{refl};
 ghost use Rattle.nano_schema.specs.UserTypes.{agreed};
-ghost use Rattle.test_nested.specs.Chains.{chain_view, chain_means, chain_codec};
+ghost use Rattle.test_nested.specs.ChainCodecs.{chain_view, chain_means, chain_codec};
 
 use super::*;
 use nano_bin_nested::{

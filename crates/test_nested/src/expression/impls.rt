@@ -2,8 +2,8 @@
 
 ghost use Rattle.std.specs.Prelude.{refl};
 ghost use Rattle.nano_schema.specs.UserTypes.{agreed};
-ghost use Rattle.test_nested.specs.Expressions.{expression_view, expression_means};
-ghost use Rattle.test_nested.specs.Expressions.{expression_codec};
+ghost use Rattle.test_nested.specs.ExpressionCodecs.{expression_view, expression_means};
+ghost use Rattle.test_nested.specs.ExpressionCodecs.{expression_codec};
 
 use super::*;
 use nano_bin_nested::{

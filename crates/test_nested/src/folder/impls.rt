@@ -2,7 +2,7 @@
 
 ghost use Rattle.std.specs.Prelude.{refl};
 ghost use Rattle.nano_schema.specs.UserTypes.{agreed};
-ghost use Rattle.test_nested.specs.Folders.{folder_view, folder_means, folder_codec};
+ghost use Rattle.test_nested.specs.FolderCodecs.{folder_view, folder_means, folder_codec};
 
 use super::*;
 use nano_bin_nested::{

@@ -2,7 +2,7 @@
 
 ghost use Rattle.std.specs.Prelude.{refl};
 ghost use Rattle.nano_schema.specs.UserTypes.{agreed};
-ghost use Rattle.test_nested.specs.Trees.{tree_view, tree_means, tree_codec};
+ghost use Rattle.test_nested.specs.TreeCodecs.{tree_view, tree_means, tree_codec};
 
 use super::*;
 use nano_bin_nested::{

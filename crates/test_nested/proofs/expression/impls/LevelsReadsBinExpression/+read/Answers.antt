@@ -1,5 +1,5 @@
 use Rattle.nano_bin_nested.proofs.NestedLaws.{seen_ok, seen_err}
-use Rattle.test_nested.specs.Expressions.{expression_nested}
+use Rattle.test_nested.specs.ExpressionCodecs.{expression_nested}
 use Rattle.test_nested.proofs.expression.impls.LevelsReadsBinExpression.+read.Goals as goal
 
 pub returns-in-Some-clause-ok : goal.returns-in-Some-clause-ok

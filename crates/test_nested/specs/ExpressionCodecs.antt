@@ -11,8 +11,8 @@ use Rattle.nano_bin_levels.proofs.LayersLaws.{itself_layer, other_layer, seen_la
 use Rattle.nano_bin_levels.proofs.LevelsLaws.{nested_codec}
 use Rattle.nano_schema.specs.declared.choices.Either.{Either}
 use Rattle.nano_schema.specs.declared.choices.Either.TheVariants.{First, Later}
-use Rattle.nano_bin_nested.specs.ChoiceLayers.{ChoiceLayer, last_variant, next_variant, choice_layer}
-use Rattle.nano_bin_nested.specs.PairLayers.{pair_layer}
+use Rattle.nano_bin_nested.specs.ChoiceLayerCodecs.{ChoiceLayer, last_variant, next_variant, choice_layer}
+use Rattle.nano_bin_nested.specs.PairLayerCodecs.{pair_layer}
 use Rattle.test_nested.specs.declared.expression.Expression.{Expression}
 use Rattle.test_nested.specs.declared.expression.Expression.TheOpen.{Expression-F}
 use Rattle.test_nested.specs.declared.expression.Expression.TheViews.{out-Expression}

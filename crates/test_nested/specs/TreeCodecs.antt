@@ -13,7 +13,7 @@ use Rattle.nano_bin_levels.proofs.ListsLaws.{list_layer}
 use Rattle.nano_bin_levels.proofs.LevelsLaws.{nested_codec}
 use Rattle.nano_schema.specs.declared.choices.Either.{Either}
 use Rattle.nano_schema.specs.declared.choices.Either.TheVariants.{First, Later}
-use Rattle.nano_bin_nested.specs.ChoiceLayers.{ChoiceLayer, last_variant, next_variant, choice_layer}
+use Rattle.nano_bin_nested.specs.ChoiceLayerCodecs.{ChoiceLayer, last_variant, next_variant, choice_layer}
 use Rattle.nano_bin_nested.proofs.NestedLaws.{steps_deep}
 use Rattle.test_nested.specs.declared.tree.Tree.{Tree}
 use Rattle.test_nested.specs.declared.tree.Tree.TheOpen.{Tree-F}
