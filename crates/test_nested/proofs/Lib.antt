@@ -3,3 +3,4 @@ mod Expressions
 mod Chains
 mod Folders
 mod Menus
+mod Statements

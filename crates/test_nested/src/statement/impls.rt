@@ -7,8 +7,9 @@ ghost use Rattle.test_nested.specs.StatementCodecs.{statement_codec, branch_view
 ghost use Rattle.test_nested.specs.StatementCodecs.{branch_codec};
 
 use super::*;
+use nano_bin::append_part;
 use nano_bin_nested::{
-    BinCodec, DeBin, DeBinErr, Levels, Other, ReadsBin, SerBin, Within, WritesBin, append_part,
+    BinCodec, DeBin, DeBinErr, Levels, Other, ReadsBin, SerBin, Within, WritesBin,
     append_part_within, append_variant, append_variant_within, no_memory, read_choice_within,
     read_record_within,
 };
