@@ -3,4 +3,5 @@ mod Expressions
 mod Chains
 mod Folders
 mod Menus
+mod Outlines
 mod Statements

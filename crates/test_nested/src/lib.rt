@@ -9,6 +9,7 @@ mod checks;
 mod expression;
 mod folder;
 mod menu;
+mod outline;
 #[cfg(test)]
 mod part_tests;
 mod statement;
@@ -18,5 +19,6 @@ pub use chain::Chain;
 pub use expression::Expression;
 pub use folder::Folder;
 pub use menu::Menu;
+pub use outline::Outline;
 pub use statement::{Branch, Statement};
 pub use tree::Tree;
