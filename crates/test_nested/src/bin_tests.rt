@@ -1,8 +1,6 @@
 //! Types that contain themselves as bytes.
 
-use crate::checks::{
-    holds, is_read_as, is_read_back, is_rejected, is_too_deep, no_prefix_is_read,
-};
+use crate::checks::{holds, is_read_as, is_read_back, is_rejected, is_too_deep, no_prefix_is_read};
 use crate::{Branch, Chain, Expression, Folder, Menu, Outline, Statement, Tree};
 use nano_bin::{BothBin, DeBin};
 use std::alloc::{AllocError, Global};
@@ -67,9 +65,7 @@ const OUTLINES: &[&[u8]] = &[
 /// A value for a variable, a block in a block, and a choice.
 const STATEMENTS: &[&[u8]] = &[
     &[0, 0, 1, 0, 0, 0, 0, 0, 0, 0, 97, 254, 255, 255, 255],
-    &[
-        1, 0, 1, 0, 0, 0, 0, 0, 0, 0, 1, 0, 0, 0, 0, 0, 0, 0, 0, 0,
-    ],
+    &[1, 0, 1, 0, 0, 0, 0, 0, 0, 0, 1, 0, 0, 0, 0, 0, 0, 0, 0, 0],
     &[
         2, 0, 1, 0, 0, 0, 0, 0, 0, 0, 0, 0, 1, 0, 0, 0, 0, 0, 0, 0, 0, 0, 0, 7, 0, 0, 0,
     ],
@@ -165,7 +161,11 @@ fn types_that_contain_themselves_are_bytes(rt: HostRuntime) {
     holds(&rt, are_values::<Folder>(alloc, FOLDERS), "folders");
     holds(&rt, are_values::<Menu>(alloc, MENUS), "menus");
     holds(&rt, are_values::<Outline>(alloc, OUTLINES), "outlines");
-    holds(&rt, are_values::<Statement>(alloc, STATEMENTS), "statements");
+    holds(
+        &rt,
+        are_values::<Statement>(alloc, STATEMENTS),
+        "statements",
+    );
     holds(&rt, are_values::<Branch>(alloc, BRANCHES), "branches");
 }
 

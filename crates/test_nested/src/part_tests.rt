@@ -33,9 +33,7 @@ const VARIANT: &[u8] = &[1, 0, 0, 0, 4, 0, 0, 0];
 const ENTRIES: &[u8] = &[1, 0, 0, 0, 0, 0, 0, 0, 5, 0, 0, 4, 0, 0, 0];
 
 /// A count of 2, and two leaves.
-const TREES: &[u8] = &[
-    2, 0, 0, 0, 0, 0, 0, 0, 0, 0, 4, 0, 0, 0, 0, 0, 5, 0, 0, 0,
-];
+const TREES: &[u8] = &[2, 0, 0, 0, 0, 0, 0, 0, 0, 0, 4, 0, 0, 0, 0, 0, 5, 0, 0, 0];
 
 /// Whether all of the bytes are a value, and are what is written of it.
 fn is_read_back<T: WritesBin + Drop, L: ReadsBin<T>>(

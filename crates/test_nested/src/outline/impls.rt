@@ -6,8 +6,8 @@ ghost use Rattle.test_nested.specs.OutlineCodecs.{outline_view, outline_means, o
 
 use super::*;
 use nano_bin_nested::{
-    BinCodec, DeBin, DeBinErr, Levels, ReadsBin, SerBin, Within, WritesBin,
-    append_part_within, no_memory, read_record_within,
+    BinCodec, DeBin, DeBinErr, Levels, ReadsBin, SerBin, Within, WritesBin, append_part_within,
+    no_memory, read_record_within,
 };
 use nano_schema::{Required, StructSchema, Value};
 use std::alloc::{AllocError, Global};
