@@ -47,28 +47,44 @@ const NO_TREES: &[(&[u8], usize)] = &[
     (&[1, 0, 1, 0, 0, 0, 0, 0, 0, 0, 9, 0], 10),
 ];
 
-/// Trees one in the other, of so many levels.
-fn nested(alloc: Global, levels: usize) -> Result<Vec<u8>, AllocError> {
+/// What stands before a value that is one level further in, and the innermost value.
+type Nested = (&'static [u8], &'static [u8]);
+
+const IN_TREES: Nested = (&[1, 0, 1, 0, 0, 0, 0, 0, 0, 0], &[0, 0, 4, 0, 0, 0]);
+
+const IN_EXPRESSIONS: Nested = (&[1, 0], &[0, 0, 4, 0, 0, 0, 0, 0, 0, 0]);
+
+const IN_CHAINS: Nested = (&[4, 0, 0, 0, 1], &[4, 0, 0, 0, 0]);
+
+const IN_FOLDERS: Nested = (
+    &[0, 0, 0, 0, 0, 0, 0, 0, 1, 0, 0, 0, 0, 0, 0, 0],
+    &[0, 0, 0, 0, 0, 0, 0, 0, 0, 0, 0, 0, 0, 0, 0, 0],
+);
+
+/// A value of so many levels.
+fn nested(
+    alloc: Global,
+    (around, innermost): Nested,
+    levels: usize,
+) -> Result<Vec<u8>, AllocError> {
     let mut bytes = Vec::new(alloc);
     for _ in 1..levels {
-        bytes.extend_from_slice(&[1, 0, 1, 0, 0, 0, 0, 0, 0, 0])?;
+        bytes.extend_from_slice(around)?;
     }
-    bytes.extend_from_slice(&[0, 0, 4, 0, 0, 0])?;
+    bytes.extend_from_slice(innermost)?;
     Ok(bytes)
 }
 
-fn is_read(alloc: Global, levels: usize) -> bool {
-    match nested(alloc, levels) {
-        Ok(bytes) => is_read_back::<Tree>(alloc, &bytes),
-        Err(_error) => false,
-    }
-}
-
-fn ends_at(alloc: Global, levels: usize, place: usize) -> bool {
-    match nested(alloc, levels) {
-        Ok(bytes) => is_too_deep::<Tree>(alloc, &bytes, place),
-        Err(_error) => false,
-    }
+/// Whether a value of 128 levels is read, and one of 129 is not, which is found where the innermost
+/// begins.
+fn ends_after_128<T: BothBin>(
+    alloc: Global,
+    of_type: Nested,
+    place: usize,
+) -> Result<bool, AllocError> {
+    let bytes = nested(alloc, of_type, 128)?;
+    let deeper = nested(alloc, of_type, 129)?;
+    Ok(is_read_back::<T>(alloc, &bytes) && is_too_deep::<T>(alloc, &deeper, place))
 }
 
 /// Each is a value, written as the same bytes, and no part of it is one.
@@ -105,6 +121,12 @@ fn other_bytes_are_rejected_where_they_differ(rt: HostRuntime) {
 #[test]
 fn levels_run_out_after_128(rt: HostRuntime) {
     let alloc = rt.alloc();
-    holds(&rt, is_read(alloc, 128), "128 levels");
-    holds(&rt, ends_at(alloc, 129, 1280), "129 levels");
+    let trees = ends_after_128::<Tree>(alloc, IN_TREES, 1280);
+    holds(&rt, trees.unwrap_or(false), "trees");
+    let expressions = ends_after_128::<Expression>(alloc, IN_EXPRESSIONS, 256);
+    holds(&rt, expressions.unwrap_or(false), "expressions");
+    let chains = ends_after_128::<Chain>(alloc, IN_CHAINS, 640);
+    holds(&rt, chains.unwrap_or(false), "chains");
+    let folders = ends_after_128::<Folder>(alloc, IN_FOLDERS, 2048);
+    holds(&rt, folders.unwrap_or(false), "folders");
 }
