@@ -101,6 +101,21 @@ const DEEP_TREE: Deep = Deep {
     inner: &[0, 0, 4, 0, 0, 0],
 };
 
+const DEEP_EXPRESSION: Deep = Deep {
+    around: &[1, 0],
+    inner: &[0, 0, 4, 0, 0, 0, 0, 0, 0, 0],
+};
+
+const DEEP_CHAIN: Deep = Deep {
+    around: &[4, 0, 0, 0, 1],
+    inner: &[4, 0, 0, 0, 0],
+};
+
+const DEEP_FOLDER: Deep = Deep {
+    around: &[0, 0, 0, 0, 0, 0, 0, 0, 1, 0, 0, 0, 0, 0, 0, 0],
+    inner: &[0, 0, 0, 0, 0, 0, 0, 0, 0, 0, 0, 0, 0, 0, 0, 0],
+};
+
 const DEEP_MENU: Deep = Deep {
     around: &[
         0, 0, 0, 0, 0, 0, 0, 0, 1, 0, 0, 0, 0, 0, 0, 0, 0, 0, 0, 0, 0, 0, 0, 0,
@@ -124,18 +139,17 @@ fn nested(alloc: Global, deep: &Deep, count: usize) -> Result<Vec<u8>, AllocErro
     Ok(bytes)
 }
 
-fn is_read<T: BothBin>(alloc: Global, deep: &Deep, count: usize) -> bool {
-    match nested(alloc, deep, count) {
-        Ok(bytes) => is_read_back::<T>(alloc, &bytes),
-        Err(_error) => false,
-    }
-}
-
-fn ends_at<T: DeBin>(alloc: Global, deep: &Deep, count: usize, place: usize) -> bool {
-    match nested(alloc, deep, count) {
-        Ok(bytes) => is_too_deep::<T>(alloc, &bytes, place),
-        Err(_error) => false,
-    }
+/// Whether so many values one in the other are read, and with one more the levels run out at this
+/// place.
+fn ends_after<T: BothBin>(
+    alloc: Global,
+    deep: &Deep,
+    count: usize,
+    place: usize,
+) -> Result<bool, AllocError> {
+    let bytes = nested(alloc, deep, count)?;
+    let deeper = nested(alloc, deep, count + 1)?;
+    Ok(is_read_back::<T>(alloc, &bytes) && is_too_deep::<T>(alloc, &deeper, place))
 }
 
 /// Each is a value, written as the same bytes, and no part of it is one.
@@ -187,19 +201,21 @@ fn entries_are_written_in_order_with_the_last_value_of_a_key(rt: HostRuntime) {
 #[test]
 fn levels_run_out_after_128(rt: HostRuntime) {
     let alloc = rt.alloc();
-    holds(&rt, is_read::<Tree>(alloc, &DEEP_TREE, 128), "128 levels");
-    let ends = ends_at::<Tree>(alloc, &DEEP_TREE, 129, 1280);
-    holds(&rt, ends, "129 levels");
-    holds(&rt, is_read::<Menu>(alloc, &DEEP_MENU, 128), "128 menus");
-    let ends = ends_at::<Menu>(alloc, &DEEP_MENU, 129, 3072);
-    holds(&rt, ends, "129 menus");
+    let trees = ends_after::<Tree>(alloc, &DEEP_TREE, 128, 1280);
+    holds(&rt, trees.unwrap_or(false), "trees");
+    let expressions = ends_after::<Expression>(alloc, &DEEP_EXPRESSION, 128, 256);
+    holds(&rt, expressions.unwrap_or(false), "expressions");
+    let chains = ends_after::<Chain>(alloc, &DEEP_CHAIN, 128, 640);
+    holds(&rt, chains.unwrap_or(false), "chains");
+    let folders = ends_after::<Folder>(alloc, &DEEP_FOLDER, 128, 2048);
+    holds(&rt, folders.unwrap_or(false), "folders");
+    let menus = ends_after::<Menu>(alloc, &DEEP_MENU, 128, 3072);
+    holds(&rt, menus.unwrap_or(false), "menus");
 }
 
 #[test]
 fn levels_of_types_that_contain_each_other_are_counted_together(rt: HostRuntime) {
     let alloc = rt.alloc();
-    let are_so = is_read::<Statement>(alloc, &DEEP_STATEMENT, 64);
-    holds(&rt, are_so, "127 levels");
-    let ends = ends_at::<Statement>(alloc, &DEEP_STATEMENT, 65, 821);
-    holds(&rt, ends, "129 levels");
+    let statements = ends_after::<Statement>(alloc, &DEEP_STATEMENT, 64, 821);
+    holds(&rt, statements.unwrap_or(false), "statements");
 }
