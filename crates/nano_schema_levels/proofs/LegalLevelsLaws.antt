@@ -50,3 +50,13 @@ module _ {T : Type 0} {c : Cutting T} {g : Grammar T} {A : Type 0} (l : Nested c
       allows = λ m h. (h.0, level_allows h.0 m h.1);
       is_legal = λ m h. (h.0, level_legal h.0 m h.1);
     }
+
+-- two formats that each call legal what is legal call the same legal
+pub agree_through : {A : Type 0} {means : A → Meaning} {legal allowed other : Meaning → Type 0}
+    → Agrees means legal means allowed → Agrees means legal means other
+    → Agrees means allowed means other
+agree_through first second = record {
+  means_is = refl;
+  allows = λ m h. second.allows m (first.is_legal m h);
+  is_legal = λ m h. first.allows m (second.is_legal m h);
+}
