@@ -8,9 +8,12 @@ mod choice;
 mod choices;
 mod fields;
 mod lists;
+mod maps;
 mod options;
+mod ordered_maps;
 mod record;
 mod traits;
+mod tuples;
 
 pub use append::{append_part_within, append_variant, append_variant_within};
 pub use choice::read_choice_within;

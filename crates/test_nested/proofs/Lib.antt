@@ -2,3 +2,5 @@ mod Trees
 mod Expressions
 mod Chains
 mod Folders
+mod Menus
+mod Statements
