@@ -1,23 +1,19 @@
 -- The layer of maps from keys to values of the type, which hold their entries in order.
 use Rattle.std.specs.Prelude.{◌≡◌, ℕ, Bool, true, false, cond, List, [], ◌∷◌, map, T, refl}
 use Rattle.std.specs.declared.cmp.Ordering.{Ordering}
-use Rattle.std.specs.declared.cmp.Ordering.TheVariants.{Less, Equal, Greater}
 use Rattle.std.specs.List.{AllByRecursion}
-use Rattle.std.specs.Cmp.{IsTotalOrder}
-use Rattle.std.specs.FinMap as table
-use Rattle.std.specs.FinMap.{FinMap}
-use Rattle.std.specs.FinMap.Entries.{by_order, put, is_sorted}
+use Rattle.std.specs.FinMap.Entries.{is_sorted}
 use Rattle.std.proofs.Common.{sym, subst, ap}
 use Rattle.nano_text.specs.Place.{saturating_next}
 use Rattle.nano_value.specs.Meaning.{Meaning, paired, pair_map, AllOfList, BothOfPair}
 use Rattle.nano_value.specs.Order.{MeaningOrder, by_meaning}
 use Rattle.nano_value.specs.Ordered.{ordered_map_means, unordered}
-use Rattle.nano_value.specs.Tables.{ascending, insert_all, last_values, table_of, table_means}
+use Rattle.nano_value.specs.Tables.{ascending, last_values, table_of, table_means}
 use Rattle.nano_value.specs.Tables.{AllOfTable, LegalMap, IsOrderOf}
 use Rattle.nano_meaning.proofs.AscendingLaws.{all-ascending, ascending-sorted}
 use Rattle.nano_meaning.proofs.OrderLaws.{by_meaning-orders}
 use Rattle.nano_meaning.proofs.OrderedSetsLaws.{no_list_is_unordered}
-use Rattle.nano_meaning.proofs.TablesLaws.{no_entries, table_means-injective, all_of_last_values}
+use Rattle.nano_meaning.proofs.TablesLaws.{table_means-injective, all_of_last_values}
 use Rattle.nano_grammar.specs.Tokens.{Cutting}
 use Rattle.nano_grammar.specs.Codec.{Grammar, Codec, ListStyle, PairStyle, AreBrackets}
 use Rattle.nano_grammar.specs.Items.{no_gaps}
@@ -25,35 +21,8 @@ use Rattle.nano_grammar.specs.Maps.{pair_text, pair_tokens, AllSoundEntries}
 use Rattle.nano_grammar.proofs.LayoutsLaws.{laid_out_same}
 use Rattle.nano_grammar.proofs.OrderedMapsLaws.{ordered_map_codec}
 use Rattle.nano_levels.specs.Layers.{Layer}
+use Rattle.nano_levels.proofs.EntriesLaws.{values-ascending}
 use Rattle.nano_levels.proofs.LayersLaws.{list_layer, next_layer, maps_same}
-
--- ---- what holds of all values holds of those that the keys keep
-
-module _ {K X : Type 0} {R : K → K → Ordering} (total : IsTotalOrder R) (P : X → Type 0) where
-  abbrev Values : List (K × X) → Type 0
-  Values = AllByRecursion (λ e. P e.1)
-
-  put_value : (k : K) (v : X) (es : List (K × X)) → P v → Values es → Values (put R k v es)
-  put_value k v [] h all = (h, tt)
-  put_value k v (e ∷ es) h all =
-      elim (R k e.0) as (λ r. Values (by_order r ((k, v) ∷ e ∷ es) ((e.0, v) ∷ es)
-      (e ∷ put R k v es))) [
-        | Less ↦ (h, all)
-        | Equal ↦ (h, all.1)
-        | Greater ↦ (all.0, put_value k v es h all.1)
-      ]
-
-  values_inserted : (t : FinMap R X) (es : List (K × X)) → Values (table.entries t) → Values es
-      → Values (table.entries (insert_all t es))
-  values_inserted t [] h all = h
-  values_inserted t (e ∷ es) h all =
-      values_inserted (table.insert t e.0 e.1) es
-      (subst Values (sym (table.entries-insert total t e.0 e.1))
-      (put_value e.0 e.1 (table.entries t) all.0 h)) all.1
-
-  pub values_ascending : (es : List (K × X)) → Values es → Values (ascending R es)
-  values_ascending es all =
-      values_inserted table.empty es (subst Values (sym (no_entries R)) tt) all
 
 is_so : (b : Bool) → b ≡ true → T b
 is_so b e = subst T (sym e) tt
@@ -74,7 +43,7 @@ module _ {T : Type 0} {c : Cutting T} {g : Grammar T} (s : ListStyle c)
   all_in_order : (P : V → Type 0) (es : List (K × V)) → AllByRecursion (λ e. P e.1) es
       → AllByRecursion (λ e. P e.1) (in_order es)
   all_in_order P es all =
-      values_ascending (by_meaning-orders k.canonical.means o).total P es all
+      values-ascending (by_meaning-orders k.canonical.means o).total P es all
 
   abbrev pub map_mean : (A → Meaning) → List (K × V) → Meaning
   map_mean m es = ordered_map_means R k.canonical.means (p.means m) es
