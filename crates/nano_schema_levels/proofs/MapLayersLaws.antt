@@ -6,12 +6,12 @@ use Rattle.std.specs.FinMap.Entries.{is_sorted}
 use Rattle.std.proofs.Common.{sym, subst, ap}
 use Rattle.nano_text.specs.Place.{saturating_next}
 use Rattle.nano_value.specs.Meaning.{Meaning, paired, pair_map, AllOfList, BothOfPair}
-use Rattle.nano_value.specs.Order.{MeaningOrder, by_meaning}
+use Rattle.nano_value.specs.Order.{MeaningOrder, Follows, by_meaning}
 use Rattle.nano_value.specs.Ordered.{ordered_map_means, unordered}
 use Rattle.nano_value.specs.Tables.{ascending, last_values, table_of, table_means}
 use Rattle.nano_value.specs.Tables.{AllOfTable, LegalMap, IsOrderOf}
 use Rattle.nano_meaning.proofs.AscendingLaws.{all-ascending, ascending-sorted}
-use Rattle.nano_meaning.proofs.OrderLaws.{by_meaning-orders}
+use Rattle.nano_meaning.proofs.OrderLaws.{by_meaning-orders, followed}
 use Rattle.nano_meaning.proofs.OrderedSetsLaws.{no_list_is_unordered}
 use Rattle.nano_meaning.proofs.TablesLaws.{table_means-injective, all_of_last_values}
 use Rattle.nano_grammar.specs.Tokens.{Cutting}
@@ -23,6 +23,12 @@ use Rattle.nano_grammar.proofs.OrderedMapsLaws.{ordered_map_codec}
 use Rattle.nano_levels.specs.Layers.{Layer}
 use Rattle.nano_levels.proofs.EntriesLaws.{values-ascending}
 use Rattle.nano_levels.proofs.LayersLaws.{list_layer, next_layer, maps_same}
+
+-- an order that follows one of the meanings is an order of the keys
+pub follows_order : {K : Type 0} (R : K → K → Ordering) (means : K → Meaning) (o : MeaningOrder)
+    → Follows R means o → IsOrderOf means R
+follows_order R means o follows =
+    subst (IsOrderOf means) (followed R means means o follows refl) (by_meaning-orders means o)
 
 is_so : (b : Bool) → b ≡ true → T b
 is_so b e = subst T (sym e) tt
