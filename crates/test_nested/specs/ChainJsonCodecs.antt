@@ -1,6 +1,7 @@
 -- A chain by its fields in JSON, and its codec.
-use Rattle.std.specs.Prelude.{ℕ, refl, codes, Box}
+use Rattle.std.specs.Prelude.{◌≡◌, ℕ, refl, codes, Option, Some, None, Box}
 use Rattle.std.specs.Global.{Global}
+use Rattle.std.proofs.Common.{◌∙◌, arith}
 use Rattle.nano_value.specs.Meaning.{Agrees, LegalUnsigned, LegalOption, LegalPair}
 use Rattle.nano_json.specs.Codec.{Codec}
 use Rattle.nano_json_tokens.specs.Cut.{json_grammar}
@@ -17,8 +18,11 @@ use Rattle.nano_schema_levels.proofs.LegalLevelsLaws.{nested_agrees, agree_throu
 use Rattle.nano_schema_levels.proofs.PartLaws.{seen_layer}
 use Rattle.nano_bin_nested.proofs.LegalLaws.{nested_agrees as bin_agrees}
 use Rattle.test_nested.specs.declared.chain.Chain.{Chain}
-use Rattle.test_nested.specs.ChainCodecs.{Fields, chain_view, chain_means, chain_depth}
-use Rattle.test_nested.specs.ChainCodecs.{chain_codec, chain_nested}
+use Rattle.test_nested.specs.declared.chain.Chain.TheOpen.{Chain-F}
+use Rattle.test_nested.specs.declared.chain.Chain.TheViews.{out-Chain}
+use Rattle.test_nested.specs.declared.chain.Chain.TheFolds.{map-Chain, fold_out-Chain}
+use Rattle.test_nested.specs.ChainCodecs.{Fields, opened, chain_view, chain_means, chain_depth}
+use Rattle.test_nested.specs.ChainCodecs.{depth_step, chain_codec, chain_nested}
 
 -- ---- its fields
 
@@ -33,6 +37,16 @@ chain_json_fields =
 abbrev pub chain_json_layer : Layer json json_grammar Chain (Fields Chain)
 chain_json_layer = struct_layer chain_json_fields (λ f. ascii_names refl) (λ f. refl)
 
+pub json_depth_of : (n : ℕ) (rest : Option (Box Chain Global))
+    → depth_step (map-Chain Chain ℕ chain_depth (record { number = n; next = rest }))
+    ≡ chain_json_layer.deep chain_depth (n, rest)
+json_depth_of n None = refl
+json_depth_of n (Some b) = omega arith
+
+pub json_depth_opened : (y : Chain-F Chain) → depth_step (map-Chain Chain ℕ chain_depth y)
+    ≡ chain_json_layer.deep chain_depth (opened y)
+json_depth_opened y = json_depth_of y.number y.next
+
 abbrev pub chain_json_nested : Nested json json_grammar Chain
 chain_json_nested = record {
   Seen = Fields Chain;
@@ -41,7 +55,7 @@ chain_json_nested = record {
   means = chain_means;
   depth = chain_depth;
   means_is = chain_nested.means_is;
-  depth_is = chain_nested.depth_is;
+  depth_is = λ x. fold_out-Chain ℕ depth_step x ∙ json_depth_opened (out-Chain x);
 }
 
 -- ---- the codec

@@ -1,6 +1,7 @@
 -- A folder by its fields in JSON, and its codec.
 use Rattle.std.specs.Prelude.{ℕ, refl, codes, Vec}
 use Rattle.std.specs.Global.{Global}
+use Rattle.std.proofs.Common.{arith}
 use Rattle.nano_value.specs.Meaning.{Agrees, LegalText, LegalList, LegalPair}
 use Rattle.nano_json.specs.Codec.{Codec}
 use Rattle.nano_json_tokens.specs.Cut.{json_grammar}
@@ -43,7 +44,7 @@ folder_json_nested = record {
   means = folder_means;
   depth = folder_depth;
   means_is = folder_nested.means_is;
-  depth_is = folder_nested.depth_is;
+  depth_is = λ x. let e = folder_nested.depth_is x in omega (arith, e);
 }
 
 -- ---- the codec
