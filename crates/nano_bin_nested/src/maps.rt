@@ -27,7 +27,12 @@ impl<K: DeBin + Key + Hash, T: BinCodec + Drop, L: ReadsBin<T>> ReadsBin<HashMap
 }
 
 /// Reads a count, and as many keys with their values, one after the other, into a collection.
-pub(crate) fn read_entries<K: DeBin, T: BinCodec + Drop, L: ReadsBin<T>, C: CollectEntries<K, T>>(
+pub(crate) fn read_entries<
+    K: DeBin,
+    T: BinCodec + Drop,
+    L: ReadsBin<T>,
+    C: CollectEntries<K, T>,
+>(
     levels: &L,
     alloc: Global,
     offset: &mut usize,

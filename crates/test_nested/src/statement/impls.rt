@@ -13,7 +13,9 @@ use nano_bin_nested::{
     append_part_within, append_variant, append_variant_within, no_memory, read_choice_within,
     read_record_within,
 };
-use nano_schema::{Either, EnumSchema, Newtype, Optional, Required, StructSchema, Value, Variant};
+use nano_schema::{
+    Either, EnumSchema, Newtype, Optional, Required, StructSchema, Value, Variant,
+};
 use std::alloc::{AllocError, Global};
 
 struct StatementNames<const I: usize> {}
