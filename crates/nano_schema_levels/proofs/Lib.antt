@@ -5,3 +5,4 @@ pub mod FieldLayersLaws
 pub mod VariantLayersLaws
 pub mod NestedLaws
 pub mod LegalLevelsLaws
+pub mod ReadingLaws
