@@ -1,3 +1,4 @@
 pub mod LevelsLaws
 pub mod LayersLaws
 pub mod KindsLaws
+pub mod ChainsLaws
