@@ -1,0 +1,3 @@
+pub mod ListReaders
+pub mod FieldReaders
+pub mod MapReaders
