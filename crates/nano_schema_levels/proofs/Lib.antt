@@ -1,0 +1,6 @@
+pub mod InsideLaws
+pub mod PartLaws
+pub mod FieldLayersLaws
+pub mod VariantLayersLaws
+pub mod NestedLaws
+pub mod LegalLevelsLaws

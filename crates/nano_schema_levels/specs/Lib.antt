@@ -1,0 +1,4 @@
+pub mod Inside
+pub mod FieldLayers
+pub mod VariantLayers
+pub mod LegalLevels
