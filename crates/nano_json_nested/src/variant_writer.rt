@@ -7,7 +7,25 @@ ghost use Rattle.nano_text.specs.Outcomes.{Appends, AppendsPart, Unchanged};
 
 use crate::traits::WritesJson;
 use nano_json::{SerJson, SerJsonState, rollback_on_error};
+use nano_json_schema::WriteContent;
+use nano_schema::Newtype;
 use std::alloc::{AllocError, Global};
+
+/// Appends a variant with one part, which holds no values of the enum: `{`, its name, a colon, the
+/// part at level `d` between square brackets, and `}`. If the write fails, `s.out` is unchanged.
+pub fn write_variant_other<T: SerJson>(
+    alloc: Global,
+    name: &str,
+    part: &T,
+    d: usize,
+    s: &mut SerJsonState,
+) -> Result<(), AllocError>
+    ensures ok { OnOk result (Appends s.old.out s.new.out
+        (content_text name.now ((single_codec T.json).canonical.text d part.now))) }
+    ensures err { OnErr result (Unchanged s.old.out s.new.out) }
+{
+    Newtype::<T>::write(name, &part, alloc, d, s)
+}
 
 /// Appends a variant with one part, which holds values of the enum: `{`, its name, a colon, the
 /// part at level `d` between square brackets, and `}`. If the write fails, `s.out` is unchanged.

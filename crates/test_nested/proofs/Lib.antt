@@ -2,3 +2,4 @@ mod Trees
 mod Expressions
 mod Chains
 mod Folders
+mod TreesJson

@@ -19,10 +19,9 @@ fields-preserved g c =
 
 pub returns : goal.returns
 returns g c =
-    let none = (refl, sym c.is_name.ensures ∙ c.fields-test.false) in
     MatchResult-weaker c.curly_close.result c.curly_close.ensures
-    (λ _ close. fields_held passed_over (g.F.JsonFieldsWithin.codec (g.L.HasLevels.left c.args.levels.now)).struct c.fields.invariant none close)
-    (λ e bad. closing_not passed_over (g.F.JsonFieldsWithin.codec (g.L.HasLevels.left c.args.levels.now)).struct c.fields.invariant none bad.fails)
+    (λ _ close. fields_held passed_over (g.F.JsonFieldsWithin.codec (g.L.HasLevels.left c.args.levels.now)).struct c.fields.invariant (refl, sym c.is_name.ensures ∙ c.fields-test.false) close)
+    (λ e bad. closing_not passed_over (g.F.JsonFieldsWithin.codec (g.L.HasLevels.left c.args.levels.now)).struct c.fields.invariant (refl, sym c.is_name.ensures ∙ c.fields-test.false) bad.fails)
 
 pub returns-in_err-curly_open : goal.returns-in_err-curly_open
 returns-in_err-curly_open g c =

@@ -8,3 +8,20 @@ returns-in-Ok-values g c levels fs h = record {
   has = (c.in-Ok.ensures levels fs h.0, c.in-Ok-values.ensures levels (others (g.A.JsonFieldsWithin.codec levels).struct.shape.knows fs) h.1);
   is = refl;
 }
+
+pub returns-in-Err-values : goal.returns-in-Err-values
+returns-in-Err-values g c levels =
+    let none = c.in-Err-values.ensures levels in
+    record {
+      rejected = λ known fs m held means.
+          none.rejected known (others (g.A.JsonFieldsWithin.codec levels).struct.shape.knows fs) means.part.1 held.1 means.has.1;
+      made = none.made;
+    }
+
+pub returns-in-Err : goal.returns-in-Err
+returns-in-Err g c levels =
+    let none = c.in-Err.ensures levels in
+    record {
+      rejected = λ known fs m held means. none.rejected known fs means.part.0 held.0 means.has.0;
+      made = none.made;
+    }
