@@ -1,14 +1,17 @@
--- Layers of parts: a type that is seen as another, and the parts of tuples.
-use Rattle.std.specs.Prelude.{◌∷◌, ◌++◌, [], refl}
+-- Layers of parts: a type that is seen as another, an array, and the parts of tuples.
+use Rattle.std.specs.Prelude.{ℕ, List, ◌∷◌, ◌++◌, [], map, refl}
+use Rattle.std.specs.List.{AllByRecursion}
 use Rattle.std.proofs.Common.{sym, subst, ap}
-use Rattle.nano_value.specs.Meaning.{Meaning, paired}
-use Rattle.nano_meaning.proofs.MeaningLaws.{both_injective}
+use Rattle.nano_value.specs.Meaning.{Meaning, paired, AllOfCount}
+use Rattle.nano_meaning.proofs.MeaningLaws.{both_injective, listed_injective}
 use Rattle.nano_grammar.specs.Tokens.{Cutting}
-use Rattle.nano_grammar.specs.Codec.{Grammar, Codec, PairStyle, TupleStyle, AreBrackets}
+use Rattle.nano_grammar.specs.Codec.{Grammar, Codec, ListStyle, PairStyle, TupleStyle, AreBrackets}
 use Rattle.nano_grammar.specs.BaseCodecs.{codec_as, part_style}
+use Rattle.nano_grammar.proofs.ListsLaws.{array_codec}
 use Rattle.nano_grammar.proofs.PairsLaws.{next_codec}
 use Rattle.nano_grammar.proofs.TuplesLaws.{last_codec, tuple_codec}
 use Rattle.nano_levels.specs.Layers.{Layer}
+use Rattle.nano_levels.proofs.LayersLaws.{list_layer, items_parts, items_legal}
 use Rattle.nano_schema_levels.specs.Inside.{Inside}
 use Rattle.nano_schema_levels.proofs.InsideLaws.{inside_of, both_inside}
 
@@ -31,6 +34,44 @@ seen_layer view p = record {
   legal_parts = λ f m x h. p.legal_parts f m (view x) h;
   legal_same = λ f h m x w s. p.legal_same f h m (view x) w s;
 }
+
+-- ---- so many items
+
+module _ {T : Type 0} {c : Cutting T} {g : Grammar T} (s : ListStyle c)
+    (are : AreBrackets g s.tokens) {A B : Type 0} (p : Layer c g A B) (count : ℕ) where
+  abbrev items : Layer c g A (List B)
+  items = list_layer s are p
+
+  abbrev pub array_layer : Layer c g A (List B)
+  array_layer = record {
+    codec = λ f. array_codec s are (p.codec f) count;
+    All = items.All;
+    means = items.means;
+    deep = items.deep;
+    weaker = items.weaker;
+    less = items.less;
+    most = items.most;
+    means_is = items.means_is;
+    means_same = items.means_same;
+    text_same = items.text_same;
+    tokens_same = items.tokens_same;
+    sound_same = items.sound_same;
+    legal_parts = λ f m xs h.
+        items_parts s are p f m xs
+        (subst (AllByRecursion (p.codec f).encoding.legal) (sym (listed_injective _ _ h.is))
+        h.has.items);
+    legal_same = λ f h m xs w legal.
+        let same = listed_injective _ _ legal.is in
+        let all = subst (AllOfCount count (p.codec f).encoding.legal) (sym same) legal.has in
+        record {
+          part = map (p.means m) xs;
+          has = record {
+            count_is = all.count_is;
+            items = items_legal s are p f h m xs w all.items;
+          };
+          is = refl;
+        };
+  }
 
 -- ---- two parts with a token between them
 
