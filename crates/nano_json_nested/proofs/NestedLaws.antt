@@ -4,7 +4,7 @@ use Rattle.std.proofs.Common.{◌≡◌, ℕ, suc, List, [], ◌∷◌, refl, Re
 use Rattle.std.proofs.lemmas.Result.{MatchResult-weaker}
 use Rattle.std.specs.declared.str.Chars.{Chars}
 use Rattle.nano_value.specs.Meaning.{Meaning}
-use Rattle.nano_grammar.specs.Outcomes.{Position, Read, ReadsNoneAndEnds}
+use Rattle.nano_grammar.specs.Outcomes.{Position, ReadsNoneAndEnds}
 use Rattle.nano_grammar.proofs.FaultLaws.{goes_wrong, none_ended}
 use Rattle.nano_grammar.proofs.TokenCalls.{fails_here, none_as}
 use Rattle.nano_json_tokens.specs.Cut.{Cut, json_grammar}
@@ -24,10 +24,10 @@ use Rattle.nano_schema_levels.proofs.NestedLaws.{none_encoded}
 use Rattle.nano_json_nested.specs.Depth.{RejectsDepth}
 
 -- a variant that is read is a value that is read
-pub variant_reads : {A : Type 0} (vs : Encodings) (means : A → Meaning) {start end : Position Token}
+pub variant_reads : {A : Type 0} (vs : Encodings) (means : A → Meaning) (start end : Position Token)
     (r : Result A DeJsonErr) → ReadsEnum vs means start end r
     → ReadsOrEnds (EncodesVariant vs) means start end r
-variant_reads vs means r h = MatchResult-weaker r h (λ _ k. k.read) (λ _ k. k.none)
+variant_reads vs means start end r h = MatchResult-weaker r h (λ _ k. k.read) (λ _ k. k.none)
 
 -- where nothing is encoded, too deep is no less than the truth
 pub nothing_there : {old new : DeJsonState} {e : DeJsonErr} (E : List Token → Meaning → Type 0)
@@ -55,7 +55,7 @@ module _ {A : Type 0} (l : Nested json json_grammar A) where
   -- one level is left at least
   module _ (same : (n : ℕ) → (seen_codec l n).encoding.encodes
       ≡ (l.layer.codec (level l n)).encoding.encodes) (means : A → Meaning)
-      (is : (x : A) → means x ≡ l.means x) {start end : Position Token} where
+      (is : (x : A) → means x ≡ l.means x) (start end : Position Token) where
     one_level : (n : ℕ) (r : Result A DeJsonErr)
         → ReadsOrEnds (seen_codec l n).encoding.encodes means start end r
         → ReadsOrEnds (limited l (suc n)).encoding.encodes l.means start end r

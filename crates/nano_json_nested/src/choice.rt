@@ -22,12 +22,7 @@ pub fn read_choice_json_within<
     L: HasLevels,
     E: EnumSchema,
     V: JsonChoicesWithin<L, Values = E::Values>,
->(
-    levels: &L,
-    alloc: Global,
-    state: &mut DeJsonState,
-    input: &mut Chars<'_>,
-) -> Result<E, DeJsonErr>
+>(levels: &L, alloc: Global, state: &mut DeJsonState, input: &mut Chars<'_>) -> Result<E, DeJsonErr>
     ensures { ReadsEnum (V.encodes (L.left levels.now)) (λ value. V.means 0 (E.view value))
         (position state.old input.old) (position state.new input.new) result }
 {

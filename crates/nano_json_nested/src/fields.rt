@@ -107,11 +107,7 @@ impl<L: HasLevels, F: JsonFields> JsonFieldsWithin<L> for Other<F> {
         F::read_field(name, slots, alloc, state, input)
     }
 
-    fn values(
-        slots: F::Slots,
-        alloc: Global,
-        state: &DeJsonState,
-    ) -> Result<F::Values, DeJsonErr> {
+    fn values(slots: F::Slots, alloc: Global, state: &DeJsonState) -> Result<F::Values, DeJsonErr> {
         F::values(slots, alloc, state)
     }
 

@@ -20,12 +20,7 @@ pub fn read_record_json_within<
     L: HasLevels,
     R: StructSchema,
     F: JsonFieldsWithin<L, Values = R::Values>,
->(
-    levels: &L,
-    alloc: Global,
-    state: &mut DeJsonState,
-    input: &mut Chars<'_>,
-) -> Result<R, DeJsonErr>
+>(levels: &L, alloc: Global, state: &mut DeJsonState, input: &mut Chars<'_>) -> Result<R, DeJsonErr>
     ensures { ReadsOrEnds (EncodesFields (F.codec (L.left levels.now)).struct.shape)
         (λ value. F.means (R.view value))
         (position state.old input.old) (position state.new input.new) result }

@@ -7,4 +7,4 @@ use Rattle.nano_json_nested.proofs.lists.append_list.Given as goal
 
 abbrev pub invariant-loop-item : goal.invariant-loop-item
 invariant-loop-item g l =
-    WritesSoFar false no_gaps block_punctuation (g.T.JsonCodec.json.canonical.text l.fn.d) (string_bytes l.fn.s.out) (string_bytes l.s.out) l.first (drop l.item-index l.items.items) l.items.items
+    WritesSoFar false no_gaps block_punctuation (g.T.JsonCodec.json.canonical.text l.fn.d) (string_bytes l.fn.s.out) (string_bytes l.s.out) l.first (drop l.item-index l.item-items) l.item-items

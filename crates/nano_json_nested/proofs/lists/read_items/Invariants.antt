@@ -1,5 +1,3 @@
-use Rattle.std.proofs.Common.{◌≡◌, List, map, Vec, Global}
-use Rattle.nano_value.specs.Meaning.{Meaning}
 use Rattle.nano_grammar.proofs.CollectingCalls.{Filled}
 use Rattle.nano_grammar.proofs.TokensLaws.{tokens_left}
 use Rattle.nano_json_tokens.specs.Token.{blocks}

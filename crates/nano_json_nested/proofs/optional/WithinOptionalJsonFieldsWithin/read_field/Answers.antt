@@ -1,4 +1,4 @@
-use Rattle.std.proofs.Common.{[], inr, refl, sym}
+use Rattle.std.proofs.Common.{[], inr, refl}
 use Rattle.nano_grammar.proofs.TokenCalls.{passed_on}
 use Rattle.nano_grammar.proofs.FieldCalls.{at_once, not_at_once, last_read, last_not, looked_up}
 use Rattle.nano_grammar.proofs.FieldCalls.{looked_up_none, not_known}
