@@ -14,7 +14,7 @@ ghost use Rattle.nano_json_schema.specs.Reading.{EncodesRest};
 
 use crate::brackets::read_in_brackets;
 use crate::fields::JsonFieldsWithin;
-use crate::read::read_fields;
+use crate::read::read_record_json_within;
 use crate::traits::{HasLevels, NestedJson, ReadsJson};
 use nano_json::{DeJsonErr, DeJsonState, end_on_error};
 use nano_json_schema::ReadContent;
@@ -134,7 +134,7 @@ impl<L: HasLevels, F: JsonFieldsWithin<L>> JsonContentWithin<L> for Struct<F> {
         state: &mut DeJsonState,
         input: &mut Chars<'_>,
     ) -> Result<F::Values, DeJsonErr> {
-        let values = read_fields::<L, F>(levels, alloc, state, input)?;
+        let values = read_record_json_within::<L, F>(levels, alloc, state, input)?;
         match close_content(alloc, state, input) {
             Ok(()) => Ok(values),
             Err(error) => {

@@ -16,8 +16,8 @@ use nano_json::{DeJsonErr, DeJsonState, DeJsonTok, end_on_error};
 use std::alloc::Global;
 use std::str::Chars;
 
-/// Reads named fields between braces, in any order, with one comma between two and optionally one
-/// after the last, where so many levels may follow. A field whose name is not known is skipped. If
+/// Reads the fields of a struct that contains itself, where so many levels may follow: between
+/// braces, in any order, with one comma between two and optionally one after the last. A field whose name is not known is skipped. If
 /// a name is repeated, the last value counts; each must be one of its type. The token after the
 /// closing bracket is pending then, which may be the end.
 ///
@@ -25,7 +25,7 @@ use std::str::Chars;
 /// or the end after them. A missing field is reported by `Key not found {name}`, once the
 /// closing bracket and the token after it are taken. Every error leaves the state at the end of
 /// the text.
-pub(crate) fn read_fields<L: HasLevels, F: JsonFieldsWithin<L>>(
+pub fn read_record_json_within<L: HasLevels, F: JsonFieldsWithin<L>>(
     levels: &L,
     alloc: Global,
     state: &mut DeJsonState,

@@ -10,7 +10,7 @@ returns-in_err-name g c =
 pub returns-in-Ok : goal.returns-in-Ok
 returns-in-Ok g c =
     let vs = g.V.JsonChoicesWithin.encodes (g.L.HasLevels.left c.args.levels.now) in
-    rw c.make.ensures (enum_read vs c.in_ok-name.name c.read_variant_name.new.state c.read_variant_name.new.input c.in_ok-name.ensures c.in-Ok.ensures)
+    (enum_read vs c.in_ok-name.name c.read_variant_name.new.state c.read_variant_name.new.input c.in_ok-name.ensures c.in-Ok.ensures)
 
 pub returns : goal.returns
 returns g c =
