@@ -19,14 +19,15 @@ impl<T: NestedJson> NestedJson for Box<T> {
 /// Reads a value into a box.
 fn read_box<T: NestedJson + Drop, L: ReadsJson<T>>(
     levels: &L,
+    left: usize,
     alloc: Global,
     state: &mut DeJsonState,
     input: &mut Chars<'_>,
 ) -> Result<Box<T>, DeJsonErr>
-    ensures { Reads (T.at (L.left levels.now)).encoding.encodes (λ x. T.means x.value)
+    ensures { Reads (T.at left).encoding.encodes (λ x. T.means x.value)
         (position state.old input.old) (position state.new input.new) result }
 {
-    let value: T = ReadsJson::<T>::read_json(levels, alloc, state, input)?;
+    let value: T = ReadsJson::<T>::read_json(levels, left, alloc, state, input)?;
     match Box::new(alloc, value) {
         Ok(value) => Ok(value),
         Err(_rejected) => Err(state.err_memory(alloc)),
@@ -36,11 +37,12 @@ fn read_box<T: NestedJson + Drop, L: ReadsJson<T>>(
 impl<T: NestedJson + Drop, L: ReadsJson<T>> ReadsJson<Box<T>> for L {
     fn read_json(
         &self,
+        left: usize,
         alloc: Global,
         state: &mut DeJsonState,
         input: &mut Chars<'_>,
     ) -> Result<Box<T>, DeJsonErr> {
-        let read = read_box::<T, L>(self, alloc, state, input);
+        let read = read_box::<T, L>(self, left, alloc, state, input);
         end_on_error(state, read)
     }
 }

@@ -4,7 +4,6 @@ ghost use Rattle.nano_json.specs.Outcomes.{position};
 ghost use Rattle.nano_json_schema.specs.Outcomes.{ReadsEnum};
 
 use crate::choices::JsonChoicesWithin;
-use crate::traits::HasLevels;
 use nano_json::{DeJsonErr, DeJsonState};
 use nano_json_schema::read_variant_name;
 use std::alloc::Global;
@@ -17,17 +16,18 @@ use std::str::Chars;
 ///
 /// An error other than out of memory says that no variant is encoded there, with one more token
 /// or the end after it. Every error leaves the state at the end of the text.
-pub fn read_choice_json_within<L: HasLevels, V: JsonChoicesWithin<L>>(
+pub fn read_choice_json_within<L, V: JsonChoicesWithin<L>>(
     levels: &L,
+    left: usize,
     alloc: Global,
     state: &mut DeJsonState,
     input: &mut Chars<'_>,
 ) -> Result<V::Values, DeJsonErr>
-    ensures { ReadsEnum (V.encodes (L.left levels.now)) (V.means 0)
+    ensures { ReadsEnum (V.encodes left) (V.means 0)
         (position state.old input.old) (position state.new input.new) result }
 {
     let name = read_variant_name(alloc, state, input)?;
-    match V::read(levels, &name, alloc, state, input) {
+    match V::read(levels, left, &name, alloc, state, input) {
         Ok(values) => Ok(values),
         Err(error) => Err(error),
     }

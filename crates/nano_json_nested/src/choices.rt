@@ -12,7 +12,6 @@ ghost use Rattle.nano_json_schema.specs.Variants.{is_alone, bytes_of};
 ghost use Rattle.nano_json_schema.specs.Outcomes.{ReadsChoice, GivesUnknown};
 
 use crate::contents::JsonContentWithin;
-use crate::traits::HasLevels;
 use nano_json::{DeJsonErr, DeJsonState};
 use nano_json_schema::{VariantName, unknown_variant};
 use nano_schema::{Either, Label, Variant};
@@ -20,7 +19,7 @@ use std::alloc::Global;
 use std::str::Chars;
 
 /// Variants that are read from JSON, given how many levels may follow.
-pub trait JsonChoicesWithin<L: HasLevels> {
+pub trait JsonChoicesWithin<L> {
     /// The content of one of them.
     type Values;
 
@@ -38,12 +37,13 @@ pub trait JsonChoicesWithin<L: HasLevels> {
     /// the end of the text.
     fn read(
         levels: &L,
+        left: usize,
         name: &VariantName,
         alloc: Global,
         state: &mut DeJsonState,
         input: &mut Chars<'_>,
     ) -> Result<Self::Values, DeJsonErr>
-        ensures { ReadsChoice (encodes (L.left levels.now)) name.now means
+        ensures { ReadsChoice (encodes left) name.now means
             (position state.old input.old) (position state.new input.new) result };
 }
 
@@ -67,7 +67,7 @@ fn unknown(alloc: Global, state: &mut DeJsonState, name: &VariantName) -> DeJson
     }
 }
 
-impl<L: HasLevels, N: Label, S: JsonContentWithin<L>> JsonChoicesWithin<L> for Variant<N, S> {
+impl<L, N: Label, S: JsonContentWithin<L>> JsonChoicesWithin<L> for Variant<N, S> {
     type Values = S::Values;
 
     ghost encodes = { λ levels. before (S.rest levels) N.label no_variants };
@@ -76,19 +76,20 @@ impl<L: HasLevels, N: Label, S: JsonContentWithin<L>> JsonChoicesWithin<L> for V
 
     fn read(
         levels: &L,
+        left: usize,
         name: &VariantName,
         alloc: Global,
         state: &mut DeJsonState,
         input: &mut Chars<'_>,
     ) -> Result<S::Values, DeJsonErr> {
         if is_named(name, N::text(), S::stands_alone()) {
-            return S::read(levels, alloc, state, input);
+            return S::read(levels, left, alloc, state, input);
         }
         Err(unknown(alloc, state, name))
     }
 }
 
-impl<L: HasLevels, N: Label, S: JsonContentWithin<L>, C: JsonChoicesWithin<L>> JsonChoicesWithin<L>
+impl<L, N: Label, S: JsonContentWithin<L>, C: JsonChoicesWithin<L>> JsonChoicesWithin<L>
     for (Variant<N, S>, C) {
     type Values = Either<S::Values, C::Values>;
 
@@ -98,18 +99,19 @@ impl<L: HasLevels, N: Label, S: JsonContentWithin<L>, C: JsonChoicesWithin<L>> J
 
     fn read(
         levels: &L,
+        left: usize,
         name: &VariantName,
         alloc: Global,
         state: &mut DeJsonState,
         input: &mut Chars<'_>,
     ) -> Result<Either<S::Values, C::Values>, DeJsonErr> {
         if is_named(name, N::text(), S::stands_alone()) {
-            return match S::read(levels, alloc, state, input) {
+            return match S::read(levels, left, alloc, state, input) {
                 Ok(content) => Ok(Either::First(content)),
                 Err(error) => Err(error),
             };
         }
-        match C::read(levels, name, alloc, state, input) {
+        match C::read(levels, left, name, alloc, state, input) {
             Ok(later) => Ok(Either::Later(later)),
             Err(error) => Err(error),
         }

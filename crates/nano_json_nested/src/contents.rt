@@ -15,7 +15,7 @@ ghost use Rattle.nano_json_schema.specs.Reading.{EncodesRest};
 use crate::brackets::read_in_brackets;
 use crate::fields::JsonFieldsWithin;
 use crate::read::read_record_json_within;
-use crate::traits::{HasLevels, NestedJson, ReadsJson};
+use crate::traits::{NestedJson, ReadsJson};
 use nano_json::{DeJsonErr, DeJsonState, end_on_error};
 use nano_json_schema::ReadContent;
 use nano_schema::{Newtype, Struct};
@@ -30,7 +30,7 @@ pub struct Other<S>(PhantomData<S>);
 pub struct Within<S>(PhantomData<S>);
 
 /// The content of a variant that is read from JSON, given how many levels may follow.
-pub trait JsonContentWithin<L: HasLevels> {
+pub trait JsonContentWithin<L> {
     /// Its values.
     type Values;
 
@@ -51,15 +51,16 @@ pub trait JsonContentWithin<L: HasLevels> {
     /// more token or the end after it. Every error leaves the state at the end of the text.
     fn read(
         levels: &L,
+        left: usize,
         alloc: Global,
         state: &mut DeJsonState,
         input: &mut Chars<'_>,
     ) -> Result<Self::Values, DeJsonErr>
-        ensures { ReadsOrEnds (EncodesRest (rest (L.left levels.now))) means
+        ensures { ReadsOrEnds (EncodesRest (rest left)) means
             (position state.old input.old) (position state.new input.new) result };
 }
 
-impl<L: HasLevels, S: ReadContent> JsonContentWithin<L> for Other<S> {
+impl<L, S: ReadContent> JsonContentWithin<L> for Other<S> {
     type Values = S::Values;
 
     ghost rest = { λ levels. S.content.rest };
@@ -72,6 +73,7 @@ impl<L: HasLevels, S: ReadContent> JsonContentWithin<L> for Other<S> {
 
     fn read(
         _levels: &L,
+        _left: usize,
         alloc: Global,
         state: &mut DeJsonState,
         input: &mut Chars<'_>,
@@ -107,17 +109,18 @@ impl<T: NestedJson + Drop, L: ReadsJson<T>> JsonContentWithin<L> for Within<Newt
 
     fn read(
         levels: &L,
+        left: usize,
         alloc: Global,
         state: &mut DeJsonState,
         input: &mut Chars<'_>,
     ) -> Result<T, DeJsonErr> {
-        let content = read_in_brackets::<T, L>(levels, alloc, state, input)?;
+        let content = read_in_brackets::<T, L>(levels, left, alloc, state, input)?;
         close_content(alloc, state, input)?;
         Ok(content)
     }
 }
 
-impl<L: HasLevels, F: JsonFieldsWithin<L>> JsonContentWithin<L> for Struct<F> {
+impl<L, F: JsonFieldsWithin<L>> JsonContentWithin<L> for Struct<F> {
     type Values = F::Values;
 
     ghost rest = { λ levels. more (fields_of json_fields (F.codec levels).struct) };
@@ -130,11 +133,12 @@ impl<L: HasLevels, F: JsonFieldsWithin<L>> JsonContentWithin<L> for Struct<F> {
 
     fn read(
         levels: &L,
+        left: usize,
         alloc: Global,
         state: &mut DeJsonState,
         input: &mut Chars<'_>,
     ) -> Result<F::Values, DeJsonErr> {
-        let values = read_record_json_within::<L, F>(levels, alloc, state, input)?;
+        let values = read_record_json_within::<L, F>(levels, left, alloc, state, input)?;
         match close_content(alloc, state, input) {
             Ok(()) => Ok(values),
             Err(error) => {

@@ -1,7 +1,6 @@
 //! Where no more levels may follow.
 
-ghost use Rattle.nano_json.specs.Outcomes.{position};
-ghost use Rattle.nano_json_nested.specs.Depth.{RejectsDepth};
+ghost use Rattle.nano_json_nested.specs.Depth.{RejectsDepth, RunsOut};
 
 use nano_json::{DeJsonErr, DeJsonState};
 use std::alloc::Global;
@@ -14,6 +13,18 @@ pub fn too_deep(alloc: Global, state: &mut DeJsonState) -> DeJsonErr
     ensures { RejectsDepth state.old state.new result }
 {
     let error = state.err_range(alloc, "levels>128");
+    state.fail();
+    error
+}
+
+/// The error where an environment has no level left though more may follow: out of memory. It
+/// leaves the state at the end of the text.
+#[cold]
+#[inline(never)]
+pub fn no_levels(alloc: Global, state: &mut DeJsonState) -> DeJsonErr
+    ensures { RunsOut state.old state.new result }
+{
+    let error = state.err_memory(alloc);
     state.fail();
     error
 }

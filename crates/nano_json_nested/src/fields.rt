@@ -9,7 +9,6 @@ ghost use Rattle.nano_json_schema.specs.Outcomes.{ReadsField, GivesValues};
 ghost use Rattle.nano_json_schema.specs.FieldCodecs.{json_fields};
 
 use crate::contents::Other;
-use crate::traits::HasLevels;
 use nano_json::{DeJsonErr, DeJsonState};
 use nano_json_schema::JsonFields;
 use std::alloc::Global;
@@ -18,7 +17,7 @@ use std::str::Chars;
 /// Named fields that are read, given how many levels may follow: those of `Other`, one whose value
 /// holds values of the type that has it (`Within`), or fields and more fields (a pair). Of a name
 /// that both of a pair know, the first has the values.
-pub trait JsonFieldsWithin<L: HasLevels> {
+pub trait JsonFieldsWithin<L> {
     /// Their values.
     type Values;
 
@@ -46,14 +45,15 @@ pub trait JsonFieldsWithin<L: HasLevels> {
     /// with one more token or the end after it. The state may be at any position then.
     fn read_field(
         levels: &L,
+        left: usize,
         name: &str,
         slots: &mut Self::Slots,
         alloc: Global,
         state: &mut DeJsonState,
         input: &mut Chars<'_>,
     ) -> Result<bool, DeJsonErr>
-        ensures { ReadsField name.now (codec (L.left levels.now)).struct.shape
-            (holds (L.left levels.now) slots.old) (holds (L.left levels.now) slots.new)
+        ensures { ReadsField name.now (codec left).struct.shape
+            (holds left slots.old) (holds left slots.new)
             ((slots.new ≡ slots.old) × Keeps state.old input.old state.new input.new)
             (position state.old input.old) (position state.new input.new) result };
 
@@ -79,7 +79,7 @@ pub trait JsonFieldsWithin<L: HasLevels> {
         → holds levels slots fs → holds levels slots (fs ++ f ∷ []) };
 }
 
-impl<L: HasLevels, F: JsonFields> JsonFieldsWithin<L> for Other<F> {
+impl<L, F: JsonFields> JsonFieldsWithin<L> for Other<F> {
     type Values = F::Values;
 
     type Slots = F::Slots;
@@ -98,6 +98,7 @@ impl<L: HasLevels, F: JsonFields> JsonFieldsWithin<L> for Other<F> {
 
     fn read_field(
         _levels: &L,
+        _left: usize,
         name: &str,
         slots: &mut F::Slots,
         alloc: Global,

@@ -25,11 +25,12 @@ impl<T: NestedJson> NestedJson for Vec<T> {
 /// Reads items between square brackets.
 fn read_items<T: NestedJson + Drop, L: ReadsJson<T>>(
     levels: &L,
+    left: usize,
     alloc: Global,
     state: &mut DeJsonState,
     input: &mut Chars<'_>,
 ) -> Result<Vec<T>, DeJsonErr>
-    ensures { Reads (list_codec (T.at (L.left levels.now))).encoding.encodes
+    ensures { Reads (list_codec (T.at left)).encoding.encodes
         (λ items. listed (map T.means items.items))
         (position state.old input.old) (position state.new input.new) result }
 {
@@ -38,7 +39,7 @@ fn read_items<T: NestedJson + Drop, L: ReadsJson<T>>(
     let mut items = Vec::new(alloc);
     state.block_open(alloc, input)?;
     'items: while !state.is_block_close() {
-        let item: T = ReadsJson::<T>::read_json(levels, alloc, state, input)?;
+        let item: T = ReadsJson::<T>::read_json(levels, left, alloc, state, input)?;
         let Ok(()) = items.push(item) else {
             return Err(state.err_memory(alloc));
         };
@@ -51,11 +52,12 @@ fn read_items<T: NestedJson + Drop, L: ReadsJson<T>>(
 impl<T: NestedJson + Drop, L: ReadsJson<T>> ReadsJson<Vec<T>> for L {
     fn read_json(
         &self,
+        left: usize,
         alloc: Global,
         state: &mut DeJsonState,
         input: &mut Chars<'_>,
     ) -> Result<Vec<T>, DeJsonErr> {
-        let read = read_items::<T, L>(self, alloc, state, input);
+        let read = read_items::<T, L>(self, left, alloc, state, input);
         end_on_error(state, read)
     }
 }

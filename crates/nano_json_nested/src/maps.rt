@@ -49,30 +49,32 @@ fn put_entry<K: Key + Ord + Drop, T: NestedJson + Drop>(
 /// Reads a key, a colon and a value.
 fn read_entry<K: DeJson, T: NestedJson + Drop, L: ReadsJson<T>>(
     levels: &L,
+    left: usize,
     alloc: Global,
     state: &mut DeJsonState,
     input: &mut Chars<'_>,
 ) -> Result<(K, T), DeJsonErr>
     ensures { Reads
-        (EncodesEntry K.json.encoding.encodes (T.at (L.left levels.now)).encoding.encodes)
+        (EncodesEntry K.json.encoding.encodes (T.at left).encoding.encodes)
         (pair_map K.means T.means)
         (position state.old input.old) (position state.new input.new) result }
 {
     let key = K::de_json(alloc, state, input)?;
     state.colon(alloc, input)?;
-    let value: T = ReadsJson::<T>::read_json(levels, alloc, state, input)?;
+    let value: T = ReadsJson::<T>::read_json(levels, left, alloc, state, input)?;
     Ok((key, value))
 }
 
 /// Reads keys with their values between braces.
 fn read_entries<K: DeJson + Key + Ord, T: NestedJson + Drop, L: ReadsJson<T>>(
     levels: &L,
+    left: usize,
     alloc: Global,
     state: &mut DeJsonState,
     input: &mut Chars<'_>,
 ) -> Result<BTreeMap<K, T>, DeJsonErr>
     ensures { Reads
-        (ordered_map_codec K.order K.cmp K.json (T.at (L.left levels.now))).encoding.encodes
+        (ordered_map_codec K.order K.cmp K.json (T.at left)).encoding.encodes
         (λ x. ordered_map_means K.cmp K.means T.means x.entries)
         (position state.old input.old) (position state.new input.new) result }
 {
@@ -81,7 +83,7 @@ fn read_entries<K: DeJson + Key + Ord, T: NestedJson + Drop, L: ReadsJson<T>>(
     let mut entries = BTreeMap::new(alloc);
     state.curly_open(alloc, input)?;
     'entries: while !state.is_curly_close() {
-        let (key, value) = read_entry::<K, T, L>(levels, alloc, state, input)?;
+        let (key, value) = read_entry::<K, T, L>(levels, left, alloc, state, input)?;
         let Ok(()) = put_entry(&mut entries, key, value) else {
             return Err(state.err_memory(alloc));
         };
@@ -94,11 +96,12 @@ fn read_entries<K: DeJson + Key + Ord, T: NestedJson + Drop, L: ReadsJson<T>>(
 impl<K: DeJson + Key + Ord, T: NestedJson + Drop, L: ReadsJson<T>> ReadsJson<BTreeMap<K, T>> for L {
     fn read_json(
         &self,
+        left: usize,
         alloc: Global,
         state: &mut DeJsonState,
         input: &mut Chars<'_>,
     ) -> Result<BTreeMap<K, T>, DeJsonErr> {
-        let read = read_entries::<K, T, L>(self, alloc, state, input);
+        let read = read_entries::<K, T, L>(self, left, alloc, state, input);
         end_on_error(state, read)
     }
 }

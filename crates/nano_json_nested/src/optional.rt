@@ -36,6 +36,7 @@ impl<N: Label, T: NestedJson + Drop, L: ReadsJson<T>> JsonFieldsWithin<L>
 
     fn read_field(
         levels: &L,
+        left: usize,
         name: &str,
         slots: &mut Option<T>,
         alloc: Global,
@@ -45,7 +46,9 @@ impl<N: Label, T: NestedJson + Drop, L: ReadsJson<T>> JsonFieldsWithin<L>
         if name != N::text() {
             return Ok(false);
         }
-        let value: Option<T> = ReadsJson::<Option<T>>::read_json(levels, alloc, state, input)?;
+        let value: Option<T> = ReadsJson::<Option<T>>::read_json(
+            levels, left, alloc, state, input,
+        )?;
         *slots = value;
         Ok(true)
     }

@@ -18,6 +18,7 @@ impl<T: NestedJson> NestedJson for Option<T> {
 impl<T: NestedJson, L: ReadsJson<T>> ReadsJson<Option<T>> for L {
     fn read_json(
         &self,
+        left: usize,
         alloc: Global,
         state: &mut DeJsonState,
         input: &mut Chars<'_>,
@@ -26,7 +27,7 @@ impl<T: NestedJson, L: ReadsJson<T>> ReadsJson<Option<T>> for L {
             state.next_tok(alloc, input)?;
             return Ok(None);
         }
-        let value: T = ReadsJson::<T>::read_json(self, alloc, state, input)?;
+        let value: T = ReadsJson::<T>::read_json(self, left, alloc, state, input)?;
         Ok(Some(value))
     }
 }

@@ -6,12 +6,11 @@ ghost use Rattle.nano_json_schema.specs.FieldCodecs.{fields_pair};
 ghost use Rattle.nano_grammar.proofs.FieldsLaws.{both_skip};
 
 use crate::fields::JsonFieldsWithin;
-use crate::traits::HasLevels;
 use nano_json::{DeJsonErr, DeJsonState};
 use std::alloc::Global;
 use std::str::Chars;
 
-impl<L: HasLevels, A: JsonFieldsWithin<L>, B: JsonFieldsWithin<L>> JsonFieldsWithin<L> for (A, B) {
+impl<L, A: JsonFieldsWithin<L>, B: JsonFieldsWithin<L>> JsonFieldsWithin<L> for (A, B) {
     type Values = (A::Values, B::Values);
 
     type Slots = (A::Slots, B::Slots);
@@ -35,16 +34,17 @@ impl<L: HasLevels, A: JsonFieldsWithin<L>, B: JsonFieldsWithin<L>> JsonFieldsWit
 
     fn read_field(
         levels: &L,
+        left: usize,
         name: &str,
         slots: &mut (A::Slots, B::Slots),
         alloc: Global,
         state: &mut DeJsonState,
         input: &mut Chars<'_>,
     ) -> Result<bool, DeJsonErr> {
-        if A::read_field(levels, name, &mut slots.0, alloc, state, input)? {
+        if A::read_field(levels, left, name, &mut slots.0, alloc, state, input)? {
             return Ok(true);
         }
-        B::read_field(levels, name, &mut slots.1, alloc, state, input)
+        B::read_field(levels, left, name, &mut slots.1, alloc, state, input)
     }
 
     fn values(

@@ -35,6 +35,7 @@ impl<N: Label, T: NestedJson + Drop, L: ReadsJson<T>> JsonFieldsWithin<L>
 
     fn read_field(
         levels: &L,
+        left: usize,
         name: &str,
         slots: &mut Option<T>,
         alloc: Global,
@@ -44,7 +45,7 @@ impl<N: Label, T: NestedJson + Drop, L: ReadsJson<T>> JsonFieldsWithin<L>
         if name != N::text() {
             return Ok(false);
         }
-        let value: T = ReadsJson::<T>::read_json(levels, alloc, state, input)?;
+        let value: T = ReadsJson::<T>::read_json(levels, left, alloc, state, input)?;
         *slots = Some(value);
         Ok(true)
     }

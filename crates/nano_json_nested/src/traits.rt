@@ -1,23 +1,8 @@
 //! What a type that contains itself is read by, and what it is written by.
 
-ghost use Rattle.nano_levels.specs.Chains.{left};
-
 use nano_json::{DeJsonErr, DeJsonState, JsonCodec, SerJsonState};
-use nano_levels::Levels;
 use std::alloc::{AllocError, Global};
 use std::str::Chars;
-
-/// What says how many levels of a type that contains itself may follow.
-pub trait HasLevels {
-    ghost use Rattle.std.specs.Prelude.{ℕ};
-
-    /// So many.
-    ghost left: { Self → ℕ };
-}
-
-impl HasLevels for Levels {
-    ghost left = { left };
-}
 
 /// A type that contains itself, or whose values hold values of such a type.
 pub trait NestedJson {
@@ -32,24 +17,26 @@ pub trait NestedJson {
     ghost at: { ℕ → Codec Self };
 }
 
-/// What reads values of a type from JSON: how many levels may follow.
-pub trait ReadsJson<T: NestedJson>: HasLevels {
+/// What reads values of a type from JSON: a chain of levels, along which a reader ends.
+pub trait ReadsJson<T: NestedJson> {
     ghost use Rattle.nano_json.specs.Outcomes.{position, ReadsOrEnds};
 
-    /// Reads the value that the tokens from the pending one on encode. The token after the
-    /// value is pending then, which may be the end.
+    /// Reads the value of at most `left` levels that the tokens from the pending one on encode. The
+    /// token after the value is pending then, which may be the end.
     ///
     /// # Errors
     ///
     /// No value of at most so many levels is encoded there with one more token or the end after it,
-    /// or memory ran out (`memory`). Every error leaves the state at the end of the text.
+    /// or memory ran out (`memory`), as it does where the chain is shorter. Every error leaves the
+    /// state at the end of the text.
     fn read_json(
         &self,
+        left: usize,
         alloc: Global,
         state: &mut DeJsonState,
         input: &mut Chars<'_>,
     ) -> Result<T, DeJsonErr>
-        ensures { ReadsOrEnds (T.at (Self.left self.now)).encoding.encodes T.means
+        ensures { ReadsOrEnds (T.at left).encoding.encodes T.means
             (position state.old input.old) (position state.new input.new) result };
 }
 

@@ -12,7 +12,7 @@ use Rattle.nano_json_nested.proofs.lists.read_items.Given as goal
 abbrev pub invariant-items : goal.invariant-items
 invariant-items g l =
     Filled json_laws blocks block_brackets (HoldItems g.T.NestedJson.means)
-    (g.T.NestedJson.at (g.L.HasLevels.left l.fn.levels)).encoding.encodes
+    (g.T.NestedJson.at l.fn.left).encoding.encodes
     (position l.fn.state l.fn.input) (position l.state l.input) l.items
 
 abbrev pub decreases-items : goal.decreases-items

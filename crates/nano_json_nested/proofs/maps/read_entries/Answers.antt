@@ -15,43 +15,43 @@ use Rattle.nano_json_nested.proofs.maps.read_entries.Goals as goal
 
 pub entries-init : goal.entries-init
 entries-init g c =
-    filled_none json_laws curlies curly_brackets (entry_laws g.K.JsonCodec.json.encoding.laws (g.T.NestedJson.at (g.L.HasLevels.left c.args.levels.now)).encoding.laws) (HeldEntries g.K.Ord.cmp g.K.Value.means g.T.NestedJson.means) c.new-entries.result (record { ordered = c.new-entries.ensures.ordered; same = ap (table_of g.K.Value.means g.T.NestedJson.means) c.new-entries.ensures.empty }) c.in_ok-curly_open.ensures
+    filled_none json_laws curlies curly_brackets (entry_laws g.K.JsonCodec.json.encoding.laws (g.T.NestedJson.at c.args.left).encoding.laws) (HeldEntries g.K.Ord.cmp g.K.Value.means g.T.NestedJson.means) c.new-entries.result (record { ordered = c.new-entries.ensures.ordered; same = ap (table_of g.K.Value.means g.T.NestedJson.means) c.new-entries.ensures.empty }) c.in_ok-curly_open.ensures
 
 pub entries-smaller : goal.entries-smaller
-entries-smaller g c = turn_shorter json_laws curlies curly_brackets (entry_laws g.K.JsonCodec.json.encoding.laws (g.T.NestedJson.at (g.L.HasLevels.left c.args.levels.now)).encoding.laws) c.in_ok-key.ensures c.in_ok-eat_comma_curly.ensures
+entries-smaller g c = turn_shorter json_laws curlies curly_brackets (entry_laws g.K.JsonCodec.json.encoding.laws (g.T.NestedJson.at c.args.left).encoding.laws) c.in_ok-key.ensures c.in_ok-eat_comma_curly.ensures
 
 pub entries-preserved : goal.entries-preserved
 entries-preserved g c =
-    filled_next json_laws curlies curly_brackets (entry_laws g.K.JsonCodec.json.encoding.laws (g.T.NestedJson.at (g.L.HasLevels.left c.args.levels.now)).encoding.laws) (HeldEntries g.K.Ord.cmp g.K.Value.means g.T.NestedJson.means) c.put_entry.new.entries c.entries.invariant c.in_ok-key.ensures c.in_ok-eat_comma_curly.ensures c.in-Ok.ensures
+    filled_next json_laws curlies curly_brackets (entry_laws g.K.JsonCodec.json.encoding.laws (g.T.NestedJson.at c.args.left).encoding.laws) (HeldEntries g.K.Ord.cmp g.K.Value.means g.T.NestedJson.means) c.put_entry.new.entries c.entries.invariant c.in_ok-key.ensures c.in_ok-eat_comma_curly.ensures c.in-Ok.ensures
 
 pub returns : goal.returns
 returns g c =
     let few = few_left c.args.state.now c.args.input.now (search (rules, c.bytes_left-capacity.ensures.value, c.bytes_left-capacity.ensures.small)) in
-    all_read json_laws curlies curly_brackets (entry_laws g.K.JsonCodec.json.encoding.laws (g.T.NestedJson.at (g.L.HasLevels.left c.args.levels.now)).encoding.laws) (HeldEntries g.K.Ord.cmp g.K.Value.means g.T.NestedJson.means) map_means (λ x. ordered_map_means g.K.Ord.cmp g.K.Value.means g.T.NestedJson.means x.entries) (λ x es held. ordered_table_is_whole held) few c.entries.invariant
+    all_read json_laws curlies curly_brackets (entry_laws g.K.JsonCodec.json.encoding.laws (g.T.NestedJson.at c.args.left).encoding.laws) (HeldEntries g.K.Ord.cmp g.K.Value.means g.T.NestedJson.means) map_means (λ x. ordered_map_means g.K.Ord.cmp g.K.Value.means g.T.NestedJson.means x.entries) (λ x es held. ordered_table_is_whole held) few c.entries.invariant
     c.in_ok-curly_close.ensures
 
 pub returns-in_default : goal.returns-in_default
 returns-in_default g c =
-    filled_no_more json_laws curlies curly_brackets (entry_laws g.K.JsonCodec.json.encoding.laws (g.T.NestedJson.at (g.L.HasLevels.left c.args.levels.now)).encoding.laws) (HeldEntries g.K.Ord.cmp g.K.Value.means g.T.NestedJson.means) c.entries.invariant c.in_ok-key.ensures c.err_memory.ensures.memory c.err_memory.ensures.made
+    filled_no_more json_laws curlies curly_brackets (entry_laws g.K.JsonCodec.json.encoding.laws (g.T.NestedJson.at c.args.left).encoding.laws) (HeldEntries g.K.Ord.cmp g.K.Value.means g.T.NestedJson.means) c.entries.invariant c.in_ok-key.ensures c.err_memory.ensures.memory c.err_memory.ensures.made
 
 pub returns-in_err-curly_open : goal.returns-in_err-curly_open
 returns-in_err-curly_open g c =
     passed_on _ _ c.from_residual.result c.from_residual.ensures.1
-    (opening_not json_laws curlies curly_brackets (entry_laws g.K.JsonCodec.json.encoding.laws (g.T.NestedJson.at (g.L.HasLevels.left c.args.levels.now)).encoding.laws) (HeldEntries g.K.Ord.cmp g.K.Value.means g.T.NestedJson.means) map_means c.in_err-curly_open.ensures.fails)
+    (opening_not json_laws curlies curly_brackets (entry_laws g.K.JsonCodec.json.encoding.laws (g.T.NestedJson.at c.args.left).encoding.laws) (HeldEntries g.K.Ord.cmp g.K.Value.means g.T.NestedJson.means) map_means c.in_err-curly_open.ensures.fails)
 
 pub returns-in_err-key : goal.returns-in_err-key
 returns-in_err-key g c =
     let other = not_curly (pending c.entries.state) (sym c.entries-test.ensures) in
     passed_on _ _ c.from_residual-in_err-key.result c.from_residual-in_err-key.ensures.1
-    (item_not json_laws curlies curly_brackets (entry_laws g.K.JsonCodec.json.encoding.laws (g.T.NestedJson.at (g.L.HasLevels.left c.args.levels.now)).encoding.laws) (HeldEntries g.K.Ord.cmp g.K.Value.means g.T.NestedJson.means) map_means c.entries.invariant other c.in_err-key.ensures)
+    (item_not json_laws curlies curly_brackets (entry_laws g.K.JsonCodec.json.encoding.laws (g.T.NestedJson.at c.args.left).encoding.laws) (HeldEntries g.K.Ord.cmp g.K.Value.means g.T.NestedJson.means) map_means c.entries.invariant other c.in_err-key.ensures)
 
 pub returns-in_err-eat_comma_curly : goal.returns-in_err-eat_comma_curly
 returns-in_err-eat_comma_curly g c =
     passed_on _ _ c.from_residual-in_err-eat_comma_curly.result c.from_residual-in_err-eat_comma_curly.ensures.1
-    (comma_not json_laws curlies curly_brackets (entry_laws g.K.JsonCodec.json.encoding.laws (g.T.NestedJson.at (g.L.HasLevels.left c.args.levels.now)).encoding.laws) (HeldEntries g.K.Ord.cmp g.K.Value.means g.T.NestedJson.means) map_means c.entries.invariant c.in_ok-key.ensures c.in_err-eat_comma_curly.ensures.1.fails)
+    (comma_not json_laws curlies curly_brackets (entry_laws g.K.JsonCodec.json.encoding.laws (g.T.NestedJson.at c.args.left).encoding.laws) (HeldEntries g.K.Ord.cmp g.K.Value.means g.T.NestedJson.means) map_means c.entries.invariant c.in_ok-key.ensures c.in_err-eat_comma_curly.ensures.1.fails)
 
 pub returns-in_err-curly_close : goal.returns-in_err-curly_close
 returns-in_err-curly_close g c =
     let closing = curly_is (pending c.entries.state) (sym c.entries-test.ensures) in
     passed_on _ _ c.from_residual-in_err-curly_close.result c.from_residual-in_err-curly_close.ensures.1
-    (closing_not json_laws curlies curly_brackets (entry_laws g.K.JsonCodec.json.encoding.laws (g.T.NestedJson.at (g.L.HasLevels.left c.args.levels.now)).encoding.laws) (HeldEntries g.K.Ord.cmp g.K.Value.means g.T.NestedJson.means) map_means c.entries.invariant closing c.in_err-curly_close.ensures.fails)
+    (closing_not json_laws curlies curly_brackets (entry_laws g.K.JsonCodec.json.encoding.laws (g.T.NestedJson.at c.args.left).encoding.laws) (HeldEntries g.K.Ord.cmp g.K.Value.means g.T.NestedJson.means) map_means c.entries.invariant closing c.in_err-curly_close.ensures.fails)

@@ -12,7 +12,7 @@ use Rattle.nano_json_nested.proofs.maps.read_entries.Given as goal
 
 abbrev pub invariant-entries : goal.invariant-entries
 invariant-entries g l =
-    Filled json_laws curlies curly_brackets (HeldEntries g.K.Ord.cmp g.K.Value.means g.T.NestedJson.means) (EncodesEntry g.K.JsonCodec.json.encoding.encodes (g.T.NestedJson.at (g.L.HasLevels.left l.fn.levels)).encoding.encodes) (position l.fn.state l.fn.input) (position l.state l.input) l.entries
+    Filled json_laws curlies curly_brackets (HeldEntries g.K.Ord.cmp g.K.Value.means g.T.NestedJson.means) (EncodesEntry g.K.JsonCodec.json.encoding.encodes (g.T.NestedJson.at l.fn.left).encoding.encodes) (position l.fn.state l.fn.input) (position l.state l.input) l.entries
 
 abbrev pub decreases-entries : goal.decreases-entries
 decreases-entries g l = tokens_left is_end (at l.state l.input)

@@ -11,7 +11,7 @@ use Rattle.nano_json_nested.proofs.read.read_any.Goals as goal
 
 pub returns : goal.returns
 returns g c =
-    let shape = (g.F.JsonFieldsWithin.codec (g.L.HasLevels.left c.args.levels.now)).struct.shape in
+    let shape = (g.F.JsonFieldsWithin.codec c.args.left).struct.shape in
     let head =
     subst (λ (n : List ℕ). TookColon None (position c.args.state.now c.args.input.now) (position c.take_name.new.state c.take_name.new.input) n)
     (sym c.as_str.ensures.value) (colon_taken {name = None} (string_bytes c.in_ok-name.name) refl c.in_ok-name.ensures) in
@@ -22,4 +22,4 @@ returns g c =
 pub returns-in_err-name : goal.returns-in_err-name
 returns-in_err-name g c =
     passed_on _ _ c.from_residual.result c.from_residual.ensures.1
-    (name_not (g.F.JsonFieldsWithin.codec (g.L.HasLevels.left c.args.levels.now)).struct.shape c.in_err-name.ensures)
+    (name_not (g.F.JsonFieldsWithin.codec c.args.left).struct.shape c.in_err-name.ensures)

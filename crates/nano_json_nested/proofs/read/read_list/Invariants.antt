@@ -9,7 +9,7 @@ use Rattle.nano_json_nested.proofs.read.read_list.Given as goal
 
 abbrev pub invariant-fields : goal.invariant-fields
 invariant-fields g l =
-    SoFar passed_over (g.F.JsonFieldsWithin.codec (g.L.HasLevels.left l.fn.levels)).struct (g.F.JsonFieldsWithin.holds (g.L.HasLevels.left l.fn.levels) l.slots) (position l.fn.state l.fn.input) (position l.state l.input) None
+    SoFar passed_over (g.F.JsonFieldsWithin.codec l.fn.left).struct (g.F.JsonFieldsWithin.holds l.fn.left l.slots) (position l.fn.state l.fn.input) (position l.state l.input) None
 
 abbrev pub decreases-fields : goal.decreases-fields
 decreases-fields g l = tokens_left json_laws.is_end (at l.state l.input)

@@ -7,23 +7,23 @@ use Rattle.nano_json_nested.proofs.choices.Tuple2VariantJsonChoicesWithin.read.G
 pub returns-in-Ok : goal.returns-in-Ok
 returns-in-Ok g c =
     let it = sym c.is_named.ensures ∙ c.if-is_named.true in
-    let named = rw (c.stands_alone.ensures (g.L.HasLevels.left c.args.levels.now), c.text.ensures) at it in
-    first_read json_variants (g.S.JsonContentWithin.rest (g.L.HasLevels.left c.args.levels.now)) g.N.Label.label (is_alone c.args.name.now) (bytes_of c.args.name.now) (g.C.JsonChoicesWithin.encodes (g.L.HasLevels.left c.args.levels.now)) named c.in-Ok.ensures
+    let named = rw (c.stands_alone.ensures c.args.left, c.text.ensures) at it in
+    first_read json_variants (g.S.JsonContentWithin.rest c.args.left) g.N.Label.label (is_alone c.args.name.now) (bytes_of c.args.name.now) (g.C.JsonChoicesWithin.encodes c.args.left) named c.in-Ok.ensures
 
 pub returns-in-Err : goal.returns-in-Err
 returns-in-Err g c =
     let it = sym c.is_named.ensures ∙ c.if-is_named.true in
-    let named = rw (c.stands_alone.ensures (g.L.HasLevels.left c.args.levels.now), c.text.ensures) at it in
-    first_not json_variants (g.S.JsonContentWithin.rest (g.L.HasLevels.left c.args.levels.now)) g.N.Label.label (is_alone c.args.name.now) (bytes_of c.args.name.now) (g.C.JsonChoicesWithin.encodes (g.L.HasLevels.left c.args.levels.now)) named c.in-Err.ensures
+    let named = rw (c.stands_alone.ensures c.args.left, c.text.ensures) at it in
+    first_not json_variants (g.S.JsonContentWithin.rest c.args.left) g.N.Label.label (is_alone c.args.name.now) (bytes_of c.args.name.now) (g.C.JsonChoicesWithin.encodes c.args.left) named c.in-Err.ensures
 
 pub returns-in-Ok-read : goal.returns-in-Ok-read
 returns-in-Ok-read g c =
     let it = sym c.is_named.ensures ∙ c.if-is_named.false in
-    let other = rw (c.stands_alone.ensures (g.L.HasLevels.left c.args.levels.now), c.text.ensures) at it in
-    later_read json_variants (g.S.JsonContentWithin.rest (g.L.HasLevels.left c.args.levels.now)) g.N.Label.label (is_alone c.args.name.now) (bytes_of c.args.name.now) (g.C.JsonChoicesWithin.encodes (g.L.HasLevels.left c.args.levels.now)) other c.in-Ok-read.ensures
+    let other = rw (c.stands_alone.ensures c.args.left, c.text.ensures) at it in
+    later_read json_variants (g.S.JsonContentWithin.rest c.args.left) g.N.Label.label (is_alone c.args.name.now) (bytes_of c.args.name.now) (g.C.JsonChoicesWithin.encodes c.args.left) other c.in-Ok-read.ensures
 
 pub returns-in-Err-read : goal.returns-in-Err-read
 returns-in-Err-read g c =
     let it = sym c.is_named.ensures ∙ c.if-is_named.false in
-    let other = rw (c.stands_alone.ensures (g.L.HasLevels.left c.args.levels.now), c.text.ensures) at it in
-    later_not json_variants (g.S.JsonContentWithin.rest (g.L.HasLevels.left c.args.levels.now)) g.N.Label.label (is_alone c.args.name.now) (bytes_of c.args.name.now) (g.C.JsonChoicesWithin.encodes (g.L.HasLevels.left c.args.levels.now)) other c.in-Err-read.ensures
+    let other = rw (c.stands_alone.ensures c.args.left, c.text.ensures) at it in
+    later_not json_variants (g.S.JsonContentWithin.rest c.args.left) g.N.Label.label (is_alone c.args.name.now) (bytes_of c.args.name.now) (g.C.JsonChoicesWithin.encodes c.args.left) other c.in-Err-read.ensures

@@ -10,8 +10,8 @@ use Rattle.nano_json_nested.proofs.choices.VariantJsonChoicesWithin.read.Goals a
 pub returns-then-is_named : goal.returns-then-is_named
 returns-then-is_named g c =
     let it = sym c.is_named.ensures ∙ c.if-is_named.true in
-    let named = rw (c.stands_alone.ensures (g.L.HasLevels.left c.args.levels.now), c.text.ensures) at it in
-    let rest = (g.S.JsonContentWithin.rest (g.L.HasLevels.left c.args.levels.now)) in
+    let named = rw (c.stands_alone.ensures c.args.left, c.text.ensures) at it in
+    let rest = (g.S.JsonContentWithin.rest c.args.left) in
     let stood = is_alone c.args.name.now in
     let name = bytes_of c.args.name.now in
     MatchResult-weaker c.read.result c.read.ensures
@@ -21,5 +21,5 @@ returns-then-is_named g c =
 pub returns : goal.returns
 returns g c =
     let it = sym c.is_named.ensures ∙ c.if-is_named.false in
-    let other = rw (c.stands_alone.ensures (g.L.HasLevels.left c.args.levels.now), c.text.ensures) at it in
-    none_has_it json_variants (g.S.JsonContentWithin.rest (g.L.HasLevels.left c.args.levels.now)) g.N.Label.label (is_alone c.args.name.now) (bytes_of c.args.name.now) other refl c.unknown.ensures.says (gives_up c.args.state.now c.unknown.new.state c.args.input.now c.unknown.ensures.state)
+    let other = rw (c.stands_alone.ensures c.args.left, c.text.ensures) at it in
+    none_has_it json_variants (g.S.JsonContentWithin.rest c.args.left) g.N.Label.label (is_alone c.args.name.now) (bytes_of c.args.name.now) other refl c.unknown.ensures.says (gives_up c.args.state.now c.unknown.new.state c.args.input.now c.unknown.ensures.state)

@@ -7,14 +7,14 @@ use Rattle.nano_json_nested.proofs.contents.StructJsonContentWithin.read.Goals a
 
 pub returns-in-Ok : goal.returns-in-Ok
 returns-in-Ok g c =
-    content_read json_variants (fields_of json_fields (g.F.JsonFieldsWithin.codec (g.L.HasLevels.left c.args.levels.now)).struct).encodes c.in_ok-values.ensures c.in-Ok.ensures
+    content_read json_variants (fields_of json_fields (g.F.JsonFieldsWithin.codec c.args.left).struct).encodes c.in_ok-values.ensures c.in-Ok.ensures
 
 pub returns-in-Err : goal.returns-in-Err
 returns-in-Err g c =
-    let s = fields_of json_fields (g.F.JsonFieldsWithin.codec (g.L.HasLevels.left c.args.levels.now)).struct in
+    let s = fields_of json_fields (g.F.JsonFieldsWithin.codec c.args.left).struct in
     closing_not json_variants s.encodes s.laws c.in_ok-values.ensures c.in-Err.ensures
 
 pub returns-in_err-values : goal.returns-in_err-values
 returns-in_err-values g c =
     passed_on _ _ c.from_residual.result c.from_residual.ensures.1
-    (content_not json_variants (fields_of json_fields (g.F.JsonFieldsWithin.codec (g.L.HasLevels.left c.args.levels.now)).struct).encodes c.in_err-values.ensures)
+    (content_not json_variants (fields_of json_fields (g.F.JsonFieldsWithin.codec c.args.left).struct).encodes c.in_err-values.ensures)

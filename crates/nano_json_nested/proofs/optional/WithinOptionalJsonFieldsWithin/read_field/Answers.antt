@@ -16,11 +16,11 @@ returns g c =
     let name = c.args.name.now in
     let named = is_this_name name c.text.result.now name g.N.Label.label c.ne.result refl c.text.ensures c.ne.ensures c.if-ne.false in
     let value = c.in_ok-value.ensures in
-    looked_up Cut [] name (optional_field g.N.Label.label (g.T.NestedJson.at (g.L.HasLevels.left c.args.levels.now))).struct.shape named (last_read Cut [] name named (λ fs h. inr h) (at_once Cut value))
+    looked_up Cut [] name (optional_field g.N.Label.label (g.T.NestedJson.at c.args.left)).struct.shape named (last_read Cut [] name named (λ fs h. inr h) (at_once Cut value))
 
 pub returns-in_err-value : goal.returns-in_err-value
 returns-in_err-value g c =
     let name = c.args.name.now in
     let named = is_this_name name c.text.result.now name g.N.Label.label c.ne.result refl c.text.ensures c.ne.ensures c.if-ne.false in
     passed_on _ _ c.from_residual.result c.from_residual.ensures.1
-    (looked_up_none Cut [] name (optional_field g.N.Label.label (g.T.NestedJson.at (g.L.HasLevels.left c.args.levels.now))).struct.shape named (last_not Cut [] name (not_at_once Cut c.in_err-value.ensures.fails)))
+    (looked_up_none Cut [] name (optional_field g.N.Label.label (g.T.NestedJson.at c.args.left)).struct.shape named (last_not Cut [] name (not_at_once Cut c.in_err-value.ensures.fails)))

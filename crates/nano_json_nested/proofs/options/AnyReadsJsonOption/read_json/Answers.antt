@@ -7,22 +7,22 @@ use Rattle.nano_json_nested.proofs.options.AnyReadsJsonOption.read_json.Goals as
 
 pub returns-then-is_null : goal.returns-then-is_null
 returns-then-is_null g c =
-    none_read json_laws (g.T.NestedJson.at (g.L.HasLevels.left c.args.self.now)).encoding.encodes (is_the_null (pending c.args.state.now) (sym c.if-is_null.ensures)) c.in_ok-next_tok.ensures
+    none_read json_laws (g.T.NestedJson.at c.args.left).encoding.encodes (is_the_null (pending c.args.state.now) (sym c.if-is_null.ensures)) c.in_ok-next_tok.ensures
 
 pub returns : goal.returns
 returns g c =
-    let s = (g.T.NestedJson.at (g.L.HasLevels.left c.args.self.now)).encoding in
+    let s = (g.T.NestedJson.at c.args.left).encoding in
     some_read json_laws s.encodes (g.T.NestedJson.means c.in_ok-value.value) s.laws.begins (not_null (pending c.args.state.now) (sym c.if-is_null.ensures)) c.in_ok-value.ensures
 
 pub returns-in_err-next_tok : goal.returns-in_err-next_tok
 returns-in_err-next_tok g c =
     let h = c.in_err-next_tok.ensures in
     passed_on _ _ c.from_residual.result c.from_residual.ensures.1
-    (record { fails = none_stopped json_laws (g.T.NestedJson.at (g.L.HasLevels.left c.args.self.now)).encoding.encodes refl h.fails; ended = h.ended })
+    (record { fails = none_stopped json_laws (g.T.NestedJson.at c.args.left).encoding.encodes refl h.fails; ended = h.ended })
 
 pub returns-in_err-value : goal.returns-in_err-value
 returns-in_err-value g c =
     let other = not_null (pending c.args.state.now) (sym c.if-is_null.ensures) in
     let h = c.in_err-value.ensures in
     passed_on _ _ c.from_residual-in_err-value.result c.from_residual-in_err-value.ensures.1
-    (record { fails = some_not json_laws (g.T.NestedJson.at (g.L.HasLevels.left c.args.self.now)).encoding.encodes other h.fails; ended = h.ended })
+    (record { fails = some_not json_laws (g.T.NestedJson.at c.args.left).encoding.encodes other h.fails; ended = h.ended })
