@@ -2,4 +2,3 @@ mod Trees
 mod Expressions
 mod Chains
 mod Folders
-mod TreesJson
