@@ -1,0 +1,4 @@
+pub mod ListReaders
+pub mod FieldReaders
+pub mod MapReaders
+pub mod NestedLaws
