@@ -1,0 +1,3 @@
+pub mod ListReaders
+pub mod MapReaders
+pub mod NestedLaws

@@ -1,0 +1,128 @@
+//! A field that has a default where it is missing, whose value holds values of the type that has
+//! the field.
+
+ghost use Rattle.std.specs.Prelude.{◌≡◌, ℕ, IfOk};
+ghost use Rattle.std.specs.Option.{option_map};
+ghost use Rattle.nano_value.specs.Meaning.{Meaning, nothing};
+ghost use Rattle.nano_ron_schema.specs.FieldCodecs.{defaulted_field};
+ghost use Rattle.nano_ron_schema.specs.Outcomes.{GivesDefault};
+ghost use Rattle.nano_grammar.specs.Fields.{HasEncoding, Holds};
+ghost use Rattle.nano_grammar.proofs.FieldsLaws.{holds_skips};
+ghost use Rattle.nano_ron_nested.specs.DefaultImpls.{no_item_is_encoded, no_items_are_encoded};
+ghost use Rattle.nano_ron_nested.specs.DefaultImpls.{no_entries_are_encoded};
+
+use crate::contents::Within;
+use crate::fields::RonFieldsWithin;
+use crate::read::read_named;
+use crate::traits::{NestedRon, ReadsRon};
+use nano_ron::{DeRonErr, DeRonState, RonCodec};
+use nano_schema::{Defaulted, Label, TypeDefault};
+use nano_value::Key;
+use std::alloc::{AllocError, Global};
+use std::collections::BTreeMap;
+use std::str::Chars;
+
+/// The value of a field that is missing, which would hold values of the type that has the field.
+pub trait RonDefaultWithin<T: NestedRon> {
+    /// What it means.
+    ghost missing: { Meaning };
+
+    /// The value.
+    fn default(alloc: Global) -> Result<T, AllocError>
+        ensures { IfOk result (λ value. T.means value ≡ missing) };
+
+    /// It is encoded, however many levels may follow.
+    ghost is_encoded: { (levels : ℕ) → HasEncoding (T.at levels).encoding.encodes missing };
+}
+
+impl<T: NestedRon> RonDefaultWithin<Option<T>> for TypeDefault {
+    ghost missing = { nothing };
+
+    ghost is_encoded = { λ levels. no_item_is_encoded (T.at levels) };
+
+    fn default(_alloc: Global) -> Result<Option<T>, AllocError> {
+        Ok(None)
+    }
+}
+
+impl<T: NestedRon> RonDefaultWithin<Vec<T>> for TypeDefault {
+    ghost missing = { nothing };
+
+    ghost is_encoded = { λ levels. no_items_are_encoded (T.at levels) };
+
+    fn default(alloc: Global) -> Result<Vec<T>, AllocError> {
+        Ok(Vec::new(alloc))
+    }
+}
+
+impl<K: RonCodec + Key + Ord, T: NestedRon> RonDefaultWithin<BTreeMap<K, T>> for TypeDefault {
+    ghost missing = { nothing };
+
+    ghost is_encoded = { λ levels. no_entries_are_encoded K.order K.cmp K.ron (T.at levels) };
+
+    fn default(alloc: Global) -> Result<BTreeMap<K, T>, AllocError> {
+        Ok(BTreeMap::new(alloc))
+    }
+}
+
+/// The default in the place of a field that is missing.
+fn missing<T: NestedRon + Drop, D: RonDefaultWithin<T>>(
+    alloc: Global,
+    state: &DeRonState,
+) -> Result<T, DeRonErr>
+    ensures { (levels : ℕ) → GivesDefault (T.at levels).encoding.encodes T.means D.missing
+        state.now result }
+{
+    match D::default(alloc) {
+        Ok(value) => Ok(value),
+        Err(_error) => Err(state.err_memory(alloc)),
+    }
+}
+
+impl<N: Label, T: NestedRon + Drop, D: RonDefaultWithin<T>, L: ReadsRon<T>> RonFieldsWithin<L>
+    for Within<Defaulted<N, T, D>> {
+    type Values = T;
+
+    type Slots = Option<T>;
+
+    ghost codec = { λ levels. defaulted_field N.label (T.at levels) D.missing };
+
+    ghost means = { T.means };
+
+    ghost holds = { λ levels slot.
+        Holds N.label (T.at levels).encoding.encodes (option_map T.means slot) };
+
+    ghost skips = { λ levels slot. holds_skips N.label (T.at levels).encoding.encodes
+        (option_map T.means slot) };
+
+    fn empty() -> Option<T> {
+        None
+    }
+
+    fn read_field(
+        levels: &L,
+        left: usize,
+        slots: &mut Option<T>,
+        alloc: Global,
+        state: &mut DeRonState,
+        input: &mut Chars<'_>,
+    ) -> Result<bool, DeRonErr> {
+        if state.identbuf.as_str() != N::text() {
+            return Ok(false);
+        }
+        let value: T = read_named::<T, L>(levels, left, alloc, state, input)?;
+        *slots = Some(value);
+        Ok(true)
+    }
+
+    fn values(slots: Option<T>, alloc: Global, state: &DeRonState) -> Result<T, DeRonErr> {
+        match slots {
+            Some(value) => Ok(value),
+            None => missing::<T, D>(alloc, state),
+        }
+    }
+
+    fn discard(_slots: Option<T>) {}
+
+    fn discard_values(_values: T) {}
+}

@@ -1,0 +1,30 @@
+//! Where no more levels may follow.
+
+ghost use Rattle.nano_ron_nested.specs.Depth.{RejectsDepth, RunsOut};
+
+use nano_ron::{DeRonErr, DeRonState};
+use std::alloc::Global;
+
+/// The error of a value inside as many others as may be: `Value out of range levels>128 `, at the
+/// pending token. It leaves the state at the end of the text.
+#[cold]
+#[inline(never)]
+pub fn too_deep(alloc: Global, state: &mut DeRonState) -> DeRonErr
+    ensures { RejectsDepth state.old state.new result }
+{
+    let error = state.err_range(alloc, "levels>128");
+    state.fail();
+    error
+}
+
+/// The error where an environment has no level left though more may follow: out of memory. It
+/// leaves the state at the end of the text.
+#[cold]
+#[inline(never)]
+pub fn no_levels(alloc: Global, state: &mut DeRonState) -> DeRonErr
+    ensures { RunsOut state.old state.new result }
+{
+    let error = state.err_memory(alloc);
+    state.fail();
+    error
+}

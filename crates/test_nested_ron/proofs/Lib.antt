@@ -1,0 +1,2 @@
+mod Trees
+mod Folders

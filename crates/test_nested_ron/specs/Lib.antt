@@ -1,0 +1,2 @@
+pub mod TreeRonCodecs
+pub mod FolderRonCodecs
