@@ -24,7 +24,7 @@ pub use choice::read_choice_json_within;
 pub use choices::JsonChoicesWithin;
 pub use contents::{JsonContentWithin, Other, Within};
 pub use depth::{no_levels, too_deep};
-pub use field_writer::append_field_within;
+pub use field_writer::{append_optional_within, append_required_within};
 pub use fields::JsonFieldsWithin;
 pub use nano_json::{BothJson, DeJson, DeJsonErr, DeJsonState, JsonCodec, SerJson, SerJsonState};
 pub use nano_levels::Levels;

@@ -1,4 +1,5 @@
 mod Trees
+mod TreesJson
 mod Expressions
 mod Chains
 mod Folders
