@@ -1,5 +1,8 @@
 mod Trees
 mod TreesJson
+mod ChainsJson
+mod FoldersJson
+mod MenusJson
 mod Expressions
 mod Chains
 mod Folders

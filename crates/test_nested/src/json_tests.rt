@@ -1,8 +1,8 @@
 //! Types that contain themselves in JSON.
 
-use crate::Tree;
 use crate::checks::holds;
-use nano_json_nested::{DeJson, SerJson};
+use crate::{Chain, Folder, Menu, Tree};
+use nano_json_nested::{BothJson, DeJson};
 use std::alloc::{AllocError, Global};
 
 const TREES: &[&str] = &[
@@ -13,71 +13,127 @@ const TREES: &[&str] = &[
 
 /// Texts that are no tree, with the column and the words of the error.
 const NO_TREES: &[(&str, usize, &str)] = &[
-    ("7", 1, "Unexpected token U64 expected String or { "),
-    (r#"{"Twig":[1]}"#, 9, "Enum not defined Twig"),
+    ("7", 1, "Unexpected token U64(7) expected String or { "),
+    (r#"{"Twig":[1]}"#, 10, "Enum not defined Twig"),
     (
         r#"{"Node":[[{"Leaf":[true]}]]}"#,
-        23,
-        "Unexpected token Bool(true) expected U64 or I64 ",
+        24,
+        "Unexpected token Bool(true) expected signed integer ",
     ),
 ];
 
-/// Trees one in the other, of so many levels.
-fn nested(alloc: Global, levels: usize) -> Result<String, AllocError> {
+const CHAINS: &[&str] = &[
+    r#"{"number":5}"#,
+    r#"{"number":5,"next":{"number":6,"next":{"number":7}}}"#,
+];
+
+const NO_CHAINS: &[(&str, usize, &str)] = &[
+    (r#"{"next":{"number":6}}"#, 21, "Key not found number"),
+    (
+        r#"{"number":5,"next":7}"#,
+        21,
+        "Unexpected token U64(7) expected { ",
+    ),
+];
+
+const FOLDERS: &[&str] = &[
+    r#"{"name":"a","folders":[]}"#,
+    r#"{"name":"b","folders":[{"name":"a","folders":[]},{"name":"c","folders":[]}]}"#,
+];
+
+const NO_FOLDERS: &[(&str, usize, &str)] = &[
+    (r#"{"name":"a"}"#, 12, "Key not found folders"),
+    (
+        r#"{"name":"a","folders":[{"name":1}]}"#,
+        33,
+        "Unexpected token U64(1) expected string ",
+    ),
+];
+
+const MENUS: &[&str] = &[
+    r#"{"title":"a","entries":{}}"#,
+    r#"{"title":"a","entries":{"b":{"title":"","entries":{}},"c":{"title":"d","entries":{}}}}"#,
+];
+
+const NO_MENUS: &[(&str, usize, &str)] = &[
+    (r#"{"title":"a"}"#, 13, "Key not found entries"),
+    (
+        r#"{"title":"a","entries":{"b":{"title":1}}}"#,
+        39,
+        "Unexpected token U64(1) expected string ",
+    ),
+];
+
+/// A value in others, so many levels in all.
+fn nested(
+    alloc: Global,
+    levels: usize,
+    opening: &str,
+    innermost: &str,
+    closing: &str,
+) -> Result<String, AllocError> {
     let mut text = String::new(alloc);
     for _ in 1..levels {
-        text.push_str(r#"{"Node":[["#)?;
+        text.push_str(opening)?;
     }
-    text.push_str(r#"{"Leaf":[4]}"#)?;
+    text.push_str(innermost)?;
     for _ in 1..levels {
-        text.push_str("]]}")?;
+        text.push_str(closing)?;
     }
     Ok(text)
 }
 
-/// It is a tree, which is written as the same text.
-fn is_read_back(alloc: Global, text: &str) -> bool {
-    let Ok(tree) = Tree::deserialize_json_whole(alloc, text) else {
+/// All of the text is a value, which is written as the same text.
+fn is_read_back<T: BothJson>(alloc: Global, text: &str) -> bool {
+    let Ok(value) = T::deserialize_json_whole(alloc, text) else {
         return false;
     };
-    match tree.serialize_json(alloc) {
+    match value.serialize_json(alloc) {
         Ok(written) => written.as_str() == text,
         Err(_error) => false,
     }
 }
 
-/// It is no tree, which is reported in this column with these words.
-fn is_rejected(alloc: Global, text: &str, column: usize, words: &str) -> bool {
-    match Tree::deserialize_json(alloc, text) {
-        Ok(_tree) => false,
+/// No value is there, which is reported in this column with these words.
+fn is_rejected<T: DeJson>(alloc: Global, text: &str, column: usize, words: &str) -> bool {
+    match T::deserialize_json(alloc, text) {
+        Ok(_value) => false,
         Err(error) => error.line == 0 && error.col == column && error.msg.as_str() == words,
     }
 }
 
-fn is_read(alloc: Global, levels: usize) -> bool {
-    match nested(alloc, levels) {
-        Ok(text) => is_read_back(alloc, text.as_str()),
-        Err(_error) => false,
-    }
-}
-
-fn is_too_deep(alloc: Global, levels: usize, column: usize) -> bool {
-    match nested(alloc, levels) {
-        Ok(text) => is_rejected(
-            alloc,
-            text.as_str(),
-            column,
-            "Value out of range levels>128 ",
-        ),
-        Err(_error) => false,
-    }
+/// 128 levels are a value, and 129 are too deep, which is reported in this column.
+fn ends_at_128<T: BothJson>(
+    alloc: Global,
+    opening: &str,
+    innermost: &str,
+    closing: &str,
+    column: usize,
+) -> bool {
+    let Ok(most) = nested(alloc, 128, opening, innermost, closing) else {
+        return false;
+    };
+    let Ok(more) = nested(alloc, 129, opening, innermost, closing) else {
+        return false;
+    };
+    let words = "Value out of range levels>128 ";
+    is_read_back::<T>(alloc, most.as_str()) && is_rejected::<T>(alloc, more.as_str(), column, words)
 }
 
 #[test]
-fn trees_are_written_and_read_back(rt: HostRuntime) {
+fn values_are_read_and_written_back(rt: HostRuntime) {
     let alloc = rt.alloc();
     for text in TREES {
-        holds(&rt, is_read_back(alloc, text), "a row");
+        holds(&rt, is_read_back::<Tree>(alloc, text), "a tree");
+    }
+    for text in CHAINS {
+        holds(&rt, is_read_back::<Chain>(alloc, text), "a chain");
+    }
+    for text in FOLDERS {
+        holds(&rt, is_read_back::<Folder>(alloc, text), "a folder");
+    }
+    for text in MENUS {
+        holds(&rt, is_read_back::<Menu>(alloc, text), "a menu");
     }
 }
 
@@ -85,13 +141,62 @@ fn trees_are_written_and_read_back(rt: HostRuntime) {
 fn other_texts_are_rejected_where_they_differ(rt: HostRuntime) {
     let alloc = rt.alloc();
     for (text, column, words) in NO_TREES {
-        holds(&rt, is_rejected(alloc, text, *column, words), "a row");
+        holds(
+            &rt,
+            is_rejected::<Tree>(alloc, text, *column, words),
+            "a tree",
+        );
+    }
+    for (text, column, words) in NO_CHAINS {
+        holds(
+            &rt,
+            is_rejected::<Chain>(alloc, text, *column, words),
+            "a chain",
+        );
+    }
+    for (text, column, words) in NO_FOLDERS {
+        holds(
+            &rt,
+            is_rejected::<Folder>(alloc, text, *column, words),
+            "a folder",
+        );
+    }
+    for (text, column, words) in NO_MENUS {
+        holds(
+            &rt,
+            is_rejected::<Menu>(alloc, text, *column, words),
+            "a menu",
+        );
     }
 }
 
 #[test]
-fn levels_of_json_run_out_after_128(rt: HostRuntime) {
+fn levels_run_out_after_128(rt: HostRuntime) {
     let alloc = rt.alloc();
-    holds(&rt, is_read(alloc, 128), "128 levels");
-    holds(&rt, is_too_deep(alloc, 129, 1281), "129 levels");
+    let trees = ends_at_128::<Tree>(alloc, r#"{"Node":[["#, r#"{"Leaf":[4]}"#, "]]}", 1282);
+    holds(&rt, trees, "trees");
+    let chains = ends_at_128::<Chain>(
+        alloc,
+        r#"{"number":1,"next":"#,
+        r#"{"number":2}"#,
+        "}",
+        2434,
+    );
+    holds(&rt, chains, "chains");
+    let folders = ends_at_128::<Folder>(
+        alloc,
+        r#"{"name":"a","folders":["#,
+        r#"{"name":"b","folders":[]}"#,
+        "]}",
+        2946,
+    );
+    holds(&rt, folders, "folders");
+    let menus = ends_at_128::<Menu>(
+        alloc,
+        r#"{"title":"a","entries":{"b":"#,
+        r#"{"title":"c","entries":{}}"#,
+        "}}",
+        3586,
+    );
+    holds(&rt, menus, "menus");
 }
