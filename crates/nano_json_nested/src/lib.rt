@@ -15,6 +15,7 @@ mod maps;
 mod optional;
 mod options;
 mod pairs;
+mod parts;
 mod read;
 mod required;
 mod traits;
@@ -30,6 +31,7 @@ pub use nano_json::{
     BothJson, DeJson, DeJsonErr, DeJsonState, JsonCodec, SerJson, SerJsonState, rollback_on_error,
 };
 pub use nano_levels::Levels;
+pub use parts::JsonPartsWithin;
 pub use read::read_record_json_within;
 pub use traits::{NestedJson, ReadsJson, WritesJson};
-pub use variant_writer::{write_variant_other, write_variant_within};
+pub use variant_writer::{write_pair_within, write_variant_other, write_variant_within};
