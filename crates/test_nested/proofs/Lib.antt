@@ -1,5 +1,6 @@
 mod Trees
 mod TreesJson
+mod ExpressionsJson
 mod ChainsJson
 mod FoldersJson
 mod MenusJson

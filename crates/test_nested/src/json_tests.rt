@@ -1,7 +1,7 @@
 //! Types that contain themselves in JSON.
 
 use crate::checks::holds;
-use crate::{Chain, Folder, Menu, Tree};
+use crate::{Chain, Expression, Folder, Menu, Tree};
 use nano_json_nested::{BothJson, DeJson};
 use std::alloc::{AllocError, Global};
 
@@ -19,6 +19,25 @@ const NO_TREES: &[(&str, usize, &str)] = &[
         r#"{"Node":[[{"Leaf":[true]}]]}"#,
         24,
         "Unexpected token Bool(true) expected signed integer ",
+    ),
+];
+
+/// 3, and the sum of it and its opposite.
+const EXPRESSIONS: &[&str] = &[
+    r#"{"Number":[3]}"#,
+    r#"{"Sum":[{"Number":[3]},{"Negated":[{"Number":[3]}]}]}"#,
+];
+
+const NO_EXPRESSIONS: &[(&str, usize, &str)] = &[
+    (
+        r#"{"Sum":[{"Number":[3]}]}"#,
+        24,
+        "Unexpected token BlockClose expected String or { ",
+    ),
+    (
+        r#"{"Negated":[3]}"#,
+        14,
+        "Unexpected token U64(3) expected String or { ",
     ),
 ];
 
@@ -126,6 +145,13 @@ fn values_are_read_and_written_back(rt: HostRuntime) {
     for text in TREES {
         holds(&rt, is_read_back::<Tree>(alloc, text), "a tree");
     }
+    for text in EXPRESSIONS {
+        holds(
+            &rt,
+            is_read_back::<Expression>(alloc, text),
+            "an expression",
+        );
+    }
     for text in CHAINS {
         holds(&rt, is_read_back::<Chain>(alloc, text), "a chain");
     }
@@ -145,6 +171,13 @@ fn other_texts_are_rejected_where_they_differ(rt: HostRuntime) {
             &rt,
             is_rejected::<Tree>(alloc, text, *column, words),
             "a tree",
+        );
+    }
+    for (text, column, words) in NO_EXPRESSIONS {
+        holds(
+            &rt,
+            is_rejected::<Expression>(alloc, text, *column, words),
+            "an expression",
         );
     }
     for (text, column, words) in NO_CHAINS {
@@ -175,6 +208,14 @@ fn levels_run_out_after_128(rt: HostRuntime) {
     let alloc = rt.alloc();
     let trees = ends_at_128::<Tree>(alloc, r#"{"Node":[["#, r#"{"Leaf":[4]}"#, "]]}", 1282);
     holds(&rt, trees, "trees");
+    let expressions = ends_at_128::<Expression>(
+        alloc,
+        r#"{"Sum":[{"Number":[1]},"#,
+        r#"{"Number":[2]}"#,
+        "]}",
+        2931,
+    );
+    holds(&rt, expressions, "expressions");
     let chains = ends_at_128::<Chain>(
         alloc,
         r#"{"number":1,"next":"#,
