@@ -9,6 +9,8 @@ mod checks;
 mod expression;
 mod folder;
 #[cfg(test)]
+mod json_part_tests;
+#[cfg(test)]
 mod json_tests;
 mod menu;
 mod outline;
