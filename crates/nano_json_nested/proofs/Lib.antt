@@ -2,3 +2,4 @@ pub mod ListReaders
 pub mod FieldReaders
 pub mod MapReaders
 pub mod NestedLaws
+pub mod WrittenLaws

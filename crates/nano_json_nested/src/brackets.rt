@@ -12,7 +12,7 @@ use std::alloc::Global;
 use std::str::Chars;
 
 /// Reads a value and the closing bracket after it.
-fn read_last<T: NestedJson + Drop, L: ReadsJson<T>>(
+pub(crate) fn read_last<T: NestedJson + Drop, L: ReadsJson<T>>(
     levels: &L,
     left: usize,
     alloc: Global,

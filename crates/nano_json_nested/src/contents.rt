@@ -84,7 +84,7 @@ impl<L, S: ReadContent> JsonContentWithin<L> for Other<S> {
 
 /// Takes the `}` after the content of a variant. Every error leaves the state at the end of the
 /// text.
-fn close_content(
+pub(crate) fn close_content(
     alloc: Global,
     state: &mut DeJsonState,
     input: &mut Chars<'_>,

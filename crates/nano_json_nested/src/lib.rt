@@ -15,6 +15,7 @@ mod maps;
 mod optional;
 mod options;
 mod pairs;
+mod parts;
 mod read;
 mod required;
 mod traits;
@@ -24,10 +25,13 @@ pub use choice::read_choice_json_within;
 pub use choices::JsonChoicesWithin;
 pub use contents::{JsonContentWithin, Other, Within};
 pub use depth::{no_levels, too_deep};
-pub use field_writer::append_field_within;
+pub use field_writer::{append_optional_within, append_required_within};
 pub use fields::JsonFieldsWithin;
-pub use nano_json::{BothJson, DeJson, DeJsonErr, DeJsonState, JsonCodec, SerJson, SerJsonState};
+pub use nano_json::{
+    BothJson, DeJson, DeJsonErr, DeJsonState, JsonCodec, SerJson, SerJsonState, rollback_on_error,
+};
 pub use nano_levels::Levels;
+pub use parts::JsonPartsWithin;
 pub use read::read_record_json_within;
 pub use traits::{NestedJson, ReadsJson, WritesJson};
-pub use variant_writer::{write_variant_other, write_variant_within};
+pub use variant_writer::{write_pair_within, write_variant_other, write_variant_within};

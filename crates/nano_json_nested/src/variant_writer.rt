@@ -2,12 +2,13 @@
 
 ghost use Rattle.std.specs.Prelude.{OnOk, OnErr};
 ghost use Rattle.nano_json_schema.specs.FieldCodecs.{single_codec};
+ghost use Rattle.nano_json.specs.ContainerCodecs.{pair_codec};
 ghost use Rattle.nano_json_schema.specs.Variants.{content_text};
 ghost use Rattle.nano_text.specs.Outcomes.{Appends, AppendsPart, Unchanged};
 
 use crate::traits::WritesJson;
 use nano_json::{SerJson, SerJsonState, rollback_on_error};
-use nano_json_schema::WriteContent;
+use nano_json_schema::{Part, WriteContent};
 use nano_schema::Newtype;
 use std::alloc::{AllocError, Global};
 
@@ -61,5 +62,53 @@ fn append_variant<T: WritesJson>(
     name.ser_json(alloc, 0, s)?;
     s.out.push_str(":[")?;
     part.write_json(alloc, d, s)?;
+    s.out.push_str("]}")
+}
+
+impl<T: SerJson> WritesJson for Part<'_, T> {
+    fn write_json(&self, alloc: Global, d: usize, s: &mut SerJsonState) -> Result<(), AllocError> {
+        self.ser_json(alloc, d, s)
+    }
+}
+
+/// Appends a variant with two parts: `{`, its name, a colon, the parts at level `d` with a comma
+/// between them and square brackets around them, and `}`. A part that holds no values of the enum is
+/// given as a `Part`. If the write fails, `s.out` is unchanged.
+pub fn write_pair_within<A: WritesJson, B: WritesJson>(
+    alloc: Global,
+    name: &str,
+    first: &A,
+    second: &B,
+    d: usize,
+    s: &mut SerJsonState,
+) -> Result<(), AllocError>
+    ensures ok { OnOk result (Appends s.old.out s.new.out (content_text name.now
+        ((pair_codec A.json B.json).canonical.text d (first.now, second.now)))) }
+    ensures err { OnErr result (Unchanged s.old.out s.new.out) }
+{
+    let start = s.out.len();
+    let written = append_pair(alloc, name, first, second, d, s);
+    rollback_on_error(&mut s.out, start, written)
+}
+
+/// Appends a variant with two parts. If allocation fails, what was written so far is left.
+fn append_pair<A: WritesJson, B: WritesJson>(
+    alloc: Global,
+    name: &str,
+    first: &A,
+    second: &B,
+    d: usize,
+    s: &mut SerJsonState,
+) -> Result<(), AllocError>
+    ensures ok { OnOk result (Appends s.old.out s.new.out (content_text name.now
+        ((pair_codec A.json B.json).canonical.text d (first.now, second.now)))) }
+    ensures err { OnErr result (AppendsPart s.old.out s.new.out) }
+{
+    s.out.push('{')?;
+    name.ser_json(alloc, 0, s)?;
+    s.out.push_str(":[")?;
+    first.write_json(alloc, d, s)?;
+    s.out.push(',')?;
+    second.write_json(alloc, d, s)?;
     s.out.push_str("]}")
 }

@@ -1,4 +1,9 @@
 mod Trees
+mod TreesJson
+mod ExpressionsJson
+mod ChainsJson
+mod FoldersJson
+mod MenusJson
 mod Expressions
 mod Chains
 mod Folders

@@ -9,7 +9,7 @@ use Rattle.nano_json_tokens.proofs.JsonLaws.{json}
 use Rattle.nano_json_schema.specs.FieldCodecs.{json_fields, required_field, u32_codec, ascii_names}
 use Rattle.nano_levels.specs.Layers.{Layer, Nested}
 use Rattle.nano_levels.proofs.LayersLaws.{itself_layer}
-use Rattle.nano_levels.proofs.LevelsLaws.{limited}
+use Rattle.nano_levels.proofs.LevelsLaws.{level, limited}
 use Rattle.nano_schema_levels.specs.FieldLayers.{FieldsLayer}
 use Rattle.nano_schema_levels.specs.LegalLevels.{LegalStep}
 use Rattle.nano_schema_levels.proofs.FieldLayersLaws.{other_fields, optional_layer}
@@ -62,11 +62,11 @@ chain_json_nested = record {
 
 -- of the chains of at most so many levels
 abbrev pub chain_at : ℕ → Codec Chain
-chain_at = limited chain_json_nested
+chain_at = level chain_json_nested
 
 -- of the chains that are read
 abbrev pub chain_json : Codec Chain
-chain_json = chain_at 128
+chain_json = limited chain_json_nested 128
 
 -- ---- which chains are legal, in bytes and in JSON
 

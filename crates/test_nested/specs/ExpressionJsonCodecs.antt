@@ -12,7 +12,7 @@ use Rattle.nano_json_schema.specs.FieldCodecs.{i64_codec}
 use Rattle.nano_json_schema.specs.VariantCodecs.{json_variants}
 use Rattle.nano_levels.specs.Layers.{Layer, Nested}
 use Rattle.nano_levels.proofs.LayersLaws.{itself_layer, other_layer}
-use Rattle.nano_levels.proofs.LevelsLaws.{limited}
+use Rattle.nano_levels.proofs.LevelsLaws.{level, limited}
 use Rattle.nano_schema_levels.specs.LegalLevels.{LegalStep}
 use Rattle.nano_schema_levels.specs.VariantLayers.{VariantsLayer}
 use Rattle.nano_schema_levels.proofs.LegalLevelsLaws.{nested_agrees, agree_through}
@@ -75,11 +75,11 @@ expression_json_nested = record {
 
 -- of the expressions of at most so many levels
 abbrev pub expression_at : ℕ → Codec Expression
-expression_at = limited expression_json_nested
+expression_at = level expression_json_nested
 
 -- of the expressions that are read
 abbrev pub expression_json : Codec Expression
-expression_json = expression_at 128
+expression_json = limited expression_json_nested 128
 
 -- ---- which expressions are legal, in bytes and in JSON
 

@@ -10,7 +10,7 @@ use Rattle.nano_json_schema.specs.FieldCodecs.{json_fields, required_field, stri
 use Rattle.nano_json_schema.specs.FieldCodecs.{ascii_names}
 use Rattle.nano_levels.specs.Layers.{Layer, Nested}
 use Rattle.nano_levels.proofs.LayersLaws.{itself_layer, list_layer}
-use Rattle.nano_levels.proofs.LevelsLaws.{limited}
+use Rattle.nano_levels.proofs.LevelsLaws.{level, limited}
 use Rattle.nano_schema_levels.specs.FieldLayers.{FieldsLayer}
 use Rattle.nano_schema_levels.specs.LegalLevels.{LegalStep}
 use Rattle.nano_schema_levels.proofs.FieldLayersLaws.{other_fields, required_layer}
@@ -51,11 +51,11 @@ folder_json_nested = record {
 
 -- of the folders of at most so many levels
 abbrev pub folder_at : ℕ → Codec Folder
-folder_at = limited folder_json_nested
+folder_at = level folder_json_nested
 
 -- of the folders that are read
 abbrev pub folder_json : Codec Folder
-folder_json = folder_at 128
+folder_json = limited folder_json_nested 128
 
 -- ---- which folders are legal, in bytes and in JSON
 

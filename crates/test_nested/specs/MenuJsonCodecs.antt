@@ -13,7 +13,7 @@ use Rattle.nano_json_schema.specs.FieldCodecs.{json_fields, required_field, stri
 use Rattle.nano_json_schema.specs.FieldCodecs.{ascii_names}
 use Rattle.nano_levels.specs.Layers.{Layer, Nested}
 use Rattle.nano_levels.proofs.LayersLaws.{itself_layer}
-use Rattle.nano_levels.proofs.LevelsLaws.{limited}
+use Rattle.nano_levels.proofs.LevelsLaws.{level, limited}
 use Rattle.nano_schema_levels.specs.FieldLayers.{FieldsLayer}
 use Rattle.nano_schema_levels.specs.LegalLevels.{LegalStep}
 use Rattle.nano_schema_levels.proofs.FieldLayersLaws.{other_fields, required_layer}
@@ -57,11 +57,11 @@ menu_json_nested = record {
 
 -- of the menus of at most so many levels
 abbrev pub menu_at : ℕ → Codec Menu
-menu_at = limited menu_json_nested
+menu_at = level menu_json_nested
 
 -- of the menus that are read
 abbrev pub menu_json : Codec Menu
-menu_json = menu_at 128
+menu_json = limited menu_json_nested 128
 
 -- ---- which menus are legal, in bytes and in JSON
 

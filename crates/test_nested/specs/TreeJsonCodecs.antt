@@ -12,7 +12,7 @@ use Rattle.nano_json_schema.specs.FieldCodecs.{i32_codec}
 use Rattle.nano_json_schema.specs.VariantCodecs.{json_variants}
 use Rattle.nano_levels.specs.Layers.{greatest, Layer, Nested}
 use Rattle.nano_levels.proofs.LayersLaws.{itself_layer, other_layer, list_layer}
-use Rattle.nano_levels.proofs.LevelsLaws.{limited}
+use Rattle.nano_levels.proofs.LevelsLaws.{level, limited}
 use Rattle.nano_schema_levels.specs.LegalLevels.{LegalStep}
 use Rattle.nano_schema_levels.specs.VariantLayers.{VariantsLayer}
 use Rattle.nano_schema_levels.proofs.LegalLevelsLaws.{nested_agrees, agree_through}
@@ -67,11 +67,11 @@ tree_json_nested = record {
 
 -- of the trees of at most so many levels
 abbrev pub tree_at : ℕ → Codec Tree
-tree_at = limited tree_json_nested
+tree_at = level tree_json_nested
 
 -- of the trees that are read
 abbrev pub tree_json : Codec Tree
-tree_json = tree_at 128
+tree_json = limited tree_json_nested 128
 
 -- ---- which trees are legal, in bytes and in JSON
 

@@ -1,4 +1,4 @@
-//! A chain: its schema, and then bytes.
+//! A chain: its schema, and then bytes and JSON.
 
 /// A number, and what follows it.
 #[derive(PartialEq, Debug, Drop)]

@@ -1,4 +1,4 @@
-//! An expression: its schema, and then bytes.
+//! An expression: its schema, and then bytes and JSON.
 
 /// An expression.
 #[derive(PartialEq, Debug, Drop)]

@@ -1,4 +1,4 @@
-//! A folder: its schema, and then bytes.
+//! A folder: its schema, and then bytes and JSON.
 
 /// A folder.
 #[derive(PartialEq, Debug, Drop)]

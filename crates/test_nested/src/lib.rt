@@ -1,4 +1,4 @@
-//! User-defined types that contain themselves, as bytes.
+//! User-defined types that contain themselves, as bytes and in JSON.
 #![tactic(auto)]
 
 #[cfg(test)]
@@ -8,6 +8,10 @@ mod chain;
 mod checks;
 mod expression;
 mod folder;
+#[cfg(test)]
+mod json_part_tests;
+#[cfg(test)]
+mod json_tests;
 mod menu;
 mod outline;
 #[cfg(test)]

@@ -1,4 +1,4 @@
-//! A menu: its schema, and then bytes.
+//! A menu: its schema, and then bytes and JSON.
 
 use std::collections::BTreeMap;
 

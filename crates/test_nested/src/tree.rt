@@ -1,4 +1,4 @@
-//! A tree: its schema, and then bytes.
+//! A tree: its schema, and then bytes and JSON.
 
 /// A tree.
 #[derive(PartialEq, Debug, Drop)]

@@ -1,18 +1,40 @@
-//! The impls of the type of the module above, written by hand: its schema, and its bytes.
+//! The impls of the type of the module above, written by hand: its schema, its bytes and its
+//! JSON.
 
-ghost use Rattle.std.specs.Prelude.{refl};
+ghost use Rattle.std.specs.Prelude.{codes, if◌then◌else◌, ◌==◌, refl, OnOk, OnErr};
+ghost use Rattle.nano_text.specs.Outcomes.{Appends, AppendsPart};
 ghost use Rattle.nano_schema.specs.UserTypes.{agreed};
 ghost use Rattle.test_nested.specs.ChainCodecs.{chain_view, chain_means, chain_codec};
+ghost use Rattle.test_nested.specs.ChainJsonCodecs.{chain_at, chain_json, chain_agrees};
 
 use super::*;
 use nano_bin_nested::{
     BinCodec, DeBin, DeBinErr, Levels, Other, ReadsBin, SerBin, Within, WritesBin,
     append_part_within, no_memory, read_record_within,
 };
-use nano_schema::{Optional, Required, StructSchema, Value};
+use nano_json_nested::{
+    DeJson, DeJsonErr, DeJsonState, JsonCodec, NestedJson, Other as OtherJson, ReadsJson, SerJson,
+    SerJsonState, Within as WithinJson, WritesJson, append_optional_within, no_levels,
+    read_record_json_within, rollback_on_error, too_deep,
+};
+use nano_json_schema::JsonRefs;
+use nano_schema::{Label, Optional, Required, StructSchema, Value};
 use std::alloc::{AllocError, Global};
+use std::str::Chars;
 
 struct ChainNames<const I: usize> {}
+
+impl<const I: usize> Label for ChainNames<I> {
+    ghost label = { if I == 0 then codes "number"
+        else codes "next" };
+
+    fn text() -> &'static str {
+        match I {
+            0 => "number",
+            _ => "next",
+        }
+    }
+}
 
 type ChainFields = (
     Other<Required<ChainNames<0>, u32>>,
@@ -83,5 +105,105 @@ impl DeBin for Chain {
 
     fn de_bin(alloc: Global, offset: &mut usize, bytes: &[u8]) -> Result<Chain, DeBinErr> {
         Levels::most().read_bin(alloc, offset, bytes)
+    }
+}
+
+// ---- JSON
+
+type ChainJsonFields = (
+    OtherJson<Required<ChainNames<0>, u32>>,
+    WithinJson<Optional<ChainNames<1>, Box<Chain>>>,
+);
+
+impl JsonCodec for Chain {
+    ghost json = { chain_json };
+
+    ghost agrees = { chain_agrees };
+}
+
+impl NestedJson for Chain {
+    ghost means = { chain_means };
+
+    ghost at = { chain_at };
+}
+
+/// Appends the fields between braces. If the write fails, what was written so far is left.
+#[cycle(write)]
+fn append_json(
+    value: &Chain,
+    alloc: Global,
+    d: usize,
+    s: &mut SerJsonState,
+) -> Result<(), AllocError>
+    ensures ok { OnOk result
+        (Appends s.old.out s.new.out (chain_json.canonical.text d value.now)) }
+    ensures err { OnErr result (AppendsPart s.old.out s.new.out) }
+{
+    s.st_pre()?;
+    let inner = d.saturating_add(1);
+    let first = Required::<ChainNames<0>, u32>::append_fields(
+        &&value.number,
+        alloc,
+        true,
+        inner,
+        s,
+    )?;
+    append_optional_within(alloc, "next", &value.next, first, inner, s)?;
+    s.st_post(d)
+}
+
+impl WritesJson for Chain {
+    #[cycle(write)]
+    fn write_json(&self, alloc: Global, d: usize, s: &mut SerJsonState) -> Result<(), AllocError> {
+        let start = s.out.len();
+        let written = append_json(self, alloc, d, s);
+        rollback_on_error(&mut s.out, start, written)
+    }
+}
+
+impl SerJson for Chain {
+    fn ser_json(&self, alloc: Global, d: usize, s: &mut SerJsonState) -> Result<(), AllocError> {
+        self.write_json(alloc, d, s)
+    }
+}
+
+impl ReadsJson<Chain> for Levels {
+    #[cycle(read)]
+    fn read_json(
+        &self,
+        left: usize,
+        alloc: Global,
+        state: &mut DeJsonState,
+        input: &mut Chars<'_>,
+    ) -> Result<Chain, DeJsonErr> {
+        if left == 0 {
+            return Err(too_deep(alloc, state));
+        }
+        let Levels::More(below) = self else {
+            return Err(no_levels(alloc, state));
+        };
+        let Some(below) = below.first() else {
+            return Err(no_levels(alloc, state));
+        };
+        match read_record_json_within::<Levels, ChainJsonFields>(
+            below,
+            left - 1,
+            alloc,
+            state,
+            input,
+        ) {
+            Ok(values) => Ok(Chain::make(values)),
+            Err(error) => Err(error),
+        }
+    }
+}
+
+impl DeJson for Chain {
+    fn de_json(
+        alloc: Global,
+        state: &mut DeJsonState,
+        input: &mut Chars<'_>,
+    ) -> Result<Chain, DeJsonErr> {
+        Levels::most().read_json(128, alloc, state, input)
     }
 }

@@ -1,18 +1,37 @@
-//! The impls of the type of the module above, written by hand: its schema, and its bytes.
+//! The impls of the type of the module above, written by hand: its schema, its bytes and its JSON.
 
-ghost use Rattle.std.specs.Prelude.{refl};
+ghost use Rattle.std.specs.Prelude.{codes, if◌then◌else◌, ◌==◌, refl};
 ghost use Rattle.nano_schema.specs.UserTypes.{agreed};
 ghost use Rattle.test_nested.specs.TreeCodecs.{tree_view, tree_means, tree_codec};
+ghost use Rattle.test_nested.specs.TreeJsonCodecs.{tree_at, tree_json, tree_agrees};
 
 use super::*;
 use nano_bin_nested::{
     BinCodec, DeBin, DeBinErr, Levels, Other, ReadsBin, SerBin, Within, WritesBin, append_variant,
     append_variant_within, no_memory, read_choice_within,
 };
-use nano_schema::{Either, EnumSchema, Newtype, Value, Variant};
+use nano_json_nested::{
+    DeJson, DeJsonErr, DeJsonState, JsonCodec, NestedJson, Other as OtherJson, ReadsJson, SerJson,
+    SerJsonState, Within as WithinJson, WritesJson, no_levels, read_choice_json_within, too_deep,
+    write_variant_other, write_variant_within,
+};
+use nano_schema::{Either, EnumSchema, Label, Newtype, Value, Variant};
 use std::alloc::{AllocError, Global};
+use std::str::Chars;
 
 struct TreeNames<const I: usize> {}
+
+impl<const I: usize> Label for TreeNames<I> {
+    ghost label = { if I == 0 then codes "Leaf"
+        else codes "Node" };
+
+    fn text() -> &'static str {
+        match I {
+            0 => "Leaf",
+            _ => "Node",
+        }
+    }
+}
 
 type TreeVariants1 = Variant<TreeNames<1>, Within<Newtype<Vec<Tree>>>>;
 
@@ -90,5 +109,82 @@ impl DeBin for Tree {
 
     fn de_bin(alloc: Global, offset: &mut usize, bytes: &[u8]) -> Result<Tree, DeBinErr> {
         Levels::most().read_bin(alloc, offset, bytes)
+    }
+}
+
+// ---- JSON
+
+type TreeJsonVariants1 = Variant<TreeNames<1>, WithinJson<Newtype<Vec<Tree>>>>;
+
+type TreeJsonVariants = (
+    Variant<TreeNames<0>, OtherJson<Newtype<i32>>>,
+    TreeJsonVariants1,
+);
+
+impl JsonCodec for Tree {
+    ghost json = { tree_json };
+
+    ghost agrees = { tree_agrees };
+}
+
+impl NestedJson for Tree {
+    ghost means = { tree_means };
+
+    ghost at = { tree_at };
+}
+
+impl WritesJson for Tree {
+    fn write_json(&self, alloc: Global, d: usize, s: &mut SerJsonState) -> Result<(), AllocError> {
+        match self {
+            Self::Leaf(value) => write_variant_other(alloc, "Leaf", value, d, s),
+            Self::Node(value) => write_variant_within(alloc, "Node", value, d, s),
+        }
+    }
+}
+
+impl SerJson for Tree {
+    fn ser_json(&self, alloc: Global, d: usize, s: &mut SerJsonState) -> Result<(), AllocError> {
+        self.write_json(alloc, d, s)
+    }
+}
+
+impl ReadsJson<Tree> for Levels {
+    #[cycle(read)]
+    fn read_json(
+        &self,
+        left: usize,
+        alloc: Global,
+        state: &mut DeJsonState,
+        input: &mut Chars<'_>,
+    ) -> Result<Tree, DeJsonErr> {
+        if left == 0 {
+            return Err(too_deep(alloc, state));
+        }
+        let Levels::More(below) = self else {
+            return Err(no_levels(alloc, state));
+        };
+        let Some(below) = below.first() else {
+            return Err(no_levels(alloc, state));
+        };
+        match read_choice_json_within::<Levels, TreeJsonVariants>(
+            below,
+            left - 1,
+            alloc,
+            state,
+            input,
+        ) {
+            Ok(values) => Ok(Tree::make(values)),
+            Err(error) => Err(error),
+        }
+    }
+}
+
+impl DeJson for Tree {
+    fn de_json(
+        alloc: Global,
+        state: &mut DeJsonState,
+        input: &mut Chars<'_>,
+    ) -> Result<Tree, DeJsonErr> {
+        Levels::most().read_json(128, alloc, state, input)
     }
 }
