@@ -7,6 +7,8 @@ mod folder;
 #[cfg(test)]
 mod part_tests;
 #[cfg(test)]
+mod row_tests;
+#[cfg(test)]
 mod tests;
 mod tree;
 
