@@ -18,16 +18,10 @@ use crate::read::read_record_json_within;
 use crate::traits::{NestedJson, ReadsJson};
 use nano_json::{DeJsonErr, DeJsonState, end_on_error};
 use nano_json_schema::ReadContent;
+use nano_levels::{Other, Within};
 use nano_schema::{Newtype, Struct};
 use std::alloc::Global;
-use std::marker::PhantomData;
 use std::str::Chars;
-
-/// Other content or fields: their values hold no values of the type that has them.
-pub struct Other<S>(PhantomData<S>);
-
-/// Content or a field whose value holds values of the type that has it.
-pub struct Within<S>(PhantomData<S>);
 
 /// The content of a variant that is read from JSON, given how many levels may follow.
 pub trait JsonContentWithin<L> {

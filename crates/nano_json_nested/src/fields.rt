@@ -8,9 +8,9 @@ ghost use Rattle.nano_json_schema.specs.Reading.{Field};
 ghost use Rattle.nano_json_schema.specs.Outcomes.{ReadsField, GivesValues};
 ghost use Rattle.nano_json_schema.specs.FieldCodecs.{json_fields};
 
-use crate::contents::Other;
 use nano_json::{DeJsonErr, DeJsonState};
 use nano_json_schema::JsonFields;
+use nano_levels::Other;
 use std::alloc::Global;
 use std::str::Chars;
 

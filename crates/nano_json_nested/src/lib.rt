@@ -23,14 +23,14 @@ mod variant_writer;
 
 pub use choice::read_choice_json_within;
 pub use choices::JsonChoicesWithin;
-pub use contents::{JsonContentWithin, Other, Within};
+pub use contents::JsonContentWithin;
 pub use depth::{no_levels, too_deep};
 pub use field_writer::{append_optional_within, append_required_within};
 pub use fields::JsonFieldsWithin;
 pub use nano_json::{
     BothJson, DeJson, DeJsonErr, DeJsonState, JsonCodec, SerJson, SerJsonState, rollback_on_error,
 };
-pub use nano_levels::Levels;
+pub use nano_levels::{Levels, Other, Within};
 pub use parts::JsonPartsWithin;
 pub use read::read_record_json_within;
 pub use traits::{NestedJson, ReadsJson, WritesJson};

@@ -6,10 +6,10 @@ ghost use Rattle.nano_grammar.proofs.StructLaws.{may_read};
 ghost use Rattle.nano_json_schema.specs.FieldCodecs.{optional_field};
 ghost use Rattle.nano_grammar.proofs.FieldsLaws.{optional_skips};
 
-use crate::contents::Within;
 use crate::fields::JsonFieldsWithin;
 use crate::traits::{NestedJson, ReadsJson};
 use nano_json::{DeJsonErr, DeJsonState};
+use nano_levels::Within;
 use nano_schema::{Label, Optional};
 use std::alloc::Global;
 use std::str::Chars;

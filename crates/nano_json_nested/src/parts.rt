@@ -12,9 +12,10 @@ ghost use Rattle.nano_json.specs.Outcomes.{position, Reads, ReadsOrEnds};
 ghost use Rattle.nano_json_nested.specs.Parts.{and_parts, in_brackets};
 
 use crate::brackets::read_last;
-use crate::contents::{JsonContentWithin, Other, Within, close_content};
+use crate::contents::{JsonContentWithin, close_content};
 use crate::traits::{NestedJson, ReadsJson};
 use nano_json::{DeJson, DeJsonErr, DeJsonState, end_on_error};
+use nano_levels::{Other, Within};
 use nano_schema::{Newtype, Tuple};
 use std::alloc::Global;
 use std::str::Chars;

@@ -5,10 +5,10 @@ ghost use Rattle.nano_json_schema.specs.FieldCodecs.{required_field};
 ghost use Rattle.nano_grammar.specs.Fields.{Holds};
 ghost use Rattle.nano_grammar.proofs.FieldsLaws.{holds_skips};
 
-use crate::contents::Within;
 use crate::fields::JsonFieldsWithin;
 use crate::traits::{NestedJson, ReadsJson};
 use nano_json::{DeJsonErr, DeJsonState};
+use nano_levels::Within;
 use nano_schema::{Label, Required};
 use std::alloc::Global;
 use std::str::Chars;

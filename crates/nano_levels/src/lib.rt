@@ -3,5 +3,7 @@
 #![tactic(auto)]
 
 mod levels;
+mod rows;
 
 pub use levels::Levels;
+pub use rows::{Other, Within};

@@ -17,18 +17,12 @@ use crate::fields::RonFieldsWithin;
 use crate::parts::{RonPartWithin, RonPartsWithin};
 use crate::read::read_record_ron_within;
 use crate::traits::{NestedRon, ReadsRon};
+use nano_levels::{Other, Within};
 use nano_ron::{DeRonErr, DeRonState};
 use nano_ron_schema::ReadContent;
 use nano_schema::{Newtype, Struct};
 use std::alloc::Global;
-use std::marker::PhantomData;
 use std::str::Chars;
-
-/// Other content or fields: their values hold no values of the type that has them.
-pub struct Other<S>(PhantomData<S>);
-
-/// Content or a field whose value holds values of the type that has it.
-pub struct Within<S>(PhantomData<S>);
 
 /// The content of a variant that is read from RON, given how many levels may follow.
 pub trait RonContentWithin<L> {

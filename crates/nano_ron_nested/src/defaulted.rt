@@ -11,10 +11,10 @@ ghost use Rattle.nano_grammar.proofs.FieldsLaws.{holds_skips};
 ghost use Rattle.nano_ron_nested.specs.DefaultImpls.{no_item_is_encoded, no_items_are_encoded};
 ghost use Rattle.nano_ron_nested.specs.DefaultImpls.{no_entries_are_encoded};
 
-use crate::contents::Within;
 use crate::fields::RonFieldsWithin;
 use crate::read::read_named;
 use crate::traits::{NestedRon, ReadsRon};
+use nano_levels::Within;
 use nano_ron::{DeRonErr, DeRonState, RonCodec};
 use nano_schema::{Defaulted, Label, TypeDefault};
 use nano_value::Key;

@@ -10,7 +10,7 @@ ghost use Rattle.nano_ron_schema.specs.Reading.{Field};
 ghost use Rattle.nano_ron_schema.specs.Outcomes.{ReadsField, GivesValues};
 ghost use Rattle.nano_ron_schema.specs.FieldCodecs.{ron_fields};
 
-use crate::contents::Other;
+use nano_levels::Other;
 use nano_ron::{DeRonErr, DeRonState};
 use nano_ron_schema::RonFields;
 use std::alloc::Global;

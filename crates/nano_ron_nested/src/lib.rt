@@ -25,12 +25,12 @@ mod variant_writer;
 
 pub use choice::read_choice_ron_within;
 pub use choices::RonChoicesWithin;
-pub use contents::{Other, RonContentWithin, Within};
+pub use contents::RonContentWithin;
 pub use defaulted::RonDefaultWithin;
 pub use depth::{no_levels, too_deep};
 pub use field_writer::{append_field, append_field_within};
 pub use fields::RonFieldsWithin;
-pub use nano_levels::Levels;
+pub use nano_levels::{Levels, Other, Within};
 pub use nano_ron::{
     BothRon, DeRon, DeRonErr, DeRonState, RonCodec, SerRon, SerRonState, rollback_on_error,
 };

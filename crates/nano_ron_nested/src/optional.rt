@@ -6,10 +6,10 @@ ghost use Rattle.nano_grammar.proofs.StructLaws.{may_read};
 ghost use Rattle.nano_ron_schema.specs.FieldCodecs.{optional_field};
 ghost use Rattle.nano_grammar.proofs.FieldsLaws.{optional_skips};
 
-use crate::contents::Within;
 use crate::fields::RonFieldsWithin;
 use crate::read::read_named;
 use crate::traits::{NestedRon, ReadsRon};
+use nano_levels::Within;
 use nano_ron::{DeRonErr, DeRonState};
 use nano_schema::{Label, Optional};
 use std::alloc::Global;

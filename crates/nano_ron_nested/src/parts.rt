@@ -10,8 +10,8 @@ ghost use Rattle.nano_ron.specs.Outcomes.{position, Reads, ReadsOrEnds};
 ghost use Rattle.nano_ron_tokens.specs.Token.{comma};
 ghost use Rattle.nano_ron_nested.specs.PartCodecs.{before_closing};
 
-use crate::contents::{Other, Within};
 use crate::traits::{NestedRon, ReadsRon};
+use nano_levels::{Other, Within};
 use nano_ron::{DeRon, DeRonErr, DeRonState};
 use nano_schema::Newtype;
 use std::alloc::Global;

@@ -5,10 +5,10 @@ ghost use Rattle.nano_ron_schema.specs.FieldCodecs.{required_field};
 ghost use Rattle.nano_grammar.specs.Fields.{Holds};
 ghost use Rattle.nano_grammar.proofs.FieldsLaws.{holds_skips};
 
-use crate::contents::Within;
 use crate::fields::RonFieldsWithin;
 use crate::read::read_named;
 use crate::traits::{NestedRon, ReadsRon};
+use nano_levels::Within;
 use nano_ron::{DeRonErr, DeRonState};
 use nano_schema::{Label, Required};
 use std::alloc::Global;

@@ -1,12 +1,11 @@
 -- What is proved of a type that contains itself, where its values are seen by one layer: what they
--- mean, how they are written, what is encoded, and what is legal.
-use Rattle.std.specs.Prelude.{◌≡◌, ℕ, suc, List}
+-- mean, how they are written, and what is legal.
+use Rattle.std.specs.Prelude.{◌≡◌, ℕ}
 use Rattle.std.proofs.Common.{sym, ◌∙◌, subst, ap}
-use Rattle.nano_value.specs.Meaning.{Meaning}
 use Rattle.nano_grammar.specs.Tokens.{Cutting}
 use Rattle.nano_grammar.specs.Codec.{Grammar, Codec}
 use Rattle.nano_levels.specs.Layers.{Nested}
-use Rattle.nano_levels.proofs.LevelsLaws.{level, level_holds, level_content, level_none, limited}
+use Rattle.nano_levels.proofs.LevelsLaws.{limited}
 use Rattle.nano_levels.proofs.LevelsLaws.{Legal, text_around, legal_around}
 
 module _ {T : Type 0} {c : Cutting T} {g : Grammar T} {A : Type 0} (l : Nested c g A) where
@@ -31,23 +30,3 @@ module _ {T : Type 0} {c : Cutting T} {g : Grammar T} {A : Type 0} (l : Nested c
   legal_seen limit x v e h =
       legal_around l limit x
       (subst (λ w. (seen_codec limit).encoding.legal (l.layer.means l.means w)) (sym e) h)
-
-  -- ---- what is encoded. The layer encodes by what the inner values encode, as `λ n. refl` proves
-  -- of a type
-
-  module _ (same : (n : ℕ) → (seen_codec n).encoding.encodes
-      ≡ (l.layer.codec (level l n)).encoding.encodes) where
-    pub encoded_around : (n : ℕ) (ts : List T) (m : Meaning)
-        → (seen_codec n).encoding.encodes ts m → (limited l (suc n)).encoding.encodes ts m
-    encoded_around n ts m h =
-        level_holds l n m ts (subst (λ (E : List T → Meaning → Type 0). E ts m) (same n) h)
-
-    pub encoded_inside : (n : ℕ) (ts : List T) (m : Meaning)
-        → (limited l (suc n)).encoding.encodes ts m → (seen_codec n).encoding.encodes ts m
-    encoded_inside n ts m h =
-        subst (λ (E : List T → Meaning → Type 0). E ts m) (sym (same n))
-        (level_content l n m ts h)
-
-  -- no value has no level
-  pub none_encoded : (ts : List T) (m : Meaning) → (limited l 0).encoding.encodes ts m → ⊥
-  none_encoded ts m h = level_none l m ts h

@@ -13,9 +13,9 @@ use nano_bin_nested::{
     append_part_within, no_memory, read_record_within,
 };
 use nano_json_nested::{
-    DeJson, DeJsonErr, DeJsonState, JsonCodec, NestedJson, Other as OtherJson, ReadsJson, SerJson,
-    SerJsonState, Within as WithinJson, WritesJson, append_optional_within, no_levels,
-    read_record_json_within, rollback_on_error, too_deep,
+    DeJson, DeJsonErr, DeJsonState, JsonCodec, NestedJson, ReadsJson, SerJson, SerJsonState,
+    WritesJson, append_optional_within, no_levels, read_record_json_within, rollback_on_error,
+    too_deep,
 };
 use nano_json_schema::JsonRefs;
 use nano_schema::{Label, Optional, Required, StructSchema, Value};
@@ -110,11 +110,6 @@ impl DeBin for Chain {
 
 // ---- JSON
 
-type ChainJsonFields = (
-    OtherJson<Required<ChainNames<0>, u32>>,
-    WithinJson<Optional<ChainNames<1>, Box<Chain>>>,
-);
-
 impl JsonCodec for Chain {
     ghost json = { chain_json };
 
@@ -185,13 +180,7 @@ impl ReadsJson<Chain> for Levels {
         let Some(below) = below.first() else {
             return Err(no_levels(alloc, state));
         };
-        match read_record_json_within::<Levels, ChainJsonFields>(
-            below,
-            left - 1,
-            alloc,
-            state,
-            input,
-        ) {
+        match read_record_json_within::<Levels, ChainFields>(below, left - 1, alloc, state, input) {
             Ok(values) => Ok(Chain::make(values)),
             Err(error) => Err(error),
         }

@@ -14,9 +14,9 @@ use nano_bin_nested::{
     append_part_within, append_variant, append_variant_within, no_memory, read_choice_within,
 };
 use nano_json_nested::{
-    DeJson, DeJsonErr, DeJsonState, JsonCodec, NestedJson, Other as OtherJson, ReadsJson, SerJson,
-    SerJsonState, Within as WithinJson, WritesJson, no_levels, read_choice_json_within, too_deep,
-    write_pair_within, write_variant_other, write_variant_within,
+    DeJson, DeJsonErr, DeJsonState, JsonCodec, NestedJson, ReadsJson, SerJson, SerJsonState,
+    WritesJson, no_levels, read_choice_json_within, too_deep, write_pair_within,
+    write_variant_other, write_variant_within,
 };
 use nano_schema::{Either, EnumSchema, Label, Newtype, Tuple, Value, Variant};
 use std::alloc::{AllocError, Global};
@@ -157,20 +157,15 @@ impl DeBin for Expression {
 
 // ---- JSON
 
-type ExpressionSumJsonParts = (
-    WithinJson<Newtype<Box<Expression>>>,
-    WithinJson<Newtype<Box<Expression>>>,
-);
-
-type ExpressionJsonVariants3 = Variant<ExpressionNames<2>, Tuple<ExpressionSumJsonParts>>;
+type ExpressionJsonVariants3 = Variant<ExpressionNames<2>, Tuple<ExpressionSumParts>>;
 
 type ExpressionJsonVariants2 = (
-    Variant<ExpressionNames<1>, WithinJson<Newtype<Box<Expression>>>>,
+    Variant<ExpressionNames<1>, Within<Newtype<Box<Expression>>>>,
     ExpressionJsonVariants3,
 );
 
 type ExpressionJsonVariants = (
-    Variant<ExpressionNames<0>, OtherJson<Newtype<i64>>>,
+    Variant<ExpressionNames<0>, Other<Newtype<i64>>>,
     ExpressionJsonVariants2,
 );
 

@@ -13,9 +13,9 @@ use nano_bin_nested::{
     append_part_within, no_memory, read_record_within,
 };
 use nano_json_nested::{
-    DeJson, DeJsonErr, DeJsonState, JsonCodec, NestedJson, Other as OtherJson, ReadsJson, SerJson,
-    SerJsonState, Within as WithinJson, WritesJson, append_required_within, no_levels,
-    read_record_json_within, rollback_on_error, too_deep,
+    DeJson, DeJsonErr, DeJsonState, JsonCodec, NestedJson, ReadsJson, SerJson, SerJsonState,
+    WritesJson, append_required_within, no_levels, read_record_json_within, rollback_on_error,
+    too_deep,
 };
 use nano_json_schema::JsonRefs;
 use nano_schema::{Label, Required, StructSchema, Value};
@@ -115,11 +115,6 @@ impl DeBin for Folder {
 
 // ---- JSON
 
-type FolderJsonFields = (
-    OtherJson<Required<FolderNames<0>, String>>,
-    WithinJson<Required<FolderNames<1>, Vec<Folder>>>,
-);
-
 impl JsonCodec for Folder {
     ghost json = { folder_json };
 
@@ -190,7 +185,7 @@ impl ReadsJson<Folder> for Levels {
         let Some(below) = below.first() else {
             return Err(no_levels(alloc, state));
         };
-        match read_record_json_within::<Levels, FolderJsonFields>(
+        match read_record_json_within::<Levels, FolderFields>(
             below,
             left - 1,
             alloc,

@@ -13,9 +13,9 @@ use nano_bin_nested::{
     append_part_within, no_memory, read_record_within,
 };
 use nano_json_nested::{
-    DeJson, DeJsonErr, DeJsonState, JsonCodec, NestedJson, Other as OtherJson, ReadsJson, SerJson,
-    SerJsonState, Within as WithinJson, WritesJson, append_required_within, no_levels,
-    read_record_json_within, rollback_on_error, too_deep,
+    DeJson, DeJsonErr, DeJsonState, JsonCodec, NestedJson, ReadsJson, SerJson, SerJsonState,
+    WritesJson, append_required_within, no_levels, read_record_json_within, rollback_on_error,
+    too_deep,
 };
 use nano_json_schema::JsonRefs;
 use nano_schema::{Label, Required, StructSchema, Value};
@@ -110,11 +110,6 @@ impl DeBin for Menu {
 
 // ---- JSON
 
-type MenuJsonFields = (
-    OtherJson<Required<MenuNames<0>, String>>,
-    WithinJson<Required<MenuNames<1>, BTreeMap<String, Menu>>>,
-);
-
 impl JsonCodec for Menu {
     ghost json = { menu_json };
 
@@ -185,13 +180,7 @@ impl ReadsJson<Menu> for Levels {
         let Some(below) = below.first() else {
             return Err(no_levels(alloc, state));
         };
-        match read_record_json_within::<Levels, MenuJsonFields>(
-            below,
-            left - 1,
-            alloc,
-            state,
-            input,
-        ) {
+        match read_record_json_within::<Levels, MenuFields>(below, left - 1, alloc, state, input) {
             Ok(values) => Ok(Menu::make(values)),
             Err(error) => Err(error),
         }

@@ -11,9 +11,9 @@ use nano_bin_nested::{
     append_variant_within, no_memory, read_choice_within,
 };
 use nano_json_nested::{
-    DeJson, DeJsonErr, DeJsonState, JsonCodec, NestedJson, Other as OtherJson, ReadsJson, SerJson,
-    SerJsonState, Within as WithinJson, WritesJson, no_levels, read_choice_json_within, too_deep,
-    write_variant_other, write_variant_within,
+    DeJson, DeJsonErr, DeJsonState, JsonCodec, NestedJson, ReadsJson, SerJson, SerJsonState,
+    WritesJson, no_levels, read_choice_json_within, too_deep, write_variant_other,
+    write_variant_within,
 };
 use nano_schema::{Either, EnumSchema, Label, Newtype, Value, Variant};
 use std::alloc::{AllocError, Global};
@@ -114,13 +114,6 @@ impl DeBin for Tree {
 
 // ---- JSON
 
-type TreeJsonVariants1 = Variant<TreeNames<1>, WithinJson<Newtype<Vec<Tree>>>>;
-
-type TreeJsonVariants = (
-    Variant<TreeNames<0>, OtherJson<Newtype<i32>>>,
-    TreeJsonVariants1,
-);
-
 impl JsonCodec for Tree {
     ghost json = { tree_json };
 
@@ -166,7 +159,7 @@ impl ReadsJson<Tree> for Levels {
         let Some(below) = below.first() else {
             return Err(no_levels(alloc, state));
         };
-        match read_choice_json_within::<Levels, TreeJsonVariants>(
+        match read_choice_json_within::<Levels, TreeVariants>(
             below,
             left - 1,
             alloc,
