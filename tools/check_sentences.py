@@ -15,16 +15,16 @@ MOST = 40
 PLANNED = {
     "README.md": 102,
     "CONTRIBUTING.md": 115,
-    "docs/ARCHITECTURE.md": 178,
-    "docs/DECISIONS.md": 177,
+    "docs/ARCHITECTURE.md": 182,
+    "docs/DECISIONS.md": 178,
     "docs/DIFFERENCES.md": None,
     "docs/ERRORS.md": None,
     "docs/FORMATS.md": None,
-    "docs/GUARANTEES.md": 223,
+    "docs/GUARANTEES.md": 228,
     "docs/GUIDE.md": 340,
     "docs/SECURITY.md": 72,
     "docs/SPEED.md": None,
-    "docs/USER_TYPES.md": 244,
+    "docs/USER_TYPES.md": 246,
 }
 
 
