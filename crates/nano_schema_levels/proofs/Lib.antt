@@ -6,3 +6,4 @@ pub mod VariantLayersLaws
 pub mod NestedLaws
 pub mod LegalLevelsLaws
 pub mod ReadingLaws
+pub mod StepsLaws
