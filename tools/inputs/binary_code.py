@@ -1,4 +1,5 @@
 """Bytes of a type, drawn at random: any code of a value, of which many are not what is written."""
+from . import kinds
 
 
 def code(draw, kind):
@@ -24,7 +25,7 @@ def text(draw, _):
 
 
 def option(draw, kind):
-    if draw.chance(0.4):
+    if draw.is_deepest() or draw.chance(0.4):
         return draw.pick((b"\0", b"\0", b"\2", b"\xff"))
     return b"\1" + code(draw, kind.parts[0])
 
@@ -48,12 +49,18 @@ def struct(draw, kind):
 
 
 def enum(draw, kind):
-    place = draw.below(len(kind.variants))
+    place = draw.variant(kind.variants)
     if draw.chance(0.03):
         return number(draw.pick((len(kind.variants), 255, 256, 65535)), 2)
     _, content = kind.variants[place]
     return number(place, 2) + (code(draw, content) if content else b"")
 
 
+def nested(draw, kind):
+    """A struct or an enum that contains itself."""
+    return draw.nested(lambda: code(draw, kinds.defined(kind.name)))
+
+
 CODES = {"int": integer, "bool": boolean, "String": text, "unit": lambda draw, kind: b"", "option": option,
-         "box": parts, "list": items, "map": items, "tuple": parts, "struct": struct, "enum": enum}
+         "box": parts, "list": items, "map": items, "tuple": parts, "struct": struct, "enum": enum,
+         "nested": nested}

@@ -12,6 +12,7 @@ class Draw:
 
     def __init__(self, rng):
         self.rng, self.random = rng, rng.random
+        self.levels = self.deepest = 0
 
     def below(self, count):
         return int(self.random() * count)
@@ -22,8 +23,27 @@ class Draw:
     def pick(self, items):
         return items[int(self.random() * len(items))]
 
+    def nested(self, drawn):
+        """What is drawn of a type that contains itself, one level further in. The first says how far it goes."""
+        if self.levels == 0:
+            self.deepest = self.pick((1, 2, 3, 4, 7))
+        self.levels += 1
+        found = drawn()
+        self.levels -= 1
+        return found
+
+    def is_deepest(self):
+        """Whether what is drawn here holds no more of its type."""
+        return 0 < self.deepest <= self.levels
+
+    def variant(self, variants):
+        """A variant of an enum by its place."""
+        return 0 if self.is_deepest() else self.below(len(variants))
+
     def few(self):
-        """A small count, now and then a larger one."""
+        """A small count, now and then a larger one; within a type that contains itself none to two."""
+        if self.levels:
+            return 0 if self.is_deepest() else self.below(3)
         return self.below(4) if self.random() < 0.95 else self.below(20)
 
     def integer(self, low, high):

@@ -14,6 +14,7 @@ class Kind(NamedTuple):
     high: int = 0
     fields: tuple = ()  # of a struct
     variants: tuple = ()  # of an enum: a name and a Kind for its content, or None
+    name: str = ""  # of a type that contains itself, which is none of its own parts
 
 
 class Field(NamedTuple):
@@ -45,6 +46,9 @@ STRUCTS = {
     "Trip": "there: Marker, new?: Option<Empty>, steps: Vec<Step>",
     "Hall": "visits: Visits, greetings: Greetings, taken: Seats",
     "Tagged": "first: i32, other?: Option<String>, more: Vec<i32>, times?: u32",
+    "Chain": "number: u32, next?: Option<Box<Chain>>",
+    "Folder": "name: String, folders: Vec<Folder>",
+    "Menu": "title: String, entries: BTreeMap<String, Menu>",
 }
 ENUMS = {
     "Choice": ["A", "B(i32, String)", "C{a: i32, b: String}"],
@@ -57,7 +61,11 @@ ENUMS = {
     "Step": ["Rest{}", "Walk(u16)", "Stop{}"],
     "Role": ["Guest", "Member", "Moderator", "Owner"],
     "Reply": ["Found(i32)", "Failed(String, u32)", "Listed{items: Vec<i32>, next?: Option<String>}"],
+    "Tree": ["Leaf(i32)", "Node(Vec<Tree>)"],
+    "Expression": ["Number(i64)", "Negated(Box<Expression>)", "Sum(Box<Expression>, Box<Expression>)"],
 }
+# These contain themselves; of an enum the first variant does not.
+NESTED = {"Tree", "Expression", "Chain", "Folder", "Menu"}
 
 
 @functools.lru_cache(maxsize=None)
@@ -98,6 +106,12 @@ def named(word):
     """The type of one word."""
     if word in SAME:
         return parse(SAME[word])
+    return Kind("nested", name=word) if word in NESTED else defined(word)
+
+
+@functools.lru_cache(maxsize=None)
+def defined(word):
+    """A struct or an enum by its parts, or another type of one word."""
     if word in STRUCTS:
         return Kind("struct", fields=fields_of(STRUCTS[word]))
     if word in ENUMS:

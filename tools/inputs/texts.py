@@ -1,4 +1,5 @@
 """JSON and RON of a type, drawn at random: a spelling of a value, with gaps between its tokens."""
+from . import kinds
 
 GAPS = ("", "", "", "", "", " ", "\n", "\t", "\r\n", "  ")
 COMMENTS = ("/**/", "// x\n", "/*x*/", "/* a\n *//**/", "/*/ */", "//\n", "/***/")
@@ -27,7 +28,11 @@ class Spelling:
         return self.draw.quoted(self.draw.text())
 
     def of_option(self, kind):
-        return self.none if self.draw.chance(0.3) else self.value(kind.parts[0])
+        is_none = self.draw.is_deepest() or self.draw.chance(0.3)
+        return self.none if is_none else self.value(kind.parts[0])
+
+    def of_nested(self, kind):
+        return self.draw.nested(lambda: self.value(kinds.defined(kind.name)))
 
     def of_box(self, kind):
         return self.value(kind.parts[0])
@@ -87,7 +92,7 @@ class Json(Spelling):
         return self.between("{", self.fields_of(kind.fields), "}")
 
     def of_enum(self, kind):
-        name, content = self.draw.pick(kind.variants)
+        name, content = kind.variants[self.draw.variant(kind.variants)]
         name = self.name_of(name if self.draw.chance(0.96) else self.draw.text())
         if content is None:
             return name
@@ -129,7 +134,7 @@ class Ron(Spelling):
         return self.between("(", self.fields_of(kind.fields), ")")
 
     def of_enum(self, kind):
-        name, content = self.draw.pick(kind.variants)
+        name, content = kind.variants[self.draw.variant(kind.variants)]
         name = name if self.draw.chance(0.96) else self.draw.pick(("D", "AA", "true", "None", "b"))
         return name if content is None else name + self.value(content)
 

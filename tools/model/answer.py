@@ -24,8 +24,6 @@ class Outcome(NamedTuple):
 
 UNKNOWN = Outcome("unknown", "")
 FORMATS = {"bin", "json", "ron"}
-
-
 run = program.run
 
 

@@ -1,5 +1,5 @@
 """Bytes: how a value is read and written. Section Binary of docs/FORMATS.md."""
-from .type_tree import Type, collected
+from .type_tree import Type, collected, opened
 
 
 class BinFault(Exception):
@@ -65,6 +65,10 @@ def read(type, data, at):
             raise BinFault("Own", at, 0, len(data))
         content, at = read(type.variants[index].content, data, end)
         return (index, content), at
+    if kind == "nested":
+        if type.levels == 0:
+            raise BinFault("Memory", at, 0, len(data))
+        return read(opened(type), data, at)
     count, at = counted(type, *number(data, at, 8))
     item = item_of(type)
     items, at = read_parts((item for _ in range(count)), data, at)
@@ -101,6 +105,8 @@ def write(type, value):
     if kind == "enum":
         index, content = value
         return index.to_bytes(2, "little") + write(type.variants[index].content, content)
+    if kind == "nested":
+        return write(opened(type), value)
     return size(value) + write_parts([item_of(type)] * len(value), value)
 
 

@@ -21,6 +21,8 @@ class Type(NamedTuple):
     size: int = 0  # an integer's bytes
     low: int = 0  # the range of an integer
     high: int = 0
+    name: str = ""  # of one that contains itself
+    levels: int = 0  # how many it may have
 
 
 class Field(NamedTuple):
@@ -81,6 +83,9 @@ STRUCTS = {
     "Trip": ["there: Marker", "new: Option<Empty>", "steps: Vec<Step>"],
     "Hall": ["visits: Visits", "greetings: Greetings", "taken: Seats"],
     "Tagged": ["first: A", "other: Option<B>", "more: Vec<A>", ("times: u32", 1)],
+    "Chain": ["number: u32", "next: Option<Box<Chain>>"],
+    "Folder": ["name: String", "folders: Vec<Folder>"],
+    "Menu": ["title: String", "entries: BTreeMap<String, Menu>"],
 }
 ENUMS = {
     "Choice": ["A", "B(i32, String)", {"C": ["a: i32", "b: String"]}],
@@ -93,7 +98,11 @@ ENUMS = {
     "Step": [{"Rest": []}, "Walk(u16)", {"Stop": []}],
     "Role": ["Guest", "Member", "Moderator", "Owner"],
     "Reply": ["Found(A)", "Failed(B, u32)", {"Listed": ["items: Vec<A>", "next: Option<B>"]}],
+    "Tree": ["Leaf(i32)", "Node(Vec<Tree>)"],
+    "Expression": ["Number(i64)", "Negated(Box<Expression>)", "Sum(Box<Expression>, Box<Expression>)"],
 }
+NESTED = {"Tree", "Expression", "Chain", "Folder", "Menu"}  # these contain themselves
+LEVELS = 128  # of a value of one, the value itself being the first
 STRICT = {"Proxy"}  # these are `deny_unknown`
 PARAMETERS = {"Holder": 1, "Tagged": 2, "Reply": 2}
 # These have one format alone.
@@ -158,6 +167,8 @@ def named(word, parts, given):
     """The type of this name and these parameters."""
     if word in given:
         return given[word]
+    if word in NESTED and not parts:
+        return Type("nested", name=word, levels=LEVELS)
     if word[1:] in BITS and word[0] in "ui" and not parts and word != "isize":
         bits = BITS[word[1:]]
         low, high = (0, 2**bits - 1) if word[0] == "u" else (-(2 ** (bits - 1)), 2 ** (bits - 1) - 1)
@@ -172,12 +183,22 @@ def named(word, parts, given):
         return parse(ALIASES[word])
     if len(parts) != PARAMETERS.get(word, 0):
         raise Unknown(word)
-    given = dict(zip("AB", parts))
+    return defined(word, dict(zip("AB", parts)))
+
+
+def defined(word, given):
+    """The struct or the enum of this name."""
     if word in STRUCTS:
         return struct(STRUCTS[word], given)._replace(strict=word in STRICT)
     if word in ENUMS:
         return Type("enum", variants=tuple(variant(line, given) for line in ENUMS[word]))
     raise Unknown(word)
+
+
+@functools.lru_cache(maxsize=None)
+def opened(type):
+    """What a type that contains itself is; one of these in it has a level less."""
+    return defined(type.name, {type.name: type._replace(levels=type.levels - 1)})
 
 
 def struct(lines, given):

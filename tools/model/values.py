@@ -3,7 +3,7 @@
 See What each type asks, in order, in docs/ERRORS.md, and the tables of types in docs/FORMATS.md.
 """
 from .reader import BLOCK, CURLY, GREATEST
-from .type_tree import collected
+from .type_tree import LEVELS, collected, opened
 
 
 def read(reader, type):
@@ -29,6 +29,10 @@ def read(reader, type):
         return read_fields(reader, type.fields, type.strict)
     if kind == "enum":
         return reader.variant(type.variants)
+    if kind == "nested":
+        if type.levels == 0:
+            raise reader.err_range(f"levels>{LEVELS}")
+        return read(reader, opened(type))
     if kind == "map":
         return collected(kind, read_list(reader, CURLY, lambda: read_pair(reader, *type.parts)))
     return collected(kind, read_list(reader, BLOCK, lambda: read(reader, type.parts[0])))
@@ -109,6 +113,8 @@ def write(form, type, value, level=0):
         return write_parts(form, type.parts, value, level)
     if kind == "struct":
         return write_fields(form, type.fields, value, level)
+    if kind == "nested":
+        return write(form, opened(type), value, level)
     if kind == "enum":
         name, content = type.variants[value[0]]
         has_content = content.kind != "unit"

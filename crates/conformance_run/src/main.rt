@@ -21,6 +21,7 @@ const TABLES: &[(&str, bool)] = &[
     ("requests.tsv", false),
     ("parts.tsv", false),
     ("user_types.tsv", false),
+    ("nested_types.tsv", false),
     ("words.tsv", false),
     ("rust_crate.tsv", false),
     ("states.tsv", false),

@@ -8,6 +8,7 @@ mod errors;
 mod fields;
 mod format;
 mod json_state;
+mod nested_types;
 mod outcome;
 mod reads;
 mod ron_state;

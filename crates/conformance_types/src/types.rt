@@ -1,5 +1,6 @@
 //! The types that a case can name, each in a line. Those of which it can name the bytes alone are
-//! in `bytes_alone`, and user-defined types in `user_types`.
+//! in `bytes_alone`, user-defined types in `user_types`, and those that contain themselves in
+//! `nested_types`.
 
 use crate::containers::{of_hash_map, of_hash_set, of_list, of_option, of_tree_map, of_tree_set};
 use crate::format::Format;

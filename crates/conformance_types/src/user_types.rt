@@ -1,10 +1,10 @@
 //! The user-defined types that a case can name, and what holds them: those of
 //! `nanoserde::records` and of `test_types`.
 
-use crate::bytes_alone::of_bytes_alone;
 use crate::containers::{of_holder, of_list};
 use crate::errors::not_a_text;
 use crate::format::Format;
+use crate::nested_types::of_nested_type;
 use crate::outcome::Outcome;
 use crate::reads::{of_bytes, of_json, of_type};
 use nanoserde::records::{Choice, Holder, Item, Plain, Test};
@@ -57,7 +57,7 @@ fn of_deep(alloc: Global, format: Format, kind: &str, input: &[u8]) -> Result<Ou
     }
 }
 
-/// A type of `test_types`, or one of bytes alone.
+/// A type of `test_types`, or another type.
 fn of_example(
     alloc: Global,
     format: Format,
@@ -92,7 +92,7 @@ fn of_example(
     }
 }
 
-/// A type of `test_types` that is a key or that holds some, or one of bytes alone.
+/// A type of `test_types` that is a key or that holds some, or another type.
 fn of_key(alloc: Global, format: Format, kind: &str, input: &[u8]) -> Result<Outcome, AllocError> {
     match kind {
         "UserId" => of_type::<UserId>(alloc, format, input),
@@ -103,6 +103,6 @@ fn of_key(alloc: Global, format: Format, kind: &str, input: &[u8]) -> Result<Out
         "Greetings" => of_type::<Greetings>(alloc, format, input),
         "Seats" => of_type::<Seats>(alloc, format, input),
         "Hall" => of_type::<Hall>(alloc, format, input),
-        _ => of_bytes_alone(alloc, format, kind, input),
+        _ => of_nested_type(alloc, format, kind, input),
     }
 }

@@ -1,2 +1,3 @@
 pub mod ChoiceReaders
 pub mod NestedLaws
+pub mod LegalLaws

@@ -8,15 +8,9 @@ ghost use Rattle.nano_bin.specs.ContainerCodecs.{option_codec, pair_codec};
 use crate::traits::ReadsBin;
 use nano_bin::{BinCodec, DeBinErr};
 use nano_bin_schema::BinFields;
+use nano_levels::{Other, Within};
 use nano_schema::{Defaulted, Newtype, Optional, Required, Struct};
 use std::alloc::Global;
-use std::marker::PhantomData;
-
-/// Other fields: their values hold no values of the type that has the fields.
-pub struct Other<F>(PhantomData<F>);
-
-/// A field whose value holds values of the type that has the field.
-pub struct Within<F>(PhantomData<F>);
 
 /// Fields that are read from bytes, given how many levels may follow.
 pub trait BinFieldsWithin<L> {

@@ -1,11 +1,11 @@
 -- What is proved of Layers: the type itself, another type, a list, a pair and an option.
-use Rattle.std.specs.Prelude.{◌≡◌, ◌<◌, ◌≤◌, ℕ, suc, max, refl, List, [], ◌∷◌, ◌++◌, map, Option, Some}
+use Rattle.std.specs.Prelude.{◌≡◌, ◌<◌, ◌≤◌, ℕ, suc, refl, List, [], ◌∷◌, ◌++◌, map, Option, Some}
 use Rattle.std.specs.Prelude.{None}
 use Rattle.std.specs.Option.{option_map}
 use Rattle.std.specs.List.{AllByRecursion}
-use Rattle.std.proofs.Common.{sym, ◌∙◌, subst, ap, arith}
+use Rattle.std.proofs.Common.{sym, subst, ap, arith}
 use Rattle.nano_text.specs.Place.{saturating_next}
-use Rattle.nano_value.specs.Meaning.{AllOfList, AllOfOption, BothOfPair}
+use Rattle.nano_value.specs.Meaning.{AllOfList, AllOfOption}
 use Rattle.nano_value.specs.Meaning.{Meaning, listed, paired, pair_map, optional}
 use Rattle.nano_meaning.proofs.MeaningLaws.{all_weaker}
 use Rattle.nano_meaning.proofs.MeaningLaws.{listed_injective, both_injective}

@@ -4,10 +4,10 @@ use Rattle.std.specs.Prelude.{◌≡◌, ◌<◌, ℕ, zero, suc, ◌+◌, refl,
 use Rattle.std.proofs.Common.{sym, ◌∙◌, subst, arith}
 use Rattle.nano_value.specs.Meaning.{Meaning, nothing}
 use Rattle.nano_grammar.specs.Tokens.{Cutting, IsValueText}
-use Rattle.nano_grammar.specs.Codec.{Grammar, IsEncoding, Encoding, StartsWith}
+use Rattle.nano_grammar.specs.Codec.{Grammar, IsEncoding, StartsWith}
 use Rattle.nano_grammar.specs.Codec.{Codec}
 use Rattle.nano_grammar.specs.BaseCodecs.{codec_as}
-use Rattle.nano_levels.specs.Layers.{Layer, Nested}
+use Rattle.nano_levels.specs.Layers.{Nested}
 
 pub nothing_encoded : {T : Type 0} (g : Grammar T) → IsEncoding g {A = Meaning} (λ _. ⊥) (λ _ _. ⊥)
 nothing_encoded g = record {

@@ -1,5 +1,8 @@
 //! How many levels of a type that contains itself may follow.
 
+ghost use Rattle.std.specs.Prelude.{◌≡◌};
+ghost use Rattle.nano_levels.specs.Chains.{left};
+
 use Levels::{More, Out};
 
 /// How many levels may follow: what a reader of a type that contains itself counts down. It is a
@@ -80,7 +83,9 @@ static LEVELS_128: [Levels; 1] = [More(&[More(&[More(&[More(&[More(&[More(&[More
 
 impl Levels {
     /// 128 levels, the most that may follow.
-    pub fn most() -> &'static Levels {
+    pub fn most() -> &'static Levels
+        ensures { left result.now ≡ 128 }
+    {
         &LEVELS_128[0]
     }
 }

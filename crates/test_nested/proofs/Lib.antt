@@ -1,4 +1,9 @@
-mod Trees
-mod Expressions
-mod Chains
-mod Folders
+mod TreeCodecsLaws
+mod ExpressionCodecsLaws
+mod ChainCodecsLaws
+mod FolderCodecsLaws
+mod FilterCodecsLaws
+mod Menus
+mod Outlines
+mod Statements
+mod TreeJsonCodecsLaws

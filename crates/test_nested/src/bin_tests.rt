@@ -1,8 +1,8 @@
 //! Types that contain themselves as bytes.
 
-use crate::checks::{holds, is_read_back, is_rejected, is_too_deep, no_prefix_is_read};
-use crate::{Chain, Expression, Folder, Tree};
-use nano_bin::BothBin;
+use crate::checks::{holds, is_read_as, is_read_back, is_rejected, is_too_deep, no_prefix_is_read};
+use crate::{Branch, Chain, Expression, Folder, Menu, Outline, Statement, Tree};
+use nano_bin::{BothBin, DeBin};
 use std::alloc::{AllocError, Global};
 
 const TREES: &[&[u8]] = &[
@@ -36,6 +36,48 @@ const FOLDERS: &[&[u8]] = &[
     ],
 ];
 
+/// A menu with nothing in it, and one of two entries, `b` and `c`.
+const MENUS: &[&[u8]] = &[
+    &[0, 0, 0, 0, 0, 0, 0, 0, 0, 0, 0, 0, 0, 0, 0, 0],
+    &[
+        1, 0, 0, 0, 0, 0, 0, 0, 97, 2, 0, 0, 0, 0, 0, 0, 0, 1, 0, 0, 0, 0, 0, 0, 0, 98, 0, 0, 0, 0,
+        0, 0, 0, 0, 0, 0, 0, 0, 0, 0, 0, 0, 1, 0, 0, 0, 0, 0, 0, 0, 99, 1, 0, 0, 0, 0, 0, 0, 0,
+        100, 0, 0, 0, 0, 0, 0, 0, 0,
+    ],
+];
+
+/// A menu of the entries `c` and `b`, and `c` again.
+const UNORDERED_MENU: &[u8] = &[
+    1, 0, 0, 0, 0, 0, 0, 0, 97, 3, 0, 0, 0, 0, 0, 0, 0, 1, 0, 0, 0, 0, 0, 0, 0, 99, 0, 0, 0, 0, 0,
+    0, 0, 0, 0, 0, 0, 0, 0, 0, 0, 0, 1, 0, 0, 0, 0, 0, 0, 0, 98, 0, 0, 0, 0, 0, 0, 0, 0, 0, 0, 0,
+    0, 0, 0, 0, 0, 1, 0, 0, 0, 0, 0, 0, 0, 99, 1, 0, 0, 0, 0, 0, 0, 0, 100, 0, 0, 0, 0, 0, 0, 0, 0,
+];
+
+/// An outline with nothing in it, and one of a section `a` and a note.
+const OUTLINES: &[&[u8]] = &[
+    &[0, 0, 0, 0, 0, 0, 0, 0, 0, 0, 0, 0, 0, 0, 0, 0],
+    &[
+        1, 0, 0, 0, 0, 0, 0, 0, 1, 0, 0, 0, 0, 0, 0, 0, 97, 0, 0, 0, 0, 0, 0, 0, 0, 0, 0, 0, 0, 0,
+        0, 0, 0, 1, 0, 0, 0, 0, 0, 0, 0, 0, 0, 0, 0, 0, 0, 0, 0, 0, 0, 0, 0, 0, 0, 0, 0,
+    ],
+];
+
+/// A value for a variable, a block in a block, and a choice.
+const STATEMENTS: &[&[u8]] = &[
+    &[0, 0, 1, 0, 0, 0, 0, 0, 0, 0, 97, 254, 255, 255, 255],
+    &[1, 0, 1, 0, 0, 0, 0, 0, 0, 0, 1, 0, 0, 0, 0, 0, 0, 0, 0, 0],
+    &[
+        2, 0, 1, 0, 0, 0, 0, 0, 0, 0, 0, 0, 1, 0, 0, 0, 0, 0, 0, 0, 0, 0, 0, 7, 0, 0, 0,
+    ],
+];
+
+const BRANCHES: &[&[u8]] = &[
+    &[1, 0, 0, 0, 0, 0, 0, 0, 0, 0, 0],
+    &[
+        2, 0, 1, 0, 0, 0, 0, 0, 0, 0, 0, 0, 0, 1, 1, 0, 0, 0, 0, 0, 0, 0, 0, 0,
+    ],
+];
+
 /// Bytes that are no tree, and where that is found.
 const NO_TREES: &[(&[u8], usize)] = &[
     (&[], 0),
@@ -47,28 +89,67 @@ const NO_TREES: &[(&[u8], usize)] = &[
     (&[1, 0, 1, 0, 0, 0, 0, 0, 0, 0, 9, 0], 10),
 ];
 
-/// Trees one in the other, of so many levels.
-fn nested(alloc: Global, levels: usize) -> Result<Vec<u8>, AllocError> {
+/// What stands before the value inside another, of which it is the last part, and the innermost
+/// value.
+struct Deep {
+    around: &'static [u8],
+    inner: &'static [u8],
+}
+
+const DEEP_TREE: Deep = Deep {
+    around: &[1, 0, 1, 0, 0, 0, 0, 0, 0, 0],
+    inner: &[0, 0, 4, 0, 0, 0],
+};
+
+const DEEP_EXPRESSION: Deep = Deep {
+    around: &[1, 0],
+    inner: &[0, 0, 4, 0, 0, 0, 0, 0, 0, 0],
+};
+
+const DEEP_CHAIN: Deep = Deep {
+    around: &[4, 0, 0, 0, 1],
+    inner: &[4, 0, 0, 0, 0],
+};
+
+const DEEP_FOLDER: Deep = Deep {
+    around: &[0, 0, 0, 0, 0, 0, 0, 0, 1, 0, 0, 0, 0, 0, 0, 0],
+    inner: &[0, 0, 0, 0, 0, 0, 0, 0, 0, 0, 0, 0, 0, 0, 0, 0],
+};
+
+const DEEP_MENU: Deep = Deep {
+    around: &[
+        0, 0, 0, 0, 0, 0, 0, 0, 1, 0, 0, 0, 0, 0, 0, 0, 0, 0, 0, 0, 0, 0, 0, 0,
+    ],
+    inner: &[0, 0, 0, 0, 0, 0, 0, 0, 0, 0, 0, 0, 0, 0, 0, 0],
+};
+
+/// A choice, and its second statement, which counts as two levels.
+const DEEP_STATEMENT: Deep = Deep {
+    around: &[2, 0, 1, 0, 0, 0, 0, 0, 0, 0, 0, 0, 1],
+    inner: &[1, 0, 0, 0, 0, 0, 0, 0, 0, 0],
+};
+
+/// Values one in the other, so many.
+fn nested(alloc: Global, deep: &Deep, count: usize) -> Result<Vec<u8>, AllocError> {
     let mut bytes = Vec::new(alloc);
-    for _ in 1..levels {
-        bytes.extend_from_slice(&[1, 0, 1, 0, 0, 0, 0, 0, 0, 0])?;
+    for _ in 1..count {
+        bytes.extend_from_slice(deep.around)?;
     }
-    bytes.extend_from_slice(&[0, 0, 4, 0, 0, 0])?;
+    bytes.extend_from_slice(deep.inner)?;
     Ok(bytes)
 }
 
-fn is_read(alloc: Global, levels: usize) -> bool {
-    match nested(alloc, levels) {
-        Ok(bytes) => is_read_back::<Tree>(alloc, &bytes),
-        Err(_error) => false,
-    }
-}
-
-fn ends_at(alloc: Global, levels: usize, place: usize) -> bool {
-    match nested(alloc, levels) {
-        Ok(bytes) => is_too_deep::<Tree>(alloc, &bytes, place),
-        Err(_error) => false,
-    }
+/// Whether so many values one in the other are read, and with one more the levels run out at this
+/// place.
+fn ends_after<T: BothBin>(
+    alloc: Global,
+    deep: &Deep,
+    count: usize,
+    place: usize,
+) -> Result<bool, AllocError> {
+    let bytes = nested(alloc, deep, count)?;
+    let deeper = nested(alloc, deep, count + 1)?;
+    Ok(is_read_back::<T>(alloc, &bytes) && is_too_deep::<T>(alloc, &deeper, place))
 }
 
 /// Each is a value, written as the same bytes, and no part of it is one.
@@ -92,6 +173,14 @@ fn types_that_contain_themselves_are_bytes(rt: HostRuntime) {
     );
     holds(&rt, are_values::<Chain>(alloc, CHAINS), "chains");
     holds(&rt, are_values::<Folder>(alloc, FOLDERS), "folders");
+    holds(&rt, are_values::<Menu>(alloc, MENUS), "menus");
+    holds(&rt, are_values::<Outline>(alloc, OUTLINES), "outlines");
+    holds(
+        &rt,
+        are_values::<Statement>(alloc, STATEMENTS),
+        "statements",
+    );
+    holds(&rt, are_values::<Branch>(alloc, BRANCHES), "branches");
 }
 
 #[test]
@@ -103,8 +192,30 @@ fn other_bytes_are_rejected_where_they_differ(rt: HostRuntime) {
 }
 
 #[test]
+fn entries_are_written_in_order_with_the_last_value_of_a_key(rt: HostRuntime) {
+    let alloc = rt.alloc();
+    let is_so = is_read_as::<Menu>(alloc, UNORDERED_MENU, MENUS[1]);
+    holds(&rt, is_so, "a menu");
+}
+
+#[test]
 fn levels_run_out_after_128(rt: HostRuntime) {
     let alloc = rt.alloc();
-    holds(&rt, is_read(alloc, 128), "128 levels");
-    holds(&rt, ends_at(alloc, 129, 1280), "129 levels");
+    let trees = ends_after::<Tree>(alloc, &DEEP_TREE, 128, 1280);
+    holds(&rt, trees.unwrap_or(false), "trees");
+    let expressions = ends_after::<Expression>(alloc, &DEEP_EXPRESSION, 128, 256);
+    holds(&rt, expressions.unwrap_or(false), "expressions");
+    let chains = ends_after::<Chain>(alloc, &DEEP_CHAIN, 128, 640);
+    holds(&rt, chains.unwrap_or(false), "chains");
+    let folders = ends_after::<Folder>(alloc, &DEEP_FOLDER, 128, 2048);
+    holds(&rt, folders.unwrap_or(false), "folders");
+    let menus = ends_after::<Menu>(alloc, &DEEP_MENU, 128, 3072);
+    holds(&rt, menus.unwrap_or(false), "menus");
+}
+
+#[test]
+fn levels_of_types_that_contain_each_other_are_counted_together(rt: HostRuntime) {
+    let alloc = rt.alloc();
+    let statements = ends_after::<Statement>(alloc, &DEEP_STATEMENT, 64, 821);
+    holds(&rt, statements.unwrap_or(false), "statements");
 }

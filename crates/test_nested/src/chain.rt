@@ -1,6 +1,7 @@
 //! A chain: its schema, and then bytes.
 
 /// A number, and what follows it.
+// nanoserde: bin
 #[derive(PartialEq, Debug, Drop)]
 pub struct Chain {
     /// The number.
@@ -9,4 +10,4 @@ pub struct Chain {
     pub next: Option<Box<Chain>>,
 }
 
-mod impls;
+mod derived;

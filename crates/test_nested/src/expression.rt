@@ -1,6 +1,7 @@
 //! An expression: its schema, and then bytes.
 
 /// An expression.
+// nanoserde: bin
 #[derive(PartialEq, Debug, Drop)]
 pub enum Expression {
     /// A number.
@@ -11,4 +12,4 @@ pub enum Expression {
     Sum(Box<Expression>, Box<Expression>),
 }
 
-mod impls;
+mod derived;

@@ -1,6 +1,7 @@
 //! A folder: its schema, and then bytes.
 
 /// A folder.
+// nanoserde: bin
 #[derive(PartialEq, Debug, Drop)]
 pub struct Folder {
     /// Its name.
@@ -9,4 +10,4 @@ pub struct Folder {
     pub folders: Vec<Folder>,
 }
 
-mod impls;
+mod derived;

@@ -1,4 +1,4 @@
-//! User-defined types that contain themselves, as bytes.
+//! User-defined types that contain themselves, as bytes and in JSON.
 #![tactic(auto)]
 
 #[cfg(test)]
@@ -7,12 +7,22 @@ mod chain;
 #[cfg(test)]
 mod checks;
 mod expression;
+mod filter;
 mod folder;
 #[cfg(test)]
+mod json_tests;
+mod menu;
+mod outline;
+#[cfg(test)]
 mod part_tests;
+mod statement;
 mod tree;
 
 pub use chain::Chain;
 pub use expression::Expression;
+pub use filter::Filter;
 pub use folder::Folder;
+pub use menu::Menu;
+pub use outline::Outline;
+pub use statement::{Branch, Statement};
 pub use tree::Tree;

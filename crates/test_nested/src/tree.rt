@@ -1,6 +1,7 @@
 //! A tree: its schema, and then bytes.
 
 /// A tree.
+// nanoserde: bin json
 #[derive(PartialEq, Debug, Drop)]
 pub enum Tree {
     /// A number.
@@ -9,4 +10,4 @@ pub enum Tree {
     Node(Vec<Tree>),
 }
 
-mod impls;
+mod derived;

@@ -1,0 +1,5 @@
+pub mod ListReaders
+pub mod FieldReaders
+pub mod MapReaders
+pub mod NestedLaws
+pub mod WrittenLaws

@@ -1,0 +1,5 @@
+use Rattle.nano_text.proofs.RollbackLaws.{unchanged_by}
+use Rattle.nano_json_nested.proofs.lists.VecWritesJson.write_json.Goals as goal
+
+pub rollback_on_error-requires : goal.rollback_on_error-requires
+rollback_on_error-requires g c = unchanged_by c.append_list-written.result c.args.s.now.out c.append_list-written.new.s.out c.len-start.result _ c.len-start.ensures c.append_list-written.ensures.ok c.append_list-written.ensures.err

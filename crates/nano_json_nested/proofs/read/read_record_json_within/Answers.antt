@@ -1,0 +1,5 @@
+use Rattle.nano_json_tokens.proofs.Calling.{ended_read}
+use Rattle.nano_json_nested.proofs.read.read_record_json_within.Goals as goal
+
+pub returns : goal.returns
+returns g c = ended_read _ _ _ c.read_values-read.new.input c.end_on_error.ensures c.read_values-read.ensures

@@ -1,0 +1,35 @@
+//! Types that contain themselves, in JSON: how such a type is read through an environment, which
+//! says how many levels may follow, and how it is written part by part.
+#![tactic(auto)]
+
+mod boxes;
+mod brackets;
+mod choice;
+mod choices;
+mod contents;
+mod depth;
+mod field_writer;
+mod fields;
+mod lists;
+mod maps;
+mod optional;
+mod options;
+mod pairs;
+mod read;
+mod required;
+mod traits;
+mod variant_writer;
+
+pub use choice::read_choice_json_within;
+pub use choices::JsonChoicesWithin;
+pub use contents::JsonContentWithin;
+pub use depth::{no_levels, too_deep};
+pub use field_writer::{append_optional_within, append_required_within};
+pub use fields::JsonFieldsWithin;
+pub use nano_json::{
+    BothJson, DeJson, DeJsonErr, DeJsonState, JsonCodec, SerJson, SerJsonState, rollback_on_error,
+};
+pub use nano_levels::{Levels, Other, Within};
+pub use read::read_record_json_within;
+pub use traits::{NestedJson, ReadsJson, WritesJson};
+pub use variant_writer::{write_variant_other, write_variant_within};

@@ -1,0 +1,9 @@
+pub mod InsideLaws
+pub mod PartLaws
+pub mod MapLayersLaws
+pub mod FieldLayersLaws
+pub mod VariantLayersLaws
+pub mod NestedLaws
+pub mod LegalLevelsLaws
+pub mod ReadingLaws
+pub mod StepsLaws

@@ -1,0 +1,5 @@
+pub mod Inside
+pub mod FieldLayers
+pub mod VariantLayers
+pub mod LegalLevels
+pub mod Depths

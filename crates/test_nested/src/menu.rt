@@ -1,0 +1,14 @@
+//! A menu: its schema, and then bytes.
+
+use std::collections::BTreeMap;
+
+/// A menu.
+#[derive(PartialEq, Debug, Drop)]
+pub struct Menu {
+    /// Its title.
+    pub title: String,
+    /// The menus that its entries open, by the names of the entries.
+    pub entries: BTreeMap<String, Menu>,
+}
+
+mod impls;
