@@ -148,7 +148,7 @@ fn ends_after<T: BothBin>(
     place: usize,
 ) -> Result<bool, AllocError> {
     let bytes = nested(alloc, deep, count)?;
-    let deeper = nested(alloc, deep, count + 1)?;
+    let deeper = nested(alloc, deep, count.saturating_add(1))?;
     Ok(is_read_back::<T>(alloc, &bytes) && is_too_deep::<T>(alloc, &deeper, place))
 }
 
