@@ -2,12 +2,14 @@
 """Compares the files that derive_files wrote with the copies that the gate has it check.
 
 crates/derive_files/data/CRATE/src/FILE.txt is a copy of crates/CRATE/src/FILE, which ends in `mod derived;`, and
-beside it stands one of the file of that module. Without arguments, prints each copy that differs or that is
+beside it stands one of the file of that module. So do those of the files in specs/ and proofs/ that it wrote, and of
+the Lib.antt that declare them. Without arguments, prints each copy that differs or that is
 missing, and fails; with --copy, makes the copies anew."""
 import os
 import sys
 
 MODULE = "mod derived;\n"
+WRITTEN = "-- Written by derive_files"
 CRATES = os.path.join(os.path.dirname(os.path.abspath(__file__)), "..", "crates")
 DATA = os.path.join(CRATES, "derive_files", "data")
 OTHERS = ("derive_syntax", "derive_text", "derive_files", "test_derive")
@@ -40,6 +42,21 @@ def impls_of(name):
     return os.path.join(folder, "" if stem in ROOTS else stem, "derived.rt")
 
 
+def beside():
+    """The files of definitions and proofs that derive_files wrote, and those that declare them."""
+    for crate in sorted(os.listdir(CRATES)):
+        written = []
+        for part in ("specs", "proofs"):
+            for folder, folders, names in os.walk(os.path.join(CRATES, crate, part)):
+                folders.sort()
+                paths = [os.path.join(folder, name) for name in sorted(names) if name.endswith(".antt")]
+                written += [path for path in paths if text_of(path).startswith(WRITTEN)]
+        if written:
+            written += [os.path.join(CRATES, crate, part, "Lib.antt") for part in ("specs", "proofs")]
+        for path in written:
+            yield os.path.relpath(path, CRATES)
+
+
 def faults_of(name):
     """Whether the copy of a file differs, after it was made, if it is to be."""
     copy = os.path.join(DATA, name + ".txt")
@@ -61,6 +78,8 @@ def main():
         if name + ".txt" not in text_of(os.path.join(CRATES, "derive_files", "args")).split("\n"):
             faults += 1
             print(f"crates/derive_files/args does not name {name}.txt")
+    for name in beside():
+        faults += faults_of(name)
     print(f"{faults} faults")
     return faults != 0
 

@@ -210,6 +210,44 @@ def compare_refs(owner, variant, index, last, refs):
     )
 
 
+def fields_of(kind, content):
+    """The fields of a struct, or of all variants of an enum."""
+    return content[1] if kind == "struct" else [field for variant in content for field in variant[3]]
+
+
+def without_levels(impls, name, fields, row):
+    """A row without what stands around each part: `Within` where it holds the type itself."""
+    inner = []
+    for field, written in zip(fields, parts_of(impls.expanded(row))):
+        around = re.fullmatch(r"(Within|Other)<(.*)>", written)
+        if not around:
+            raise Differs(f"`{written}` is neither within `{name}` nor other")
+        holds = re.search(rf"\b{name}\b", field.type) is not None
+        same(f"whether `{written}` is within `{name}`", holds, around[1] == "Within")
+        inner.append(around[2])
+    return "(" + ",".join(inner) + ")"
+
+
+def compare_nested(impls, kind, name, content):
+    """A type that contains itself: names, types and order, and which parts hold the type itself."""
+    if kind == "struct":
+        row = without_levels(impls, name, content[1], impls.aliases[f"{name}Fields"])
+        return compare_fields(impls, name, content[1], row, "")
+    rows = parts_of(impls.expanded(impls.aliases[f"{name}Variants"]))
+    same(f"number of variants of `{name}`", len(content), len(rows))
+    for (variant, of_variant, shape, fields), written in zip(content, rows):
+        names, index, row = re.fullmatch(r"Variant<(\w+)(?:<(\d+)>)?,(.*)>", written).groups()
+        wanted = name_of(variant, of_variant, "", True)
+        same(f"name of `{name}::{variant}`", wanted, impls.names(names)[int(index or 0)])
+        if shape == "Struct":
+            row = without_levels(impls, name, fields, re.fullmatch(r"Struct<(.*)>", row)[1])
+            compare_fields(impls, f"{name}::{variant}", fields, row, "")
+        elif shape != "Unit":
+            types = [f"Newtype<{field.type}>" for field in fields]
+            got = parts_of(without_levels(impls, name, fields, row))
+            same(f"types of `{name}::{variant}`", types, got)
+
+
 def compare_key(impls, kind, name, attributes, content):
     """A key has both impls: its order is that of what it holds, or of its variants as declared."""
     keys = {trait for trait in impls.traits(name) if trait in ("Key", "OrderedKey")}
@@ -268,5 +306,9 @@ def compare(source, text):
         compare_strict(impls, name, attributes)
         for trait, written in impls.bounds(name):
             same(f"bounds of `{trait}` for `{name}`", bounds, written)
-        (compare_struct if kind == "struct" else compare_enum)(impls, name, attributes, content)
+        types = [field.type for field in fields_of(kind, content)]
+        if any(re.search(rf"\b{name}\b", of) for of in types):
+            compare_nested(impls, kind, name, content)
+        else:
+            (compare_struct if kind == "struct" else compare_enum)(impls, name, attributes, content)
     return len(found)

@@ -1,19 +1,24 @@
 //! Writes the impls of user-defined types into files of their own.
 //!
-//! `derive_files FILE..` writes the module `derived` of each file that ends in `mod derived;`.
-//! `derive_files --check FILE..` writes nothing, and prints the name of each file whose module is
-//! not what would be written: its status is then 1. `derive_files --print FILE..` prints the
+//! `derive_files FILE..` writes the module `derived` of each file that ends in `mod derived;`, and
+//! for types that contain themselves files in `specs/` and `proofs/` of the crate.
+//! `derive_files --check FILE..` writes nothing, and prints the name of each file for which other
+//! texts would be written: its status is then 1. `derive_files --print FILE..` prints the
 //! modules. For a file at fault nothing is written; what is wrong is printed with its line and
 //! column, that line, and a caret under the character.
 #![tactic(auto)]
 
+mod beside;
+mod disk;
+
 use anyhow::{Context, Result, bail};
+use beside::{is_beside, write_beside};
+use derive_nested::{NestedFile, nested_files};
 use derive_text::{DeriveError, Written, derive, derived_path, module_of};
+use disk::{has_text, put, replace};
 use std::alloc::AllocError;
-use std::env;
-use std::fs::{self, File};
-use std::io::{ErrorKind, Write};
 use std::process::ExitCode;
+use std::{env, fs};
 
 /// What is done with the impls that are written for a file.
 #[derive(Clone, Copy)]
@@ -42,6 +47,8 @@ enum Outcome {
 struct Files {
     /// The file, as it was named.
     name: String,
+    /// Its path from the root of the file system.
+    path: String,
     /// The module that it is, as ghost names say it.
     module: String,
     /// The file of the module of the impls.
@@ -61,6 +68,7 @@ impl Files {
         let name = String::from_str(rt.alloc(), name)?;
         Ok(Files {
             name,
+            path,
             module,
             impls,
         })
@@ -76,33 +84,12 @@ fn whole_path(rt: &HostRuntime, name: &str) -> Result<String> {
     Ok(format!(in rt.alloc(); "{}/{name}", folder.as_str())?)
 }
 
-/// Writes a text beside a file, and then moves it to the file's place: where a step fails, the
-/// file is still what it was.
-fn replace(rt: &HostRuntime, name: &str, text: &str) -> Result<()> {
-    let beside = format!(in rt.alloc(); "{name}.new")?;
-    let mut file = File::create(rt, beside.as_str())?;
-    file.write_all(text.as_bytes())?;
-    file.sync_all()?;
-    Ok(fs::rename(rt, beside.as_str(), name)?)
-}
-
-/// Whether a file is there and has this text.
-fn has_text(rt: &HostRuntime, name: &str, text: &str) -> Result<bool> {
-    match fs::read_to_string(rt, name) {
-        Ok(found) => Ok(found.as_str() == text),
-        Err(error) if error.kind() == ErrorKind::NotFound => Ok(false),
-        Err(error) => Err(error).context(format_args!("reading {name}")),
-    }
-}
-
-/// Writes the file of the impls and the folder that it stands in, and then, if it is moved, the
-/// file with the types.
-fn write(rt: &HostRuntime, files: &Files, written: &Written) -> Result<()> {
+/// Writes the file of the impls and those beside the sources, and then, if it is moved, the file
+/// with the types.
+fn write(rt: &HostRuntime, files: &Files, written: &Written, beside: &[NestedFile]) -> Result<()> {
     let impls = files.impls.as_str();
-    if let Some((folder, _name)) = impls.rsplit_once('/') {
-        fs::create_dir_all(rt, folder).context(format_args!("making {folder}"))?;
-    }
-    replace(rt, impls, written.impls.as_str()).context(format_args!("writing {impls}"))?;
+    put(rt, impls, written.impls.as_str())?;
+    write_beside(rt, files.path.as_str(), beside)?;
     match &written.moved {
         Some(text) => replace(rt, files.name.as_str(), text.as_str()).context(format_args!(
             "writing {}",
@@ -116,8 +103,8 @@ fn write(rt: &HostRuntime, files: &Files, written: &Written) -> Result<()> {
 fn derive_file(rt: &HostRuntime, name: &str, mode: Mode) -> Result<Outcome> {
     let source = fs::read_to_string(rt, name).context(format_args!("reading {name}"))?;
     let files = Files::of(rt, name)?;
-    match derive(rt.alloc(), files.module.as_str(), source.as_str()) {
-        Ok(written) => finish(rt, &files, mode, &written),
+    match texts_of(rt, files.module.as_str(), source.as_str()) {
+        Ok((written, beside)) => finish(rt, &files, mode, (&written, &beside)),
         Err(DeriveError::Source(fault)) => {
             fault.show(&mut rt.stderr(), name, source.as_str())?;
             Ok(Outcome::Faulty)
@@ -126,20 +113,37 @@ fn derive_file(rt: &HostRuntime, name: &str, mode: Mode) -> Result<Outcome> {
     }
 }
 
+/// The impls that are written for a source of this module, and the files beside the sources.
+fn texts_of(
+    rt: &HostRuntime,
+    module: &str,
+    source: &str,
+) -> Result<(Written, Vec<NestedFile>), DeriveError> {
+    let written = derive(rt.alloc(), module, source)?;
+    let beside = nested_files(rt.alloc(), module, source)?;
+    Ok((written, beside))
+}
+
 /// Does with what is written for a file what is asked.
-fn finish(rt: &HostRuntime, files: &Files, mode: Mode, written: &Written) -> Result<Outcome> {
+fn finish(
+    rt: &HostRuntime,
+    files: &Files,
+    mode: Mode,
+    (written, beside): (&Written, &[NestedFile]),
+) -> Result<Outcome> {
     if matches!(mode, Mode::Print) {
         print!(rt; "{}", written.impls)?;
         return Ok(Outcome::Fresh);
     }
-    let is_there = has_text(rt, files.impls.as_str(), written.impls.as_str())?;
+    let is_there = has_text(rt, files.impls.as_str(), written.impls.as_str())?
+        && is_beside(rt, files.path.as_str(), beside)?;
     if is_there && written.moved.is_none() {
         return Ok(Outcome::Fresh);
     }
     if matches!(mode, Mode::Check) {
         return Ok(Outcome::Stale);
     }
-    write(rt, files, written)?;
+    write(rt, files, written, beside)?;
     Ok(Outcome::Fresh)
 }
 

@@ -84,7 +84,7 @@ impl From<AllocError> for DeriveError {
 }
 
 /// The error of a fault in a source.
-pub(crate) fn error_of(alloc: Global, source: &str, fault: Fault) -> DeriveError
+pub fn error_of(alloc: Global, source: &str, fault: Fault) -> DeriveError
     ensures { IsErrorIn source.now result }
 {
     match fault {

@@ -48,6 +48,19 @@ pub(crate) fn above_marker(source: &str) -> Result<&str, Fault>
     }
 }
 
+/// What stands above the line that names the module, or above the marker of a source that does not
+/// end in that line.
+///
+/// # Errors
+///
+/// The source does not end in that line, and has no marker or two.
+pub fn text_above(source: &str) -> Result<&str, Fault> {
+    match above_module(source) {
+        Some(above) => Ok(above),
+        None => above_marker(source),
+    }
+}
+
 /// The fault of a source that does not end in the line that names the module.
 fn without_module(source: &str) -> Fault {
     match source.rfind(MODULE_LINE) {

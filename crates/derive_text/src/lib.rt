@@ -6,6 +6,6 @@ mod impls;
 mod output;
 
 pub use derive_syntax::{
-    DeriveError, MARKER, MODULE_LINE, SourceFault, Written, derived_path, module_of,
+    DeriveError, MARKER, MODULE_LINE, SourceFault, Written, derived_path, module_of, path_in_crate,
 };
 pub use impls::derive;

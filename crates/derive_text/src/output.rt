@@ -19,6 +19,10 @@ mod layout;
 mod making;
 mod means;
 mod names;
+mod nested;
+mod nested_bodies;
+mod nested_rows;
+mod nested_writes;
 mod parameters;
 mod records;
 mod rows;
@@ -37,6 +41,7 @@ use choices::append_choice;
 use derive_syntax::{Definition, Fault, Shape, Source};
 use keys::append_key;
 use names::Names;
+use nested::append_nested;
 use records::append_record;
 use sheet::Sheet;
 use std::alloc::Global;
@@ -75,6 +80,9 @@ fn append_impls<'a>(
     module: &'a str,
     definition: &Definition<'a>,
 ) -> Result<(), Fault> {
+    if definition.contains_itself() {
+        return append_nested(sheet, module, definition);
+    }
     let target = Target::new(sheet, module, definition)?;
     match &definition.shape {
         Shape::Fields(fields) => append_record(sheet, &target, fields)?,

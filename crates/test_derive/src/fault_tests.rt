@@ -21,7 +21,7 @@ fn begins(rt: &impl Abort, became: Result<String, AllocError>, expected: &str) {
 }
 
 /// Each source has the fault that stands after it.
-fn are_reported(rt: &impl Abort, alloc: Global, rows: &str) {
+pub(crate) fn are_reported(rt: &impl Abort, alloc: Global, rows: &str) {
     for row in rows.split("\n----\n") {
         let (above, expected) = row.split_once("\n=> ").unwrap_or((row, "a fault"));
         begins(rt, outcome_above(alloc, above), expected);

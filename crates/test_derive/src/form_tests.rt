@@ -16,7 +16,7 @@ fn have_lines(rt: &impl Abort, written: &str, lines: &str) {
 }
 
 /// What became of a source has each of these lines.
-fn has_lines(rt: &impl Abort, became: Result<String, AllocError>, lines: &str) {
+pub(crate) fn has_lines(rt: &impl Abort, became: Result<String, AllocError>, lines: &str) {
     match became {
         Ok(written) => have_lines(rt, written.as_str(), lines),
         Err(_failed) => assert!(rt; false, "no memory"),
@@ -24,7 +24,7 @@ fn has_lines(rt: &impl Abort, became: Result<String, AllocError>, lines: &str) {
 }
 
 /// The lines after each source are written of it.
-fn are_written(rt: &impl Abort, alloc: Global, rows: &str) {
+pub(crate) fn are_written(rt: &impl Abort, alloc: Global, rows: &str) {
     for row in rows.split("----\n") {
         let (above, lines) = row.split_once("=>\n").unwrap_or((row, "a line"));
         has_lines(rt, outcome_above(alloc, above), lines);

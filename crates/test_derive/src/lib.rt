@@ -1,4 +1,4 @@
-//! Tests of `derive_text` over its public surface.
+//! Tests of `derive_text` and `derive_nested` over their public surfaces.
 #![tactic(auto)]
 
 #[cfg(test)]
@@ -29,6 +29,12 @@ mod mistakes;
 mod mutation_tests;
 #[cfg(test)]
 mod named_forms;
+#[cfg(test)]
+mod nested_faults;
+#[cfg(test)]
+mod nested_forms;
+#[cfg(test)]
+mod nested_tests;
 #[cfg(test)]
 mod outcome;
 #[cfg(test)]

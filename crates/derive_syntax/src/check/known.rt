@@ -63,7 +63,7 @@ const NO_SHARED: &str =
 const NO_FLOAT: &str = "is a type that has no format here: write an integer, or a `String` that \
     has the number's text";
 
-const NO_SELF: &str = "is a type that has no format here: no type contains itself";
+const NO_SELF: &str = "stands for the type around it: write its name";
 
 /// An error at a type of Rust's that a format of this type lacks.
 fn check_number(word: Token<'_>, attributes: Attributes<'_>) -> Result<(), Fault> {

@@ -33,28 +33,10 @@ pub(crate) fn append_chains<'a>(
     variants: &[Variant<'a>],
     schemas: &[Leaf],
 ) -> Result<(), AllocError> {
-    let named = named_by(sheet.alloc, &target.parameters, variants)?;
-    let row = Chain {
-        full: target.row.as_str(),
-        before: "",
-        open: "(",
-        close: ")",
-        items: Items::Types,
-    };
-    append_chain(sheet, row, &named, schemas)?;
-    let either = match variants.len() {
-        1 => String::new(sheet.alloc),
-        _ => sheet.short("nano_schema::Either<")?,
-    };
-    let values = Chain {
-        full: target.values.as_str(),
-        before: "",
-        open: either.as_str(),
-        close: ">",
-        items: Items::Patterns,
-    };
     let held = held_types(sheet.alloc, variants, "$TYPE")?;
-    append_chain(sheet, values, &named, &held)?;
+    append_owned_chains(sheet, target, variants, (schemas, &held))?;
+    let named = named_by(sheet.alloc, &target.parameters, variants)?;
+    let either = either_of(sheet, variants.len())?;
     let refs = Chain {
         full: target.refs.as_str(),
         before: "<'a",
@@ -64,6 +46,42 @@ pub(crate) fn append_chains<'a>(
     };
     let held = held_types(sheet.alloc, variants, "&'a $TYPE")?;
     append_chain(sheet, refs, &named, &held)
+}
+
+/// What opens the list of a first variant and the rest of so many, if there is a rest.
+fn either_of(sheet: &mut Sheet, count: usize) -> Result<String, AllocError> {
+    match count {
+        1 => Ok(String::new(sheet.alloc)),
+        _ => sheet.short("nano_schema::Either<"),
+    }
+}
+
+/// Appends the types of the variants and of what they hold, the last variant's first. Each variant
+/// has a schema, and a type of what it holds.
+pub(crate) fn append_owned_chains<'a>(
+    sheet: &mut Sheet,
+    target: &Target<'a>,
+    variants: &[Variant<'a>],
+    (schemas, held): (&[Leaf], &[Leaf]),
+) -> Result<(), AllocError> {
+    let named = named_by(sheet.alloc, &target.parameters, variants)?;
+    let row = Chain {
+        full: target.row.as_str(),
+        before: "",
+        open: "(",
+        close: ")",
+        items: Items::Types,
+    };
+    append_chain(sheet, row, &named, schemas)?;
+    let either = either_of(sheet, variants.len())?;
+    let values = Chain {
+        full: target.values.as_str(),
+        before: "",
+        open: either.as_str(),
+        close: ">",
+        items: Items::Patterns,
+    };
+    append_chain(sheet, values, &named, held)
 }
 
 /// For each variant the parameters that it and those after it name.

@@ -50,7 +50,7 @@ fn seen<'a>(
 
 /// A text for each field as nested pairs, on a line that is indented so far, after so many columns
 /// of it.
-fn laid<'a>(
+pub(crate) fn laid<'a>(
     alloc: Global,
     fields: &[Field<'a>],
     template: &str,
@@ -62,7 +62,11 @@ fn laid<'a>(
 }
 
 /// A struct of fields that are at hand by their names, but for those that are skipped.
-fn made<'a>(alloc: Global, target: &Target<'a>, fields: &[Field<'a>]) -> Result<Piece, AllocError> {
+pub(crate) fn made<'a>(
+    alloc: Global,
+    target: &Target<'a>,
+    fields: &[Field<'a>],
+) -> Result<Piece, AllocError> {
     let mut names = Vec::new(alloc);
     for field in fields {
         names.push(Piece::of(alloc, made_field(alloc, *field)?.as_str())?)?;

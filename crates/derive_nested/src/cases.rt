@@ -1,0 +1,219 @@
+//! That what a value means, and how deep it is, are the same step by step as the layer says. Where
+//! a part is an option of values of the type itself, it is proved where it has none and where it
+//! has some.
+
+use crate::nested::{Held, Nested};
+use crate::row::Leaf;
+use crate::wrapped::{atom, held_proof};
+use std::alloc::{AllocError, Global};
+
+/// What is proved of a value.
+#[derive(Clone, Copy)]
+pub(crate) enum Said {
+    /// What it means, as a value of the variant at this place.
+    Means(usize),
+    /// How deep it is.
+    Depth,
+}
+
+/// A part in a case.
+#[derive(Drop)]
+struct Chosen {
+    /// Its value.
+    value: String,
+    /// The proof of it, if it takes one.
+    proof: Option<String>,
+    /// Whether it holds values of the type itself.
+    is_within: bool,
+}
+
+/// The proof for a variant or for the struct.
+pub(crate) fn proof(
+    alloc: Global,
+    nested: &Nested,
+    held: &Held,
+    said: Said,
+) -> Result<String, AllocError> {
+    cased(alloc, (nested, held), said, &[], &held.leaves)
+}
+
+/// The proof where the first parts are chosen, for all cases of the rest.
+fn cased(
+    alloc: Global,
+    of: (&Nested, &Held),
+    said: Said,
+    chosen: &[Chosen],
+    rest: &[Leaf],
+) -> Result<String, AllocError> {
+    let Some((leaf, later)) = rest.split_first() else {
+        return row_proof(alloc, of, said, chosen);
+    };
+    if !leaf.part.is_cased {
+        let proof = leaf_proof(alloc, leaf, said, leaf.value.as_str())?;
+        let more = with(alloc, chosen, leaf, leaf.value.as_str(), proof)?;
+        return cased(alloc, of, said, &more, later);
+    }
+    let some = format!(in alloc; "x{}", chosen.len())?;
+    let value = format!(in alloc; "(Some {some})")?;
+    let more = with(alloc, chosen, leaf, "None", None)?;
+    let without = cased(alloc, of, said, &more, later)?;
+    let proof = leaf_proof(alloc, leaf, said, some.as_str())?;
+    let more = with(alloc, chosen, leaf, value.as_str(), proof)?;
+    let within = cased(alloc, of, said, &more, later)?;
+    let motive = with(alloc, chosen, leaf, "o", None)?;
+    let stated = statement(alloc, of, said, (&motive, later))?;
+    format!(in alloc;
+        "by_option (λ o. {stated})\n    {} (λ {some}. {within})\n    {}",
+        atom(alloc, without.as_str())?,
+        leaf.value
+    )
+}
+
+/// The proof of a part of this value.
+fn leaf_proof(
+    alloc: Global,
+    leaf: &Leaf,
+    said: Said,
+    value: &str,
+) -> Result<Option<String>, AllocError> {
+    match said {
+        Said::Means(_place) => held_proof(alloc, &leaf.part.means_same, value),
+        Said::Depth => held_proof(alloc, &leaf.part.depth_same, value),
+    }
+}
+
+/// The chosen parts, and one more.
+fn with(
+    alloc: Global,
+    chosen: &[Chosen],
+    leaf: &Leaf,
+    value: &str,
+    proof: Option<String>,
+) -> Result<Vec<Chosen>, AllocError> {
+    let mut all = Vec::new(alloc);
+    for part in chosen {
+        all.push(Chosen {
+            value: part.value.clone()?,
+            proof: held_proof(alloc, &part.proof, "$")?,
+            is_within: part.is_within,
+        })?;
+    }
+    let value = String::from_str(alloc, value)?;
+    let is_within = leaf.part.layer.is_some();
+    all.push(Chosen {
+        value,
+        proof,
+        is_within,
+    })?;
+    Ok(all)
+}
+
+/// What is proved of a value with these parts.
+fn statement(
+    alloc: Global,
+    (nested, held): (&Nested, &Held),
+    said: Said,
+    (chosen, later): (&[Chosen], &[Leaf]),
+) -> Result<String, AllocError> {
+    let (name, snake) = (nested.names.of.as_str(), nested.names.snake.as_str());
+    let mut values = Vec::new(alloc);
+    for part in chosen {
+        values.push(part.value.clone()?)?;
+    }
+    for leaf in later {
+        values.push(leaf.value.clone()?)?;
+    }
+    let value = value_of(alloc, nested, held, &values)?;
+    let (end, of, layered) = match said {
+        Said::Means(_place) => ("means", "Meaning", "means"),
+        Said::Depth => ("depth", "ℕ", "deep"),
+    };
+    format!(in alloc;
+        "{snake}_{end}_step (map-{name} {name} {of} {snake}_{end} {value})\n    \
+        ≡ {snake}_layer.{layered} {snake}_{end} ({snake}_opened {{X = {name}}} {value})"
+    )
+}
+
+/// A value with these parts.
+fn value_of(
+    alloc: Global,
+    nested: &Nested,
+    held: &Held,
+    values: &[String],
+) -> Result<String, AllocError> {
+    let mut text = String::new(alloc);
+    for (name, value) in held.called.iter().zip(values.iter()) {
+        let part = if nested.is_enum {
+            format!(in alloc; " {value}")?
+        } else {
+            let between = if text.is_empty() { "" } else { ";" };
+            format!(in alloc; "{between} {name} = {value}")?
+        };
+        text.push_str(part.as_str())?;
+    }
+    if nested.is_enum {
+        format!(in alloc; "({}-F.{}{text})", nested.names.of, held.name)
+    } else {
+        format!(in alloc; "(record {{{text} }})")
+    }
+}
+
+/// The proof for parts in one case.
+fn row_proof(
+    alloc: Global,
+    (nested, _held): (&Nested, &Held),
+    said: Said,
+    chosen: &[Chosen],
+) -> Result<String, AllocError> {
+    match (pairs_proof(alloc, said, chosen)?, said) {
+        (None, _) => String::from_str(alloc, "refl"),
+        (Some(proof), Said::Means(place)) if nested.is_enum => {
+            format!(in alloc;
+                "ap (λ m. tagged {place} m) {}",
+                atom(alloc, proof.as_str())?
+            )
+        }
+        (Some(proof), _) => Ok(proof),
+    }
+}
+
+/// The proof for nested pairs of parts, if it takes one.
+fn pairs_proof(alloc: Global, said: Said, chosen: &[Chosen]) -> Result<Option<String>, AllocError> {
+    if let [part] = chosen {
+        return held_proof(alloc, &part.proof, "$");
+    }
+    let (first, second) = chosen.split_at(chosen.len() / 2);
+    if chosen.is_empty() {
+        return Ok(None);
+    }
+    let lemma = match said {
+        Said::Means(_place) => "pair_means",
+        Said::Depth if are_within(first) => "pair_depth",
+        Said::Depth => return pairs_proof(alloc, said, second),
+    };
+    let one = pairs_proof(alloc, said, first)?;
+    let other = pairs_proof(alloc, said, second)?;
+    if one.is_none() && other.is_none() {
+        return Ok(None);
+    }
+    let (one, other) = (argument(alloc, &one)?, argument(alloc, &other)?);
+    Ok(Some(format!(in alloc; "{lemma} {one} {other}")?))
+}
+
+/// Whether one of these parts holds values of the type itself.
+fn are_within(chosen: &[Chosen]) -> bool {
+    for part in chosen {
+        if part.is_within {
+            return true;
+        }
+    }
+    false
+}
+
+/// A proof as an argument.
+fn argument(alloc: Global, proof: &Option<String>) -> Result<String, AllocError> {
+    match proof {
+        Some(proof) => atom(alloc, proof.as_str()),
+        None => String::from_str(alloc, "refl"),
+    }
+}

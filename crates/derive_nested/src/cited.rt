@@ -1,0 +1,168 @@
+//! The modules whose names a definition or a law may cite.
+
+use crate::imports::Known;
+
+/// Those modules.
+pub(crate) const CITED: [Known; 26] = [
+    Known {
+        module: "std.specs.Prelude",
+        names: &[
+            "◌≡◌",
+            "◌++◌",
+            "ℕ",
+            "ℤ",
+            "List",
+            "suc",
+            "max",
+            "map",
+            "refl",
+            "Bool",
+            "Box",
+            "Option",
+            "Some",
+            "None",
+            "String",
+            "Vec",
+            "string_bytes",
+        ],
+    },
+    Known {
+        module: "std.specs.Global",
+        names: &["Global"],
+    },
+    Known {
+        module: "std.specs.Int",
+        names: &["w8", "w16", "w32", "w64", "w128"],
+    },
+    Known {
+        module: "std.specs.Option",
+        names: &["option_map"],
+    },
+    Known {
+        module: "std.proofs.Common",
+        names: &[
+            "◌∙◌",
+            "ap",
+            "append_assoc",
+            "inl",
+            "inr",
+            "lit≤",
+            "rules",
+            "sym",
+        ],
+    },
+    Known {
+        module: "nano_value.specs.Meaning",
+        names: &[
+            "Meaning", "nothing", "truth", "number", "whole", "text", "optional", "listed",
+            "paired",
+        ],
+    },
+    Known {
+        module: "nano_value.specs.Sums",
+        names: &["tagged"],
+    },
+    Known {
+        module: "nano_levels.specs.Layers",
+        names: &["greatest"],
+    },
+    Known {
+        module: "nano_schema.specs.declared.choices.Either",
+        names: &["Either"],
+    },
+    Known {
+        module: "nano_schema.specs.declared.choices.Either.TheVariants",
+        names: &["First", "Later"],
+    },
+    Known {
+        module: "nano_schema_levels.specs.Depths",
+        names: &["held_depth"],
+    },
+    Known {
+        module: "nano_schema_levels.proofs.StepsLaws",
+        names: &[
+            "by_option",
+            "list_depth",
+            "list_means",
+            "option_means",
+            "pair_depth",
+            "pair_means",
+        ],
+    },
+    Known {
+        module: "nano_bin_bytes.specs.Codec",
+        names: &["Codec"],
+    },
+    Known {
+        module: "nano_bin_bytes.specs.BaseCodecs",
+        names: &["codec_as"],
+    },
+    Known {
+        module: "nano_bin_bytes.specs.Scalars",
+        names: &["little_endian"],
+    },
+    Known {
+        module: "nano_bin_bytes.proofs.ScalarsLaws",
+        names: &["bits_fit_128"],
+    },
+    Known {
+        module: "nano_bin.specs.ScalarCodecs",
+        names: &[
+            "boolean_codec",
+            "u8_codec",
+            "u16_codec",
+            "u32_codec",
+            "u64_codec",
+            "usize_codec",
+            "unsigned_codec",
+            "i8_codec",
+            "i16_codec",
+            "i32_codec",
+            "i64_codec",
+            "signed_codec",
+            "string_codec",
+            "unit_codec",
+        ],
+    },
+    Known {
+        module: "nano_bin.specs.ContainerCodecs",
+        names: &["list_codec", "option_codec", "pair_codec"],
+    },
+    Known {
+        module: "nano_bin_levels.specs.Layers",
+        names: &["Layer", "Nested"],
+    },
+    Known {
+        module: "nano_bin_levels.proofs.LayersLaws",
+        names: &["itself_layer", "next_layer", "other_layer", "seen_layer"],
+    },
+    Known {
+        module: "nano_bin_levels.proofs.ListsLaws",
+        names: &["list_layer"],
+    },
+    Known {
+        module: "nano_bin_levels.proofs.OptionsLaws",
+        names: &["option_layer"],
+    },
+    Known {
+        module: "nano_bin_levels.proofs.LevelsLaws",
+        names: &["nested_codec"],
+    },
+    Known {
+        module: "nano_bin_nested.specs.ChoiceLayerCodecs",
+        names: &[
+            "ChoiceLayer",
+            "choice_layer",
+            "last_variant",
+            "next_variant",
+        ],
+    },
+    Known {
+        module: "nano_bin_nested.specs.PairLayerCodecs",
+        names: &["pair_layer"],
+    },
+    Known {
+        module: "nano_bin_nested.proofs.NestedLaws",
+        names: &["seen_legal", "written_seen"],
+    },
+];

@@ -1,0 +1,120 @@
+//! The definitions of a type that contains itself that are not of bytes: what a value is seen as,
+//! what it means, and how deep it is.
+
+use crate::nested::{Held, Nested};
+use crate::wrapped::atom;
+use std::alloc::{AllocError, Global};
+
+/// The definitions of a type.
+pub(crate) fn definitions(alloc: Global, nested: &Nested) -> Result<String, AllocError> {
+    let mut text = seen(alloc, nested)?;
+    text.push_str(meant(alloc, nested)?.as_str())?;
+    Ok(text)
+}
+
+// ---- what a value is seen as
+
+/// What a value is seen as.
+fn seen(alloc: Global, nested: &Nested) -> Result<String, AllocError> {
+    let (name, snake) = (nested.names.of.as_str(), nested.names.snake.as_str());
+    let head = format!(in alloc; "{name}Content X")?;
+    let content = nested.seen(alloc, "X")?;
+    let content = equation(alloc, head.as_str(), content.as_str())?;
+    let mut values = Vec::new(alloc);
+    for (i, held) in nested.contents.iter().enumerate() {
+        values.push(nested.at_place(alloc, i, held.row.value.as_str())?)?;
+    }
+    let opened = cases(alloc, nested, "opened", &values)?;
+    format!(in alloc;
+        "
+-- ==== {name}: what a value is seen as
+
+abbrev pub {name}Content : Type 0 → Type 0
+{content}
+abbrev pub {snake}_opened : {{X : Type 0}} → {name}-F X → {name}Content X
+{opened}
+abbrev pub {snake}_view : {name} → {name}Content {name}
+{snake}_view x = {snake}_opened (out-{name} x)
+"
+    )
+}
+
+/// How many columns a line has.
+const COLUMNS: usize = 100;
+
+/// The line of a definition: what is defined, and the term; or two lines, where it is too long.
+pub(crate) fn equation(alloc: Global, head: &str, term: &str) -> Result<String, AllocError> {
+    let line = format!(in alloc; "{head} = {term}")?;
+    if line.chars().count() <= COLUMNS {
+        format!(in alloc; "{line}\n")
+    } else {
+        format!(in alloc; "{head} =\n    {term}\n")
+    }
+}
+
+/// A definition by cases, of which there is one for each variant or for the struct: the end of its
+/// name, and the terms.
+pub(crate) fn cases(
+    alloc: Global,
+    nested: &Nested,
+    end: &str,
+    terms: &[String],
+) -> Result<String, AllocError> {
+    let mut text = String::new(alloc);
+    for (held, term) in nested.contents.iter().zip(terms.iter()) {
+        let pattern = pattern(alloc, nested, held)?;
+        let head = format!(in alloc; "{}_{end} {pattern}", nested.names.snake)?;
+        text.push_str(equation(alloc, head.as_str(), term.as_str())?.as_str())?;
+    }
+    Ok(text)
+}
+
+/// What stands for the values in a definition by cases.
+fn pattern(alloc: Global, nested: &Nested, held: &Held) -> Result<String, AllocError> {
+    if !nested.is_enum {
+        return String::from_str(alloc, "y");
+    }
+    let (name, values) = (nested.names.of.as_str(), held.values(alloc)?);
+    let constructor = format!(in alloc; "{name}-F.{}{values}", held.name)?;
+    atom(alloc, constructor.as_str())
+}
+
+// ---- what it means, and how deep it is
+
+/// What a value means, and how deep it is.
+fn meant(alloc: Global, nested: &Nested) -> Result<String, AllocError> {
+    let (name, snake) = (nested.names.of.as_str(), nested.names.snake.as_str());
+    let mut steps = Vec::new(alloc);
+    let mut depths = Vec::new(alloc);
+    for (i, held) in nested.contents.iter().enumerate() {
+        steps.push(step(alloc, nested, held, i)?)?;
+        depths.push(held.row.part.depth.clone()?)?;
+    }
+    let steps = cases(alloc, nested, "means_step", &steps)?;
+    let depths = cases(alloc, nested, "depth_step", &depths)?;
+    format!(in alloc;
+        "
+-- ---- what it means, and how deep it is
+
+abbrev pub {snake}_means_step : {name}-F Meaning → Meaning
+{steps}
+abbrev pub {snake}_means : {name} → Meaning
+{snake}_means = fold-{name} Meaning {snake}_means_step
+
+abbrev pub {snake}_depth_step : {name}-F ℕ → ℕ
+{depths}
+abbrev pub {snake}_depth : {name} → ℕ
+{snake}_depth = fold-{name} ℕ {snake}_depth_step
+"
+    )
+}
+
+/// What a value of a variant at its place means, or one of the struct.
+fn step(alloc: Global, nested: &Nested, held: &Held, i: usize) -> Result<String, AllocError> {
+    let step = held.row.part.step.as_str();
+    if nested.is_enum {
+        format!(in alloc; "tagged {i} {}", atom(alloc, step)?)
+    } else {
+        String::from_str(alloc, step)
+    }
+}

@@ -1,0 +1,75 @@
+//! The answers to what is to be proved of the function that says that a value of an enum is legal:
+//! in each variant it is so by the law of the variant, by what the calls for its parts give.
+
+use crate::answers::{Answers, HEAD, folder_of};
+use crate::codec_laws::law_end;
+use crate::nested::{Held, Nested};
+use crate::wrapped::atom;
+use derive_syntax::{codecs_name, crate_of};
+use std::alloc::{AllocError, Global};
+
+/// The answers for that function of an enum in a module.
+pub(crate) fn known_answers(
+    alloc: Global,
+    module: &str,
+    nested: &Nested,
+) -> Result<Answers, AllocError> {
+    let (library, path) = crate_of(module);
+    let (name, file) = (nested.names.of.as_str(), codecs_name(alloc, module)?);
+    let folder = folder_of(alloc, path)?;
+    let (cited, answers) = answered(alloc, nested)?;
+    Ok(Answers {
+        path: format!(in alloc; "{folder}/{name}Value/+known/Answers.antt")?,
+        text: format!(in alloc;
+            "{HEAD}use Rattle.{library}.proofs.{file}Laws.{{{cited}}}
+use Rattle.{library}.proofs{path}.derived.{name}Value.+known.Goals as goal
+{answers}"
+        )?,
+    })
+}
+
+/// The names of the laws of the variants, and the answers by them.
+fn answered(alloc: Global, nested: &Nested) -> Result<(String, String), AllocError> {
+    let mut cited = String::new(alloc);
+    let mut answers = String::new(alloc);
+    for (i, held) in nested.contents.iter().enumerate() {
+        let law = format!(in alloc; "{}_legal_{}", nested.names.snake, law_end(alloc, held)?)?;
+        let before = if i == 0 { "" } else { ", " };
+        cited.push_str(format!(in alloc; "{before}{law}")?.as_str())?;
+        answers.push_str(answer(alloc, held, i == 0, law.as_str())?.as_str())?;
+    }
+    Ok((cited, answers))
+}
+
+/// The answer for a variant, the first one or another, by this law.
+fn answer(alloc: Global, held: &Held, is_first: bool, law: &str) -> Result<String, AllocError> {
+    let variant = held.name.as_str();
+    let mut values = String::new(alloc);
+    for name in &held.called {
+        values.push_str(format!(in alloc; " c.in-{variant}.{name}")?.as_str())?;
+    }
+    let mut calls = String::new(alloc);
+    for i in 0..held.leaves.len() {
+        let call = call_at(alloc, variant, is_first, i)?;
+        calls.push_str(format!(in alloc; " c.{call}.ensures")?.as_str())?;
+    }
+    let used = atom(alloc, format!(in alloc; "{law}{values}{calls}")?.as_str())?;
+    format!(in alloc;
+        "
+pub returns-in-{variant} : goal.returns-in-{variant}
+returns-in-{variant} t c = rw c.in-{variant}.is {used}
+"
+    )
+}
+
+/// The name of a call for the part of a variant at this place. The first call of the function has
+/// the name of what it calls; a later one has that of the variant after it, and a number from the
+/// second on.
+fn call_at(alloc: Global, variant: &str, is_first: bool, i: usize) -> Result<String, AllocError> {
+    let number = if is_first { i } else { i.saturating_add(1) };
+    match number {
+        0 => String::from_str(alloc, "known"),
+        1 => format!(in alloc; "known-in-{variant}"),
+        _ => format!(in alloc; "known-in-{variant}-{number}"),
+    }
+}

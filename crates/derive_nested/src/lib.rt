@@ -1,0 +1,23 @@
+//! Writes the definitions and the proofs of user-defined types that contain themselves: what a
+//! value of such a type means, how deep it is and how it is encoded as bytes, and the answers to what
+//! is to be proved of its impls.
+#![tactic(auto)]
+
+mod answers;
+mod bin_codec;
+mod brought;
+mod cases;
+mod cited;
+mod codec_laws;
+mod coded;
+mod definitions;
+mod files;
+mod imports;
+mod known_answers;
+mod nested;
+mod part;
+mod row;
+mod wrapped;
+
+pub use derive_syntax::{DeriveError, SourceFault};
+pub use files::{Folder, NestedFile, nested_files};

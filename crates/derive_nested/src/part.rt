@@ -1,0 +1,115 @@
+//! What is said of a part of a type that contains itself, as ghost terms. Where a term speaks of
+//! values of the type itself or of the part's value, it has a hole, which is a dollar sign.
+
+use derive_syntax::Core;
+use std::alloc::{AllocError, Global};
+
+/// What is said of a part.
+#[derive(Drop)]
+pub(crate) struct Part {
+    /// Its type; the hole is the type itself.
+    pub(crate) of: String,
+    /// Its codec; the hole is that of the type itself.
+    pub(crate) codec: String,
+    /// As bytes its layer around the type itself. A part that holds no values of it has none.
+    pub(crate) layer: Option<String>,
+    /// What its value means, where the values of the type itself are meanings.
+    pub(crate) step: String,
+    /// What its value means.
+    pub(crate) means: String,
+    /// How deep its value is, where the values of the type itself are depths.
+    pub(crate) depth: String,
+    /// Whether it is an option of values of the type itself: what is said of it is proved where it
+    /// has none, and where it has some. The proofs are of what it has.
+    pub(crate) is_cased: bool,
+    /// That both say the same of what its value means, if it takes a proof.
+    pub(crate) means_same: Option<String>,
+    /// That its depth is that of the layer, if it takes a proof.
+    pub(crate) depth_same: Option<String>,
+}
+
+/// The names of what is said of a type.
+#[derive(Drop)]
+pub(crate) struct Names {
+    /// Its name.
+    pub(crate) of: String,
+    /// The same in snake case, with which the names of its definitions begin.
+    pub(crate) snake: String,
+}
+
+/// The types of Rust's: the name, and as ghost terms the type, the codec and the meaning.
+const PLAIN: [(&str, &str, &str, &str); 14] = [
+    ("bool", "Bool", "boolean_codec", "truth $"),
+    ("u8", "ℕ", "u8_codec", "whole $"),
+    ("u16", "ℕ", "u16_codec", "whole $"),
+    ("u32", "ℕ", "u32_codec", "whole $"),
+    ("u64", "ℕ", "u64_codec", "whole $"),
+    ("u128", "ℕ", "unsigned_codec 16", "whole $"),
+    ("usize", "ℕ", "usize_codec", "whole $"),
+    ("i8", "ℤ", "i8_codec", "number $"),
+    ("i16", "ℤ", "i16_codec", "number $"),
+    ("i32", "ℤ", "i32_codec", "number $"),
+    ("i64", "ℤ", "i64_codec", "number $"),
+    ("i128", "ℤ", "signed_codec w128 16 bits_fit_128", "number $"),
+    (
+        "String",
+        "String Global",
+        "string_codec",
+        "text (string_bytes $)",
+    ),
+    ("()", "Unit {0}", "unit_codec", "nothing"),
+];
+
+/// What is said of a part that stands in no other type.
+pub(crate) fn core_part(alloc: Global, names: &Names, core: Core<'_>) -> Result<Part, AllocError> {
+    match core {
+        Core::Itself => itself(alloc, names),
+        Core::Plain(name) => plain_part(alloc, name),
+    }
+}
+
+/// What is said of the type itself.
+fn itself(alloc: Global, names: &Names) -> Result<Part, AllocError> {
+    let snake = names.snake.as_str();
+    Ok(Part {
+        of: String::from_str(alloc, "$")?,
+        codec: String::from_str(alloc, "$")?,
+        layer: Some(String::from_str(alloc, "itself_layer")?),
+        step: String::from_str(alloc, "$")?,
+        means: format!(in alloc; "{snake}_means $")?,
+        depth: String::from_str(alloc, "suc $")?,
+        is_cased: false,
+        means_same: None,
+        depth_same: None,
+    })
+}
+
+/// What is said of a type of Rust's.
+fn plain_part(alloc: Global, name: &str) -> Result<Part, AllocError> {
+    for (known, of, codec, means) in PLAIN {
+        if known == name {
+            return other_part(alloc, (of, codec, means));
+        }
+    }
+    nothing_part(alloc)
+}
+
+/// What is said of nothing.
+pub(crate) fn nothing_part(alloc: Global) -> Result<Part, AllocError> {
+    other_part(alloc, ("Unit {0}", "unit_codec", "nothing"))
+}
+
+/// What is said of a type that holds no values of the type itself.
+fn other_part(alloc: Global, (of, codec, means): (&str, &str, &str)) -> Result<Part, AllocError> {
+    Ok(Part {
+        of: String::from_str(alloc, of)?,
+        codec: String::from_str(alloc, codec)?,
+        layer: None,
+        step: String::from_str(alloc, means)?,
+        means: String::from_str(alloc, means)?,
+        depth: String::from_str(alloc, "0")?,
+        is_cased: false,
+        means_same: None,
+        depth_same: None,
+    })
+}

@@ -1,0 +1,162 @@
+//! Types that contain themselves, and types that contain each other.
+
+use crate::fault::Fault;
+use crate::nested::nested_part;
+use crate::syntax::{Attributes, Content, Definition, Field, Shape, Source, Type, Variant};
+use crate::token::{Token, TokenKind};
+use std::alloc::{AllocError, Global};
+
+const CIRCLE: &str = "leads back to the type that it stands in: types that contain each other have \
+    no format here";
+
+const TUPLE: &str = "is a tuple struct that contains itself: give its parts names";
+
+const GENERIC: &str =
+    "is a type parameter of a type that contains itself, and such a type has none";
+
+const BYTES_ALONE: &str = "stands above a type that contains itself, which has bytes alone: write \
+    `bin`";
+
+const NO_WORD: &str = "stands in a type that contains itself: above its fields and variants is no \
+    attribute but `rename`";
+
+/// An error where a type with formats contains itself in a way that is not written, or contains
+/// another one that contains it.
+pub(crate) fn check_nested<'a>(
+    alloc: Global,
+    source: &Source<'a>,
+    definition: &Definition<'a>,
+) -> Result<(), Fault> {
+    if definition.attributes.codec.is_none() {
+        return Ok(());
+    }
+    check_circle(alloc, source, definition)?;
+    if !definition.contains_itself() {
+        return Ok(());
+    }
+    if let Some(parameter) = definition.parameters.first() {
+        return Err(parameter.fault(GENERIC));
+    }
+    check_formats(definition.attributes)?;
+    match &definition.shape {
+        Shape::Fields(fields) => check_fields(alloc, definition.name, fields),
+        Shape::Parts(_parts) => Err(definition.name.fault(TUPLE)),
+        Shape::Variants(variants) => check_variants(alloc, definition.name, variants),
+    }
+}
+
+/// An error at the first word above a type that asks for more than bytes in both directions.
+fn check_formats(attributes: Attributes<'_>) -> Result<(), Fault> {
+    let mut in_comment = false;
+    for token in attributes.above {
+        match token.kind {
+            TokenKind::Attribute => in_comment = true,
+            TokenKind::AttributeEnd => in_comment = false,
+            TokenKind::Word if in_comment && token.text != "bin" => {
+                return Err(token.fault(BYTES_ALONE));
+            }
+            _ => {}
+        }
+    }
+    Ok(())
+}
+
+/// An error at a field that is not written.
+fn check_fields<'a>(alloc: Global, name: Token<'a>, fields: &[Field<'a>]) -> Result<(), Fault> {
+    for field in fields {
+        check_words(alloc, field.attributes)?;
+        let _part = nested_part(alloc, name, field.of)?;
+    }
+    Ok(())
+}
+
+/// An error at an attribute of a field that changes more than its name.
+fn check_words(alloc: Global, attributes: Attributes<'_>) -> Result<(), Fault> {
+    let aliases = attributes.aliases(alloc)?;
+    let word = match (attributes.skip, attributes.default) {
+        (Some(word), _) | (None, Some(word)) => Some(word),
+        (None, None) => aliases.first().copied(),
+    };
+    match word {
+        Some(word) => Err(word.fault(NO_WORD)),
+        None => Ok(()),
+    }
+}
+
+/// An error at a part that is not written.
+fn check_parts<'a>(alloc: Global, name: Token<'a>, parts: &[Type<'a>]) -> Result<(), Fault> {
+    for part in parts {
+        let _part = nested_part(alloc, name, *part)?;
+    }
+    Ok(())
+}
+
+/// An error at a variant that is not written.
+fn check_variants<'a>(
+    alloc: Global,
+    name: Token<'a>,
+    variants: &[Variant<'a>],
+) -> Result<(), Fault> {
+    for variant in variants {
+        match &variant.content {
+            Content::Nothing => {}
+            Content::Parts(parts) => check_parts(alloc, name, parts)?,
+            Content::Fields(fields) => check_fields(alloc, name, fields)?,
+        }
+    }
+    Ok(())
+}
+
+/// An error at another type that contains this one, by however many types of the file.
+fn check_circle<'a>(
+    alloc: Global,
+    source: &Source<'a>,
+    definition: &Definition<'a>,
+) -> Result<(), Fault> {
+    for other in &source.definitions {
+        if other.name.text == definition.name.text {
+            continue;
+        }
+        if let Some(word) = definition.place_of(other.name) {
+            if leads_to(alloc, source, other.name, definition.name)? {
+                return Err(word.fault(CIRCLE));
+            }
+        }
+    }
+    Ok(())
+}
+
+/// Whether one type of the file contains another, by however many types of it.
+fn leads_to<'a>(
+    alloc: Global,
+    source: &Source<'a>,
+    from: Token<'a>,
+    to: Token<'a>,
+) -> Result<bool, AllocError> {
+    let mut reached = Vec::new(alloc);
+    reached.push(from)?;
+    for _turn in &source.definitions {
+        add_contained(source, &mut reached)?;
+    }
+    Ok(to.is_among(&reached))
+}
+
+/// Adds the types that those which are reached contain.
+fn add_contained<'a>(source: &Source<'a>, reached: &mut Vec<Token<'a>>) -> Result<(), AllocError> {
+    for definition in &source.definitions {
+        if !definition.name.is_among(reached) && is_contained(source, reached, definition.name) {
+            reached.push(definition.name)?;
+        }
+    }
+    Ok(())
+}
+
+/// Whether one of these types contains this one.
+fn is_contained<'a>(source: &Source<'a>, reached: &[Token<'a>], name: Token<'a>) -> bool {
+    for definition in &source.definitions {
+        if definition.name.is_among(reached) && definition.place_of(name).is_some() {
+            return true;
+        }
+    }
+    false
+}

@@ -1,0 +1,184 @@
+//! Types that contain themselves: which they are, and what their parts are made of.
+
+use crate::fault::Fault;
+use crate::syntax::{Content, Definition, Field, Shape, Type, Variant};
+use crate::token::Token;
+use std::alloc::Global;
+
+/// A type of the library that a part of a type that contains itself may stand in.
+#[derive(Clone, Copy, PartialEq)]
+pub enum Holder {
+    /// `Box`.
+    Box,
+    /// `Option`.
+    Option,
+    /// `Vec`.
+    Vec,
+}
+
+/// What a part is, within all types that it stands in.
+#[derive(Clone, Copy, PartialEq)]
+pub enum Core<'a> {
+    /// The type itself.
+    Itself,
+    /// A type of Rust's, by its name.
+    Plain(&'a str),
+}
+
+/// A part of a type that contains itself.
+#[derive(Drop)]
+pub struct NestedPart<'a> {
+    /// What it stands in, from without.
+    pub holders: Vec<Holder>,
+    /// What it is in there.
+    pub core: Core<'a>,
+}
+
+impl NestedPart<'_> {
+    /// Whether it holds values of the type itself.
+    pub fn is_within(&self) -> bool {
+        self.core == Core::Itself
+    }
+}
+
+impl<'a> Definition<'a> {
+    /// Whether the type has itself among its fields or parts.
+    pub fn contains_itself(&self) -> bool {
+        self.place_of(self.name).is_some()
+    }
+
+    /// The first place in its fields or parts at which a type of this name stands. A word within a
+    /// path is none.
+    pub(crate) fn place_of(&self, name: Token<'a>) -> Option<Token<'a>> {
+        match &self.shape {
+            Shape::Fields(fields) => place_in_fields(fields, name),
+            Shape::Parts(parts) => place_in_parts(parts, name),
+            Shape::Variants(variants) => place_in_variants(variants, name),
+        }
+    }
+}
+
+/// The first place in variants.
+fn place_in_variants<'a>(variants: &[Variant<'a>], name: Token<'a>) -> Option<Token<'a>> {
+    for variant in variants {
+        let place = match &variant.content {
+            Content::Nothing => None,
+            Content::Parts(parts) => place_in_parts(parts, name),
+            Content::Fields(fields) => place_in_fields(fields, name),
+        };
+        if place.is_some() {
+            return place;
+        }
+    }
+    None
+}
+
+/// The first place in fields.
+fn place_in_fields<'a>(fields: &[Field<'a>], name: Token<'a>) -> Option<Token<'a>> {
+    for field in fields {
+        let place = field.of.parameter_of(&[name]);
+        if place.is_some() {
+            return place;
+        }
+    }
+    None
+}
+
+/// The first place in parts.
+fn place_in_parts<'a>(parts: &[Type<'a>], name: Token<'a>) -> Option<Token<'a>> {
+    for part in parts {
+        let place = part.parameter_of(&[name]);
+        if place.is_some() {
+            return place;
+        }
+    }
+    None
+}
+
+const PLAIN: [&str; 14] = [
+    "bool", "u8", "u16", "u32", "u64", "u128", "usize", "i8", "i16", "i32", "i64", "i128",
+    "String", "()",
+];
+
+const NO_PART: &str = "stands in a type that contains itself: a part of one is an integer, `bool`, \
+    `()`, a `String` or the type itself, as it is or within `Vec`, `Option` and `Box`";
+
+const ENDLESS: &str = "stands in itself with no `Box` and no `Vec` around it";
+
+const INNER: &str = "has an `Option` of the type that contains itself within it: such an `Option` \
+    is the whole of a part";
+
+/// What the type of a part is made of, in the type of this name, which contains itself.
+///
+/// # Errors
+///
+/// The part is made of other types, or is the type itself with nothing that ends it, or an
+/// allocation fails.
+pub fn nested_part<'a>(
+    alloc: Global,
+    name: Token<'a>,
+    of: Type<'a>,
+) -> Result<NestedPart<'a>, Fault> {
+    let mut holders = Vec::new(alloc);
+    let mut inner = of;
+    for _turn in of.0 {
+        let Some((holder, held)) = held_in(inner) else {
+            break;
+        };
+        holders.push(holder)?;
+        inner = held;
+    }
+    let held = holders.get(1..).unwrap_or(&[]);
+    match core_of(name, inner) {
+        Some(core) if core == Core::Itself && held.contains(&Holder::Option) => {
+            Err(fault_at(of, INNER))
+        }
+        Some(core) if core == Core::Itself && !has_end(&holders) => Err(fault_at(inner, ENDLESS)),
+        Some(core) => Ok(NestedPart { holders, core }),
+        None => Err(fault_at(inner, NO_PART)),
+    }
+}
+
+/// A fault at the first token of a type.
+fn fault_at(of: Type<'_>, words: &'static str) -> Fault {
+    match of.0.first() {
+        Some(token) => token.fault(words),
+        None => Fault::place(0, words),
+    }
+}
+
+/// The type of the library that a type is, and what stands in it.
+fn held_in<'a>(of: Type<'a>) -> Option<(Holder, Type<'a>)> {
+    let (word, open) = (of.0.first()?, of.0.get(1)?);
+    if !open.is("<") {
+        return None;
+    }
+    let holder = match word.text {
+        "Box" => Holder::Box,
+        "Option" => Holder::Option,
+        "Vec" => Holder::Vec,
+        _ => return None,
+    };
+    let held = of.0.get(2..of.0.len().saturating_sub(1))?;
+    match held.last() {
+        Some(comma) if comma.is(",") => {
+            Some((holder, Type(held.get(..held.len().saturating_sub(1))?)))
+        }
+        _ => Some((holder, Type(held))),
+    }
+}
+
+/// What a type is that stands in no other: the type of this name, or one of Rust's.
+fn core_of<'a>(name: Token<'a>, of: Type<'a>) -> Option<Core<'a>> {
+    match of.0 {
+        [word] if word.text == name.text => Some(Core::Itself),
+        [word] if PLAIN.contains(&word.text) => Some(Core::Plain(word.text)),
+        [open, close] if open.is("(") && close.is(")") => Some(Core::Plain("()")),
+        _ => None,
+    }
+}
+
+/// Whether values of a type may end in one of these.
+fn has_end(holders: &[Holder]) -> bool {
+    holders.contains(&Holder::Box) || holders.contains(&Holder::Vec)
+}

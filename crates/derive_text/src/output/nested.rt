@@ -1,0 +1,204 @@
+//! Types that contain themselves, as bytes: their schema, what writes them part by part, and what
+//! reads them within levels. Their codecs stand in a file of definitions.
+
+use crate::output::layout::{Brackets, Items, Piece, list};
+use crate::output::nested_bodies::{known_arms, known_fields};
+use crate::output::nested_rows::{NestedRow, append_choice_row, append_record_row};
+use crate::output::nested_writes::{write_arms, write_fields};
+use crate::output::sheet::Sheet;
+use crate::output::target::Target;
+use crate::output::template::Holes;
+use derive_syntax::{Case, Definition, Fault, Shape, codecs_name, crate_of};
+use std::alloc::{AllocError, Global};
+
+/// What differs between structs and enums.
+struct Kind {
+    /// The trait of the schema.
+    schema: &'static str,
+    /// What reads one.
+    read: &'static str,
+    /// Whether it is that of enums.
+    is_enum: bool,
+}
+
+const RECORD: Kind = Kind {
+    schema: "nano_schema::StructSchema",
+    read: "read_record_within",
+    is_enum: false,
+};
+
+const CHOICE: Kind = Kind {
+    schema: "nano_schema::EnumSchema",
+    read: "read_choice_within",
+    is_enum: true,
+};
+
+/// Appends the impls of a type that contains itself.
+pub(crate) fn append_nested<'a>(
+    sheet: &mut Sheet,
+    module: &'a str,
+    definition: &Definition<'a>,
+) -> Result<(), Fault> {
+    let target = Target::new(sheet, module, definition)?;
+    let name = definition.name;
+    match &definition.shape {
+        Shape::Parts(_parts) => Ok(()),
+        Shape::Fields(fields) => {
+            let row = append_record_row(sheet, &target, fields)?;
+            let known = known_fields(sheet, fields)?;
+            let write = write_fields(sheet, name, fields)?;
+            Ok(append_impls(sheet, &target, &RECORD, &row, (&known, &write))?)
+        }
+        Shape::Variants(variants) => {
+            let row = append_choice_row(sheet, &target, variants)?;
+            let known = known_arms(sheet, variants)?;
+            let write = write_arms(sheet, name, variants)?;
+            Ok(append_impls(sheet, &target, &CHOICE, &row, (&known, &write))?)
+        }
+    }
+}
+
+const IMPLS: &str = "
+impl $SCHEMA for $TYPE {
+    ghost use Rattle.$SPECS.{$SEEN};
+
+    type Values = $HELD;
+
+    ghost view = { $SEEN };
+
+$VIEWS    fn make(values: Self::Values) -> Self {
+$MAKING    }
+}
+
+impl nano_schema::Value for $TYPE {
+    ghost use Rattle.$SPECS.{$MEANS, $BIN};
+
+    ghost means = { $MEANS };
+
+    ghost legal = { $BIN.encoding.legal };
+
+$LEGAL    fn known(&self) {
+$KNOWN    }
+}
+
+// ---- bytes
+
+impl nano_bin_schema::BinCodec for $TYPE {
+    ghost use Rattle.$SPECS.{$BIN};
+
+    ghost bin = { $BIN };
+
+    ghost agrees = { agreed };
+}
+
+impl nano_bin_nested::WritesBin for $TYPE {
+    #[tactic(auto, using($LAWS_written_laws))]
+    fn write_bin(&self, alloc: std::alloc::Global, output: &mut Vec<u8>) \
+        -> Result<(), std::alloc::AllocError> {
+$WRITE    }
+}
+
+impl nano_bin_schema::SerBin for $TYPE {
+    fn ser_bin(&self, alloc: std::alloc::Global, output: &mut Vec<u8>) \
+        -> Result<(), std::alloc::AllocError> {
+        nano_bin_nested::WritesBin::write_bin(self, alloc, output)
+    }
+}
+
+impl nano_bin_nested::ReadsBin<$TYPE> for nano_levels::Levels {
+    #[cycle(read)]
+    fn read_bin(&self, alloc: std::alloc::Global, offset: &mut usize, bytes: &[u8]) \
+        -> Result<$TYPE, nano_bin_schema::DeBinErr> {
+        let nano_levels::Levels::More(below) = self else {
+            return Err(nano_bin_nested::no_memory(*offset, bytes));
+        };
+        let Some(below) = below.first() else {
+            return Err(nano_bin_nested::no_memory(*offset, bytes));
+        };
+        $CALL
+    }
+}
+
+impl nano_bin_schema::DeBin for $TYPE {
+    ghost is_decodable = { refl };
+
+    fn de_bin(alloc: std::alloc::Global, offset: &mut usize, bytes: &[u8]) \
+        -> Result<Self, nano_bin_schema::DeBinErr> {
+        let levels = nano_levels::Levels::most();
+        nano_bin_nested::ReadsBin::<Self>::read_bin(levels, alloc, offset, bytes)
+    }
+}";
+
+/// Appends the impls of a type with this row: what its values mean, and bytes. Given are the bodies
+/// of what says that a value is legal, and of what writes it.
+fn append_impls<'a>(
+    sheet: &mut Sheet,
+    target: &Target<'a>,
+    kind: &Kind,
+    row: &NestedRow,
+    (known, write): (&String, &String),
+) -> Result<(), AllocError> {
+    sheet.import("ghost use Rattle.std.specs.Prelude.{refl};")?;
+    sheet.import("ghost use Rattle.nano_schema.specs.UserTypes.{agreed};")?;
+    let mut holes = target.holes(sheet.alloc)?;
+    put_names(&mut holes, sheet.alloc, target, kind.is_enum)?;
+    holes.put("SCHEMA", sheet.short(kind.schema)?.as_str())?;
+    holes.put("CALL", reading(sheet, target, kind)?.as_str())?;
+    holes.put("HELD", row.values.as_str())?;
+    holes.put("MAKING", row.making.as_str())?;
+    holes.put("KNOWN", known.as_str())?;
+    holes.put("WRITE", write.as_str())?;
+    sheet.write(IMPLS, &holes)
+}
+
+/// Adds the names of the definitions of a type, and of the laws that tactics name: those by which
+/// an enum is made, a struct is known to be legal, and a value is written.
+fn put_names<'a>(
+    holes: &mut Holes,
+    alloc: Global,
+    target: &Target<'a>,
+    is_enum: bool,
+) -> Result<(), AllocError> {
+    let (library, _path) = crate_of(target.module);
+    let file = codecs_name(alloc, target.module)?;
+    let name = Case::Snake.of_variant(alloc, target.name.text)?;
+    let specs = format!(in alloc; "{library}.specs.{file}")?;
+    holes.put("SPECS", specs.as_str())?;
+    holes.put("SEEN", format!(in alloc; "{name}_view")?.as_str())?;
+    holes.put("MEANS", format!(in alloc; "{name}_means")?.as_str())?;
+    holes.put("BIN", format!(in alloc; "{name}_codec")?.as_str())?;
+    let laws = format!(in alloc; "crate::proofs::{file}Laws::{name}")?;
+    let end = if is_enum { "views" } else { "legal" };
+    let tactic = format!(in alloc; "    #[tactic(auto, using({laws}_{end}))]\n")?;
+    let (views, legal) = if is_enum {
+        (tactic.as_str(), "")
+    } else {
+        ("", tactic.as_str())
+    };
+    holes.put("LAWS", laws.as_str())?;
+    holes.put("VIEWS", views)?;
+    holes.put("LEGAL", legal)
+}
+
+/// The call that reads a value one level below.
+fn reading<'a>(sheet: &mut Sheet, target: &Target<'a>, kind: &Kind) -> Result<String, AllocError> {
+    let alloc = sheet.alloc;
+    let open = format!(in alloc;
+        "nano_bin_nested::{}::<nano_levels::Levels, {}, {}>(",
+        kind.read, target.full, target.row
+    )?;
+    let open = sheet.short(open.as_str())?;
+    let mut arguments = Vec::new(alloc);
+    for argument in ["below", "alloc", "offset", "bytes"] {
+        arguments.push(Piece::of(alloc, argument)?)?;
+    }
+    let brackets = Brackets {
+        open: open.as_str(),
+        close: ")",
+        items: Items::Values,
+        indent: 8,
+        before: 8,
+        after: 0,
+    };
+    Ok(list(alloc, brackets, &arguments)?.laid)
+}

@@ -1,0 +1,200 @@
+//! The rows of types that contain themselves: `Within` stands around fields and parts that hold
+//! values of the type, and `Other` around the rest.
+
+use crate::output::chains::append_owned_chains;
+use crate::output::fields::field_texts;
+use crate::output::labels::{append_labels, name_of};
+use crate::output::layout::Items;
+use crate::output::names::in_type_name;
+use crate::output::nested_bodies::{record_making, variants_making};
+use crate::output::records::laid;
+use crate::output::rows::{Leaf, append_row, paired};
+use crate::output::sheet::Sheet;
+use crate::output::target::Target;
+use crate::output::tuples::part_types;
+use crate::output::types::{optional_part, type_text};
+use derive_syntax::{Content, Field, Token, Type, Variant, field_name, variant_name};
+use std::alloc::{AllocError, Global};
+
+/// What a type that contains itself is made of.
+#[derive(Drop)]
+pub(crate) struct NestedRow {
+    /// The type of the values of its fields, or of the content of its variants.
+    pub(crate) values: String,
+    /// The body of what makes it of those.
+    pub(crate) making: String,
+}
+
+/// Appends the row of a struct.
+pub(crate) fn append_record_row<'a>(
+    sheet: &mut Sheet,
+    target: &Target<'a>,
+    fields: &[Field<'a>],
+) -> Result<NestedRow, AllocError> {
+    let leaves = field_leaves(sheet, target, target.name.text, fields)?;
+    append_row(sheet, target.row.as_str(), &leaves)?;
+    Ok(NestedRow {
+        values: laid(sheet.alloc, fields, "$TYPE", Items::Types, (4, 18))?,
+        making: record_making(sheet.alloc, target, fields)?,
+    })
+}
+
+/// The fields of an owner as they stand in its row, after their labels.
+fn field_leaves<'a>(
+    sheet: &mut Sheet,
+    target: &Target<'a>,
+    owner: &str,
+    fields: &[Field<'a>],
+) -> Result<Vec<Leaf>, AllocError> {
+    let mut names = Vec::new(sheet.alloc);
+    for field in fields {
+        names.push(field_name(sheet.alloc, *field, None)?)?;
+    }
+    let labels = append_labels(sheet, owner, &names)?;
+    labelled(sheet, target.name, fields, labels)
+}
+
+/// Fields with these labels as they stand in a row.
+fn labelled<'a>(
+    sheet: &mut Sheet,
+    name: Token<'a>,
+    fields: &[Field<'a>],
+    labels: Vec<String>,
+) -> Result<Vec<Leaf>, AllocError> {
+    let mut leaves = Vec::new(sheet.alloc);
+    for (field, label) in fields.iter().zip(labels) {
+        let (kind, part) = match optional_part(field.of) {
+            Some(part) => ("nano_schema::Optional<", part),
+            None => ("nano_schema::Required<", field.of),
+        };
+        let mut texts = Vec::new(sheet.alloc);
+        texts.push(label)?;
+        texts.push(type_text(sheet.alloc, part)?)?;
+        leaves.push(leaf(sheet, name, (kind, field.of), texts)?)?;
+    }
+    Ok(leaves)
+}
+
+/// A field or a part of this kind and type, whose arguments are these texts, as it stands in a row
+/// of the type of this name.
+fn leaf<'a>(
+    sheet: &mut Sheet,
+    name: Token<'a>,
+    (kind, of): (&str, Type<'a>),
+    texts: Vec<String>,
+) -> Result<Leaf, AllocError> {
+    let around = match of.parameter_of(&[name]) {
+        Some(_itself) => "nano_levels::Within<",
+        None => "nano_levels::Other<",
+    };
+    let open = format!(in sheet.alloc; "{around}{kind}")?;
+    Ok(Leaf {
+        open: sheet.short(open.as_str())?,
+        texts,
+        close: ">>",
+        around: Vec::new(sheet.alloc),
+    })
+}
+
+/// Parts without names as they stand in a row of the type of this name.
+fn part_leaves<'a>(
+    sheet: &mut Sheet,
+    name: Token<'a>,
+    parts: &[Type<'a>],
+) -> Result<Vec<Leaf>, AllocError> {
+    let mut leaves = Vec::new(sheet.alloc);
+    for part in parts {
+        let mut texts = Vec::new(sheet.alloc);
+        texts.push(type_text(sheet.alloc, *part)?)?;
+        leaves.push(leaf(sheet, name, ("nano_schema::Newtype<", *part), texts)?)?;
+    }
+    Ok(leaves)
+}
+
+/// Appends the row of an enum.
+pub(crate) fn append_choice_row<'a>(
+    sheet: &mut Sheet,
+    target: &Target<'a>,
+    variants: &[Variant<'a>],
+) -> Result<NestedRow, AllocError> {
+    let mut names = Vec::new(sheet.alloc);
+    for variant in variants {
+        names.push(variant_name(sheet.alloc, variant, None)?)?;
+    }
+    let labels = append_labels(sheet, target.name.text, &names)?;
+    let mut schemas = Vec::new(sheet.alloc);
+    for (variant, label) in variants.iter().zip(labels) {
+        schemas.push(variant_leaf(sheet, target, variant, label)?)?;
+    }
+    let held = held_values(sheet.alloc, variants)?;
+    append_owned_chains(sheet, target, variants, (&schemas, &held))?;
+    Ok(NestedRow {
+        values: target.values.clone()?,
+        making: variants_making(sheet, variants)?,
+    })
+}
+
+/// A variant of this label as it stands in the row of an enum, after the row of its content.
+fn variant_leaf<'a>(
+    sheet: &mut Sheet,
+    target: &Target<'a>,
+    variant: &Variant<'a>,
+    label: String,
+) -> Result<Leaf, AllocError> {
+    let content = variant_content(sheet, target, variant)?;
+    let mut texts = Vec::new(sheet.alloc);
+    texts.push(label)?;
+    texts.push(content)?;
+    Ok(Leaf {
+        open: sheet.short("nano_schema::Variant<")?,
+        texts,
+        close: ">",
+        around: Vec::new(sheet.alloc),
+    })
+}
+
+/// What a variant holds, as it stands in the row of an enum, after the row of it.
+fn variant_content<'a>(
+    sheet: &mut Sheet,
+    target: &Target<'a>,
+    variant: &Variant<'a>,
+) -> Result<String, AllocError> {
+    let alloc = sheet.alloc;
+    let name = in_type_name(alloc, variant.name.text)?;
+    let owner = format!(in alloc; "{}{name}", target.name.text)?;
+    let (leaves, is_struct) = match &variant.content {
+        Content::Nothing => return sheet.short("nano_levels::Other<nano_schema::Unit>"),
+        Content::Parts(parts) => (part_leaves(sheet, target.name, parts)?, false),
+        Content::Fields(fields) => (field_leaves(sheet, target, owner.as_str(), fields)?, true),
+    };
+    if let ([leaf], false) = (leaves.as_slice(), is_struct) {
+        return Ok(leaf.piece(alloc, 0, 0)?.flat);
+    }
+    let row = name_of(sheet, owner.as_str(), "Parts")?;
+    append_row(sheet, row.as_str(), &leaves)?;
+    if !is_struct {
+        return Ok(row);
+    }
+    let content = format!(in alloc; "nano_schema::Struct<{row}>")?;
+    sheet.short(content.as_str())
+}
+
+/// The types of what the variants hold.
+fn held_values<'a>(alloc: Global, variants: &[Variant<'a>]) -> Result<Vec<Leaf>, AllocError> {
+    let mut held = Vec::new(alloc);
+    for variant in variants {
+        let types = held_types(alloc, &variant.content)?;
+        let text = paired(alloc, types, Items::Patterns, 4, 4)?.flat;
+        held.push(Leaf::of(alloc, text)?)?;
+    }
+    Ok(held)
+}
+
+/// The types of what a variant holds, each as a text.
+fn held_types<'a>(alloc: Global, content: &Content<'a>) -> Result<Vec<String>, AllocError> {
+    match content {
+        Content::Nothing => Ok(Vec::new(alloc)),
+        Content::Parts(parts) => part_types(alloc, parts, "$TYPE"),
+        Content::Fields(fields) => field_texts(alloc, fields, "$TYPE"),
+    }
+}

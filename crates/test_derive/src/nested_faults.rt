@@ -1,0 +1,130 @@
+//! Sources with types that contain themselves or each other, and the fault of each.
+
+/// A type contains itself in a way that is not written.
+pub(crate) const NESTED: &str = r#"// nanoserde: bin json
+enum A {
+    B(Vec<A>),
+}
+=> 1:19: `json` stands above a type that contains itself, which has bytes alone
+----
+// nanoserde: bin ron
+struct A {
+    a: Vec<A>,
+}
+=> 1:19: `ron` stands above a type that contains itself, which has bytes alone
+----
+// nanoserde: de_bin
+struct A {
+    a: Vec<A>,
+}
+=> 1:15: `de_bin` stands above a type that contains itself, which has bytes alone
+----
+// nanoserde: bin
+struct A<T> {
+    a: Vec<A>,
+    b: T,
+}
+=> 2:10: `T` is a type parameter of a type that contains itself
+----
+// nanoserde: bin
+struct A(Vec<A>);
+=> 2:8: `A` is a tuple struct that contains itself
+----
+// nanoserde: bin
+struct A {
+    a: Option<A>,
+}
+=> 3:15: `A` stands in itself with no `Box` and no `Vec`
+----
+// nanoserde: bin
+struct A {
+    a: Vec<Option<Box<A>>>,
+}
+=> 3:8: `Vec` has an `Option` of the type that contains itself within it
+----
+use std::collections::HashMap;
+
+// nanoserde: bin
+struct A {
+    a: HashMap<String, A>,
+}
+=> 5:8: `HashMap` stands in a type that contains itself
+----
+// nanoserde: bin
+enum A {
+    B(Vec<(u8, A)>),
+}
+=> 3:11: `(` stands in a type that contains itself
+----
+// nanoserde: bin
+enum A {
+    B { a: Box<[A; 2]> },
+}
+=> 3:16: `[` stands in a type that contains itself
+----
+// nanoserde: bin
+struct B;
+
+// nanoserde: bin
+struct A {
+    a: Vec<A>,
+    b: B,
+}
+=> 7:8: `B` stands in a type that contains itself
+----
+// nanoserde: bin
+struct A {
+    a: Vec<A>,
+    // nanoserde: default
+    b: u8,
+}
+=> 4:19: `default` stands in a type that contains itself
+----
+// nanoserde: bin
+struct A {
+    // nanoserde: skip
+    a: Option<Box<A>>,
+}
+=> 3:19: `skip` stands in a type that contains itself
+----
+// nanoserde: bin
+struct A {
+    a: Vec<A>,
+    // nanoserde: alias = "c"
+    b: u8,
+}
+=> 4:27: `"c"` stands in a type that contains itself
+----
+// nanoserde: bin
+struct A {
+    a: Vec<Self>,
+}
+=> 3:12: `Self` stands for the type around it"#;
+
+/// Types contain each other.
+pub(crate) const CIRCLES: &str = r#"// nanoserde: json
+struct A {
+    a: Vec<B>,
+}
+
+// nanoserde: json
+struct B {
+    a: Option<A>,
+}
+=> 3:12: `B` leads back to the type that it stands in
+----
+// nanoserde: bin
+enum A {
+    C(u8),
+    D { a: Box<B> },
+}
+
+// nanoserde: bin
+struct B(u8, C);
+
+// nanoserde: bin
+enum C {
+    E,
+    F(Vec<A>),
+}
+=> 4:16: `B` leads back to the type that it stands in"#;

@@ -1,0 +1,127 @@
+//! Sources with types that contain themselves, and lines that are written of each.
+
+/// Lines of the module of the impls.
+pub(crate) const IMPLS: &str = r#"// nanoserde: bin
+enum A {
+    B,
+    C(u8),
+    D(Vec<A>, String),
+    E { a: Option<Box<A>>, b: bool },
+}
+=>
+type ADParts = (Within<Newtype<Vec<A>>>, Other<Newtype<String>>);
+=>
+type AEParts = (
+    Within<Optional<AENames<0>, Box<A>>>,
+    Other<Required<AENames<1>, bool>>,
+);
+=>
+type AVariants4 = Variant<ANames<3>, Struct<AEParts>>;
+=>
+type AVariants = (Variant<ANames<0>, Other<Unit>>, AVariants2);
+=>
+    ghost use Rattle.app.specs.ShapesCodecs.{a_view};
+=>
+    #[tactic(auto, using(crate::proofs::ShapesCodecsLaws::a_views))]
+    fn make(values: Self::Values) -> Self {
+=>
+    fn known(&self) {
+        match self {
+            Self::B => Value::known(&()),
+            Self::C(first) => Value::known(first),
+            Self::D(first, second) => {
+                Value::known(first);
+                Value::known(second);
+            }
+=>
+    #[tactic(auto, using(crate::proofs::ShapesCodecsLaws::a_written_laws))]
+    fn write_bin(&self, alloc: Global, output: &mut Vec<u8>) -> Result<(), AllocError> {
+=>
+            Self::B => append_variant(alloc, 0, &(), output),
+            Self::C(first) => append_variant(alloc, 1, first, output),
+            Self::D(first, second) => {
+                append_variant_within(alloc, 2, first, output)?;
+                append_part(alloc, second, output, start)
+            }
+=>
+        read_choice_within::<Levels, A, AVariants>(below, alloc, offset, bytes)
+----
+// nanoserde: bin
+struct A {
+    a: u8,
+    b: Vec<A>,
+}
+
+// nanoserde: bin
+struct B {
+    a: Vec<A>,
+}
+=>
+type AFields = (
+    Other<Required<ANames<0>, u8>>,
+    Within<Required<ANames<1>, Vec<A>>>,
+);
+=>
+    #[tactic(auto, using(crate::proofs::ShapesCodecsLaws::a_legal))]
+    fn known(&self) {
+=>
+        let (a, b) = values;
+        A { a, b }
+=>
+        let start = output.len();
+        SerBin::ser_bin(&self.a, alloc, output)?;
+        append_part_within(alloc, &self.b, output, start)
+=>
+        read_record_within::<Levels, A, AFields>(below, alloc, offset, bytes)
+=>
+        write_record_bin::<Self, BFields>(self, alloc, output)
+"#;
+
+/// The paths of the files beside the sources, and lines of those.
+pub(crate) const FILES: &str = r#"// nanoserde: bin
+enum A {
+    B(i32),
+    C(Vec<Box<A>>, u8),
+}
+=>
+specs/ShapesCodecs.antt, declared by `pub mod ShapesCodecs`
+=>
+AContent X = Either ℤ (Vec (Box X Global) Global × ℕ)
+=>
+a_opened (A-F.C v0 v1) = Later (v0, v1)
+=>
+a_means_step (A-F.C v0 v1) = tagged 1 (paired (listed (map (λ x. x.value) v0.items), whole v1))
+=>
+a_depth_step (A-F.C v0 v1) = max (greatest (map (λ x. suc x.value) v0.items)) 0
+=>
+a_codec = nested_codec a_nested
+=>
+proofs/ShapesCodecsLaws.antt, declared by `mod ShapesCodecsLaws`
+=>
+pub a_view_c : (v0 : Vec (Box A Global) Global)
+    → (v1 : ℕ)
+    → a_view (A-C v0 v1) ≡ Later (v0, v1)
+=>
+pub ruleset a_views = (a_view_b, a_view_c)
+=>
+pub ruleset a_written_laws = (append_assoc, a_written_b, a_written_c)
+=>
+proofs/shapes/derived/LevelsReadsBinA/+read/Answers.antt
+=>
+proofs/shapes/derived/AValue/+known/Answers.antt
+=>
+returns-in-B t c = rw c.in-B.is (a_legal_b c.in-B.first c.known.ensures)
+=>
+returns-in-C t c = rw c.in-C.is (a_legal_c c.in-C.first c.in-C.second c.known-in-C.ensures c.known-in-C-2.ensures)
+----
+// nanoserde: bin
+struct A {
+    a: Option<Vec<A>>,
+}
+=>
+a_opened y = y.a
+=>
+a_means_step y = optional (option_map (λ x. listed x.items) y.a)
+=>
+a_layer = option_layer (seen_layer (λ x. x.items) (list_layer itself_layer))
+"#;

@@ -1,0 +1,4 @@
+mod TreeCodecsLaws
+mod ChainCodecsLaws
+mod ExpressionCodecsLaws
+mod FolderCodecsLaws

@@ -1,0 +1,4 @@
+pub mod TreeCodecs
+pub mod ChainCodecs
+pub mod ExpressionCodecs
+pub mod FolderCodecs

@@ -1,0 +1,13 @@
+//! A folder: its schema, and then bytes.
+
+/// A folder.
+// nanoserde: bin
+#[derive(PartialEq, Debug, Drop)]
+pub struct Folder {
+    /// Its name.
+    pub name: String,
+    /// The folders in it.
+    pub folders: Vec<Folder>,
+}
+
+mod derived;

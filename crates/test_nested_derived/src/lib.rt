@@ -1,0 +1,15 @@
+//! User-defined types that contain themselves, whose impls, definitions and proofs are written by
+//! `derive`.
+#![tactic(auto)]
+
+#[cfg(test)]
+mod bin_tests;
+mod chain;
+mod expression;
+mod folder;
+mod tree;
+
+pub use chain::Chain;
+pub use expression::Expression;
+pub use folder::Folder;
+pub use tree::Tree;
