@@ -1,5 +1,6 @@
 //! The answers to what is to be proved of the impls of a type that contains itself.
 
+use crate::json_answers::{read_json_text, written_text};
 use crate::known_answers::known_answers;
 use crate::nested::Nested;
 use derive_syntax::{codecs_name, crate_of};
@@ -14,22 +15,28 @@ pub(crate) struct Answers {
     pub(crate) text: String,
 }
 
-/// The answers for the functions of a type in a module.
+/// The answers for each function of a type in a module, which has bytes or not, and JSON or not.
 pub(crate) fn answers_of(
     alloc: Global,
     module: &str,
-    nested: &Nested,
+    nested: &Nested<'_>,
+    formats: (bool, bool),
 ) -> Result<Vec<Answers>, AllocError> {
     let mut files = Vec::new(alloc);
-    files.push(read_answers(alloc, module, nested)?)?;
-    if nested.is_enum {
-        files.push(known_answers(alloc, module, nested)?)?;
+    if formats.0 {
+        files.push(read_answers(alloc, module, nested)?)?;
+        if nested.is_enum {
+            files.push(known_answers(alloc, module, nested)?)?;
+        }
+    }
+    if formats.1 {
+        append_json(alloc, module, nested, &mut files)?;
     }
     Ok(files)
 }
 
-/// The answers for the reader of a type in a module.
-fn read_answers(alloc: Global, module: &str, nested: &Nested) -> Result<Answers, AllocError> {
+/// The answers for the reader of bytes of a type in a module.
+fn read_answers(alloc: Global, module: &str, nested: &Nested<'_>) -> Result<Answers, AllocError> {
     let (library, path) = crate_of(module);
     let (folder, file) = (folder_of(alloc, path)?, codecs_name(alloc, module)?);
     let name = nested.names.of.as_str();
@@ -39,6 +46,32 @@ fn read_answers(alloc: Global, module: &str, nested: &Nested) -> Result<Answers,
         path: format!(in alloc; "{folder}/LevelsReadsBin{name}/+read/Answers.antt")?,
         text: read_text(alloc, nested, (goals.as_str(), specs.as_str()))?,
     })
+}
+
+/// Appends the answers for the reader of JSON of a type in a module, and for what writes a struct.
+fn append_json(
+    alloc: Global,
+    module: &str,
+    nested: &Nested<'_>,
+    files: &mut Vec<Answers>,
+) -> Result<(), AllocError> {
+    let (library, path) = crate_of(module);
+    let (folder, file) = (folder_of(alloc, path)?, codecs_name(alloc, module)?);
+    let (name, snake) = (nested.names.of.as_str(), nested.names.snake.as_str());
+    let stem = file.as_str().strip_suffix("Codecs").unwrap_or("");
+    let goals = format!(in alloc; "Rattle.{library}.proofs{path}.derived")?;
+    let of = (goals.as_str(), library, stem);
+    files.push(Answers {
+        path: format!(in alloc; "{folder}/LevelsReadsJson{name}/+read/Answers.antt")?,
+        text: read_json_text(alloc, nested, of)?,
+    })?;
+    if !nested.is_enum {
+        files.push(Answers {
+            path: format!(in alloc; "{folder}/+write_{snake}_json/Answers.antt")?,
+            text: written_text(alloc, nested, of)?,
+        })?;
+    }
+    Ok(())
 }
 
 /// The folder of the proofs of the impls of a module with this path in its crate.
@@ -60,7 +93,7 @@ pub(crate) const HEAD: &str = "-- Written by derive_files.\n";
 /// The answers for the reader of a type.
 fn read_text(
     alloc: Global,
-    nested: &Nested,
+    nested: &Nested<'_>,
     (goals, specs): (&str, &str),
 ) -> Result<String, AllocError> {
     let (name, snake) = (nested.names.of.as_str(), nested.names.snake.as_str());

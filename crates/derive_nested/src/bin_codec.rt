@@ -1,23 +1,26 @@
 //! The codec of a type that contains itself as bytes: the layer around the values in it, and what
 //! is encoded at all levels.
 
-use crate::coded::nested_record;
+use crate::coded::{Coded, nested_record};
 use crate::definitions::equation;
 use crate::nested::Nested;
 use crate::row::layer_of;
 use crate::wrapped::atom;
 use std::alloc::{AllocError, Global};
 
+/// Bytes: their names are those of the type alone.
+const BYTES: Coded = Coded { infix: "", of: "" };
+
 /// The definitions for bytes.
-pub(crate) fn bin_codec(alloc: Global, nested: &Nested) -> Result<String, AllocError> {
+pub(crate) fn bin_codec(alloc: Global, nested: &Nested<'_>) -> Result<String, AllocError> {
     let mut text = layer(alloc, nested)?;
-    text.push_str(nested_record(alloc, nested)?.as_str())?;
+    text.push_str(nested_record(alloc, nested, BYTES)?.as_str())?;
     text.push_str(codec(alloc, nested)?.as_str())?;
     Ok(text)
 }
 
 /// The layer around values of the type itself.
-fn layer(alloc: Global, nested: &Nested) -> Result<String, AllocError> {
+fn layer(alloc: Global, nested: &Nested<'_>) -> Result<String, AllocError> {
     let (name, snake) = (nested.names.of.as_str(), nested.names.snake.as_str());
     let layer = layers(alloc, nested)?;
     let head = format!(in alloc; "{snake}_layer")?;
@@ -44,7 +47,7 @@ abbrev pub {snake}_layer : Layer {name} ({name}Content {name})
 }
 
 /// The layer of a struct, or those of the variants.
-fn layers(alloc: Global, nested: &Nested) -> Result<String, AllocError> {
+fn layers(alloc: Global, nested: &Nested<'_>) -> Result<String, AllocError> {
     let mut text: Option<String> = None;
     for held in nested.contents.iter().rev() {
         let layer = layer_of(alloc, &held.row.part)?;
@@ -62,7 +65,7 @@ fn layers(alloc: Global, nested: &Nested) -> Result<String, AllocError> {
 }
 
 /// The codec.
-fn codec(alloc: Global, nested: &Nested) -> Result<String, AllocError> {
+fn codec(alloc: Global, nested: &Nested<'_>) -> Result<String, AllocError> {
     let (name, snake) = (nested.names.of.as_str(), nested.names.snake.as_str());
     format!(in alloc;
         "

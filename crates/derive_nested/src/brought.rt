@@ -1,14 +1,15 @@
 //! What a file of definitions or laws brings in of the types that it is for.
 
 use crate::nested::Nested;
-use derive_syntax::{codecs_name, crate_of};
+use crate::text_codec::TextTerms;
+use derive_syntax::{Case, codecs_name, crate_of};
 use std::alloc::{AllocError, Global};
 
 /// The lines that bring in what is declared of a type.
 pub(crate) fn declared_lines(
     alloc: Global,
     module: &str,
-    nested: &Nested,
+    nested: &Nested<'_>,
 ) -> Result<String, AllocError> {
     let name = nested.names.of.as_str();
     let of = format!(in alloc; "use Rattle.{module}.{name}")?;
@@ -21,21 +22,69 @@ pub(crate) fn declared_lines(
     )
 }
 
+/// The lines that bring in what the definitions of a format of texts cite of a type.
+pub(crate) fn text_lines(
+    alloc: Global,
+    module: &str,
+    nested: &Nested<'_>,
+    before: Option<&str>,
+) -> Result<String, AllocError> {
+    let (name, snake) = (nested.names.of.as_str(), nested.names.snake.as_str());
+    let of = format!(in alloc; "use Rattle.{module}.{name}")?;
+    let specs = specs_of(alloc, module)?;
+    let several = match before {
+        Some(_codec) => {
+            format!(in alloc; "{specs}.{{{snake}_step, {snake}_nested, {snake}_codec}}\n")?
+        }
+        None => String::new(alloc),
+    };
+    format!(in alloc;
+        "{of}.{{{name}}}
+{of}.TheOpen.{{{name}-F}}
+{of}.TheViews.{{out-{name}}}
+{of}.TheFolds.{{map-{name}, fold_out-{name}}}
+{specs}.{{{name}Content, {snake}_opened, {snake}_view, {snake}_means, {snake}_means_step}}
+{specs}.{{{snake}_depth, {snake}_depth_step}}
+{several}"
+    )
+}
+
+/// What begins a line that brings in definitions of the types of a module.
+fn specs_of(alloc: Global, module: &str) -> Result<String, AllocError> {
+    let (library, _path) = crate_of(module);
+    let file = codecs_name(alloc, module)?;
+    format!(in alloc; "use Rattle.{library}.specs.{file}")
+}
+
+/// The name of the file of definitions for a format of texts: `ShapesJsonCodecs` beside
+/// `ShapesCodecs`.
+pub(crate) fn text_codecs_name(
+    alloc: Global,
+    module: &str,
+    format: &TextTerms,
+) -> Result<String, AllocError> {
+    let file = codecs_name(alloc, module)?;
+    let stem = file.as_str().strip_suffix("Codecs").unwrap_or("");
+    let name = Case::Pascal.of_field(alloc, format.name)?;
+    format!(in alloc; "{stem}{name}Codecs")
+}
+
 /// The lines that bring in what the laws of a type cite of it.
 pub(crate) fn cited_lines(
     alloc: Global,
     module: &str,
-    nested: &Nested,
+    nested: &Nested<'_>,
+    has_bin: bool,
 ) -> Result<String, AllocError> {
     let (name, snake) = (nested.names.of.as_str(), nested.names.snake.as_str());
     let of = format!(in alloc; "use Rattle.{module}.{name}")?;
-    let (library, _path) = crate_of(module);
-    let file = codecs_name(alloc, module)?;
-    let mut lines = format!(in alloc;
-        "{of}.{{{name}}}
-use Rattle.{library}.specs.{file}.{{{snake}_view, {snake}_means, {snake}_nested, {snake}_codec}}
-"
-    )?;
+    let specs = specs_of(alloc, module)?;
+    let codec = if has_bin {
+        format!(in alloc; ", {snake}_means, {snake}_nested, {snake}_codec")?
+    } else {
+        String::new(alloc)
+    };
+    let mut lines = format!(in alloc; "{of}.{{{name}}}\n{specs}.{{{snake}_view{codec}}}\n")?;
     if nested.is_enum {
         lines.push_str(format!(in alloc; "{of}.{{the_lemmas}}\n")?.as_str())?;
     }
@@ -44,7 +93,7 @@ use Rattle.{library}.specs.{file}.{{{snake}_view, {snake}_means, {snake}_nested,
 }
 
 /// The lines that bring in the variants of an enum, or how a struct is opened.
-fn parts_lines(alloc: Global, of: &str, nested: &Nested) -> Result<String, AllocError> {
+fn parts_lines(alloc: Global, of: &str, nested: &Nested<'_>) -> Result<String, AllocError> {
     let name = nested.names.of.as_str();
     if !nested.is_enum {
         return format!(in alloc; "{of}.TheViews.{{out-{name}}}\n");
@@ -55,4 +104,51 @@ fn parts_lines(alloc: Global, of: &str, nested: &Nested) -> Result<String, Alloc
         lines.push_str(format!(in alloc; "{of}.{{{variant} as {name}-{variant}}}\n")?.as_str())?;
     }
     Ok(lines)
+}
+
+/// The lines that bring in what the laws of a format of texts cite of a type.
+pub(crate) fn text_cited(
+    alloc: Global,
+    module: &str,
+    nested: &Nested<'_>,
+    format: &TextTerms,
+) -> Result<String, AllocError> {
+    let (name, snake) = (nested.names.of.as_str(), nested.names.snake.as_str());
+    let (library, _path) = crate_of(module);
+    let of = format!(in alloc; "use Rattle.{module}.{name}")?;
+    let specs = specs_of(alloc, module)?;
+    let file = text_codecs_name(alloc, module, format)?;
+    let (end, infix) = (format.name, format.coded.infix);
+    let (parts, fields) = if nested.is_enum {
+        (parts_lines(alloc, of.as_str(), nested)?, String::new(alloc))
+    } else {
+        (
+            parts_lines(alloc, of.as_str(), nested)?,
+            format!(in alloc; ", {snake}_{infix}fields")?,
+        )
+    };
+    let views = views_line(alloc, module, nested)?;
+    format!(in alloc;
+        "{of}.{{{name}}}
+{specs}.{{{snake}_view}}
+use Rattle.{library}.specs.{file}.{{{snake}_{infix}nested, {snake}_{end}{fields}}}
+{views}{parts}"
+    )
+}
+
+/// The line that brings in what the variants of an enum are seen as.
+fn views_line(alloc: Global, module: &str, nested: &Nested<'_>) -> Result<String, AllocError> {
+    let (library, _path) = crate_of(module);
+    let file = codecs_name(alloc, module)?;
+    let snake = nested.names.snake.as_str();
+    let mut names = String::new(alloc);
+    for held in &nested.contents {
+        let end = Case::Snake.of_variant(alloc, held.name.as_str())?;
+        let before = if names.is_empty() { "" } else { ", " };
+        names.push_str(format!(in alloc; "{before}{snake}_view_{end}")?.as_str())?;
+    }
+    if !nested.is_enum {
+        return Ok(String::new(alloc));
+    }
+    format!(in alloc; "use Rattle.{library}.proofs.{file}Laws.{{{names}}}\n")
 }

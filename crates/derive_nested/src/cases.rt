@@ -7,6 +7,15 @@ use crate::row::Leaf;
 use crate::wrapped::{atom, held_proof};
 use std::alloc::{AllocError, Global};
 
+/// What is proved of a value in a format, with whose infix the names of its definitions are made.
+#[derive(Clone, Copy)]
+pub(crate) struct Claim<'a> {
+    /// The infix.
+    pub(crate) infix: &'a str,
+    /// What is proved.
+    pub(crate) said: Said,
+}
+
 /// What is proved of a value.
 #[derive(Clone, Copy)]
 pub(crate) enum Said {
@@ -30,38 +39,38 @@ struct Chosen {
 /// The proof for a variant or for the struct.
 pub(crate) fn proof(
     alloc: Global,
-    nested: &Nested,
-    held: &Held,
-    said: Said,
+    nested: &Nested<'_>,
+    held: &Held<'_>,
+    claim: Claim<'_>,
 ) -> Result<String, AllocError> {
-    cased(alloc, (nested, held), said, &[], &held.leaves)
+    cased(alloc, (nested, held), claim, &[], &held.leaves)
 }
 
 /// The proof where the first parts are chosen, for all cases of the rest.
 fn cased(
     alloc: Global,
-    of: (&Nested, &Held),
-    said: Said,
+    of: (&Nested<'_>, &Held<'_>),
+    claim: Claim<'_>,
     chosen: &[Chosen],
-    rest: &[Leaf],
+    rest: &[Leaf<'_>],
 ) -> Result<String, AllocError> {
     let Some((leaf, later)) = rest.split_first() else {
-        return row_proof(alloc, of, said, chosen);
+        return row_proof(alloc, of, claim, chosen);
     };
     if !leaf.part.is_cased {
-        let proof = leaf_proof(alloc, leaf, said, leaf.value.as_str())?;
+        let proof = leaf_proof(alloc, leaf, claim, leaf.value.as_str())?;
         let more = with(alloc, chosen, leaf, leaf.value.as_str(), proof)?;
-        return cased(alloc, of, said, &more, later);
+        return cased(alloc, of, claim, &more, later);
     }
     let some = format!(in alloc; "x{}", chosen.len())?;
     let value = format!(in alloc; "(Some {some})")?;
     let more = with(alloc, chosen, leaf, "None", None)?;
-    let without = cased(alloc, of, said, &more, later)?;
-    let proof = leaf_proof(alloc, leaf, said, some.as_str())?;
+    let without = cased(alloc, of, claim, &more, later)?;
+    let proof = leaf_proof(alloc, leaf, claim, some.as_str())?;
     let more = with(alloc, chosen, leaf, value.as_str(), proof)?;
-    let within = cased(alloc, of, said, &more, later)?;
+    let within = cased(alloc, of, claim, &more, later)?;
     let motive = with(alloc, chosen, leaf, "o", None)?;
-    let stated = statement(alloc, of, said, (&motive, later))?;
+    let stated = statement(alloc, of, claim, (&motive, later))?;
     format!(in alloc;
         "by_option (λ o. {stated})\n    {} (λ {some}. {within})\n    {}",
         atom(alloc, without.as_str())?,
@@ -72,11 +81,11 @@ fn cased(
 /// The proof of a part of this value.
 fn leaf_proof(
     alloc: Global,
-    leaf: &Leaf,
-    said: Said,
+    leaf: &Leaf<'_>,
+    claim: Claim<'_>,
     value: &str,
 ) -> Result<Option<String>, AllocError> {
-    match said {
+    match claim.said {
         Said::Means(_place) => held_proof(alloc, &leaf.part.means_same, value),
         Said::Depth => held_proof(alloc, &leaf.part.depth_same, value),
     }
@@ -86,7 +95,7 @@ fn leaf_proof(
 fn with(
     alloc: Global,
     chosen: &[Chosen],
-    leaf: &Leaf,
+    leaf: &Leaf<'_>,
     value: &str,
     proof: Option<String>,
 ) -> Result<Vec<Chosen>, AllocError> {
@@ -111,9 +120,9 @@ fn with(
 /// What is proved of a value with these parts.
 fn statement(
     alloc: Global,
-    (nested, held): (&Nested, &Held),
-    said: Said,
-    (chosen, later): (&[Chosen], &[Leaf]),
+    (nested, held): (&Nested<'_>, &Held<'_>),
+    claim: Claim<'_>,
+    (chosen, later): (&[Chosen], &[Leaf<'_>]),
 ) -> Result<String, AllocError> {
     let (name, snake) = (nested.names.of.as_str(), nested.names.snake.as_str());
     let mut values = Vec::new(alloc);
@@ -124,21 +133,22 @@ fn statement(
         values.push(leaf.value.clone()?)?;
     }
     let value = value_of(alloc, nested, held, &values)?;
-    let (end, of, layered) = match said {
+    let (end, of, said) = match claim.said {
         Said::Means(_place) => ("means", "Meaning", "means"),
         Said::Depth => ("depth", "ℕ", "deep"),
     };
+    let infix = claim.infix;
     format!(in alloc;
         "{snake}_{end}_step (map-{name} {name} {of} {snake}_{end} {value})\n    \
-        ≡ {snake}_layer.{layered} {snake}_{end} ({snake}_opened {{X = {name}}} {value})"
+        ≡ {snake}_{infix}layer.{said} {snake}_{end} ({snake}_opened {{X = {name}}} {value})"
     )
 }
 
 /// A value with these parts.
 fn value_of(
     alloc: Global,
-    nested: &Nested,
-    held: &Held,
+    nested: &Nested<'_>,
+    held: &Held<'_>,
     values: &[String],
 ) -> Result<String, AllocError> {
     let mut text = String::new(alloc);
@@ -161,11 +171,11 @@ fn value_of(
 /// The proof for parts in one case.
 fn row_proof(
     alloc: Global,
-    (nested, _held): (&Nested, &Held),
-    said: Said,
+    (nested, _held): (&Nested<'_>, &Held<'_>),
+    claim: Claim<'_>,
     chosen: &[Chosen],
 ) -> Result<String, AllocError> {
-    match (pairs_proof(alloc, said, chosen)?, said) {
+    match (pairs_proof(alloc, claim.said, chosen)?, claim.said) {
         (None, _) => String::from_str(alloc, "refl"),
         (Some(proof), Said::Means(place)) if nested.is_enum => {
             format!(in alloc;

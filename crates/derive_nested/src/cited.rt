@@ -2,8 +2,8 @@
 
 use crate::imports::Known;
 
-/// Those modules.
-pub(crate) const CITED: [Known; 26] = [
+/// Those that every format cites.
+pub(crate) const SHARED: [Known; 14] = [
     Known {
         module: "std.specs.Prelude",
         names: &[
@@ -16,6 +16,7 @@ pub(crate) const CITED: [Known; 26] = [
             "max",
             "map",
             "refl",
+            "codes",
             "Bool",
             "Box",
             "Option",
@@ -54,13 +55,29 @@ pub(crate) const CITED: [Known; 26] = [
     Known {
         module: "nano_value.specs.Meaning",
         names: &[
-            "Meaning", "nothing", "truth", "number", "whole", "text", "optional", "listed",
+            "Meaning",
+            "Agrees",
+            "nothing",
+            "truth",
+            "number",
+            "whole",
+            "text",
+            "optional",
+            "listed",
             "paired",
+            "LegalUnsigned",
+            "LegalSigned",
+            "LegalTruth",
+            "LegalUnit",
+            "LegalText",
+            "LegalOption",
+            "LegalList",
+            "LegalPair",
         ],
     },
     Known {
         module: "nano_value.specs.Sums",
-        names: &["tagged"],
+        names: &["tagged", "LegalVariant", "variant", "no_variants"],
     },
     Known {
         module: "nano_levels.specs.Layers",
@@ -73,6 +90,14 @@ pub(crate) const CITED: [Known; 26] = [
     Known {
         module: "nano_schema.specs.declared.choices.Either.TheVariants",
         names: &["First", "Later"],
+    },
+    Known {
+        module: "nano_schema.specs.Choices",
+        names: &["either_is"],
+    },
+    Known {
+        module: "nano_schema_levels.specs.LegalLevels",
+        names: &["LegalStep"],
     },
     Known {
         module: "nano_schema_levels.specs.Depths",
@@ -89,6 +114,10 @@ pub(crate) const CITED: [Known; 26] = [
             "pair_means",
         ],
     },
+];
+
+/// Those of bytes.
+pub(crate) const BYTES: [Known; 14] = [
     Known {
         module: "nano_bin_bytes.specs.Codec",
         names: &["Codec"],

@@ -1,5 +1,5 @@
-//! What is proved of a type that contains itself: what each variant is seen as, how a value is
-//! written, and when it is legal.
+//! What is proved of a type that contains itself: what each variant is seen as, and of bytes how a
+//! value is written, and when it is legal.
 
 use crate::nested::{Held, Nested};
 use crate::row::Row;
@@ -7,38 +7,48 @@ use crate::wrapped::{at, atom};
 use derive_syntax::Case;
 use std::alloc::{AllocError, Global};
 
-/// The laws of a type. The fields of a struct are those of `(out-NAME x)`.
-pub(crate) fn codec_laws(alloc: Global, nested: &Nested) -> Result<String, AllocError> {
+/// The laws of a type, which has bytes or not. The fields of a struct are those of `(out-NAME x)`.
+pub(crate) fn codec_laws(
+    alloc: Global,
+    nested: &Nested<'_>,
+    has_bin: bool,
+) -> Result<String, AllocError> {
     let mut text = format!(in alloc; "\n-- ==== {}\n", nested.names.of)?;
     for (i, held) in nested.contents.iter().enumerate() {
-        let law = if nested.is_enum {
+        if nested.is_enum {
             text.push_str(view_law(alloc, nested, held, i)?.as_str())?;
-            variant_laws(alloc, nested, held, i)?
-        } else {
-            struct_laws(alloc, nested, held)?
+        }
+        let law = match (nested.is_enum, has_bin) {
+            (_, false) => String::new(alloc),
+            (true, true) => variant_laws(alloc, nested, held, i)?,
+            (false, true) => struct_laws(alloc, nested, held)?,
         };
         text.push_str(law.as_str())?;
     }
-    text.push_str(sets(alloc, nested)?.as_str())?;
+    text.push_str(sets(alloc, nested, has_bin)?.as_str())?;
     Ok(text)
 }
 
-/// The laws by which an enum is made, and those by which a value is written.
-fn sets(alloc: Global, nested: &Nested) -> Result<String, AllocError> {
+/// The laws by which an enum is made, and those by which a value is written as bytes, if it is.
+fn sets(alloc: Global, nested: &Nested<'_>, has_bin: bool) -> Result<String, AllocError> {
     let snake = nested.names.snake.as_str();
     let mut text = String::new(alloc);
     if nested.is_enum {
         let names = named(alloc, nested, "view")?;
         text.push_str(format!(in alloc; "\npub ruleset {snake}_views = ({names})\n")?.as_str())?;
     }
-    let names = named(alloc, nested, "written")?;
-    let set = format!(in alloc; "\npub ruleset {snake}_written_laws = (append_assoc, {names})\n")?;
-    text.push_str(set.as_str())?;
+    if has_bin {
+        let names = named(alloc, nested, "written")?;
+        let set = format!(in alloc;
+            "\npub ruleset {snake}_written_laws = (append_assoc, {names})\n"
+        )?;
+        text.push_str(set.as_str())?;
+    }
     Ok(text)
 }
 
 /// The names of the laws of a kind.
-fn named(alloc: Global, nested: &Nested, kind: &str) -> Result<String, AllocError> {
+fn named(alloc: Global, nested: &Nested<'_>, kind: &str) -> Result<String, AllocError> {
     let snake = nested.names.snake.as_str();
     if !nested.is_enum {
         return format!(in alloc; "{snake}_{kind}");
@@ -53,12 +63,12 @@ fn named(alloc: Global, nested: &Nested, kind: &str) -> Result<String, AllocErro
 }
 
 /// The end of the names of the laws of a variant.
-pub(crate) fn law_end(alloc: Global, held: &Held) -> Result<String, AllocError> {
+pub(crate) fn law_end(alloc: Global, held: &Held<'_>) -> Result<String, AllocError> {
     Case::Snake.of_variant(alloc, held.name.as_str())
 }
 
 /// The laws of a struct.
-fn struct_laws(alloc: Global, nested: &Nested, held: &Held) -> Result<String, AllocError> {
+fn struct_laws(alloc: Global, nested: &Nested<'_>, held: &Held<'_>) -> Result<String, AllocError> {
     let (name, snake) = (nested.names.of.as_str(), nested.names.snake.as_str());
     let Row { written, legal, .. } = &held.row;
     let written = itself_at(alloc, nested, written.as_str())?;
@@ -81,7 +91,12 @@ pub {snake}_legal : (x : {name}){premises}
 }
 
 /// What a variant at its place is seen as.
-fn view_law(alloc: Global, nested: &Nested, held: &Held, i: usize) -> Result<String, AllocError> {
+fn view_law(
+    alloc: Global,
+    nested: &Nested<'_>,
+    held: &Held<'_>,
+    i: usize,
+) -> Result<String, AllocError> {
     let Variant {
         value,
         seen,
@@ -112,8 +127,8 @@ pub(crate) struct Variant {
 /// A value of a variant at its place.
 pub(crate) fn variant_at(
     alloc: Global,
-    nested: &Nested,
-    held: &Held,
+    nested: &Nested<'_>,
+    held: &Held<'_>,
     i: usize,
 ) -> Result<Variant, AllocError> {
     let (name, snake) = (nested.names.of.as_str(), nested.names.snake.as_str());
@@ -126,11 +141,11 @@ pub(crate) fn variant_at(
     })
 }
 
-/// The laws of a variant at its place.
+/// The laws of a variant at its place as bytes.
 fn variant_laws(
     alloc: Global,
-    nested: &Nested,
-    held: &Held,
+    nested: &Nested<'_>,
+    held: &Held<'_>,
     i: usize,
 ) -> Result<String, AllocError> {
     let snake = nested.names.snake.as_str();
@@ -161,13 +176,17 @@ pub {snake}_legal_{end} : {parts}{premises}{snake}_codec.encoding.legal ({snake}
 }
 
 /// A term with the codec of the type itself in its hole.
-fn itself_at(alloc: Global, nested: &Nested, term: &str) -> Result<String, AllocError> {
+fn itself_at(alloc: Global, nested: &Nested<'_>, term: &str) -> Result<String, AllocError> {
     let codec = format!(in alloc; "{}_codec", nested.names.snake)?;
     at(alloc, term, codec.as_str())
 }
 
 /// The parts of a variant as arguments of a law.
-pub(crate) fn binders(alloc: Global, nested: &Nested, held: &Held) -> Result<String, AllocError> {
+pub(crate) fn binders(
+    alloc: Global,
+    nested: &Nested<'_>,
+    held: &Held<'_>,
+) -> Result<String, AllocError> {
     let mut text = String::new(alloc);
     for leaf in &held.leaves {
         let of = at(alloc, leaf.part.of.as_str(), nested.names.of.as_str())?;
@@ -177,7 +196,7 @@ pub(crate) fn binders(alloc: Global, nested: &Nested, held: &Held) -> Result<Str
 }
 
 /// That each part is legal, as arguments of a law.
-fn premises(alloc: Global, nested: &Nested, held: &Held) -> Result<String, AllocError> {
+fn premises(alloc: Global, nested: &Nested<'_>, held: &Held<'_>) -> Result<String, AllocError> {
     let mut text = String::new(alloc);
     for leaf in &held.leaves {
         let codec = itself_at(alloc, nested, leaf.part.codec.as_str())?;
@@ -195,7 +214,7 @@ fn premises(alloc: Global, nested: &Nested, held: &Held) -> Result<String, Alloc
 }
 
 /// The names of those arguments, each after a space.
-fn hypotheses(alloc: Global, held: &Held) -> Result<String, AllocError> {
+fn hypotheses(alloc: Global, held: &Held<'_>) -> Result<String, AllocError> {
     let mut text = String::new(alloc);
     for leaf in &held.leaves {
         text.push(' ')?;
@@ -205,7 +224,7 @@ fn hypotheses(alloc: Global, held: &Held) -> Result<String, AllocError> {
 }
 
 /// That the content of a variant at its place is legal.
-fn legal_at(alloc: Global, held: &Held, i: usize) -> Result<String, AllocError> {
+fn legal_at(alloc: Global, held: &Held<'_>, i: usize) -> Result<String, AllocError> {
     let mut legal = format!(in alloc;
         "(inl (record {{ part = {}; has = {}; is = refl }}))",
         held.row.part.means, held.row.legal

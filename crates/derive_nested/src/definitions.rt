@@ -1,21 +1,29 @@
-//! The definitions of a type that contains itself that are not of bytes: what a value is seen as,
-//! what it means, and how deep it is.
+//! The definitions of a type that contains itself that no format changes: what a value is seen as,
+//! what it means, how deep it is, and which meanings are legal.
 
 use crate::nested::{Held, Nested};
 use crate::wrapped::atom;
 use std::alloc::{AllocError, Global};
 
-/// The definitions of a type.
-pub(crate) fn definitions(alloc: Global, nested: &Nested) -> Result<String, AllocError> {
-    let mut text = seen(alloc, nested)?;
+/// The definitions of a type, which has several formats or one.
+pub(crate) fn definitions(
+    alloc: Global,
+    nested: &Nested<'_>,
+    has_several: bool,
+) -> Result<String, AllocError> {
+    let mut text = String::new(alloc);
+    text.push_str(seen(alloc, nested)?.as_str())?;
     text.push_str(meant(alloc, nested)?.as_str())?;
+    if has_several {
+        text.push_str(legal(alloc, nested)?.as_str())?;
+    }
     Ok(text)
 }
 
 // ---- what a value is seen as
 
 /// What a value is seen as.
-fn seen(alloc: Global, nested: &Nested) -> Result<String, AllocError> {
+fn seen(alloc: Global, nested: &Nested<'_>) -> Result<String, AllocError> {
     let (name, snake) = (nested.names.of.as_str(), nested.names.snake.as_str());
     let head = format!(in alloc; "{name}Content X")?;
     let content = nested.seen(alloc, "X")?;
@@ -56,7 +64,7 @@ pub(crate) fn equation(alloc: Global, head: &str, term: &str) -> Result<String, 
 /// name, and the terms.
 pub(crate) fn cases(
     alloc: Global,
-    nested: &Nested,
+    nested: &Nested<'_>,
     end: &str,
     terms: &[String],
 ) -> Result<String, AllocError> {
@@ -70,7 +78,7 @@ pub(crate) fn cases(
 }
 
 /// What stands for the values in a definition by cases.
-fn pattern(alloc: Global, nested: &Nested, held: &Held) -> Result<String, AllocError> {
+fn pattern(alloc: Global, nested: &Nested<'_>, held: &Held<'_>) -> Result<String, AllocError> {
     if !nested.is_enum {
         return String::from_str(alloc, "y");
     }
@@ -82,7 +90,7 @@ fn pattern(alloc: Global, nested: &Nested, held: &Held) -> Result<String, AllocE
 // ---- what it means, and how deep it is
 
 /// What a value means, and how deep it is.
-fn meant(alloc: Global, nested: &Nested) -> Result<String, AllocError> {
+fn meant(alloc: Global, nested: &Nested<'_>) -> Result<String, AllocError> {
     let (name, snake) = (nested.names.of.as_str(), nested.names.snake.as_str());
     let mut steps = Vec::new(alloc);
     let mut depths = Vec::new(alloc);
@@ -110,11 +118,50 @@ abbrev pub {snake}_depth : {name} → ℕ
 }
 
 /// What a value of a variant at its place means, or one of the struct.
-fn step(alloc: Global, nested: &Nested, held: &Held, i: usize) -> Result<String, AllocError> {
+fn step(
+    alloc: Global,
+    nested: &Nested<'_>,
+    held: &Held<'_>,
+    i: usize,
+) -> Result<String, AllocError> {
     let step = held.row.part.step.as_str();
     if nested.is_enum {
         format!(in alloc; "tagged {i} {}", atom(alloc, step)?)
     } else {
         String::from_str(alloc, step)
     }
+}
+
+// ---- which meanings are legal
+
+/// Which meanings are legal, in every format.
+fn legal(alloc: Global, nested: &Nested<'_>) -> Result<String, AllocError> {
+    let snake = nested.names.snake.as_str();
+    let mut sets: Option<String> = None;
+    for held in nested.contents.iter().rev() {
+        let set = held.row.part.legal.clone()?;
+        sets = match sets {
+            _ if !nested.is_enum => Some(set),
+            None => Some(format!(in alloc; "variant {} no_variants", atom(alloc, set.as_str())?)?),
+            Some(rest) => Some(format!(in alloc;
+                "variant {} ({rest})",
+                atom(alloc, set.as_str())?
+            )?),
+        };
+    }
+    let sets = sets.unwrap_or(String::from_str(alloc, "LegalUnit")?);
+    let set = if nested.is_enum {
+        format!(in alloc; "LegalVariant {}", atom(alloc, sets.as_str())?)?
+    } else {
+        sets
+    };
+    let head = format!(in alloc; "{snake}_step P")?;
+    let line = equation(alloc, head.as_str(), set.as_str())?;
+    format!(in alloc;
+        "
+-- ---- which meanings are legal, given those that are of the values in it
+
+abbrev pub {snake}_step : LegalStep
+{line}"
+    )
 }

@@ -5,14 +5,18 @@ ghost use Rattle.derive_syntax.specs.Errors.{IsErrorIn};
 
 use crate::answers::{Answers, answers_of};
 use crate::bin_codec::bin_codec;
-use crate::brought::{cited_lines, declared_lines};
-use crate::codec_laws::codec_laws;
+use crate::brought::{cited_lines, declared_lines, text_cited, text_codecs_name, text_lines};
+use crate::cited::{BYTES, SHARED};
 use crate::definitions::definitions;
-use crate::imports::imports;
+use crate::imports::{Known, imports};
+use crate::codec_laws::codec_laws;
 use crate::nested::nested_of;
+use crate::text_cited::{JSON as JSON_CITED, TEXTS};
+use crate::text_codec::{JSON, text_codec};
+use crate::text_laws::text_laws;
 use derive_syntax::{
-    Definition, DeriveError, Fault, check_source, codecs_name, error_of, source_of, text_above,
-    tokens_of,
+    Attributes, Definition, DeriveError, Fault, check_source, codecs_name, error_of, source_of,
+    text_above, tokens_of,
 };
 use std::alloc::{AllocError, Global};
 
@@ -78,6 +82,7 @@ fn files(alloc: Global, module: &str, source: &str) -> Result<Vec<NestedFile>, F
     let mut files = Vec::new(alloc);
     if contain_themselves(&source.definitions) {
         append_codecs(alloc, module, &source.definitions, &mut files)?;
+        append_json(alloc, module, &source.definitions, &mut files)?;
         append_answers(alloc, module, &source.definitions, &mut files)?;
     }
     Ok(files)
@@ -98,7 +103,7 @@ fn contain_themselves(types: &[Definition<'_>]) -> bool {
     false
 }
 
-/// Appends the files of the codecs of types, and of what is proved of these.
+/// Appends the files of what every format has, and of bytes.
 fn append_codecs<'a>(
     alloc: Global,
     module: &str,
@@ -112,22 +117,85 @@ fn append_codecs<'a>(
             continue;
         }
         let nested = nested_of(alloc, definition, "y")?;
-        specs.text.push_str(definitions(alloc, &nested)?.as_str())?;
-        specs.text.push_str(bin_codec(alloc, &nested)?.as_str())?;
+        let several = has_several(definition.attributes);
+        specs
+            .text
+            .push_str(definitions(alloc, &nested, several)?.as_str())?;
+        if definition.attributes.bin.is_used() {
+            specs.text.push_str(bin_codec(alloc, &nested)?.as_str())?;
+        }
         specs
             .brought
             .push_str(declared_lines(alloc, module, &nested)?.as_str())?;
         let value = format!(in alloc; "(out-{} x)", definition.name.text)?;
         let nested = nested_of(alloc, definition, value.as_str())?;
-        proofs.text.push_str(codec_laws(alloc, &nested)?.as_str())?;
+        let has_bin = definition.attributes.bin.is_used();
+        proofs
+            .text
+            .push_str(codec_laws(alloc, &nested, has_bin)?.as_str())?;
         proofs
             .brought
-            .push_str(cited_lines(alloc, module, &nested)?.as_str())?;
+            .push_str(cited_lines(alloc, module, &nested, has_bin)?.as_str())?;
     }
     let name = codecs_name(alloc, module)?;
-    files.push(specs_file(alloc, name.as_str(), &specs)?)?;
-    files.push(proofs_file(alloc, name.as_str(), &proofs)?)?;
+    let tables: [&[Known]; 2] = [&SHARED, &BYTES];
+    files.push(specs_file(alloc, name.as_str(), &specs, &tables)?)?;
+    files.push(proofs_file(alloc, name.as_str(), &proofs, &tables)?)?;
     Ok(())
+}
+
+/// Appends the files of JSON, if one of the types has it.
+fn append_json<'a>(
+    alloc: Global,
+    module: &str,
+    types: &[Definition<'a>],
+    files: &mut Vec<NestedFile>,
+) -> Result<(), Fault> {
+    let mut specs = Body::new(alloc);
+    let mut proofs = Body::new(alloc);
+    for definition in types {
+        if !is_nested(definition) || !definition.attributes.json.is_used() {
+            continue;
+        }
+        let before = before_json(definition.attributes);
+        let nested = nested_of(alloc, definition, "y")?;
+        specs
+            .text
+            .push_str(text_codec(alloc, &nested, &JSON, before)?.as_str())?;
+        specs
+            .brought
+            .push_str(text_lines(alloc, module, &nested, before)?.as_str())?;
+        let value = format!(in alloc; "(out-{} x)", definition.name.text)?;
+        let nested = nested_of(alloc, definition, value.as_str())?;
+        proofs
+            .text
+            .push_str(text_laws(alloc, &nested, &JSON)?.as_str())?;
+        proofs
+            .brought
+            .push_str(text_cited(alloc, module, &nested, &JSON)?.as_str())?;
+    }
+    if specs.text.is_empty() {
+        return Ok(());
+    }
+    let name = text_codecs_name(alloc, module, &JSON)?;
+    let tables: [&[Known]; 3] = [&SHARED, &TEXTS, &JSON_CITED];
+    files.push(specs_file(alloc, name.as_str(), &specs, &tables)?)?;
+    files.push(proofs_file(alloc, name.as_str(), &proofs, &tables)?)?;
+    Ok(())
+}
+
+/// The format before JSON that a type has, if it has one.
+fn before_json(attributes: Attributes<'_>) -> Option<&'static str> {
+    if attributes.bin.is_used() {
+        Some("bin")
+    } else {
+        None
+    }
+}
+
+/// Whether a type has more than one format.
+fn has_several(attributes: Attributes<'_>) -> bool {
+    attributes.bin.is_used() && attributes.json.is_used()
 }
 
 /// What a file of ghost terms says.
@@ -150,8 +218,13 @@ impl Body {
 }
 
 /// A file of definitions.
-fn specs_file(alloc: Global, name: &str, body: &Body) -> Result<NestedFile, AllocError> {
-    let brought = imports(alloc, body.text.as_str())?;
+fn specs_file(
+    alloc: Global,
+    name: &str,
+    body: &Body,
+    tables: &[&[Known]],
+) -> Result<NestedFile, AllocError> {
+    let brought = imports(alloc, body.text.as_str(), tables)?;
     Ok(NestedFile {
         folder: Folder::Specs,
         path: format!(in alloc; "{name}.antt")?,
@@ -161,8 +234,13 @@ fn specs_file(alloc: Global, name: &str, body: &Body) -> Result<NestedFile, Allo
 }
 
 /// A file of laws.
-fn proofs_file(alloc: Global, name: &str, body: &Body) -> Result<NestedFile, AllocError> {
-    let brought = imports(alloc, body.text.as_str())?;
+fn proofs_file(
+    alloc: Global,
+    name: &str,
+    body: &Body,
+    tables: &[&[Known]],
+) -> Result<NestedFile, AllocError> {
+    let brought = imports(alloc, body.text.as_str(), tables)?;
     Ok(NestedFile {
         folder: Folder::Proofs,
         path: format!(in alloc; "{name}Laws.antt")?,
@@ -188,7 +266,9 @@ fn append_answers<'a>(
             continue;
         }
         let nested = nested_of(alloc, definition, "y")?;
-        for Answers { path, text } in answers_of(alloc, module, &nested)? {
+        let attributes = definition.attributes;
+        let formats = (attributes.bin.is_used(), attributes.json.is_used());
+        for Answers { path, text } in answers_of(alloc, module, &nested, formats)? {
             files.push(NestedFile {
                 folder: Folder::Proofs,
                 path,

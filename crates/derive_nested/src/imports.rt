@@ -1,6 +1,5 @@
 //! What a file of definitions or laws brings in: each name that stands in it, once.
 
-use crate::cited::CITED;
 use std::alloc::{AllocError, Global};
 
 /// A module, and names of it: each is brought in where it stands in a text. One that begins with a
@@ -11,7 +10,11 @@ pub(crate) struct Known {
 }
 
 /// The lines that bring in what stands in a text.
-pub(crate) fn imports(alloc: Global, text: &str) -> Result<String, AllocError> {
+pub(crate) fn imports(
+    alloc: Global,
+    text: &str,
+    tables: &[&[Known]],
+) -> Result<String, AllocError> {
     let mut words: Vec<&str> = Vec::new(alloc);
     for word in text.split(is_between) {
         let (word, _field) = word.split_once('.').unwrap_or((word, ""));
@@ -20,8 +23,17 @@ pub(crate) fn imports(alloc: Global, text: &str) -> Result<String, AllocError> {
     words.sort()?;
     words.dedup();
     let mut lines = String::new(alloc);
-    for known in &CITED {
-        lines.push_str(import(alloc, known, &words)?.as_str())?;
+    for table in tables {
+        lines.push_str(imported(alloc, table, &words)?.as_str())?;
+    }
+    Ok(lines)
+}
+
+/// The lines that bring in the names of a table that are among these words.
+fn imported(alloc: Global, table: &[Known], words: &[&str]) -> Result<String, AllocError> {
+    let mut lines = String::new(alloc);
+    for known in table {
+        lines.push_str(import(alloc, known, words)?.as_str())?;
     }
     Ok(lines)
 }
@@ -46,8 +58,10 @@ fn import(alloc: Global, known: &Known, words: &[&str]) -> Result<String, AllocE
     format!(in alloc; "use Rattle.{}.{{{names}}}\n", known.module)
 }
 
-/// A name as it stands in a text: an operator without the holes around it.
+/// A name as it stands in a text: the one that another is brought in as, or an operator without the
+/// holes around it.
 fn word_of(name: &str) -> &str {
+    let (_theirs, name) = name.split_once(" as ").unwrap_or(("", name));
     let name = name.strip_prefix('◌').unwrap_or(name);
     name.strip_suffix('◌').unwrap_or(name)
 }

@@ -12,7 +12,7 @@ use std::alloc::{AllocError, Global};
 pub(crate) fn known_answers(
     alloc: Global,
     module: &str,
-    nested: &Nested,
+    nested: &Nested<'_>,
 ) -> Result<Answers, AllocError> {
     let (library, path) = crate_of(module);
     let (name, file) = (nested.names.of.as_str(), codecs_name(alloc, module)?);
@@ -29,7 +29,7 @@ use Rattle.{library}.proofs{path}.derived.{name}Value.+known.Goals as goal
 }
 
 /// The names of the laws of the variants, and the answers by them.
-fn answered(alloc: Global, nested: &Nested) -> Result<(String, String), AllocError> {
+fn answered(alloc: Global, nested: &Nested<'_>) -> Result<(String, String), AllocError> {
     let mut cited = String::new(alloc);
     let mut answers = String::new(alloc);
     for (i, held) in nested.contents.iter().enumerate() {
@@ -42,7 +42,7 @@ fn answered(alloc: Global, nested: &Nested) -> Result<(String, String), AllocErr
 }
 
 /// The answer for a variant, the first one or another, by this law.
-fn answer(alloc: Global, held: &Held, is_first: bool, law: &str) -> Result<String, AllocError> {
+fn answer(alloc: Global, held: &Held<'_>, is_first: bool, law: &str) -> Result<String, AllocError> {
     let variant = held.name.as_str();
     let mut values = String::new(alloc);
     for name in &held.called {

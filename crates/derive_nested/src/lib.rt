@@ -1,6 +1,6 @@
 //! Writes the definitions and the proofs of user-defined types that contain themselves: what a
-//! value of such a type means, how deep it is and how it is encoded as bytes, and the answers to what
-//! is to be proved of its impls.
+//! value of such a type means, how deep it is and how it is encoded in each format, and the answers
+//! to what is to be proved of its impls.
 #![tactic(auto)]
 
 mod answers;
@@ -13,10 +13,15 @@ mod coded;
 mod definitions;
 mod files;
 mod imports;
+mod json_answers;
 mod known_answers;
 mod nested;
 mod part;
 mod row;
+mod text_cited;
+mod text_codec;
+mod text_laws;
+mod text_layers;
 mod wrapped;
 
 pub use derive_syntax::{DeriveError, SourceFault};

@@ -4,30 +4,35 @@ use crate::part::Names;
 use crate::row::{Leaf, Row, row_of};
 use crate::wrapped::{at, atom, part_of};
 use derive_syntax::{
-    Case, Content, Definition, Fault, Field, Shape, Token, Type, Variant, nested_part,
+    Case, Content, Definition, Fault, Field, Shape, Token, Type, Variant, field_name, nested_part,
+    variant_name,
 };
 use std::alloc::{AllocError, Global};
 
 /// A type that contains itself.
 #[derive(Drop)]
-pub(crate) struct Nested {
+pub(crate) struct Nested<'a> {
     /// Its names.
     pub(crate) names: Names,
     /// Whether it is an enum.
     pub(crate) is_enum: bool,
     /// What its variants hold, or what it has as a struct.
-    pub(crate) contents: Vec<Held>,
+    pub(crate) contents: Vec<Held<'a>>,
 }
 
 /// What a variant holds, or what a struct has.
 #[derive(Drop)]
-pub(crate) struct Held {
+pub(crate) struct Held<'a> {
     /// The name of the variant, or nothing.
     pub(crate) name: String,
+    /// What the variant is called in texts, or nothing.
+    pub(crate) key: String,
+    /// Whether it has named fields.
+    pub(crate) has_fields: bool,
     /// What the parts are called in the program.
     pub(crate) called: Vec<String>,
     /// The parts.
-    pub(crate) leaves: Vec<Leaf>,
+    pub(crate) leaves: Vec<Leaf<'a>>,
     /// The parts together.
     pub(crate) row: Row,
 }
@@ -37,7 +42,7 @@ pub(crate) fn nested_of<'a>(
     alloc: Global,
     definition: &Definition<'a>,
     value: &str,
-) -> Result<Nested, Fault> {
+) -> Result<Nested<'a>, Fault> {
     let names = Names {
         of: String::from_str(alloc, definition.name.text)?,
         snake: Case::Snake.of_variant(alloc, definition.name.text)?,
@@ -69,16 +74,22 @@ fn struct_held<'a>(
     names: &Names,
     name: Token<'a>,
     (fields, value): (&[Field<'a>], &str),
-) -> Result<Held, Fault> {
+) -> Result<Held<'a>, Fault> {
     let mut leaves = Vec::new(alloc);
     let mut called = Vec::new(alloc);
     for (i, field) in fields.iter().enumerate() {
         let called_so = field.name.text;
         let value = format!(in alloc; "{value}.{called_so}")?;
-        leaves.push(leaf_of(alloc, names, (name, field.of), (i, value))?)?;
+        let key = Some(field_name(alloc, *field, None)?);
+        leaves.push(leaf_of(alloc, names, (name, field.of), (i, value, key))?)?;
         called.push(String::from_str(alloc, called_so)?)?;
     }
-    held_of(alloc, String::new(alloc), (called, leaves))
+    held_of(
+        alloc,
+        (String::new(alloc), String::new(alloc)),
+        true,
+        (called, leaves),
+    )
 }
 
 /// What a variant holds.
@@ -87,7 +98,7 @@ fn variant_held<'a>(
     names: &Names,
     name: Token<'a>,
     variant: &Variant<'a>,
-) -> Result<Held, Fault> {
+) -> Result<Held<'a>, Fault> {
     let mut leaves = Vec::new(alloc);
     let types = types_of(alloc, &variant.content)?;
     for (i, of) in types.iter().enumerate() {
@@ -96,21 +107,38 @@ fn variant_held<'a>(
         } else {
             format!(in alloc; "v{i}")?
         };
-        leaves.push(leaf_of(alloc, names, (name, *of), (i, value))?)?;
+        let key = key_at(alloc, &variant.content, i)?;
+        leaves.push(leaf_of(alloc, names, (name, *of), (i, value, key))?)?;
     }
+    let has_fields = matches!(variant.content, Content::Fields(_));
     let called = called_in(alloc, &variant.content)?;
     let own = String::from_str(alloc, variant.name.text)?;
-    held_of(alloc, own, (called, leaves))
+    let key = variant_name(alloc, variant, None)?;
+    held_of(alloc, (own, key), has_fields, (called, leaves))
 }
 
-/// Parts together, of a variant of this name, or of a struct.
-fn held_of(
+/// What the field of a variant at its place is called in texts, if it has a name.
+fn key_at(alloc: Global, content: &Content<'_>, i: usize) -> Result<Option<String>, AllocError> {
+    let Content::Fields(fields) = content else {
+        return Ok(None);
+    };
+    match fields.get(i) {
+        Some(field) => Ok(Some(field_name(alloc, *field, None)?)),
+        None => Ok(None),
+    }
+}
+
+/// Parts together, of a variant of this name, which is called so in texts, or of a struct.
+fn held_of<'a>(
     alloc: Global,
-    name: String,
-    (called, leaves): (Vec<String>, Vec<Leaf>),
-) -> Result<Held, Fault> {
+    (name, key): (String, String),
+    has_fields: bool,
+    (called, leaves): (Vec<String>, Vec<Leaf<'a>>),
+) -> Result<Held<'a>, Fault> {
     Ok(Held {
         name,
+        key,
+        has_fields,
         called,
         row: row_of(alloc, &leaves)?,
         leaves,
@@ -122,11 +150,13 @@ fn leaf_of<'a>(
     alloc: Global,
     names: &Names,
     (name, of): (Token<'a>, Type<'a>),
-    (i, value): (usize, String),
-) -> Result<Leaf, Fault> {
+    (i, value, key): (usize, String, Option<String>),
+) -> Result<Leaf<'a>, Fault> {
     let nested = nested_part(alloc, name, of)?;
     Ok(Leaf {
         part: part_of(alloc, names, &nested)?,
+        nested,
+        key,
         value,
         legal: format!(in alloc; "h{i}")?,
     })
@@ -174,7 +204,7 @@ fn field_names(alloc: Global, fields: &[Field<'_>]) -> Result<Vec<String>, Alloc
     Ok(names)
 }
 
-impl Nested {
+impl Nested<'_> {
     /// What a value is seen as: what the variants hold, each of the first variant and the rest.
     /// The type itself is called so.
     pub(crate) fn seen(&self, alloc: Global, itself: &str) -> Result<String, AllocError> {
@@ -220,7 +250,7 @@ impl Nested {
     }
 }
 
-impl Held {
+impl Held<'_> {
     /// The names of the parts in a ghost term, each after a space.
     pub(crate) fn values(&self, alloc: Global) -> Result<String, AllocError> {
         let mut text = String::new(alloc);

@@ -11,6 +11,8 @@ pub(crate) struct Part {
     pub(crate) of: String,
     /// Its codec; the hole is that of the type itself.
     pub(crate) codec: String,
+    /// Which meanings are legal; the legal ones of the type itself are `P`.
+    pub(crate) legal: String,
     /// As bytes its layer around the type itself. A part that holds no values of it has none.
     pub(crate) layer: Option<String>,
     /// What its value means, where the values of the type itself are meanings.
@@ -37,27 +39,41 @@ pub(crate) struct Names {
     pub(crate) snake: String,
 }
 
-/// The types of Rust's: the name, and as ghost terms the type, the codec and the meaning.
-const PLAIN: [(&str, &str, &str, &str); 14] = [
-    ("bool", "Bool", "boolean_codec", "truth $"),
-    ("u8", "ℕ", "u8_codec", "whole $"),
-    ("u16", "ℕ", "u16_codec", "whole $"),
-    ("u32", "ℕ", "u32_codec", "whole $"),
-    ("u64", "ℕ", "u64_codec", "whole $"),
-    ("u128", "ℕ", "unsigned_codec 16", "whole $"),
-    ("usize", "ℕ", "usize_codec", "whole $"),
-    ("i8", "ℤ", "i8_codec", "number $"),
-    ("i16", "ℤ", "i16_codec", "number $"),
-    ("i32", "ℤ", "i32_codec", "number $"),
-    ("i64", "ℤ", "i64_codec", "number $"),
-    ("i128", "ℤ", "signed_codec w128 16 bits_fit_128", "number $"),
+/// The types of Rust's: the name, and as ghost terms the type, the codec, the meaning, and which
+/// meanings are legal.
+const PLAIN: [(&str, &str, &str, &str, &str); 14] = [
+    ("bool", "Bool", "boolean_codec", "truth $", "LegalTruth"),
+    ("u8", "ℕ", "u8_codec", "whole $", "LegalUnsigned 8"),
+    ("u16", "ℕ", "u16_codec", "whole $", "LegalUnsigned 16"),
+    ("u32", "ℕ", "u32_codec", "whole $", "LegalUnsigned 32"),
+    ("u64", "ℕ", "u64_codec", "whole $", "LegalUnsigned 64"),
+    (
+        "u128",
+        "ℕ",
+        "unsigned_codec 16",
+        "whole $",
+        "LegalUnsigned 128",
+    ),
+    ("usize", "ℕ", "usize_codec", "whole $", "LegalUnsigned 64"),
+    ("i8", "ℤ", "i8_codec", "number $", "LegalSigned w8"),
+    ("i16", "ℤ", "i16_codec", "number $", "LegalSigned w16"),
+    ("i32", "ℤ", "i32_codec", "number $", "LegalSigned w32"),
+    ("i64", "ℤ", "i64_codec", "number $", "LegalSigned w64"),
+    (
+        "i128",
+        "ℤ",
+        "signed_codec w128 16 bits_fit_128",
+        "number $",
+        "LegalSigned w128",
+    ),
     (
         "String",
         "String Global",
         "string_codec",
         "text (string_bytes $)",
+        "LegalText",
     ),
-    ("()", "Unit {0}", "unit_codec", "nothing"),
+    ("()", "Unit {0}", "unit_codec", "nothing", "LegalUnit"),
 ];
 
 /// What is said of a part that stands in no other type.
@@ -74,6 +90,7 @@ fn itself(alloc: Global, names: &Names) -> Result<Part, AllocError> {
     Ok(Part {
         of: String::from_str(alloc, "$")?,
         codec: String::from_str(alloc, "$")?,
+        legal: String::from_str(alloc, "P")?,
         layer: Some(String::from_str(alloc, "itself_layer")?),
         step: String::from_str(alloc, "$")?,
         means: format!(in alloc; "{snake}_means $")?,
@@ -86,9 +103,9 @@ fn itself(alloc: Global, names: &Names) -> Result<Part, AllocError> {
 
 /// What is said of a type of Rust's.
 fn plain_part(alloc: Global, name: &str) -> Result<Part, AllocError> {
-    for (known, of, codec, means) in PLAIN {
+    for (known, of, codec, means, legal) in PLAIN {
         if known == name {
-            return other_part(alloc, (of, codec, means));
+            return other_part(alloc, (of, codec, means, legal));
         }
     }
     nothing_part(alloc)
@@ -96,14 +113,18 @@ fn plain_part(alloc: Global, name: &str) -> Result<Part, AllocError> {
 
 /// What is said of nothing.
 pub(crate) fn nothing_part(alloc: Global) -> Result<Part, AllocError> {
-    other_part(alloc, ("Unit {0}", "unit_codec", "nothing"))
+    other_part(alloc, ("Unit {0}", "unit_codec", "nothing", "LegalUnit"))
 }
 
 /// What is said of a type that holds no values of the type itself.
-fn other_part(alloc: Global, (of, codec, means): (&str, &str, &str)) -> Result<Part, AllocError> {
+fn other_part(
+    alloc: Global,
+    (of, codec, means, legal): (&str, &str, &str, &str),
+) -> Result<Part, AllocError> {
     Ok(Part {
         of: String::from_str(alloc, of)?,
         codec: String::from_str(alloc, codec)?,
+        legal: String::from_str(alloc, legal)?,
         layer: None,
         step: String::from_str(alloc, means)?,
         means: String::from_str(alloc, means)?,

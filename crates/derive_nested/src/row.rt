@@ -2,11 +2,16 @@
 
 use crate::part::{Part, nothing_part};
 use crate::wrapped::{at, atom};
+use derive_syntax::NestedPart;
 use std::alloc::{AllocError, Global};
 
 /// A part at its place.
 #[derive(Drop)]
-pub(crate) struct Leaf {
+pub(crate) struct Leaf<'a> {
+    /// What its type is made of.
+    pub(crate) nested: NestedPart<'a>,
+    /// What it is called in texts, if it is a named field.
+    pub(crate) key: Option<String>,
     /// What is said of it.
     pub(crate) part: Part,
     /// Its value.
@@ -29,7 +34,7 @@ pub(crate) struct Row {
 }
 
 /// The leaves as nested pairs: half of them, and the other half.
-pub(crate) fn row_of(alloc: Global, leaves: &[Leaf]) -> Result<Row, AllocError> {
+pub(crate) fn row_of(alloc: Global, leaves: &[Leaf<'_>]) -> Result<Row, AllocError> {
     if let [leaf] = leaves {
         return row_of_one(alloc, &leaf.part, leaf.value.as_str(), leaf.legal.as_str());
     }
@@ -49,6 +54,7 @@ fn row_of_one(alloc: Global, part: &Part, value: &str, legal: &str) -> Result<Ro
         part: Part {
             of: part.of.clone()?,
             codec: part.codec.clone()?,
+            legal: part.legal.clone()?,
             layer: cloned(alloc, &part.layer)?,
             step: at(alloc, part.step.as_str(), value)?,
             means: at(alloc, part.means.as_str(), value)?,
@@ -81,6 +87,11 @@ fn both(alloc: Global, first: &Row, second: &Row) -> Result<Row, AllocError> {
                 "pair_codec {} {}",
                 atom(alloc, a.codec.as_str())?,
                 atom(alloc, b.codec.as_str())?
+            )?,
+            legal: format!(in alloc;
+                "LegalPair {} {}",
+                atom(alloc, a.legal.as_str())?,
+                atom(alloc, b.legal.as_str())?
             )?,
             layer: both_layers(alloc, a, b)?,
             step: format!(in alloc; "paired ({}, {})", a.step, b.step)?,

@@ -31,6 +31,7 @@ fn boxed(alloc: Global, names: &Names, part: &Part) -> Result<Part, AllocError> 
             "codec_as (λ (x : Box {of} Global). x.value) {}",
             atom(alloc, part.codec.as_str())?
         )?,
+        legal: part.legal.clone()?,
         layer: layered(alloc, "seen_layer (λ x. x.value) ", &part.layer, "")?,
         step: at(alloc, part.step.as_str(), "$.value")?,
         means: at(alloc, part.means.as_str(), "$.value")?,
@@ -77,6 +78,7 @@ fn optional(alloc: Global, part: &Part) -> Result<Part, AllocError> {
     Ok(Part {
         of: format!(in alloc; "Option {}", atom(alloc, part.of.as_str())?)?,
         codec: format!(in alloc; "option_codec {}", atom(alloc, part.codec.as_str())?)?,
+        legal: format!(in alloc; "LegalOption {}", atom(alloc, part.legal.as_str())?)?,
         layer: layered(alloc, "option_layer ", &part.layer, "")?,
         step: format!(in alloc; "optional (option_map {step} $)")?,
         means: format!(in alloc; "optional (option_map {means} $)")?,
@@ -101,6 +103,7 @@ fn listed(alloc: Global, names: &Names, part: &Part) -> Result<Part, AllocError>
         codec: format!(in alloc;
             "codec_as (λ (x : Vec {of} Global). x.items) (list_codec {codec})"
         )?,
+        legal: format!(in alloc; "LegalList {}", atom(alloc, part.legal.as_str())?)?,
         layer: layered(
             alloc,
             "seen_layer (λ x. x.items) (list_layer ",

@@ -21,6 +21,8 @@ mod means;
 mod names;
 mod nested;
 mod nested_bodies;
+mod nested_json;
+mod nested_json_fields;
 mod nested_rows;
 mod nested_writes;
 mod parameters;

@@ -2,3 +2,6 @@ mod TreeCodecsLaws
 mod ChainCodecsLaws
 mod ExpressionCodecsLaws
 mod FolderCodecsLaws
+mod TreeJsonCodecsLaws
+mod ChainJsonCodecsLaws
+mod FolderJsonCodecsLaws

@@ -3,7 +3,8 @@ use Rattle.std.specs.Prelude.{◌≡◌, ℕ, suc, refl, Box, Option}
 use Rattle.std.specs.Global.{Global}
 use Rattle.std.specs.Option.{option_map}
 use Rattle.std.proofs.Common.{◌∙◌}
-use Rattle.nano_value.specs.Meaning.{Meaning, number, whole, optional, paired}
+use Rattle.nano_value.specs.Meaning.{Meaning, number, whole, optional, paired, LegalUnsigned, LegalOption, LegalPair}
+use Rattle.nano_schema_levels.specs.LegalLevels.{LegalStep}
 use Rattle.nano_schema_levels.specs.Depths.{held_depth}
 use Rattle.nano_schema_levels.proofs.StepsLaws.{by_option}
 use Rattle.nano_bin_bytes.specs.Codec.{Codec}
@@ -41,6 +42,11 @@ chain_depth_step y = held_depth (λ x. suc x.value) y.next
 
 abbrev pub chain_depth : Chain → ℕ
 chain_depth = fold-Chain ℕ chain_depth_step
+
+-- ---- which meanings are legal, given those that are of the values in it
+
+abbrev pub chain_step : LegalStep
+chain_step P = LegalPair (LegalUnsigned 32) (LegalOption P)
 
 -- ---- as bytes: the layer around the values in it, and the codec
 

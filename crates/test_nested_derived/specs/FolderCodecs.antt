@@ -2,8 +2,9 @@
 use Rattle.std.specs.Prelude.{◌≡◌, ℕ, suc, map, refl, String, Vec, string_bytes}
 use Rattle.std.specs.Global.{Global}
 use Rattle.std.proofs.Common.{◌∙◌}
-use Rattle.nano_value.specs.Meaning.{Meaning, text, listed, paired}
+use Rattle.nano_value.specs.Meaning.{Meaning, text, listed, paired, LegalText, LegalList, LegalPair}
 use Rattle.nano_levels.specs.Layers.{greatest}
+use Rattle.nano_schema_levels.specs.LegalLevels.{LegalStep}
 use Rattle.nano_schema_levels.proofs.StepsLaws.{list_depth}
 use Rattle.nano_bin_bytes.specs.Codec.{Codec}
 use Rattle.nano_bin.specs.ScalarCodecs.{string_codec}
@@ -40,6 +41,11 @@ folder_depth_step y = greatest (map (λ x. suc x) y.folders.items)
 
 abbrev pub folder_depth : Folder → ℕ
 folder_depth = fold-Folder ℕ folder_depth_step
+
+-- ---- which meanings are legal, given those that are of the values in it
+
+abbrev pub folder_step : LegalStep
+folder_step P = LegalPair LegalText (LegalList P)
 
 -- ---- as bytes: the layer around the values in it, and the codec
 

@@ -2,3 +2,6 @@ pub mod TreeCodecs
 pub mod ChainCodecs
 pub mod ExpressionCodecs
 pub mod FolderCodecs
+pub mod TreeJsonCodecs
+pub mod ChainJsonCodecs
+pub mod FolderJsonCodecs

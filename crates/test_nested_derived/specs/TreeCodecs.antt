@@ -1,12 +1,14 @@
 -- Written by derive_files: types that contain themselves, and their codecs.
 use Rattle.std.specs.Prelude.{◌≡◌, ℕ, ℤ, suc, map, refl, Vec}
 use Rattle.std.specs.Global.{Global}
+use Rattle.std.specs.Int.{w32}
 use Rattle.std.proofs.Common.{◌∙◌, lit≤}
-use Rattle.nano_value.specs.Meaning.{Meaning, number, listed}
-use Rattle.nano_value.specs.Sums.{tagged}
+use Rattle.nano_value.specs.Meaning.{Meaning, number, listed, LegalSigned, LegalList}
+use Rattle.nano_value.specs.Sums.{tagged, LegalVariant, variant, no_variants}
 use Rattle.nano_levels.specs.Layers.{greatest}
 use Rattle.nano_schema.specs.declared.choices.Either.{Either}
 use Rattle.nano_schema.specs.declared.choices.Either.TheVariants.{First, Later}
+use Rattle.nano_schema_levels.specs.LegalLevels.{LegalStep}
 use Rattle.nano_schema_levels.proofs.StepsLaws.{list_depth}
 use Rattle.nano_bin_bytes.specs.Codec.{Codec}
 use Rattle.nano_bin.specs.ScalarCodecs.{i32_codec}
@@ -47,6 +49,11 @@ tree_depth_step (Tree-F.Node v) = greatest (map (λ x. suc x) v.items)
 
 abbrev pub tree_depth : Tree → ℕ
 tree_depth = fold-Tree ℕ tree_depth_step
+
+-- ---- which meanings are legal, given those that are of the values in it
+
+abbrev pub tree_step : LegalStep
+tree_step P = LegalVariant (variant (LegalSigned w32) (variant (LegalList P) no_variants))
 
 -- ---- as bytes: the layer around the values in it, and the codec
 

@@ -1,5 +1,6 @@
 //! Types that contain themselves, and types that contain each other.
 
+use crate::check::nested_json::check_nested_json;
 use crate::fault::Fault;
 use crate::nested::nested_part;
 use crate::syntax::{Attributes, Content, Definition, Field, Shape, Source, Type, Variant};
@@ -14,8 +15,10 @@ const TUPLE: &str = "is a tuple struct that contains itself: give its parts name
 const GENERIC: &str =
     "is a type parameter of a type that contains itself, and such a type has none";
 
-const BYTES_ALONE: &str = "stands above a type that contains itself, which has bytes alone: write \
-    `bin`";
+const NO_CODEC: &str = "stands above a type that contains itself: write `bin`, `json` or both";
+
+/// The formats of types that contain themselves.
+const FORMATS: [&str; 2] = ["bin", "json"];
 
 const NO_WORD: &str = "stands in a type that contains itself: above its fields and variants is no \
     attribute but `rename`";
@@ -38,6 +41,9 @@ pub(crate) fn check_nested<'a>(
         return Err(parameter.fault(GENERIC));
     }
     check_formats(definition.attributes)?;
+    if definition.attributes.json.is_used() {
+        check_nested_json(definition)?;
+    }
     match &definition.shape {
         Shape::Fields(fields) => check_fields(alloc, definition.name, fields),
         Shape::Parts(_parts) => Err(definition.name.fault(TUPLE)),
@@ -45,15 +51,15 @@ pub(crate) fn check_nested<'a>(
     }
 }
 
-/// An error at the first word above a type that asks for more than bytes in both directions.
+/// An error at the first word above a type that asks for more than these formats in both directions.
 fn check_formats(attributes: Attributes<'_>) -> Result<(), Fault> {
     let mut in_comment = false;
     for token in attributes.above {
         match token.kind {
             TokenKind::Attribute => in_comment = true,
             TokenKind::AttributeEnd => in_comment = false,
-            TokenKind::Word if in_comment && token.text != "bin" => {
-                return Err(token.fault(BYTES_ALONE));
+            TokenKind::Word if in_comment && !FORMATS.contains(&token.text) => {
+                return Err(token.fault(NO_CODEC));
             }
             _ => {}
         }

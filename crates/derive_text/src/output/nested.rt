@@ -1,8 +1,10 @@
-//! Types that contain themselves, as bytes: their schema, what writes them part by part, and what
+//! Types that contain themselves: their schema, and as bytes what writes them part by part, and what
 //! reads them within levels. Their codecs stand in a file of definitions.
 
 use crate::output::layout::{Brackets, Items, Piece, list};
 use crate::output::nested_bodies::{known_arms, known_fields};
+use crate::output::nested_json::{append_json_choice, append_json_record};
+use crate::output::nested_json_fields::json_fields;
 use crate::output::nested_rows::{NestedRow, append_choice_row, append_record_row};
 use crate::output::nested_writes::{write_arms, write_fields};
 use crate::output::sheet::Sheet;
@@ -47,18 +49,31 @@ pub(crate) fn append_nested<'a>(
             let row = append_record_row(sheet, &target, fields)?;
             let known = known_fields(sheet, fields)?;
             let write = write_fields(sheet, name, fields)?;
-            Ok(append_impls(sheet, &target, &RECORD, &row, (&known, &write))?)
+            append_impls(sheet, &target, &RECORD, &row, (&known, &write))?;
+            if target.attributes.json.is_used() {
+                let appended = json_fields(sheet, name, fields, &row.leaves)?;
+                append_json_record(sheet, &target, appended.as_str())?;
+            }
+            Ok(())
         }
         Shape::Variants(variants) => {
             let row = append_choice_row(sheet, &target, variants)?;
             let known = known_arms(sheet, variants)?;
-            let write = write_arms(sheet, name, variants)?;
-            Ok(append_impls(sheet, &target, &CHOICE, &row, (&known, &write))?)
+            let write = if target.attributes.bin.is_used() {
+                write_arms(sheet, name, variants)?
+            } else {
+                String::new(sheet.alloc)
+            };
+            append_impls(sheet, &target, &CHOICE, &row, (&known, &write))?;
+            if target.attributes.json.is_used() {
+                append_json_choice(sheet, &target, variants)?;
+            }
+            Ok(())
         }
     }
 }
 
-const IMPLS: &str = "
+const SCHEMA: &str = "
 impl $SCHEMA for $TYPE {
     ghost use Rattle.$SPECS.{$SEEN};
 
@@ -71,16 +86,17 @@ $MAKING    }
 }
 
 impl nano_schema::Value for $TYPE {
-    ghost use Rattle.$SPECS.{$MEANS, $BIN};
+$CITED
 
     ghost means = { $MEANS };
 
-    ghost legal = { $BIN.encoding.legal };
+    ghost legal = { $FIRST.encoding.legal };
 
 $LEGAL    fn known(&self) {
 $KNOWN    }
-}
+}";
 
+const BYTES: &str = "
 // ---- bytes
 
 impl nano_bin_schema::BinCodec for $TYPE {
@@ -129,8 +145,8 @@ impl nano_bin_schema::DeBin for $TYPE {
     }
 }";
 
-/// Appends the impls of a type with this row: what its values mean, and bytes. Given are the bodies
-/// of what says that a value is legal, and of what writes it.
+/// Appends the impls of a type with this row: what its values mean, and bytes if it has them. Given
+/// are the bodies of what says that a value is legal, and of what writes it as bytes.
 fn append_impls<'a>(
     sheet: &mut Sheet,
     target: &Target<'a>,
@@ -138,46 +154,102 @@ fn append_impls<'a>(
     row: &NestedRow,
     (known, write): (&String, &String),
 ) -> Result<(), AllocError> {
-    sheet.import("ghost use Rattle.std.specs.Prelude.{refl};")?;
-    sheet.import("ghost use Rattle.nano_schema.specs.UserTypes.{agreed};")?;
-    let mut holes = target.holes(sheet.alloc)?;
-    put_names(&mut holes, sheet.alloc, target, kind.is_enum)?;
+    let alloc = sheet.alloc;
+    let mut holes = nested_holes(sheet, target)?;
+    put_laws(&mut holes, alloc, target, kind.is_enum)?;
+    put_codec(&mut holes, alloc, target)?;
     holes.put("SCHEMA", sheet.short(kind.schema)?.as_str())?;
-    holes.put("CALL", reading(sheet, target, kind)?.as_str())?;
     holes.put("HELD", row.values.as_str())?;
     holes.put("MAKING", row.making.as_str())?;
     holes.put("KNOWN", known.as_str())?;
-    holes.put("WRITE", write.as_str())?;
-    sheet.write(IMPLS, &holes)
+    sheet.write(SCHEMA, &holes)?;
+    if target.attributes.bin.is_used() {
+        append_bytes(sheet, target, kind, holes, write)?;
+    }
+    Ok(())
 }
 
-/// Adds the names of the definitions of a type, and of the laws that tactics name: those by which
-/// an enum is made, a struct is known to be legal, and a value is written.
-fn put_names<'a>(
+/// Adds the laws that tactics name: those by which an enum is made, a struct is known to be legal,
+/// and a value is written.
+fn put_laws<'a>(
     holes: &mut Holes,
     alloc: Global,
     target: &Target<'a>,
     is_enum: bool,
 ) -> Result<(), AllocError> {
-    let (library, _path) = crate_of(target.module);
-    let file = codecs_name(alloc, target.module)?;
     let name = Case::Snake.of_variant(alloc, target.name.text)?;
-    let specs = format!(in alloc; "{library}.specs.{file}")?;
-    holes.put("SPECS", specs.as_str())?;
-    holes.put("SEEN", format!(in alloc; "{name}_view")?.as_str())?;
-    holes.put("MEANS", format!(in alloc; "{name}_means")?.as_str())?;
-    holes.put("BIN", format!(in alloc; "{name}_codec")?.as_str())?;
+    let file = codecs_name(alloc, target.module)?;
     let laws = format!(in alloc; "crate::proofs::{file}Laws::{name}")?;
     let end = if is_enum { "views" } else { "legal" };
     let tactic = format!(in alloc; "    #[tactic(auto, using({laws}_{end}))]\n")?;
-    let (views, legal) = if is_enum {
-        (tactic.as_str(), "")
-    } else {
-        ("", tactic.as_str())
+    let (views, legal) = match (is_enum, target.attributes.bin.is_used()) {
+        (true, _) => (tactic.as_str(), ""),
+        (false, true) => ("", tactic.as_str()),
+        (false, false) => ("", ""),
     };
     holes.put("LAWS", laws.as_str())?;
     holes.put("VIEWS", views)?;
     holes.put("LEGAL", legal)
+}
+
+/// Adds the codec by which a value is legal, and the lines that bring it in.
+fn put_codec<'a>(holes: &mut Holes, alloc: Global, target: &Target<'a>) -> Result<(), AllocError> {
+    let name = Case::Snake.of_variant(alloc, target.name.text)?;
+    let specs = specs_of(alloc, target.module, "")?;
+    if target.attributes.bin.is_used() {
+        let cited = format!(in alloc;
+            "    ghost use Rattle.{specs}.{{{name}_means, {name}_codec}};"
+        )?;
+        holes.put("CITED", cited.as_str())?;
+        return holes.put("FIRST", format!(in alloc; "{name}_codec")?.as_str());
+    }
+    let texts = specs_of(alloc, target.module, "Json")?;
+    let cited = format!(in alloc;
+        "    ghost use Rattle.{specs}.{{{name}_means}};
+    ghost use Rattle.{texts}.{{{name}_json}};"
+    )?;
+    holes.put("CITED", cited.as_str())?;
+    holes.put("FIRST", format!(in alloc; "{name}_json")?.as_str())
+}
+
+/// Appends the impls of bytes, of which the body is given that writes a value.
+fn append_bytes<'a>(
+    sheet: &mut Sheet,
+    target: &Target<'a>,
+    kind: &Kind,
+    mut holes: Holes,
+    write: &String,
+) -> Result<(), AllocError> {
+    sheet.import("ghost use Rattle.std.specs.Prelude.{refl};")?;
+    sheet.import("ghost use Rattle.nano_schema.specs.UserTypes.{agreed};")?;
+    let alloc = sheet.alloc;
+    let name = Case::Snake.of_variant(alloc, target.name.text)?;
+    holes.put("CALL", reading(sheet, target, kind)?.as_str())?;
+    holes.put("BIN", format!(in alloc; "{name}_codec")?.as_str())?;
+    holes.put("WRITE", write.as_str())?;
+    sheet.write(BYTES, &holes)
+}
+
+/// The holes that names of a type stand in, with those of its definitions.
+pub(crate) fn nested_holes<'a>(
+    sheet: &mut Sheet,
+    target: &Target<'a>,
+) -> Result<Holes, AllocError> {
+    let alloc = sheet.alloc;
+    let name = Case::Snake.of_variant(alloc, target.name.text)?;
+    let mut holes = target.holes(alloc)?;
+    holes.put("SPECS", specs_of(alloc, target.module, "")?.as_str())?;
+    holes.put("SEEN", format!(in alloc; "{name}_view")?.as_str())?;
+    holes.put("MEANS", format!(in alloc; "{name}_means")?.as_str())?;
+    Ok(holes)
+}
+
+/// The module of the definitions of the types of a module, or of those of a format of texts.
+pub(crate) fn specs_of(alloc: Global, module: &str, format: &str) -> Result<String, AllocError> {
+    let (library, _path) = crate_of(module);
+    let file = codecs_name(alloc, module)?;
+    let stem = file.as_str().strip_suffix("Codecs").unwrap_or("");
+    format!(in alloc; "{library}.specs.{stem}{format}Codecs")
 }
 
 /// The call that reads a value one level below.

@@ -23,6 +23,8 @@ pub(crate) struct NestedRow {
     pub(crate) values: String,
     /// The body of what makes it of those.
     pub(crate) making: String,
+    /// The fields of a struct as they stand in its row.
+    pub(crate) leaves: Vec<Leaf>,
 }
 
 /// Appends the row of a struct.
@@ -36,6 +38,7 @@ pub(crate) fn append_record_row<'a>(
     Ok(NestedRow {
         values: laid(sheet.alloc, fields, "$TYPE", Items::Types, (4, 18))?,
         making: record_making(sheet.alloc, target, fields)?,
+        leaves,
     })
 }
 
@@ -131,6 +134,7 @@ pub(crate) fn append_choice_row<'a>(
     Ok(NestedRow {
         values: target.values.clone()?,
         making: variants_making(sheet, variants)?,
+        leaves: Vec::new(sheet.alloc),
     })
 }
 

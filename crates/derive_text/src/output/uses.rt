@@ -8,10 +8,11 @@ use crate::output::names::Names;
 use std::alloc::{AllocError, Global};
 
 /// The modules whose items are brought in, in the order of their lines.
-const MODULES: [&str; 9] = [
+const MODULES: [&str; 10] = [
     "nano_bin",
     "nano_bin_nested",
     "nano_bin_schema",
+    "nano_json_nested",
     "nano_json_schema",
     "nano_levels",
     "nano_ron_schema",

@@ -1,14 +1,23 @@
 //! Written by derive_files: how the types of the module above are encoded.
 
-ghost use Rattle.std.specs.Prelude.{codes, ◌==◌, if◌then◌else◌, refl};
+ghost use Rattle.std.specs.Prelude.{codes, ◌==◌, if◌then◌else◌, refl, OnOk, OnErr};
 ghost use Rattle.nano_schema.specs.UserTypes.{agreed};
+ghost use Rattle.nano_text.specs.Outcomes.{Appends, AppendsPart};
 
 use super::*;
 use nano_bin_nested::{ReadsBin, WritesBin, append_part_within, no_memory, read_record_within};
 use nano_bin_schema::{BinCodec, DeBin, DeBinErr, SerBin};
+use nano_json_nested::{
+    NestedJson, ReadsJson, WritesJson, append_optional_within, no_levels, read_record_json_within,
+    rollback_on_error, too_deep,
+};
+use nano_json_schema::{
+    DeJson, DeJsonErr, DeJsonState, JsonCodec, JsonRefs, SerJson, SerJsonState,
+};
 use nano_levels::{Levels, Other, Within};
 use nano_schema::{Label, Optional, Required, StructSchema, Value};
 use std::alloc::{AllocError, Global};
+use std::str::Chars;
 
 struct ChainNames<const I: usize> {}
 
@@ -100,5 +109,101 @@ impl DeBin for Chain {
     fn de_bin(alloc: Global, offset: &mut usize, bytes: &[u8]) -> Result<Self, DeBinErr> {
         let levels = Levels::most();
         ReadsBin::<Self>::read_bin(levels, alloc, offset, bytes)
+    }
+}
+
+// ---- JSON
+
+impl JsonCodec for Chain {
+    ghost use Rattle.test_nested_derived.specs.ChainJsonCodecs.{chain_json, chain_json_agrees};
+
+    ghost json = { chain_json };
+
+    ghost agrees = { chain_json_agrees };
+}
+
+impl NestedJson for Chain {
+    ghost use Rattle.test_nested_derived.specs.ChainCodecs.{chain_means};
+    ghost use Rattle.test_nested_derived.specs.ChainJsonCodecs.{chain_json_at};
+
+    ghost means = { chain_means };
+
+    ghost at = { chain_json_at };
+}
+
+ghost use Rattle.test_nested_derived.specs.ChainJsonCodecs.{chain_json};
+
+/// Appends the fields between braces. If the write fails, what was written so far is left.
+#[cycle(write_chain_json)]
+fn append_chain_json(
+    value: &Chain,
+    alloc: Global,
+    d: usize,
+    s: &mut SerJsonState,
+) -> Result<(), AllocError>
+    ensures ok { OnOk result (Appends s.old.out s.new.out (chain_json.canonical.text d value.now)) }
+    ensures err { OnErr result (AppendsPart s.old.out s.new.out) }
+{
+    s.st_pre()?;
+    let inner = d.saturating_add(1);
+    let next_is_first = Required::<ChainNames<0>, u32>::append_fields(
+        &&value.number,
+        alloc,
+        true,
+        inner,
+        s,
+    )?;
+    append_optional_within(alloc, "next", &value.next, next_is_first, inner, s)?;
+    s.st_post(d)
+}
+
+impl WritesJson for Chain {
+    #[cycle(write_chain_json)]
+    fn write_json(&self, alloc: Global, d: usize, s: &mut SerJsonState) -> Result<(), AllocError> {
+        let start = s.out.len();
+        let written = append_chain_json(self, alloc, d, s);
+        rollback_on_error(&mut s.out, start, written)
+    }
+}
+
+impl SerJson for Chain {
+    fn ser_json(&self, alloc: Global, d: usize, s: &mut SerJsonState) -> Result<(), AllocError> {
+        WritesJson::write_json(self, alloc, d, s)
+    }
+}
+
+impl ReadsJson<Chain> for Levels {
+    #[cycle(read)]
+    fn read_json(
+        &self,
+        left: usize,
+        alloc: Global,
+        state: &mut DeJsonState,
+        input: &mut Chars<'_>,
+    ) -> Result<Chain, DeJsonErr> {
+        if left == 0 {
+            return Err(too_deep(alloc, state));
+        }
+        let Levels::More(below) = self else {
+            return Err(no_levels(alloc, state));
+        };
+        let Some(below) = below.first() else {
+            return Err(no_levels(alloc, state));
+        };
+        match read_record_json_within::<Levels, ChainFields>(below, left - 1, alloc, state, input) {
+            Ok(values) => Ok(Chain::make(values)),
+            Err(error) => Err(error),
+        }
+    }
+}
+
+impl DeJson for Chain {
+    fn de_json(
+        alloc: Global,
+        state: &mut DeJsonState,
+        input: &mut Chars<'_>,
+    ) -> Result<Self, DeJsonErr> {
+        let levels = Levels::most();
+        ReadsJson::<Self>::read_json(levels, 128, alloc, state, input)
     }
 }

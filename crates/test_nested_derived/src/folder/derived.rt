@@ -1,14 +1,23 @@
 //! Written by derive_files: how the types of the module above are encoded.
 
-ghost use Rattle.std.specs.Prelude.{codes, ◌==◌, if◌then◌else◌, refl};
+ghost use Rattle.std.specs.Prelude.{codes, ◌==◌, if◌then◌else◌, refl, OnOk, OnErr};
 ghost use Rattle.nano_schema.specs.UserTypes.{agreed};
+ghost use Rattle.nano_text.specs.Outcomes.{Appends, AppendsPart};
 
 use super::*;
 use nano_bin_nested::{ReadsBin, WritesBin, append_part_within, no_memory, read_record_within};
 use nano_bin_schema::{BinCodec, DeBin, DeBinErr, SerBin};
+use nano_json_nested::{
+    NestedJson, ReadsJson, WritesJson, append_required_within, no_levels, read_record_json_within,
+    rollback_on_error, too_deep,
+};
+use nano_json_schema::{
+    DeJson, DeJsonErr, DeJsonState, JsonCodec, JsonRefs, SerJson, SerJsonState,
+};
 use nano_levels::{Levels, Other, Within};
 use nano_schema::{Label, Required, StructSchema, Value};
 use std::alloc::{AllocError, Global};
+use std::str::Chars;
 
 struct FolderNames<const I: usize> {}
 
@@ -105,5 +114,103 @@ impl DeBin for Folder {
     fn de_bin(alloc: Global, offset: &mut usize, bytes: &[u8]) -> Result<Self, DeBinErr> {
         let levels = Levels::most();
         ReadsBin::<Self>::read_bin(levels, alloc, offset, bytes)
+    }
+}
+
+// ---- JSON
+
+impl JsonCodec for Folder {
+    ghost use Rattle.test_nested_derived.specs.FolderJsonCodecs.{folder_json, folder_json_agrees};
+
+    ghost json = { folder_json };
+
+    ghost agrees = { folder_json_agrees };
+}
+
+impl NestedJson for Folder {
+    ghost use Rattle.test_nested_derived.specs.FolderCodecs.{folder_means};
+    ghost use Rattle.test_nested_derived.specs.FolderJsonCodecs.{folder_json_at};
+
+    ghost means = { folder_means };
+
+    ghost at = { folder_json_at };
+}
+
+ghost use Rattle.test_nested_derived.specs.FolderJsonCodecs.{folder_json};
+
+/// Appends the fields between braces. If the write fails, what was written so far is left.
+#[cycle(write_folder_json)]
+fn append_folder_json(
+    value: &Folder,
+    alloc: Global,
+    d: usize,
+    s: &mut SerJsonState,
+) -> Result<(), AllocError>
+    ensures ok { OnOk result (Appends s.old.out s.new.out (folder_json.canonical.text d value.now)) }
+    ensures err { OnErr result (AppendsPart s.old.out s.new.out) }
+{
+    s.st_pre()?;
+    let inner = d.saturating_add(1);
+    let folders_is_first = Required::<FolderNames<0>, String>::append_fields(
+        &&value.name,
+        alloc,
+        true,
+        inner,
+        s,
+    )?;
+    append_required_within(alloc, "folders", &value.folders, folders_is_first, inner, s)?;
+    s.st_post(d)
+}
+
+impl WritesJson for Folder {
+    #[cycle(write_folder_json)]
+    fn write_json(&self, alloc: Global, d: usize, s: &mut SerJsonState) -> Result<(), AllocError> {
+        let start = s.out.len();
+        let written = append_folder_json(self, alloc, d, s);
+        rollback_on_error(&mut s.out, start, written)
+    }
+}
+
+impl SerJson for Folder {
+    fn ser_json(&self, alloc: Global, d: usize, s: &mut SerJsonState) -> Result<(), AllocError> {
+        WritesJson::write_json(self, alloc, d, s)
+    }
+}
+
+impl ReadsJson<Folder> for Levels {
+    #[cycle(read)]
+    fn read_json(
+        &self,
+        left: usize,
+        alloc: Global,
+        state: &mut DeJsonState,
+        input: &mut Chars<'_>,
+    ) -> Result<Folder, DeJsonErr> {
+        if left == 0 {
+            return Err(too_deep(alloc, state));
+        }
+        let Levels::More(below) = self else {
+            return Err(no_levels(alloc, state));
+        };
+        let Some(below) = below.first() else {
+            return Err(no_levels(alloc, state));
+        };
+        match read_record_json_within::<Levels, FolderFields>(
+            below, left - 1, alloc, state, input,
+        ) {
+            Ok(values) => Ok(Folder::make(values)),
+            Err(error) => Err(error),
+        }
+    }
+}
+
+impl DeJson for Folder {
+    fn de_json(
+        alloc: Global,
+        state: &mut DeJsonState,
+        input: &mut Chars<'_>,
+    ) -> Result<Self, DeJsonErr> {
+        let levels = Levels::most();
+        ReadsJson::<Self>::read_json(levels, 128, alloc, state, input)
     }
 }

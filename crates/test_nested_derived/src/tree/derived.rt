@@ -8,9 +8,15 @@ use nano_bin_nested::{
     ReadsBin, WritesBin, append_variant, append_variant_within, no_memory, read_choice_within,
 };
 use nano_bin_schema::{BinCodec, DeBin, DeBinErr, SerBin};
+use nano_json_nested::{
+    NestedJson, ReadsJson, WritesJson, no_levels, read_choice_json_within, too_deep,
+    write_variant_other, write_variant_within,
+};
+use nano_json_schema::{DeJson, DeJsonErr, DeJsonState, JsonCodec, SerJson, SerJsonState};
 use nano_levels::{Levels, Other, Within};
 use nano_schema::{Either, EnumSchema, Label, Newtype, Value, Variant};
 use std::alloc::{AllocError, Global};
+use std::str::Chars;
 
 struct TreeNames<const I: usize> {}
 
@@ -115,5 +121,78 @@ impl DeBin for Tree {
     fn de_bin(alloc: Global, offset: &mut usize, bytes: &[u8]) -> Result<Self, DeBinErr> {
         let levels = Levels::most();
         ReadsBin::<Self>::read_bin(levels, alloc, offset, bytes)
+    }
+}
+
+// ---- JSON
+
+impl JsonCodec for Tree {
+    ghost use Rattle.test_nested_derived.specs.TreeJsonCodecs.{tree_json, tree_json_agrees};
+
+    ghost json = { tree_json };
+
+    ghost agrees = { tree_json_agrees };
+}
+
+impl NestedJson for Tree {
+    ghost use Rattle.test_nested_derived.specs.TreeCodecs.{tree_means};
+    ghost use Rattle.test_nested_derived.specs.TreeJsonCodecs.{tree_json_at};
+
+    ghost means = { tree_means };
+
+    ghost at = { tree_json_at };
+}
+
+impl WritesJson for Tree {
+    #[tactic(auto, using(crate::proofs::TreeJsonCodecsLaws::tree_json_texts))]
+    fn write_json(&self, alloc: Global, d: usize, s: &mut SerJsonState) -> Result<(), AllocError> {
+        match self {
+            Self::Leaf(first) => write_variant_other(alloc, "Leaf", first, d, s),
+            Self::Node(first) => write_variant_within(alloc, "Node", first, d, s),
+        }
+    }
+}
+
+impl SerJson for Tree {
+    fn ser_json(&self, alloc: Global, d: usize, s: &mut SerJsonState) -> Result<(), AllocError> {
+        WritesJson::write_json(self, alloc, d, s)
+    }
+}
+
+impl ReadsJson<Tree> for Levels {
+    #[cycle(read)]
+    fn read_json(
+        &self,
+        left: usize,
+        alloc: Global,
+        state: &mut DeJsonState,
+        input: &mut Chars<'_>,
+    ) -> Result<Tree, DeJsonErr> {
+        if left == 0 {
+            return Err(too_deep(alloc, state));
+        }
+        let Levels::More(below) = self else {
+            return Err(no_levels(alloc, state));
+        };
+        let Some(below) = below.first() else {
+            return Err(no_levels(alloc, state));
+        };
+        match read_choice_json_within::<Levels, TreeVariants>(
+            below, left - 1, alloc, state, input,
+        ) {
+            Ok(values) => Ok(Tree::make(values)),
+            Err(error) => Err(error),
+        }
+    }
+}
+
+impl DeJson for Tree {
+    fn de_json(
+        alloc: Global,
+        state: &mut DeJsonState,
+        input: &mut Chars<'_>,
+    ) -> Result<Self, DeJsonErr> {
+        let levels = Levels::most();
+        ReadsJson::<Self>::read_json(levels, 128, alloc, state, input)
     }
 }

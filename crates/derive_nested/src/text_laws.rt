@@ -1,0 +1,127 @@
+//! What is proved of a type that contains itself in a format of texts: how each variant is written,
+//! or the struct.
+
+use crate::codec_laws::{Variant, binders, law_end, variant_at};
+use crate::nested::{Held, Nested};
+use crate::text_codec::TextTerms;
+use crate::text_layers::{content_layer, field_codec};
+use crate::wrapped::{at, atom};
+use std::alloc::{AllocError, Global};
+
+/// The laws of a type.
+pub(crate) fn text_laws(
+    alloc: Global,
+    nested: &Nested<'_>,
+    format: &TextTerms,
+) -> Result<String, AllocError> {
+    let mut text = format!(in alloc; "\n-- ==== {}\n", nested.names.of)?;
+    for (i, held) in nested.contents.iter().enumerate() {
+        let law = if nested.is_enum {
+            variant_law(alloc, nested, format, (held, i))?
+        } else {
+            struct_law(alloc, nested, format, held)?
+        };
+        text.push_str(law.as_str())?;
+    }
+    if nested.is_enum {
+        text.push_str(texts(alloc, nested, format)?.as_str())?;
+    }
+    Ok(text)
+}
+
+/// The laws by which an enum is written, as a set.
+fn texts(alloc: Global, nested: &Nested<'_>, format: &TextTerms) -> Result<String, AllocError> {
+    let (snake, infix) = (nested.names.snake.as_str(), format.coded.infix);
+    let mut names = String::new(alloc);
+    for held in &nested.contents {
+        names.push_str(if names.is_empty() { "" } else { ", " })?;
+        let end = law_end(alloc, held)?;
+        names.push_str(format!(in alloc; "{snake}_{infix}text_{end}")?.as_str())?;
+    }
+    format!(in alloc; "\npub ruleset {snake}_{infix}texts = ({names})\n")
+}
+
+/// How a struct is written.
+fn struct_law(
+    alloc: Global,
+    nested: &Nested<'_>,
+    format: &TextTerms,
+    held: &Held<'_>,
+) -> Result<String, AllocError> {
+    let (name, snake) = (nested.names.of.as_str(), nested.names.snake.as_str());
+    let (end, infix, style) = (format.name, format.coded.infix, format.fields);
+    let itself = format!(in alloc; "{snake}_{end}")?;
+    let mut parts = String::new(alloc);
+    for (leaf, called) in held.leaves.iter().zip(held.called.iter()) {
+        let codec = field_codec(alloc, leaf, itself.as_str())?;
+        let value = leaf.value.as_str();
+        let part = format!(in alloc;
+            "
+abbrev pub {snake}_{infix}field_{called} : {name} → List (WrittenField Token)
+{snake}_{infix}field_{called} x =
+    ({codec}).canonical.fields {value}
+"
+        )?;
+        parts.push_str(part.as_str())?;
+    }
+    format!(in alloc;
+        "{parts}
+abbrev pub {snake}_{infix}written : {name} → List (WrittenField Token)
+{snake}_{infix}written x =
+    ({snake}_{infix}fields.codec {snake}_{end}).canonical.fields ({snake}_view x)
+
+pub {snake}_{infix}text : (d : ℕ) → (x : {name}) → {snake}_{end}.canonical.text d x
+    ≡ fields_text {style} d ({snake}_{infix}written x)
+{snake}_{infix}text d x = text_seen {snake}_{infix}nested 128 d x ({snake}_view x) refl
+"
+    )
+}
+
+/// How a variant at its place is written.
+fn variant_law(
+    alloc: Global,
+    nested: &Nested<'_>,
+    format: &TextTerms,
+    (held, i): (&Held<'_>, usize),
+) -> Result<String, AllocError> {
+    let Variant { value, seen, view } = variant_at(alloc, nested, held, i)?;
+    let (snake, end) = (nested.names.snake.as_str(), law_end(alloc, held)?);
+    let (codec, infix) = (format.name, format.coded.infix);
+    let (parts, values) = (binders(alloc, nested, held)?, held.values(alloc)?);
+    let written = written(alloc, nested, format, held)?;
+    format!(in alloc;
+        "
+pub {snake}_{infix}text_{end} : (d : ℕ)
+    → {parts}{snake}_{codec}.canonical.text d {value}
+    ≡ {written}
+{snake}_{infix}text_{end} d{values} =
+    text_seen {snake}_{infix}nested 128 d {value} {} {}
+",
+        atom(alloc, seen.as_str())?,
+        atom(alloc, view.as_str())?
+    )
+}
+
+/// The text of a variant.
+fn written(
+    alloc: Global,
+    nested: &Nested<'_>,
+    format: &TextTerms,
+    held: &Held<'_>,
+) -> Result<String, AllocError> {
+    let itself = format!(in alloc; "{}_{}", nested.names.snake, format.name)?;
+    let (name, value) = (held.key.as_str(), held.row.value.as_str());
+    let codec = match (held.leaves.as_slice(), held.has_fields) {
+        ([], false) => return format!(in alloc; "written_text (codes \"{name}\")"),
+        ([leaf], false) => {
+            let codec = at(alloc, leaf.part.codec.as_str(), itself.as_str())?;
+            format!(in alloc; "single_codec {}", atom(alloc, codec.as_str())?)?
+        }
+        _ => {
+            let layer = content_layer(alloc, format, held)?;
+            let layer = layer.unwrap_or(String::from_str(alloc, "itself_layer")?);
+            format!(in alloc; "{}.codec {itself}", atom(alloc, layer.as_str())?)?
+        }
+    };
+    format!(in alloc; "content_text (codes \"{name}\") (({codec}).canonical.text d {value})")
+}

@@ -1,0 +1,239 @@
+//! Types that contain themselves, in JSON: what writes them variant by variant or field by field, and
+//! what reads them within levels.
+
+use crate::output::layout::{Brackets, Items, Piece, list};
+use crate::output::nested::{nested_holes, specs_of};
+use crate::output::nested_bodies::{Held, arm, parts_of};
+use crate::output::sheet::Sheet;
+use crate::output::target::Target;
+use crate::output::template::Holes;
+use derive_syntax::{Case, Token, Variant, variant_name};
+use std::alloc::AllocError;
+
+const CODEC: &str = "
+// ---- JSON
+
+impl nano_json_schema::JsonCodec for $TYPE {
+    ghost use Rattle.$TEXTS.{$CITED};
+
+    ghost json = { $JSON };
+
+    ghost agrees = { $AGREES };
+}
+
+impl nano_json_nested::NestedJson for $TYPE {
+    ghost use Rattle.$SPECS.{$MEANS};
+    ghost use Rattle.$TEXTS.{$AT};
+
+    ghost means = { $MEANS };
+
+    ghost at = { $AT };
+}";
+
+const CHOICE: &str = "
+impl nano_json_nested::WritesJson for $TYPE {
+    #[tactic(auto, using(crate::proofs::$RULES_json_texts))]
+    fn write_json(&self, alloc: std::alloc::Global, d: usize, \
+        s: &mut nano_json_schema::SerJsonState) -> Result<(), std::alloc::AllocError> {
+        match self {
+$ARMS        }
+    }
+}";
+
+const RECORD: &str = "
+ghost use Rattle.$TEXTS.{$JSON};
+
+/// Appends the fields between braces. If the write fails, what was written so far is left.
+#[cycle($CYCLE)]
+fn $APPEND(
+    value: &$TYPE,
+    alloc: std::alloc::Global,
+    d: usize,
+    s: &mut nano_json_schema::SerJsonState,
+) -> Result<(), std::alloc::AllocError>
+    ensures ok { OnOk result (Appends s.old.out s.new.out ($JSON.canonical.text d value.now)) }
+    ensures err { OnErr result (AppendsPart s.old.out s.new.out) }
+{
+    s.st_pre()?;
+    let inner = d.saturating_add(1);
+$FIELDS    s.st_post(d)
+}
+
+impl nano_json_nested::WritesJson for $TYPE {
+    #[cycle($CYCLE)]
+    fn write_json(&self, alloc: std::alloc::Global, d: usize, \
+        s: &mut nano_json_schema::SerJsonState) -> Result<(), std::alloc::AllocError> {
+        let start = s.out.len();
+        let written = $APPEND(self, alloc, d, s);
+        nano_json_nested::rollback_on_error(&mut s.out, start, written)
+    }
+}";
+
+const READER: &str = "
+impl nano_json_schema::SerJson for $TYPE {
+    fn ser_json(&self, alloc: std::alloc::Global, d: usize, \
+        s: &mut nano_json_schema::SerJsonState) -> Result<(), std::alloc::AllocError> {
+        nano_json_nested::WritesJson::write_json(self, alloc, d, s)
+    }
+}
+
+impl nano_json_nested::ReadsJson<$TYPE> for nano_levels::Levels {
+    #[cycle(read)]
+    fn read_json(&self, left: usize, alloc: std::alloc::Global, \
+        state: &mut nano_json_schema::DeJsonState, input: &mut std::str::Chars<'_>) \
+        -> Result<$TYPE, nano_json_schema::DeJsonErr> {
+        if left == 0 {
+            return Err(nano_json_nested::too_deep(alloc, state));
+        }
+        let nano_levels::Levels::More(below) = self else {
+            return Err(nano_json_nested::no_levels(alloc, state));
+        };
+        let Some(below) = below.first() else {
+            return Err(nano_json_nested::no_levels(alloc, state));
+        };
+        match $CALL {
+            Ok(values) => Ok($TYPE::make(values)),
+            Err(error) => Err(error),
+        }
+    }
+}
+
+impl nano_json_schema::DeJson for $TYPE {
+    fn de_json(alloc: std::alloc::Global, state: &mut nano_json_schema::DeJsonState, \
+        input: &mut std::str::Chars<'_>) -> Result<Self, nano_json_schema::DeJsonErr> {
+        let levels = nano_levels::Levels::most();
+        nano_json_nested::ReadsJson::<Self>::read_json(levels, 128, alloc, state, input)
+    }
+}";
+
+/// Appends the impls of JSON of an enum.
+pub(crate) fn append_json_choice<'a>(
+    sheet: &mut Sheet,
+    target: &Target<'a>,
+    variants: &[Variant<'a>],
+) -> Result<(), AllocError> {
+    let mut holes = json_holes(sheet, target, "read_choice_json_within")?;
+    holes.put("ARMS", arms(sheet, target.name, variants)?.as_str())?;
+    sheet.write(CODEC, &holes)?;
+    sheet.write(CHOICE, &holes)?;
+    sheet.write(READER, &holes)
+}
+
+/// Appends the impls of JSON of a struct, given what writes its fields.
+pub(crate) fn append_json_record<'a>(
+    sheet: &mut Sheet,
+    target: &Target<'a>,
+    fields: &str,
+) -> Result<(), AllocError> {
+    sheet.import("ghost use Rattle.std.specs.Prelude.{OnOk};")?;
+    sheet.import("ghost use Rattle.std.specs.Prelude.{OnErr};")?;
+    sheet.import("ghost use Rattle.nano_text.specs.Outcomes.{Appends};")?;
+    sheet.import("ghost use Rattle.nano_text.specs.Outcomes.{AppendsPart};")?;
+    let name = Case::Snake.of_variant(sheet.alloc, target.name.text)?;
+    let wanted = format!(in sheet.alloc; "append_{name}_json")?;
+    let append = sheet.names.take(sheet.alloc, wanted.as_str())?;
+    let mut holes = json_holes(sheet, target, "read_record_json_within")?;
+    holes.put("APPEND", append.as_str())?;
+    holes.put(
+        "CYCLE",
+        format!(in sheet.alloc; "write_{name}_json")?.as_str(),
+    )?;
+    holes.put("FIELDS", fields)?;
+    sheet.write(CODEC, &holes)?;
+    sheet.write(RECORD, &holes)?;
+    sheet.write(READER, &holes)
+}
+
+/// What stands in the templates of JSON. Given is what reads what a value is seen as.
+fn json_holes<'a>(sheet: &mut Sheet, target: &Target<'a>, read: &str) -> Result<Holes, AllocError> {
+    let alloc = sheet.alloc;
+    let name = Case::Snake.of_variant(alloc, target.name.text)?;
+    let mut holes = nested_holes(sheet, target)?;
+    let codec = format!(in alloc; "{name}_json")?;
+    let agrees = if target.attributes.bin.is_used() {
+        format!(in alloc; "{name}_json_agrees")?
+    } else {
+        sheet.import("ghost use Rattle.nano_schema.specs.UserTypes.{agreed};")?;
+        String::from_str(alloc, "agreed")?
+    };
+    let cited = if target.attributes.bin.is_used() {
+        format!(in alloc; "{codec}, {agrees}")?
+    } else {
+        codec.clone()?
+    };
+    let specs = specs_of(alloc, target.module, "Json")?;
+    let (_crate, file) = specs.as_str().rsplit_once('.').unwrap_or(("", ""));
+    holes.put("RULES", format!(in alloc; "{file}Laws::{name}")?.as_str())?;
+    holes.put("TEXTS", specs.as_str())?;
+    holes.put("CITED", cited.as_str())?;
+    holes.put("JSON", codec.as_str())?;
+    holes.put("AGREES", agrees.as_str())?;
+    holes.put("AT", format!(in alloc; "{name}_json_at")?.as_str())?;
+    holes.put("CALL", reading(sheet, target, read)?.as_str())?;
+    Ok(holes)
+}
+
+/// What writes each variant.
+fn arms<'a>(
+    sheet: &mut Sheet,
+    name: Token<'a>,
+    variants: &[Variant<'a>],
+) -> Result<String, AllocError> {
+    let mut text = String::new(sheet.alloc);
+    for variant in variants {
+        let parts = parts_of(sheet.alloc, &variant.content)?;
+        let called = variant_name(sheet.alloc, variant, None)?;
+        let mut lines = Vec::new(sheet.alloc);
+        lines.push(write_line(sheet, name, called.as_str(), &parts)?)?;
+        text.push_str(arm(sheet.alloc, variant, &lines, "")?.as_str())?;
+    }
+    Ok(text)
+}
+
+/// What writes a variant that is called so, with its part if it has one.
+fn write_line<'a>(
+    sheet: &mut Sheet,
+    name: Token<'a>,
+    called: &str,
+    parts: &[Held<'a>],
+) -> Result<String, AllocError> {
+    let alloc = sheet.alloc;
+    let Some(part) = parts.first() else {
+        let call = format!(in alloc;
+            "nano_json_schema::write_unit_variant(alloc, \"{called}\", s)"
+        )?;
+        return sheet.short(call.as_str());
+    };
+    let end = match part.of.parameter_of(&[name]) {
+        Some(_itself) => "within",
+        None => "other",
+    };
+    let call = format!(in alloc;
+        "nano_json_nested::write_variant_{end}(alloc, \"{called}\", {}, d, s)",
+        part.name
+    )?;
+    sheet.short(call.as_str())
+}
+
+/// The call that reads what a value is seen as, one level below.
+fn reading<'a>(sheet: &mut Sheet, target: &Target<'a>, read: &str) -> Result<String, AllocError> {
+    let alloc = sheet.alloc;
+    let open = format!(in alloc;
+        "nano_json_nested::{read}::<nano_levels::Levels, {}>(",
+        target.row
+    )?;
+    let open = sheet.short(open.as_str())?;
+    let mut arguments = Vec::new(alloc);
+    for argument in ["below", "left - 1", "alloc", "state", "input"] {
+        arguments.push(Piece::of(alloc, argument)?)?;
+    }
+    let brackets = Brackets {
+        open: open.as_str(),
+        close: ")",
+        items: Items::Values,
+        indent: 8,
+        before: 14,
+        after: 2,
+    };
+    Ok(list(alloc, brackets, &arguments)?.laid)
+}
