@@ -1,8 +1,10 @@
 //! The answers to what is to be proved of the impls of a type that contains itself.
 
+use crate::brought::text_codecs_name;
 use crate::json_answers::{read_json_text, written_text};
 use crate::known_answers::known_answers;
 use crate::nested::Nested;
+use crate::text_codec::JSON;
 use derive_syntax::{codecs_name, crate_of};
 use std::alloc::{AllocError, Global};
 
@@ -23,11 +25,16 @@ pub(crate) fn answers_of(
     formats: (bool, bool),
 ) -> Result<Vec<Answers>, AllocError> {
     let mut files = Vec::new(alloc);
+    if nested.is_enum {
+        let file = if formats.0 {
+            codecs_name(alloc, module)?
+        } else {
+            text_codecs_name(alloc, module, &JSON)?
+        };
+        files.push(known_answers(alloc, module, nested, file.as_str())?)?;
+    }
     if formats.0 {
         files.push(read_answers(alloc, module, nested)?)?;
-        if nested.is_enum {
-            files.push(known_answers(alloc, module, nested)?)?;
-        }
     }
     if formats.1 {
         append_json(alloc, module, nested, &mut files)?;

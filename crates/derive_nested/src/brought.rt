@@ -106,12 +106,14 @@ fn parts_lines(alloc: Global, of: &str, nested: &Nested<'_>) -> Result<String, A
     Ok(lines)
 }
 
-/// The lines that bring in what the laws of a format of texts cite of a type.
+/// The lines that bring in what the laws of a format of texts cite of a type, whose first format it
+/// is or not.
 pub(crate) fn text_cited(
     alloc: Global,
     module: &str,
     nested: &Nested<'_>,
     format: &TextTerms,
+    is_first: bool,
 ) -> Result<String, AllocError> {
     let (name, snake) = (nested.names.of.as_str(), nested.names.snake.as_str());
     let (library, _path) = crate_of(module);
@@ -119,18 +121,21 @@ pub(crate) fn text_cited(
     let specs = specs_of(alloc, module)?;
     let file = text_codecs_name(alloc, module, format)?;
     let (end, infix) = (format.name, format.coded.infix);
-    let (parts, fields) = if nested.is_enum {
-        (parts_lines(alloc, of.as_str(), nested)?, String::new(alloc))
+    let parts = parts_lines(alloc, of.as_str(), nested)?;
+    let fields = if nested.is_enum {
+        String::new(alloc)
     } else {
-        (
-            parts_lines(alloc, of.as_str(), nested)?,
-            format!(in alloc; ", {snake}_{infix}fields")?,
-        )
+        format!(in alloc; ", {snake}_{infix}fields")?
+    };
+    let means = if is_first {
+        format!(in alloc; ", {snake}_means")?
+    } else {
+        String::new(alloc)
     };
     let views = views_line(alloc, module, nested)?;
     format!(in alloc;
         "{of}.{{{name}}}
-{specs}.{{{snake}_view}}
+{specs}.{{{snake}_view{means}}}
 use Rattle.{library}.specs.{file}.{{{snake}_{infix}nested, {snake}_{end}{fields}}}
 {views}{parts}"
     )

@@ -1,8 +1,8 @@
 //! What is proved of a type that contains itself: what each variant is seen as, and of bytes how a
 //! value is written, and when it is legal.
 
+use crate::legal_laws::{Known, struct_legal, variant_legal};
 use crate::nested::{Held, Nested};
-use crate::row::Row;
 use crate::wrapped::{at, atom};
 use derive_syntax::Case;
 use std::alloc::{AllocError, Global};
@@ -70,23 +70,15 @@ pub(crate) fn law_end(alloc: Global, held: &Held<'_>) -> Result<String, AllocErr
 /// The laws of a struct.
 fn struct_laws(alloc: Global, nested: &Nested<'_>, held: &Held<'_>) -> Result<String, AllocError> {
     let (name, snake) = (nested.names.of.as_str(), nested.names.snake.as_str());
-    let Row { written, legal, .. } = &held.row;
-    let written = itself_at(alloc, nested, written.as_str())?;
-    let premises = premises(alloc, nested, held)?;
-    let hypotheses = hypotheses(alloc, held)?;
+    let written = itself_at(alloc, nested, held.row.written.as_str())?;
+    let legal = struct_legal(alloc, nested, held, &bytes(alloc, nested)?)?;
     format!(in alloc;
         "
 pub {snake}_written : (x : {name})
     → {snake}_codec.canonical.written x
     ≡ {written}
 {snake}_written x = written_seen {snake}_nested x ({snake}_view x) refl
-
-pub {snake}_legal : (x : {name}){premises}
-    → {snake}_codec.encoding.legal ({snake}_means x)
-{snake}_legal x{hypotheses} =
-    seen_legal {snake}_nested x ({snake}_view x) refl
-    {legal}
-"
+{legal}"
     )
 }
 
@@ -157,8 +149,7 @@ fn variant_laws(
         atom(alloc, seen.as_str())?,
         atom(alloc, view.as_str())?
     )?;
-    let (premises, hypotheses) = (premises(alloc, nested, held)?, hypotheses(alloc, held)?);
-    let legal = legal_at(alloc, held, i)?;
+    let legal = variant_legal(alloc, nested, (held, i), &bytes(alloc, nested)?)?;
     let written = itself_at(alloc, nested, held.row.written.as_str())?;
     format!(in alloc;
         "
@@ -166,13 +157,17 @@ pub {snake}_written_{end} : {parts}{snake}_codec.canonical.written {value}
     ≡ little_endian 2 {i} ++ {written}
 {snake}_written_{end}{values} =
     written_seen {of}
-
-pub {snake}_legal_{end} : {parts}{premises}{snake}_codec.encoding.legal ({snake}_means {value})
-{snake}_legal_{end}{values}{hypotheses} =
-    seen_legal {of}
-    {legal}
-"
+{legal}"
     )
+}
+
+/// What bytes call legal.
+fn bytes(alloc: Global, nested: &Nested<'_>) -> Result<Known, AllocError> {
+    let snake = nested.names.snake.as_str();
+    Ok(Known {
+        codec: format!(in alloc; "{snake}_codec")?,
+        law: format!(in alloc; "seen_legal {snake}_nested")?,
+    })
 }
 
 /// A term with the codec of the type itself in its hole.
@@ -193,44 +188,4 @@ pub(crate) fn binders(
         text.push_str(format!(in alloc; "({} : {of})\n    → ", leaf.value)?.as_str())?;
     }
     Ok(text)
-}
-
-/// That each part is legal, as arguments of a law.
-fn premises(alloc: Global, nested: &Nested<'_>, held: &Held<'_>) -> Result<String, AllocError> {
-    let mut text = String::new(alloc);
-    for leaf in &held.leaves {
-        let codec = itself_at(alloc, nested, leaf.part.codec.as_str())?;
-        let codec = atom(alloc, codec.as_str())?;
-        let means = at(alloc, leaf.part.means.as_str(), leaf.value.as_str())?;
-        let means = atom(alloc, means.as_str())?;
-        let premise = if held.name.is_empty() {
-            format!(in alloc; "\n    → {codec}.encoding.legal {means}")?
-        } else {
-            format!(in alloc; "{codec}.encoding.legal {means}\n    → ")?
-        };
-        text.push_str(premise.as_str())?;
-    }
-    Ok(text)
-}
-
-/// The names of those arguments, each after a space.
-fn hypotheses(alloc: Global, held: &Held<'_>) -> Result<String, AllocError> {
-    let mut text = String::new(alloc);
-    for leaf in &held.leaves {
-        text.push(' ')?;
-        text.push_str(leaf.legal.as_str())?;
-    }
-    Ok(text)
-}
-
-/// That the content of a variant at its place is legal.
-fn legal_at(alloc: Global, held: &Held<'_>, i: usize) -> Result<String, AllocError> {
-    let mut legal = format!(in alloc;
-        "(inl (record {{ part = {}; has = {}; is = refl }}))",
-        held.row.part.means, held.row.legal
-    )?;
-    for _before in 0..i {
-        legal = format!(in alloc; "(inr {legal})")?;
-    }
-    Ok(legal)
 }

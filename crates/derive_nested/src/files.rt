@@ -7,9 +7,9 @@ use crate::answers::{Answers, answers_of};
 use crate::bin_codec::bin_codec;
 use crate::brought::{cited_lines, declared_lines, text_cited, text_codecs_name, text_lines};
 use crate::cited::{BYTES, SHARED};
+use crate::codec_laws::codec_laws;
 use crate::definitions::definitions;
 use crate::imports::{Known, imports};
-use crate::codec_laws::codec_laws;
 use crate::nested::nested_of;
 use crate::text_cited::{JSON as JSON_CITED, TEXTS};
 use crate::text_codec::{JSON, text_codec};
@@ -167,12 +167,14 @@ fn append_json<'a>(
             .push_str(text_lines(alloc, module, &nested, before)?.as_str())?;
         let value = format!(in alloc; "(out-{} x)", definition.name.text)?;
         let nested = nested_of(alloc, definition, value.as_str())?;
-        proofs
-            .text
-            .push_str(text_laws(alloc, &nested, &JSON)?.as_str())?;
-        proofs
-            .brought
-            .push_str(text_cited(alloc, module, &nested, &JSON)?.as_str())?;
+        proofs.text.push_str(text_laws(alloc, &nested, &JSON, before.is_none())?.as_str())?;
+        proofs.brought.push_str(text_cited(
+            alloc,
+            module,
+            &nested,
+            &JSON,
+            before.is_none(),
+        )?.as_str())?;
     }
     if specs.text.is_empty() {
         return Ok(());

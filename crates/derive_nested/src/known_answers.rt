@@ -5,17 +5,18 @@ use crate::answers::{Answers, HEAD, folder_of};
 use crate::codec_laws::law_end;
 use crate::nested::{Held, Nested};
 use crate::wrapped::atom;
-use derive_syntax::{codecs_name, crate_of};
+use derive_syntax::crate_of;
 use std::alloc::{AllocError, Global};
 
-/// The answers for that function of an enum in a module.
+/// The answers for that function of an enum in a module, by the laws beside definitions of this name.
 pub(crate) fn known_answers(
     alloc: Global,
     module: &str,
     nested: &Nested<'_>,
+    file: &str,
 ) -> Result<Answers, AllocError> {
     let (library, path) = crate_of(module);
-    let (name, file) = (nested.names.of.as_str(), codecs_name(alloc, module)?);
+    let name = nested.names.of.as_str();
     let folder = folder_of(alloc, path)?;
     let (cited, answers) = answered(alloc, nested)?;
     Ok(Answers {

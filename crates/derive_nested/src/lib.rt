@@ -15,6 +15,7 @@ mod files;
 mod imports;
 mod json_answers;
 mod known_answers;
+mod legal_laws;
 mod nested;
 mod part;
 mod row;

@@ -1,18 +1,20 @@
 //! What is proved of a type that contains itself in a format of texts: how each variant is written,
-//! or the struct.
+//! or the struct, and of the first format that a type has, when a value is legal.
 
 use crate::codec_laws::{Variant, binders, law_end, variant_at};
+use crate::legal_laws::{Known, struct_legal, variant_legal};
 use crate::nested::{Held, Nested};
 use crate::text_codec::TextTerms;
 use crate::text_layers::{content_layer, field_codec};
 use crate::wrapped::{at, atom};
 use std::alloc::{AllocError, Global};
 
-/// The laws of a type.
+/// The laws of a type, whose first format it is or not.
 pub(crate) fn text_laws(
     alloc: Global,
     nested: &Nested<'_>,
     format: &TextTerms,
+    is_first: bool,
 ) -> Result<String, AllocError> {
     let mut text = format!(in alloc; "\n-- ==== {}\n", nested.names.of)?;
     for (i, held) in nested.contents.iter().enumerate() {
@@ -22,11 +24,33 @@ pub(crate) fn text_laws(
             struct_law(alloc, nested, format, held)?
         };
         text.push_str(law.as_str())?;
+        if is_first {
+            text.push_str(legal_law(alloc, nested, format, (held, i))?.as_str())?;
+        }
     }
     if nested.is_enum {
         text.push_str(texts(alloc, nested, format)?.as_str())?;
     }
     Ok(text)
+}
+
+/// That a variant at its place is legal, or the struct.
+fn legal_law(
+    alloc: Global,
+    nested: &Nested<'_>,
+    format: &TextTerms,
+    (held, i): (&Held<'_>, usize),
+) -> Result<String, AllocError> {
+    let (snake, end, infix) = (nested.names.snake.as_str(), format.name, format.coded.infix);
+    let known = Known {
+        codec: format!(in alloc; "{snake}_{end}")?,
+        law: format!(in alloc; "legal_seen {snake}_{infix}nested 128")?,
+    };
+    if nested.is_enum {
+        variant_legal(alloc, nested, (held, i), &known)
+    } else {
+        struct_legal(alloc, nested, held, &known)
+    }
 }
 
 /// The laws by which an enum is written, as a set.

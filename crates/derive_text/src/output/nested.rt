@@ -10,7 +10,7 @@ use crate::output::nested_writes::{write_arms, write_fields};
 use crate::output::sheet::Sheet;
 use crate::output::target::Target;
 use crate::output::template::Holes;
-use derive_syntax::{Case, Definition, Fault, Shape, codecs_name, crate_of};
+use derive_syntax::{Attributes, Case, Definition, Fault, Shape, codecs_name, crate_of};
 use std::alloc::{AllocError, Global};
 
 /// What differs between structs and enums.
@@ -177,19 +177,30 @@ fn put_laws<'a>(
     target: &Target<'a>,
     is_enum: bool,
 ) -> Result<(), AllocError> {
-    let name = Case::Snake.of_variant(alloc, target.name.text)?;
-    let file = codecs_name(alloc, target.module)?;
-    let laws = format!(in alloc; "crate::proofs::{file}Laws::{name}")?;
-    let end = if is_enum { "views" } else { "legal" };
-    let tactic = format!(in alloc; "    #[tactic(auto, using({laws}_{end}))]\n")?;
-    let (views, legal) = match (is_enum, target.attributes.bin.is_used()) {
-        (true, _) => (tactic.as_str(), ""),
-        (false, true) => ("", tactic.as_str()),
-        (false, false) => ("", ""),
-    };
+    let laws = laws_of(alloc, target, "")?;
+    let views = format!(in alloc; "    #[tactic(auto, using({laws}_views))]\n")?;
+    let first = laws_of(alloc, target, first_infix(target.attributes))?;
+    let legal = format!(in alloc; "    #[tactic(auto, using({first}_legal))]\n")?;
     holes.put("LAWS", laws.as_str())?;
-    holes.put("VIEWS", views)?;
-    holes.put("LEGAL", legal)
+    holes.put("VIEWS", if is_enum { views.as_str() } else { "" })?;
+    holes.put("LEGAL", if is_enum { "" } else { legal.as_str() })
+}
+
+/// The beginning of the names of the laws of a type, in all formats or in one of texts.
+pub(crate) fn laws_of<'a>(
+    alloc: Global,
+    target: &Target<'a>,
+    infix: &str,
+) -> Result<String, AllocError> {
+    let name = Case::Snake.of_variant(alloc, target.name.text)?;
+    let specs = specs_of(alloc, target.module, infix)?;
+    let (_crate, file) = specs.as_str().rsplit_once('.').unwrap_or(("", ""));
+    format!(in alloc; "crate::proofs::{file}Laws::{name}")
+}
+
+/// What stands in the names of the files of the first format of a type.
+fn first_infix(attributes: Attributes<'_>) -> &'static str {
+    if attributes.bin.is_used() { "" } else { "Json" }
 }
 
 /// Adds the codec by which a value is legal, and the lines that bring it in.

@@ -2,7 +2,7 @@
 //! what reads them within levels.
 
 use crate::output::layout::{Brackets, Items, Piece, list};
-use crate::output::nested::{nested_holes, specs_of};
+use crate::output::nested::{laws_of, nested_holes, specs_of};
 use crate::output::nested_bodies::{Held, arm, parts_of};
 use crate::output::sheet::Sheet;
 use crate::output::target::Target;
@@ -32,7 +32,7 @@ impl nano_json_nested::NestedJson for $TYPE {
 
 const CHOICE: &str = "
 impl nano_json_nested::WritesJson for $TYPE {
-    #[tactic(auto, using(crate::proofs::$RULES_json_texts))]
+    #[tactic(auto, using($RULES_json_texts))]
     fn write_json(&self, alloc: std::alloc::Global, d: usize, \
         s: &mut nano_json_schema::SerJsonState) -> Result<(), std::alloc::AllocError> {
         match self {
@@ -161,10 +161,8 @@ fn json_holes<'a>(sheet: &mut Sheet, target: &Target<'a>, read: &str) -> Result<
     } else {
         codec.clone()?
     };
-    let specs = specs_of(alloc, target.module, "Json")?;
-    let (_crate, file) = specs.as_str().rsplit_once('.').unwrap_or(("", ""));
-    holes.put("RULES", format!(in alloc; "{file}Laws::{name}")?.as_str())?;
-    holes.put("TEXTS", specs.as_str())?;
+    holes.put("RULES", laws_of(alloc, target, "Json")?.as_str())?;
+    holes.put("TEXTS", specs_of(alloc, target.module, "Json")?.as_str())?;
     holes.put("CITED", cited.as_str())?;
     holes.put("JSON", codec.as_str())?;
     holes.put("AGREES", agrees.as_str())?;
@@ -230,7 +228,7 @@ fn reading<'a>(sheet: &mut Sheet, target: &Target<'a>, read: &str) -> Result<Str
     let brackets = Brackets {
         open: open.as_str(),
         close: ")",
-        items: Items::Values,
+        items: Items::Patterns,
         indent: 8,
         before: 14,
         after: 2,

@@ -196,7 +196,11 @@ impl ReadsJson<Folder> for Levels {
             return Err(no_levels(alloc, state));
         };
         match read_record_json_within::<Levels, FolderFields>(
-            below, left - 1, alloc, state, input,
+            below,
+            left - 1,
+            alloc,
+            state,
+            input,
         ) {
             Ok(values) => Ok(Folder::make(values)),
             Err(error) => Err(error),

@@ -178,7 +178,11 @@ impl ReadsJson<Tree> for Levels {
             return Err(no_levels(alloc, state));
         };
         match read_choice_json_within::<Levels, TreeVariants>(
-            below, left - 1, alloc, state, input,
+            below,
+            left - 1,
+            alloc,
+            state,
+            input,
         ) {
             Ok(values) => Ok(Tree::make(values)),
             Err(error) => Err(error),
