@@ -55,7 +55,8 @@ fn read_answers(alloc: Global, module: &str, nested: &Nested<'_>) -> Result<Answ
     })
 }
 
-/// Appends the answers for the reader of JSON of a type in a module, and for what writes a struct.
+/// Appends the answers for the reader of JSON of a type in a module, and for what writes
+/// named fields.
 fn append_json(
     alloc: Global,
     module: &str,
@@ -72,10 +73,10 @@ fn append_json(
         path: format!(in alloc; "{folder}/LevelsReadsJson{name}/+read/Answers.antt")?,
         text: read_json_text(alloc, nested, of)?,
     })?;
-    if !nested.is_enum {
+    if let Some(text) = written_text(alloc, nested, of)? {
         files.push(Answers {
             path: format!(in alloc; "{folder}/+write_{snake}_json/Answers.antt")?,
-            text: written_text(alloc, nested, of)?,
+            text,
         })?;
     }
     Ok(())

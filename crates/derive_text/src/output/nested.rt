@@ -51,7 +51,7 @@ pub(crate) fn append_nested<'a>(
             let write = write_fields(sheet, name, fields)?;
             append_impls(sheet, &target, &RECORD, &row, (&known, &write))?;
             if target.attributes.json.is_used() {
-                let appended = json_fields(sheet, name, fields, &row.leaves)?;
+                let appended = json_fields(sheet, name, fields, (&row.leaves, "&value."))?;
                 append_json_record(sheet, &target, appended.as_str())?;
             }
             Ok(())
@@ -66,7 +66,7 @@ pub(crate) fn append_nested<'a>(
             };
             append_impls(sheet, &target, &CHOICE, &row, (&known, &write))?;
             if target.attributes.json.is_used() {
-                append_json_choice(sheet, &target, variants)?;
+                append_json_choice(sheet, &target, variants, &row)?;
             }
             Ok(())
         }
