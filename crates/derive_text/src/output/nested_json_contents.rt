@@ -43,7 +43,7 @@ $PARAMETERS    alloc: std::alloc::Global,
     ensures err { OnErr result (AppendsPart s.old.out s.new.out) }
 {
     s.st_pre()?;
-    nano_json_schema::SerJson::ser_json(\"$KEY\", alloc, 0, s)?;
+    \"$KEY\".ser_json(alloc, 0, s)?;
     s.out.push_str(\":\")?;
     append_$OF_fields($ARGUMENTSalloc, d, s)?;
     s.st_post(d)

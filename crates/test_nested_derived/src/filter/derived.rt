@@ -208,7 +208,7 @@ fn append_filter_has(
     ensures err { OnErr result (AppendsPart s.old.out s.new.out) }
 {
     s.st_pre()?;
-    SerJson::ser_json("Has", alloc, 0, s)?;
+    "Has".ser_json(alloc, 0, s)?;
     s.out.push_str(":")?;
     append_filter_has_fields(v0, v1, alloc, d, s)?;
     s.st_post(d)
