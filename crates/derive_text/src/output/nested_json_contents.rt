@@ -39,7 +39,8 @@ $PARAMETERS    alloc: std::alloc::Global,
     s: &mut nano_json_schema::SerJsonState,
 ) -> Result<(), std::alloc::AllocError>
     ensures ok { OnOk result (Appends s.old.out s.new.out
-        (content_text (codes \"$KEY\") (($CONTENT.codec $JSON).canonical.text d $VALUE))) }
+        (content_text (codes \"$KEY\")
+        (($CONTENT.codec $JSON).canonical.text d $VALUE))) }
     ensures err { OnErr result (AppendsPart s.old.out s.new.out) }
 {
     s.st_pre()?;
@@ -57,7 +58,8 @@ $PARAMETERS    alloc: std::alloc::Global,
     s: &mut nano_json_schema::SerJsonState,
 ) -> Result<(), std::alloc::AllocError>
     ensures ok { OnOk result (Appends s.old.out s.new.out
-        (content_text (codes \"$KEY\") (($CONTENT.codec $JSON).canonical.text d $VALUE))) }
+        (content_text (codes \"$KEY\")
+        (($CONTENT.codec $JSON).canonical.text d $VALUE))) }
     ensures err { OnErr result (Unchanged s.old.out s.new.out) }
 {
     let start = s.out.len();

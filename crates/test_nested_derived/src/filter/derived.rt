@@ -204,7 +204,8 @@ fn append_filter_has(
     s: &mut SerJsonState,
 ) -> Result<(), AllocError>
     ensures ok { OnOk result (Appends s.old.out s.new.out
-        (content_text (codes "Has") ((filter_json_content_has.codec filter_json).canonical.text d (v0.now, v1.now)))) }
+        (content_text (codes "Has")
+        ((filter_json_content_has.codec filter_json).canonical.text d (v0.now, v1.now)))) }
     ensures err { OnErr result (AppendsPart s.old.out s.new.out) }
 {
     s.st_pre()?;
@@ -224,7 +225,8 @@ fn write_filter_has(
     s: &mut SerJsonState,
 ) -> Result<(), AllocError>
     ensures ok { OnOk result (Appends s.old.out s.new.out
-        (content_text (codes "Has") ((filter_json_content_has.codec filter_json).canonical.text d (v0.now, v1.now)))) }
+        (content_text (codes "Has")
+        ((filter_json_content_has.codec filter_json).canonical.text d (v0.now, v1.now)))) }
     ensures err { OnErr result (Unchanged s.old.out s.new.out) }
 {
     let start = s.out.len();
