@@ -53,8 +53,8 @@ returns-in-Err t c =
     )
 }
 
-/// The answers for what writes a struct in JSON, or the variants with named fields of an enum, if it
-/// has such, in a crate with files that are named so.
+/// The answers for what writes a struct in JSON, or the variants with named fields of an enum, if
+/// it has such, in a crate with files that are named so.
 pub(crate) fn written_text(
     alloc: Global,
     nested: &Nested<'_>,
