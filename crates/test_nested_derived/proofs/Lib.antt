@@ -2,3 +2,4 @@ mod TreeCodecsLaws
 mod ChainCodecsLaws
 mod ExpressionCodecsLaws
 mod FolderCodecsLaws
+mod FilterCodecsLaws
