@@ -25,7 +25,8 @@ pub filter_view_any : filter_view Filter-Any ≡ First (tt {0})
 filter_view_any = search (rules, the_lemmas)
 
 pub filter_written_any : filter_codec.canonical.written Filter-Any
-    ≡ little_endian 2 0 ++ unit_codec.canonical.written (tt {0})
+    ≡ little_endian 2 0
+    ++ unit_codec.canonical.written (tt {0})
 filter_written_any =
     written_seen filter_nested Filter-Any (First (tt {0})) filter_view_any
 
@@ -42,7 +43,9 @@ filter_view_equals v0 v1 = search (rules, the_lemmas)
 pub filter_written_equals : (v0 : String Global)
     → (v1 : ℤ)
     → filter_codec.canonical.written (Filter-Equals v0 v1)
-    ≡ little_endian 2 1 ++ (string_codec.canonical.written v0 ++ i64_codec.canonical.written v1)
+    ≡ little_endian 2 1
+    ++ (string_codec.canonical.written v0
+    ++ i64_codec.canonical.written v1)
 filter_written_equals v0 v1 =
     written_seen filter_nested (Filter-Equals v0 v1) (Later (First (v0, v1))) (filter_view_equals v0 v1)
 
@@ -61,7 +64,8 @@ filter_view_contains v = search (rules, the_lemmas)
 
 pub filter_written_contains : (v : String Global)
     → filter_codec.canonical.written (Filter-Contains v)
-    ≡ little_endian 2 2 ++ string_codec.canonical.written v
+    ≡ little_endian 2 2
+    ++ string_codec.canonical.written v
 filter_written_contains v =
     written_seen filter_nested (Filter-Contains v) (Later (Later (First v))) (filter_view_contains v)
 
@@ -78,7 +82,8 @@ filter_view_all v = search (rules, the_lemmas)
 
 pub filter_written_all : (v : Vec Filter Global)
     → filter_codec.canonical.written (Filter-All v)
-    ≡ little_endian 2 3 ++ (codec_as (λ (x : Vec Filter Global). x.items) (list_codec filter_codec)).canonical.written v
+    ≡ little_endian 2 3
+    ++ (codec_as (λ (x : Vec Filter Global). x.items) (list_codec filter_codec)).canonical.written v
 filter_written_all v =
     written_seen filter_nested (Filter-All v) (Later (Later (Later (First v)))) (filter_view_all v)
 
@@ -95,7 +100,8 @@ filter_view_not v = search (rules, the_lemmas)
 
 pub filter_written_not : (v : Box Filter Global)
     → filter_codec.canonical.written (Filter-Not v)
-    ≡ little_endian 2 4 ++ (codec_as (λ (x : Box Filter Global). x.value) filter_codec).canonical.written v
+    ≡ little_endian 2 4
+    ++ (codec_as (λ (x : Box Filter Global). x.value) filter_codec).canonical.written v
 filter_written_not v =
     written_seen filter_nested (Filter-Not v) (Later (Later (Later (Later (First v))))) (filter_view_not v)
 
@@ -114,7 +120,9 @@ filter_view_either v0 v1 = search (rules, the_lemmas)
 pub filter_written_either : (v0 : Box Filter Global)
     → (v1 : Box Filter Global)
     → filter_codec.canonical.written (Filter-Either v0 v1)
-    ≡ little_endian 2 5 ++ ((codec_as (λ (x : Box Filter Global). x.value) filter_codec).canonical.written v0 ++ (codec_as (λ (x : Box Filter Global). x.value) filter_codec).canonical.written v1)
+    ≡ little_endian 2 5
+    ++ ((codec_as (λ (x : Box Filter Global). x.value) filter_codec).canonical.written v0
+    ++ (codec_as (λ (x : Box Filter Global). x.value) filter_codec).canonical.written v1)
 filter_written_either v0 v1 =
     written_seen filter_nested (Filter-Either v0 v1) (Later (Later (Later (Later (Later (v0, v1)))))) (filter_view_either v0 v1)
 

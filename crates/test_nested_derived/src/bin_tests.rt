@@ -1,6 +1,6 @@
 //! Types that contain themselves, as bytes, by impls that `derive` writes.
 
-use crate::{Chain, Expression, Folder, Tree};
+use crate::{Chain, Expression, Filter, Folder, Tree};
 use nano_bin::{BothBin, DeBin, DeBinKind};
 use std::alloc::{AllocError, Global};
 use std::process::Abort;
@@ -28,6 +28,13 @@ const FOLDERS: &[&[u8]] = &[&[
     1, 0, 0, 0, 0, 0, 0, 0, 98, 1, 0, 0, 0, 0, 0, 0, 0, 1, 0, 0, 0, 0, 0, 0, 0, 97, 0, 0, 0, 0, 0,
     0, 0, 0,
 ]];
+
+/// Each variant: the fourth has the first and the fifth in it, and the sixth the first and the third.
+const FILTERS: &[&[u8]] = &[
+    &[1, 0, 1, 0, 0, 0, 0, 0, 0, 0, 97, 3, 0, 0, 0, 0, 0, 0, 0],
+    &[3, 0, 2, 0, 0, 0, 0, 0, 0, 0, 0, 0, 4, 0, 0, 0],
+    &[5, 0, 0, 0, 2, 0, 1, 0, 0, 0, 0, 0, 0, 0, 98],
+];
 
 /// Bytes that are no tree, and where that is found.
 const NO_TREES: &[(&[u8], usize)] = &[
@@ -57,6 +64,11 @@ const DEEP_EXPRESSION: Deep = Deep {
 const DEEP_CHAIN: Deep = Deep {
     around: &[4, 0, 0, 0, 1],
     inner: &[4, 0, 0, 0, 0],
+};
+
+const DEEP_FILTER: Deep = Deep {
+    around: &[4, 0],
+    inner: &[0, 0],
 };
 
 const DEEP_FOLDER: Deep = Deep {
@@ -127,6 +139,7 @@ fn types_that_contain_themselves_are_bytes(rt: HostRuntime) {
     let expressions = are_values::<Expression>(alloc, EXPRESSIONS);
     holds(&rt, expressions, "expressions");
     holds(&rt, are_values::<Chain>(alloc, CHAINS), "chains");
+    holds(&rt, are_values::<Filter>(alloc, FILTERS), "filters");
     holds(&rt, are_values::<Folder>(alloc, FOLDERS), "folders");
 }
 
@@ -148,6 +161,8 @@ fn levels_run_out_after_128(rt: HostRuntime) {
     holds(&rt, expressions.unwrap_or(false), "expressions");
     let chains = ends_after_128::<Chain>(alloc, &DEEP_CHAIN, 640);
     holds(&rt, chains.unwrap_or(false), "chains");
+    let filters = ends_after_128::<Filter>(alloc, &DEEP_FILTER, 256);
+    holds(&rt, filters.unwrap_or(false), "filters");
     let folders = ends_after_128::<Folder>(alloc, &DEEP_FOLDER, 2048);
     holds(&rt, folders.unwrap_or(false), "folders");
 }
