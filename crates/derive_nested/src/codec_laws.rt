@@ -154,7 +154,8 @@ fn variant_laws(
     format!(in alloc;
         "
 pub {snake}_written_{end} : {parts}{snake}_codec.canonical.written {value}
-    ≡ little_endian 2 {i} ++ {written}
+    ≡ little_endian 2 {i}
+    ++ {written}
 {snake}_written_{end}{values} =
     written_seen {of}
 {legal}"

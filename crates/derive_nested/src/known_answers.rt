@@ -3,6 +3,7 @@
 
 use crate::answers::{Answers, HEAD, folder_of};
 use crate::codec_laws::law_end;
+use crate::definitions::equation;
 use crate::nested::{Held, Nested};
 use crate::wrapped::atom;
 use derive_syntax::crate_of;
@@ -56,11 +57,13 @@ fn answer(alloc: Global, held: &Held<'_>, is_first: bool, law: &str) -> Result<S
         calls.push_str(format!(in alloc; " c.{call}.ensures")?.as_str())?;
     }
     let used = atom(alloc, format!(in alloc; "{law}{values}{calls}")?.as_str())?;
+    let head = format!(in alloc; "returns-in-{variant} t c")?;
+    let term = format!(in alloc; "rw c.in-{variant}.is {used}")?;
+    let answer = equation(alloc, head.as_str(), term.as_str())?;
     format!(in alloc;
         "
 pub returns-in-{variant} : goal.returns-in-{variant}
-returns-in-{variant} t c = rw c.in-{variant}.is {used}
-"
+{answer}"
     )
 }
 

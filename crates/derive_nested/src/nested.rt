@@ -209,12 +209,17 @@ impl Nested<'_> {
     /// The type itself is called so.
     pub(crate) fn seen(&self, alloc: Global, itself: &str) -> Result<String, AllocError> {
         let mut seen: Option<String> = None;
+        let between = if self.contents.len() > 3 {
+            "\n    "
+        } else {
+            " "
+        };
         for held in self.contents.iter().rev() {
             let of = at(alloc, held.row.part.of.as_str(), itself)?;
             seen = match seen {
                 Some(rest) => {
                     let (of, rest) = (atom(alloc, of.as_str())?, atom(alloc, rest.as_str())?);
-                    Some(format!(in alloc; "Either {of} {rest}")?)
+                    Some(format!(in alloc; "Either {of}{between}{rest}")?)
                 }
                 None => Some(of),
             };

@@ -102,7 +102,7 @@ fn both(alloc: Global, first: &Row, second: &Row) -> Result<Row, AllocError> {
             depth_same: None,
         },
         value: format!(in alloc; "({}, {})", first.value, second.value)?,
-        written: format!(in alloc; "({} ++ {})", first.written, second.written)?,
+        written: format!(in alloc; "({}\n    ++ {})", first.written, second.written)?,
         legal: format!(in alloc;
             "(record {{ part = ({}, {}); has = ({}, {}); is = refl }})",
             a.means, b.means, first.legal, second.legal

@@ -112,7 +112,8 @@ proofs/shapes/derived/AValue/+known/Answers.antt
 =>
 returns-in-B t c = rw c.in-B.is (a_legal_b c.in-B.first c.known.ensures)
 =>
-returns-in-C t c = rw c.in-C.is (a_legal_c c.in-C.first c.in-C.second c.known-in-C.ensures c.known-in-C-2.ensures)
+returns-in-C t c =
+    rw c.in-C.is (a_legal_c c.in-C.first c.in-C.second c.known-in-C.ensures c.known-in-C-2.ensures)
 ----
 // nanoserde: bin
 struct A {

@@ -23,7 +23,8 @@ expression_view_number v = search (rules, the_lemmas)
 
 pub expression_written_number : (v : ℤ)
     → expression_codec.canonical.written (Expression-Number v)
-    ≡ little_endian 2 0 ++ i64_codec.canonical.written v
+    ≡ little_endian 2 0
+    ++ i64_codec.canonical.written v
 expression_written_number v =
     written_seen expression_nested (Expression-Number v) (First v) (expression_view_number v)
 
@@ -40,7 +41,8 @@ expression_view_negated v = search (rules, the_lemmas)
 
 pub expression_written_negated : (v : Box Expression Global)
     → expression_codec.canonical.written (Expression-Negated v)
-    ≡ little_endian 2 1 ++ (codec_as (λ (x : Box Expression Global). x.value) expression_codec).canonical.written v
+    ≡ little_endian 2 1
+    ++ (codec_as (λ (x : Box Expression Global). x.value) expression_codec).canonical.written v
 expression_written_negated v =
     written_seen expression_nested (Expression-Negated v) (Later (First v)) (expression_view_negated v)
 
@@ -59,7 +61,9 @@ expression_view_sum v0 v1 = search (rules, the_lemmas)
 pub expression_written_sum : (v0 : Box Expression Global)
     → (v1 : Box Expression Global)
     → expression_codec.canonical.written (Expression-Sum v0 v1)
-    ≡ little_endian 2 2 ++ ((codec_as (λ (x : Box Expression Global). x.value) expression_codec).canonical.written v0 ++ (codec_as (λ (x : Box Expression Global). x.value) expression_codec).canonical.written v1)
+    ≡ little_endian 2 2
+    ++ ((codec_as (λ (x : Box Expression Global). x.value) expression_codec).canonical.written v0
+    ++ (codec_as (λ (x : Box Expression Global). x.value) expression_codec).canonical.written v1)
 expression_written_sum v0 v1 =
     written_seen expression_nested (Expression-Sum v0 v1) (Later (Later (v0, v1))) (expression_view_sum v0 v1)
 

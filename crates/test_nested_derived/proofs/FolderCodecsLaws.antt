@@ -15,7 +15,8 @@ use Rattle.test_nested_derived.specs.declared.folder.Folder.TheViews.{out-Folder
 
 pub folder_written : (x : Folder)
     → folder_codec.canonical.written x
-    ≡ (string_codec.canonical.written (out-Folder x).name ++ (codec_as (λ (x : Vec Folder Global). x.items) (list_codec folder_codec)).canonical.written (out-Folder x).folders)
+    ≡ (string_codec.canonical.written (out-Folder x).name
+    ++ (codec_as (λ (x : Vec Folder Global). x.items) (list_codec folder_codec)).canonical.written (out-Folder x).folders)
 folder_written x = written_seen folder_nested x (folder_view x) refl
 
 pub folder_legal : (x : Folder)
