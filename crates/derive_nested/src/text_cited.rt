@@ -49,11 +49,11 @@ pub(crate) const TEXTS: [Known; 12] = [
     Known {
         module: "nano_schema_levels.proofs.PartLaws",
         names: &[
-            "pair_layer",
-            "quadruple_layer",
+            "both_layer",
             "seen_layer",
             "single_layer",
-            "triple_layer",
+            "tuple_layer",
+            "two_parts",
         ],
     },
     Known {

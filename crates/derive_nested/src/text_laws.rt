@@ -5,7 +5,8 @@ use crate::codec_laws::{Variant, binders, law_end, variant_at};
 use crate::legal_laws::{Known, struct_legal, variant_legal};
 use crate::nested::{Held, Nested};
 use crate::text_codec::TextTerms;
-use crate::text_layers::{content_layer, field_codec};
+use crate::text_layers::field_codec;
+use crate::text_parts::{content_written, part_texts};
 use crate::wrapped::{at, atom};
 use std::alloc::{AllocError, Global};
 
@@ -30,6 +31,7 @@ pub(crate) fn text_laws(
     }
     if nested.is_enum {
         text.push_str(texts(alloc, nested, format)?.as_str())?;
+        text.push_str(part_texts(alloc, nested, format)?.as_str())?;
     }
     Ok(text)
 }
@@ -136,16 +138,12 @@ fn written(
     let itself = format!(in alloc; "{}_{}", nested.names.snake, format.name)?;
     let (name, value) = (held.key.as_str(), held.row.value.as_str());
     let codec = match (held.leaves.as_slice(), held.has_fields) {
-        ([], false) => return format!(in alloc; "written_text (codes \"{name}\")"),
+        ([], false) => return format!(in alloc; "{} (codes \"{name}\")", format.alone),
         ([leaf], false) => {
             let codec = at(alloc, leaf.part.codec.as_str(), itself.as_str())?;
             format!(in alloc; "single_codec {}", atom(alloc, codec.as_str())?)?
         }
-        _ => {
-            let layer = content_layer(alloc, format, held)?;
-            let layer = layer.unwrap_or(String::from_str(alloc, "itself_layer")?);
-            format!(in alloc; "{}.codec {itself}", atom(alloc, layer.as_str())?)?
-        }
+        _ => return content_written(alloc, nested, format, held),
     };
     format!(in alloc; "content_text (codes \"{name}\") (({codec}).canonical.text d {value})")
 }

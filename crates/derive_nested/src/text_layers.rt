@@ -20,20 +20,41 @@ pub(crate) fn content_layer(
         let layer = format!(in alloc; "struct_layer {row} (λ f. {names}) (λ f. refl)")?;
         return Ok(Some(layer));
     }
-    let made = match held.leaves.len() {
-        0 => return Ok(None),
-        1 => "single_layer",
-        2 => "pair_layer",
-        3 => "triple_layer",
-        _ => "quadruple_layer",
+    let [leaf, others @ ..] = held.leaves.as_slice() else {
+        return Ok(None);
     };
-    let mut layer = format!(in alloc; "{made} {}", format.tuple)?;
-    for leaf in &held.leaves {
+    let tuple = format.tuple;
+    let layer = if others.is_empty() {
         let part = part_layer(alloc, format, leaf, &leaf.nested.holders)?;
-        layer.push(' ')?;
-        layer.push_str(atom(alloc, part.as_str())?.as_str())?;
-    }
+        format!(in alloc; "single_layer {tuple} {}", atom(alloc, part.as_str())?)?
+    } else {
+        let parts = parts_layer(alloc, format, &held.leaves)?;
+        format!(in alloc; "tuple_layer {tuple} {}", atom(alloc, parts.as_str())?)?
+    };
     Ok(Some(layer))
+}
+
+/// The layer of two parts or more: that of the first one, and of the rest.
+fn parts_layer(
+    alloc: Global,
+    format: &TextTerms,
+    leaves: &[Leaf<'_>],
+) -> Result<String, AllocError> {
+    let tuple = format.tuple;
+    let (style, brackets) = tuple.split_once(' ').unwrap_or((tuple, ""));
+    let mut layer = String::new(alloc);
+    for (back, leaf) in leaves.iter().rev().enumerate() {
+        let part = part_layer(alloc, format, leaf, &leaf.nested.holders)?;
+        let part = atom(alloc, part.as_str())?;
+        layer = match back {
+            0 => part,
+            1 => format!(in alloc; "two_parts {tuple} {part} {layer}")?,
+            _ => format!(in alloc;
+                "both_layer (part_style {style}) {brackets}.divides {part} ({layer})"
+            )?,
+        };
+    }
+    Ok(layer)
 }
 
 /// The layer of fields: that of one, or of half of them and of the other half.

@@ -1,22 +1,20 @@
 //! Types that contain themselves, in JSON: what writes them variant by variant or field by field, and
 //! what reads them within levels.
 
-use crate::output::layout::{Brackets, Items, Piece, list};
-use crate::output::nested::{laws_of, nested_holes, specs_of};
 use crate::output::nested_bodies::{Held, arm, parts_of};
+use crate::output::nested_text::{JSON, text_holes};
 use crate::output::sheet::Sheet;
 use crate::output::target::Target;
-use crate::output::template::Holes;
 use derive_syntax::{Case, Token, Variant, variant_name};
 use std::alloc::AllocError;
 
-const CODEC: &str = "
+pub(crate) const CODEC: &str = "
 // ---- JSON
 
 impl nano_json_schema::JsonCodec for $TYPE {
     ghost use Rattle.$TEXTS.{$CITED};
 
-    ghost json = { $JSON };
+    ghost json = { $OWN };
 
     ghost agrees = { $AGREES };
 }
@@ -40,8 +38,8 @@ $ARMS        }
     }
 }";
 
-const RECORD: &str = "
-ghost use Rattle.$TEXTS.{$JSON};
+pub(crate) const RECORD: &str = "
+ghost use Rattle.$TEXTS.{$OWN};
 
 /// Appends the fields between braces. If the write fails, what was written so far is left.
 #[cycle($CYCLE)]
@@ -51,7 +49,7 @@ fn $APPEND(
     d: usize,
     s: &mut nano_json_schema::SerJsonState,
 ) -> Result<(), std::alloc::AllocError>
-    ensures ok { OnOk result (Appends s.old.out s.new.out ($JSON.canonical.text d value.now)) }
+    ensures ok { OnOk result (Appends s.old.out s.new.out ($OWN.canonical.text d value.now)) }
     ensures err { OnErr result (AppendsPart s.old.out s.new.out) }
 {
     s.st_pre()?;
@@ -69,7 +67,7 @@ impl nano_json_nested::WritesJson for $TYPE {
     }
 }";
 
-const READER: &str = "
+pub(crate) const READER: &str = "
 impl nano_json_schema::SerJson for $TYPE {
     fn ser_json(&self, alloc: std::alloc::Global, d: usize, \
         s: &mut nano_json_schema::SerJsonState) -> Result<(), std::alloc::AllocError> {
@@ -112,7 +110,7 @@ pub(crate) fn append_json_choice<'a>(
     target: &Target<'a>,
     variants: &[Variant<'a>],
 ) -> Result<(), AllocError> {
-    let mut holes = json_holes(sheet, target, "read_choice_json_within")?;
+    let mut holes = text_holes(sheet, target, JSON, "choice")?;
     holes.put("ARMS", arms(sheet, target.name, variants)?.as_str())?;
     sheet.write(CODEC, &holes)?;
     sheet.write(CHOICE, &holes)?;
@@ -132,7 +130,7 @@ pub(crate) fn append_json_record<'a>(
     let name = Case::Snake.of_variant(sheet.alloc, target.name.text)?;
     let wanted = format!(in sheet.alloc; "append_{name}_json")?;
     let append = sheet.names.take(sheet.alloc, wanted.as_str())?;
-    let mut holes = json_holes(sheet, target, "read_record_json_within")?;
+    let mut holes = text_holes(sheet, target, JSON, "record")?;
     holes.put("APPEND", append.as_str())?;
     holes.put(
         "CYCLE",
@@ -142,33 +140,6 @@ pub(crate) fn append_json_record<'a>(
     sheet.write(CODEC, &holes)?;
     sheet.write(RECORD, &holes)?;
     sheet.write(READER, &holes)
-}
-
-/// What stands in the templates of JSON. Given is what reads what a value is seen as.
-fn json_holes<'a>(sheet: &mut Sheet, target: &Target<'a>, read: &str) -> Result<Holes, AllocError> {
-    let alloc = sheet.alloc;
-    let name = Case::Snake.of_variant(alloc, target.name.text)?;
-    let mut holes = nested_holes(sheet, target)?;
-    let codec = format!(in alloc; "{name}_json")?;
-    let agrees = if target.attributes.bin.is_used() {
-        format!(in alloc; "{name}_json_agrees")?
-    } else {
-        sheet.import("ghost use Rattle.nano_schema.specs.UserTypes.{agreed};")?;
-        String::from_str(alloc, "agreed")?
-    };
-    let cited = if target.attributes.bin.is_used() {
-        format!(in alloc; "{codec}, {agrees}")?
-    } else {
-        codec.clone()?
-    };
-    holes.put("RULES", laws_of(alloc, target, "Json")?.as_str())?;
-    holes.put("TEXTS", specs_of(alloc, target.module, "Json")?.as_str())?;
-    holes.put("CITED", cited.as_str())?;
-    holes.put("JSON", codec.as_str())?;
-    holes.put("AGREES", agrees.as_str())?;
-    holes.put("AT", format!(in alloc; "{name}_json_at")?.as_str())?;
-    holes.put("CALL", reading(sheet, target, read)?.as_str())?;
-    Ok(holes)
 }
 
 /// What writes each variant.
@@ -211,27 +182,4 @@ fn write_line<'a>(
         part.name
     )?;
     sheet.short(call.as_str())
-}
-
-/// The call that reads what a value is seen as, one level below.
-fn reading<'a>(sheet: &mut Sheet, target: &Target<'a>, read: &str) -> Result<String, AllocError> {
-    let alloc = sheet.alloc;
-    let open = format!(in alloc;
-        "nano_json_nested::{read}::<nano_levels::Levels, {}>(",
-        target.row
-    )?;
-    let open = sheet.short(open.as_str())?;
-    let mut arguments = Vec::new(alloc);
-    for argument in ["below", "left - 1", "alloc", "state", "input"] {
-        arguments.push(Piece::of(alloc, argument)?)?;
-    }
-    let brackets = Brackets {
-        open: open.as_str(),
-        close: ")",
-        items: Items::Patterns,
-        indent: 8,
-        before: 14,
-        after: 2,
-    };
-    Ok(list(alloc, brackets, &arguments)?.laid)
 }
