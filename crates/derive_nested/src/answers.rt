@@ -82,7 +82,7 @@ fn place_of<'a>(alloc: Global, module: &'a str) -> Result<Place<'a>, AllocError>
     })
 }
 
-/// Appends the answers for the reader of JSON of a type in a module, and for what writes a struct.
+/// Appends the answers for the reader of JSON of a type in a module, and for what writes named fields.
 fn append_json(
     alloc: Global,
     module: &str,
@@ -92,17 +92,18 @@ fn append_json(
     let place = place_of(alloc, module)?;
     let (folder, snake) = (place.folder.as_str(), nested.names.snake.as_str());
     files.push(text_reader(alloc, nested, &JSON, &place)?)?;
-    if !nested.is_enum {
-        let of = (place.goals.as_str(), place.library, place.stem.as_str());
+    let of = (place.goals.as_str(), place.library, place.stem.as_str());
+    if let Some(text) = written_text(alloc, nested, of)? {
         files.push(Answers {
             path: format!(in alloc; "{folder}/+write_{snake}_json/Answers.antt")?,
-            text: written_text(alloc, nested, of)?,
+            text,
         })?;
     }
     Ok(())
 }
 
-/// Appends the answers for the reader of RON of a type in a module, and for what writes a struct.
+/// Appends the answers for the reader of RON of a type in a module, and for what writes its fields
+/// and parts.
 fn append_ron(
     alloc: Global,
     module: &str,

@@ -2,6 +2,7 @@
 
 use crate::nested::Nested;
 use crate::text_codec::TextTerms;
+use crate::text_layers::content_name;
 use derive_syntax::{Case, codecs_name, crate_of};
 use std::alloc::{AllocError, Global};
 
@@ -146,7 +147,7 @@ pub(crate) fn text_cited(
     let (end, infix) = (format.name, format.coded.infix);
     let parts = parts_lines(alloc, of.as_str(), nested)?;
     let fields = if nested.is_enum {
-        String::new(alloc)
+        content_names(alloc, nested, format)?
     } else {
         format!(in alloc; ", {snake}_{infix}fields")?
     };
@@ -162,6 +163,22 @@ pub(crate) fn text_cited(
 use Rattle.{library}.specs.{file}.{{{snake}_{infix}nested, {snake}_{end}{fields}}}
 {views}{parts}"
     )
+}
+
+/// The names of the layers of the named fields of variants, each after a comma.
+pub(crate) fn content_names(
+    alloc: Global,
+    nested: &Nested<'_>,
+    format: &TextTerms,
+) -> Result<String, AllocError> {
+    let mut names = String::new(alloc);
+    for held in &nested.contents {
+        if held.has_fields {
+            let name = content_name(alloc, format, nested.names.snake.as_str(), held)?;
+            names.push_str(format!(in alloc; ", {name}")?.as_str())?;
+        }
+    }
+    Ok(names)
 }
 
 /// The line that brings in what the variants of an enum are seen as.

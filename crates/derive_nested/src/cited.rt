@@ -3,12 +3,14 @@
 use crate::imports::Known;
 
 /// Those that every format cites.
-pub(crate) const SHARED: [Known; 14] = [
+pub(crate) const SHARED: [Known; 15] = [
     Known {
         module: "std.specs.Prelude",
         names: &[
             "◌≡◌",
             "◌++◌",
+            "◌∷◌",
+            "[]",
             "ℕ",
             "ℤ",
             "List",
@@ -17,6 +19,7 @@ pub(crate) const SHARED: [Known; 14] = [
             "map",
             "refl",
             "codes",
+            "encode_utf8_all",
             "Bool",
             "Box",
             "Option",
@@ -47,10 +50,15 @@ pub(crate) const SHARED: [Known; 14] = [
             "append_assoc",
             "inl",
             "inr",
+            "lit<",
             "lit≤",
             "rules",
             "sym",
         ],
+    },
+    Known {
+        module: "std.proofs.lemmas.Str",
+        names: &["encode_ascii", "encodes-append"],
     },
     Known {
         module: "nano_value.specs.Meaning",

@@ -4,8 +4,10 @@
 use crate::answers::{Answers, HEAD, Place};
 use crate::codec_laws::law_end;
 use crate::nested::{Held, Nested};
+use crate::ron_parts::{is_in_parts, part_name};
 use crate::ron_rows::{Written, fields_proof, parts_proof, struct_proof};
-use crate::text_parts::is_in_parts;
+use crate::text_codec::RON;
+use crate::text_fields::field_name;
 use std::alloc::{AllocError, Global};
 
 /// The answers for what writes a type, where it is written by several calls.
@@ -56,8 +58,8 @@ pub(crate) struct WriterNames {
     pub(crate) append: String,
     /// What leaves the text unchanged where that fails.
     pub(crate) write: String,
-    /// What the names of the definitions of its fields or parts begin with.
-    pub(crate) part: String,
+    /// The names of the definitions of what its fields or parts are written as.
+    pub(crate) parts: Vec<String>,
 }
 
 /// The names of what writes a struct, or a variant.
@@ -67,18 +69,27 @@ fn names_of(
     held: &Held<'_>,
 ) -> Result<WriterNames, AllocError> {
     let (name, snake) = (nested.names.of.as_str(), nested.names.snake.as_str());
+    let mut parts = Vec::new(alloc);
+    for called in &held.called {
+        let of = (held, called.as_str());
+        if held.has_fields {
+            parts.push(field_name(alloc, nested, &RON, of)?)?;
+        } else {
+            parts.push(part_name(alloc, nested, of)?)?;
+        }
+    }
     if !nested.is_enum {
         return Ok(WriterNames {
             append: format!(in alloc; "append_{snake}_ron")?,
             write: format!(in alloc; "{name}WritesRon::write_ron")?,
-            part: format!(in alloc; "{snake}_ron_field")?,
+            parts,
         });
     }
     let end = law_end(alloc, held)?;
     Ok(WriterNames {
         append: format!(in alloc; "append_{snake}_{end}_ron")?,
         write: format!(in alloc; "write_{snake}_{end}_ron")?,
-        part: format!(in alloc; "{snake}_ron_{end}")?,
+        parts,
     })
 }
 

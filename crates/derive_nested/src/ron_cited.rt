@@ -3,14 +3,10 @@
 use crate::imports::Known;
 
 /// Those of RON.
-pub(crate) const RON: [Known; 14] = [
+pub(crate) const RON: [Known; 13] = [
     Known {
         module: "std.specs.Prelude",
         names: &["chars"],
-    },
-    Known {
-        module: "nano_grammar.specs.BaseCodecs",
-        names: &["part_style"],
     },
     Known {
         module: "nano_ron.specs.Codec",
@@ -22,7 +18,7 @@ pub(crate) const RON: [Known; 14] = [
     },
     Known {
         module: "nano_ron.specs.ContainerCodecs",
-        names: &["option_codec"],
+        names: &["option_codec", "pair_codec"],
     },
     Known {
         module: "nano_ron_tokens.specs.Token",

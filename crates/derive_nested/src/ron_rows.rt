@@ -22,12 +22,12 @@ pub(crate) fn struct_proof(
     (held, names): (&Held<'_>, &WriterNames),
 ) -> Result<Written, AllocError> {
     let snake = nested.names.snake.as_str();
-    let fields = terms_of(alloc, held, names, "x")?;
+    let fields = terms_of(alloc, names, "x")?;
     let row = row_proof(alloc, (held, &fields), 0, fields.len())?;
     let inside = state_before(alloc, held, fields.len())?;
     let (all, ok) = (row.fields.as_str(), row.ok.as_str());
     Ok(Written {
-        cited: format!(in alloc; "{}, {snake}_ron_text", cited_names(alloc, held, names)?)?,
+        cited: format!(in alloc; "{}, {snake}_ron_text", cited_names(alloc, names)?)?,
         proof: format!(in alloc;
             "    let x = c.args.value.now in
     let inner = c.saturating_add-inner.result in
@@ -50,12 +50,12 @@ pub(crate) fn fields_proof(
     alloc: Global,
     (held, names): (&Held<'_>, &WriterNames),
 ) -> Result<Written, AllocError> {
-    let fields = terms_of(alloc, held, names, "")?;
+    let fields = terms_of(alloc, names, "")?;
     let row = row_proof(alloc, (held, &fields), 0, fields.len())?;
     let inside = state_before(alloc, held, fields.len())?;
     let (all, ok, key) = (row.fields.as_str(), row.ok.as_str(), held.key.as_str());
     Ok(Written {
-        cited: cited_names(alloc, held, names)?,
+        cited: cited_names(alloc, names)?,
         proof: format!(in alloc;
             "    let inner = c.saturating_add-inner.result in
     let before = string_bytes c.args.s.now.out in
@@ -80,16 +80,16 @@ pub(crate) fn parts_proof(
     alloc: Global,
     (held, names): (&Held<'_>, &WriterNames),
 ) -> Result<Written, AllocError> {
-    let count = held.called.len();
+    let count = names.parts.len();
     let end = call_at(alloc, held, count.saturating_sub(1))?;
     let mut proof = String::from_str(alloc, "last")?;
     let mut rest = String::new(alloc);
     for back in 1..count.saturating_add(1) {
         let i = count.saturating_sub(back);
-        let Some(called) = held.called.get(i) else {
+        let Some(name) = names.parts.get(i) else {
             continue;
         };
-        let text = format!(in alloc; "{}_{called} c.args.d c.args.{called}.now", names.part)?;
+        let text = format!(in alloc; "{name} c.args.d c.args.v{i}.now")?;
         if back == 1 {
             rest = format!(in alloc; "({text} ++ 41 ∷ [])")?;
             continue;
@@ -103,7 +103,7 @@ pub(crate) fn parts_proof(
     }
     let key = held.key.as_str();
     Ok(Written {
-        cited: cited_names(alloc, held, names)?,
+        cited: cited_names(alloc, names)?,
         proof: format!(in alloc;
             "    let before = string_bytes c.args.s.now.out in
     let opened = string_bytes c.open_variant.new.s.out in
@@ -119,15 +119,11 @@ pub(crate) fn parts_proof(
 }
 
 /// The names of the definitions of what each field or part is written as.
-fn cited_names(
-    alloc: Global,
-    held: &Held<'_>,
-    names: &WriterNames,
-) -> Result<String, AllocError> {
+fn cited_names(alloc: Global, names: &WriterNames) -> Result<String, AllocError> {
     let mut cited = String::new(alloc);
-    for called in &held.called {
+    for name in &names.parts {
         cited.push_str(if cited.is_empty() { "" } else { ", " })?;
-        cited.push_str(format!(in alloc; "{}_{called}", names.part)?.as_str())?;
+        cited.push_str(name.as_str())?;
     }
     Ok(cited)
 }
@@ -135,16 +131,15 @@ fn cited_names(
 /// What each field is written as: of a struct that is called so, or of the arguments.
 fn terms_of(
     alloc: Global,
-    held: &Held<'_>,
     names: &WriterNames,
     itself: &str,
 ) -> Result<Vec<String>, AllocError> {
     let mut terms = Vec::new(alloc);
-    for called in &held.called {
+    for (i, name) in names.parts.iter().enumerate() {
         let term = if itself.is_empty() {
-            format!(in alloc; "({}_{called} c.args.{called}.now)", names.part)?
+            format!(in alloc; "({name} c.args.v{i}.now)")?
         } else {
-            format!(in alloc; "({}_{called} {itself})", names.part)?
+            format!(in alloc; "({name} {itself})")?
         };
         terms.push(term)?;
     }

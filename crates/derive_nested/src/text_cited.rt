@@ -48,13 +48,7 @@ pub(crate) const TEXTS: [Known; 12] = [
     },
     Known {
         module: "nano_schema_levels.proofs.PartLaws",
-        names: &[
-            "both_layer",
-            "seen_layer",
-            "single_layer",
-            "tuple_layer",
-            "two_parts",
-        ],
+        names: &["pair_layer", "seen_layer", "single_layer"],
     },
     Known {
         module: "nano_schema_levels.proofs.VariantLayersLaws",
@@ -73,7 +67,7 @@ pub(crate) const TEXTS: [Known; 12] = [
 ];
 
 /// Those of JSON.
-pub(crate) const JSON: [Known; 10] = [
+pub(crate) const JSON: [Known; 11] = [
     Known {
         module: "nano_json.specs.Codec",
         names: &["Codec", "codec_as"],
@@ -84,7 +78,7 @@ pub(crate) const JSON: [Known; 10] = [
     },
     Known {
         module: "nano_json.specs.ContainerCodecs",
-        names: &["list_codec", "option_codec"],
+        names: &["list_codec", "option_codec", "pair_codec"],
     },
     Known {
         module: "nano_json_tokens.specs.Token",
@@ -135,5 +129,9 @@ pub(crate) const JSON: [Known; 10] = [
     Known {
         module: "nano_json_schema.specs.Variants",
         names: &["content_text"],
+    },
+    Known {
+        module: "nano_json_schema.specs.Outcomes",
+        names: &["none_yet"],
     },
 ];

@@ -4,8 +4,8 @@
 use crate::coded::{Coded, nested_record};
 use crate::definitions::equation;
 use crate::nested::{Held, Nested};
-use crate::text_layers::{content_layer, row_layer};
-use crate::text_parts::variant_texts;
+use crate::ron_parts::variant_texts;
+use crate::text_layers::{content_layer, content_layers, row_layer};
 use crate::wrapped::atom;
 use std::alloc::{AllocError, Global};
 
@@ -83,7 +83,9 @@ pub(crate) fn text_codec(
     let mut text = layer(alloc, nested, format)?;
     text.push_str(nested_record(alloc, nested, format.coded)?.as_str())?;
     text.push_str(codec(alloc, nested, format)?.as_str())?;
-    text.push_str(variant_texts(alloc, nested, format)?.as_str())?;
+    if format.name == RON.name {
+        text.push_str(variant_texts(alloc, nested, format)?.as_str())?;
+    }
     if let Some(before) = before {
         text.push_str(agreement(alloc, nested, format, before)?.as_str())?;
     }
@@ -94,6 +96,7 @@ pub(crate) fn text_codec(
 fn layer(alloc: Global, nested: &Nested<'_>, format: &TextTerms) -> Result<String, AllocError> {
     let (name, snake) = (nested.names.of.as_str(), nested.names.snake.as_str());
     let Coded { infix, of } = format.coded;
+    let contents = content_layers(alloc, nested, format)?;
     let layers = layers(alloc, nested, format)?;
     let (kind, rows, made) = if nested.is_enum {
         ("variants", "VariantsLayer", "choice_layer")
@@ -108,7 +111,7 @@ fn layer(alloc: Global, nested: &Nested<'_>, format: &TextTerms) -> Result<Strin
     format!(in alloc;
         "
 -- ==== {name}: the layer around the values in it
-
+{contents}
 abbrev pub {snake}_{infix}{kind} : {rows} {style} {name} ({name}Content {name})
 {snake}_{infix}{kind} =
     {layers}
@@ -125,10 +128,10 @@ fn layers(alloc: Global, nested: &Nested<'_>, format: &TextTerms) -> Result<Stri
     for held in nested.contents.iter().rev() {
         text = match text {
             _ if !nested.is_enum => Some(row_layer(alloc, format, &held.leaves)?),
-            None => Some(variant(alloc, format, held, ("last", ""))?),
+            None => Some(variant(alloc, nested, format, (held, "last", ""))?),
             Some(rest) => {
                 let rest = format!(in alloc; "\n    ({rest})")?;
-                Some(variant(alloc, format, held, ("next", rest.as_str()))?)
+                Some(variant(alloc, nested, format, (held, "next", rest.as_str()))?)
             }
         };
     }
@@ -141,12 +144,13 @@ fn layers(alloc: Global, nested: &Nested<'_>, format: &TextTerms) -> Result<Stri
 /// The layer of a variant, the last one or the next one with the rest.
 fn variant(
     alloc: Global,
+    nested: &Nested<'_>,
     format: &TextTerms,
-    held: &Held<'_>,
-    (kind, rest): (&str, &str),
+    (held, kind, rest): (&Held<'_>, &str, &str),
 ) -> Result<String, AllocError> {
     let (style, name) = (format.variants, held.key.as_str());
-    match content_layer(alloc, format, held)? {
+    let snake = nested.names.snake.as_str();
+    match content_layer(alloc, format, snake, held)? {
         None => format!(in alloc; "{kind}_unit {style} (codes \"{name}\"){rest}"),
         Some(layer) => {
             let layer = atom(alloc, layer.as_str())?;

@@ -4,9 +4,10 @@
 use crate::codec_laws::{Variant, binders, law_end, variant_at};
 use crate::legal_laws::{Known, struct_legal, variant_legal};
 use crate::nested::{Held, Nested};
-use crate::text_codec::TextTerms;
-use crate::text_layers::field_codec;
-use crate::text_parts::{content_written, part_texts};
+use crate::ron_parts::part_texts;
+use crate::text_codec::{RON, TextTerms};
+use crate::text_fields::{field_definitions, row_lemmas};
+use crate::text_layers::content_name;
 use crate::wrapped::{at, atom};
 use std::alloc::{AllocError, Global};
 
@@ -24,6 +25,9 @@ pub(crate) fn text_laws(
         } else {
             struct_law(alloc, nested, format, held)?
         };
+        if nested.is_enum && held.has_fields {
+            text.push_str(field_definitions(alloc, nested, format, held)?.as_str())?;
+        }
         text.push_str(law.as_str())?;
         if is_first {
             text.push_str(legal_law(alloc, nested, format, (held, i))?.as_str())?;
@@ -31,8 +35,13 @@ pub(crate) fn text_laws(
     }
     if nested.is_enum {
         text.push_str(texts(alloc, nested, format)?.as_str())?;
-        text.push_str(part_texts(alloc, nested, format)?.as_str())?;
     }
+    let cited = if format.name == RON.name {
+        part_texts(alloc, nested, format)?
+    } else {
+        row_lemmas(alloc, nested, format)?
+    };
+    text.push_str(cited.as_str())?;
     Ok(text)
 }
 
@@ -76,20 +85,7 @@ fn struct_law(
 ) -> Result<String, AllocError> {
     let (name, snake) = (nested.names.of.as_str(), nested.names.snake.as_str());
     let (end, infix, style) = (format.name, format.coded.infix, format.fields);
-    let itself = format!(in alloc; "{snake}_{end}")?;
-    let mut parts = String::new(alloc);
-    for (leaf, called) in held.leaves.iter().zip(held.called.iter()) {
-        let codec = field_codec(alloc, leaf, itself.as_str())?;
-        let value = leaf.value.as_str();
-        let part = format!(in alloc;
-            "
-abbrev pub {snake}_{infix}field_{called} : {name} → List (WrittenField Token)
-{snake}_{infix}field_{called} x =
-    ({codec}).canonical.fields {value}
-"
-        )?;
-        parts.push_str(part.as_str())?;
-    }
+    let parts = field_definitions(alloc, nested, format, held)?;
     format!(in alloc;
         "{parts}
 abbrev pub {snake}_{infix}written : {name} → List (WrittenField Token)
@@ -129,21 +125,30 @@ pub {snake}_{infix}text_{end} : (d : ℕ)
 }
 
 /// The text of a variant.
-fn written(
+pub(crate) fn written(
     alloc: Global,
     nested: &Nested<'_>,
     format: &TextTerms,
     held: &Held<'_>,
 ) -> Result<String, AllocError> {
-    let itself = format!(in alloc; "{}_{}", nested.names.snake, format.name)?;
+    let snake = nested.names.snake.as_str();
+    let itself = format!(in alloc; "{snake}_{}", format.name)?;
     let (name, value) = (held.key.as_str(), held.row.value.as_str());
-    let codec = match (held.leaves.as_slice(), held.has_fields) {
-        ([], false) => return format!(in alloc; "{} (codes \"{name}\")", format.alone),
-        ([leaf], false) => {
-            let codec = at(alloc, leaf.part.codec.as_str(), itself.as_str())?;
-            format!(in alloc; "single_codec {}", atom(alloc, codec.as_str())?)?
-        }
-        _ => return content_written(alloc, nested, format, held),
+    if held.has_fields {
+        let layer = content_name(alloc, format, snake, held)?;
+        return format!(in alloc;
+            "content_text (codes \"{name}\") (({layer}.codec {itself}).canonical.text d {value})"
+        );
+    }
+    let mut codec = match held.leaves.len() {
+        0 => return format!(in alloc; "{} (codes \"{name}\")", format.alone),
+        1 => String::from_str(alloc, "single_codec")?,
+        _ => String::from_str(alloc, "pair_codec")?,
     };
+    for leaf in &held.leaves {
+        let part = at(alloc, leaf.part.codec.as_str(), itself.as_str())?;
+        codec.push(' ')?;
+        codec.push_str(atom(alloc, part.as_str())?.as_str())?;
+    }
     format!(in alloc; "content_text (codes \"{name}\") (({codec}).canonical.text d {value})")
 }

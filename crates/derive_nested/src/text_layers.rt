@@ -1,60 +1,78 @@
 //! The layers of parts, fields and contents in a format of texts.
 
-use crate::nested::Held;
+use crate::codec_laws::law_end;
+use crate::nested::{Held, Nested};
 use crate::row::Leaf;
 use crate::text_codec::TextTerms;
 use crate::wrapped::{at, atom};
 use derive_syntax::Holder;
 use std::alloc::{AllocError, Global};
 
-/// The layer of what a variant holds, or nothing where its name stands alone.
+/// The layer of what a variant holds, or nothing where its name stands alone. That of named fields
+/// has a name.
 pub(crate) fn content_layer(
     alloc: Global,
     format: &TextTerms,
+    snake: &str,
     held: &Held<'_>,
 ) -> Result<Option<String>, AllocError> {
     if held.has_fields {
-        let row = row_layer(alloc, format, &held.leaves)?;
-        let row = atom(alloc, row.as_str())?;
-        let names = format.names;
-        let layer = format!(in alloc; "struct_layer {row} (λ f. {names}) (λ f. refl)")?;
-        return Ok(Some(layer));
+        return Ok(Some(content_name(alloc, format, snake, held)?));
     }
-    let [leaf, others @ ..] = held.leaves.as_slice() else {
-        return Ok(None);
+    let made = match held.leaves.len() {
+        0 => return Ok(None),
+        1 => "single_layer",
+        _ => "pair_layer",
     };
-    let tuple = format.tuple;
-    let layer = if others.is_empty() {
+    let mut layer = format!(in alloc; "{made} {}", format.tuple)?;
+    for leaf in &held.leaves {
         let part = part_layer(alloc, format, leaf, &leaf.nested.holders)?;
-        format!(in alloc; "single_layer {tuple} {}", atom(alloc, part.as_str())?)?
-    } else {
-        let parts = parts_layer(alloc, format, &held.leaves)?;
-        format!(in alloc; "tuple_layer {tuple} {}", atom(alloc, parts.as_str())?)?
-    };
+        layer.push(' ')?;
+        layer.push_str(atom(alloc, part.as_str())?.as_str())?;
+    }
     Ok(Some(layer))
 }
 
-/// The layer of two parts or more: that of the first one, and of the rest.
-fn parts_layer(
+/// The name of the layer of the named fields of a variant.
+pub(crate) fn content_name(
     alloc: Global,
     format: &TextTerms,
-    leaves: &[Leaf<'_>],
+    snake: &str,
+    held: &Held<'_>,
 ) -> Result<String, AllocError> {
-    let tuple = format.tuple;
-    let (style, brackets) = tuple.split_once(' ').unwrap_or((tuple, ""));
-    let mut layer = String::new(alloc);
-    for (back, leaf) in leaves.iter().rev().enumerate() {
-        let part = part_layer(alloc, format, leaf, &leaf.nested.holders)?;
-        let part = atom(alloc, part.as_str())?;
-        layer = match back {
-            0 => part,
-            1 => format!(in alloc; "two_parts {tuple} {part} {layer}")?,
-            _ => format!(in alloc;
-                "both_layer (part_style {style}) {brackets}.divides {part} ({layer})"
-            )?,
-        };
+    let end = law_end(alloc, held)?;
+    format!(in alloc; "{snake}_{}content_{end}", format.coded.infix)
+}
+
+/// The layers of the named fields of the variants of an enum, each by its name.
+pub(crate) fn content_layers(
+    alloc: Global,
+    nested: &Nested<'_>,
+    format: &TextTerms,
+) -> Result<String, AllocError> {
+    let (name, snake) = (nested.names.of.as_str(), nested.names.snake.as_str());
+    let mut text = String::new(alloc);
+    for held in &nested.contents {
+        if !nested.is_enum || !held.has_fields {
+            continue;
+        }
+        let layer = content_name(alloc, format, snake, held)?;
+        let of = at(alloc, held.row.part.of.as_str(), name)?;
+        let row = row_layer(alloc, format, &held.leaves)?;
+        let defined = format!(in alloc;
+            "
+abbrev pub {layer} : Layer {}{name} {}
+{layer} =
+    struct_layer {} (λ f. {}) (λ f. refl)
+",
+            format.coded.of,
+            atom(alloc, of.as_str())?,
+            atom(alloc, row.as_str())?,
+            format.names
+        )?;
+        text.push_str(defined.as_str())?;
     }
-    Ok(layer)
+    Ok(text)
 }
 
 /// The layer of fields: that of one, or of half of them and of the other half.

@@ -5,3 +5,6 @@ mod FolderCodecsLaws
 mod TreeJsonCodecsLaws
 mod ChainJsonCodecsLaws
 mod FolderJsonCodecsLaws
+mod ExpressionJsonCodecsLaws
+mod FilterCodecsLaws
+mod FilterJsonCodecsLaws

@@ -1,11 +1,13 @@
 -- Written by derive_files: types that contain themselves, and their codecs.
 use Rattle.std.specs.Prelude.{◌≡◌, ℕ, ℤ, suc, max, refl, Box}
 use Rattle.std.specs.Global.{Global}
+use Rattle.std.specs.Int.{w64}
 use Rattle.std.proofs.Common.{◌∙◌, lit≤}
-use Rattle.nano_value.specs.Meaning.{Meaning, number, paired}
-use Rattle.nano_value.specs.Sums.{tagged}
+use Rattle.nano_value.specs.Meaning.{Meaning, number, paired, LegalSigned, LegalPair}
+use Rattle.nano_value.specs.Sums.{tagged, LegalVariant, variant, no_variants}
 use Rattle.nano_schema.specs.declared.choices.Either.{Either}
 use Rattle.nano_schema.specs.declared.choices.Either.TheVariants.{First, Later}
+use Rattle.nano_schema_levels.specs.LegalLevels.{LegalStep}
 use Rattle.nano_bin_bytes.specs.Codec.{Codec}
 use Rattle.nano_bin.specs.ScalarCodecs.{i64_codec}
 use Rattle.nano_bin_levels.specs.Layers.{Layer, Nested}
@@ -48,6 +50,12 @@ expression_depth_step (Expression-F.Sum v0 v1) = max (suc v0.value) (suc v1.valu
 
 abbrev pub expression_depth : Expression → ℕ
 expression_depth = fold-Expression ℕ expression_depth_step
+
+-- ---- which meanings are legal, given those that are of the values in it
+
+abbrev pub expression_step : LegalStep
+expression_step P =
+    LegalVariant (variant (LegalSigned w64) (variant P (variant (LegalPair P P) no_variants)))
 
 -- ---- as bytes: the layer around the values in it, and the codec
 

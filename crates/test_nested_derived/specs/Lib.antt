@@ -5,3 +5,6 @@ pub mod FolderCodecs
 pub mod TreeJsonCodecs
 pub mod ChainJsonCodecs
 pub mod FolderJsonCodecs
+pub mod ExpressionJsonCodecs
+pub mod FilterCodecs
+pub mod FilterJsonCodecs

@@ -42,7 +42,8 @@ pub(crate) fn check_nested<'a>(
         return Err(parameter.fault(GENERIC));
     }
     check_formats(definition.attributes)?;
-    if definition.attributes.json.is_used() {
+    let attributes = definition.attributes;
+    if attributes.json.is_used() || attributes.ron.is_used() {
         check_nested_json(definition)?;
     }
     match &definition.shape {

@@ -1,25 +1,27 @@
-//! Types that contain themselves, in JSON.
+//! Types that contain themselves, in JSON and RON.
 
 use crate::fault::Fault;
 use crate::syntax::{Content, Definition, Shape};
 
-const FIELDS: &str = "has named fields, which no variant has in JSON of an enum that contains \
-    itself: write one part, or `bin`";
+const PARTS: &str =
+    "has more than two parts, which no variant has in JSON and RON of an enum that contains \
+    itself: give them names";
 
-const PARTS: &str = "has several parts, which no variant has in JSON of an enum that contains \
-    itself: write one part, or `bin`";
+const NO_FIELDS: &str = "has braces with nothing between them, which no variant has in JSON and RON of \
+    an enum that contains itself: leave them out";
 
-/// An error where a type that contains itself has a shape that is not written in JSON.
+/// An error where a type that contains itself has a shape that is not written in JSON and RON.
 pub(crate) fn check_nested_json(definition: &Definition<'_>) -> Result<(), Fault> {
     let Shape::Variants(variants) = &definition.shape else {
         return Ok(());
     };
     for variant in variants {
         match &variant.content {
-            Content::Nothing => {}
-            Content::Parts(parts) if parts.len() == 1 => {}
-            Content::Parts(_parts) => return Err(variant.name.fault(PARTS)),
-            Content::Fields(_fields) => return Err(variant.name.fault(FIELDS)),
+            Content::Parts(parts) if parts.len() > 2 => return Err(variant.name.fault(PARTS)),
+            Content::Fields(fields) if fields.is_empty() => {
+                return Err(variant.name.fault(NO_FIELDS));
+            }
+            _ => {}
         }
     }
     Ok(())

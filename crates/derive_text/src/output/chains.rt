@@ -64,15 +64,8 @@ pub(crate) fn append_owned_chains<'a>(
     variants: &[Variant<'a>],
     (schemas, held): (&[Leaf], &[Leaf]),
 ) -> Result<(), AllocError> {
+    append_variants(sheet, target, variants, (target.row.as_str(), schemas))?;
     let named = named_by(sheet.alloc, &target.parameters, variants)?;
-    let row = Chain {
-        full: target.row.as_str(),
-        before: "",
-        open: "(",
-        close: ")",
-        items: Items::Types,
-    };
-    append_chain(sheet, row, &named, schemas)?;
     let either = either_of(sheet, variants.len())?;
     let values = Chain {
         full: target.values.as_str(),
@@ -82,6 +75,25 @@ pub(crate) fn append_owned_chains<'a>(
         items: Items::Patterns,
     };
     append_chain(sheet, values, &named, held)
+}
+
+/// Appends the types of the variants, the last variant's first, of which the first has this name.
+/// Each variant has a schema.
+pub(crate) fn append_variants<'a>(
+    sheet: &mut Sheet,
+    target: &Target<'a>,
+    variants: &[Variant<'a>],
+    (full, schemas): (&str, &[Leaf]),
+) -> Result<(), AllocError> {
+    let named = named_by(sheet.alloc, &target.parameters, variants)?;
+    let row = Chain {
+        full,
+        before: "",
+        open: "(",
+        close: ")",
+        items: Items::Types,
+    };
+    append_chain(sheet, row, &named, schemas)
 }
 
 /// For each variant the parameters that it and those after it name.

@@ -53,7 +53,7 @@ pub(crate) fn append_nested<'a>(
             let write = write_fields(sheet, name, fields)?;
             append_impls(sheet, &target, &RECORD, &row, (&known, &write))?;
             if target.attributes.json.is_used() {
-                let appended = json_fields(sheet, name, fields, &row.leaves)?;
+                let appended = json_fields(sheet, name, fields, (&row.leaves, "&value."))?;
                 append_json_record(sheet, &target, appended.as_str())?;
             }
             if target.attributes.ron.is_used() {
@@ -71,7 +71,7 @@ pub(crate) fn append_nested<'a>(
             };
             append_impls(sheet, &target, &CHOICE, &row, (&known, &write))?;
             if target.attributes.json.is_used() {
-                append_json_choice(sheet, &target, variants)?;
+                append_json_choice(sheet, &target, variants, &row)?;
             }
             if target.attributes.ron.is_used() {
                 append_ron_choice(sheet, &target, variants)?;

@@ -184,6 +184,16 @@ pub(crate) fn arm<'a>(
     end: &str,
 ) -> Result<String, AllocError> {
     let pattern = named_variant(alloc, variant, Items::Patterns, (12, 12))?;
+    arm_of(alloc, pattern.as_str(), lines, end)
+}
+
+/// The arm of a pattern with these steps, each but a step that stands alone with such an end.
+pub(crate) fn arm_of(
+    alloc: Global,
+    pattern: &str,
+    lines: &[String],
+    end: &str,
+) -> Result<String, AllocError> {
     if let [line] = lines {
         let flat = format!(in alloc; "            {pattern} => {line},")?;
         if width(flat.as_str()) <= COLUMNS {

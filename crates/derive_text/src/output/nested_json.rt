@@ -1,12 +1,14 @@
 //! Types that contain themselves, in JSON: what writes them variant by variant or field by field, and
 //! what reads them within levels.
 
-use crate::output::nested_bodies::{Held, arm, parts_of};
-use crate::output::nested_text::{JSON, text_holes};
+use crate::output::nested_json_contents::append_contents;
+use crate::output::nested_json_variants::{arms, json_variants};
+use crate::output::nested_rows::NestedRow;
+use crate::output::nested_text::{JSON, reading, text_holes};
 use crate::output::sheet::Sheet;
 use crate::output::target::Target;
-use derive_syntax::{Case, Token, Variant, variant_name};
-use std::alloc::AllocError;
+use derive_syntax::{Case, Variant};
+use std::alloc::{AllocError, Global};
 
 pub(crate) const CODEC: &str = "
 // ---- JSON
@@ -28,9 +30,9 @@ impl nano_json_nested::NestedJson for $TYPE {
     ghost at = { $AT };
 }";
 
-const CHOICE: &str = "
+pub(crate) const CHOICE: &str = "
 impl nano_json_nested::WritesJson for $TYPE {
-    #[tactic(auto, using($RULES_json_texts))]
+$AROUND    #[tactic(auto, using($RULES_json_texts))]
     fn write_json(&self, alloc: std::alloc::Global, d: usize, \
         s: &mut nano_json_schema::SerJsonState) -> Result<(), std::alloc::AllocError> {
         match self {
@@ -104,15 +106,26 @@ impl nano_json_schema::DeJson for $TYPE {
     }
 }";
 
-/// Appends the impls of JSON of an enum.
+/// Appends the impls of JSON of an enum, whose variants stand so in their row.
 pub(crate) fn append_json_choice<'a>(
     sheet: &mut Sheet,
     target: &Target<'a>,
     variants: &[Variant<'a>],
+    row: &NestedRow,
 ) -> Result<(), AllocError> {
-    let mut holes = text_holes(sheet, target, JSON, "choice")?;
-    holes.put("ARMS", arms(sheet, target.name, variants)?.as_str())?;
+    let alloc = sheet.alloc;
+    let mut holes = text_holes(sheet, target, JSON)?;
     sheet.write(CODEC, &holes)?;
+    let full = json_variants(sheet, target, variants, &row.leaves)?;
+    let call = reading(sheet, JSON, (full.as_str(), "choice"))?;
+    holes.put("CALL", call.as_str())?;
+    let around = if append_contents(sheet, target, variants, &row.contents)? {
+        format!(in alloc; "    #[cycle({})]\n", cycle_of(alloc, target)?)?
+    } else {
+        String::new(alloc)
+    };
+    holes.put("AROUND", around.as_str())?;
+    holes.put("ARMS", arms(sheet, target, variants)?.as_str())?;
     sheet.write(CHOICE, &holes)?;
     sheet.write(READER, &holes)
 }
@@ -123,63 +136,32 @@ pub(crate) fn append_json_record<'a>(
     target: &Target<'a>,
     fields: &str,
 ) -> Result<(), AllocError> {
-    sheet.import("ghost use Rattle.std.specs.Prelude.{OnOk};")?;
-    sheet.import("ghost use Rattle.std.specs.Prelude.{OnErr};")?;
-    sheet.import("ghost use Rattle.nano_text.specs.Outcomes.{Appends};")?;
-    sheet.import("ghost use Rattle.nano_text.specs.Outcomes.{AppendsPart};")?;
-    let name = Case::Snake.of_variant(sheet.alloc, target.name.text)?;
-    let wanted = format!(in sheet.alloc; "append_{name}_json")?;
-    let append = sheet.names.take(sheet.alloc, wanted.as_str())?;
-    let mut holes = text_holes(sheet, target, JSON, "record")?;
+    import_outcomes(sheet)?;
+    let alloc = sheet.alloc;
+    let name = Case::Snake.of_variant(alloc, target.name.text)?;
+    let wanted = format!(in alloc; "append_{name}_json")?;
+    let append = sheet.names.take(alloc, wanted.as_str())?;
+    let mut holes = text_holes(sheet, target, JSON)?;
+    let call = reading(sheet, JSON, (target.row.as_str(), "record"))?;
+    holes.put("CALL", call.as_str())?;
     holes.put("APPEND", append.as_str())?;
-    holes.put(
-        "CYCLE",
-        format!(in sheet.alloc; "write_{name}_json")?.as_str(),
-    )?;
+    holes.put("CYCLE", cycle_of(alloc, target)?.as_str())?;
     holes.put("FIELDS", fields)?;
     sheet.write(CODEC, &holes)?;
     sheet.write(RECORD, &holes)?;
     sheet.write(READER, &holes)
 }
 
-/// What writes each variant.
-fn arms<'a>(
-    sheet: &mut Sheet,
-    name: Token<'a>,
-    variants: &[Variant<'a>],
-) -> Result<String, AllocError> {
-    let mut text = String::new(sheet.alloc);
-    for variant in variants {
-        let parts = parts_of(sheet.alloc, &variant.content)?;
-        let called = variant_name(sheet.alloc, variant, None)?;
-        let mut lines = Vec::new(sheet.alloc);
-        lines.push(write_line(sheet, name, called.as_str(), &parts)?)?;
-        text.push_str(arm(sheet.alloc, variant, &lines, "")?.as_str())?;
-    }
-    Ok(text)
+/// Brings in what is said of calls that append.
+pub(crate) fn import_outcomes(sheet: &mut Sheet) -> Result<(), AllocError> {
+    sheet.import("ghost use Rattle.std.specs.Prelude.{OnOk};")?;
+    sheet.import("ghost use Rattle.std.specs.Prelude.{OnErr};")?;
+    sheet.import("ghost use Rattle.nano_text.specs.Outcomes.{Appends};")?;
+    sheet.import("ghost use Rattle.nano_text.specs.Outcomes.{AppendsPart};")
 }
 
-/// What writes a variant that is called so, with its part if it has one.
-fn write_line<'a>(
-    sheet: &mut Sheet,
-    name: Token<'a>,
-    called: &str,
-    parts: &[Held<'a>],
-) -> Result<String, AllocError> {
-    let alloc = sheet.alloc;
-    let Some(part) = parts.first() else {
-        let call = format!(in alloc;
-            "nano_json_schema::write_unit_variant(alloc, \"{called}\", s)"
-        )?;
-        return sheet.short(call.as_str());
-    };
-    let end = match part.of.parameter_of(&[name]) {
-        Some(_itself) => "within",
-        None => "other",
-    };
-    let call = format!(in alloc;
-        "nano_json_nested::write_variant_{end}(alloc, \"{called}\", {}, d, s)",
-        part.name
-    )?;
-    sheet.short(call.as_str())
+/// The name of the functions that write a type, as far as these call each other.
+pub(crate) fn cycle_of<'a>(alloc: Global, target: &Target<'a>) -> Result<String, AllocError> {
+    let name = Case::Snake.of_variant(alloc, target.name.text)?;
+    format!(in alloc; "write_{name}_json")
 }

@@ -1,4 +1,4 @@
-//! What writes the fields of a struct that contains itself, in JSON.
+//! What writes the fields of a struct that contains itself in JSON, or those of a variant.
 
 use crate::output::layout::{Brackets, Items, Piece, list};
 use crate::output::rows::Leaf;
@@ -7,41 +7,49 @@ use crate::output::types::optional_part;
 use derive_syntax::{Field, Token, field_name};
 use std::alloc::AllocError;
 
-/// The steps that append the fields of the struct of this name, which stand so in its row.
+/// The steps that append the fields of the type of this name, which stand so in their row, and whose
+/// values begin so: with what comes before a field's name, or before its number if that is `v`.
 pub(crate) fn json_fields<'a>(
     sheet: &mut Sheet,
     name: Token<'a>,
     fields: &[Field<'a>],
-    leaves: &[Leaf],
+    (leaves, before): (&[Leaf], &str),
 ) -> Result<String, AllocError> {
     let mut text = String::new(sheet.alloc);
     for (i, (field, leaf)) in fields.iter().zip(leaves).enumerate() {
-        let first = if i == 0 {
-            String::from_str(sheet.alloc, "true")?
-        } else {
-            format!(in sheet.alloc; "{}_is_first", field.name.text)?
-        };
         let bound = match fields.get(i.saturating_add(1)) {
             Some(next) => format!(in sheet.alloc; "let {}_is_first = ", next.name.text)?,
             None => String::new(sheet.alloc),
         };
-        let around = (bound.as_str(), first.as_str());
+        let value = if before == "v" {
+            format!(in sheet.alloc; "v{i}")?
+        } else {
+            format!(in sheet.alloc; "{before}{}", field.name.text)?
+        };
+        let first = first_of(sheet, field, i)?;
+        let around = (bound.as_str(), value.as_str(), first.as_str());
         let step = match field.of.parameter_of(&[name]) {
             Some(_itself) => within(sheet, field, around)?,
             None => other(sheet, field, leaf, around)?,
         };
-        text.push_str("    ")?;
-        text.push_str(step.as_str())?;
-        text.push('\n')?;
+        text.push_str(format!(in sheet.alloc; "    {step}\n")?.as_str())?;
     }
     Ok(text)
 }
 
-/// What appends a field that holds values of the struct.
+/// What says whether no field comes before the one at its place.
+fn first_of<'a>(sheet: &mut Sheet, field: &Field<'a>, i: usize) -> Result<String, AllocError> {
+    if i == 0 {
+        return String::from_str(sheet.alloc, "true");
+    }
+    format!(in sheet.alloc; "{}_is_first", field.name.text)
+}
+
+/// What appends a field that holds values of the type.
 fn within<'a>(
     sheet: &mut Sheet,
     field: &Field<'a>,
-    (bound, first): (&str, &str),
+    (bound, value, first): (&str, &str, &str),
 ) -> Result<String, AllocError> {
     let alloc = sheet.alloc;
     let kind = match optional_part(field.of) {
@@ -50,17 +58,16 @@ fn within<'a>(
     };
     let open = format!(in alloc; "{bound}nano_json_nested::append_{kind}_within(")?;
     let key = format!(in alloc; "\"{}\"", field_name(alloc, *field, None)?)?;
-    let value = format!(in alloc; "&value.{}", field.name.text)?;
-    let arguments = ["alloc", key.as_str(), value.as_str(), first, "inner", "s"];
+    let arguments = ["alloc", key.as_str(), value, first, "inner", "s"];
     call(sheet, open.as_str(), &arguments)
 }
 
-/// What appends a field that holds no values of the struct.
+/// What appends a field that holds no values of the type.
 fn other<'a>(
     sheet: &mut Sheet,
     field: &Field<'a>,
     leaf: &Leaf,
-    (bound, first): (&str, &str),
+    (bound, value, first): (&str, &str, &str),
 ) -> Result<String, AllocError> {
     let alloc = sheet.alloc;
     let _refs = sheet.short("nano_json_schema::JsonRefs")?;
@@ -74,12 +81,9 @@ fn other<'a>(
         parts.push_str(text.as_str())?;
     }
     let open = format!(in alloc; "{bound}nano_schema::{kind}::<{parts}>::append_fields(")?;
-    let value = format!(in alloc; "&&value.{}", field.name.text)?;
-    call(
-        sheet,
-        open.as_str(),
-        &[value.as_str(), "alloc", first, "inner", "s"],
-    )
+    let value = format!(in alloc; "&{value}")?;
+    let arguments = [value.as_str(), "alloc", first, "inner", "s"];
+    call(sheet, open.as_str(), &arguments)
 }
 
 /// A call that passes an error on.

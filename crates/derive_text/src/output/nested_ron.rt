@@ -1,26 +1,17 @@
 //! Types that contain themselves, in RON: what writes them variant by variant or field by field, and
 //! what reads them within levels.
 
-use crate::output::nested::specs_of;
-use crate::output::nested_bodies::{Held, arm, parts_of};
-use crate::output::nested_json::{CODEC, READER, RECORD};
+use crate::output::layout::Items;
+use crate::output::nested_bodies::{arm, arm_of, parts_of};
+use crate::output::nested_json::{CHOICE, CODEC, READER, RECORD, import_outcomes};
 use crate::output::nested_ron_parts::{append_writers, is_in_parts, writer_of};
 use crate::output::nested_ron_steps::field_steps;
-use crate::output::nested_text::{RON, in_ron, text_holes};
+use crate::output::nested_text::{RON, in_ron, reading, text_holes};
 use crate::output::sheet::Sheet;
 use crate::output::target::Target;
-use derive_syntax::{Case, Field, Variant, variant_name};
+use crate::output::variants::bracketed;
+use derive_syntax::{Case, Content, Field, Variant, variant_name};
 use std::alloc::{AllocError, Global};
-
-const CHOICE: &str = "
-impl nano_ron_nested::WritesRon for $TYPE {
-$CYCLED    #[tactic(auto, using($RULES_ron_texts))]
-    fn write_ron(&self, alloc: std::alloc::Global, d: usize, \
-        s: &mut nano_ron_schema::SerRonState) -> Result<(), std::alloc::AllocError> {
-        match self {
-$ARMS        }
-    }
-}";
 
 /// Appends the impls of RON of an enum.
 pub(crate) fn append_ron_choice<'a>(
@@ -29,13 +20,14 @@ pub(crate) fn append_ron_choice<'a>(
     variants: &[Variant<'a>],
 ) -> Result<(), AllocError> {
     let alloc = sheet.alloc;
-    let mut holes = text_holes(sheet, target, RON, "choice")?;
-    let texts = specs_of(alloc, target.module, RON.word)?;
+    let mut holes = text_holes(sheet, target, RON)?;
+    let call = reading(sheet, RON, (target.row.as_str(), "choice"))?;
+    holes.put("CALL", call.as_str())?;
     holes.put("ARMS", arms(sheet, target, variants)?.as_str())?;
-    holes.put("CYCLED", cycled(alloc, target, variants)?.as_str())?;
+    holes.put("AROUND", around(alloc, target, variants)?.as_str())?;
     sheet.write(in_ron(alloc, CODEC)?.as_str(), &holes)?;
-    append_writers(sheet, target, variants, texts.as_str())?;
-    sheet.write(CHOICE, &holes)?;
+    append_writers(sheet, target, variants)?;
+    sheet.write(in_ron(alloc, CHOICE)?.as_str(), &holes)?;
     sheet.write(in_ron(alloc, READER)?.as_str(), &holes)
 }
 
@@ -45,16 +37,15 @@ pub(crate) fn append_ron_record<'a>(
     target: &Target<'a>,
     fields: &[Field<'a>],
 ) -> Result<(), AllocError> {
-    sheet.import("ghost use Rattle.std.specs.Prelude.{OnOk};")?;
-    sheet.import("ghost use Rattle.std.specs.Prelude.{OnErr};")?;
-    sheet.import("ghost use Rattle.nano_text.specs.Outcomes.{Appends};")?;
-    sheet.import("ghost use Rattle.nano_text.specs.Outcomes.{AppendsPart};")?;
+    import_outcomes(sheet)?;
     let alloc = sheet.alloc;
     let name = Case::Snake.of_variant(alloc, target.name.text)?;
-    let mut holes = text_holes(sheet, target, RON, "record")?;
+    let mut holes = text_holes(sheet, target, RON)?;
+    let call = reading(sheet, RON, (target.row.as_str(), "record"))?;
+    holes.put("CALL", call.as_str())?;
     holes.put("APPEND", format!(in alloc; "append_{name}_ron")?.as_str())?;
     holes.put("CYCLE", format!(in alloc; "write_{name}_ron")?.as_str())?;
-    let steps = field_steps(sheet, target.name, fields, "&value.")?;
+    let steps = field_steps(sheet, target.name, fields, true)?;
     holes.put("FIELDS", steps.as_str())?;
     for template in [CODEC, RECORD, READER] {
         sheet.write(in_ron(alloc, template)?.as_str(), &holes)?;
@@ -63,7 +54,7 @@ pub(crate) fn append_ron_record<'a>(
 }
 
 /// The line that says with what an enum is written, if that leads back to it by other functions.
-fn cycled<'a>(
+fn around<'a>(
     alloc: Global,
     target: &Target<'a>,
     variants: &[Variant<'a>],
@@ -85,14 +76,64 @@ fn arms<'a>(
 ) -> Result<String, AllocError> {
     let mut text = String::new(sheet.alloc);
     for variant in variants {
-        let mut lines = Vec::new(sheet.alloc);
-        lines.push(write_line(sheet, target, variant)?)?;
-        text.push_str(arm(sheet.alloc, variant, &lines, "")?.as_str())?;
+        let arm = if is_in_parts(variant) {
+            own_arm(sheet, target, variant)?
+        } else {
+            let mut lines = Vec::new(sheet.alloc);
+            lines.push(write_line(sheet, target, variant)?)?;
+            arm(sheet.alloc, variant, &lines, "")?
+        };
+        text.push_str(arm.as_str())?;
     }
     Ok(text)
 }
 
-/// What writes a variant: a call of its own, or one for its part, or for its name alone.
+/// The arm of a variant that a function of its own writes.
+fn own_arm<'a>(
+    sheet: &mut Sheet,
+    target: &Target<'a>,
+    variant: &Variant<'a>,
+) -> Result<String, AllocError> {
+    let alloc = sheet.alloc;
+    let mut bound = Vec::new(alloc);
+    let mut call = format!(in alloc; "{}(", writer_of(alloc, target, variant)?)?;
+    for (i, name) in field_names(alloc, &variant.content)?.iter().enumerate() {
+        bound.push(format!(in alloc; "{name}v{i}")?)?;
+        call.push_str(format!(in alloc; "v{i}, ")?.as_str())?;
+    }
+    call.push_str("alloc, d, s)")?;
+    let (open, close, items) = match &variant.content {
+        Content::Fields(_fields) => (" {", "}", Items::Fields),
+        _ => ("(", ")", Items::Patterns),
+    };
+    let open = format!(in alloc; "Self::{}{open}", variant.name.text)?;
+    let brackets = (open.as_str(), close);
+    let pattern = bracketed(alloc, brackets, &bound, items, (12, 12))?.laid;
+    let mut lines = Vec::new(alloc);
+    lines.push(call)?;
+    arm_of(alloc, pattern.as_str(), &lines, "")
+}
+
+/// What stands before the value of each part in a pattern: the name of a field and a colon.
+fn field_names(alloc: Global, content: &Content<'_>) -> Result<Vec<String>, AllocError> {
+    let mut names = Vec::new(alloc);
+    match content {
+        Content::Nothing => {}
+        Content::Parts(parts) => {
+            for _part in parts {
+                names.push(String::new(alloc))?;
+            }
+        }
+        Content::Fields(fields) => {
+            for field in fields {
+                names.push(format!(in alloc; "{}: ", field.name.text)?)?;
+            }
+        }
+    }
+    Ok(names)
+}
+
+/// What writes a variant that has one part, or none.
 fn write_line<'a>(
     sheet: &mut Sheet,
     target: &Target<'a>,
@@ -100,10 +141,6 @@ fn write_line<'a>(
 ) -> Result<String, AllocError> {
     let alloc = sheet.alloc;
     let parts = parts_of(alloc, &variant.content)?;
-    if is_in_parts(variant) {
-        let writer = writer_of(sheet, target, variant)?;
-        return format!(in alloc; "{writer}({}, alloc, d, s)", names_of(alloc, &parts)?);
-    }
     let called = variant_name(alloc, variant, None)?;
     let Some(part) = parts.first() else {
         let call = format!(in alloc; "nano_ron_schema::write_unit_variant(\"{called}\", s)")?;
@@ -118,14 +155,4 @@ fn write_line<'a>(
         part.name
     )?;
     sheet.short(call.as_str())
-}
-
-/// The names of parts, with commas between them.
-fn names_of(alloc: Global, parts: &[Held<'_>]) -> Result<String, AllocError> {
-    let mut names = String::new(alloc);
-    for part in parts {
-        names.push_str(if names.is_empty() { "" } else { ", " })?;
-        names.push_str(part.name.as_str())?;
-    }
-    Ok(names)
 }

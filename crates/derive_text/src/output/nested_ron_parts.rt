@@ -1,14 +1,17 @@
 //! Variants of enums that contain themselves which RON writes by several calls: those of several
 //! parts, and those with named fields.
 
+use crate::output::nested::specs_of;
 use crate::output::nested_bodies::parts_of;
+use crate::output::nested_json::import_outcomes;
 use crate::output::nested_ron_steps::{field_steps, part_steps};
+use crate::output::nested_text::RON;
 use crate::output::sheet::Sheet;
 use crate::output::target::Target;
 use crate::output::template::Holes;
 use crate::output::types::type_text;
 use derive_syntax::{Case, Content, Variant, variant_name};
-use std::alloc::AllocError;
+use std::alloc::{AllocError, Global};
 
 const WRITER: &str = "
 ghost use Rattle.$TEXTS.{$OWN};
@@ -36,7 +39,7 @@ $ARGUMENTS    alloc: std::alloc::Global,
     ensures err { OnErr result (Unchanged s.old.out s.new.out) }
 {
     let start = s.out.len();
-    let written = $APPEND($GIVEN, alloc, d, s);
+    let written = $APPEND($GIVENalloc, d, s);
     nano_ron_nested::rollback_on_error(&mut s.out, start, written)
 }";
 
@@ -51,14 +54,22 @@ pub(crate) fn is_in_parts(variant: &Variant<'_>) -> bool {
 
 /// The name of what writes such a variant.
 pub(crate) fn writer_of<'a>(
-    sheet: &mut Sheet,
+    alloc: Global,
     target: &Target<'a>,
     variant: &Variant<'a>,
 ) -> Result<String, AllocError> {
-    let alloc = sheet.alloc;
-    let name = Case::Snake.of_variant(alloc, target.name.text)?;
+    format!(in alloc; "write_{}_ron", name_of(alloc, target, variant)?)
+}
+
+/// The names of a type and of a variant, as those of functions have them.
+fn name_of<'a>(
+    alloc: Global,
+    target: &Target<'a>,
+    variant: &Variant<'a>,
+) -> Result<String, AllocError> {
+    let of = Case::Snake.of_variant(alloc, target.name.text)?;
     let end = Case::Snake.of_variant(alloc, variant.name.text)?;
-    format!(in alloc; "write_{name}_{end}_ron")
+    format!(in alloc; "{of}_{end}")
 }
 
 /// Appends what writes such variants.
@@ -66,11 +77,10 @@ pub(crate) fn append_writers<'a>(
     sheet: &mut Sheet,
     target: &Target<'a>,
     variants: &[Variant<'a>],
-    texts: &str,
 ) -> Result<(), AllocError> {
     for variant in variants {
         if is_in_parts(variant) {
-            append_writer(sheet, target, variant, texts)?;
+            append_writer(sheet, target, variant)?;
         }
     }
     Ok(())
@@ -81,25 +91,22 @@ fn append_writer<'a>(
     sheet: &mut Sheet,
     target: &Target<'a>,
     variant: &Variant<'a>,
-    texts: &str,
 ) -> Result<(), AllocError> {
-    sheet.import("ghost use Rattle.std.specs.Prelude.{OnOk};")?;
-    sheet.import("ghost use Rattle.std.specs.Prelude.{OnErr};")?;
-    sheet.import("ghost use Rattle.nano_text.specs.Outcomes.{Appends};")?;
-    sheet.import("ghost use Rattle.nano_text.specs.Outcomes.{AppendsPart};")?;
+    import_outcomes(sheet)?;
     sheet.import("ghost use Rattle.nano_text.specs.Outcomes.{Unchanged};")?;
     let alloc = sheet.alloc;
     let name = Case::Snake.of_variant(alloc, target.name.text)?;
     let end = Case::Snake.of_variant(alloc, variant.name.text)?;
     let mut holes = Holes::new(alloc);
-    put_arguments(sheet, &mut holes, variant)?;
+    put_arguments(&mut holes, alloc, variant)?;
     let steps = steps_of(sheet, target, variant)?;
-    let put = writer_of(sheet, target, variant)?;
-    holes.put("TEXTS", texts)?;
-    holes.put("OWN", format!(in alloc; "{name}_ron_{end}")?.as_str())?;
+    let (of, put) = (name_of(alloc, target, variant)?, writer_of(alloc, target, variant)?);
+    let texts = specs_of(alloc, target.module, RON.word)?;
+    holes.put("TEXTS", texts.as_str())?;
+    holes.put("OWN", format!(in alloc; "{name}_ron_of_{end}")?.as_str())?;
     holes.put("CASE", variant.name.text)?;
     holes.put("CYCLE", format!(in alloc; "write_{name}_ron")?.as_str())?;
-    holes.put("APPEND", format!(in alloc; "append_{name}_{end}_ron")?.as_str())?;
+    holes.put("APPEND", format!(in alloc; "append_{of}_ron")?.as_str())?;
     holes.put("PUT", put.as_str())?;
     holes.put("STEPS", steps.as_str())?;
     sheet.write(WRITER, &holes)
@@ -107,20 +114,18 @@ fn append_writer<'a>(
 
 /// Adds the parts of a variant as arguments, as what is passed, and as a clause says them.
 fn put_arguments<'a>(
-    sheet: &mut Sheet,
     holes: &mut Holes,
+    alloc: Global,
     variant: &Variant<'a>,
 ) -> Result<(), AllocError> {
-    let alloc = sheet.alloc;
     let mut arguments = String::new(alloc);
     let mut given = String::new(alloc);
     let mut said = String::new(alloc);
-    for part in parts_of(alloc, &variant.content)? {
-        let (name, of) = (part.name.as_str(), type_text(alloc, part.of)?);
-        arguments.push_str(format!(in alloc; "    {name}: &{of},\n")?.as_str())?;
-        given.push_str(if given.is_empty() { "" } else { ", " })?;
-        given.push_str(name)?;
-        said.push_str(format!(in alloc; " {name}.now")?.as_str())?;
+    for (i, part) in parts_of(alloc, &variant.content)?.iter().enumerate() {
+        let of = type_text(alloc, part.of)?;
+        arguments.push_str(format!(in alloc; "    v{i}: &{of},\n")?.as_str())?;
+        given.push_str(format!(in alloc; "v{i}, ")?.as_str())?;
+        said.push_str(format!(in alloc; " v{i}.now")?.as_str())?;
     }
     holes.put("ARGUMENTS", arguments.as_str())?;
     holes.put("GIVEN", given.as_str())?;
@@ -138,7 +143,7 @@ fn steps_of<'a>(
     if let Content::Fields(fields) = &variant.content {
         let call = format!(in alloc; "nano_ron_schema::write_unit_variant(\"{called}\", s)")?;
         let call = sheet.short(call.as_str())?;
-        let steps = field_steps(sheet, target.name, fields, "")?;
+        let steps = field_steps(sheet, target.name, fields, false)?;
         return format!(in alloc;
             "    {call}?;
     s.st_pre()?;

@@ -7,17 +7,17 @@ use crate::output::types::optional_part;
 use derive_syntax::{Field, Token, field_name};
 use std::alloc::AllocError;
 
-/// The steps that append the fields of the type of this name, each of which is said with such a
-/// beginning.
+/// The steps that append the fields of a value of the type of this name, or the arguments that are
+/// its fields.
 pub(crate) fn field_steps<'a>(
     sheet: &mut Sheet,
     name: Token<'a>,
     fields: &[Field<'a>],
-    before: &str,
+    of_value: bool,
 ) -> Result<String, AllocError> {
     let alloc = sheet.alloc;
     let mut text = String::new(alloc);
-    for field in fields {
+    for (i, field) in fields.iter().enumerate() {
         let kind = match optional_part(field.of) {
             Some(_part) => "optional",
             None => "required",
@@ -28,7 +28,11 @@ pub(crate) fn field_steps<'a>(
         };
         let open = format!(in alloc; "nano_ron_nested::append_{kind}{end}(")?;
         let key = format!(in alloc; "\"{}\"", field_name(alloc, *field, None)?)?;
-        let value = format!(in alloc; "{before}{}", field.name.text)?;
+        let value = if of_value {
+            format!(in alloc; "&value.{}", field.name.text)?
+        } else {
+            format!(in alloc; "v{i}")?
+        };
         let arguments = ["alloc", key.as_str(), value.as_str(), "inner", "s"];
         text.push_str(step(sheet, open.as_str(), &arguments, ")?;")?.as_str())?;
     }
@@ -52,7 +56,8 @@ pub(crate) fn part_steps<'a>(
             None => "",
         };
         let open = format!(in alloc; "nano_ron_nested::append_{kind}{end}(")?;
-        let arguments = ["alloc", part.name.as_str(), "d", "s"];
+        let value = format!(in alloc; "v{i}")?;
+        let arguments = ["alloc", value.as_str(), "d", "s"];
         text.push_str(step(sheet, open.as_str(), &arguments, close)?.as_str())?;
     }
     Ok(text)

@@ -23,8 +23,10 @@ pub(crate) struct NestedRow {
     pub(crate) values: String,
     /// The body of what makes it of those.
     pub(crate) making: String,
-    /// The fields of a struct as they stand in its row.
+    /// The fields of a struct, or the variants, as they stand in its row.
     pub(crate) leaves: Vec<Leaf>,
+    /// What each variant holds, as it stands in the row of its content.
+    pub(crate) contents: Vec<Vec<Leaf>>,
 }
 
 /// Appends the row of a struct.
@@ -39,6 +41,7 @@ pub(crate) fn append_record_row<'a>(
         values: laid(sheet.alloc, fields, "$TYPE", Items::Types, (4, 18))?,
         making: record_making(sheet.alloc, target, fields)?,
         leaves,
+        contents: Vec::new(sheet.alloc),
     })
 }
 
@@ -126,16 +129,46 @@ pub(crate) fn append_choice_row<'a>(
     }
     let labels = append_labels(sheet, target.name.text, &names)?;
     let mut schemas = Vec::new(sheet.alloc);
+    let mut contents = Vec::new(sheet.alloc);
     for (variant, label) in variants.iter().zip(labels) {
-        schemas.push(variant_leaf(sheet, target, variant, label)?)?;
+        let leaves = content_leaves(sheet, target, variant)?;
+        schemas.push(variant_leaf(sheet, target, variant, (label, &leaves))?)?;
+        contents.push(leaves)?;
     }
     let held = held_values(sheet.alloc, variants)?;
     append_owned_chains(sheet, target, variants, (&schemas, &held))?;
     Ok(NestedRow {
         values: target.values.clone()?,
         making: variants_making(sheet, variants)?,
-        leaves: Vec::new(sheet.alloc),
+        leaves: schemas,
+        contents,
     })
+}
+
+/// What a variant holds, as it stands in the row of its content.
+fn content_leaves<'a>(
+    sheet: &mut Sheet,
+    target: &Target<'a>,
+    variant: &Variant<'a>,
+) -> Result<Vec<Leaf>, AllocError> {
+    match &variant.content {
+        Content::Nothing => Ok(Vec::new(sheet.alloc)),
+        Content::Parts(parts) => part_leaves(sheet, target.name, parts),
+        Content::Fields(fields) => {
+            let owner = owner_of(sheet.alloc, target, variant)?;
+            field_leaves(sheet, target, owner.as_str(), fields)
+        }
+    }
+}
+
+/// What the names of a variant's own types begin with.
+fn owner_of<'a>(
+    alloc: Global,
+    target: &Target<'a>,
+    variant: &Variant<'a>,
+) -> Result<String, AllocError> {
+    let name = in_type_name(alloc, variant.name.text)?;
+    format!(in alloc; "{}{name}", target.name.text)
 }
 
 /// A variant of this label as it stands in the row of an enum, after the row of its content.
@@ -143,9 +176,9 @@ fn variant_leaf<'a>(
     sheet: &mut Sheet,
     target: &Target<'a>,
     variant: &Variant<'a>,
-    label: String,
+    (label, leaves): (String, &[Leaf]),
 ) -> Result<Leaf, AllocError> {
-    let content = variant_content(sheet, target, variant)?;
+    let content = variant_content(sheet, target, variant, leaves)?;
     let mut texts = Vec::new(sheet.alloc);
     texts.push(label)?;
     texts.push(content)?;
@@ -157,25 +190,25 @@ fn variant_leaf<'a>(
     })
 }
 
-/// What a variant holds, as it stands in the row of an enum, after the row of it.
+/// What a variant holds, as it stands in the row of an enum, after the row of these leaves of it.
 fn variant_content<'a>(
     sheet: &mut Sheet,
     target: &Target<'a>,
     variant: &Variant<'a>,
+    leaves: &[Leaf],
 ) -> Result<String, AllocError> {
     let alloc = sheet.alloc;
-    let name = in_type_name(alloc, variant.name.text)?;
-    let owner = format!(in alloc; "{}{name}", target.name.text)?;
-    let (leaves, is_struct) = match &variant.content {
+    let is_struct = match &variant.content {
         Content::Nothing => return sheet.short("nano_levels::Other<nano_schema::Unit>"),
-        Content::Parts(parts) => (part_leaves(sheet, target.name, parts)?, false),
-        Content::Fields(fields) => (field_leaves(sheet, target, owner.as_str(), fields)?, true),
+        Content::Parts(_parts) => false,
+        Content::Fields(_fields) => true,
     };
-    if let ([leaf], false) = (leaves.as_slice(), is_struct) {
+    if let ([leaf], false) = (leaves, is_struct) {
         return Ok(leaf.piece(alloc, 0, 0)?.flat);
     }
+    let owner = owner_of(alloc, target, variant)?;
     let row = name_of(sheet, owner.as_str(), "Parts")?;
-    append_row(sheet, row.as_str(), &leaves)?;
+    append_row(sheet, row.as_str(), leaves)?;
     if !is_struct {
         return Ok(row);
     }

@@ -73,13 +73,11 @@ fn is_first(attributes: Attributes<'_>, format: TextNames) -> bool {
     }
 }
 
-/// What stands in the templates of a format of texts. Given is what reads what a value is seen as,
-/// of the structs or of the enums.
+/// What stands in the templates of a format of texts.
 pub(crate) fn text_holes<'a>(
     sheet: &mut Sheet,
     target: &Target<'a>,
     format: TextNames,
-    of: &str,
 ) -> Result<Holes, AllocError> {
     let alloc = sheet.alloc;
     let TextNames { name: end, word } = format;
@@ -94,21 +92,24 @@ pub(crate) fn text_holes<'a>(
         let cited = format!(in alloc; "{codec}, {agrees}")?;
         (agrees, cited)
     };
-    let read = format!(in alloc; "nano_{end}_nested::read_{of}_{end}_within")?;
     holes.put("RULES", laws_of(alloc, target, word)?.as_str())?;
     holes.put("TEXTS", specs_of(alloc, target.module, word)?.as_str())?;
     holes.put("CITED", cited.as_str())?;
     holes.put("OWN", codec.as_str())?;
     holes.put("AGREES", agrees.as_str())?;
     holes.put("AT", format!(in alloc; "{name}_{end}_at")?.as_str())?;
-    holes.put("CALL", reading(sheet, target, read.as_str())?.as_str())?;
     Ok(holes)
 }
 
-/// The call that reads what a value is seen as, one level below.
-fn reading<'a>(sheet: &mut Sheet, target: &Target<'a>, read: &str) -> Result<String, AllocError> {
-    let alloc = sheet.alloc;
-    let open = format!(in alloc; "{read}::<nano_levels::Levels, {}>(", target.row)?;
+/// The call that reads what a value is seen as by this row, of structs or of enums, one level below.
+pub(crate) fn reading(
+    sheet: &mut Sheet,
+    format: TextNames,
+    (row, of): (&str, &str),
+) -> Result<String, AllocError> {
+    let (alloc, end) = (sheet.alloc, format.name);
+    let read = format!(in alloc; "nano_{end}_nested::read_{of}_{end}_within")?;
+    let open = format!(in alloc; "{read}::<nano_levels::Levels, {row}>(")?;
     let open = sheet.short(open.as_str())?;
     let mut arguments = Vec::new(alloc);
     for argument in ["below", "left - 1", "alloc", "state", "input"] {

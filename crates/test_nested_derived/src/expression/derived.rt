@@ -9,9 +9,15 @@ use nano_bin_nested::{
     read_choice_within,
 };
 use nano_bin_schema::{BinCodec, DeBin, DeBinErr, SerBin};
+use nano_json_nested::{
+    NestedJson, ReadsJson, WritesJson, no_levels, read_choice_json_within, too_deep,
+    write_pair_within, write_variant_other, write_variant_within,
+};
+use nano_json_schema::{DeJson, DeJsonErr, DeJsonState, JsonCodec, SerJson, SerJsonState};
 use nano_levels::{Levels, Other, Within};
-use nano_schema::{Either, EnumSchema, Label, Newtype, Value, Variant};
+use nano_schema::{Either, EnumSchema, Label, Newtype, Tuple, Value, Variant};
 use std::alloc::{AllocError, Global};
+use std::str::Chars;
 
 struct ExpressionNames<const I: usize> {}
 
@@ -154,5 +160,95 @@ impl DeBin for Expression {
     fn de_bin(alloc: Global, offset: &mut usize, bytes: &[u8]) -> Result<Self, DeBinErr> {
         let levels = Levels::most();
         ReadsBin::<Self>::read_bin(levels, alloc, offset, bytes)
+    }
+}
+
+// ---- JSON
+
+impl JsonCodec for Expression {
+    ghost use Rattle.test_nested_derived.specs.ExpressionJsonCodecs.{expression_json, expression_json_agrees};
+
+    ghost json = { expression_json };
+
+    ghost agrees = { expression_json_agrees };
+}
+
+impl NestedJson for Expression {
+    ghost use Rattle.test_nested_derived.specs.ExpressionCodecs.{expression_means};
+    ghost use Rattle.test_nested_derived.specs.ExpressionJsonCodecs.{expression_json_at};
+
+    ghost means = { expression_means };
+
+    ghost at = { expression_json_at };
+}
+
+type ExpressionJsonVariants3 = Variant<ExpressionNames<2>, Tuple<ExpressionSumParts>>;
+
+type ExpressionJsonVariants2 = (
+    Variant<ExpressionNames<1>, Within<Newtype<Box<Expression>>>>,
+    ExpressionJsonVariants3,
+);
+
+type ExpressionJsonVariants = (
+    Variant<ExpressionNames<0>, Other<Newtype<i64>>>,
+    ExpressionJsonVariants2,
+);
+
+impl WritesJson for Expression {
+    #[tactic(auto, using(crate::proofs::ExpressionJsonCodecsLaws::expression_json_texts))]
+    fn write_json(&self, alloc: Global, d: usize, s: &mut SerJsonState) -> Result<(), AllocError> {
+        match self {
+            Self::Number(first) => write_variant_other(alloc, "Number", first, d, s),
+            Self::Negated(first) => write_variant_within(alloc, "Negated", first, d, s),
+            Self::Sum(first, second) => write_pair_within(alloc, "Sum", first, second, d, s),
+        }
+    }
+}
+
+impl SerJson for Expression {
+    fn ser_json(&self, alloc: Global, d: usize, s: &mut SerJsonState) -> Result<(), AllocError> {
+        WritesJson::write_json(self, alloc, d, s)
+    }
+}
+
+impl ReadsJson<Expression> for Levels {
+    #[cycle(read)]
+    fn read_json(
+        &self,
+        left: usize,
+        alloc: Global,
+        state: &mut DeJsonState,
+        input: &mut Chars<'_>,
+    ) -> Result<Expression, DeJsonErr> {
+        if left == 0 {
+            return Err(too_deep(alloc, state));
+        }
+        let Levels::More(below) = self else {
+            return Err(no_levels(alloc, state));
+        };
+        let Some(below) = below.first() else {
+            return Err(no_levels(alloc, state));
+        };
+        match read_choice_json_within::<Levels, ExpressionJsonVariants>(
+            below,
+            left - 1,
+            alloc,
+            state,
+            input,
+        ) {
+            Ok(values) => Ok(Expression::make(values)),
+            Err(error) => Err(error),
+        }
+    }
+}
+
+impl DeJson for Expression {
+    fn de_json(
+        alloc: Global,
+        state: &mut DeJsonState,
+        input: &mut Chars<'_>,
+    ) -> Result<Self, DeJsonErr> {
+        let levels = Levels::most();
+        ReadsJson::<Self>::read_json(levels, 128, alloc, state, input)
     }
 }

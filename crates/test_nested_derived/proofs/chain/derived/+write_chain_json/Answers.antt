@@ -5,8 +5,8 @@ use Rattle.nano_grammar.specs.FieldCodec.{field_text}
 use Rattle.nano_text.proofs.RollbackLaws.{unchanged_by}
 use Rattle.nano_json_schema.specs.FieldCodecs.{json_fields}
 use Rattle.nano_json_schema.proofs.WrittenFields.{more_fields}
-use Rattle.nano_json_nested.proofs.WrittenLaws.{written_between, none_so_far}
-use Rattle.test_nested_derived.proofs.ChainJsonCodecsLaws.{chain_json_field_number, chain_json_field_next, chain_json_text}
+use Rattle.nano_json_nested.proofs.WrittenLaws.{written_between}
+use Rattle.test_nested_derived.proofs.ChainJsonCodecsLaws.{chain_json_text, chain_json_field_number, chain_json_field_next}
 use Rattle.test_nested_derived.proofs.chain.derived.+write_chain_json.Goals as goal
 
 pub ChainWritesJson::write_json-rollback_on_error-requires :
@@ -23,7 +23,9 @@ append_chain_json-returns-clause-ok t c =
     let before = string_bytes c.args.s.now.out in
     let opened = string_bytes c.st_pre.new.self.out in
     let row =
-    more_fields (field_text json_fields inner) true c.in_ok-next_is_first.next_is_first (chain_json_field_number x) (chain_json_field_next x) opened (string_bytes c.append_fields.new.s.out) (string_bytes c.append_optional_within.new.s.out) (c.in_ok-next_is_first.ensures.ok) (c.in_ok-next_is_first.ensures.next) (c.in_ok-append_optional_within.ensures.ok) in
+    more_fields (field_text json_fields inner) true c.in_ok-next_is_first.next_is_first (chain_json_field_number x) (chain_json_field_next x)
+    opened (string_bytes c.append_fields.new.s.out) (string_bytes c.append_optional_within.new.s.out)
+    (c.in_ok-next_is_first.ensures.ok) (c.in_ok-next_is_first.ensures.next) (c.in_ok-append_optional_within.ensures.ok) in
     rw (chain_json_text c.args.d x)
     (on_ok_weaker c.st_post.result
     (written_between c.args.d inner ((chain_json_field_number x) ++ (chain_json_field_next x)) before opened

@@ -5,8 +5,8 @@ use Rattle.nano_grammar.specs.FieldCodec.{field_text}
 use Rattle.nano_text.proofs.RollbackLaws.{unchanged_by}
 use Rattle.nano_json_schema.specs.FieldCodecs.{json_fields}
 use Rattle.nano_json_schema.proofs.WrittenFields.{more_fields}
-use Rattle.nano_json_nested.proofs.WrittenLaws.{written_between, none_so_far}
-use Rattle.test_nested_derived.proofs.FolderJsonCodecsLaws.{folder_json_field_name, folder_json_field_folders, folder_json_text}
+use Rattle.nano_json_nested.proofs.WrittenLaws.{written_between}
+use Rattle.test_nested_derived.proofs.FolderJsonCodecsLaws.{folder_json_text, folder_json_field_name, folder_json_field_folders}
 use Rattle.test_nested_derived.proofs.folder.derived.+write_folder_json.Goals as goal
 
 pub FolderWritesJson::write_json-rollback_on_error-requires :
@@ -23,7 +23,9 @@ append_folder_json-returns-clause-ok t c =
     let before = string_bytes c.args.s.now.out in
     let opened = string_bytes c.st_pre.new.self.out in
     let row =
-    more_fields (field_text json_fields inner) true c.in_ok-folders_is_first.folders_is_first (folder_json_field_name x) (folder_json_field_folders x) opened (string_bytes c.append_fields.new.s.out) (string_bytes c.append_required_within.new.s.out) (c.in_ok-folders_is_first.ensures.ok) (c.in_ok-folders_is_first.ensures.next) (c.in_ok-append_required_within.ensures.ok) in
+    more_fields (field_text json_fields inner) true c.in_ok-folders_is_first.folders_is_first (folder_json_field_name x) (folder_json_field_folders x)
+    opened (string_bytes c.append_fields.new.s.out) (string_bytes c.append_required_within.new.s.out)
+    (c.in_ok-folders_is_first.ensures.ok) (c.in_ok-folders_is_first.ensures.next) (c.in_ok-append_required_within.ensures.ok) in
     rw (folder_json_text c.args.d x)
     (on_ok_weaker c.st_post.result
     (written_between c.args.d inner ((folder_json_field_name x) ++ (folder_json_field_folders x)) before opened

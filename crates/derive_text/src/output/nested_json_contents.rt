@@ -1,0 +1,153 @@
+//! The variants with named fields of enums that contain themselves, in JSON: what writes each.
+
+use crate::output::layout::Items;
+use crate::output::nested::specs_of;
+use crate::output::nested_json::{cycle_of, import_outcomes};
+use crate::output::nested_json_fields::json_fields;
+use crate::output::rows::{Leaf, paired};
+use crate::output::sheet::Sheet;
+use crate::output::target::Target;
+use crate::output::template::Holes;
+use crate::output::types::type_text;
+use derive_syntax::{Case, Content, Field, Variant, variant_name};
+use std::alloc::{AllocError, Global};
+
+const CONTENT: &str = "
+ghost use Rattle.$TEXTS.{$JSON, $CONTENT};
+
+/// Appends the fields of `$NAME` between braces. If the write fails, what was written so far is left.
+#[cycle($CYCLE)]
+fn append_$OF_fields(
+$PARAMETERS    alloc: std::alloc::Global,
+    d: usize,
+    s: &mut nano_json_schema::SerJsonState,
+) -> Result<(), std::alloc::AllocError>
+    ensures ok { OnOk result (Appends s.old.out s.new.out
+        (($CONTENT.codec $JSON).canonical.text d $VALUE)) }
+    ensures err { OnErr result (AppendsPart s.old.out s.new.out) }
+{
+    s.st_pre()?;
+    let inner = d.saturating_add(1);
+$FIELDS    s.st_post(d)
+}
+
+/// Appends `$NAME` with its fields. If the write fails, what was written so far is left.
+#[cycle($CYCLE)]
+fn append_$OF(
+$PARAMETERS    alloc: std::alloc::Global,
+    d: usize,
+    s: &mut nano_json_schema::SerJsonState,
+) -> Result<(), std::alloc::AllocError>
+    ensures ok { OnOk result (Appends s.old.out s.new.out
+        (content_text (codes \"$KEY\") (($CONTENT.codec $JSON).canonical.text d $VALUE))) }
+    ensures err { OnErr result (AppendsPart s.old.out s.new.out) }
+{
+    s.st_pre()?;
+    nano_json_schema::SerJson::ser_json(\"$KEY\", alloc, 0, s)?;
+    s.out.push_str(\":\")?;
+    append_$OF_fields($ARGUMENTSalloc, d, s)?;
+    s.st_post(d)
+}
+
+/// Appends `$NAME` with its fields. If the write fails, `s.out` is unchanged.
+#[cycle($CYCLE)]
+fn $WRITER(
+$PARAMETERS    alloc: std::alloc::Global,
+    d: usize,
+    s: &mut nano_json_schema::SerJsonState,
+) -> Result<(), std::alloc::AllocError>
+    ensures ok { OnOk result (Appends s.old.out s.new.out
+        (content_text (codes \"$KEY\") (($CONTENT.codec $JSON).canonical.text d $VALUE))) }
+    ensures err { OnErr result (Unchanged s.old.out s.new.out) }
+{
+    let start = s.out.len();
+    let written = append_$OF($ARGUMENTSalloc, d, s);
+    nano_json_nested::rollback_on_error(&mut s.out, start, written)
+}";
+
+/// Appends what writes each variant that has named fields, and says whether there is one. Given is
+/// how what each variant holds stands in its row.
+pub(crate) fn append_contents<'a>(
+    sheet: &mut Sheet,
+    target: &Target<'a>,
+    variants: &[Variant<'a>],
+    contents: &[Vec<Leaf>],
+) -> Result<bool, AllocError> {
+    let mut is_there = false;
+    for (variant, leaves) in variants.iter().zip(contents) {
+        if let Content::Fields(fields) = &variant.content {
+            append_content(sheet, target, variant, (fields, leaves))?;
+            is_there = true;
+        }
+    }
+    Ok(is_there)
+}
+
+/// The name of what writes a variant that has named fields.
+pub(crate) fn writer_of<'a>(
+    alloc: Global,
+    target: &Target<'a>,
+    variant: &Variant<'a>,
+) -> Result<String, AllocError> {
+    format!(in alloc; "write_{}", name_of(alloc, target, variant)?)
+}
+
+/// The names of a type and of a variant, as those of functions have them.
+fn name_of<'a>(
+    alloc: Global,
+    target: &Target<'a>,
+    variant: &Variant<'a>,
+) -> Result<String, AllocError> {
+    let of = Case::Snake.of_variant(alloc, target.name.text)?;
+    let end = Case::Snake.of_variant(alloc, variant.name.text)?;
+    format!(in alloc; "{of}_{end}")
+}
+
+/// Appends what writes a variant that has these fields, which stand so in their row.
+fn append_content<'a>(
+    sheet: &mut Sheet,
+    target: &Target<'a>,
+    variant: &Variant<'a>,
+    (fields, leaves): (&[Field<'a>], &[Leaf]),
+) -> Result<(), AllocError> {
+    let alloc = sheet.alloc;
+    import_outcomes(sheet)?;
+    sheet.import("ghost use Rattle.nano_text.specs.Outcomes.{Unchanged};")?;
+    sheet.import("ghost use Rattle.nano_json_schema.specs.Variants.{content_text};")?;
+    let mut holes = value_holes(alloc, fields)?;
+    let of = Case::Snake.of_variant(alloc, target.name.text)?;
+    let end = Case::Snake.of_variant(alloc, variant.name.text)?;
+    let content = format!(in alloc; "{of}_json_content_{end}")?;
+    let lines = json_fields(sheet, target.name, fields, (leaves, "v"))?;
+    holes.put("TEXTS", specs_of(alloc, target.module, "Json")?.as_str())?;
+    holes.put("FIELDS", lines.as_str())?;
+    holes.put("JSON", format!(in alloc; "{of}_json")?.as_str())?;
+    holes.put("CONTENT", content.as_str())?;
+    holes.put("NAME", variant.name.text)?;
+    holes.put("KEY", variant_name(alloc, variant, None)?.as_str())?;
+    holes.put("OF", name_of(alloc, target, variant)?.as_str())?;
+    holes.put("WRITER", writer_of(alloc, target, variant)?.as_str())?;
+    holes.put("CYCLE", cycle_of(alloc, target)?.as_str())?;
+    sheet.write(CONTENT, &holes)
+}
+
+/// The holes that the values of fields stand in: as parameters, arguments, and nested pairs.
+fn value_holes<'a>(alloc: Global, fields: &[Field<'a>]) -> Result<Holes, AllocError> {
+    let mut values = Vec::new(alloc);
+    let mut parameters = String::new(alloc);
+    let mut arguments = String::new(alloc);
+    for (i, field) in fields.iter().enumerate() {
+        let of = type_text(alloc, field.of)?;
+        parameters.push_str(format!(in alloc; "    v{i}: &{of},\n")?.as_str())?;
+        arguments.push_str(format!(in alloc; "v{i}, ")?.as_str())?;
+        values.push(format!(in alloc; "v{i}.now")?)?;
+    }
+    let mut holes = Holes::new(alloc);
+    holes.put("PARAMETERS", parameters.as_str())?;
+    holes.put("ARGUMENTS", arguments.as_str())?;
+    holes.put(
+        "VALUE",
+        paired(alloc, values, Items::Patterns, 4, 4)?.flat.as_str(),
+    )?;
+    Ok(holes)
+}

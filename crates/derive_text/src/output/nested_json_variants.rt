@@ -1,0 +1,168 @@
+//! The variants of enums that contain themselves, in JSON: their row, and what writes each.
+
+use crate::output::chains::append_variants;
+use crate::output::labels::name_of;
+use crate::output::layout::Items;
+use crate::output::nested_bodies::{Held, arm, arm_of, parts_of};
+use crate::output::nested_json_contents::writer_of;
+use crate::output::rows::Leaf;
+use crate::output::sheet::Sheet;
+use crate::output::target::Target;
+use crate::output::variants::bracketed;
+use derive_syntax::{Content, Field, Variant, variant_name};
+use std::alloc::AllocError;
+
+// ---- the row
+
+/// The name of the row of the variants in JSON, where the parts of a variant that has several stand
+/// between brackets: that row, if there are such, or the one of all formats, in which they stand so.
+pub(crate) fn json_variants<'a>(
+    sheet: &mut Sheet,
+    target: &Target<'a>,
+    variants: &[Variant<'a>],
+    schemas: &[Leaf],
+) -> Result<String, AllocError> {
+    if !have_several(variants) {
+        return target.row.clone();
+    }
+    let full = name_of(sheet, target.name.text, "JsonVariants")?;
+    let mut leaves = Vec::new(sheet.alloc);
+    for (variant, schema) in variants.iter().zip(schemas) {
+        leaves.push(json_leaf(sheet, variant, schema)?)?;
+    }
+    append_variants(sheet, target, variants, (full.as_str(), &leaves))?;
+    Ok(full)
+}
+
+/// Whether a variant has several parts.
+fn have_several(variants: &[Variant<'_>]) -> bool {
+    for variant in variants {
+        if has_several(&variant.content) {
+            return true;
+        }
+    }
+    false
+}
+
+/// Whether there are several parts.
+fn has_several(content: &Content<'_>) -> bool {
+    match content {
+        Content::Parts(parts) => parts.len() > 1,
+        _ => false,
+    }
+}
+
+/// A variant as it stands in the row of JSON, from how it stands in that of all formats.
+fn json_leaf<'a>(
+    sheet: &mut Sheet,
+    variant: &Variant<'a>,
+    schema: &Leaf,
+) -> Result<Leaf, AllocError> {
+    let alloc = sheet.alloc;
+    let mut texts = Vec::new(alloc);
+    for (i, text) in schema.texts.iter().enumerate() {
+        if i > 0 && has_several(&variant.content) {
+            let content = format!(in alloc; "nano_schema::Tuple<{text}>")?;
+            texts.push(sheet.short(content.as_str())?)?;
+        } else {
+            texts.push(text.clone()?)?;
+        }
+    }
+    Ok(Leaf {
+        open: schema.open.clone()?,
+        texts,
+        close: schema.close,
+        around: Vec::new(alloc),
+    })
+}
+
+// ---- what writes each variant
+
+/// What writes each variant.
+pub(crate) fn arms<'a>(
+    sheet: &mut Sheet,
+    target: &Target<'a>,
+    variants: &[Variant<'a>],
+) -> Result<String, AllocError> {
+    let mut text = String::new(sheet.alloc);
+    for variant in variants {
+        let arm = match &variant.content {
+            Content::Fields(fields) => fields_arm(sheet, target, variant, fields)?,
+            _ => parts_arm(sheet, target, variant)?,
+        };
+        text.push_str(arm.as_str())?;
+    }
+    Ok(text)
+}
+
+/// What writes a variant with named fields.
+fn fields_arm<'a>(
+    sheet: &mut Sheet,
+    target: &Target<'a>,
+    variant: &Variant<'a>,
+    fields: &[Field<'a>],
+) -> Result<String, AllocError> {
+    let alloc = sheet.alloc;
+    let mut bound = Vec::new(alloc);
+    let mut call = format!(in alloc; "{}(", writer_of(alloc, target, variant)?)?;
+    for (i, field) in fields.iter().enumerate() {
+        bound.push(format!(in alloc; "{}: v{i}", field.name.text)?)?;
+        call.push_str(format!(in alloc; "v{i}, ")?.as_str())?;
+    }
+    call.push_str("alloc, d, s)")?;
+    let open = format!(in alloc; "Self::{} {{", variant.name.text)?;
+    let brackets = (open.as_str(), "}");
+    let pattern = bracketed(alloc, brackets, &bound, Items::Fields, (12, 12))?.laid;
+    let mut lines = Vec::new(alloc);
+    lines.push(call)?;
+    arm_of(alloc, pattern.as_str(), &lines, "")
+}
+
+/// What writes a variant with its parts.
+fn parts_arm<'a>(
+    sheet: &mut Sheet,
+    target: &Target<'a>,
+    variant: &Variant<'a>,
+) -> Result<String, AllocError> {
+    let alloc = sheet.alloc;
+    let parts = parts_of(alloc, &variant.content)?;
+    let key = variant_name(alloc, variant, None)?;
+    let mut lines = Vec::new(alloc);
+    for part in &parts {
+        if parts.len() > 1 && part.of.parameter_of(&[target.name]).is_none() {
+            let name = part.name.as_str();
+            let line = format!(in alloc; "let {name} = &nano_json_schema::Part {{ of: {name} }};")?;
+            lines.push(sheet.short(line.as_str())?)?;
+        }
+    }
+    lines.push(write_parts(sheet, target, key.as_str(), &parts)?)?;
+    arm(alloc, variant, &lines, "")
+}
+
+/// The call that writes a variant that is called so, with its parts.
+fn write_parts<'a>(
+    sheet: &mut Sheet,
+    target: &Target<'a>,
+    key: &str,
+    parts: &[Held<'a>],
+) -> Result<String, AllocError> {
+    let alloc = sheet.alloc;
+    let call = match parts {
+        [] => format!(in alloc; "nano_json_schema::write_unit_variant(alloc, \"{key}\", s)")?,
+        [part] => {
+            let end = match part.of.parameter_of(&[target.name]) {
+                Some(_itself) => "within",
+                None => "other",
+            };
+            format!(in alloc;
+                "nano_json_nested::write_variant_{end}(alloc, \"{key}\", {}, d, s)",
+                part.name
+            )?
+        }
+        [first, second, ..] => format!(in alloc;
+            "nano_json_nested::write_pair_within(alloc, \"{key}\", {}, {}, d, s)",
+            first.name, second.name
+        )?,
+    };
+    sheet.short(call.as_str())
+}
