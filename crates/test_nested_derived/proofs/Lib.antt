@@ -8,3 +8,8 @@ mod FolderJsonCodecsLaws
 mod ExpressionJsonCodecsLaws
 mod FilterCodecsLaws
 mod FilterJsonCodecsLaws
+mod TreeRonCodecsLaws
+mod FolderRonCodecsLaws
+mod ChainRonCodecsLaws
+mod ExpressionRonCodecsLaws
+mod FilterRonCodecsLaws

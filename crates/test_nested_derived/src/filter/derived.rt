@@ -14,6 +14,11 @@ use nano_json_schema::{
     DeJson, DeJsonErr, DeJsonState, JsonCodec, JsonRefs, SerJson, SerJsonState, write_unit_variant,
 };
 use nano_levels::{Levels, Other, Within};
+use nano_ron_nested::{
+    NestedRon, ReadsRon, WritesRon, append_last_within, append_part, append_required, open_variant,
+    read_choice_ron_within,
+};
+use nano_ron_schema::{DeRon, DeRonErr, DeRonState, RonCodec, SerRon, SerRonState};
 use nano_schema::{
     Either, EnumSchema, Label, Newtype, Optional, Required, Struct, Tuple, Unit, Value, Variant,
 };
@@ -293,5 +298,160 @@ impl DeJson for Filter {
     ) -> Result<Self, DeJsonErr> {
         let levels = Levels::most();
         ReadsJson::<Self>::read_json(levels, 128, alloc, state, input)
+    }
+}
+
+// ---- RON
+
+impl RonCodec for Filter {
+    ghost use Rattle.test_nested_derived.specs.FilterRonCodecs.{filter_ron, filter_ron_agrees};
+
+    ghost ron = { filter_ron };
+
+    ghost agrees = { filter_ron_agrees };
+}
+
+impl NestedRon for Filter {
+    ghost use Rattle.test_nested_derived.specs.FilterCodecs.{filter_means};
+    ghost use Rattle.test_nested_derived.specs.FilterRonCodecs.{filter_ron_at};
+
+    ghost means = { filter_means };
+
+    ghost at = { filter_ron_at };
+}
+
+ghost use Rattle.test_nested_derived.specs.FilterRonCodecs.{filter_ron_of_at_least};
+
+/// Appends `AtLeast`. If the write fails, what was written so far is left.
+#[cycle(write_filter_ron)]
+fn append_filter_at_least_ron(
+    v0: &u8,
+    v1: &Vec<Filter>,
+    alloc: Global,
+    d: usize,
+    s: &mut SerRonState,
+) -> Result<(), AllocError>
+    ensures ok { OnOk result (Appends s.old.out s.new.out (filter_ron_of_at_least d v0.now v1.now)) }
+    ensures err { OnErr result (AppendsPart s.old.out s.new.out) }
+{
+    open_variant("AtLeast", s)?;
+    append_part(alloc, v0, d, s)?;
+    append_last_within(alloc, v1, d, s)
+}
+
+/// Appends `AtLeast`. If the write fails, the text is unchanged.
+#[cycle(write_filter_ron)]
+fn write_filter_at_least_ron(
+    v0: &u8,
+    v1: &Vec<Filter>,
+    alloc: Global,
+    d: usize,
+    s: &mut SerRonState,
+) -> Result<(), AllocError>
+    ensures ok { OnOk result (Appends s.old.out s.new.out (filter_ron_of_at_least d v0.now v1.now)) }
+    ensures err { OnErr result (Unchanged s.old.out s.new.out) }
+{
+    let start = s.out.len();
+    let written = append_filter_at_least_ron(v0, v1, alloc, d, s);
+    nano_ron_nested::rollback_on_error(&mut s.out, start, written)
+}
+
+ghost use Rattle.test_nested_derived.specs.FilterRonCodecs.{filter_ron_of_has};
+
+/// Appends `Has`. If the write fails, what was written so far is left.
+#[cycle(write_filter_ron)]
+fn append_filter_has_ron(
+    v0: &String,
+    v1: &Option<Box<Filter>>,
+    alloc: Global,
+    d: usize,
+    s: &mut SerRonState,
+) -> Result<(), AllocError>
+    ensures ok { OnOk result (Appends s.old.out s.new.out (filter_ron_of_has d v0.now v1.now)) }
+    ensures err { OnErr result (AppendsPart s.old.out s.new.out) }
+{
+    nano_ron_schema::write_unit_variant("Has", s)?;
+    s.st_pre()?;
+    let inner = d.saturating_add(1);
+    append_required(alloc, "field", v0, inner, s)?;
+    nano_ron_nested::append_optional_within(alloc, "and", v1, inner, s)?;
+    s.st_post(d)
+}
+
+/// Appends `Has`. If the write fails, the text is unchanged.
+#[cycle(write_filter_ron)]
+fn write_filter_has_ron(
+    v0: &String,
+    v1: &Option<Box<Filter>>,
+    alloc: Global,
+    d: usize,
+    s: &mut SerRonState,
+) -> Result<(), AllocError>
+    ensures ok { OnOk result (Appends s.old.out s.new.out (filter_ron_of_has d v0.now v1.now)) }
+    ensures err { OnErr result (Unchanged s.old.out s.new.out) }
+{
+    let start = s.out.len();
+    let written = append_filter_has_ron(v0, v1, alloc, d, s);
+    nano_ron_nested::rollback_on_error(&mut s.out, start, written)
+}
+
+impl WritesRon for Filter {
+    #[cycle(write_filter_ron)]
+    #[tactic(auto, using(crate::proofs::FilterRonCodecsLaws::filter_ron_texts))]
+    fn write_ron(&self, alloc: Global, d: usize, s: &mut SerRonState) -> Result<(), AllocError> {
+        match self {
+            Self::Any => nano_ron_schema::write_unit_variant("Any", s),
+            Self::Not(first) => nano_ron_nested::write_variant_within(alloc, "Not", first, d, s),
+            Self::AtLeast(v0, v1) => write_filter_at_least_ron(v0, v1, alloc, d, s),
+            Self::Has { field: v0, and: v1 } => write_filter_has_ron(v0, v1, alloc, d, s),
+        }
+    }
+}
+
+impl SerRon for Filter {
+    fn ser_ron(&self, alloc: Global, d: usize, s: &mut SerRonState) -> Result<(), AllocError> {
+        WritesRon::write_ron(self, alloc, d, s)
+    }
+}
+
+impl ReadsRon<Filter> for Levels {
+    #[cycle(read)]
+    fn read_ron(
+        &self,
+        left: usize,
+        alloc: Global,
+        state: &mut DeRonState,
+        input: &mut Chars<'_>,
+    ) -> Result<Filter, DeRonErr> {
+        if left == 0 {
+            return Err(nano_ron_nested::too_deep(alloc, state));
+        }
+        let Levels::More(below) = self else {
+            return Err(nano_ron_nested::no_levels(alloc, state));
+        };
+        let Some(below) = below.first() else {
+            return Err(nano_ron_nested::no_levels(alloc, state));
+        };
+        match read_choice_ron_within::<Levels, FilterVariants>(
+            below,
+            left - 1,
+            alloc,
+            state,
+            input,
+        ) {
+            Ok(values) => Ok(Filter::make(values)),
+            Err(error) => Err(error),
+        }
+    }
+}
+
+impl DeRon for Filter {
+    fn de_ron(
+        alloc: Global,
+        state: &mut DeRonState,
+        input: &mut Chars<'_>,
+    ) -> Result<Self, DeRonErr> {
+        let levels = Levels::most();
+        ReadsRon::<Self>::read_ron(levels, 128, alloc, state, input)
     }
 }
