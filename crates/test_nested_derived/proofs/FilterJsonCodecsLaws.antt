@@ -103,7 +103,7 @@ pub filter_json_between : (name body before opened named colon inside after : Li
 filter_json_between name body before opened named colon inside after e h k m n =
     let words = encode_utf8_all name in
     let content = encode_utf8_all body in
-    let open = before ++ 123 ∷ [] in
+    let start = before ++ 123 ∷ [] in
     let closed : encode_utf8_all (body ++ 125 ∷ []) ≡ content ++ 125 ∷ [] =
     encodes-append body (125 ∷ []) ∙ (λ j. content ++ (encode_ascii 125 (lit< tt) j ++ [])) in
     let rest : encode_utf8_all (name ++ 58 ∷ (body ++ 125 ∷ []))
@@ -116,8 +116,8 @@ filter_json_between name body before opened named colon inside after e h k m n =
     n
     ∙ (ap (λ l. l ++ 125 ∷ []) (m ∙ ap (λ l. l ++ content)
     (k ∙ ap (λ l. l ++ 58 ∷ []) (h ∙ ap (λ l. l ++ words) e)))
-    ∙ (append_assoc ((open ++ words) ++ 58 ∷ []) content (125 ∷ [])
-    ∙ (append_assoc (open ++ words) (58 ∷ []) (content ++ 125 ∷ [])
-    ∙ (append_assoc open words (58 ∷ (content ++ 125 ∷ []))
+    ∙ (append_assoc ((start ++ words) ++ 58 ∷ []) content (125 ∷ [])
+    ∙ (append_assoc (start ++ words) (58 ∷ []) (content ++ 125 ∷ [])
+    ∙ (append_assoc start words (58 ∷ (content ++ 125 ∷ []))
     ∙ (append_assoc before (123 ∷ []) (words ++ 58 ∷ (content ++ 125 ∷ []))
     ∙ ap (λ l. before ++ l) (sym inner))))))

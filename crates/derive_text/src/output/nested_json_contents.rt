@@ -9,6 +9,7 @@ use crate::output::sheet::Sheet;
 use crate::output::target::Target;
 use crate::output::template::Holes;
 use crate::output::types::type_text;
+use crate::output::variants::bracketed;
 use derive_syntax::{Case, Content, Field, Variant, variant_name};
 use std::alloc::{AllocError, Global};
 
@@ -17,11 +18,7 @@ ghost use Rattle.$TEXTS.{$JSON, $CONTENT};
 
 /// Appends the fields of `$NAME` between braces. If the write fails, what was written so far is left.
 #[cycle($CYCLE)]
-fn append_$OF_fields(
-$PARAMETERS    alloc: std::alloc::Global,
-    d: usize,
-    s: &mut nano_json_schema::SerJsonState,
-) -> Result<(), std::alloc::AllocError>
+$INNER
     ensures ok { OnOk result (Appends s.old.out s.new.out
         (($CONTENT.codec $JSON).canonical.text d $VALUE)) }
     ensures err { OnErr result (AppendsPart s.old.out s.new.out) }
@@ -33,17 +30,14 @@ $FIELDS    s.st_post(d)
 
 /// Appends `$NAME` with its fields. If the write fails, what was written so far is left.
 #[cycle($CYCLE)]
-fn append_$OF(
-$PARAMETERS    alloc: std::alloc::Global,
-    d: usize,
-    s: &mut nano_json_schema::SerJsonState,
-) -> Result<(), std::alloc::AllocError>
+$MIDDLE
     ensures ok { OnOk result (Appends s.old.out s.new.out
-        (content_text (codes \"$KEY\") (($CONTENT.codec $JSON).canonical.text d $VALUE))) }
+        (content_text (codes \"$KEY\")
+        (($CONTENT.codec $JSON).canonical.text d $VALUE))) }
     ensures err { OnErr result (AppendsPart s.old.out s.new.out) }
 {
     s.st_pre()?;
-    nano_json_schema::SerJson::ser_json(\"$KEY\", alloc, 0, s)?;
+    \"$KEY\".ser_json(alloc, 0, s)?;
     s.out.push_str(\":\")?;
     append_$OF_fields($ARGUMENTSalloc, d, s)?;
     s.st_post(d)
@@ -51,13 +45,10 @@ $PARAMETERS    alloc: std::alloc::Global,
 
 /// Appends `$NAME` with its fields. If the write fails, `s.out` is unchanged.
 #[cycle($CYCLE)]
-fn $WRITER(
-$PARAMETERS    alloc: std::alloc::Global,
-    d: usize,
-    s: &mut nano_json_schema::SerJsonState,
-) -> Result<(), std::alloc::AllocError>
+$OUTER
     ensures ok { OnOk result (Appends s.old.out s.new.out
-        (content_text (codes \"$KEY\") (($CONTENT.codec $JSON).canonical.text d $VALUE))) }
+        (content_text (codes \"$KEY\")
+        (($CONTENT.codec $JSON).canonical.text d $VALUE))) }
     ensures err { OnErr result (Unchanged s.old.out s.new.out) }
 {
     let start = s.out.len();
@@ -125,29 +116,48 @@ fn append_content<'a>(
     holes.put("CONTENT", content.as_str())?;
     holes.put("NAME", variant.name.text)?;
     holes.put("KEY", variant_name(alloc, variant, None)?.as_str())?;
-    holes.put("OF", name_of(alloc, target, variant)?.as_str())?;
-    holes.put("WRITER", writer_of(alloc, target, variant)?.as_str())?;
+    let of = name_of(alloc, target, variant)?;
+    let inner = format!(in alloc; "append_{of}_fields")?;
+    let middle = format!(in alloc; "append_{of}")?;
+    let outer = writer_of(alloc, target, variant)?;
+    holes.put("INNER", head(sheet, inner.as_str(), fields)?.as_str())?;
+    holes.put("MIDDLE", head(sheet, middle.as_str(), fields)?.as_str())?;
+    holes.put("OUTER", head(sheet, outer.as_str(), fields)?.as_str())?;
+    holes.put("OF", of.as_str())?;
     holes.put("CYCLE", cycle_of(alloc, target)?.as_str())?;
     sheet.write(CONTENT, &holes)
 }
 
-/// The holes that the values of fields stand in: as parameters, arguments, and nested pairs.
+/// The holes that the values of fields stand in: as arguments, and as nested pairs.
 fn value_holes<'a>(alloc: Global, fields: &[Field<'a>]) -> Result<Holes, AllocError> {
     let mut values = Vec::new(alloc);
-    let mut parameters = String::new(alloc);
     let mut arguments = String::new(alloc);
-    for (i, field) in fields.iter().enumerate() {
-        let of = type_text(alloc, field.of)?;
-        parameters.push_str(format!(in alloc; "    v{i}: &{of},\n")?.as_str())?;
+    for i in 0..fields.len() {
         arguments.push_str(format!(in alloc; "v{i}, ")?.as_str())?;
         values.push(format!(in alloc; "v{i}.now")?)?;
     }
     let mut holes = Holes::new(alloc);
-    holes.put("PARAMETERS", parameters.as_str())?;
     holes.put("ARGUMENTS", arguments.as_str())?;
     holes.put(
         "VALUE",
         paired(alloc, values, Items::Patterns, 4, 4)?.flat.as_str(),
     )?;
     Ok(holes)
+}
+
+/// The head of a function of this name, which takes the values of fields.
+fn head<'a>(sheet: &mut Sheet, name: &str, fields: &[Field<'a>]) -> Result<String, AllocError> {
+    let alloc = sheet.alloc;
+    let mut parameters = Vec::new(alloc);
+    for (i, field) in fields.iter().enumerate() {
+        let of = type_text(alloc, field.of)?;
+        parameters.push(format!(in alloc; "v{i}: &{of}")?)?;
+    }
+    parameters.push(sheet.short("alloc: std::alloc::Global")?)?;
+    parameters.push(String::from_str(alloc, "d: usize")?)?;
+    parameters.push(sheet.short("s: &mut nano_json_schema::SerJsonState")?)?;
+    let open = format!(in alloc; "fn {name}(")?;
+    let close = sheet.short(") -> Result<(), std::alloc::AllocError>")?;
+    let brackets = (open.as_str(), close.as_str());
+    Ok(bracketed(alloc, brackets, &parameters, Items::Patterns, (0, 0))?.laid)
 }

@@ -209,11 +209,12 @@ fn append_filter_has(
     s: &mut SerJsonState,
 ) -> Result<(), AllocError>
     ensures ok { OnOk result (Appends s.old.out s.new.out
-        (content_text (codes "Has") ((filter_json_content_has.codec filter_json).canonical.text d (v0.now, v1.now)))) }
+        (content_text (codes "Has")
+        ((filter_json_content_has.codec filter_json).canonical.text d (v0.now, v1.now)))) }
     ensures err { OnErr result (AppendsPart s.old.out s.new.out) }
 {
     s.st_pre()?;
-    SerJson::ser_json("Has", alloc, 0, s)?;
+    "Has".ser_json(alloc, 0, s)?;
     s.out.push_str(":")?;
     append_filter_has_fields(v0, v1, alloc, d, s)?;
     s.st_post(d)
@@ -229,7 +230,8 @@ fn write_filter_has(
     s: &mut SerJsonState,
 ) -> Result<(), AllocError>
     ensures ok { OnOk result (Appends s.old.out s.new.out
-        (content_text (codes "Has") ((filter_json_content_has.codec filter_json).canonical.text d (v0.now, v1.now)))) }
+        (content_text (codes "Has")
+        ((filter_json_content_has.codec filter_json).canonical.text d (v0.now, v1.now)))) }
     ensures err { OnErr result (Unchanged s.old.out s.new.out) }
 {
     let start = s.out.len();
