@@ -46,7 +46,7 @@ fn variant_text(
     let written = written(alloc, nested, format, held)?;
     format!(in alloc;
         "
--- the text of a value of `{}`
+-- a value of `{}` as it is written
 abbrev pub {name} : ℕ{types} → List ℕ
 {name} d{values} =
     {written}

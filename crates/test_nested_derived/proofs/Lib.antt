@@ -8,8 +8,3 @@ mod FolderJsonCodecsLaws
 mod ExpressionJsonCodecsLaws
 mod FilterCodecsLaws
 mod FilterJsonCodecsLaws
-mod TreeRonCodecsLaws
-mod FolderRonCodecsLaws
-mod ChainRonCodecsLaws
-mod ExpressionRonCodecsLaws
-mod FilterRonCodecsLaws

@@ -2,12 +2,11 @@
 use Rattle.std.specs.Prelude.{ℕ, suc, map, Box, Option, String, Vec, string_bytes}
 use Rattle.std.specs.Global.{Global}
 use Rattle.std.specs.Option.{option_map}
-use Rattle.nano_value.specs.Meaning.{Meaning, nothing, whole, text, optional, listed, paired, LegalUnsigned, LegalUnit, LegalText, LegalOption, LegalList, LegalPair}
-use Rattle.nano_value.specs.Sums.{tagged, LegalVariant, variant, no_variants}
+use Rattle.nano_value.specs.Meaning.{Meaning, nothing, whole, text, optional, listed, paired}
+use Rattle.nano_value.specs.Sums.{tagged}
 use Rattle.nano_levels.specs.Layers.{greatest}
 use Rattle.nano_schema.specs.declared.choices.Either.{Either}
 use Rattle.nano_schema.specs.declared.choices.Either.TheVariants.{First, Later}
-use Rattle.nano_schema_levels.specs.LegalLevels.{LegalStep}
 use Rattle.nano_schema_levels.specs.Depths.{held_depth}
 use Rattle.test_nested_derived.specs.declared.filter.Filter.{Filter}
 use Rattle.test_nested_derived.specs.declared.filter.Filter.TheOpen.{Filter-F}
@@ -49,9 +48,3 @@ filter_depth_step (Filter-F.Has v0 v1) = held_depth (λ x. suc x.value) v1
 
 abbrev pub filter_depth : Filter → ℕ
 filter_depth = fold-Filter ℕ filter_depth_step
-
--- ---- which meanings are legal, given those that are of the values in it
-
-abbrev pub filter_step : LegalStep
-filter_step P =
-    LegalVariant (variant LegalUnit (variant P (variant (LegalPair (LegalUnsigned 8) (LegalList P)) (variant (LegalPair LegalText (LegalOption P)) no_variants))))

@@ -8,8 +8,3 @@ pub mod FolderJsonCodecs
 pub mod ExpressionJsonCodecs
 pub mod FilterCodecs
 pub mod FilterJsonCodecs
-pub mod TreeRonCodecs
-pub mod FolderRonCodecs
-pub mod ChainRonCodecs
-pub mod ExpressionRonCodecs
-pub mod FilterRonCodecs

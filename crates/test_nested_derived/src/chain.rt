@@ -1,7 +1,7 @@
 //! A chain: its schema, and then bytes and JSON.
 
 /// A number, and what follows it.
-// nanoserde: bin json ron
+// nanoserde: bin json
 #[derive(PartialEq, Debug, Drop)]
 pub struct Chain {
     /// The number.

@@ -1,7 +1,7 @@
 //! An expression: its schema, and then bytes and JSON.
 
 /// An expression.
-// nanoserde: bin json ron
+// nanoserde: bin json
 #[derive(PartialEq, Debug, Drop)]
 pub enum Expression {
     /// A number.

@@ -1,7 +1,7 @@
 //! A filter: its schema, and then JSON.
 
 /// A filter.
-// nanoserde: json ron
+// nanoserde: json
 #[derive(PartialEq, Debug, Drop)]
 pub enum Filter {
     /// Everything.

@@ -1,7 +1,7 @@
 //! A folder: its schema, and then bytes and JSON.
 
 /// A folder.
-// nanoserde: bin json ron
+// nanoserde: bin json
 #[derive(PartialEq, Debug, Drop)]
 pub struct Folder {
     /// Its name.

@@ -1,7 +1,7 @@
 //! A tree: its schema, and then bytes and JSON.
 
 /// A tree.
-// nanoserde: bin json ron
+// nanoserde: bin json
 #[derive(PartialEq, Debug, Drop)]
 pub enum Tree {
     /// A number.

@@ -50,7 +50,11 @@ pub(crate) fn append_nested<'a>(
         Shape::Fields(fields) => {
             let row = append_record_row(sheet, &target, fields)?;
             let known = known_fields(sheet, fields)?;
-            let write = write_fields(sheet, name, fields)?;
+            let write = if target.attributes.bin.is_used() {
+                write_fields(sheet, name, fields)?
+            } else {
+                String::new(sheet.alloc)
+            };
             append_impls(sheet, &target, &RECORD, &row, (&known, &write))?;
             if target.attributes.json.is_used() {
                 let appended = json_fields(sheet, name, fields, (&row.leaves, "&value."))?;

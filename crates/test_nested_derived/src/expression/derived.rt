@@ -1,8 +1,7 @@
 //! Written by derive_files: how the types of the module above are encoded.
 
-ghost use Rattle.std.specs.Prelude.{codes, ◌==◌, if◌then◌else◌, refl, OnOk, OnErr};
+ghost use Rattle.std.specs.Prelude.{codes, ◌==◌, if◌then◌else◌, refl};
 ghost use Rattle.nano_schema.specs.UserTypes.{agreed};
-ghost use Rattle.nano_text.specs.Outcomes.{Appends, AppendsPart, Unchanged};
 
 use super::*;
 use nano_bin_nested::{
@@ -16,11 +15,6 @@ use nano_json_nested::{
 };
 use nano_json_schema::{DeJson, DeJsonErr, DeJsonState, JsonCodec, SerJson, SerJsonState};
 use nano_levels::{Levels, Other, Within};
-use nano_ron_nested::{
-    NestedRon, ReadsRon, WritesRon, append_last_within, open_variant, read_choice_ron_within,
-    rollback_on_error,
-};
-use nano_ron_schema::{DeRon, DeRonErr, DeRonState, RonCodec, SerRon, SerRonState};
 use nano_schema::{Either, EnumSchema, Label, Newtype, Tuple, Value, Variant};
 use std::alloc::{AllocError, Global};
 use std::str::Chars;
@@ -256,124 +250,5 @@ impl DeJson for Expression {
     ) -> Result<Self, DeJsonErr> {
         let levels = Levels::most();
         ReadsJson::<Self>::read_json(levels, 128, alloc, state, input)
-    }
-}
-
-// ---- RON
-
-impl RonCodec for Expression {
-    ghost use Rattle.test_nested_derived.specs.ExpressionRonCodecs.{expression_ron, expression_ron_agrees};
-
-    ghost ron = { expression_ron };
-
-    ghost agrees = { expression_ron_agrees };
-}
-
-impl NestedRon for Expression {
-    ghost use Rattle.test_nested_derived.specs.ExpressionCodecs.{expression_means};
-    ghost use Rattle.test_nested_derived.specs.ExpressionRonCodecs.{expression_ron_at};
-
-    ghost means = { expression_means };
-
-    ghost at = { expression_ron_at };
-}
-
-ghost use Rattle.test_nested_derived.specs.ExpressionRonCodecs.{expression_ron_of_sum};
-
-/// Appends `Sum`. If the write fails, what was written so far is left.
-#[cycle(write_expression_ron)]
-fn append_expression_sum_ron(
-    v0: &Box<Expression>,
-    v1: &Box<Expression>,
-    alloc: Global,
-    d: usize,
-    s: &mut SerRonState,
-) -> Result<(), AllocError>
-    ensures ok { OnOk result (Appends s.old.out s.new.out (expression_ron_of_sum d v0.now v1.now)) }
-    ensures err { OnErr result (AppendsPart s.old.out s.new.out) }
-{
-    open_variant("Sum", s)?;
-    nano_ron_nested::append_part_within(alloc, v0, d, s)?;
-    append_last_within(alloc, v1, d, s)
-}
-
-/// Appends `Sum`. If the write fails, the text is unchanged.
-#[cycle(write_expression_ron)]
-fn write_expression_sum_ron(
-    v0: &Box<Expression>,
-    v1: &Box<Expression>,
-    alloc: Global,
-    d: usize,
-    s: &mut SerRonState,
-) -> Result<(), AllocError>
-    ensures ok { OnOk result (Appends s.old.out s.new.out (expression_ron_of_sum d v0.now v1.now)) }
-    ensures err { OnErr result (Unchanged s.old.out s.new.out) }
-{
-    let start = s.out.len();
-    let written = append_expression_sum_ron(v0, v1, alloc, d, s);
-    rollback_on_error(&mut s.out, start, written)
-}
-
-impl WritesRon for Expression {
-    #[cycle(write_expression_ron)]
-    #[tactic(auto, using(crate::proofs::ExpressionRonCodecsLaws::expression_ron_texts))]
-    fn write_ron(&self, alloc: Global, d: usize, s: &mut SerRonState) -> Result<(), AllocError> {
-        match self {
-            Self::Number(first) => {
-                nano_ron_nested::write_variant_other(alloc, "Number", first, d, s)
-            }
-            Self::Negated(first) => {
-                nano_ron_nested::write_variant_within(alloc, "Negated", first, d, s)
-            }
-            Self::Sum(v0, v1) => write_expression_sum_ron(v0, v1, alloc, d, s),
-        }
-    }
-}
-
-impl SerRon for Expression {
-    fn ser_ron(&self, alloc: Global, d: usize, s: &mut SerRonState) -> Result<(), AllocError> {
-        WritesRon::write_ron(self, alloc, d, s)
-    }
-}
-
-impl ReadsRon<Expression> for Levels {
-    #[cycle(read)]
-    fn read_ron(
-        &self,
-        left: usize,
-        alloc: Global,
-        state: &mut DeRonState,
-        input: &mut Chars<'_>,
-    ) -> Result<Expression, DeRonErr> {
-        if left == 0 {
-            return Err(nano_ron_nested::too_deep(alloc, state));
-        }
-        let Levels::More(below) = self else {
-            return Err(nano_ron_nested::no_levels(alloc, state));
-        };
-        let Some(below) = below.first() else {
-            return Err(nano_ron_nested::no_levels(alloc, state));
-        };
-        match read_choice_ron_within::<Levels, ExpressionVariants>(
-            below,
-            left - 1,
-            alloc,
-            state,
-            input,
-        ) {
-            Ok(values) => Ok(Expression::make(values)),
-            Err(error) => Err(error),
-        }
-    }
-}
-
-impl DeRon for Expression {
-    fn de_ron(
-        alloc: Global,
-        state: &mut DeRonState,
-        input: &mut Chars<'_>,
-    ) -> Result<Self, DeRonErr> {
-        let levels = Levels::most();
-        ReadsRon::<Self>::read_ron(levels, 128, alloc, state, input)
     }
 }
