@@ -23,7 +23,8 @@ $ARGUMENTS    alloc: std::alloc::Global,
     d: usize,
     s: &mut nano_ron_schema::SerRonState,
 ) -> Result<(), std::alloc::AllocError>
-    ensures ok { OnOk result (Appends s.old.out s.new.out ($OWN d$SAID)) }
+    ensures ok { OnOk result
+        (Appends s.old.out s.new.out ($OWN d$SAID)) }
     ensures err { OnErr result (AppendsPart s.old.out s.new.out) }
 {
 $STEPS}
@@ -35,7 +36,8 @@ $ARGUMENTS    alloc: std::alloc::Global,
     d: usize,
     s: &mut nano_ron_schema::SerRonState,
 ) -> Result<(), std::alloc::AllocError>
-    ensures ok { OnOk result (Appends s.old.out s.new.out ($OWN d$SAID)) }
+    ensures ok { OnOk result
+        (Appends s.old.out s.new.out ($OWN d$SAID)) }
     ensures err { OnErr result (Unchanged s.old.out s.new.out) }
 {
     let start = s.out.len();
