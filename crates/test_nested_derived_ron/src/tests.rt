@@ -180,7 +180,7 @@ fn levels_of_texts_run_out_after_128(rt: HostRuntime) {
     let alloc = rt.alloc();
     let trees = ends_after_128::<Tree>(alloc, &DEEP_TREE, 773);
     holds(&rt, trees.unwrap_or(false), "trees");
-    let expressions = ends_after_128::<Expression>(alloc, &DEEP_EXPRESSION, 1927);
+    let expressions = ends_after_128::<Expression>(alloc, &DEEP_EXPRESSION, 1916);
     holds(&rt, expressions.unwrap_or(false), "expressions");
     let chains = ends_after_128::<Chain>(alloc, &DEEP_CHAIN, 1922);
     holds(&rt, chains.unwrap_or(false), "chains");

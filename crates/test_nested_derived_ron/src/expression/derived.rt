@@ -133,7 +133,8 @@ fn append_expression_sum_ron(
     d: usize,
     s: &mut SerRonState,
 ) -> Result<(), AllocError>
-    ensures ok { OnOk result (Appends s.old.out s.new.out (expression_ron_of_sum d v0.now v1.now)) }
+    ensures ok { OnOk result
+        (Appends s.old.out s.new.out (expression_ron_of_sum d v0.now v1.now)) }
     ensures err { OnErr result (AppendsPart s.old.out s.new.out) }
 {
     open_variant("Sum", s)?;
@@ -150,7 +151,8 @@ fn write_expression_sum_ron(
     d: usize,
     s: &mut SerRonState,
 ) -> Result<(), AllocError>
-    ensures ok { OnOk result (Appends s.old.out s.new.out (expression_ron_of_sum d v0.now v1.now)) }
+    ensures ok { OnOk result
+        (Appends s.old.out s.new.out (expression_ron_of_sum d v0.now v1.now)) }
     ensures err { OnErr result (Unchanged s.old.out s.new.out) }
 {
     let start = s.out.len();

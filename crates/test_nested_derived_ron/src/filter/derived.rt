@@ -333,7 +333,8 @@ fn append_filter_at_least_ron(
     d: usize,
     s: &mut SerRonState,
 ) -> Result<(), AllocError>
-    ensures ok { OnOk result (Appends s.old.out s.new.out (filter_ron_of_at_least d v0.now v1.now)) }
+    ensures ok { OnOk result
+        (Appends s.old.out s.new.out (filter_ron_of_at_least d v0.now v1.now)) }
     ensures err { OnErr result (AppendsPart s.old.out s.new.out) }
 {
     open_variant("AtLeast", s)?;
@@ -350,7 +351,8 @@ fn write_filter_at_least_ron(
     d: usize,
     s: &mut SerRonState,
 ) -> Result<(), AllocError>
-    ensures ok { OnOk result (Appends s.old.out s.new.out (filter_ron_of_at_least d v0.now v1.now)) }
+    ensures ok { OnOk result
+        (Appends s.old.out s.new.out (filter_ron_of_at_least d v0.now v1.now)) }
     ensures err { OnErr result (Unchanged s.old.out s.new.out) }
 {
     let start = s.out.len();
@@ -369,7 +371,8 @@ fn append_filter_has_ron(
     d: usize,
     s: &mut SerRonState,
 ) -> Result<(), AllocError>
-    ensures ok { OnOk result (Appends s.old.out s.new.out (filter_ron_of_has d v0.now v1.now)) }
+    ensures ok { OnOk result
+        (Appends s.old.out s.new.out (filter_ron_of_has d v0.now v1.now)) }
     ensures err { OnErr result (AppendsPart s.old.out s.new.out) }
 {
     nano_ron_schema::write_unit_variant("Has", s)?;
@@ -389,7 +392,8 @@ fn write_filter_has_ron(
     d: usize,
     s: &mut SerRonState,
 ) -> Result<(), AllocError>
-    ensures ok { OnOk result (Appends s.old.out s.new.out (filter_ron_of_has d v0.now v1.now)) }
+    ensures ok { OnOk result
+        (Appends s.old.out s.new.out (filter_ron_of_has d v0.now v1.now)) }
     ensures err { OnErr result (Unchanged s.old.out s.new.out) }
 {
     let start = s.out.len();
