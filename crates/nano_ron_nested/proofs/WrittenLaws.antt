@@ -1,6 +1,5 @@
 -- What is written of a type that contains itself: a struct, and a variant with its parts.
-use Rattle.std.proofs.Common.{◌≡◌, ◌∙◌, ℕ, List, [], ◌∷◌, ◌++◌, codes, chars, encode_utf8_all, subst, ap}
-use Rattle.std.proofs.Common.{append_assoc}
+use Rattle.std.proofs.Common.{◌≡◌, ℕ, List, [], ◌∷◌, ◌++◌, codes, chars, encode_utf8_all, subst}
 use Rattle.nano_grammar.specs.FieldCodec.{WrittenField, field_text, fields_text}
 use Rattle.nano_grammar.proofs.WrittenLists.{parts_written}
 use Rattle.nano_text.specs.Place.{saturating_next}
