@@ -175,7 +175,11 @@ fn row_proof(
     claim: Claim<'_>,
     chosen: &[Chosen],
 ) -> Result<String, AllocError> {
-    match (pairs_proof(alloc, claim.said, chosen)?, claim.said) {
+    let later = later_name(alloc, nested, claim.infix)?;
+    match (
+        pairs_proof(alloc, claim.said, later.as_str(), chosen)?,
+        claim.said,
+    ) {
         (None, _) => String::from_str(alloc, "refl"),
         (Some(proof), Said::Means(place)) if nested.is_enum => {
             format!(in alloc;
@@ -187,8 +191,27 @@ fn row_proof(
     }
 }
 
-/// The proof for nested pairs of parts, if it takes one.
-fn pairs_proof(alloc: Global, said: Said, chosen: &[Chosen]) -> Result<Option<String>, AllocError> {
+/// The name of the lemma that what holds no values of the type itself makes nothing deeper, with
+/// an infix of a format, or nothing where the layers say it by themselves, as those of bytes do.
+pub(crate) fn later_name(
+    alloc: Global,
+    nested: &Nested<'_>,
+    infix: &str,
+) -> Result<String, AllocError> {
+    if infix.is_empty() {
+        return Ok(String::new(alloc));
+    }
+    format!(in alloc; "{}_{infix}later_depth", nested.names.snake)
+}
+
+/// The proof for nested pairs of parts, if it takes one. Given is the lemma for those that hold no
+/// values of the type itself before others, or nothing.
+fn pairs_proof(
+    alloc: Global,
+    said: Said,
+    later: &str,
+    chosen: &[Chosen],
+) -> Result<Option<String>, AllocError> {
     if let [part] = chosen {
         return held_proof(alloc, &part.proof, "$");
     }
@@ -196,13 +219,14 @@ fn pairs_proof(alloc: Global, said: Said, chosen: &[Chosen]) -> Result<Option<St
     if chosen.is_empty() {
         return Ok(None);
     }
+    let other = pairs_proof(alloc, said, later, second)?;
     let lemma = match said {
         Said::Means(_place) => "pair_means",
         Said::Depth if are_within(first) => "pair_depth",
-        Said::Depth => return pairs_proof(alloc, said, second),
+        Said::Depth if later.is_empty() || !are_there(second) => return Ok(other),
+        Said::Depth => return Ok(Some(format!(in alloc; "{later} {}", argument(alloc, &other)?)?)),
     };
-    let one = pairs_proof(alloc, said, first)?;
-    let other = pairs_proof(alloc, said, second)?;
+    let one = pairs_proof(alloc, said, later, first)?;
     if one.is_none() && other.is_none() {
         return Ok(None);
     }
@@ -214,6 +238,16 @@ fn pairs_proof(alloc: Global, said: Said, chosen: &[Chosen]) -> Result<Option<St
 fn are_within(chosen: &[Chosen]) -> bool {
     for part in chosen {
         if part.is_within {
+            return true;
+        }
+    }
+    false
+}
+
+/// Whether one of these parts holds values of the type itself in this case.
+fn are_there(chosen: &[Chosen]) -> bool {
+    for part in chosen {
+        if part.is_within && part.value.as_str() != "None" {
             return true;
         }
     }

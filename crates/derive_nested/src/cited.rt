@@ -48,6 +48,7 @@ pub(crate) const SHARED: [Known; 15] = [
             "◌∙◌",
             "ap",
             "append_assoc",
+            "arith",
             "inl",
             "inr",
             "lit<",

@@ -2,10 +2,12 @@
 //! JSON.
 
 use crate::answers::HEAD;
+use crate::brought::content_names;
 use crate::json_rows::{Appended, appended};
 use crate::nested::{Held, Nested};
 use crate::text_codec::JSON;
 use crate::text_fields::{field_name, has_contents, has_long_row};
+use crate::text_layers::content_name;
 use derive_syntax::Case;
 use std::alloc::{AllocError, Global};
 
@@ -20,6 +22,7 @@ pub(crate) fn written_text(
         return Ok(None);
     }
     let (snake, cited) = (nested.names.snake.as_str(), cited_laws(alloc, nested)?);
+    let specs = cited_definitions(alloc, nested, (library, stem))?;
     let mut text = format!(in alloc;
         "{HEAD}use Rattle.std.proofs.Common.{{◌++◌, true, string_bytes}}
 use Rattle.std.proofs.lemmas.Result.{{on_ok_weaker}}
@@ -29,7 +32,7 @@ use Rattle.nano_json_schema.specs.FieldCodecs.{{json_fields}}
 use Rattle.nano_json_schema.proofs.WrittenFields.{{more_fields}}
 use Rattle.nano_json_nested.proofs.WrittenLaws.{{written_between}}
 use Rattle.{library}.proofs.{stem}JsonCodecsLaws.{{{cited}}}
-use {goals}.+write_{snake}_json.Goals as goal
+{specs}use {goals}.+write_{snake}_json.Goals as goal
 "
     )?;
     for held in &nested.contents {
@@ -43,6 +46,25 @@ use {goals}.+write_{snake}_json.Goals as goal
         text.push_str(answers.as_str())?;
     }
     Ok(Some(text))
+}
+
+/// The lines that bring in the definitions that the answers for variants cite, if a type has such.
+fn cited_definitions(
+    alloc: Global,
+    nested: &Nested<'_>,
+    (library, stem): (&str, &str),
+) -> Result<String, AllocError> {
+    if !nested.is_enum {
+        return Ok(String::new(alloc));
+    }
+    let contents = content_names(alloc, nested, &JSON)?;
+    format!(in alloc;
+        "use Rattle.std.specs.Prelude.{{codes}}
+use Rattle.nano_json_tokens.specs.Written.{{written_text}}
+use Rattle.{library}.specs.{stem}JsonCodecs.{{{}_json{contents}}}
+",
+        nested.names.snake
+    )
 }
 
 /// The names of what the answers cite of the laws of a type.
@@ -161,11 +183,25 @@ pub {append}_fields-returns-clause-ok : goal.{append}_fields-returns-clause-ok
 pub {append}-returns-clause-ok : goal.{append}-returns-clause-ok
 {append}-returns-clause-ok t c =
     on_ok_weaker c.st_post.result
-    ({snake}_json_between _ _ (string_bytes c.args.s.now.out) (string_bytes c.st_pre.new.self.out)
+    ({snake}_json_between (written_text (codes \"{key}\"))
+    (({content}.codec {snake}_json).canonical.text c.args.d {values})
+    (string_bytes c.args.s.now.out) (string_bytes c.st_pre.new.self.out)
     (string_bytes c.ser_json.new.s.out) (string_bytes c.push_str.new.self)
     (string_bytes c.{append}_fields.new.s.out) (string_bytes c.st_post.new.self.out)
     c.in_ok-st_pre.ensures.ok c.in_ok-ser_json.ensures.ok c.in_ok-push_str.ensures.bytes
     c.in_ok-{append}_fields.ensures.ok) c.st_post.ensures.ok
 "
     )
+}
+
+/// The values of the fields from one place up to another, as nested pairs of arguments.
+fn arguments(alloc: Global, from: usize, end: usize) -> Result<String, AllocError> {
+    let count = end.saturating_sub(from);
+    if count < 2 {
+        return format!(in alloc; "c.args.v{from}.now");
+    }
+    let middle = from.saturating_add(count / 2);
+    let one = arguments(alloc, from, middle)?;
+    let other = arguments(alloc, middle, end)?;
+    format!(in alloc; "({one}, {other})")
 }

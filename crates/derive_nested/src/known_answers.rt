@@ -8,7 +8,8 @@ use crate::wrapped::atom;
 use derive_syntax::crate_of;
 use std::alloc::{AllocError, Global};
 
-/// The answers for that function of an enum in a module, by the laws beside definitions of this name.
+/// The answers for that function of an enum in a module, by the laws beside the definitions of this
+/// name.
 pub(crate) fn known_answers(
     alloc: Global,
     module: &str,

@@ -1,6 +1,6 @@
 -- Written by derive_files: types that contain themselves, and their codecs.
-use Rattle.std.specs.Prelude.{◌≡◌, ℕ, refl, codes}
-use Rattle.std.proofs.Common.{◌∙◌}
+use Rattle.std.specs.Prelude.{◌≡◌, ℕ, max, refl, codes}
+use Rattle.std.proofs.Common.{◌∙◌, arith}
 use Rattle.nano_value.specs.Meaning.{Meaning, Agrees, number}
 use Rattle.nano_schema_levels.proofs.StepsLaws.{by_option}
 use Rattle.nano_levels.specs.Layers.{Layer, Nested}
@@ -32,6 +32,10 @@ chain_json_fields =
 abbrev pub chain_json_layer : Layer json json_grammar Chain (ChainContent Chain)
 chain_json_layer = struct_layer chain_json_fields (λ f. ascii_names refl) (λ f. refl)
 
+-- what holds no values of the type before what does
+pub chain_json_later_depth : {a b : ℕ} → a ≡ b → a ≡ max 0 b
+chain_json_later_depth e = omega (arith, e)
+
 pub chain_json_means_opened : (y : Chain-F Chain)
     → chain_means_step (map-Chain Chain Meaning chain_means y)
     ≡ chain_json_layer.means chain_means (chain_opened y)
@@ -47,7 +51,7 @@ pub chain_json_depth_opened : (y : Chain-F Chain)
 chain_json_depth_opened y =
     by_option (λ o. chain_depth_step (map-Chain Chain ℕ chain_depth (record { number = y.number; next = o }))
     ≡ chain_json_layer.deep chain_depth (chain_opened {X = Chain} (record { number = y.number; next = o })))
-    refl (λ x1. refl)
+    refl (λ x1. chain_json_later_depth refl)
     y.next
 
 abbrev pub chain_json_nested : Nested json json_grammar Chain

@@ -1,6 +1,6 @@
 -- Written by derive_files: types that contain themselves, and their codecs.
-use Rattle.std.specs.Prelude.{◌≡◌, ℕ, refl, codes}
-use Rattle.std.proofs.Common.{◌∙◌}
+use Rattle.std.specs.Prelude.{◌≡◌, ℕ, max, refl, codes}
+use Rattle.std.proofs.Common.{◌∙◌, arith}
 use Rattle.nano_value.specs.Meaning.{Meaning, Agrees}
 use Rattle.nano_schema_levels.proofs.StepsLaws.{list_depth}
 use Rattle.nano_levels.specs.Layers.{Layer, Nested}
@@ -32,6 +32,10 @@ folder_json_fields =
 abbrev pub folder_json_layer : Layer json json_grammar Folder (FolderContent Folder)
 folder_json_layer = struct_layer folder_json_fields (λ f. ascii_names refl) (λ f. refl)
 
+-- what holds no values of the type before what does
+pub folder_json_later_depth : {a b : ℕ} → a ≡ b → a ≡ max 0 b
+folder_json_later_depth e = omega (arith, e)
+
 pub folder_json_means_opened : (y : Folder-F Folder)
     → folder_means_step (map-Folder Folder Meaning folder_means y)
     ≡ folder_json_layer.means folder_means (folder_opened y)
@@ -40,7 +44,7 @@ folder_json_means_opened y = refl
 pub folder_json_depth_opened : (y : Folder-F Folder)
     → folder_depth_step (map-Folder Folder ℕ folder_depth y)
     ≡ folder_json_layer.deep folder_depth (folder_opened y)
-folder_json_depth_opened y = list_depth _ _ _ (λ x. refl) y.folders.items
+folder_json_depth_opened y = folder_json_later_depth (list_depth _ _ _ (λ x. refl) y.folders.items)
 
 abbrev pub folder_json_nested : Nested json json_grammar Folder
 folder_json_nested = record {
