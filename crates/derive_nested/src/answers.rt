@@ -1,11 +1,13 @@
 //! The answers to what is to be proved of the impls of a type that contains itself.
 
-use crate::brought::text_codecs_name;
-use crate::json_answers::{read_json_text, written_text};
+use crate::formats::first_codecs_name;
+use crate::json_answers::written_text;
 use crate::known_answers::known_answers;
 use crate::nested::Nested;
-use crate::text_codec::JSON;
-use derive_syntax::{codecs_name, crate_of};
+use crate::ron_answers::ron_writer;
+use crate::text_answers::text_reader;
+use crate::text_codec::{JSON, RON};
+use derive_syntax::{Attributes, codecs_name, crate_of};
 use std::alloc::{AllocError, Global};
 
 /// The answers for a function.
@@ -17,27 +19,26 @@ pub(crate) struct Answers {
     pub(crate) text: String,
 }
 
-/// The answers for each function of a type in a module, which has bytes or not, and JSON or not.
+/// The answers for each function of a type in a module, above which these formats stand.
 pub(crate) fn answers_of(
     alloc: Global,
     module: &str,
     nested: &Nested<'_>,
-    formats: (bool, bool),
+    attributes: Attributes<'_>,
 ) -> Result<Vec<Answers>, AllocError> {
     let mut files = Vec::new(alloc);
     if nested.is_enum {
-        let file = if formats.0 {
-            codecs_name(alloc, module)?
-        } else {
-            text_codecs_name(alloc, module, &JSON)?
-        };
+        let file = first_codecs_name(alloc, module, attributes)?;
         files.push(known_answers(alloc, module, nested, file.as_str())?)?;
     }
-    if formats.0 {
+    if attributes.bin.is_used() {
         files.push(read_answers(alloc, module, nested)?)?;
     }
-    if formats.1 {
+    if attributes.json.is_used() {
         append_json(alloc, module, nested, &mut files)?;
+    }
+    if attributes.ron.is_used() {
+        append_ron(alloc, module, nested, &mut files)?;
     }
     Ok(files)
 }
@@ -55,24 +56,43 @@ fn read_answers(alloc: Global, module: &str, nested: &Nested<'_>) -> Result<Answ
     })
 }
 
-/// Appends the answers for the reader of JSON of a type in a module, and for what writes
-/// named fields.
+/// What stands in the answers for the functions of the types of a module.
+#[derive(Drop)]
+pub(crate) struct Place<'a> {
+    /// The crate.
+    pub(crate) library: &'a str,
+    /// The folder of the answers.
+    pub(crate) folder: String,
+    /// The module of the goals.
+    pub(crate) goals: String,
+    /// What the names of the files of definitions begin with.
+    pub(crate) stem: String,
+}
+
+/// The place of the answers for the types of a module.
+fn place_of<'a>(alloc: Global, module: &'a str) -> Result<Place<'a>, AllocError> {
+    let (library, path) = crate_of(module);
+    let file = codecs_name(alloc, module)?;
+    let stem = file.as_str().strip_suffix("Codecs").unwrap_or("");
+    Ok(Place {
+        library,
+        folder: folder_of(alloc, path)?,
+        goals: format!(in alloc; "Rattle.{library}.proofs{path}.derived")?,
+        stem: String::from_str(alloc, stem)?,
+    })
+}
+
+/// Appends the answers for the reader of JSON of a type in a module, and for what writes named fields.
 fn append_json(
     alloc: Global,
     module: &str,
     nested: &Nested<'_>,
     files: &mut Vec<Answers>,
 ) -> Result<(), AllocError> {
-    let (library, path) = crate_of(module);
-    let (folder, file) = (folder_of(alloc, path)?, codecs_name(alloc, module)?);
-    let (name, snake) = (nested.names.of.as_str(), nested.names.snake.as_str());
-    let stem = file.as_str().strip_suffix("Codecs").unwrap_or("");
-    let goals = format!(in alloc; "Rattle.{library}.proofs{path}.derived")?;
-    let of = (goals.as_str(), library, stem);
-    files.push(Answers {
-        path: format!(in alloc; "{folder}/LevelsReadsJson{name}/+read/Answers.antt")?,
-        text: read_json_text(alloc, nested, of)?,
-    })?;
+    let place = place_of(alloc, module)?;
+    let (folder, snake) = (place.folder.as_str(), nested.names.snake.as_str());
+    files.push(text_reader(alloc, nested, &JSON, &place)?)?;
+    let of = (place.goals.as_str(), place.library, place.stem.as_str());
     if let Some(text) = written_text(alloc, nested, of)? {
         files.push(Answers {
             path: format!(in alloc; "{folder}/+write_{snake}_json/Answers.antt")?,
@@ -80,6 +100,22 @@ fn append_json(
         })?;
     }
     Ok(())
+}
+
+/// Appends the answers for the reader of RON of a type in a module, and for what writes its fields
+/// and parts.
+fn append_ron(
+    alloc: Global,
+    module: &str,
+    nested: &Nested<'_>,
+    files: &mut Vec<Answers>,
+) -> Result<(), AllocError> {
+    let place = place_of(alloc, module)?;
+    files.push(text_reader(alloc, nested, &RON, &place)?)?;
+    match ron_writer(alloc, nested, &place)? {
+        Some(answers) => Ok(files.push(answers)?),
+        None => Ok(()),
+    }
 }
 
 /// The folder of the proofs of the impls of a module with this path in its crate.

@@ -34,9 +34,10 @@ pub(crate) fn text_lines(
     let of = format!(in alloc; "use Rattle.{module}.{name}")?;
     let specs = specs_of(alloc, module)?;
     let several = match before {
-        Some(_codec) => {
+        Some("bin") => {
             format!(in alloc; "{specs}.{{{snake}_step, {snake}_nested, {snake}_codec}}\n")?
         }
+        Some(text) => earlier_lines(alloc, module, nested, text)?,
         None => String::new(alloc),
     };
     format!(in alloc;
@@ -47,6 +48,23 @@ pub(crate) fn text_lines(
 {specs}.{{{name}Content, {snake}_opened, {snake}_view, {snake}_means, {snake}_means_step}}
 {specs}.{{{snake}_depth, {snake}_depth_step}}
 {several}"
+    )
+}
+
+/// The lines that bring in what is legal, and the codec of an earlier format of texts.
+fn earlier_lines(
+    alloc: Global,
+    module: &str,
+    nested: &Nested<'_>,
+    earlier: &str,
+) -> Result<String, AllocError> {
+    let (library, _path) = crate_of(module);
+    let (snake, specs) = (nested.names.snake.as_str(), specs_of(alloc, module)?);
+    let file = codecs_name_in(alloc, module, earlier)?;
+    format!(in alloc;
+        "{specs}.{{{snake}_step}}
+use Rattle.{library}.specs.{file}.{{{snake}_{earlier}_nested, {snake}_{earlier}}}
+"
     )
 }
 
@@ -64,9 +82,14 @@ pub(crate) fn text_codecs_name(
     module: &str,
     format: &TextTerms,
 ) -> Result<String, AllocError> {
+    codecs_name_in(alloc, module, format.name)
+}
+
+/// The same for a format of texts of this name.
+fn codecs_name_in(alloc: Global, module: &str, format: &str) -> Result<String, AllocError> {
     let file = codecs_name(alloc, module)?;
     let stem = file.as_str().strip_suffix("Codecs").unwrap_or("");
-    let name = Case::Pascal.of_field(alloc, format.name)?;
+    let name = Case::Pascal.of_field(alloc, format)?;
     format!(in alloc; "{stem}{name}Codecs")
 }
 

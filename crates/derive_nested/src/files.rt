@@ -9,13 +9,15 @@ use crate::brought::{cited_lines, declared_lines, text_cited, text_codecs_name, 
 use crate::cited::{BYTES, SHARED};
 use crate::codec_laws::codec_laws;
 use crate::definitions::definitions;
+use crate::formats::{before, has_several, has_text};
 use crate::imports::{Known, imports};
 use crate::nested::nested_of;
+use crate::ron_cited::RON as RON_CITED;
 use crate::text_cited::{JSON as JSON_CITED, TEXTS};
-use crate::text_codec::{JSON, text_codec};
+use crate::text_codec::{JSON, RON, TextTerms, text_codec};
 use crate::text_laws::text_laws;
 use derive_syntax::{
-    Attributes, Definition, DeriveError, Fault, check_source, codecs_name, error_of, source_of,
+    Definition, DeriveError, Fault, check_source, codecs_name, error_of, source_of,
     text_above, tokens_of,
 };
 use std::alloc::{AllocError, Global};
@@ -82,7 +84,9 @@ fn files(alloc: Global, module: &str, source: &str) -> Result<Vec<NestedFile>, F
     let mut files = Vec::new(alloc);
     if contain_themselves(&source.definitions) {
         append_codecs(alloc, module, &source.definitions, &mut files)?;
-        append_json(alloc, module, &source.definitions, &mut files)?;
+        let types = source.definitions.as_slice();
+        append_texts(alloc, module, types, (&JSON, &JSON_CITED), &mut files)?;
+        append_texts(alloc, module, types, (&RON, &RON_CITED), &mut files)?;
         append_answers(alloc, module, &source.definitions, &mut files)?;
     }
     Ok(files)
@@ -144,60 +148,46 @@ fn append_codecs<'a>(
     Ok(())
 }
 
-/// Appends the files of JSON, if one of the types has it.
-fn append_json<'a>(
+/// Appends the files of a format of texts, which cite these modules, if one of the types has it.
+fn append_texts<'a>(
     alloc: Global,
     module: &str,
     types: &[Definition<'a>],
+    (format, cited): (&TextTerms, &[Known]),
     files: &mut Vec<NestedFile>,
 ) -> Result<(), Fault> {
     let mut specs = Body::new(alloc);
     let mut proofs = Body::new(alloc);
     for definition in types {
-        if !is_nested(definition) || !definition.attributes.json.is_used() {
+        if !is_nested(definition) || !has_text(definition.attributes, format) {
             continue;
         }
-        let before = before_json(definition.attributes);
+        let before = before(definition.attributes, format);
         let nested = nested_of(alloc, definition, "y")?;
         specs
             .text
-            .push_str(text_codec(alloc, &nested, &JSON, before)?.as_str())?;
+            .push_str(text_codec(alloc, &nested, format, before)?.as_str())?;
         specs
             .brought
             .push_str(text_lines(alloc, module, &nested, before)?.as_str())?;
         let value = format!(in alloc; "(out-{} x)", definition.name.text)?;
         let nested = nested_of(alloc, definition, value.as_str())?;
-        proofs.text.push_str(text_laws(alloc, &nested, &JSON, before.is_none())?.as_str())?;
-        proofs.brought.push_str(text_cited(
-            alloc,
-            module,
-            &nested,
-            &JSON,
-            before.is_none(),
-        )?.as_str())?;
+        let is_first = before.is_none();
+        proofs
+            .text
+            .push_str(text_laws(alloc, &nested, format, is_first)?.as_str())?;
+        proofs
+            .brought
+            .push_str(text_cited(alloc, module, &nested, format, is_first)?.as_str())?;
     }
     if specs.text.is_empty() {
         return Ok(());
     }
-    let name = text_codecs_name(alloc, module, &JSON)?;
-    let tables: [&[Known]; 3] = [&SHARED, &TEXTS, &JSON_CITED];
+    let name = text_codecs_name(alloc, module, format)?;
+    let tables: [&[Known]; 3] = [&SHARED, &TEXTS, cited];
     files.push(specs_file(alloc, name.as_str(), &specs, &tables)?)?;
     files.push(proofs_file(alloc, name.as_str(), &proofs, &tables)?)?;
     Ok(())
-}
-
-/// The format before JSON that a type has, if it has one.
-fn before_json(attributes: Attributes<'_>) -> Option<&'static str> {
-    if attributes.bin.is_used() {
-        Some("bin")
-    } else {
-        None
-    }
-}
-
-/// Whether a type has more than one format.
-fn has_several(attributes: Attributes<'_>) -> bool {
-    attributes.bin.is_used() && attributes.json.is_used()
 }
 
 /// What a file of ghost terms says.
@@ -269,8 +259,7 @@ fn append_answers<'a>(
         }
         let nested = nested_of(alloc, definition, "y")?;
         let attributes = definition.attributes;
-        let formats = (attributes.bin.is_used(), attributes.json.is_used());
-        for Answers { path, text } in answers_of(alloc, module, &nested, formats)? {
+        for Answers { path, text } in answers_of(alloc, module, &nested, attributes)? {
             files.push(NestedFile {
                 folder: Folder::Proofs,
                 path,

@@ -1,5 +1,5 @@
-//! The answers to what is to be proved of the impls of JSON of a type that contains itself: of its
-//! reader, and of what writes named fields.
+//! The answers to what is to be proved of what writes named fields of a type that contains itself in
+//! JSON.
 
 use crate::answers::HEAD;
 use crate::brought::content_names;
@@ -11,52 +11,8 @@ use crate::text_layers::content_name;
 use derive_syntax::Case;
 use std::alloc::{AllocError, Global};
 
-/// The answers for the reader of a type in JSON, in a crate with files that are named so.
-pub(crate) fn read_json_text(
-    alloc: Global,
-    nested: &Nested<'_>,
-    (goals, library, stem): (&str, &str, &str),
-) -> Result<String, AllocError> {
-    let (name, snake) = (nested.names.of.as_str(), nested.names.snake.as_str());
-    let read = if nested.is_enum {
-        ("c.in-Ok.ensures.read", "c.in-Err.ensures.none")
-    } else {
-        ("c.in-Ok.ensures", "c.in-Err.ensures")
-    };
-    let (read, none) = read;
-    format!(in alloc;
-        "{HEAD}use Rattle.nano_schema_levels.proofs.ReadingLaws.{{seen_read, seen_none}}
-use Rattle.nano_json_nested.proofs.NestedLaws.{{none_left, ran_out}}
-use Rattle.{library}.specs.{stem}JsonCodecs.{{{snake}_json_at, {snake}_json_nested}}
-use {goals}.LevelsReadsJson{name}.+read.Goals as goal
-
-pub returns-then-left-eq0 : goal.returns-then-left-eq0
-returns-then-left-eq0 t c =
-    none_left {snake}_json_nested c.args.left c.args.input.now c.if-left-eq0.true c.too_deep.ensures
-
-pub returns-in_default : goal.returns-in_default
-returns-in_default t c =
-    ran_out ({snake}_json_at c.args.left).encoding.encodes c.args.input.now c.no_levels.ensures
-
-pub returns-in_default-first : goal.returns-in_default-first
-returns-in_default-first t c =
-    ran_out ({snake}_json_at c.args.left).encoding.encodes c.args.input.now
-    c.no_levels-in_default-first.ensures
-
-pub returns-in-Ok : goal.returns-in-Ok
-returns-in-Ok t c =
-    seen_read {snake}_json_nested c.args.left c.if-left-eq0.false c.make.result c.in-Ok.values
-    c.make.ensures {read}
-
-pub returns-in-Err : goal.returns-in-Err
-returns-in-Err t c =
-    seen_none {snake}_json_nested c.args.left c.if-left-eq0.false {none}
-"
-    )
-}
-
-/// The answers for what writes a struct in JSON, or the variants with named fields of an enum, if
-/// it has such, in a crate with files that are named so.
+/// The answers for what writes a struct in JSON, or the variants with named fields of an enum, if it
+/// has such, in a crate with files that are named so.
 pub(crate) fn written_text(
     alloc: Global,
     nested: &Nested<'_>,

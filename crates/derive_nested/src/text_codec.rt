@@ -4,14 +4,18 @@
 use crate::coded::{Coded, nested_record};
 use crate::definitions::equation;
 use crate::nested::{Held, Nested};
+use crate::ron_parts::variant_texts;
 use crate::text_layers::{content_layer, content_layers, row_layer};
 use crate::wrapped::atom;
 use std::alloc::{AllocError, Global};
 
 /// A format of texts, as ghost terms.
+#[derive(Clone, Copy)]
 pub(crate) struct TextTerms {
     /// Its name, with which the names of definitions end.
     pub(crate) name: &'static str,
+    /// The same as the names of traits and files have it.
+    pub(crate) word: &'static str,
     /// What its layers are named with.
     pub(crate) coded: Coded,
     /// The style of lists, and that its brackets are brackets.
@@ -28,11 +32,14 @@ pub(crate) struct TextTerms {
     pub(crate) variants: &'static str,
     /// That content can stand after the name of a variant.
     pub(crate) fits: &'static str,
+    /// What makes the text of a variant without content of its name.
+    pub(crate) alone: &'static str,
 }
 
 /// JSON.
 pub(crate) const JSON: TextTerms = TextTerms {
     name: "json",
+    word: "Json",
     coded: Coded {
         infix: "json_",
         of: "json json_grammar ",
@@ -44,6 +51,25 @@ pub(crate) const JSON: TextTerms = TextTerms {
     names: "ascii_names refl",
     variants: "json_variants",
     fits: "λ f x d. tt",
+    alone: "written_text",
+};
+
+/// RON.
+pub(crate) const RON: TextTerms = TextTerms {
+    name: "ron",
+    word: "Ron",
+    coded: Coded {
+        infix: "ron_",
+        of: "ron ron_grammar ",
+    },
+    list: "line_style block_brackets",
+    option: "none_style",
+    tuple: "tuple_style paren_brackets",
+    fields: "ron_fields",
+    names: "word_names refl",
+    variants: "ron_variants",
+    fits: "λ f x d. refl",
+    alone: "chars",
 };
 
 /// The definitions for a format of texts. Given is the format before it, of which what is legal is
@@ -57,6 +83,9 @@ pub(crate) fn text_codec(
     let mut text = layer(alloc, nested, format)?;
     text.push_str(nested_record(alloc, nested, format.coded)?.as_str())?;
     text.push_str(codec(alloc, nested, format)?.as_str())?;
+    if format.name == RON.name {
+        text.push_str(variant_texts(alloc, nested, format)?.as_str())?;
+    }
     if let Some(before) = before {
         text.push_str(agreement(alloc, nested, format, before)?.as_str())?;
     }

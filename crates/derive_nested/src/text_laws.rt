@@ -4,7 +4,8 @@
 use crate::codec_laws::{Variant, binders, law_end, variant_at};
 use crate::legal_laws::{Known, struct_legal, variant_legal};
 use crate::nested::{Held, Nested};
-use crate::text_codec::TextTerms;
+use crate::ron_parts::part_texts;
+use crate::text_codec::{RON, TextTerms};
 use crate::text_fields::{field_definitions, row_lemmas};
 use crate::text_layers::content_name;
 use crate::wrapped::{at, atom};
@@ -35,7 +36,12 @@ pub(crate) fn text_laws(
     if nested.is_enum {
         text.push_str(texts(alloc, nested, format)?.as_str())?;
     }
-    text.push_str(row_lemmas(alloc, nested, format)?.as_str())?;
+    let cited = if format.name == RON.name {
+        part_texts(alloc, nested, format)?
+    } else {
+        row_lemmas(alloc, nested, format)?
+    };
+    text.push_str(cited.as_str())?;
     Ok(text)
 }
 
@@ -119,7 +125,7 @@ pub {snake}_{infix}text_{end} : (d : ℕ)
 }
 
 /// The text of a variant.
-fn written(
+pub(crate) fn written(
     alloc: Global,
     nested: &Nested<'_>,
     format: &TextTerms,
@@ -135,7 +141,7 @@ fn written(
         );
     }
     let mut codec = match held.leaves.len() {
-        0 => return format!(in alloc; "written_text (codes \"{name}\")"),
+        0 => return format!(in alloc; "{} (codes \"{name}\")", format.alone),
         1 => String::from_str(alloc, "single_codec")?,
         _ => String::from_str(alloc, "pair_codec")?,
     };

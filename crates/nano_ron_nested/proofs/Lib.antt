@@ -1,3 +1,4 @@
 pub mod ListReaders
 pub mod MapReaders
 pub mod NestedLaws
+pub mod WrittenLaws

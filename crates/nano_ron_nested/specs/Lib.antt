@@ -1,3 +1,4 @@
 pub mod Depth
 pub mod PartCodecs
 pub mod DefaultImpls
+pub mod TypeCodecs

@@ -28,7 +28,10 @@ pub use choices::RonChoicesWithin;
 pub use contents::RonContentWithin;
 pub use defaulted::RonDefaultWithin;
 pub use depth::{no_levels, too_deep};
-pub use field_writer::{append_field, append_field_within};
+pub use field_writer::{
+    append_field, append_field_within, append_optional, append_optional_within, append_required,
+    append_required_within,
+};
 pub use fields::RonFieldsWithin;
 pub use nano_levels::{Levels, Other, Within};
 pub use nano_ron::{

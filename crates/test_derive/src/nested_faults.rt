@@ -1,30 +1,30 @@
 //! Sources with types that contain themselves or each other, and the fault of each.
 
 /// A type contains itself in a way that is not written.
-pub(crate) const NESTED: &str = r#"// nanoserde: bin ron
+pub(crate) const NESTED: &str = r#"// nanoserde: bin de_ron
 struct A {
     a: Vec<A>,
 }
-=> 1:19: `ron` stands above a type that contains itself: write `bin`, `json` or both
+=> 1:19: `de_ron` stands above a type that contains itself: write `bin`, `json`, `ron` or several of them
 ----
 // nanoserde: de_bin
 struct A {
     a: Vec<A>,
 }
-=> 1:15: `de_bin` stands above a type that contains itself: write `bin`, `json` or both
+=> 1:15: `de_bin` stands above a type that contains itself: write `bin`, `json`, `ron` or several of them
 ----
 // nanoserde: bin json
 enum A {
     B(u8, bool, Vec<A>),
 }
-=> 3:5: `B` has more than two parts, which no variant has in JSON
+=> 3:5: `B` has more than two parts, which no variant has in JSON and RON
 ----
 // nanoserde: json
 enum A {
     B {},
     C(Vec<A>),
 }
-=> 3:5: `B` has braces with nothing between them, which no variant has in JSON
+=> 3:5: `B` has braces with nothing between them, which no variant has in JSON and RON
 ----
 // nanoserde: bin
 struct A<T> {

@@ -15,10 +15,11 @@ const TUPLE: &str = "is a tuple struct that contains itself: give its parts name
 const GENERIC: &str =
     "is a type parameter of a type that contains itself, and such a type has none";
 
-const NO_CODEC: &str = "stands above a type that contains itself: write `bin`, `json` or both";
+const NO_CODEC: &str = "stands above a type that contains itself: write `bin`, `json`, `ron` or \
+    several of them";
 
 /// The formats of types that contain themselves.
-const FORMATS: [&str; 2] = ["bin", "json"];
+const FORMATS: [&str; 3] = ["bin", "json", "ron"];
 
 const NO_WORD: &str = "stands in a type that contains itself: above its fields and variants is no \
     attribute but `rename`";
@@ -41,7 +42,8 @@ pub(crate) fn check_nested<'a>(
         return Err(parameter.fault(GENERIC));
     }
     check_formats(definition.attributes)?;
-    if definition.attributes.json.is_used() {
+    let attributes = definition.attributes;
+    if attributes.json.is_used() || attributes.ron.is_used() {
         check_nested_json(definition)?;
     }
     match &definition.shape {

@@ -1,16 +1,16 @@
-//! Types that contain themselves, in JSON.
+//! Types that contain themselves, in JSON and RON.
 
 use crate::fault::Fault;
 use crate::syntax::{Content, Definition, Shape};
 
 const PARTS: &str =
-    "has more than two parts, which no variant has in JSON of an enum that contains \
+    "has more than two parts, which no variant has in JSON and RON of an enum that contains \
     itself: give them names";
 
-const NO_FIELDS: &str = "has braces with nothing between them, which no variant has in JSON of an \
-    enum that contains itself: leave them out";
+const NO_FIELDS: &str = "has braces with nothing between them, which no variant has in JSON and RON of \
+    an enum that contains itself: leave them out";
 
-/// An error where a type that contains itself has a shape that is not written in JSON.
+/// An error where a type that contains itself has a shape that is not written in JSON and RON.
 pub(crate) fn check_nested_json(definition: &Definition<'_>) -> Result<(), Fault> {
     let Shape::Variants(variants) = &definition.shape else {
         return Ok(());

@@ -5,7 +5,9 @@ use crate::output::layout::{Brackets, Items, Piece, list};
 use crate::output::nested_bodies::{known_arms, known_fields};
 use crate::output::nested_json::{append_json_choice, append_json_record};
 use crate::output::nested_json_fields::json_fields;
+use crate::output::nested_ron::{append_ron_choice, append_ron_record};
 use crate::output::nested_rows::{NestedRow, append_choice_row, append_record_row};
+use crate::output::nested_text::first_text;
 use crate::output::nested_writes::{write_arms, write_fields};
 use crate::output::sheet::Sheet;
 use crate::output::target::Target;
@@ -48,11 +50,18 @@ pub(crate) fn append_nested<'a>(
         Shape::Fields(fields) => {
             let row = append_record_row(sheet, &target, fields)?;
             let known = known_fields(sheet, fields)?;
-            let write = write_fields(sheet, name, fields)?;
+            let write = if target.attributes.bin.is_used() {
+                write_fields(sheet, name, fields)?
+            } else {
+                String::new(sheet.alloc)
+            };
             append_impls(sheet, &target, &RECORD, &row, (&known, &write))?;
             if target.attributes.json.is_used() {
                 let appended = json_fields(sheet, name, fields, (&row.leaves, "&value."))?;
                 append_json_record(sheet, &target, appended.as_str())?;
+            }
+            if target.attributes.ron.is_used() {
+                append_ron_record(sheet, &target, fields)?;
             }
             Ok(())
         }
@@ -67,6 +76,9 @@ pub(crate) fn append_nested<'a>(
             append_impls(sheet, &target, &CHOICE, &row, (&known, &write))?;
             if target.attributes.json.is_used() {
                 append_json_choice(sheet, &target, variants, &row)?;
+            }
+            if target.attributes.ron.is_used() {
+                append_ron_choice(sheet, &target, variants)?;
             }
             Ok(())
         }
@@ -200,27 +212,30 @@ pub(crate) fn laws_of<'a>(
 
 /// What stands in the names of the files of the first format of a type.
 fn first_infix(attributes: Attributes<'_>) -> &'static str {
-    if attributes.bin.is_used() { "" } else { "Json" }
+    match first_text(attributes) {
+        Some(format) => format.word,
+        None => "",
+    }
 }
 
 /// Adds the codec by which a value is legal, and the lines that bring it in.
 fn put_codec<'a>(holes: &mut Holes, alloc: Global, target: &Target<'a>) -> Result<(), AllocError> {
     let name = Case::Snake.of_variant(alloc, target.name.text)?;
     let specs = specs_of(alloc, target.module, "")?;
-    if target.attributes.bin.is_used() {
+    let Some(format) = first_text(target.attributes) else {
         let cited = format!(in alloc;
             "    ghost use Rattle.{specs}.{{{name}_means, {name}_codec}};"
         )?;
         holes.put("CITED", cited.as_str())?;
         return holes.put("FIRST", format!(in alloc; "{name}_codec")?.as_str());
-    }
-    let texts = specs_of(alloc, target.module, "Json")?;
+    };
+    let (texts, end) = (specs_of(alloc, target.module, format.word)?, format.name);
     let cited = format!(in alloc;
         "    ghost use Rattle.{specs}.{{{name}_means}};
-    ghost use Rattle.{texts}.{{{name}_json}};"
+    ghost use Rattle.{texts}.{{{name}_{end}}};"
     )?;
     holes.put("CITED", cited.as_str())?;
-    holes.put("FIRST", format!(in alloc; "{name}_json")?.as_str())
+    holes.put("FIRST", format!(in alloc; "{name}_{end}")?.as_str())
 }
 
 /// Appends the impls of bytes, of which the body is given that writes a value.

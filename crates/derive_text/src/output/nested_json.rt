@@ -1,24 +1,22 @@
 //! Types that contain themselves, in JSON: what writes them variant by variant or field by field, and
 //! what reads them within levels.
 
-use crate::output::layout::{Brackets, Items, Piece, list};
-use crate::output::nested::{laws_of, nested_holes, specs_of};
 use crate::output::nested_json_contents::append_contents;
 use crate::output::nested_json_variants::{arms, json_variants};
 use crate::output::nested_rows::NestedRow;
+use crate::output::nested_text::{JSON, reading, text_holes};
 use crate::output::sheet::Sheet;
 use crate::output::target::Target;
-use crate::output::template::Holes;
 use derive_syntax::{Case, Variant};
 use std::alloc::{AllocError, Global};
 
-const CODEC: &str = "
+pub(crate) const CODEC: &str = "
 // ---- JSON
 
 impl nano_json_schema::JsonCodec for $TYPE {
     ghost use Rattle.$TEXTS.{$CITED};
 
-    ghost json = { $JSON };
+    ghost json = { $OWN };
 
     ghost agrees = { $AGREES };
 }
@@ -32,7 +30,7 @@ impl nano_json_nested::NestedJson for $TYPE {
     ghost at = { $AT };
 }";
 
-const CHOICE: &str = "
+pub(crate) const CHOICE: &str = "
 impl nano_json_nested::WritesJson for $TYPE {
 $AROUND    #[tactic(auto, using($RULES_json_texts))]
     fn write_json(&self, alloc: std::alloc::Global, d: usize, \
@@ -42,8 +40,8 @@ $ARMS        }
     }
 }";
 
-const RECORD: &str = "
-ghost use Rattle.$TEXTS.{$JSON};
+pub(crate) const RECORD: &str = "
+ghost use Rattle.$TEXTS.{$OWN};
 
 /// Appends the fields between braces. If the write fails, what was written so far is left.
 #[cycle($CYCLE)]
@@ -53,7 +51,7 @@ fn $APPEND(
     d: usize,
     s: &mut nano_json_schema::SerJsonState,
 ) -> Result<(), std::alloc::AllocError>
-    ensures ok { OnOk result (Appends s.old.out s.new.out ($JSON.canonical.text d value.now)) }
+    ensures ok { OnOk result (Appends s.old.out s.new.out ($OWN.canonical.text d value.now)) }
     ensures err { OnErr result (AppendsPart s.old.out s.new.out) }
 {
     s.st_pre()?;
@@ -71,7 +69,7 @@ impl nano_json_nested::WritesJson for $TYPE {
     }
 }";
 
-const READER: &str = "
+pub(crate) const READER: &str = "
 impl nano_json_schema::SerJson for $TYPE {
     fn ser_json(&self, alloc: std::alloc::Global, d: usize, \
         s: &mut nano_json_schema::SerJsonState) -> Result<(), std::alloc::AllocError> {
@@ -116,10 +114,10 @@ pub(crate) fn append_json_choice<'a>(
     row: &NestedRow,
 ) -> Result<(), AllocError> {
     let alloc = sheet.alloc;
-    let mut holes = json_holes(sheet, target)?;
+    let mut holes = text_holes(sheet, target, JSON)?;
     sheet.write(CODEC, &holes)?;
     let full = json_variants(sheet, target, variants, &row.leaves)?;
-    let call = reading(sheet, full.as_str(), "read_choice_json_within")?;
+    let call = reading(sheet, JSON, (full.as_str(), "choice"))?;
     holes.put("CALL", call.as_str())?;
     let around = if append_contents(sheet, target, variants, &row.contents)? {
         format!(in alloc; "    #[cycle({})]\n", cycle_of(alloc, target)?)?
@@ -143,8 +141,8 @@ pub(crate) fn append_json_record<'a>(
     let name = Case::Snake.of_variant(alloc, target.name.text)?;
     let wanted = format!(in alloc; "append_{name}_json")?;
     let append = sheet.names.take(alloc, wanted.as_str())?;
-    let mut holes = json_holes(sheet, target)?;
-    let call = reading(sheet, target.row.as_str(), "read_record_json_within")?;
+    let mut holes = text_holes(sheet, target, JSON)?;
+    let call = reading(sheet, JSON, (target.row.as_str(), "record"))?;
     holes.put("CALL", call.as_str())?;
     holes.put("APPEND", append.as_str())?;
     holes.put("CYCLE", cycle_of(alloc, target)?.as_str())?;
@@ -166,50 +164,4 @@ pub(crate) fn import_outcomes(sheet: &mut Sheet) -> Result<(), AllocError> {
 pub(crate) fn cycle_of<'a>(alloc: Global, target: &Target<'a>) -> Result<String, AllocError> {
     let name = Case::Snake.of_variant(alloc, target.name.text)?;
     format!(in alloc; "write_{name}_json")
-}
-
-/// What stands in the templates of JSON.
-fn json_holes<'a>(sheet: &mut Sheet, target: &Target<'a>) -> Result<Holes, AllocError> {
-    let alloc = sheet.alloc;
-    let name = Case::Snake.of_variant(alloc, target.name.text)?;
-    let mut holes = nested_holes(sheet, target)?;
-    let codec = format!(in alloc; "{name}_json")?;
-    let agrees = if target.attributes.bin.is_used() {
-        format!(in alloc; "{name}_json_agrees")?
-    } else {
-        sheet.import("ghost use Rattle.nano_schema.specs.UserTypes.{agreed};")?;
-        String::from_str(alloc, "agreed")?
-    };
-    let cited = if target.attributes.bin.is_used() {
-        format!(in alloc; "{codec}, {agrees}")?
-    } else {
-        codec.clone()?
-    };
-    holes.put("RULES", laws_of(alloc, target, "Json")?.as_str())?;
-    holes.put("TEXTS", specs_of(alloc, target.module, "Json")?.as_str())?;
-    holes.put("CITED", cited.as_str())?;
-    holes.put("JSON", codec.as_str())?;
-    holes.put("AGREES", agrees.as_str())?;
-    holes.put("AT", format!(in alloc; "{name}_json_at")?.as_str())?;
-    Ok(holes)
-}
-
-/// The call that reads what a value is seen as by this row, one level below.
-fn reading(sheet: &mut Sheet, row: &str, read: &str) -> Result<String, AllocError> {
-    let alloc = sheet.alloc;
-    let open = format!(in alloc; "nano_json_nested::{read}::<nano_levels::Levels, {row}>(")?;
-    let open = sheet.short(open.as_str())?;
-    let mut arguments = Vec::new(alloc);
-    for argument in ["below", "left - 1", "alloc", "state", "input"] {
-        arguments.push(Piece::of(alloc, argument)?)?;
-    }
-    let brackets = Brackets {
-        open: open.as_str(),
-        close: ")",
-        items: Items::Patterns,
-        indent: 8,
-        before: 14,
-        after: 2,
-    };
-    Ok(list(alloc, brackets, &arguments)?.laid)
 }

@@ -8,13 +8,14 @@ use crate::output::names::Names;
 use std::alloc::{AllocError, Global};
 
 /// The modules whose items are brought in, in the order of their lines.
-const MODULES: [&str; 10] = [
+const MODULES: [&str; 11] = [
     "nano_bin",
     "nano_bin_nested",
     "nano_bin_schema",
     "nano_json_nested",
     "nano_json_schema",
     "nano_levels",
+    "nano_ron_nested",
     "nano_ron_schema",
     "nano_schema",
     "std::alloc",

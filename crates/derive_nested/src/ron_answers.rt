@@ -1,0 +1,132 @@
+//! The answers to what is to be proved of what writes RON of a type that contains itself: of a struct
+//! field by field, and of a variant of an enum part by part or field by field.
+
+use crate::answers::{Answers, HEAD, Place};
+use crate::codec_laws::law_end;
+use crate::nested::{Held, Nested};
+use crate::ron_parts::{is_in_parts, part_name};
+use crate::ron_rows::{Written, fields_proof, parts_proof, struct_proof};
+use crate::text_codec::RON;
+use crate::text_fields::field_name;
+use std::alloc::{AllocError, Global};
+
+/// The answers for what writes a type, where it is written by several calls.
+pub(crate) fn ron_writer(
+    alloc: Global,
+    nested: &Nested<'_>,
+    place: &Place<'_>,
+) -> Result<Option<Answers>, AllocError> {
+    let mut cited = String::new(alloc);
+    let mut answers = String::new(alloc);
+    for held in &nested.contents {
+        if nested.is_enum && !is_in_parts(held) {
+            continue;
+        }
+        let names = names_of(alloc, nested, held)?;
+        let written = written_by(alloc, nested, (held, &names))?;
+        cited.push_str(if cited.is_empty() { "" } else { ", " })?;
+        cited.push_str(written.cited.as_str())?;
+        answers.push_str(answered(alloc, &names, &written)?.as_str())?;
+    }
+    if answers.is_empty() {
+        return Ok(None);
+    }
+    let (folder, snake) = (place.folder.as_str(), nested.names.snake.as_str());
+    let (library, stem, goals) = (place.library, place.stem.as_str(), place.goals.as_str());
+    Ok(Some(Answers {
+        path: format!(in alloc; "{folder}/+write_{snake}_ron/Answers.antt")?,
+        text: format!(in alloc;
+            "{HEAD}use Rattle.std.proofs.Common.{{[], ◌∷◌, ◌++◌, chars, codes, string_bytes}}
+use Rattle.std.proofs.lemmas.Result.{{on_ok_weaker}}
+use Rattle.nano_grammar.specs.FieldCodec.{{field_text, fields_text}}
+use Rattle.nano_grammar.proofs.WrittenLists.{{both_written}}
+use Rattle.nano_text.proofs.RollbackLaws.{{unchanged_by}}
+use Rattle.nano_ron_schema.specs.FieldCodecs.{{ron_fields}}
+use Rattle.nano_ron_schema.proofs.WrittenFields.{{more_lines}}
+use Rattle.nano_ron_nested.proofs.WrittenLaws.{{written_between, opened_before, part_before}}
+use Rattle.{library}.proofs.{stem}RonCodecsLaws.{{{cited}}}
+use {goals}.+write_{snake}_ron.Goals as goal
+{answers}"
+        )?,
+    }))
+}
+
+/// The names of what writes a struct, or a variant.
+#[derive(Drop)]
+pub(crate) struct WriterNames {
+    /// What appends it.
+    pub(crate) append: String,
+    /// What leaves the text unchanged where that fails.
+    pub(crate) write: String,
+    /// The names of the definitions of what its fields or parts are written as.
+    pub(crate) parts: Vec<String>,
+}
+
+/// The names of what writes a struct, or a variant.
+fn names_of(
+    alloc: Global,
+    nested: &Nested<'_>,
+    held: &Held<'_>,
+) -> Result<WriterNames, AllocError> {
+    let (name, snake) = (nested.names.of.as_str(), nested.names.snake.as_str());
+    let mut parts = Vec::new(alloc);
+    for called in &held.called {
+        let of = (held, called.as_str());
+        if held.has_fields {
+            parts.push(field_name(alloc, nested, &RON, of)?)?;
+        } else {
+            parts.push(part_name(alloc, nested, of)?)?;
+        }
+    }
+    if !nested.is_enum {
+        return Ok(WriterNames {
+            append: format!(in alloc; "append_{snake}_ron")?,
+            write: format!(in alloc; "{name}WritesRon::write_ron")?,
+            parts,
+        });
+    }
+    let end = law_end(alloc, held)?;
+    Ok(WriterNames {
+        append: format!(in alloc; "append_{snake}_{end}_ron")?,
+        write: format!(in alloc; "write_{snake}_{end}_ron")?,
+        parts,
+    })
+}
+
+/// What is proved of what appends a struct, or a variant.
+fn written_by(
+    alloc: Global,
+    nested: &Nested<'_>,
+    (held, names): (&Held<'_>, &WriterNames),
+) -> Result<Written, AllocError> {
+    if !nested.is_enum {
+        return struct_proof(alloc, nested, (held, names));
+    }
+    if held.has_fields {
+        return fields_proof(alloc, (held, names));
+    }
+    parts_proof(alloc, (held, names))
+}
+
+/// The answers for what writes it.
+fn answered(
+    alloc: Global,
+    names: &WriterNames,
+    written: &Written,
+) -> Result<String, AllocError> {
+    let WriterNames { append, write, .. } = names;
+    let proof = written.proof.as_str();
+    format!(in alloc;
+        "
+pub {write}-rollback_on_error-requires :
+    goal.{write}-rollback_on_error-requires
+{write}-rollback_on_error-requires t c =
+    unchanged_by c.{append}-written.result c.args.s.now.out c.{append}-written.new.s.out
+    c.len-start.result _ c.len-start.ensures c.{append}-written.ensures.ok
+    c.{append}-written.ensures.err
+
+pub {append}-returns-clause-ok : goal.{append}-returns-clause-ok
+{append}-returns-clause-ok t c =
+{proof}"
+    )
+}

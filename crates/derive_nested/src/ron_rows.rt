@@ -1,0 +1,237 @@
+//! What is proved of the calls that append a struct in RON, or a variant: the fields one below the
+//! other, or the parts with commas between them.
+
+use crate::nested::{Held, Nested};
+use crate::ron_answers::WriterNames;
+use derive_syntax::Holder;
+use std::alloc::{AllocError, Global};
+
+/// What is proved of what appends something.
+#[derive(Drop)]
+pub(crate) struct Written {
+    /// The names of the definitions that the proof cites.
+    pub(crate) cited: String,
+    /// The proof, as lines.
+    pub(crate) proof: String,
+}
+
+/// What is proved of what appends a struct.
+pub(crate) fn struct_proof(
+    alloc: Global,
+    nested: &Nested<'_>,
+    (held, names): (&Held<'_>, &WriterNames),
+) -> Result<Written, AllocError> {
+    let snake = nested.names.snake.as_str();
+    let fields = terms_of(alloc, names, "x")?;
+    let row = row_proof(alloc, (held, &fields), 0, fields.len())?;
+    let inside = state_before(alloc, held, fields.len())?;
+    let (all, ok) = (row.fields.as_str(), row.ok.as_str());
+    Ok(Written {
+        cited: format!(in alloc; "{}, {snake}_ron_text", cited_names(alloc, names)?)?,
+        proof: format!(in alloc;
+            "    let x = c.args.value.now in
+    let inner = c.saturating_add-inner.result in
+    let before = string_bytes c.args.s.now.out in
+    let opened = string_bytes c.st_pre.new.self.out in
+    let row =
+    {ok} in
+    rw ({snake}_ron_text c.args.d x)
+    (on_ok_weaker c.st_post.result
+    (written_between c.args.d inner {all} before opened
+    {inside} (string_bytes c.st_post.new.self.out) c.saturating_add-inner.ensures
+    c.in_ok-st_pre.ensures.ok row) c.st_post.ensures.ok)
+"
+        )?,
+    })
+}
+
+/// What is proved of what appends a variant with named fields.
+pub(crate) fn fields_proof(
+    alloc: Global,
+    (held, names): (&Held<'_>, &WriterNames),
+) -> Result<Written, AllocError> {
+    let fields = terms_of(alloc, names, "")?;
+    let row = row_proof(alloc, (held, &fields), 0, fields.len())?;
+    let inside = state_before(alloc, held, fields.len())?;
+    let (all, ok, key) = (row.fields.as_str(), row.ok.as_str(), held.key.as_str());
+    Ok(Written {
+        cited: cited_names(alloc, names)?,
+        proof: format!(in alloc;
+            "    let inner = c.saturating_add-inner.result in
+    let before = string_bytes c.args.s.now.out in
+    let named = string_bytes c.write_unit_variant.new.s.out in
+    let opened = string_bytes c.st_pre.new.self.out in
+    let after = string_bytes c.st_post.new.self.out in
+    let row =
+    {ok} in
+    on_ok_weaker c.st_post.result
+    (λ last. both_written before named after (chars (codes \"{key}\"))
+    (fields_text ron_fields c.args.d {all}) c.in_ok-write_unit_variant.ensures.ok
+    (written_between c.args.d inner {all} named opened
+    {inside} after c.saturating_add-inner.ensures c.in_ok-st_pre.ensures.ok row last))
+    c.st_post.ensures.ok
+"
+        )?,
+    })
+}
+
+/// What is proved of what appends a variant with several parts.
+pub(crate) fn parts_proof(
+    alloc: Global,
+    (held, names): (&Held<'_>, &WriterNames),
+) -> Result<Written, AllocError> {
+    let count = names.parts.len();
+    let end = call_at(alloc, held, count.saturating_sub(1))?;
+    let mut proof = String::from_str(alloc, "last")?;
+    let mut rest = String::new(alloc);
+    for back in 1..count.saturating_add(1) {
+        let i = count.saturating_sub(back);
+        let Some(name) = names.parts.get(i) else {
+            continue;
+        };
+        let text = format!(in alloc; "{name} c.args.d c.args.v{i}.now")?;
+        if back == 1 {
+            rest = format!(in alloc; "({text} ++ 41 ∷ [])")?;
+            continue;
+        }
+        let (before, after) = (state_before(alloc, held, i)?, state_before(alloc, held, i.saturating_add(1))?);
+        let call = call_at(alloc, held, i)?;
+        proof = format!(in alloc;
+            "(part_before ({text})\n    {rest}\n    {before} {after} after c.in_ok-{call}.ensures.ok\n    {proof})"
+        )?;
+        rest = format!(in alloc; "({text} ++ 44 ∷ (32 ∷ {rest}))")?;
+    }
+    let key = held.key.as_str();
+    Ok(Written {
+        cited: cited_names(alloc, names)?,
+        proof: format!(in alloc;
+            "    let before = string_bytes c.args.s.now.out in
+    let opened = string_bytes c.open_variant.new.s.out in
+    let after = string_bytes c.{end}.new.s.out in
+    on_ok_weaker c.{end}.result
+    (λ last. opened_before (codes \"{key}\")
+    {rest}
+    before opened after c.in_ok-open_variant.ensures.ok
+    {proof}) c.{end}.ensures.ok
+"
+        )?,
+    })
+}
+
+/// The names of the definitions of what each field or part is written as.
+fn cited_names(alloc: Global, names: &WriterNames) -> Result<String, AllocError> {
+    let mut cited = String::new(alloc);
+    for name in &names.parts {
+        cited.push_str(if cited.is_empty() { "" } else { ", " })?;
+        cited.push_str(name.as_str())?;
+    }
+    Ok(cited)
+}
+
+/// What each field is written as: of a struct that is called so, or of the arguments.
+fn terms_of(
+    alloc: Global,
+    names: &WriterNames,
+    itself: &str,
+) -> Result<Vec<String>, AllocError> {
+    let mut terms = Vec::new(alloc);
+    for (i, name) in names.parts.iter().enumerate() {
+        let term = if itself.is_empty() {
+            format!(in alloc; "({name} c.args.v{i}.now)")?
+        } else {
+            format!(in alloc; "({name} {itself})")?
+        };
+        terms.push(term)?;
+    }
+    Ok(terms)
+}
+
+/// What is proved of fields that are appended.
+#[derive(Drop)]
+struct Appended {
+    /// The fields.
+    fields: String,
+    /// What they append.
+    ok: String,
+}
+
+/// What is proved of the fields from one place up to another.
+fn row_proof(
+    alloc: Global,
+    (held, fields): (&Held<'_>, &[String]),
+    from: usize,
+    end: usize,
+) -> Result<Appended, AllocError> {
+    let count = end.saturating_sub(from);
+    if count < 2 {
+        let call = call_at(alloc, held, from)?;
+        let field = match fields.get(from) {
+            Some(field) => field.as_str(),
+            None => "",
+        };
+        return Ok(Appended {
+            fields: String::from_str(alloc, field)?,
+            ok: format!(in alloc; "c.in_ok-{call}.ensures.ok")?,
+        });
+    }
+    let middle = from.saturating_add(count / 2);
+    let one = row_proof(alloc, (held, fields), from, middle)?;
+    let other = row_proof(alloc, (held, fields), middle, end)?;
+    let before = state_before(alloc, held, from)?;
+    let between = state_before(alloc, held, middle)?;
+    let after = state_before(alloc, held, end)?;
+    Ok(Appended {
+        fields: format!(in alloc; "({} ++ {})", one.fields, other.fields)?,
+        ok: format!(in alloc;
+            "more_lines inner (field_text ron_fields inner) {} {}\n    {before} {between}\n    {after} ({}) ({})",
+            one.fields, other.fields, one.ok, other.ok
+        )?,
+    })
+}
+
+/// The text before the field or the part at a place, as a ghost term.
+fn state_before(alloc: Global, held: &Held<'_>, i: usize) -> Result<String, AllocError> {
+    let Some(before) = i.checked_sub(1) else {
+        return String::from_str(alloc, "opened");
+    };
+    let call = call_at(alloc, held, before)?;
+    format!(in alloc; "(string_bytes c.{call}.new.s.out)")
+}
+
+/// The name of the call that appends the field or the part at a place: from the second of a name
+/// on with its number.
+fn call_at(alloc: Global, held: &Held<'_>, i: usize) -> Result<String, AllocError> {
+    let name = call_of(held, i);
+    let mut count: usize = 1;
+    for earlier in 0..i {
+        if call_of(held, earlier) == name {
+            count = count.saturating_add(1);
+        }
+    }
+    if count > 1 {
+        return format!(in alloc; "{name}-{count}");
+    }
+    String::from_str(alloc, name)
+}
+
+/// The function that appends the field or the part at a place.
+fn call_of(held: &Held<'_>, i: usize) -> &'static str {
+    let Some(leaf) = held.leaves.get(i) else {
+        return "";
+    };
+    let is_within = leaf.nested.is_within();
+    if held.has_fields {
+        return match (leaf.nested.holders.first(), is_within) {
+            (Some(Holder::Option), true) => "append_optional_within",
+            (Some(Holder::Option), false) => "append_optional",
+            (_, true) => "append_required_within",
+            (_, false) => "append_required",
+        };
+    }
+    match (i.saturating_add(1) == held.leaves.len(), is_within) {
+        (true, true) => "append_last_within",
+        (true, false) => "append_last",
+        (false, true) => "append_part_within",
+        (false, false) => "append_part",
+    }
+}

@@ -1,0 +1,87 @@
+//! The steps that append the fields of a struct that contains itself in RON, or what a variant holds.
+
+use crate::output::layout::{Brackets, Items, Piece, list};
+use crate::output::nested_bodies::Held;
+use crate::output::sheet::Sheet;
+use crate::output::types::optional_part;
+use derive_syntax::{Field, Token, field_name};
+use std::alloc::AllocError;
+
+/// The steps that append the fields of a value of the type of this name, or the arguments that are
+/// its fields.
+pub(crate) fn field_steps<'a>(
+    sheet: &mut Sheet,
+    name: Token<'a>,
+    fields: &[Field<'a>],
+    of_value: bool,
+) -> Result<String, AllocError> {
+    let alloc = sheet.alloc;
+    let mut text = String::new(alloc);
+    for (i, field) in fields.iter().enumerate() {
+        let kind = match optional_part(field.of) {
+            Some(_part) => "optional",
+            None => "required",
+        };
+        let end = match field.of.parameter_of(&[name]) {
+            Some(_itself) => "_within",
+            None => "",
+        };
+        let open = format!(in alloc; "nano_ron_nested::append_{kind}{end}(")?;
+        let key = format!(in alloc; "\"{}\"", field_name(alloc, *field, None)?)?;
+        let value = if of_value {
+            format!(in alloc; "&value.{}", field.name.text)?
+        } else {
+            format!(in alloc; "v{i}")?
+        };
+        let arguments = ["alloc", key.as_str(), value.as_str(), "inner", "s"];
+        text.push_str(step(sheet, open.as_str(), &arguments, ")?;")?.as_str())?;
+    }
+    Ok(text)
+}
+
+/// The steps that append the parts of a variant of the type of this name, and the closing
+/// parenthesis.
+pub(crate) fn part_steps<'a>(
+    sheet: &mut Sheet,
+    name: Token<'a>,
+    parts: &[Held<'a>],
+) -> Result<String, AllocError> {
+    let alloc = sheet.alloc;
+    let mut text = String::new(alloc);
+    for (i, part) in parts.iter().enumerate() {
+        let is_last = i.saturating_add(1) == parts.len();
+        let (kind, close) = if is_last { ("last", ")") } else { ("part", ")?;") };
+        let end = match part.of.parameter_of(&[name]) {
+            Some(_itself) => "_within",
+            None => "",
+        };
+        let open = format!(in alloc; "nano_ron_nested::append_{kind}{end}(")?;
+        let value = format!(in alloc; "v{i}")?;
+        let arguments = ["alloc", value.as_str(), "d", "s"];
+        text.push_str(step(sheet, open.as_str(), &arguments, close)?.as_str())?;
+    }
+    Ok(text)
+}
+
+/// A call on lines of its own, with such an end.
+fn step(
+    sheet: &mut Sheet,
+    open: &str,
+    arguments: &[&str],
+    close: &str,
+) -> Result<String, AllocError> {
+    let open = sheet.short(open)?;
+    let mut pieces = Vec::new(sheet.alloc);
+    for argument in arguments {
+        pieces.push(Piece::of(sheet.alloc, *argument)?)?;
+    }
+    let brackets = Brackets {
+        open: open.as_str(),
+        close,
+        items: Items::Values,
+        indent: 4,
+        before: 4,
+        after: 0,
+    };
+    format!(in sheet.alloc; "    {}\n", list(sheet.alloc, brackets, &pieces)?.laid)
+}

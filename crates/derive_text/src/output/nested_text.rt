@@ -1,0 +1,127 @@
+//! What types that contain themselves have in each format of texts: what stands in the templates of
+//! the format, and the call that reads a value.
+
+use crate::output::layout::{Brackets, Items, Piece, list};
+use crate::output::nested::{laws_of, nested_holes, specs_of};
+use crate::output::sheet::Sheet;
+use crate::output::target::Target;
+use crate::output::template::Holes;
+use derive_syntax::{Attributes, Case};
+use std::alloc::{AllocError, Global};
+
+/// A format of texts, by its names.
+#[derive(Clone, Copy)]
+pub(crate) struct TextNames {
+    /// As the names of functions and definitions have it.
+    pub(crate) name: &'static str,
+    /// As the names of traits and files have it.
+    pub(crate) word: &'static str,
+}
+
+/// JSON.
+pub(crate) const JSON: TextNames = TextNames {
+    name: "json",
+    word: "Json",
+};
+
+/// RON.
+pub(crate) const RON: TextNames = TextNames {
+    name: "ron",
+    word: "Ron",
+};
+
+/// What a template of JSON says otherwise in RON.
+const IN_RON: [(&str, &str); 4] = [
+    ("json", "ron"),
+    ("Json", "Ron"),
+    ("JSON", "RON"),
+    ("braces", "parentheses"),
+];
+
+/// A template of JSON as it stands in RON.
+pub(crate) fn in_ron(alloc: Global, template: &str) -> Result<String, AllocError> {
+    let mut text = String::from_str(alloc, template)?;
+    for (json, ron) in IN_RON {
+        text = replaced(alloc, text.as_str(), json, ron)?;
+    }
+    Ok(text)
+}
+
+/// A text with one word in place of another.
+fn replaced(alloc: Global, text: &str, from: &str, to: &str) -> Result<String, AllocError> {
+    let mut other = String::new(alloc);
+    for (i, part) in text.split(from).enumerate() {
+        other.push_str(if i > 0 { to } else { "" })?;
+        other.push_str(part)?;
+    }
+    Ok(other)
+}
+
+/// The first format of a type, if it is one of texts.
+pub(crate) fn first_text(attributes: Attributes<'_>) -> Option<TextNames> {
+    if attributes.bin.is_used() {
+        return None;
+    }
+    Some(if attributes.json.is_used() { JSON } else { RON })
+}
+
+/// Whether a format of texts is the first one of a type.
+fn is_first(attributes: Attributes<'_>, format: TextNames) -> bool {
+    match first_text(attributes) {
+        Some(first) => first.name == format.name,
+        None => false,
+    }
+}
+
+/// What stands in the templates of a format of texts.
+pub(crate) fn text_holes<'a>(
+    sheet: &mut Sheet,
+    target: &Target<'a>,
+    format: TextNames,
+) -> Result<Holes, AllocError> {
+    let alloc = sheet.alloc;
+    let TextNames { name: end, word } = format;
+    let name = Case::Snake.of_variant(alloc, target.name.text)?;
+    let mut holes = nested_holes(sheet, target)?;
+    let codec = format!(in alloc; "{name}_{end}")?;
+    let (agrees, cited) = if is_first(target.attributes, format) {
+        sheet.import("ghost use Rattle.nano_schema.specs.UserTypes.{agreed};")?;
+        (String::from_str(alloc, "agreed")?, codec.clone()?)
+    } else {
+        let agrees = format!(in alloc; "{codec}_agrees")?;
+        let cited = format!(in alloc; "{codec}, {agrees}")?;
+        (agrees, cited)
+    };
+    holes.put("RULES", laws_of(alloc, target, word)?.as_str())?;
+    holes.put("TEXTS", specs_of(alloc, target.module, word)?.as_str())?;
+    holes.put("CITED", cited.as_str())?;
+    holes.put("OWN", codec.as_str())?;
+    holes.put("AGREES", agrees.as_str())?;
+    holes.put("AT", format!(in alloc; "{name}_{end}_at")?.as_str())?;
+    Ok(holes)
+}
+
+/// The call that reads what a value is seen as by this row, of structs or of enums, one level below.
+pub(crate) fn reading(
+    sheet: &mut Sheet,
+    format: TextNames,
+    (row, of): (&str, &str),
+) -> Result<String, AllocError> {
+    let (alloc, end) = (sheet.alloc, format.name);
+    let read = format!(in alloc; "nano_{end}_nested::read_{of}_{end}_within")?;
+    let open = format!(in alloc; "{read}::<nano_levels::Levels, {row}>(")?;
+    let open = sheet.short(open.as_str())?;
+    let mut arguments = Vec::new(alloc);
+    for argument in ["below", "left - 1", "alloc", "state", "input"] {
+        arguments.push(Piece::of(alloc, argument)?)?;
+    }
+    let brackets = Brackets {
+        open: open.as_str(),
+        close: ")",
+        items: Items::Patterns,
+        indent: 8,
+        before: 14,
+        after: 2,
+    };
+    Ok(list(alloc, brackets, &arguments)?.laid)
+}

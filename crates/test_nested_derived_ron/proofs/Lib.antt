@@ -1,0 +1,12 @@
+mod TreeCodecsLaws
+mod TreeJsonCodecsLaws
+mod TreeRonCodecsLaws
+mod FolderCodecsLaws
+mod FolderRonCodecsLaws
+mod ChainCodecsLaws
+mod ChainRonCodecsLaws
+mod ExpressionCodecsLaws
+mod ExpressionRonCodecsLaws
+mod FilterCodecsLaws
+mod FilterJsonCodecsLaws
+mod FilterRonCodecsLaws

@@ -1,0 +1,40 @@
+-- Written by derive_files.
+use Rattle.std.proofs.Common.{◌++◌, true, string_bytes}
+use Rattle.std.proofs.lemmas.Result.{on_ok_weaker}
+use Rattle.nano_grammar.specs.FieldCodec.{field_text}
+use Rattle.nano_text.proofs.RollbackLaws.{unchanged_by}
+use Rattle.nano_json_schema.specs.FieldCodecs.{json_fields}
+use Rattle.nano_json_schema.proofs.WrittenFields.{more_fields}
+use Rattle.nano_json_nested.proofs.WrittenLaws.{written_between}
+use Rattle.test_nested_derived_ron.proofs.FilterJsonCodecsLaws.{filter_json_between, filter_json_field_has_field, filter_json_field_has_and}
+use Rattle.test_nested_derived_ron.proofs.filter.derived.+write_filter_json.Goals as goal
+
+pub write_filter_has-rollback_on_error-requires :
+    goal.write_filter_has-rollback_on_error-requires
+write_filter_has-rollback_on_error-requires t c =
+    unchanged_by c.append_filter_has-written.result c.args.s.now.out
+    c.append_filter_has-written.new.s.out c.len-start.result _ c.len-start.ensures
+    c.append_filter_has-written.ensures.ok c.append_filter_has-written.ensures.err
+
+pub append_filter_has_fields-returns-clause-ok : goal.append_filter_has_fields-returns-clause-ok
+append_filter_has_fields-returns-clause-ok t c =
+    let inner = c.saturating_add-inner.result in
+    let before = string_bytes c.args.s.now.out in
+    let opened = string_bytes c.st_pre.new.self.out in
+    let row =
+    more_fields (field_text json_fields inner) true c.in_ok-and_is_first.and_is_first (filter_json_field_has_field c.args.v0.now) (filter_json_field_has_and c.args.v1.now)
+    opened (string_bytes c.append_fields.new.s.out) (string_bytes c.append_optional_within.new.s.out)
+    (c.in_ok-and_is_first.ensures.ok) (c.in_ok-and_is_first.ensures.next) (c.in_ok-append_optional_within.ensures.ok) in
+    (on_ok_weaker c.st_post.result
+    (written_between c.args.d inner ((filter_json_field_has_field c.args.v0.now) ++ (filter_json_field_has_and c.args.v1.now)) before opened
+    (string_bytes c.append_optional_within.new.s.out) (string_bytes c.st_post.new.self.out) c.saturating_add-inner.ensures
+    c.in_ok-st_pre.ensures.ok row) c.st_post.ensures.ok)
+
+pub append_filter_has-returns-clause-ok : goal.append_filter_has-returns-clause-ok
+append_filter_has-returns-clause-ok t c =
+    on_ok_weaker c.st_post.result
+    (filter_json_between _ _ (string_bytes c.args.s.now.out) (string_bytes c.st_pre.new.self.out)
+    (string_bytes c.ser_json.new.s.out) (string_bytes c.push_str.new.self)
+    (string_bytes c.append_filter_has_fields.new.s.out) (string_bytes c.st_post.new.self.out)
+    c.in_ok-st_pre.ensures.ok c.in_ok-ser_json.ensures.ok c.in_ok-push_str.ensures.bytes
+    c.in_ok-append_filter_has_fields.ensures.ok) c.st_post.ensures.ok

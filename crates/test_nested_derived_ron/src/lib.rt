@@ -1,0 +1,17 @@
+//! User-defined types that contain themselves, in RON alone and with other formats: their impls,
+//! definitions and proofs are written by `derive`.
+#![tactic(auto)]
+
+mod chain;
+mod expression;
+mod filter;
+mod folder;
+#[cfg(test)]
+mod tests;
+mod tree;
+
+pub use chain::Chain;
+pub use expression::Expression;
+pub use filter::Filter;
+pub use folder::Folder;
+pub use tree::Tree;
