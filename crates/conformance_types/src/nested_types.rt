@@ -4,7 +4,7 @@ use crate::bytes_alone::of_bytes_alone;
 use crate::errors::{code, json_code, not_a_text};
 use crate::format::Format;
 use crate::outcome::Outcome;
-use crate::reads::{of_bytes, of_json};
+use crate::reads::{json_text, of_bytes, of_json};
 use nanoserde::{DeBin, DeJson, SerBin, SerJson, json_to_bin};
 use std::alloc::{AllocError, Global};
 use std::str;
@@ -35,8 +35,8 @@ fn of_bytes_and_json<T: SerBin + DeBin + SerJson + DeJson>(
 ) -> Result<Outcome, AllocError> {
     match format {
         Format::Bin | Format::BinWhole | Format::BinAt => of_bytes::<T>(alloc, format, input),
-        Format::BinJson => match T::deserialize_bin(alloc, input) {
-            Ok(value) => Ok(Outcome::Text(value.serialize_json(alloc)?.into_bytes())),
+        Format::BinJson | Format::JsonWrite => match T::deserialize_bin(alloc, input) {
+            Ok(value) => Ok(Outcome::Text(json_text(alloc, format, &value)?.into_bytes())),
             Err(error) => code(alloc, error, 0),
         },
         _ => match str::from_utf8(input) {
