@@ -17,8 +17,8 @@ use crate::text_cited::{JSON as JSON_CITED, TEXTS};
 use crate::text_codec::{JSON, RON, TextTerms, text_codec};
 use crate::text_laws::text_laws;
 use derive_syntax::{
-    Definition, DeriveError, Fault, check_source, codecs_name, error_of, source_of,
-    text_above, tokens_of,
+    Definition, DeriveError, Fault, check_source, codecs_name, error_of, source_of, text_above,
+    tokens_of,
 };
 use std::alloc::{AllocError, Global};
 
@@ -176,9 +176,7 @@ fn append_texts<'a>(
         proofs
             .text
             .push_str(text_laws(alloc, &nested, format, is_first)?.as_str())?;
-        proofs
-            .brought
-            .push_str(text_cited(alloc, module, &nested, format, is_first)?.as_str())?;
+        proofs.brought.push_str(text_cited(alloc, module, &nested, format, is_first)?.as_str())?;
     }
     if specs.text.is_empty() {
         return Ok(());

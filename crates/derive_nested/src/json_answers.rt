@@ -3,7 +3,7 @@
 
 use crate::answers::HEAD;
 use crate::brought::content_names;
-use crate::json_rows::{Appended, appended};
+use crate::json_rows::{Appended, fields_proof};
 use crate::nested::{Held, Nested};
 use crate::text_codec::JSON;
 use crate::text_fields::{field_name, has_contents, has_long_row};
@@ -140,7 +140,7 @@ fn struct_answers(
     let function = format!(in alloc; "{name}WritesJson::write_json")?;
     let append = format!(in alloc; "append_{snake}_json")?;
     let rollback = rollback(alloc, function.as_str(), append.as_str())?;
-    let (row, inside) = appended(alloc, nested, held)?;
+    let (row, inside) = fields_proof(alloc, nested, held)?;
     let (opening, between) = (
         opening(alloc, &row)?,
         between(alloc, &row, inside.as_str())?,
@@ -168,7 +168,7 @@ fn variant_answers(
     let append = format!(in alloc; "append_{snake}_{end}")?;
     let function = format!(in alloc; "write_{snake}_{end}")?;
     let rollback = rollback(alloc, function.as_str(), append.as_str())?;
-    let (row, inside) = appended(alloc, nested, held)?;
+    let (row, inside) = fields_proof(alloc, nested, held)?;
     let (opening, between) = (
         opening(alloc, &row)?,
         between(alloc, &row, inside.as_str())?,

@@ -18,7 +18,7 @@ pub(crate) struct Appended {
 }
 
 /// What is proved of all fields of a struct or a variant, and the text after them, as a ghost term.
-pub(crate) fn appended(
+pub(crate) fn fields_proof(
     alloc: Global,
     nested: &Nested<'_>,
     held: &Held<'_>,

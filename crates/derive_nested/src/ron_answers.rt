@@ -109,11 +109,7 @@ fn written_by(
 }
 
 /// The answers for what writes it.
-fn answered(
-    alloc: Global,
-    names: &WriterNames,
-    written: &Written,
-) -> Result<String, AllocError> {
+fn answered(alloc: Global, names: &WriterNames, written: &Written) -> Result<String, AllocError> {
     let WriterNames { append, write, .. } = names;
     let proof = written.proof.as_str();
     format!(in alloc;

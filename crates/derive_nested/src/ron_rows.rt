@@ -94,7 +94,10 @@ pub(crate) fn parts_proof(
             rest = format!(in alloc; "({text} ++ 41 ∷ [])")?;
             continue;
         }
-        let (before, after) = (state_before(alloc, held, i)?, state_before(alloc, held, i.saturating_add(1))?);
+        let (before, after) = (
+            state_before(alloc, held, i)?,
+            state_before(alloc, held, i.saturating_add(1))?,
+        );
         let call = call_at(alloc, held, i)?;
         proof = format!(in alloc;
             "(part_before ({text})\n    {rest}\n    {before} {after} after c.in_ok-{call}.ensures.ok\n    {proof})"
@@ -129,11 +132,7 @@ fn cited_names(alloc: Global, names: &WriterNames) -> Result<String, AllocError>
 }
 
 /// What each field is written as: of a struct that is called so, or of the arguments.
-fn terms_of(
-    alloc: Global,
-    names: &WriterNames,
-    itself: &str,
-) -> Result<Vec<String>, AllocError> {
+fn terms_of(alloc: Global, names: &WriterNames, itself: &str) -> Result<Vec<String>, AllocError> {
     let mut terms = Vec::new(alloc);
     for (i, name) in names.parts.iter().enumerate() {
         let term = if itself.is_empty() {
