@@ -173,13 +173,29 @@ fn variant_answers(
         opening(alloc, &row)?,
         between(alloc, &row, inside.as_str())?,
     );
+    let content = content_answer(alloc, nested, held, append.as_str())?;
     format!(in alloc;
         "{rollback}
 pub {append}_fields-returns-clause-ok : goal.{append}_fields-returns-clause-ok
 {append}_fields-returns-clause-ok t c =
 {opening}
     {between}
+{content}"
+    )
+}
 
+/// The answer for the function that appends a variant with named fields: its name, and the fields.
+fn content_answer(
+    alloc: Global,
+    nested: &Nested<'_>,
+    held: &Held<'_>,
+    append: &str,
+) -> Result<String, AllocError> {
+    let snake = nested.names.snake.as_str();
+    let content = content_name(alloc, &JSON, snake, held)?;
+    let (key, values) = (held.key.as_str(), arguments(alloc, 0, held.leaves.len())?);
+    format!(in alloc;
+        "
 pub {append}-returns-clause-ok : goal.{append}-returns-clause-ok
 {append}-returns-clause-ok t c =
     on_ok_weaker c.st_post.result
