@@ -1,6 +1,6 @@
 -- Written by derive_files: types that contain themselves, and their codecs.
-use Rattle.std.specs.Prelude.{◌≡◌, ℕ, refl, codes}
-use Rattle.std.proofs.Common.{◌∙◌}
+use Rattle.std.specs.Prelude.{◌≡◌, ℕ, max, refl, codes}
+use Rattle.std.proofs.Common.{◌∙◌, arith}
 use Rattle.nano_value.specs.Meaning.{Meaning, Agrees, number}
 use Rattle.nano_schema_levels.proofs.StepsLaws.{by_option}
 use Rattle.nano_levels.specs.Layers.{Layer, Nested}
@@ -33,6 +33,10 @@ chain_ron_fields =
 abbrev pub chain_ron_layer : Layer ron ron_grammar Chain (ChainContent Chain)
 chain_ron_layer = struct_layer chain_ron_fields (λ f. word_names refl) (λ f. refl)
 
+-- what holds no values of the type before what does
+pub chain_ron_later_depth : {a b : ℕ} → a ≡ b → a ≡ max 0 b
+chain_ron_later_depth e = omega (arith, e)
+
 pub chain_ron_means_opened : (y : Chain-F Chain)
     → chain_means_step (map-Chain Chain Meaning chain_means y)
     ≡ chain_ron_layer.means chain_means (chain_opened y)
@@ -48,7 +52,7 @@ pub chain_ron_depth_opened : (y : Chain-F Chain)
 chain_ron_depth_opened y =
     by_option (λ o. chain_depth_step (map-Chain Chain ℕ chain_depth (record { number = y.number; next = o }))
     ≡ chain_ron_layer.deep chain_depth (chain_opened {X = Chain} (record { number = y.number; next = o })))
-    refl (λ x1. refl)
+    refl (λ x1. chain_ron_later_depth refl)
     y.next
 
 abbrev pub chain_ron_nested : Nested ron ron_grammar Chain

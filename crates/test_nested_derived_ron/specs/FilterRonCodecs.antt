@@ -1,7 +1,7 @@
 -- Written by derive_files: types that contain themselves, and their codecs.
-use Rattle.std.specs.Prelude.{◌≡◌, ℕ, List, refl, codes, Box, Option, String, Vec}
+use Rattle.std.specs.Prelude.{◌≡◌, ℕ, List, max, refl, codes, Box, Option, String, Vec}
 use Rattle.std.specs.Global.{Global}
-use Rattle.std.proofs.Common.{◌∙◌}
+use Rattle.std.proofs.Common.{◌∙◌, arith}
 use Rattle.nano_value.specs.Meaning.{Meaning, Agrees}
 use Rattle.nano_schema_levels.proofs.StepsLaws.{by_option, list_depth}
 use Rattle.nano_levels.specs.Layers.{Layer, Nested}
@@ -46,6 +46,10 @@ filter_ron_variants =
 abbrev pub filter_ron_layer : Layer ron ron_grammar Filter (FilterContent Filter)
 filter_ron_layer = choice_layer filter_ron_variants (λ f. refl) (λ f. refl)
 
+-- what holds no values of the type before what does
+pub filter_ron_later_depth : {a b : ℕ} → a ≡ b → a ≡ max 0 b
+filter_ron_later_depth e = omega (arith, e)
+
 pub filter_ron_means_opened : (y : Filter-F Filter)
     → filter_means_step (map-Filter Filter Meaning filter_means y)
     ≡ filter_ron_layer.means filter_means (filter_opened y)
@@ -63,11 +67,12 @@ pub filter_ron_depth_opened : (y : Filter-F Filter)
     ≡ filter_ron_layer.deep filter_depth (filter_opened y)
 filter_ron_depth_opened Filter-F.Any = refl
 filter_ron_depth_opened (Filter-F.Not v) = refl
-filter_ron_depth_opened (Filter-F.AtLeast v0 v1) = list_depth _ _ _ (λ x. refl) v1.items
+filter_ron_depth_opened (Filter-F.AtLeast v0 v1) =
+    filter_ron_later_depth (list_depth _ _ _ (λ x. refl) v1.items)
 filter_ron_depth_opened (Filter-F.Has v0 v1) =
     by_option (λ o. filter_depth_step (map-Filter Filter ℕ filter_depth (Filter-F.Has v0 o))
     ≡ filter_ron_layer.deep filter_depth (filter_opened {X = Filter} (Filter-F.Has v0 o)))
-    refl (λ x1. refl)
+    refl (λ x1. filter_ron_later_depth refl)
     v1
 
 abbrev pub filter_ron_nested : Nested ron ron_grammar Filter

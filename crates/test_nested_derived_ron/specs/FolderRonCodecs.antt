@@ -1,6 +1,6 @@
 -- Written by derive_files: types that contain themselves, and their codecs.
-use Rattle.std.specs.Prelude.{◌≡◌, ℕ, refl, codes}
-use Rattle.std.proofs.Common.{◌∙◌}
+use Rattle.std.specs.Prelude.{◌≡◌, ℕ, max, refl, codes}
+use Rattle.std.proofs.Common.{◌∙◌, arith}
 use Rattle.nano_value.specs.Meaning.{Meaning}
 use Rattle.nano_schema_levels.proofs.StepsLaws.{list_depth}
 use Rattle.nano_levels.specs.Layers.{Layer, Nested}
@@ -31,6 +31,10 @@ folder_ron_fields =
 abbrev pub folder_ron_layer : Layer ron ron_grammar Folder (FolderContent Folder)
 folder_ron_layer = struct_layer folder_ron_fields (λ f. word_names refl) (λ f. refl)
 
+-- what holds no values of the type before what does
+pub folder_ron_later_depth : {a b : ℕ} → a ≡ b → a ≡ max 0 b
+folder_ron_later_depth e = omega (arith, e)
+
 pub folder_ron_means_opened : (y : Folder-F Folder)
     → folder_means_step (map-Folder Folder Meaning folder_means y)
     ≡ folder_ron_layer.means folder_means (folder_opened y)
@@ -39,7 +43,7 @@ folder_ron_means_opened y = refl
 pub folder_ron_depth_opened : (y : Folder-F Folder)
     → folder_depth_step (map-Folder Folder ℕ folder_depth y)
     ≡ folder_ron_layer.deep folder_depth (folder_opened y)
-folder_ron_depth_opened y = list_depth _ _ _ (λ x. refl) y.folders.items
+folder_ron_depth_opened y = folder_ron_later_depth (list_depth _ _ _ (λ x. refl) y.folders.items)
 
 abbrev pub folder_ron_nested : Nested ron ron_grammar Folder
 folder_ron_nested = record {
