@@ -7,7 +7,8 @@ const PARTS: &str =
     "has more than two parts, which no variant has in JSON and RON of an enum that contains \
     itself: give them names";
 
-const NO_FIELDS: &str = "has braces with nothing between them, which no variant has in JSON and RON of \
+const NO_FIELDS: &str =
+    "has braces with nothing between them, which no variant has in JSON and RON of \
     an enum that contains itself: leave them out";
 
 /// An error where a type that contains itself has a shape that is not written in JSON and RON.

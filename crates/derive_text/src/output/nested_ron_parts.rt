@@ -102,7 +102,10 @@ fn append_writer<'a>(
     let mut holes = Holes::new(alloc);
     put_arguments(&mut holes, alloc, variant)?;
     let steps = steps_of(sheet, target, variant)?;
-    let (of, put) = (name_of(alloc, target, variant)?, writer_of(alloc, target, variant)?);
+    let (of, put) = (
+        name_of(alloc, target, variant)?,
+        writer_of(alloc, target, variant)?,
+    );
     let texts = specs_of(alloc, target.module, RON.word)?;
     holes.put("TEXTS", texts.as_str())?;
     holes.put("OWN", format!(in alloc; "{name}_ron_of_{end}")?.as_str())?;

@@ -50,7 +50,11 @@ pub(crate) fn part_steps<'a>(
     let mut text = String::new(alloc);
     for (i, part) in parts.iter().enumerate() {
         let is_last = i.saturating_add(1) == parts.len();
-        let (kind, close) = if is_last { ("last", ")") } else { ("part", ")?;") };
+        let (kind, close) = if is_last {
+            ("last", ")")
+        } else {
+            ("part", ")?;")
+        };
         let end = match part.of.parameter_of(&[name]) {
             Some(_itself) => "_within",
             None => "",
