@@ -24,7 +24,7 @@ PLANNED = {
     "docs/GUIDE.md": 340,
     "docs/SECURITY.md": 72,
     "docs/SPEED.md": None,
-    "docs/USER_TYPES.md": 272,
+    "docs/USER_TYPES.md": 286,
 }
 
 

@@ -26,6 +26,23 @@ enum A {
 }
 => 3:5: `B` has braces with nothing between them, which no variant has in JSON and RON
 ----
+// nanoserde: bin ron
+enum A {
+    B(Box<A>, Box<A>),
+    C,
+}
+=> 3:5: `B` has two parts that hold the enum itself, which no variant has in RON
+----
+// nanoserde: json
+enum A {
+    B {
+        left: Box<A>,
+        right: Box<A>,
+    },
+    C,
+}
+=> 5:9: `right` is a second field of a variant that holds the enum itself
+----
 // nanoserde: bin
 struct A<T> {
     a: Vec<A>,

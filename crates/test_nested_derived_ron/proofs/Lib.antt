@@ -5,8 +5,9 @@ mod FolderCodecsLaws
 mod FolderRonCodecsLaws
 mod ChainCodecsLaws
 mod ChainRonCodecsLaws
-mod ExpressionCodecsLaws
-mod ExpressionRonCodecsLaws
 mod FilterCodecsLaws
 mod FilterJsonCodecsLaws
 mod FilterRonCodecsLaws
+mod CommentCodecsLaws
+mod CommentJsonCodecsLaws
+mod CommentRonCodecsLaws

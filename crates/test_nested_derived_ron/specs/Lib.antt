@@ -5,8 +5,9 @@ pub mod FolderCodecs
 pub mod FolderRonCodecs
 pub mod ChainCodecs
 pub mod ChainRonCodecs
-pub mod ExpressionCodecs
-pub mod ExpressionRonCodecs
 pub mod FilterCodecs
 pub mod FilterJsonCodecs
 pub mod FilterRonCodecs
+pub mod CommentCodecs
+pub mod CommentJsonCodecs
+pub mod CommentRonCodecs

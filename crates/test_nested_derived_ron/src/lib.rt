@@ -3,7 +3,7 @@
 #![tactic(auto)]
 
 mod chain;
-mod expression;
+mod comment;
 mod filter;
 mod folder;
 #[cfg(test)]
@@ -11,7 +11,7 @@ mod tests;
 mod tree;
 
 pub use chain::Chain;
-pub use expression::Expression;
+pub use comment::Comment;
 pub use filter::Filter;
 pub use folder::Folder;
 pub use tree::Tree;

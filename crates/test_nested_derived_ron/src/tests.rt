@@ -1,6 +1,6 @@
 //! Types that contain themselves, as RON, by impls that `derive` writes.
 
-use crate::{Chain, Expression, Filter, Folder, Tree};
+use crate::{Chain, Comment, Filter, Folder, Tree};
 use nano_ron_schema::{BothRon, DeRon};
 use std::alloc::{AllocError, Global};
 use std::process::Abort;
@@ -10,8 +10,13 @@ const TREES: &[&str] = &[
     "Node([\n    Leaf(7),\n    Node([\n        Leaf(8),\n    ]),\n])",
 ];
 
-/// The sum of 3 and its opposite.
-const EXPRESSIONS: &[&str] = &["Sum(Number(3), Negated(Number(3)))"];
+/// A comment, and one that quotes another.
+const COMMENTS: &[&str] = &[
+    "(\n    author:\"a\",\n    text:\"b\",\n    votes:-1,\n    answers:[\n    ],\n)",
+    "(\n    author:\"a\",\n    text:\"b\",\n    votes:2,\n    pinned:true,\n    quoted:(\n        \
+    author:\"c\",\n        text:\"d\",\n        votes:0,\n        answers:[\n        ],\n    ),\n    \
+    answers:[\n    ],\n)",
+];
 
 const CHAINS: &[&str] = &[
     "(\n    number:5,\n)",
@@ -55,10 +60,10 @@ const DEEP_TREE: Deep = Deep {
     closing: "])",
 };
 
-const DEEP_EXPRESSION: Deep = Deep {
-    opening: "Sum(Number(1), ",
-    innermost: "Number(2)",
-    closing: ")",
+const DEEP_COMMENT: Deep = Deep {
+    opening: "(author:\"a\",text:\"b\",votes:1,answers:[",
+    innermost: "(author:\"a\",text:\"b\",votes:1,answers:[])",
+    closing: "])",
 };
 
 const DEEP_CHAIN: Deep = Deep {
@@ -159,8 +164,7 @@ fn ends_after_128<T: BothRon>(
 fn types_that_contain_themselves_are_texts(rt: HostRuntime) {
     let alloc = rt.alloc();
     holds(&rt, are_values::<Tree>(alloc, TREES), "trees");
-    let expressions = are_values::<Expression>(alloc, EXPRESSIONS);
-    holds(&rt, expressions, "expressions");
+    holds(&rt, are_values::<Comment>(alloc, COMMENTS), "comments");
     holds(&rt, are_values::<Chain>(alloc, CHAINS), "chains");
     holds(&rt, are_values::<Folder>(alloc, FOLDERS), "folders");
     holds(&rt, are_values::<Filter>(alloc, FILTERS), "filters");
@@ -180,8 +184,8 @@ fn levels_of_texts_run_out_after_128(rt: HostRuntime) {
     let alloc = rt.alloc();
     let trees = ends_after_128::<Tree>(alloc, &DEEP_TREE, 773);
     holds(&rt, trees.unwrap_or(false), "trees");
-    let expressions = ends_after_128::<Expression>(alloc, &DEEP_EXPRESSION, 1916);
-    holds(&rt, expressions.unwrap_or(false), "expressions");
+    let comments = ends_after_128::<Comment>(alloc, &DEEP_COMMENT, 4866);
+    holds(&rt, comments.unwrap_or(false), "comments");
     let chains = ends_after_128::<Chain>(alloc, &DEEP_CHAIN, 1922);
     holds(&rt, chains.unwrap_or(false), "chains");
     let folders = ends_after_128::<Folder>(alloc, &DEEP_FOLDER, 2434);

@@ -1,0 +1,42 @@
+-- Written by derive_files.
+use Rattle.std.proofs.Common.{[], ◌∷◌, ◌++◌, chars, codes, string_bytes}
+use Rattle.std.proofs.lemmas.Result.{on_ok_weaker}
+use Rattle.nano_grammar.specs.FieldCodec.{field_text, fields_text}
+use Rattle.nano_grammar.proofs.WrittenLists.{both_written}
+use Rattle.nano_text.proofs.RollbackLaws.{unchanged_by}
+use Rattle.nano_ron_schema.specs.FieldCodecs.{ron_fields}
+use Rattle.nano_ron_schema.proofs.WrittenFields.{more_lines}
+use Rattle.nano_ron_nested.proofs.WrittenLaws.{written_between, opened_before, part_before}
+use Rattle.test_nested_derived_ron.proofs.CommentRonCodecsLaws.{comment_ron_field_author, comment_ron_field_text, comment_ron_field_votes, comment_ron_field_pinned, comment_ron_field_quoted, comment_ron_field_answers, comment_ron_text}
+use Rattle.test_nested_derived_ron.proofs.comment.derived.+write_comment_ron.Goals as goal
+
+pub CommentWritesRon::write_ron-rollback_on_error-requires :
+    goal.CommentWritesRon::write_ron-rollback_on_error-requires
+CommentWritesRon::write_ron-rollback_on_error-requires t c =
+    unchanged_by c.append_comment_ron-written.result c.args.s.now.out c.append_comment_ron-written.new.s.out
+    c.len-start.result _ c.len-start.ensures c.append_comment_ron-written.ensures.ok
+    c.append_comment_ron-written.ensures.err
+
+pub append_comment_ron-returns-clause-ok : goal.append_comment_ron-returns-clause-ok
+append_comment_ron-returns-clause-ok t c =
+    let x = c.args.value.now in
+    let inner = c.saturating_add-inner.result in
+    let before = string_bytes c.args.s.now.out in
+    let opened = string_bytes c.st_pre.new.self.out in
+    let row =
+    more_lines inner (field_text ron_fields inner) ((comment_ron_field_author x) ++ ((comment_ron_field_text x) ++ (comment_ron_field_votes x))) ((comment_ron_field_pinned x) ++ ((comment_ron_field_quoted x) ++ (comment_ron_field_answers x)))
+    opened (string_bytes c.append_required-3.new.s.out)
+    (string_bytes c.append_required_within.new.s.out) (more_lines inner (field_text ron_fields inner) (comment_ron_field_author x) ((comment_ron_field_text x) ++ (comment_ron_field_votes x))
+    opened (string_bytes c.append_required.new.s.out)
+    (string_bytes c.append_required-3.new.s.out) (c.in_ok-append_required.ensures.ok) (more_lines inner (field_text ron_fields inner) (comment_ron_field_text x) (comment_ron_field_votes x)
+    (string_bytes c.append_required.new.s.out) (string_bytes c.append_required-2.new.s.out)
+    (string_bytes c.append_required-3.new.s.out) (c.in_ok-append_required-2.ensures.ok) (c.in_ok-append_required-3.ensures.ok))) (more_lines inner (field_text ron_fields inner) (comment_ron_field_pinned x) ((comment_ron_field_quoted x) ++ (comment_ron_field_answers x))
+    (string_bytes c.append_required-3.new.s.out) (string_bytes c.append_optional.new.s.out)
+    (string_bytes c.append_required_within.new.s.out) (c.in_ok-append_optional.ensures.ok) (more_lines inner (field_text ron_fields inner) (comment_ron_field_quoted x) (comment_ron_field_answers x)
+    (string_bytes c.append_optional.new.s.out) (string_bytes c.append_optional_within.new.s.out)
+    (string_bytes c.append_required_within.new.s.out) (c.in_ok-append_optional_within.ensures.ok) (c.in_ok-append_required_within.ensures.ok))) in
+    rw (comment_ron_text c.args.d x)
+    (on_ok_weaker c.st_post.result
+    (written_between c.args.d inner (((comment_ron_field_author x) ++ ((comment_ron_field_text x) ++ (comment_ron_field_votes x))) ++ ((comment_ron_field_pinned x) ++ ((comment_ron_field_quoted x) ++ (comment_ron_field_answers x)))) before opened
+    (string_bytes c.append_required_within.new.s.out) (string_bytes c.st_post.new.self.out) c.saturating_add-inner.ensures
+    c.in_ok-st_pre.ensures.ok row) c.st_post.ensures.ok)

@@ -1,0 +1,82 @@
+-- Written by derive_files: types that contain themselves, and their codecs.
+use Rattle.std.specs.Prelude.{◌≡◌, ℕ, max, refl, codes}
+use Rattle.std.proofs.Common.{◌∙◌, arith}
+use Rattle.nano_value.specs.Meaning.{Meaning, Agrees, text}
+use Rattle.nano_schema_levels.proofs.StepsLaws.{by_option, list_depth, pair_depth}
+use Rattle.nano_levels.specs.Layers.{Layer, Nested}
+use Rattle.nano_levels.proofs.LayersLaws.{itself_layer, list_layer}
+use Rattle.nano_levels.proofs.LevelsLaws.{level, limited}
+use Rattle.nano_schema_levels.specs.FieldLayers.{FieldsLayer}
+use Rattle.nano_schema_levels.proofs.FieldLayersLaws.{fields_pair_layer, optional_layer, other_fields, required_layer, struct_layer}
+use Rattle.nano_schema_levels.proofs.LegalLevelsLaws.{agree_through, nested_agrees}
+use Rattle.nano_schema_levels.proofs.PartLaws.{seen_layer}
+use Rattle.nano_ron.specs.Codec.{Codec}
+use Rattle.nano_ron.specs.ScalarCodecs.{boolean_codec}
+use Rattle.nano_ron_tokens.specs.Cut.{ron_grammar}
+use Rattle.nano_ron_tokens.proofs.RonLaws.{ron, block_brackets}
+use Rattle.nano_ron_tokens.proofs.StylesLaws.{line_style}
+use Rattle.nano_ron_schema.specs.FieldCodecs.{optional_field, required_field, ron_fields, word_names}
+use Rattle.nano_ron_nested.specs.TypeCodecs.{i32_codec, string_codec}
+use Rattle.test_nested_derived_ron.specs.declared.comment.Comment.{Comment}
+use Rattle.test_nested_derived_ron.specs.declared.comment.Comment.TheOpen.{Comment-F}
+use Rattle.test_nested_derived_ron.specs.declared.comment.Comment.TheViews.{out-Comment}
+use Rattle.test_nested_derived_ron.specs.declared.comment.Comment.TheFolds.{map-Comment, fold_out-Comment}
+use Rattle.test_nested_derived_ron.specs.CommentCodecs.{CommentContent, comment_opened, comment_view, comment_means, comment_means_step}
+use Rattle.test_nested_derived_ron.specs.CommentCodecs.{comment_depth, comment_depth_step}
+use Rattle.test_nested_derived_ron.specs.CommentCodecs.{comment_step}
+use Rattle.test_nested_derived_ron.specs.CommentJsonCodecs.{comment_json_nested, comment_json}
+
+-- ==== Comment: the layer around the values in it
+
+abbrev pub comment_ron_fields : FieldsLayer ron_fields Comment (CommentContent Comment)
+comment_ron_fields =
+    fields_pair_layer (fields_pair_layer (other_fields ron_fields (required_field (codes "author") string_codec)) (fields_pair_layer (other_fields ron_fields (required_field (codes "text") string_codec)) (other_fields ron_fields (required_field (codes "votes") i32_codec)))) (fields_pair_layer (other_fields ron_fields (optional_field (codes "pinned") boolean_codec)) (fields_pair_layer (optional_layer ron_fields (codes "quoted") (seen_layer (λ x. x.value) itself_layer)) (required_layer ron_fields (codes "answers") (seen_layer (λ x. x.items) (list_layer line_style block_brackets itself_layer)))))
+
+abbrev pub comment_ron_layer : Layer ron ron_grammar Comment (CommentContent Comment)
+comment_ron_layer = struct_layer comment_ron_fields (λ f. word_names refl) (λ f. refl)
+
+-- what holds no values of the type before what does
+pub comment_ron_later_depth : {a b : ℕ} → a ≡ b → a ≡ max 0 b
+comment_ron_later_depth e = omega (arith, e)
+
+pub comment_ron_means_opened : (y : Comment-F Comment)
+    → comment_means_step (map-Comment Comment Meaning comment_means y)
+    ≡ comment_ron_layer.means comment_means (comment_opened y)
+comment_ron_means_opened y =
+    by_option (λ o. comment_means_step (map-Comment Comment Meaning comment_means (record { author = y.author; text = y.text; votes = y.votes; pinned = y.pinned; quoted = o; answers = y.answers }))
+    ≡ comment_ron_layer.means comment_means (comment_opened {X = Comment} (record { author = y.author; text = y.text; votes = y.votes; pinned = y.pinned; quoted = o; answers = y.answers })))
+    refl (λ x4. refl)
+    y.quoted
+
+pub comment_ron_depth_opened : (y : Comment-F Comment)
+    → comment_depth_step (map-Comment Comment ℕ comment_depth y)
+    ≡ comment_ron_layer.deep comment_depth (comment_opened y)
+comment_ron_depth_opened y =
+    by_option (λ o. comment_depth_step (map-Comment Comment ℕ comment_depth (record { author = y.author; text = y.text; votes = y.votes; pinned = y.pinned; quoted = o; answers = y.answers }))
+    ≡ comment_ron_layer.deep comment_depth (comment_opened {X = Comment} (record { author = y.author; text = y.text; votes = y.votes; pinned = y.pinned; quoted = o; answers = y.answers })))
+    (comment_ron_later_depth (comment_ron_later_depth (pair_depth refl (list_depth _ _ _ (λ x. refl) y.answers.items)))) (λ x4. comment_ron_later_depth (comment_ron_later_depth (pair_depth refl (list_depth _ _ _ (λ x. refl) y.answers.items))))
+    y.quoted
+
+abbrev pub comment_ron_nested : Nested ron ron_grammar Comment
+comment_ron_nested = record {
+  Seen = CommentContent Comment;
+  layer = comment_ron_layer;
+  view = comment_view;
+  means = comment_means;
+  depth = comment_depth;
+  means_is = λ x. fold_out-Comment Meaning comment_means_step x ∙ comment_ron_means_opened (out-Comment x);
+  depth_is = λ x. fold_out-Comment ℕ comment_depth_step x ∙ comment_ron_depth_opened (out-Comment x);
+}
+
+-- those of at most so many levels
+abbrev pub comment_ron_at : ℕ → Codec Comment
+comment_ron_at = level comment_ron_nested
+
+-- those that are read
+abbrev pub comment_ron : Codec Comment
+comment_ron = limited comment_ron_nested 128
+
+pub comment_ron_agrees : Agrees comment_means comment_json.encoding.legal comment_means comment_ron.encoding.legal
+comment_ron_agrees =
+    agree_through (nested_agrees comment_json_nested comment_step (λ f. refl) 128)
+    (nested_agrees comment_ron_nested comment_step (λ f. refl) 128)
