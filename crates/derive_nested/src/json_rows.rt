@@ -44,6 +44,7 @@ fn row_proof(
     let other = row_proof(alloc, of, middle, end)?;
     let (nested, held) = of;
     let (first, next) = (first_at(alloc, held, from)?, first_at(alloc, held, middle)?);
+    let last = first_at(alloc, held, end)?;
     let before = state_before(alloc, held, from)?;
     let between = state_before(alloc, held, middle)?;
     let after = state_before(alloc, held, end)?;
@@ -56,8 +57,9 @@ fn row_proof(
             one.fields, other.fields, one.ok, one.next, other.ok
         )?,
         next: format!(in alloc;
-            "{}_json_none_so_far _ _ _ _ _ ({}) ({})",
-            nested.names.snake, one.next, other.next
+            "{}_json_none_so_far {first} {next} {last} {} {}
+    ({}) ({})",
+            nested.names.snake, one.fields, other.fields, one.next, other.next
         )?,
     })
 }
