@@ -17,7 +17,10 @@ use Rattle.test_nested_derived.specs.declared.filter.Filter.TheFolds.{map-Filter
 
 abbrev pub FilterContent : Type 0 → Type 0
 FilterContent X =
-    Either (Unit {0}) (Either (Box X Global) (Either (ℕ × Vec X Global) (String Global × Option (Box X Global))))
+    Either (Unit {0})
+    (Either (Box X Global)
+    (Either (ℕ × Vec X Global)
+    (String Global × Option (Box X Global))))
 
 abbrev pub filter_opened : {X : Type 0} → Filter-F X → FilterContent X
 filter_opened Filter-F.Any = First (tt {0})

@@ -16,7 +16,8 @@ use Rattle.test_nested_derived_ron.specs.declared.chain.Chain.TheViews.{out-Chai
 
 pub chain_written : (x : Chain)
     → chain_codec.canonical.written x
-    ≡ (u32_codec.canonical.written (out-Chain x).number ++ (option_codec (codec_as (λ (x : Box Chain Global). x.value) chain_codec)).canonical.written (out-Chain x).next)
+    ≡ (u32_codec.canonical.written (out-Chain x).number
+    ++ (option_codec (codec_as (λ (x : Box Chain Global). x.value) chain_codec)).canonical.written (out-Chain x).next)
 chain_written x = written_seen chain_nested x (chain_view x) refl
 
 pub chain_legal : (x : Chain)

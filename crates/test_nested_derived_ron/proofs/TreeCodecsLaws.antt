@@ -23,7 +23,8 @@ tree_view_leaf v = search (rules, the_lemmas)
 
 pub tree_written_leaf : (v : ℤ)
     → tree_codec.canonical.written (Tree-Leaf v)
-    ≡ little_endian 2 0 ++ i32_codec.canonical.written v
+    ≡ little_endian 2 0
+    ++ i32_codec.canonical.written v
 tree_written_leaf v =
     written_seen tree_nested (Tree-Leaf v) (First v) (tree_view_leaf v)
 
@@ -40,7 +41,8 @@ tree_view_node v = search (rules, the_lemmas)
 
 pub tree_written_node : (v : Vec Tree Global)
     → tree_codec.canonical.written (Tree-Node v)
-    ≡ little_endian 2 1 ++ (codec_as (λ (x : Vec Tree Global). x.items) (list_codec tree_codec)).canonical.written v
+    ≡ little_endian 2 1
+    ++ (codec_as (λ (x : Vec Tree Global). x.items) (list_codec tree_codec)).canonical.written v
 tree_written_node v =
     written_seen tree_nested (Tree-Node v) (Later v) (tree_view_node v)
 
