@@ -2,19 +2,17 @@
 //! form, its bytes or its error. What is asked of it further is asked by `conformance`.
 #![tactic(auto)]
 
-mod bytes_alone;
 mod containers;
 mod errors;
 mod fields;
 mod format;
 mod json_state;
-mod nested_types;
 mod outcome;
+mod partial;
 mod reads;
 mod ron_state;
 mod start;
 mod types;
-mod user_types;
 
 pub use errors::code;
 pub use fields::{escape, unescape};

@@ -1,6 +1,5 @@
-//! The types of `test_nested`, which contain themselves. A case can name their bytes and their JSON.
+//! The outcome of an input as a type that lacks a format.
 
-use crate::bytes_alone::of_bytes_alone;
 use crate::errors::{code, json_code, not_a_text};
 use crate::format::Format;
 use crate::outcome::Outcome;
@@ -8,27 +7,21 @@ use crate::reads::{json_text, of_bytes, of_json};
 use nanoserde::{DeBin, DeJson, SerBin, SerJson, json_to_bin};
 use std::alloc::{AllocError, Global};
 use std::str;
-use test_nested::{Chain, Expression, Folder, Menu, Tree};
 
-/// A type that contains itself, or one of bytes alone.
-pub(crate) fn of_nested_type(
+/// The outcome of an input in a format, of a type that has JSON alone.
+pub(crate) fn of_json_alone<T: SerJson + DeJson>(
     alloc: Global,
     format: Format,
-    kind: &str,
     input: &[u8],
 ) -> Result<Outcome, AllocError> {
-    match kind {
-        "Tree" => of_bytes_and_json::<Tree>(alloc, format, input),
-        "Expression" => of_bytes_and_json::<Expression>(alloc, format, input),
-        "Chain" => of_bytes_and_json::<Chain>(alloc, format, input),
-        "Folder" => of_bytes_and_json::<Folder>(alloc, format, input),
-        "Menu" => of_bytes_and_json::<Menu>(alloc, format, input),
-        _ => of_bytes_alone(alloc, format, kind, input),
+    match str::from_utf8(input) {
+        Ok(text) => of_json::<T>(alloc, format, text),
+        Err(_) => not_a_text(alloc),
     }
 }
 
 /// The outcome of an input in a format, of a type that has bytes and JSON.
-fn of_bytes_and_json<T: SerBin + DeBin + SerJson + DeJson>(
+pub(crate) fn of_bytes_and_json<T: SerBin + DeBin + SerJson + DeJson>(
     alloc: Global,
     format: Format,
     input: &[u8],
