@@ -5,6 +5,7 @@
 
 mod answers;
 mod asked;
+mod call;
 mod calls;
 mod case;
 mod counterparts;

@@ -2,6 +2,7 @@
 
 use crate::outcome::Outcome;
 use crate::start::{Left, Start, reported, start_of};
+use crate::token::Token;
 use nanoserde::{DeJsonErr, DeJsonState, DeJsonTok};
 use std::alloc::{AllocError, Global};
 use std::str::Chars;
@@ -42,22 +43,22 @@ pub(crate) fn json_begun(alloc: Global, input: &mut Chars<'_>) -> DeJsonState {
 /// The pending token.
 fn token(start: &Start<'_>) -> Option<DeJsonTok> {
     match start.token {
-        "U64" => Some(DeJsonTok::U64(start.unsigned?)),
-        "I64" => Some(DeJsonTok::I64(start.signed?)),
-        "Bool" => Some(DeJsonTok::Bool(start.content == "true")),
-        "Char" => Some(DeJsonTok::Char(start.character?)),
-        "Str" => Some(DeJsonTok::Str),
-        "F64" => Some(DeJsonTok::F64),
-        "BareIdent" => Some(DeJsonTok::BareIdent),
-        "Null" => Some(DeJsonTok::Null),
-        "Colon" => Some(DeJsonTok::Colon),
-        "CurlyOpen" => Some(DeJsonTok::CurlyOpen),
-        "CurlyClose" => Some(DeJsonTok::CurlyClose),
-        "BlockOpen" => Some(DeJsonTok::BlockOpen),
-        "BlockClose" => Some(DeJsonTok::BlockClose),
-        "Comma" => Some(DeJsonTok::Comma),
-        "Bof" => Some(DeJsonTok::Bof),
-        "Eof" => Some(DeJsonTok::Eof),
+        Token::U64 => Some(DeJsonTok::U64(start.unsigned?)),
+        Token::I64 => Some(DeJsonTok::I64(start.signed?)),
+        Token::Bool => Some(DeJsonTok::Bool(start.truth)),
+        Token::Char => Some(DeJsonTok::Char(start.character?)),
+        Token::Str => Some(DeJsonTok::Str),
+        Token::F64 => Some(DeJsonTok::F64),
+        Token::BareIdent => Some(DeJsonTok::BareIdent),
+        Token::Null => Some(DeJsonTok::Null),
+        Token::Colon => Some(DeJsonTok::Colon),
+        Token::CurlyOpen => Some(DeJsonTok::CurlyOpen),
+        Token::CurlyClose => Some(DeJsonTok::CurlyClose),
+        Token::BlockOpen => Some(DeJsonTok::BlockOpen),
+        Token::BlockClose => Some(DeJsonTok::BlockClose),
+        Token::Comma => Some(DeJsonTok::Comma),
+        Token::Bof => Some(DeJsonTok::Bof),
+        Token::Eof => Some(DeJsonTok::Eof),
         _ => None,
     }
 }

@@ -12,6 +12,7 @@ mod partial;
 mod reads;
 mod ron_state;
 mod start;
+mod token;
 mod types;
 
 pub use errors::code;

@@ -2,6 +2,7 @@
 
 use crate::outcome::Outcome;
 use crate::start::{Left, Start, reported, start_of};
+use crate::token::Token;
 use nanoserde::{DeRonErr, DeRonState, DeRonTok};
 use std::alloc::{AllocError, Global};
 use std::str::Chars;
@@ -42,23 +43,23 @@ pub(crate) fn ron_begun(alloc: Global, input: &mut Chars<'_>) -> DeRonState {
 /// The pending token.
 fn token(start: &Start<'_>) -> Option<DeRonTok> {
     match start.token {
-        "U64" => Some(DeRonTok::U64(start.unsigned?)),
-        "I64" => Some(DeRonTok::I64(start.signed?)),
-        "Bool" => Some(DeRonTok::Bool(start.content == "true")),
-        "Char" => Some(DeRonTok::Char(start.character?)),
-        "Ident" => Some(DeRonTok::Ident),
-        "Str" => Some(DeRonTok::Str),
-        "F64" => Some(DeRonTok::F64),
-        "Colon" => Some(DeRonTok::Colon),
-        "CurlyOpen" => Some(DeRonTok::CurlyOpen),
-        "CurlyClose" => Some(DeRonTok::CurlyClose),
-        "ParenOpen" => Some(DeRonTok::ParenOpen),
-        "ParenClose" => Some(DeRonTok::ParenClose),
-        "BlockOpen" => Some(DeRonTok::BlockOpen),
-        "BlockClose" => Some(DeRonTok::BlockClose),
-        "Comma" => Some(DeRonTok::Comma),
-        "Bof" => Some(DeRonTok::Bof),
-        "Eof" => Some(DeRonTok::Eof),
+        Token::U64 => Some(DeRonTok::U64(start.unsigned?)),
+        Token::I64 => Some(DeRonTok::I64(start.signed?)),
+        Token::Bool => Some(DeRonTok::Bool(start.truth)),
+        Token::Char => Some(DeRonTok::Char(start.character?)),
+        Token::Ident => Some(DeRonTok::Ident),
+        Token::Str => Some(DeRonTok::Str),
+        Token::F64 => Some(DeRonTok::F64),
+        Token::Colon => Some(DeRonTok::Colon),
+        Token::CurlyOpen => Some(DeRonTok::CurlyOpen),
+        Token::CurlyClose => Some(DeRonTok::CurlyClose),
+        Token::ParenOpen => Some(DeRonTok::ParenOpen),
+        Token::ParenClose => Some(DeRonTok::ParenClose),
+        Token::BlockOpen => Some(DeRonTok::BlockOpen),
+        Token::BlockClose => Some(DeRonTok::BlockClose),
+        Token::Comma => Some(DeRonTok::Comma),
+        Token::Bof => Some(DeRonTok::Bof),
+        Token::Eof => Some(DeRonTok::Eof),
         _ => None,
     }
 }

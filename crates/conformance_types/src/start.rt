@@ -1,14 +1,17 @@
 //! A reader's state as a case has it: `TOKEN LINE:COL TEXT`, where the text begins with `cur`.
 
+use crate::token::Token;
 use std::alloc::{AllocError, Global};
 
 /// A state of either format.
 #[derive(Clone, Copy)]
 pub(crate) struct Start<'a> {
-    /// The name of the pending token.
-    pub(crate) token: &'a str,
+    /// The pending token, without what it carries.
+    pub(crate) token: Token,
     /// What it carries, which stands in parentheses.
     pub(crate) content: &'a str,
+    /// What it carries as a truth.
+    pub(crate) truth: bool,
     /// What it carries as a number of `u64`, where it is one.
     pub(crate) unsigned: Option<u64>,
     /// What it carries as a number of `i64`, where it is one.
@@ -23,7 +26,7 @@ pub(crate) struct Start<'a> {
     pub(crate) text: &'a str,
 }
 
-/// The state that is described, or `None` where it has no place.
+/// The state that is described, or `None` where it has no place, or a token of neither format.
 pub(crate) fn start_of(state: &str) -> Option<Start<'_>> {
     let (token, rest) = parted(state, ' ');
     let (place, text) = parted(rest, ' ');
@@ -31,8 +34,9 @@ pub(crate) fn start_of(state: &str) -> Option<Start<'_>> {
     let (token, content) = parted(token, '(');
     let content = content.strip_suffix(')').unwrap_or(content);
     Some(Start {
-        token,
+        token: Token::of(token)?,
         content,
+        truth: content == "true",
         unsigned: content.parse().ok(),
         signed: content.parse().ok(),
         character: content.chars().nth(1),
