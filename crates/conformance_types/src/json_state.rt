@@ -9,7 +9,7 @@ use std::str::Chars;
 
 /// Puts a reader into the state that a case describes, and answers with the characters after its
 /// current one, or `None` where it describes none.
-pub fn json_start<'a>(
+pub(crate) fn json_start<'a>(
     state: &mut DeJsonState,
     text: &'a str,
 ) -> Result<Option<Chars<'a>>, AllocError> {
@@ -64,7 +64,7 @@ fn token(start: &Start<'_>) -> Option<DeJsonTok> {
 }
 
 /// Appends the state after an answer.
-pub fn append_json_state(
+pub(crate) fn append_json_state(
     answer: &mut String,
     state: &DeJsonState,
     input: &Chars<'_>,
@@ -86,7 +86,7 @@ pub fn append_json_state(
 }
 
 /// An error as the answer of a call.
-pub fn json_fault(alloc: Global, error: &DeJsonErr) -> Result<String, AllocError> {
+pub(crate) fn json_fault(alloc: Global, error: &DeJsonErr) -> Result<String, AllocError> {
     let msg = error.msg.as_str();
     reported(alloc, error.memory, msg, (error.line, error.col))
 }

@@ -9,7 +9,7 @@ use std::str::Chars;
 
 /// Puts a reader into the state that a case describes, and answers with the characters after its
 /// current one, or `None` where it describes none.
-pub fn ron_start<'a>(
+pub(crate) fn ron_start<'a>(
     state: &mut DeRonState,
     text: &'a str,
 ) -> Result<Option<Chars<'a>>, AllocError> {
@@ -65,7 +65,7 @@ fn token(start: &Start<'_>) -> Option<DeRonTok> {
 }
 
 /// Appends the state after an answer.
-pub fn append_ron_state(
+pub(crate) fn append_ron_state(
     answer: &mut String,
     state: &DeRonState,
     input: &Chars<'_>,
@@ -88,7 +88,7 @@ pub fn append_ron_state(
 }
 
 /// An error as the answer of a call.
-pub fn ron_fault(alloc: Global, error: &DeRonErr) -> Result<String, AllocError> {
+pub(crate) fn ron_fault(alloc: Global, error: &DeRonErr) -> Result<String, AllocError> {
     let msg = error.msg.as_str();
     reported(alloc, error.memory, msg, (error.line, error.col))
 }

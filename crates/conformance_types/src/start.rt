@@ -53,7 +53,7 @@ fn parted(text: &str, between: char) -> (&str, &str) {
 }
 
 /// What a call answers that ran out of memory.
-pub const OUT_OF_MEMORY: &str = "out of memory";
+pub(crate) const OUT_OF_MEMORY: &str = "out of memory";
 
 /// An error as an answer. Out of memory has no message.
 pub(crate) fn reported(

@@ -13,7 +13,7 @@ use std::alloc::{AllocError, Global};
 
 /// The outcome of an input of this type, in bytes or in a text. An input that is taken to be
 /// written is its own.
-pub fn outcome_of_type(
+pub(crate) fn outcome_of_type(
     alloc: Global,
     format: Format,
     kind: &str,

@@ -1,17 +1,19 @@
-//! Calls of a state of RON's reader: what is answered, and the state afterwards.
+//! Calls of a state of JSON's reader: what is answered, and the state afterwards.
 
 use crate::answers::append_answer;
 use crate::call::Call;
-use conformance_types::{OUT_OF_MEMORY, Outcome, append_ron_state, ron_fault, ron_start};
-use nanoserde::{DeRonErr, DeRonState};
+use crate::json_state::{append_json_state, json_fault, json_start};
+use crate::outcome::Outcome;
+use crate::start::OUT_OF_MEMORY;
+use nanoserde::{DeJsonErr, DeJsonState};
 use std::alloc::{AllocError, Global};
 use std::fmt::Display;
 use std::str::Chars;
 
 /// What calls answer in a state, one after the other, and the state after each.
-pub(crate) fn ron_calls(alloc: Global, calls: &str, text: &str) -> Result<Outcome, AllocError> {
-    let mut state = DeRonState::new(alloc);
-    let Some(mut input) = ron_start(&mut state, text)? else {
+pub(crate) fn json_calls(alloc: Global, calls: &str, text: &str) -> Result<Outcome, AllocError> {
+    let mut state = DeJsonState::new(alloc);
+    let Some(mut input) = json_start(&mut state, text)? else {
         return Ok(Outcome::Unknown);
     };
     let mut answers = String::new(alloc);
@@ -26,7 +28,7 @@ pub(crate) fn ron_calls(alloc: Global, calls: &str, text: &str) -> Result<Outcom
 /// last. Returns whether each has a name that is known.
 fn append_answers(
     alloc: Global,
-    state: &mut DeRonState,
+    state: &mut DeJsonState,
     input: &mut Chars<'_>,
     calls: &str,
     answers: &mut String,
@@ -39,7 +41,7 @@ fn append_answers(
             return Ok(false);
         };
         append_answer(answers, answer.as_str())?;
-        append_ron_state(answers, state, input)?;
+        append_json_state(answers, state, input)?;
         if answer.as_str() == OUT_OF_MEMORY {
             break;
         }
@@ -50,18 +52,18 @@ fn append_answers(
 /// A value, or the error.
 fn value<V: Display + Drop>(
     alloc: Global,
-    read: Result<V, DeRonErr>,
+    read: Result<V, DeJsonErr>,
 ) -> Result<Option<String>, AllocError> {
     match read {
         Ok(value) => Ok(Some(format!(in alloc; "{value}")?)),
-        Err(error) => Ok(Some(ron_fault(alloc, &error)?)),
+        Err(error) => Ok(Some(json_fault(alloc, &error)?)),
     }
 }
 
 /// What a call that takes a token answers, or what another call does.
 fn taken(
     alloc: Global,
-    state: &mut DeRonState,
+    state: &mut DeJsonState,
     input: &mut Chars<'_>,
     call: Call,
 ) -> Result<Option<String>, AllocError> {
@@ -69,28 +71,26 @@ fn taken(
         Call::NextTok => state.next_tok(alloc, input),
         Call::Colon => state.colon(alloc, input),
         Call::NextColon => state.next_colon(alloc, input),
-        Call::Ident => state.ident(alloc, input),
+        Call::String => state.string(alloc, input),
         Call::BlockOpen => state.block_open(alloc, input),
         Call::BlockClose => state.block_close(alloc, input),
         Call::CurlyOpen => state.curly_open(alloc, input),
         Call::CurlyClose => state.curly_close(alloc, input),
-        Call::ParenOpen => state.paren_open(alloc, input),
-        Call::ParenClose => state.paren_close(alloc, input),
         Call::EatCommaBlock => state.eat_comma_block(alloc, input),
         Call::EatCommaCurly => state.eat_comma_curly(alloc, input),
-        Call::EatCommaParen => state.eat_comma_paren(alloc, input),
+        Call::WholeField => state.whole_field(alloc, input),
         _ => return other(alloc, state, input, call),
     };
     match taken {
         Ok(()) => Ok(Some(String::from_str(alloc, "ok")?)),
-        Err(error) => Ok(Some(ron_fault(alloc, &error)?)),
+        Err(error) => Ok(Some(json_fault(alloc, &error)?)),
     }
 }
 
 /// What a call answers that takes no token, or one that makes a value or an error.
 fn other(
     alloc: Global,
-    state: &mut DeRonState,
+    state: &mut DeJsonState,
     input: &mut Chars<'_>,
     call: Call,
 ) -> Result<Option<String>, AllocError> {
@@ -114,20 +114,19 @@ fn other(
 }
 
 /// What a call answers that looks at the pending token, or one that makes an error.
-fn seen(alloc: Global, state: &DeRonState, call: Call) -> Result<Option<String>, AllocError> {
+fn seen(alloc: Global, state: &DeJsonState, call: Call) -> Result<Option<String>, AllocError> {
     let is_so = match call {
-        Call::IsNone => state.is_none(),
+        Call::IsNull => state.is_null(),
         Call::IsBlockClose => state.is_block_close(),
         Call::IsCurlyClose => state.is_curly_close(),
-        Call::IsParenClose => state.is_paren_close(),
-        Call::NextIdent => state.next_ident().is_some(),
+        Call::NextStr => state.next_str().is_some(),
         _ => return made(alloc, state, call),
     };
     Ok(Some(format!(in alloc; "{is_so}")?))
 }
 
 /// The error that a call makes, and its clone.
-fn made(alloc: Global, state: &DeRonState, call: Call) -> Result<Option<String>, AllocError> {
+fn made(alloc: Global, state: &DeJsonState, call: Call) -> Result<Option<String>, AllocError> {
     let error = match call {
         Call::ErrExp => state.err_exp(alloc, "k"),
         Call::ErrNf => state.err_nf(alloc, "k"),
@@ -140,5 +139,5 @@ fn made(alloc: Global, state: &DeRonState, call: Call) -> Result<Option<String>,
         _ => return Ok(None),
     };
     let again = error.clone(alloc)?;
-    Ok(Some(ron_fault(alloc, &again)?))
+    Ok(Some(json_fault(alloc, &again)?))
 }

@@ -1,7 +1,8 @@
 //! Calls of a writer's state, and the text afterwards.
 
 use crate::call::Call;
-use conformance_types::{OUT_OF_MEMORY, Outcome};
+use crate::outcome::Outcome;
+use crate::start::OUT_OF_MEMORY;
 use nanoserde::{SerJsonState, SerRonState};
 use std::alloc::{AllocError, Global};
 
