@@ -121,7 +121,7 @@ def use_lines(used):
 
 def file_text(modules, text, groups, following):
     """A file: its imports, its tables and its functions."""
-    used = {"crate::format": {"Format"}, "crate::outcome": {"Outcome"}, "crate::types": {"place_of"},
+    used = {"crate::format": {"Format"}, "crate::outcome": {"Outcome"}, "crate::named": {"place_of"},
             "std::alloc": {"AllocError", "Global"}}
     if following[1]:
         used.setdefault(f"crate::types::{following[0]}", set()).add(f"of_{following[1]}")

@@ -1,5 +1,7 @@
 //! The calls that a case can name.
 
+use crate::named::named;
+
 /// A call of a reader's state or of a writer's. It has the name of the method, and after it that of
 /// its argument, where it has some.
 #[derive(Clone, Copy)]
@@ -103,11 +105,6 @@ const CALLS: &[(&str, Call)] = &[
 impl Call {
     /// The call of this name.
     pub(crate) fn of(word: &str) -> Option<Call> {
-        for (name, call) in CALLS {
-            if *name == word {
-                return Some(*call);
-            }
-        }
-        None
+        named(CALLS, word)
     }
 }

@@ -13,6 +13,7 @@ mod fields;
 mod format;
 mod json_calls;
 mod json_state;
+mod named;
 mod outcome;
 mod partial;
 mod reads;

@@ -1,5 +1,7 @@
 //! The tokens that a state can have.
 
+use crate::named::named;
+
 /// A token of either format, without what it carries.
 #[derive(Clone, Copy)]
 pub(crate) enum Token {
@@ -50,11 +52,6 @@ const TOKENS: &[(&str, Token)] = &[
 impl Token {
     /// The token of this name.
     pub(crate) fn of(word: &str) -> Option<Token> {
-        for (name, token) in TOKENS {
-            if *name == word {
-                return Some(*token);
-            }
-        }
-        None
+        named(TOKENS, word)
     }
 }

@@ -27,15 +27,3 @@ pub(crate) fn outcome_of_type(
         _ => of_plain(alloc, format, kind, input),
     }
 }
-
-/// The place of a name in a table, where it stands there.
-pub(crate) fn place_of(names: &[&str], kind: &str) -> Option<usize> {
-    let mut place = 0usize;
-    for name in names {
-        if *name == kind {
-            return Some(place);
-        }
-        place = place.saturating_add(1);
-    }
-    None
-}

@@ -4,9 +4,9 @@
 
 use crate::containers::{of_hash_map, of_hash_set, of_list, of_option, of_tree_map, of_tree_set};
 use crate::format::Format;
+use crate::named::place_of;
 use crate::outcome::Outcome;
 use crate::reads::of_bytes;
-use crate::types::place_of;
 use crate::types::records::of_records;
 use std::alloc::{AllocError, Global};
 use std::collections::{BTreeMap, BTreeSet, HashMap, HashSet, LinkedList};

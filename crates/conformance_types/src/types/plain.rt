@@ -4,10 +4,10 @@
 
 use crate::containers::{of_list, of_option};
 use crate::format::Format;
+use crate::named::place_of;
 use crate::outcome::Outcome;
 use crate::reads::{of_bytes, of_type};
 use crate::types::entries::of_hashed;
-use crate::types::place_of;
 use std::alloc::{AllocError, Global};
 use std::collections::LinkedList;
 

@@ -4,10 +4,10 @@
 
 use crate::containers::{of_holder, of_list};
 use crate::format::Format;
+use crate::named::place_of;
 use crate::outcome::Outcome;
 use crate::partial::{of_bytes_and_json, of_json_alone};
 use crate::reads::{of_bytes, of_type};
-use crate::types::place_of;
 use nanoserde::records::{Choice, Holder, Item, Plain, Test};
 use std::alloc::{AllocError, Global};
 use std::collections::{BTreeSet, HashMap, HashSet, LinkedList};
