@@ -141,7 +141,13 @@ def file_text(modules, text, groups, following):
 def main():
     modules, files = read_list()
     afters = [(name, groups[0][0]) for name, _, groups in files[1:]] + [("", "")]
+    known = [kind for _, _, groups in files for group in groups for _, kind, _ in group[2]]
+    if len(known) != len(set(known)):
+        raise Malformed(f"{LIST}: {max(known, key=known.count)} has two lines")
     stale = 0
+    for path in sorted(set(FOLDER.glob("*.rt")) - {FOLDER / f"{name}.rt" for name, _, _ in files}):
+        print(f"{path}: {LIST} has no such file")
+        stale += 1
     for (name, text, groups), following in zip(files, afters):
         path, written = FOLDER / f"{name}.rt", file_text(modules, text, groups, following)
         if path.exists() and path.read_text() == written:
@@ -152,7 +158,7 @@ def main():
         else:
             FOLDER.mkdir(exist_ok=True)
             path.write_text(written)
-    print(f"{len(files)} files, {stale} stale")
+    print(f"{len(known)} types in {len(files)} files, {stale} stale")
     return 1 if stale else 0
 
 
