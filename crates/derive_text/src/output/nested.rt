@@ -194,8 +194,13 @@ fn put_laws<'a>(
     let first = laws_of(alloc, target, first_infix(target.attributes))?;
     let legal = format!(in alloc; "    #[tactic(auto, using({first}_legal))]\n")?;
     holes.put("LAWS", laws.as_str())?;
-    holes.put("VIEWS", if is_enum { views.as_str() } else { "" })?;
-    holes.put("LEGAL", if is_enum { "" } else { legal.as_str() })
+    if is_enum {
+        holes.put("VIEWS", views.as_str())?;
+        holes.put("LEGAL", "")
+    } else {
+        holes.put("VIEWS", "")?;
+        holes.put("LEGAL", legal.as_str())
+    }
 }
 
 /// The beginning of the names of the laws of a type, in all formats or in one of texts.
