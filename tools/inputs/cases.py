@@ -23,8 +23,6 @@ def types_of_tables():
 
 
 TYPES, BYTES_ALONE = types_of_tables()
-# Those of the program that contain themselves have no RON.
-IN_RON = [kind for kind in TYPES if kind not in kinds.NESTED]
 # What is said of an input in each format, and of how many cases. Of an accepted input the program reads each
 # prefix too, but where its bytes, or the text of bytes, are asked for; so most are drawn in these formats.
 FORMATS = [("json", 7), ("json-whole", 6), ("json-bin", 18), ("ron", 7), ("ron-whole", 6), ("ron-bin", 18),
@@ -45,8 +43,7 @@ def case(draw):
     source = form.split("-")[0]
     alone = {"bin": BYTES_ALONE, "bin-whole": BYTES_ALONE, "json": JSON_ALONE, "json-whole": JSON_ALONE}
     share = 0.2 if source == "bin" else 0.04
-    others = IN_RON if "ron" in form else TYPES
-    name = draw.pick(alone[form]) if form in alone and draw.chance(share) else draw.pick(others)
+    name = draw.pick(alone[form]) if form in alone and draw.chance(share) else draw.pick(TYPES)
     data = given(draw, source, lambda: good(draw, source, kinds.parse(name)))
     if source == "bin" and name == "Vec<()>":
         # Items without bytes: the count alone says how long it takes.

@@ -1,4 +1,4 @@
-"""Definitions that are drawn: a struct, a tuple struct and an enum in each file."""
+"""Definitions that are drawn: a struct, a tuple struct, an enum and a type that contains itself in each file."""
 
 TYPES = [
     "u8",
@@ -36,6 +36,10 @@ GENERIC = [
     "LinkedList<std::vec::Vec<A>>",
     "Vec<(u8, (A, super::c::C), Option<Vec<B>>)>",
 ]
+# What a type that contains itself is made of, where `$` is the type.
+PLAIN = ["u8", "i64", "bool", "String", "()"]
+AROUND = ["{}", "Vec<{}>", "Option<{}>", "Box<{}>", "Vec<Option<{}>>"]
+ITSELF = ["Vec<$>", "Box<$>", "Option<Box<$>>", "Option<Vec<$>>", "Vec<Box<$>>", "Vec<Vec<$>>"]
 TRAITS = ["Clone", "PartialEq<u8>", "'static", "super::c::T", "self::super::c::U<Vec<u8>>"]
 CASES = ["lowercase", "UPPERCASE", "PascalCase", "camelCase", "snake_case", "SCREAMING_SNAKE_CASE"]
 
@@ -85,8 +89,50 @@ def drawn_fields(draw, types, names, in_line):
     return lines
 
 
+def drawn_parts(draw, name, names, most):
+    """The types of so many parts of a type of this name, of which at most so many hold the type itself."""
+    held = draw.sample(names, min(len(names), most))
+    held = held[: draw.randrange(len(held) + 1)]
+    plain = lambda: draw.choice(AROUND).format(draw.choice(PLAIN))
+    return [draw.choice(ITSELF).replace("$", name) if part in held else plain() for part in names]
+
+
+def drawn_nested_fields(draw, name, names, most, in_line):
+    """Named fields of a type of this name, of which at most so many hold the type itself."""
+    lines = []
+    for field, type in zip(names, drawn_parts(draw, name, names, most)):
+        if draw.random() < 0.25:
+            lines.append(f'    // nanoserde: rename = "{draw.choice("xyz")}_{field}"')
+        lines.append(f"    {in_line}{field}: {type},")
+    return lines
+
+
+def drawn_nested(draw, name, formats, words):
+    """A struct or an enum of this name, with a part that holds the type itself."""
+    lines = [f"// nanoserde: {formats}", "#[derive(Drop)]"]
+    itself = draw.choice(ITSELF).replace("$", name)
+    if draw.random() < 0.4:
+        fields = drawn_nested_fields(draw, name, draw.sample(words, draw.randrange(5)), 9, "pub ")
+        return lines + [f"pub struct {name} {{", *fields, f"    pub itself: {itself},", "}"]
+    in_text = formats != "bin"
+    lines += [f"pub enum {name} {{", f"    Itself({itself}),"]
+    for variant in draw.sample(["Stop", "MoveOn", "Say", "ListAll", "Wait"], draw.randrange(1, 5)):
+        kind = draw.randrange(3)
+        if kind == 0:
+            lines.append(f"    {variant},")
+        elif kind == 1:
+            places = list(range(draw.randrange(1, 3 if in_text else 5)))
+            parts = drawn_parts(draw, name, places, 1 if "ron" in formats else 9)
+            lines.append(f"    {variant}({', '.join(parts)}),")
+        else:
+            names = draw.sample(words, draw.randrange(1 if in_text else 0, 4))
+            fields = drawn_nested_fields(draw, name, names, 1 if in_text else 9, "    ")
+            lines += [f"    {variant} {{", *fields, "    },"]
+    return lines + ["}"]
+
+
 def drawn(draw, number):
-    """A file with a struct, a tuple struct and an enum."""
+    """A file with a struct, a tuple struct, an enum and a type that contains itself."""
     formats = " ".join(draw.sample(["bin", "json", "ron"], draw.randrange(1, 4)))
     case = (
         f', rename_all = "{draw.choice(CASES)}"'
@@ -128,4 +174,5 @@ def drawn(draw, number):
                 + drawn_fields(draw, types, draw.sample(words, draw.randrange(5)), "    ")
                 + ["    },"]
             )
-    return "\n".join(lines + ["}", "", "mod derived;", ""])
+    lines += ["}", *drawn_nested(draw, f"N{number}", formats, words)]
+    return "\n".join(lines + ["", "mod derived;", ""])
