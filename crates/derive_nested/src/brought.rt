@@ -1,5 +1,6 @@
 //! What a file of definitions or laws brings in of the types that it is for.
 
+use crate::maps::has_maps;
 use crate::nested::Nested;
 use crate::text_codec::TextTerms;
 use crate::text_layers::content_name;
@@ -40,13 +41,18 @@ pub(crate) fn text_lines(
         Some(text) => earlier_lines(alloc, module, nested, text)?,
         None => String::new(alloc),
     };
+    let maps = if has_maps(nested) {
+        format!(in alloc; ", {snake}_map_means")?
+    } else {
+        String::new(alloc)
+    };
     format!(in alloc;
         "{of}.{{{name}}}
 {of}.TheOpen.{{{name}-F}}
 {of}.TheViews.{{out-{name}}}
 {of}.TheFolds.{{map-{name}, fold_out-{name}}}
 {specs}.{{{name}Content, {snake}_opened, {snake}_view, {snake}_means, {snake}_means_step}}
-{specs}.{{{snake}_depth, {snake}_depth_step}}
+{specs}.{{{snake}_depth, {snake}_depth_step{maps}}}
 {several}"
     )
 }

@@ -3,7 +3,7 @@
 use crate::imports::Known;
 
 /// Those that every format cites.
-pub(crate) const SHARED: [Known; 15] = [
+pub(crate) const SHARED: [Known; 22] = [
     Known {
         module: "std.specs.Prelude",
         names: &[
@@ -28,7 +28,12 @@ pub(crate) const SHARED: [Known; 15] = [
             "String",
             "Vec",
             "string_bytes",
+            "string_cmp",
         ],
+    },
+    Known {
+        module: "std.specs.BTreeMap",
+        names: &["BTreeMap"],
     },
     Known {
         module: "std.specs.Global",
@@ -37,6 +42,14 @@ pub(crate) const SHARED: [Known; 15] = [
     Known {
         module: "std.specs.Int",
         names: &["w8", "w16", "w32", "w64", "w128"],
+    },
+    Known {
+        module: "std.specs.Ordering",
+        names: &["nat_cmp", "int_cmp", "bool_cmp"],
+    },
+    Known {
+        module: "std.specs.declared.cmp.Ordering",
+        names: &["Ordering"],
     },
     Known {
         module: "std.specs.Option",
@@ -89,8 +102,32 @@ pub(crate) const SHARED: [Known; 15] = [
         names: &["tagged", "LegalVariant", "variant", "no_variants"],
     },
     Known {
+        module: "nano_value.specs.Ordered",
+        names: &["ordered_map_means"],
+    },
+    Known {
+        module: "nano_value.specs.Tables",
+        names: &["LegalMap"],
+    },
+    Known {
+        module: "nano_meaning.proofs.OrderLaws",
+        names: &[
+            "texts",
+            "texts_follow",
+            "wholes",
+            "unsigned_follow",
+            "truths_follow",
+            "numbers",
+            "signed_follow",
+        ],
+    },
+    Known {
         module: "nano_levels.specs.Layers",
         names: &["greatest"],
+    },
+    Known {
+        module: "nano_levels.proofs.EntriesLaws",
+        names: &["ordered_map_means-values"],
     },
     Known {
         module: "nano_schema.specs.declared.choices.Either",
@@ -118,6 +155,7 @@ pub(crate) const SHARED: [Known; 15] = [
             "by_option",
             "list_depth",
             "list_means",
+            "map_steps",
             "option_means",
             "pair_depth",
             "pair_means",
@@ -126,7 +164,7 @@ pub(crate) const SHARED: [Known; 15] = [
 ];
 
 /// Those of bytes.
-pub(crate) const BYTES: [Known; 14] = [
+pub(crate) const BYTES: [Known; 15] = [
     Known {
         module: "nano_bin_bytes.specs.Codec",
         names: &["Codec"],
@@ -164,7 +202,12 @@ pub(crate) const BYTES: [Known; 14] = [
     },
     Known {
         module: "nano_bin.specs.ContainerCodecs",
-        names: &["list_codec", "option_codec", "pair_codec"],
+        names: &[
+            "list_codec",
+            "option_codec",
+            "ordered_map_codec",
+            "pair_codec",
+        ],
     },
     Known {
         module: "nano_bin_levels.specs.Layers",
@@ -177,6 +220,10 @@ pub(crate) const BYTES: [Known; 14] = [
     Known {
         module: "nano_bin_levels.proofs.ListsLaws",
         names: &["list_layer"],
+    },
+    Known {
+        module: "nano_bin_levels.proofs.MapsLaws",
+        names: &["ordered_map_layer"],
     },
     Known {
         module: "nano_bin_levels.proofs.OptionsLaws",

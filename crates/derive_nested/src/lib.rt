@@ -18,6 +18,7 @@ mod json_answers;
 mod json_rows;
 mod known_answers;
 mod legal_laws;
+mod maps;
 mod nested;
 mod part;
 mod ron_answers;

@@ -102,7 +102,7 @@ fn itself(alloc: Global, names: &Names) -> Result<Part, AllocError> {
 }
 
 /// What is said of a type of Rust's.
-fn plain_part(alloc: Global, name: &str) -> Result<Part, AllocError> {
+pub(crate) fn plain_part(alloc: Global, name: &str) -> Result<Part, AllocError> {
     for (known, of, codec, means, legal) in PLAIN {
         if known == name {
             return other_part(alloc, (of, codec, means, legal));

@@ -18,7 +18,7 @@ pub(crate) const RON: [Known; 13] = [
     },
     Known {
         module: "nano_ron.specs.ContainerCodecs",
-        names: &["option_codec", "pair_codec"],
+        names: &["option_codec", "ordered_map_codec", "pair_codec"],
     },
     Known {
         module: "nano_ron_tokens.specs.Token",
@@ -30,7 +30,7 @@ pub(crate) const RON: [Known; 13] = [
     },
     Known {
         module: "nano_ron_tokens.proofs.RonLaws",
-        names: &["ron", "block_brackets", "paren_brackets"],
+        names: &["ron", "block_brackets", "curly_brackets", "paren_brackets"],
     },
     Known {
         module: "nano_ron_tokens.proofs.ScalarsLaws",
@@ -38,7 +38,7 @@ pub(crate) const RON: [Known; 13] = [
     },
     Known {
         module: "nano_ron_tokens.proofs.StylesLaws",
-        names: &["line_style", "tuple_style"],
+        names: &["curly_style", "entry_style", "line_style", "tuple_style"],
     },
     Known {
         module: "nano_ron_schema.specs.FieldCodecs",

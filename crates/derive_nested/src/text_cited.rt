@@ -3,7 +3,7 @@
 use crate::imports::Known;
 
 /// Those that every format of texts cites.
-pub(crate) const TEXTS: [Known; 12] = [
+pub(crate) const TEXTS: [Known; 13] = [
     Known {
         module: "nano_grammar.specs.FieldCodec",
         names: &["WrittenField", "fields_text"],
@@ -43,6 +43,10 @@ pub(crate) const TEXTS: [Known; 12] = [
         names: &["agree_through", "nested_agrees"],
     },
     Known {
+        module: "nano_schema_levels.proofs.MapLayersLaws",
+        names: &["follows_order", "ordered_map_layer"],
+    },
+    Known {
         module: "nano_schema_levels.proofs.NestedLaws",
         names: &["legal_seen", "text_seen"],
     },
@@ -78,7 +82,12 @@ pub(crate) const JSON: [Known; 11] = [
     },
     Known {
         module: "nano_json.specs.ContainerCodecs",
-        names: &["list_codec", "option_codec", "pair_codec"],
+        names: &[
+            "list_codec",
+            "option_codec",
+            "ordered_map_codec",
+            "pair_codec",
+        ],
     },
     Known {
         module: "nano_json_tokens.specs.Token",
@@ -98,6 +107,9 @@ pub(crate) const JSON: [Known; 11] = [
             "json",
             "block_brackets",
             "block_style",
+            "curly_brackets",
+            "curly_style",
+            "entry_style",
             "null_style",
             "tuple_style",
         ],

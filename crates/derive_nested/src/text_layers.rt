@@ -1,6 +1,7 @@
 //! The layers of parts, fields and contents in a format of texts.
 
 use crate::codec_laws::law_end;
+use crate::maps::map_layer;
 use crate::nested::{Held, Nested};
 use crate::row::Leaf;
 use crate::text_codec::TextTerms;
@@ -149,7 +150,7 @@ fn part_layer(
     alloc: Global,
     format: &TextTerms,
     leaf: &Leaf<'_>,
-    holders: &[Holder],
+    holders: &[Holder<'_>],
 ) -> Result<String, AllocError> {
     if !leaf.nested.is_within() {
         return format!(in alloc; "other_layer {}", atom(alloc, leaf.part.codec.as_str())?);
@@ -158,6 +159,7 @@ fn part_layer(
     for holder in holders.iter().rev() {
         let held = atom(alloc, layer.as_str())?;
         layer = match *holder {
+            Holder::BTreeMap(key) => map_layer(alloc, key, held.as_str())?,
             Holder::Box => format!(in alloc; "seen_layer (λ x. x.value) {held}")?,
             Holder::Option => format!(in alloc; "option_layer {} {held}", format.option)?,
             Holder::Vec => format!(in alloc;

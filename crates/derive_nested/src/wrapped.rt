@@ -1,5 +1,6 @@
-//! What is said of a box, an option or a list of something, from what is said of that.
+//! What is said of a box, an option, a list or a map of something, from what is said of that.
 
+use crate::maps::mapped;
 use crate::part::{Names, Part, core_part};
 use derive_syntax::{Holder, NestedPart};
 use std::alloc::{AllocError, Global};
@@ -13,6 +14,7 @@ pub(crate) fn part_of(
     let mut part = core_part(alloc, names, nested.core)?;
     for holder in nested.holders.iter().rev() {
         part = match *holder {
+            Holder::BTreeMap(key) => mapped(alloc, names, (key, &part))?,
             Holder::Box => boxed(alloc, names, &part)?,
             Holder::Option => optional(alloc, &part)?,
             Holder::Vec => listed(alloc, names, &part)?,
@@ -89,6 +91,9 @@ fn optional(alloc: Global, part: &Part) -> Result<Part, AllocError> {
     })
 }
 
+/// An item of a list, and its items.
+const ITEMS: (&str, &str) = ("x", "$.items");
+
 /// What is said of a list.
 fn listed(alloc: Global, names: &Names, part: &Part) -> Result<Part, AllocError> {
     let of = at(alloc, part.of.as_str(), names.of.as_str())?;
@@ -114,8 +119,8 @@ fn listed(alloc: Global, names: &Names, part: &Part) -> Result<Part, AllocError>
         means: format!(in alloc; "listed (map {means} $.items)")?,
         depth: listed_depth(alloc, part)?,
         is_cased: false,
-        means_same: steps(alloc, mapped, "list_means _ _ _", "$.items", means_same)?,
-        depth_same: steps(alloc, within, "list_depth _ _ _", "$.items", depth_same)?,
+        means_same: steps(alloc, mapped, "list_means _ _ _", ITEMS, means_same)?,
+        depth_same: steps(alloc, within, "list_depth _ _ _", ITEMS, depth_same)?,
     })
 }
 
@@ -138,7 +143,7 @@ fn listed_depth(alloc: Global, part: &Part) -> Result<String, AllocError> {
 }
 
 /// A layer with what stands before and after it, if there is one.
-fn layered(
+pub(crate) fn layered(
     alloc: Global,
     before: &str,
     layer: &Option<String>,
@@ -153,19 +158,20 @@ fn layered(
     }
 }
 
-/// A proof by a lemma, of what is proved of each item, if there is something to prove.
-fn steps(
+/// A proof by a lemma, of what is proved of what this takes of each item, if there is something to
+/// prove.
+pub(crate) fn steps(
     alloc: Global,
     takes_proof: bool,
     lemma: &str,
-    items: &str,
+    (item, items): (&str, &str),
     proof: &Option<String>,
 ) -> Result<Option<String>, AllocError> {
     if !takes_proof {
         return Ok(None);
     }
     let each = match proof {
-        Some(proof) => at(alloc, proof.as_str(), "x")?,
+        Some(proof) => at(alloc, proof.as_str(), item)?,
         None => String::from_str(alloc, "refl")?,
     };
     Ok(Some(format!(in alloc; "{lemma} (λ x. {each}) {items}")?))
@@ -193,7 +199,7 @@ pub(crate) fn atom(alloc: Global, term: &str) -> Result<String, AllocError> {
 }
 
 /// A term with a hole as a function of what stands in it.
-fn function(alloc: Global, term: &str) -> Result<String, AllocError> {
+pub(crate) fn function(alloc: Global, term: &str) -> Result<String, AllocError> {
     match term.strip_suffix(" $") {
         Some(name) if !name.contains(' ') => String::from_str(alloc, name),
         _ => format!(in alloc; "(λ x. {})", at(alloc, term, "x")?),

@@ -7,7 +7,9 @@ use std::alloc::Global;
 
 /// A type of the library that a part of a type that contains itself may stand in.
 #[derive(Clone, Copy, PartialEq)]
-pub enum Holder {
+pub enum Holder<'a> {
+    /// `BTreeMap` from keys of a type of Rust's, by its name.
+    BTreeMap(&'a str),
     /// `Box`.
     Box,
     /// `Option`.
@@ -29,7 +31,7 @@ pub enum Core<'a> {
 #[derive(Drop)]
 pub struct NestedPart<'a> {
     /// What it stands in, from without.
-    pub holders: Vec<Holder>,
+    pub holders: Vec<Holder<'a>>,
     /// What it is in there.
     pub core: Core<'a>,
 }
@@ -100,10 +102,18 @@ const PLAIN: [&str; 14] = [
     "String", "()",
 ];
 
-const NO_PART: &str = "stands in a type that contains itself: a part of one is an integer, `bool`, \
-    `()`, a `String` or the type itself, as it is or within `Vec`, `Option` and `Box`";
+/// The types that a key may have.
+const KEYS: [&str; 11] = [
+    "bool", "u8", "u16", "u32", "u64", "usize", "i8", "i16", "i32", "i64", "String",
+];
 
-const ENDLESS: &str = "stands in itself with no `Box` and no `Vec` around it";
+const NO_PART: &str = "stands in a type that contains itself: a part of one is an integer, `bool`, \
+    `()`, a `String` or the type itself, as it is or within `Vec`, `Option`, `Box` and `BTreeMap`";
+
+const NO_KEY: &str = "is no key of a map in a type that contains itself: such a key is a `String`, \
+    `bool` or an integer of at most 64 bits";
+
+const ENDLESS: &str = "stands in itself with no `Box`, no `Vec` and no `BTreeMap` around it";
 
 const INNER: &str = "has an `Option` of the type that contains itself within it: such an `Option` \
     is the whole of a part";
@@ -122,7 +132,7 @@ pub fn nested_part<'a>(
     let mut holders = Vec::new(alloc);
     let mut inner = of;
     for _turn in of.0 {
-        let Some((holder, held)) = held_in(inner) else {
+        let Some((holder, held)) = held_in(inner)? else {
             break;
         };
         holders.push(holder)?;
@@ -148,23 +158,48 @@ fn fault_at(of: Type<'_>, words: &'static str) -> Fault {
 }
 
 /// The type of the library that a type is, and what stands in it.
-fn held_in<'a>(of: Type<'a>) -> Option<(Holder, Type<'a>)> {
-    let (word, open) = (of.0.first()?, of.0.get(1)?);
-    if !open.is("<") {
-        return None;
-    }
+///
+/// # Errors
+///
+/// It is a map, and its keys are of another type than keys may have.
+fn held_in<'a>(of: Type<'a>) -> Result<Option<(Holder<'a>, Type<'a>)>, Fault> {
+    let (Some(word), Some(held)) = (of.0.first(), between(of)) else {
+        return Ok(None);
+    };
     let holder = match word.text {
         "Box" => Holder::Box,
         "Option" => Holder::Option,
         "Vec" => Holder::Vec,
-        _ => return None,
+        "BTreeMap" => return map_of(held),
+        _ => return Ok(None),
     };
+    Ok(Some((holder, held)))
+}
+
+/// What stands between the angle brackets of a type, without a comma at its end.
+fn between<'a>(of: Type<'a>) -> Option<Type<'a>> {
+    let open = of.0.get(1)?;
+    if !open.is("<") {
+        return None;
+    }
     let held = of.0.get(2..of.0.len().saturating_sub(1))?;
     match held.last() {
-        Some(comma) if comma.is(",") => {
-            Some((holder, Type(held.get(..held.len().saturating_sub(1))?)))
+        Some(comma) if comma.is(",") => Some(Type(held.get(..held.len().saturating_sub(1))?)),
+        _ => Some(Type(held)),
+    }
+}
+
+/// A map of what stands between its angle brackets: a key, a comma and a value.
+fn map_of<'a>(between: Type<'a>) -> Result<Option<(Holder<'a>, Type<'a>)>, Fault> {
+    let Some(key) = between.0.first() else {
+        return Ok(None);
+    };
+    let (comma, value) = (between.0.get(1), between.0.get(2..));
+    match (comma, value) {
+        (Some(comma), Some(value)) if comma.is(",") && KEYS.contains(&key.text) => {
+            Ok(Some((Holder::BTreeMap(key.text), Type(value))))
         }
-        _ => Some((holder, Type(held))),
+        _ => Err(key.fault(NO_KEY)),
     }
 }
 
@@ -179,6 +214,11 @@ fn core_of<'a>(name: Token<'a>, of: Type<'a>) -> Option<Core<'a>> {
 }
 
 /// Whether values of a type may end in one of these.
-fn has_end(holders: &[Holder]) -> bool {
-    holders.contains(&Holder::Box) || holders.contains(&Holder::Vec)
+fn has_end(holders: &[Holder<'_>]) -> bool {
+    for holder in holders {
+        if *holder != Holder::Option {
+            return true;
+        }
+    }
+    false
 }

@@ -58,7 +58,7 @@ struct A(Vec<A>);
 struct A {
     a: Option<A>,
 }
-=> 3:15: `A` stands in itself with no `Box` and no `Vec`
+=> 3:15: `A` stands in itself with no `Box`, no `Vec` and no `BTreeMap`
 ----
 // nanoserde: bin
 struct A {
@@ -73,6 +73,47 @@ struct A {
     a: HashMap<String, A>,
 }
 => 5:8: `HashMap` stands in a type that contains itself
+----
+use std::collections::BTreeMap;
+
+// nanoserde: bin
+struct A {
+    a: BTreeMap<u128, A>,
+}
+=> 5:17: `u128` is no key of a map in a type that contains itself
+----
+use std::collections::BTreeMap;
+
+// nanoserde: json
+struct A {
+    a: Option<BTreeMap<Option<u8>, A>>,
+}
+=> 5:24: `Option` is no key of a map in a type that contains itself
+----
+use std::collections::BTreeMap;
+
+// nanoserde: ron
+enum A {
+    B(BTreeMap<Box<A>, u8>),
+}
+=> 5:16: `Box` is no key of a map in a type that contains itself
+----
+use std::collections::BTreeMap;
+
+// nanoserde: json ron
+struct A {
+    a: BTreeMap<u8, Option<A>>,
+}
+=> 5:8: `BTreeMap` has an `Option` of the type that contains itself within it
+----
+use std::collections::BTreeMap;
+
+// nanoserde: bin
+struct A {
+    a: Vec<A>,
+    b: BTreeMap<u8, (u8, bool)>,
+}
+=> 6:21: `(` stands in a type that contains itself
 ----
 // nanoserde: bin
 enum A {

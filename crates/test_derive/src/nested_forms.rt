@@ -125,4 +125,22 @@ a_opened y = y.a
 a_means_step y = optional (option_map (λ x. listed x.items) y.a)
 =>
 a_layer = option_layer (seen_layer (λ x. x.items) (list_layer itself_layer))
+----
+use std::collections::BTreeMap;
+
+// nanoserde: bin json ron
+enum A {
+    B(BTreeMap<i8, Vec<A>,>),
+    C { c: Option<BTreeMap<bool, A>>, d: BTreeMap<String, u16> },
+}
+=>
+    Either (BTreeMap ℤ (Vec X Global)) (Option (BTreeMap Bool X) × BTreeMap (String Global) ℕ)
+=>
+a_means_step (A-F.B v) = tagged 0 (ordered_map_means int_cmp number (λ x. listed x.items) v.entries)
+=>
+    greatest (map (λ (x : ℤ × Vec ℕ Global). greatest (map (λ x. suc x) x.1.items)) v.entries)
+=>
+pub a_map_means : {K A B : Type 0} (c : K → K → Ordering) (k : K → Meaning) (s : B → Meaning)
+=>
+use Rattle.app.specs.ShapesCodecs.{a_depth, a_depth_step, a_map_means}
 "#;

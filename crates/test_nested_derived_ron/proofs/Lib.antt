@@ -11,3 +11,9 @@ mod FilterRonCodecsLaws
 mod CommentCodecsLaws
 mod CommentJsonCodecsLaws
 mod CommentRonCodecsLaws
+mod MenuCodecsLaws
+mod MenuJsonCodecsLaws
+mod MenuRonCodecsLaws
+mod SettingCodecsLaws
+mod SettingJsonCodecsLaws
+mod SettingRonCodecsLaws

@@ -11,3 +11,9 @@ pub mod FilterRonCodecs
 pub mod CommentCodecs
 pub mod CommentJsonCodecs
 pub mod CommentRonCodecs
+pub mod MenuCodecs
+pub mod MenuJsonCodecs
+pub mod MenuRonCodecs
+pub mod SettingCodecs
+pub mod SettingJsonCodecs
+pub mod SettingRonCodecs

@@ -6,6 +6,8 @@ mod chain;
 mod comment;
 mod filter;
 mod folder;
+mod menu;
+mod setting;
 #[cfg(test)]
 mod tests;
 mod tree;
@@ -14,4 +16,6 @@ pub use chain::Chain;
 pub use comment::Comment;
 pub use filter::Filter;
 pub use folder::Folder;
+pub use menu::Menu;
+pub use setting::Setting;
 pub use tree::Tree;

@@ -1,6 +1,6 @@
 //! Types that contain themselves, as RON, by impls that `derive` writes.
 
-use crate::{Chain, Comment, Filter, Folder, Tree};
+use crate::{Chain, Comment, Filter, Folder, Menu, Setting, Tree};
 use nano_ron_schema::{BothRon, DeRon};
 use std::alloc::{AllocError, Global};
 use std::process::Abort;
@@ -35,6 +35,20 @@ const FILTERS: &[&str] = &[
     "AtLeast(2, [\n    Any,\n])",
     "Has(\n    field:\"a\",\n)",
     "Has(\n    field:\"a\",\n    and:Not(Any),\n)",
+];
+
+/// A menu `m`, whose entry `a` opens a menu `b`.
+const MENUS: &[&str] = &[
+    "(\n    title:\"m\",\n    entries:{\n        \"a\":(\n            title:\"b\",\n            \
+    entries:{\n            },\n        ),\n    },\n)",
+];
+
+const SETTINGS: &[&str] = &[
+    "Unset",
+    "Text(\"a\")",
+    "Counts({\n    -3:7,\n    5:0,\n})",
+    "Table({\n    \"a\":Text(\"b\"),\n    \"c\":Unset,\n})",
+    "Lists({\n    2:[\n        Unset,\n    ],\n    300:[\n    ],\n})",
 ];
 
 /// Texts that are no tree, with the column and the words of the error.
@@ -76,6 +90,18 @@ const DEEP_FOLDER: Deep = Deep {
     opening: "(name:\"a\",folders:[",
     innermost: "(name:\"b\",folders:[])",
     closing: "])",
+};
+
+const DEEP_MENU: Deep = Deep {
+    opening: "(title:\"a\",entries:{\"b\":",
+    innermost: "(title:\"c\",entries:{})",
+    closing: "})",
+};
+
+const DEEP_SETTING: Deep = Deep {
+    opening: "Table({\"a\":",
+    innermost: "Unset",
+    closing: "})",
 };
 
 const DEEP_FILTER: Deep = Deep {
@@ -168,6 +194,8 @@ fn types_that_contain_themselves_are_texts(rt: HostRuntime) {
     holds(&rt, are_values::<Chain>(alloc, CHAINS), "chains");
     holds(&rt, are_values::<Folder>(alloc, FOLDERS), "folders");
     holds(&rt, are_values::<Filter>(alloc, FILTERS), "filters");
+    holds(&rt, are_values::<Menu>(alloc, MENUS), "menus");
+    holds(&rt, are_values::<Setting>(alloc, SETTINGS), "settings");
 }
 
 #[test]
@@ -192,4 +220,8 @@ fn levels_of_texts_run_out_after_128(rt: HostRuntime) {
     holds(&rt, folders.unwrap_or(false), "folders");
     let filters = ends_after_128::<Filter>(alloc, &DEEP_FILTER, 2308);
     holds(&rt, filters.unwrap_or(false), "filters");
+    let menus = ends_after_128::<Menu>(alloc, &DEEP_MENU, 3074);
+    holds(&rt, menus.unwrap_or(false), "menus");
+    let settings = ends_after_128::<Setting>(alloc, &DEEP_SETTING, 1414);
+    holds(&rt, settings.unwrap_or(false), "settings");
 }

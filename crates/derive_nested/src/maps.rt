@@ -1,0 +1,245 @@
+//! What is said of an ordered map, from what is said of its keys and its values.
+
+use crate::nested::Nested;
+use crate::part::{Names, Part, plain_part};
+use crate::row::Leaf;
+use crate::wrapped::{at, atom, function, layered, steps};
+use derive_syntax::Holder;
+use std::alloc::{AllocError, Global};
+
+/// What is said of the keys of a map, as ghost terms.
+#[derive(Drop)]
+struct Keys {
+    /// Their type.
+    of: String,
+    /// Their codec.
+    codec: String,
+    /// Which meanings are legal.
+    legal: String,
+    /// What they mean, as a function of them.
+    means: String,
+    /// How they are ordered.
+    order: Order,
+}
+
+/// How keys are ordered, as ghost terms.
+#[derive(Clone, Copy)]
+struct Order {
+    /// The order of their meanings.
+    meanings: &'static str,
+    /// How two of them compare.
+    compare: &'static str,
+    /// That they compare as their meanings do.
+    follows: &'static str,
+}
+
+const TEXTS: Order = Order {
+    meanings: "texts",
+    compare: "string_cmp",
+    follows: "(texts_follow (λ x. string_bytes x))",
+};
+
+const TRUTHS: Order = Order {
+    meanings: "wholes",
+    compare: "bool_cmp",
+    follows: "truths_follow",
+};
+
+const SIGNED: Order = Order {
+    meanings: "numbers",
+    compare: "int_cmp",
+    follows: "signed_follow",
+};
+
+const UNSIGNED: Order = Order {
+    meanings: "wholes",
+    compare: "nat_cmp",
+    follows: "unsigned_follow",
+};
+
+/// How keys of a type of Rust's are ordered, by its name.
+fn order_of(key: &str) -> Order {
+    match key {
+        "String" => TEXTS,
+        "bool" => TRUTHS,
+        "i8" | "i16" | "i32" | "i64" => SIGNED,
+        _ => UNSIGNED,
+    }
+}
+
+/// What is said of keys of a type of Rust's, by its name.
+fn keys_of(alloc: Global, key: &str) -> Result<Keys, AllocError> {
+    let part = plain_part(alloc, key)?;
+    Ok(Keys {
+        of: atom(alloc, part.of.as_str())?,
+        codec: atom(alloc, part.codec.as_str())?,
+        legal: atom(alloc, part.legal.as_str())?,
+        means: function(alloc, part.means.as_str())?,
+        order: order_of(key),
+    })
+}
+
+/// What is said of a map from keys of a type of Rust's, by its name.
+pub(crate) fn mapped(
+    alloc: Global,
+    names: &Names,
+    (key, part): (&str, &Part),
+) -> Result<Part, AllocError> {
+    let keys = keys_of(alloc, key)?;
+    let of = atom(alloc, part.of.as_str())?;
+    let legal = atom(alloc, part.legal.as_str())?;
+    let within = part.layer.is_some();
+    let items = ("x.1", "$.entries");
+    Ok(Part {
+        of: format!(in alloc; "BTreeMap {} {of}", keys.of)?,
+        codec: mapped_codec(alloc, names, &keys, part)?,
+        legal: format!(in alloc; "LegalMap {} {legal}", keys.legal)?,
+        layer: mapped_layer(alloc, &keys, part)?,
+        step: mapped_means(alloc, &keys, part.step.as_str())?,
+        means: mapped_means(alloc, &keys, part.means.as_str())?,
+        depth: mapped_depth(alloc, &keys, part)?,
+        is_cased: false,
+        means_same: mapped_same(alloc, names, &keys, part)?,
+        depth_same: steps(alloc, within, "list_depth _ _ _", items, &part.depth_same)?,
+    })
+}
+
+/// The codec of a map.
+fn mapped_codec(
+    alloc: Global,
+    names: &Names,
+    keys: &Keys,
+    part: &Part,
+) -> Result<String, AllocError> {
+    let of = at(alloc, part.of.as_str(), names.of.as_str())?;
+    let of = atom(alloc, of.as_str())?;
+    let codec = atom(alloc, part.codec.as_str())?;
+    format!(in alloc;
+        "codec_as (λ (x : BTreeMap {} {of}). x.entries) (ordered_map_codec {} {} {} {codec})",
+        keys.of, keys.order.meanings, keys.order.compare, keys.codec
+    )
+}
+
+/// As bytes the layer of a map, if its values are of the type itself.
+fn mapped_layer(alloc: Global, keys: &Keys, part: &Part) -> Result<Option<String>, AllocError> {
+    let before = format!(in alloc;
+        "seen_layer (λ x. x.entries) (ordered_map_layer {} {} refl ",
+        keys.order.meanings, keys.codec
+    )?;
+    let after = format!(in alloc; " {})", keys.order.compare)?;
+    layered(alloc, before.as_str(), &part.layer, after.as_str())
+}
+
+/// What a map means whose values mean this.
+fn mapped_means(alloc: Global, keys: &Keys, means: &str) -> Result<String, AllocError> {
+    let (compare, of) = (keys.order.compare, keys.means.as_str());
+    let means = function(alloc, means)?;
+    format!(in alloc; "ordered_map_means {compare} {of} {means} $.entries")
+}
+
+/// How deep a map is, where the values of the type itself are depths.
+fn mapped_depth(alloc: Global, keys: &Keys, part: &Part) -> Result<String, AllocError> {
+    if part.layer.is_none() {
+        return String::from_str(alloc, "0");
+    }
+    let of = at(alloc, part.of.as_str(), "ℕ")?;
+    let depth = at(alloc, part.depth.as_str(), "x.1")?;
+    format!(in alloc;
+        "greatest (map (λ (x : {} × {of}). {depth}) $.entries)",
+        keys.of
+    )
+}
+
+/// That a map means the same step by step, if its values are of the type itself.
+fn mapped_same(
+    alloc: Global,
+    names: &Names,
+    keys: &Keys,
+    part: &Part,
+) -> Result<Option<String>, AllocError> {
+    if part.layer.is_none() {
+        return Ok(None);
+    }
+    let step = function(alloc, part.step.as_str())?;
+    let means = function(alloc, part.means.as_str())?;
+    let each = match &part.means_same {
+        Some(proof) => {
+            let proof = at(alloc, proof.as_str(), "x.1")?;
+            format!(in alloc; "λ x i. (x.0, ({proof}) i)")?
+        }
+        None => String::from_str(alloc, "λ x. refl")?,
+    };
+    Ok(Some(format!(in alloc;
+        "{}_map_means {} {} {step} _ {means} ({each}) $.entries",
+        names.snake, keys.order.compare, keys.means
+    )?))
+}
+
+/// The layer of a map in a format of texts, from keys of a type of Rust's by its name, around the
+/// layer of its values.
+pub(crate) fn map_layer(alloc: Global, key: &str, layer: &str) -> Result<String, AllocError> {
+    let keys = keys_of(alloc, key)?;
+    let order = keys.order;
+    let (meanings, compare) = (order.meanings, order.compare);
+    let follows = format!(in alloc;
+        "follows_order {compare} {} {meanings} {}",
+        keys.means, order.follows
+    )?;
+    format!(in alloc;
+        "seen_layer (λ x. x.entries) (ordered_map_layer curly_style curly_brackets entry_style \
+        (λ h. h) {meanings} {} {compare} ({follows}) {layer})",
+        keys.codec
+    )
+}
+
+/// Whether a type stands in itself within a map.
+pub(crate) fn has_maps(nested: &Nested<'_>) -> bool {
+    for held in &nested.contents {
+        if have_map(&held.leaves) {
+            return true;
+        }
+    }
+    false
+}
+
+/// Whether the type itself stands in one of these parts within a map.
+fn have_map(leaves: &[Leaf<'_>]) -> bool {
+    for leaf in leaves {
+        if leaf.nested.is_within() && has_map(&leaf.nested.holders) {
+            return true;
+        }
+    }
+    false
+}
+
+/// Whether one of these is a map.
+fn has_map(holders: &[Holder<'_>]) -> bool {
+    for holder in holders {
+        if matches!(*holder, Holder::BTreeMap(_)) {
+            return true;
+        }
+    }
+    false
+}
+
+/// The lemma that a map means the same step by step, if a type stands in itself within one.
+pub(crate) fn map_lemma(alloc: Global, nested: &Nested<'_>) -> Result<String, AllocError> {
+    if !has_maps(nested) {
+        return Ok(String::new(alloc));
+    }
+    let name = format!(in alloc; "{}_map_means", nested.names.snake)?;
+    at(alloc, MAP_MEANS, name.as_str())
+}
+
+const MAP_MEANS: &str = "
+-- what a map means, step by step from what its values mean
+pub $ : {K A B : Type 0} (c : K → K → Ordering) (k : K → Meaning) (s : B → Meaning)
+    (g : K × A → K × B) (m : A → Meaning)
+    → ((e : K × A) → ◌≡◌ {A = K × Meaning} ((g e).0, s (g e).1) (e.0, m e.1))
+    → (es : List (K × A)) → ordered_map_means c k s (map g es) ≡ ordered_map_means c k m es
+$ c k s g m same es =
+    sym (ordered_map_means-values k s c (map g es))
+    ∙ (ap (ordered_map_means c k (λ x. x))
+    (map_steps (λ e. (e.0, s e.1)) g (λ e. (e.0, m e.1)) same es)
+    ∙ ordered_map_means-values k m c es)
+";
