@@ -2,16 +2,10 @@
 //! definitions and proofs are written by `derive`.
 #![tactic(auto)]
 
-mod chain;
 mod comment;
 mod filter;
-mod folder;
 #[cfg(test)]
 mod tests;
-mod tree;
 
-pub use chain::Chain;
 pub use comment::Comment;
 pub use filter::Filter;
-pub use folder::Folder;
-pub use tree::Tree;
