@@ -23,7 +23,7 @@ mod nested;
 mod part;
 mod ron_answers;
 mod ron_cited;
-mod ron_parts;
+mod ron_contents;
 mod ron_rows;
 mod row;
 mod text_answers;

@@ -1,11 +1,10 @@
-//! The answers to what is to be proved of what writes RON of a type that contains itself: of a struct
-//! field by field, and of a variant of an enum part by part or field by field.
+//! The answers to what is to be proved of what writes RON of a type that contains itself field by
+//! field: of a struct, and of the variants with named fields of an enum.
 
 use crate::answers::{Answers, HEAD, Place};
 use crate::codec_laws::law_end;
 use crate::nested::{Held, Nested};
-use crate::ron_parts::{is_in_parts, part_name};
-use crate::ron_rows::{Written, fields_proof, parts_proof, struct_proof};
+use crate::ron_rows::{Written, fields_proof, struct_proof};
 use crate::text_codec::RON;
 use crate::text_fields::field_name;
 use std::alloc::{AllocError, Global};
@@ -19,7 +18,7 @@ pub(crate) fn ron_writer(
     let mut cited = String::new(alloc);
     let mut answers = String::new(alloc);
     for held in &nested.contents {
-        if nested.is_enum && !is_in_parts(held) {
+        if nested.is_enum && !held.has_fields {
             continue;
         }
         let names = names_of(alloc, nested, held)?;
@@ -36,14 +35,14 @@ pub(crate) fn ron_writer(
     Ok(Some(Answers {
         path: format!(in alloc; "{folder}/+write_{snake}_ron/Answers.antt")?,
         text: format!(in alloc;
-            "{HEAD}use Rattle.std.proofs.Common.{{[], ◌∷◌, ◌++◌, chars, codes, string_bytes}}
+            "{HEAD}use Rattle.std.proofs.Common.{{◌++◌, chars, codes, string_bytes}}
 use Rattle.std.proofs.lemmas.Result.{{on_ok_weaker}}
 use Rattle.nano_grammar.specs.FieldCodec.{{field_text, fields_text}}
 use Rattle.nano_grammar.proofs.WrittenLists.{{both_written}}
 use Rattle.nano_text.proofs.RollbackLaws.{{unchanged_by}}
 use Rattle.nano_ron_schema.specs.FieldCodecs.{{ron_fields}}
 use Rattle.nano_ron_schema.proofs.WrittenFields.{{more_lines}}
-use Rattle.nano_ron_nested.proofs.WrittenLaws.{{written_between, opened_before, part_before}}
+use Rattle.nano_ron_nested.proofs.WrittenLaws.{{written_between}}
 use Rattle.{library}.proofs.{stem}RonCodecsLaws.{{{cited}}}
 use {goals}.+write_{snake}_ron.Goals as goal
 {answers}"
@@ -58,8 +57,8 @@ pub(crate) struct WriterNames {
     pub(crate) append: String,
     /// What leaves the text unchanged where that fails.
     pub(crate) write: String,
-    /// The names of the definitions of what its fields or parts are written as.
-    pub(crate) parts: Vec<String>,
+    /// The names of the definitions of what its fields are written as.
+    pub(crate) fields: Vec<String>,
 }
 
 /// The names of what writes a struct, or a variant.
@@ -69,27 +68,22 @@ fn names_of(
     held: &Held<'_>,
 ) -> Result<WriterNames, AllocError> {
     let (name, snake) = (nested.names.of.as_str(), nested.names.snake.as_str());
-    let mut parts = Vec::new(alloc);
+    let mut fields = Vec::new(alloc);
     for called in &held.called {
-        let of = (held, called.as_str());
-        if held.has_fields {
-            parts.push(field_name(alloc, nested, &RON, of)?)?;
-        } else {
-            parts.push(part_name(alloc, nested, of)?)?;
-        }
+        fields.push(field_name(alloc, nested, &RON, (held, called.as_str()))?)?;
     }
     if !nested.is_enum {
         return Ok(WriterNames {
             append: format!(in alloc; "append_{snake}_ron")?,
             write: format!(in alloc; "{name}WritesRon::write_ron")?,
-            parts,
+            fields,
         });
     }
     let end = law_end(alloc, held)?;
     Ok(WriterNames {
         append: format!(in alloc; "append_{snake}_{end}_ron")?,
         write: format!(in alloc; "write_{snake}_{end}_ron")?,
-        parts,
+        fields,
     })
 }
 
@@ -102,10 +96,7 @@ fn written_by(
     if !nested.is_enum {
         return struct_proof(alloc, nested, (held, names));
     }
-    if held.has_fields {
-        return fields_proof(alloc, (held, names));
-    }
-    parts_proof(alloc, (held, names))
+    fields_proof(alloc, (held, names))
 }
 
 /// The answers for what writes it.

@@ -1,5 +1,5 @@
-//! What is proved of the calls that append a struct in RON, or a variant: the fields one below the
-//! other, or the parts with commas between them.
+//! What is proved of the calls that append a struct in RON, or a variant with named fields: the
+//! fields one below the other.
 
 use crate::nested::{Held, Nested};
 use crate::ron_answers::WriterNames;
@@ -75,56 +75,10 @@ pub(crate) fn fields_proof(
     })
 }
 
-/// What is proved of what appends a variant with several parts.
-pub(crate) fn parts_proof(
-    alloc: Global,
-    (held, names): (&Held<'_>, &WriterNames),
-) -> Result<Written, AllocError> {
-    let count = names.parts.len();
-    let end = call_at(alloc, held, count.saturating_sub(1))?;
-    let mut proof = String::from_str(alloc, "last")?;
-    let mut rest = String::new(alloc);
-    for back in 1..count.saturating_add(1) {
-        let i = count.saturating_sub(back);
-        let Some(name) = names.parts.get(i) else {
-            continue;
-        };
-        let text = format!(in alloc; "{name} c.args.d c.args.v{i}.now")?;
-        if back == 1 {
-            rest = format!(in alloc; "({text} ++ 41 ∷ [])")?;
-            continue;
-        }
-        let (before, after) = (
-            state_before(alloc, held, i)?,
-            state_before(alloc, held, i.saturating_add(1))?,
-        );
-        let call = call_at(alloc, held, i)?;
-        proof = format!(in alloc;
-            "(part_before ({text})\n    {rest}\n    {before} {after} after c.in_ok-{call}.ensures.ok\n    {proof})"
-        )?;
-        rest = format!(in alloc; "({text} ++ 44 ∷ (32 ∷ {rest}))")?;
-    }
-    let key = held.key.as_str();
-    Ok(Written {
-        cited: cited_names(alloc, names)?,
-        proof: format!(in alloc;
-            "    let before = string_bytes c.args.s.now.out in
-    let opened = string_bytes c.open_variant.new.s.out in
-    let after = string_bytes c.{end}.new.s.out in
-    on_ok_weaker c.{end}.result
-    (λ last. opened_before (codes \"{key}\")
-    {rest}
-    before opened after c.in_ok-open_variant.ensures.ok
-    {proof}) c.{end}.ensures.ok
-"
-        )?,
-    })
-}
-
-/// The names of the definitions of what each field or part is written as.
+/// The names of the definitions of what each field is written as.
 fn cited_names(alloc: Global, names: &WriterNames) -> Result<String, AllocError> {
     let mut cited = String::new(alloc);
-    for name in &names.parts {
+    for name in &names.fields {
         cited.push_str(if cited.is_empty() { "" } else { ", " })?;
         cited.push_str(name.as_str())?;
     }
@@ -134,7 +88,7 @@ fn cited_names(alloc: Global, names: &WriterNames) -> Result<String, AllocError>
 /// What each field is written as: of a struct that is called so, or of the arguments.
 fn terms_of(alloc: Global, names: &WriterNames, itself: &str) -> Result<Vec<String>, AllocError> {
     let mut terms = Vec::new(alloc);
-    for (i, name) in names.parts.iter().enumerate() {
+    for (i, name) in names.fields.iter().enumerate() {
         let term = if itself.is_empty() {
             format!(in alloc; "({name} c.args.v{i}.now)")?
         } else {
@@ -188,7 +142,7 @@ fn row_proof(
     })
 }
 
-/// The text before the field or the part at a place, as a ghost term.
+/// The text before the field at a place, as a ghost term.
 fn state_before(alloc: Global, held: &Held<'_>, i: usize) -> Result<String, AllocError> {
     let Some(before) = i.checked_sub(1) else {
         return String::from_str(alloc, "opened");
@@ -197,8 +151,8 @@ fn state_before(alloc: Global, held: &Held<'_>, i: usize) -> Result<String, Allo
     format!(in alloc; "(string_bytes c.{call}.new.s.out)")
 }
 
-/// The name of the call that appends the field or the part at a place: from the second of a name
-/// on with its number.
+/// The name of the call that appends the field at a place: from the second of a name on with its
+/// number.
 fn call_at(alloc: Global, held: &Held<'_>, i: usize) -> Result<String, AllocError> {
     let name = call_of(held, i);
     let mut count: usize = 1;
@@ -213,24 +167,15 @@ fn call_at(alloc: Global, held: &Held<'_>, i: usize) -> Result<String, AllocErro
     String::from_str(alloc, name)
 }
 
-/// The function that appends the field or the part at a place.
+/// The function that appends the field at a place.
 fn call_of(held: &Held<'_>, i: usize) -> &'static str {
     let Some(leaf) = held.leaves.get(i) else {
         return "";
     };
-    let is_within = leaf.nested.is_within();
-    if held.has_fields {
-        return match (leaf.nested.holders.first(), is_within) {
-            (Some(Holder::Option), true) => "append_optional_within",
-            (Some(Holder::Option), false) => "append_optional",
-            (_, true) => "append_required_within",
-            (_, false) => "append_required",
-        };
-    }
-    match (i.saturating_add(1) == held.leaves.len(), is_within) {
-        (true, true) => "append_last_within",
-        (true, false) => "append_last",
-        (false, true) => "append_part_within",
-        (false, false) => "append_part",
+    match (leaf.nested.holders.first(), leaf.nested.is_within()) {
+        (Some(Holder::Option), true) => "append_optional_within",
+        (Some(Holder::Option), false) => "append_optional",
+        (_, true) => "append_required_within",
+        (_, false) => "append_required",
     }
 }

@@ -4,7 +4,7 @@
 use crate::coded::{Coded, nested_record};
 use crate::definitions::equation;
 use crate::nested::{Held, Nested};
-use crate::ron_parts::variant_texts;
+use crate::ron_contents::variant_texts;
 use crate::text_layers::{content_layer, content_layers, row_layer};
 use crate::wrapped::atom;
 use std::alloc::{AllocError, Global};

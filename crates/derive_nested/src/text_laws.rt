@@ -4,8 +4,7 @@
 use crate::codec_laws::{Variant, binders, law_end, variant_at};
 use crate::legal_laws::{Known, struct_legal, variant_legal};
 use crate::nested::{Held, Nested};
-use crate::ron_parts::part_texts;
-use crate::text_codec::{RON, TextTerms};
+use crate::text_codec::{JSON, TextTerms};
 use crate::text_fields::{field_definitions, row_lemmas};
 use crate::text_layers::content_name;
 use crate::wrapped::{at, atom};
@@ -36,12 +35,9 @@ pub(crate) fn text_laws(
     if nested.is_enum {
         text.push_str(texts(alloc, nested, format)?.as_str())?;
     }
-    let cited = if format.name == RON.name {
-        part_texts(alloc, nested, format)?
-    } else {
-        row_lemmas(alloc, nested, format)?
-    };
-    text.push_str(cited.as_str())?;
+    if format.name == JSON.name {
+        text.push_str(row_lemmas(alloc, nested, format)?.as_str())?;
+    }
     Ok(text)
 }
 

@@ -26,7 +26,7 @@ mod nested_json_contents;
 mod nested_json_fields;
 mod nested_json_variants;
 mod nested_ron;
-mod nested_ron_parts;
+mod nested_ron_contents;
 mod nested_ron_steps;
 mod nested_rows;
 mod nested_text;

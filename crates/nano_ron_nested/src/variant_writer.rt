@@ -1,14 +1,15 @@
 //! The variants of enums that contain themselves, written: a name with its content.
 
 ghost use Rattle.std.specs.Prelude.{OnOk, OnErr};
+ghost use Rattle.nano_ron.specs.ContainerCodecs.{pair_codec};
 ghost use Rattle.nano_ron_schema.specs.VariantCodecs.{single_codec};
 ghost use Rattle.nano_ron_schema.specs.Variants.{content_text};
 ghost use Rattle.nano_text.specs.Outcomes.{Appends, AppendsPart, Unchanged};
 
-use crate::part_writer::append_last_within;
+use crate::part_writer::{append_last_within, append_part_within, open_variant};
 use crate::traits::WritesRon;
 use nano_ron::{SerRon, SerRonState, rollback_on_error};
-use nano_ron_schema::{WriteContent, write_unit_variant};
+use nano_ron_schema::{Part, WriteContent, write_unit_variant};
 use nano_schema::Newtype;
 use std::alloc::{AllocError, Global};
 
@@ -61,4 +62,48 @@ fn append_variant<T: WritesRon>(
     write_unit_variant(name, s)?;
     s.out.push('(')?;
     append_last_within(alloc, part, d, s)
+}
+
+impl<T: SerRon> WritesRon for Part<'_, T> {
+    fn write_ron(&self, alloc: Global, d: usize, s: &mut SerRonState) -> Result<(), AllocError> {
+        self.ser_ron(alloc, d, s)
+    }
+}
+
+/// Appends a variant with two parts: its name, and the parts at level `d` with a comma and a space
+/// between them and parentheses around them. A part that holds no values of the enum is given as a
+/// `Part`. If the write fails, `s.out` is unchanged.
+pub fn write_pair_within<A: WritesRon, B: WritesRon>(
+    alloc: Global,
+    name: &str,
+    first: &A,
+    second: &B,
+    d: usize,
+    s: &mut SerRonState,
+) -> Result<(), AllocError>
+    ensures ok { OnOk result (Appends s.old.out s.new.out (content_text name.now
+        ((pair_codec A.ron B.ron).canonical.text d (first.now, second.now)))) }
+    ensures err { OnErr result (Unchanged s.old.out s.new.out) }
+{
+    let start = s.out.len();
+    let written = append_pair(alloc, name, first, second, d, s);
+    rollback_on_error(&mut s.out, start, written)
+}
+
+/// Appends a variant with two parts. If allocation fails, what was written so far is left.
+fn append_pair<A: WritesRon, B: WritesRon>(
+    alloc: Global,
+    name: &str,
+    first: &A,
+    second: &B,
+    d: usize,
+    s: &mut SerRonState,
+) -> Result<(), AllocError>
+    ensures ok { OnOk result (Appends s.old.out s.new.out (content_text name.now
+        ((pair_codec A.ron B.ron).canonical.text d (first.now, second.now)))) }
+    ensures err { OnErr result (AppendsPart s.old.out s.new.out) }
+{
+    open_variant(name, s)?;
+    append_part_within(alloc, first, d, s)?;
+    append_last_within(alloc, second, d, s)
 }

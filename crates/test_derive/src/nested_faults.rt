@@ -26,13 +26,6 @@ enum A {
 }
 => 3:5: `B` has braces with nothing between them, which no variant has in JSON and RON
 ----
-// nanoserde: bin ron
-enum A {
-    B(Box<A>, Box<A>),
-    C,
-}
-=> 3:5: `B` has two parts that hold the enum itself, which no variant has in RON
-----
 // nanoserde: json
 enum A {
     B {

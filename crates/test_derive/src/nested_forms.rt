@@ -75,6 +75,30 @@ type AFields = (
         read_record_within::<Levels, A, AFields>(below, alloc, offset, bytes)
 =>
         write_record_bin::<Self, BFields>(self, alloc, output)
+----
+// nanoserde: ron
+enum A {
+    B(Box<A>, Box<A>),
+    C(u8, Vec<A>),
+    D,
+    VariantWhoseNameIsSoLongThatItsCallDoesNotStandOnOneLineAnyMore(Box<A>, Vec<A>),
+}
+=>
+            Self::B(first, second) => write_pair_within(alloc, "B", first, second, d, s),
+            Self::C(first, second) => {
+                let first = &nano_ron_schema::Part { of: first };
+                write_pair_within(alloc, "C", first, second, d, s)
+            }
+            Self::D => write_unit_variant("D", s),
+=>
+                write_pair_within(
+                    alloc,
+                    "VariantWhoseNameIsSoLongThatItsCallDoesNotStandOnOneLineAnyMore",
+                    first,
+                    second,
+                    d,
+                    s,
+                )
 "#;
 
 /// The paths of the files beside the sources, and lines of those.

@@ -6,5 +6,7 @@ mod TreeJsonCodecsLaws
 mod ChainJsonCodecsLaws
 mod FolderJsonCodecsLaws
 mod ExpressionJsonCodecsLaws
-mod FilterCodecsLaws
-mod FilterJsonCodecsLaws
+mod TreeRonCodecsLaws
+mod ExpressionRonCodecsLaws
+mod ChainRonCodecsLaws
+mod FolderRonCodecsLaws

@@ -6,5 +6,7 @@ pub mod TreeJsonCodecs
 pub mod ChainJsonCodecs
 pub mod FolderJsonCodecs
 pub mod ExpressionJsonCodecs
-pub mod FilterCodecs
-pub mod FilterJsonCodecs
+pub mod TreeRonCodecs
+pub mod ExpressionRonCodecs
+pub mod ChainRonCodecs
+pub mod FolderRonCodecs

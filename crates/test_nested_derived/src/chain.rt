@@ -1,7 +1,7 @@
-//! A chain: its schema, and then bytes and JSON.
+//! A chain: its schema, and then bytes, JSON and RON.
 
 /// A number, and what follows it.
-// nanoserde: bin json
+// nanoserde: bin json ron
 #[derive(PartialEq, Debug, Drop)]
 pub struct Chain {
     /// The number.

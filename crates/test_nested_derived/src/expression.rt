@@ -1,7 +1,7 @@
-//! An expression: its schema, and then bytes and JSON.
+//! An expression: its schema, and then bytes, JSON and RON.
 
 /// An expression.
-// nanoserde: bin json
+// nanoserde: bin json ron
 #[derive(PartialEq, Debug, Drop)]
 pub enum Expression {
     /// A number.

@@ -1,7 +1,7 @@
-//! A folder: its schema, and then bytes and JSON.
+//! A folder: its schema, and then bytes, JSON and RON.
 
 /// A folder.
-// nanoserde: bin json
+// nanoserde: bin json ron
 #[derive(PartialEq, Debug, Drop)]
 pub struct Folder {
     /// Its name.

@@ -6,14 +6,14 @@
 mod bin_tests;
 mod chain;
 mod expression;
-mod filter;
 mod folder;
 #[cfg(test)]
 mod json_tests;
+#[cfg(test)]
+mod ron_tests;
 mod tree;
 
 pub use chain::Chain;
 pub use expression::Expression;
-pub use filter::Filter;
 pub use folder::Folder;
 pub use tree::Tree;

@@ -1,7 +1,7 @@
-//! A tree: its schema, and then bytes and JSON.
+//! A tree: its schema, and then bytes, JSON and RON.
 
 /// A tree.
-// nanoserde: bin json
+// nanoserde: bin json ron
 #[derive(PartialEq, Debug, Drop)]
 pub enum Tree {
     /// A number.

@@ -61,9 +61,3 @@ filter_ron_text_has d v0 v1 =
     text_seen filter_ron_nested 128 d (Filter-Has v0 v1) (Later (Later (Later (v0, v1)))) (filter_view_has v0 v1)
 
 pub ruleset filter_ron_texts = (filter_ron_text_any, filter_ron_text_not, filter_ron_text_at_least, filter_ron_text_has)
-
-abbrev pub filter_ron_part_at_least_first : ℕ → ℕ → List ℕ
-filter_ron_part_at_least_first d v = u8_codec.canonical.text d v
-
-abbrev pub filter_ron_part_at_least_second : ℕ → Vec Filter Global → List ℕ
-filter_ron_part_at_least_second d v = (codec_as (λ (x : Vec Filter Global). x.items) (list_codec filter_ron)).canonical.text d v

@@ -1,10 +1,3 @@
-mod TreeCodecsLaws
-mod TreeJsonCodecsLaws
-mod TreeRonCodecsLaws
-mod FolderCodecsLaws
-mod FolderRonCodecsLaws
-mod ChainCodecsLaws
-mod ChainRonCodecsLaws
 mod FilterCodecsLaws
 mod FilterJsonCodecsLaws
 mod FilterRonCodecsLaws

@@ -1,5 +1,5 @@
 -- Written by derive_files: types that contain themselves, and their codecs.
-use Rattle.std.specs.Prelude.{◌≡◌, ℕ, List, max, refl, codes, Box, Option, String, Vec}
+use Rattle.std.specs.Prelude.{◌≡◌, ℕ, List, max, refl, codes, Box, Option, String}
 use Rattle.std.specs.Global.{Global}
 use Rattle.std.proofs.Common.{◌∙◌, arith}
 use Rattle.nano_value.specs.Meaning.{Meaning, Agrees}
@@ -12,15 +12,14 @@ use Rattle.nano_schema_levels.proofs.FieldLayersLaws.{fields_pair_layer, optiona
 use Rattle.nano_schema_levels.proofs.LegalLevelsLaws.{agree_through, nested_agrees}
 use Rattle.nano_schema_levels.proofs.PartLaws.{pair_layer, seen_layer, single_layer}
 use Rattle.nano_schema_levels.proofs.VariantLayersLaws.{choice_layer, last_variant, next_unit, next_variant}
-use Rattle.nano_ron.specs.Codec.{Codec, codec_as}
-use Rattle.nano_ron.specs.ContainerCodecs.{pair_codec}
+use Rattle.nano_ron.specs.Codec.{Codec}
 use Rattle.nano_ron_tokens.specs.Cut.{ron_grammar}
 use Rattle.nano_ron_tokens.proofs.RonLaws.{ron, block_brackets, paren_brackets}
 use Rattle.nano_ron_tokens.proofs.StylesLaws.{line_style, tuple_style}
 use Rattle.nano_ron_schema.specs.FieldCodecs.{required_field, ron_fields, word_names}
 use Rattle.nano_ron_schema.specs.VariantCodecs.{ron_variants}
 use Rattle.nano_ron_schema.specs.Variants.{content_text}
-use Rattle.nano_ron_nested.specs.TypeCodecs.{list_codec, u8_codec, string_codec}
+use Rattle.nano_ron_nested.specs.TypeCodecs.{u8_codec, string_codec}
 use Rattle.test_nested_derived_ron.specs.declared.filter.Filter.{Filter}
 use Rattle.test_nested_derived_ron.specs.declared.filter.Filter.TheOpen.{Filter-F}
 use Rattle.test_nested_derived_ron.specs.declared.filter.Filter.TheViews.{out-Filter}
@@ -93,11 +92,6 @@ filter_ron_at = level filter_ron_nested
 -- those that are read
 abbrev pub filter_ron : Codec Filter
 filter_ron = limited filter_ron_nested 128
-
--- a value of `AtLeast` as it is written
-abbrev pub filter_ron_of_at_least : ℕ → ℕ → Vec Filter Global → List ℕ
-filter_ron_of_at_least d v0 v1 =
-    content_text (codes "AtLeast") ((pair_codec u8_codec (codec_as (λ (x : Vec Filter Global). x.items) (list_codec filter_ron))).canonical.text d (v0, v1))
 
 -- a value of `Has` as it is written
 abbrev pub filter_ron_of_has : ℕ → String Global → Option (Box Filter Global) → List ℕ

@@ -1,10 +1,3 @@
-pub mod TreeCodecs
-pub mod TreeJsonCodecs
-pub mod TreeRonCodecs
-pub mod FolderCodecs
-pub mod FolderRonCodecs
-pub mod ChainCodecs
-pub mod ChainRonCodecs
 pub mod FilterCodecs
 pub mod FilterJsonCodecs
 pub mod FilterRonCodecs

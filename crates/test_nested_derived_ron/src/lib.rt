@@ -2,20 +2,14 @@
 //! definitions and proofs are written by `derive`.
 #![tactic(auto)]
 
-mod chain;
 mod comment;
 mod filter;
-mod folder;
 mod menu;
 mod setting;
 #[cfg(test)]
 mod tests;
-mod tree;
 
-pub use chain::Chain;
 pub use comment::Comment;
 pub use filter::Filter;
-pub use folder::Folder;
 pub use menu::Menu;
 pub use setting::Setting;
-pub use tree::Tree;

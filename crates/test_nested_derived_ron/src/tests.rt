@@ -1,14 +1,9 @@
 //! Types that contain themselves, as RON, by impls that `derive` writes.
 
-use crate::{Chain, Comment, Filter, Folder, Menu, Setting, Tree};
+use crate::{Comment, Filter, Menu, Setting};
 use nano_ron_schema::{BothRon, DeRon};
 use std::alloc::{AllocError, Global};
 use std::process::Abort;
-
-const TREES: &[&str] = &[
-    "Leaf(-2)",
-    "Node([\n    Leaf(7),\n    Node([\n        Leaf(8),\n    ]),\n])",
-];
 
 /// A comment, and one that quotes another.
 const COMMENTS: &[&str] = &[
@@ -16,17 +11,6 @@ const COMMENTS: &[&str] = &[
     "(\n    author:\"a\",\n    text:\"b\",\n    votes:2,\n    pinned:true,\n    quoted:(\n        \
     author:\"c\",\n        text:\"d\",\n        votes:0,\n        answers:[\n        ],\n    ),\n    \
     answers:[\n    ],\n)",
-];
-
-const CHAINS: &[&str] = &[
-    "(\n    number:5,\n)",
-    "(\n    number:5,\n    next:(\n        number:6,\n    ),\n)",
-];
-
-/// A folder `b`, in which is a folder `a`.
-const FOLDERS: &[&str] = &[
-    "(\n    name:\"b\",\n    folders:[\n        (\n            name:\"a\",\n            \
-    folders:[\n            ],\n        ),\n    ],\n)",
 ];
 
 const FILTERS: &[&str] = &[
@@ -51,13 +35,13 @@ const SETTINGS: &[&str] = &[
     "Lists({\n    2:[\n        Unset,\n    ],\n    300:[\n    ],\n})",
 ];
 
-/// Texts that are no tree, with the column and the words of the error.
-const NO_TREES: &[(&str, usize, &str)] = &[
+/// Texts that are no filter, with the column and the words of the error.
+const NO_FILTERS: &[(&str, usize, &str)] = &[
     ("Twig(1)", 6, "Enum not defined Twig"),
     (
-        "Node([Leaf(true)])",
-        16,
-        "Unexpected token Bool(true) expected signed integer ",
+        "AtLeast(2, [Not(true)])",
+        21,
+        "Unexpected token Bool(true) expected Identifier ",
     ),
 ];
 
@@ -68,27 +52,9 @@ struct Deep {
     closing: &'static str,
 }
 
-const DEEP_TREE: Deep = Deep {
-    opening: "Node([",
-    innermost: "Leaf(4)",
-    closing: "])",
-};
-
 const DEEP_COMMENT: Deep = Deep {
     opening: "(author:\"a\",text:\"b\",votes:1,answers:[",
     innermost: "(author:\"a\",text:\"b\",votes:1,answers:[])",
-    closing: "])",
-};
-
-const DEEP_CHAIN: Deep = Deep {
-    opening: "(number:1,next:",
-    innermost: "(number:2)",
-    closing: ")",
-};
-
-const DEEP_FOLDER: Deep = Deep {
-    opening: "(name:\"a\",folders:[",
-    innermost: "(name:\"b\",folders:[])",
     closing: "])",
 };
 
@@ -189,10 +155,7 @@ fn ends_after_128<T: BothRon>(
 #[test]
 fn types_that_contain_themselves_are_texts(rt: HostRuntime) {
     let alloc = rt.alloc();
-    holds(&rt, are_values::<Tree>(alloc, TREES), "trees");
     holds(&rt, are_values::<Comment>(alloc, COMMENTS), "comments");
-    holds(&rt, are_values::<Chain>(alloc, CHAINS), "chains");
-    holds(&rt, are_values::<Folder>(alloc, FOLDERS), "folders");
     holds(&rt, are_values::<Filter>(alloc, FILTERS), "filters");
     holds(&rt, are_values::<Menu>(alloc, MENUS), "menus");
     holds(&rt, are_values::<Setting>(alloc, SETTINGS), "settings");
@@ -201,8 +164,8 @@ fn types_that_contain_themselves_are_texts(rt: HostRuntime) {
 #[test]
 fn other_texts_are_rejected_where_they_differ(rt: HostRuntime) {
     let alloc = rt.alloc();
-    for (text, column, words) in NO_TREES {
-        let is_so = is_rejected::<Tree>(alloc, text, *column, words);
+    for (text, column, words) in NO_FILTERS {
+        let is_so = is_rejected::<Filter>(alloc, text, *column, words);
         holds(&rt, is_so, "a row");
     }
 }
@@ -210,14 +173,8 @@ fn other_texts_are_rejected_where_they_differ(rt: HostRuntime) {
 #[test]
 fn levels_of_texts_run_out_after_128(rt: HostRuntime) {
     let alloc = rt.alloc();
-    let trees = ends_after_128::<Tree>(alloc, &DEEP_TREE, 773);
-    holds(&rt, trees.unwrap_or(false), "trees");
     let comments = ends_after_128::<Comment>(alloc, &DEEP_COMMENT, 4866);
     holds(&rt, comments.unwrap_or(false), "comments");
-    let chains = ends_after_128::<Chain>(alloc, &DEEP_CHAIN, 1922);
-    holds(&rt, chains.unwrap_or(false), "chains");
-    let folders = ends_after_128::<Folder>(alloc, &DEEP_FOLDER, 2434);
-    holds(&rt, folders.unwrap_or(false), "folders");
     let filters = ends_after_128::<Filter>(alloc, &DEEP_FILTER, 2308);
     holds(&rt, filters.unwrap_or(false), "filters");
     let menus = ends_after_128::<Menu>(alloc, &DEEP_MENU, 3074);

@@ -1,7 +1,7 @@
 //! Types that contain themselves, in JSON and RON.
 
 use crate::fault::Fault;
-use crate::syntax::{Content, Definition, Field, Shape, Type, Variant};
+use crate::syntax::{Content, Definition, Field, Shape, Variant};
 use crate::token::Token;
 
 const PARTS: &str =
@@ -16,9 +16,6 @@ const SECOND: &str =
     "is a second field of a variant that holds the enum itself, which has no JSON and no RON: \
     hold them in a `Vec`";
 
-const TWO: &str = "has two parts that hold the enum itself, which no variant has in RON: hold them \
-    in a `Vec`";
-
 /// An error where a type that contains itself has a shape that is not written in JSON and RON.
 pub(crate) fn check_nested_json<'a>(definition: &Definition<'a>) -> Result<(), Fault> {
     let Shape::Variants(variants) = &definition.shape else {
@@ -27,29 +24,10 @@ pub(crate) fn check_nested_json<'a>(definition: &Definition<'a>) -> Result<(), F
     for variant in variants {
         match &variant.content {
             Content::Nothing => {}
-            Content::Parts(parts) => check_parts(definition, variant, parts)?,
+            Content::Parts(parts) if parts.len() > 2 => return Err(variant.name.fault(PARTS)),
+            Content::Parts(_parts) => {}
             Content::Fields(fields) => check_fields(definition.name, variant, fields)?,
         }
-    }
-    Ok(())
-}
-
-/// An error where a variant has parts that are not written.
-fn check_parts<'a>(
-    definition: &Definition<'a>,
-    variant: &Variant<'a>,
-    parts: &[Type<'a>],
-) -> Result<(), Fault> {
-    if parts.len() > 2 {
-        return Err(variant.name.fault(PARTS));
-    }
-    let mut holds_one = false;
-    for part in parts {
-        let holds = part.parameter_of(&[definition.name]).is_some();
-        if holds && holds_one && definition.attributes.ron.is_used() {
-            return Err(variant.name.fault(TWO));
-        }
-        holds_one = holds_one || holds;
     }
     Ok(())
 }

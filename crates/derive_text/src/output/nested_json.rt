@@ -125,7 +125,7 @@ pub(crate) fn append_json_choice<'a>(
         String::new(alloc)
     };
     holes.put("AROUND", around.as_str())?;
-    holes.put("ARMS", arms(sheet, target, variants)?.as_str())?;
+    holes.put("ARMS", arms(sheet, target, variants, JSON)?.as_str())?;
     sheet.write(CHOICE, &holes)?;
     sheet.write(READER, &holes)
 }

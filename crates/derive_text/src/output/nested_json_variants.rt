@@ -1,10 +1,12 @@
-//! The variants of enums that contain themselves, in JSON: their row, and what writes each.
+//! The variants of enums that contain themselves: their row in JSON, and what writes each in JSON and
+//! in RON.
 
 use crate::output::chains::append_variants;
 use crate::output::labels::name_of;
-use crate::output::layout::Items;
+use crate::output::layout::{Brackets, Items, Piece, list};
 use crate::output::nested_bodies::{Held, arm, arm_of, parts_of};
 use crate::output::nested_json_contents::writer_of;
+use crate::output::nested_text::{JSON, TextNames};
 use crate::output::rows::Leaf;
 use crate::output::sheet::Sheet;
 use crate::output::target::Target;
@@ -78,17 +80,18 @@ fn json_leaf<'a>(
 
 // ---- what writes each variant
 
-/// What writes each variant.
+/// What writes each variant in a format of texts.
 pub(crate) fn arms<'a>(
     sheet: &mut Sheet,
     target: &Target<'a>,
     variants: &[Variant<'a>],
+    format: TextNames,
 ) -> Result<String, AllocError> {
     let mut text = String::new(sheet.alloc);
     for variant in variants {
         let arm = match &variant.content {
-            Content::Fields(fields) => fields_arm(sheet, target, variant, fields)?,
-            _ => parts_arm(sheet, target, variant)?,
+            Content::Fields(fields) => fields_arm(sheet, target, variant, (fields, format))?,
+            _ => parts_arm(sheet, target, variant, format)?,
         };
         text.push_str(arm.as_str())?;
     }
@@ -100,11 +103,16 @@ fn fields_arm<'a>(
     sheet: &mut Sheet,
     target: &Target<'a>,
     variant: &Variant<'a>,
-    fields: &[Field<'a>],
+    (fields, format): (&[Field<'a>], TextNames),
 ) -> Result<String, AllocError> {
     let alloc = sheet.alloc;
     let mut bound = Vec::new(alloc);
-    let mut call = format!(in alloc; "{}(", writer_of(alloc, target, variant)?)?;
+    let mut call = writer_of(alloc, target, variant)?;
+    call.push_str(if format.name == JSON.name {
+        "("
+    } else {
+        "_ron("
+    })?;
     for (i, field) in fields.iter().enumerate() {
         bound.push(format!(in alloc; "{}: v{i}", field.name.text)?)?;
         call.push_str(format!(in alloc; "v{i}, ")?.as_str())?;
@@ -123,46 +131,101 @@ fn parts_arm<'a>(
     sheet: &mut Sheet,
     target: &Target<'a>,
     variant: &Variant<'a>,
+    format: TextNames,
 ) -> Result<String, AllocError> {
     let alloc = sheet.alloc;
     let parts = parts_of(alloc, &variant.content)?;
-    let key = variant_name(alloc, variant, None)?;
     let mut lines = Vec::new(alloc);
     for part in &parts {
         if parts.len() > 1 && part.of.parameter_of(&[target.name]).is_none() {
-            let name = part.name.as_str();
-            let line = format!(in alloc; "let {name} = &nano_json_schema::Part {{ of: {name} }};")?;
+            let (name, end) = (part.name.as_str(), format.name);
+            let line = format!(in alloc;
+                "let {name} = &nano_{end}_schema::Part {{ of: {name} }};"
+            )?;
             lines.push(sheet.short(line.as_str())?)?;
         }
     }
-    lines.push(write_parts(sheet, target, key.as_str(), &parts)?)?;
+    lines.push(write_parts(sheet, target, variant, (&parts, format))?)?;
     arm(alloc, variant, &lines, "")
 }
 
-/// The call that writes a variant that is called so, with its parts.
+/// The call that writes a variant with its parts.
 fn write_parts<'a>(
     sheet: &mut Sheet,
     target: &Target<'a>,
-    key: &str,
-    parts: &[Held<'a>],
+    variant: &Variant<'a>,
+    (parts, format): (&[Held<'a>], TextNames),
+) -> Result<String, AllocError> {
+    match parts {
+        [] => write_name(sheet, variant, format),
+        [part] => write_part(sheet, target, variant, (part, format)),
+        [first, second, ..] => write_pair(sheet, variant, (first, second), format),
+    }
+}
+
+/// The call that writes a variant without content.
+fn write_name<'a>(
+    sheet: &mut Sheet,
+    variant: &Variant<'a>,
+    format: TextNames,
 ) -> Result<String, AllocError> {
     let alloc = sheet.alloc;
-    let call = match parts {
-        [] => format!(in alloc; "nano_json_schema::write_unit_variant(alloc, \"{key}\", s)")?,
-        [part] => {
-            let end = match part.of.parameter_of(&[target.name]) {
-                Some(_itself) => "within",
-                None => "other",
-            };
-            format!(in alloc;
-                "nano_json_nested::write_variant_{end}(alloc, \"{key}\", {}, d, s)",
-                part.name
-            )?
-        }
-        [first, second, ..] => format!(in alloc;
-            "nano_json_nested::write_pair_within(alloc, \"{key}\", {}, {}, d, s)",
-            first.name, second.name
-        )?,
+    let key = variant_name(alloc, variant, None)?;
+    let given = if format.name == JSON.name {
+        "alloc, "
+    } else {
+        ""
     };
+    let call = format!(in alloc;
+        "nano_{}_schema::write_unit_variant({given}\"{key}\", s)",
+        format.name
+    )?;
     sheet.short(call.as_str())
+}
+
+/// The call that writes a variant with one part.
+fn write_part<'a>(
+    sheet: &mut Sheet,
+    target: &Target<'a>,
+    variant: &Variant<'a>,
+    (part, format): (&Held<'a>, TextNames),
+) -> Result<String, AllocError> {
+    let alloc = sheet.alloc;
+    let key = variant_name(alloc, variant, None)?;
+    let end = match part.of.parameter_of(&[target.name]) {
+        Some(_itself) => "within",
+        None => "other",
+    };
+    let call = format!(in alloc;
+        "nano_{}_nested::write_variant_{end}(alloc, \"{key}\", {}, d, s)",
+        format.name, part.name
+    )?;
+    sheet.short(call.as_str())
+}
+
+/// The call that writes a variant with two parts.
+fn write_pair<'a>(
+    sheet: &mut Sheet,
+    variant: &Variant<'a>,
+    (first, second): (&Held<'a>, &Held<'a>),
+    format: TextNames,
+) -> Result<String, AllocError> {
+    let alloc = sheet.alloc;
+    let open = format!(in alloc; "nano_{}_nested::write_pair_within(", format.name)?;
+    let open = sheet.short(open.as_str())?;
+    let key = format!(in alloc; "\"{}\"", variant_name(alloc, variant, None)?)?;
+    let (first, second) = (first.name.as_str(), second.name.as_str());
+    let mut arguments = Vec::new(alloc);
+    for argument in ["alloc", key.as_str(), first, second, "d", "s"] {
+        arguments.push(Piece::of(alloc, argument)?)?;
+    }
+    let brackets = Brackets {
+        open: open.as_str(),
+        close: ")",
+        items: Items::Values,
+        indent: 16,
+        before: 16,
+        after: 0,
+    };
+    Ok(list(alloc, brackets, &arguments)?.laid)
 }

@@ -1,7 +1,6 @@
-//! The steps that append the fields of a struct that contains itself in RON, or what a variant holds.
+//! The steps that append the fields of a struct that contains itself in RON, or those of a variant.
 
 use crate::output::layout::{Brackets, Items, Piece, list};
-use crate::output::nested_bodies::Held;
 use crate::output::sheet::Sheet;
 use crate::output::types::optional_part;
 use derive_syntax::{Field, Token, field_name};
@@ -34,46 +33,13 @@ pub(crate) fn field_steps<'a>(
             format!(in alloc; "v{i}")?
         };
         let arguments = ["alloc", key.as_str(), value.as_str(), "inner", "s"];
-        text.push_str(step(sheet, open.as_str(), &arguments, ")?;")?.as_str())?;
+        text.push_str(step(sheet, open.as_str(), &arguments)?.as_str())?;
     }
     Ok(text)
 }
 
-/// The steps that append the parts of a variant of the type of this name, and the closing
-/// parenthesis.
-pub(crate) fn part_steps<'a>(
-    sheet: &mut Sheet,
-    name: Token<'a>,
-    parts: &[Held<'a>],
-) -> Result<String, AllocError> {
-    let alloc = sheet.alloc;
-    let mut text = String::new(alloc);
-    for (i, part) in parts.iter().enumerate() {
-        let is_last = i.saturating_add(1) == parts.len();
-        let (kind, close) = if is_last {
-            ("last", ")")
-        } else {
-            ("part", ")?;")
-        };
-        let end = match part.of.parameter_of(&[name]) {
-            Some(_itself) => "_within",
-            None => "",
-        };
-        let open = format!(in alloc; "nano_ron_nested::append_{kind}{end}(")?;
-        let value = format!(in alloc; "v{i}")?;
-        let arguments = ["alloc", value.as_str(), "d", "s"];
-        text.push_str(step(sheet, open.as_str(), &arguments, close)?.as_str())?;
-    }
-    Ok(text)
-}
-
-/// A call on lines of its own, with such an end.
-fn step(
-    sheet: &mut Sheet,
-    open: &str,
-    arguments: &[&str],
-    close: &str,
-) -> Result<String, AllocError> {
+/// A call on lines of its own.
+fn step(sheet: &mut Sheet, open: &str, arguments: &[&str]) -> Result<String, AllocError> {
     let open = sheet.short(open)?;
     let mut pieces = Vec::new(sheet.alloc);
     for argument in arguments {
@@ -81,7 +47,7 @@ fn step(
     }
     let brackets = Brackets {
         open: open.as_str(),
-        close,
+        close: ")?;",
         items: Items::Values,
         indent: 4,
         before: 4,

@@ -15,6 +15,8 @@ use nano_json_schema::{
     DeJson, DeJsonErr, DeJsonState, JsonCodec, JsonRefs, SerJson, SerJsonState,
 };
 use nano_levels::{Levels, Other, Within};
+use nano_ron_nested::{NestedRon, ReadsRon, WritesRon, append_required, read_record_ron_within};
+use nano_ron_schema::{DeRon, DeRonErr, DeRonState, RonCodec, SerRon, SerRonState};
 use nano_schema::{Label, Optional, Required, StructSchema, Value};
 use std::alloc::{AllocError, Global};
 use std::str::Chars;
@@ -205,5 +207,95 @@ impl DeJson for Chain {
     ) -> Result<Self, DeJsonErr> {
         let levels = Levels::most();
         ReadsJson::<Self>::read_json(levels, 128, alloc, state, input)
+    }
+}
+
+// ---- RON
+
+impl RonCodec for Chain {
+    ghost use Rattle.test_nested_derived.specs.ChainRonCodecs.{chain_ron, chain_ron_agrees};
+
+    ghost ron = { chain_ron };
+
+    ghost agrees = { chain_ron_agrees };
+}
+
+impl NestedRon for Chain {
+    ghost use Rattle.test_nested_derived.specs.ChainCodecs.{chain_means};
+    ghost use Rattle.test_nested_derived.specs.ChainRonCodecs.{chain_ron_at};
+
+    ghost means = { chain_means };
+
+    ghost at = { chain_ron_at };
+}
+
+ghost use Rattle.test_nested_derived.specs.ChainRonCodecs.{chain_ron};
+
+/// Appends the fields between parentheses. If the write fails, what was written so far is left.
+#[cycle(write_chain_ron)]
+fn append_chain_ron(
+    value: &Chain,
+    alloc: Global,
+    d: usize,
+    s: &mut SerRonState,
+) -> Result<(), AllocError>
+    ensures ok { OnOk result (Appends s.old.out s.new.out (chain_ron.canonical.text d value.now)) }
+    ensures err { OnErr result (AppendsPart s.old.out s.new.out) }
+{
+    s.st_pre()?;
+    let inner = d.saturating_add(1);
+    append_required(alloc, "number", &value.number, inner, s)?;
+    nano_ron_nested::append_optional_within(alloc, "next", &value.next, inner, s)?;
+    s.st_post(d)
+}
+
+impl WritesRon for Chain {
+    #[cycle(write_chain_ron)]
+    fn write_ron(&self, alloc: Global, d: usize, s: &mut SerRonState) -> Result<(), AllocError> {
+        let start = s.out.len();
+        let written = append_chain_ron(self, alloc, d, s);
+        nano_ron_nested::rollback_on_error(&mut s.out, start, written)
+    }
+}
+
+impl SerRon for Chain {
+    fn ser_ron(&self, alloc: Global, d: usize, s: &mut SerRonState) -> Result<(), AllocError> {
+        WritesRon::write_ron(self, alloc, d, s)
+    }
+}
+
+impl ReadsRon<Chain> for Levels {
+    #[cycle(read)]
+    fn read_ron(
+        &self,
+        left: usize,
+        alloc: Global,
+        state: &mut DeRonState,
+        input: &mut Chars<'_>,
+    ) -> Result<Chain, DeRonErr> {
+        if left == 0 {
+            return Err(nano_ron_nested::too_deep(alloc, state));
+        }
+        let Levels::More(below) = self else {
+            return Err(nano_ron_nested::no_levels(alloc, state));
+        };
+        let Some(below) = below.first() else {
+            return Err(nano_ron_nested::no_levels(alloc, state));
+        };
+        match read_record_ron_within::<Levels, ChainFields>(below, left - 1, alloc, state, input) {
+            Ok(values) => Ok(Chain::make(values)),
+            Err(error) => Err(error),
+        }
+    }
+}
+
+impl DeRon for Chain {
+    fn de_ron(
+        alloc: Global,
+        state: &mut DeRonState,
+        input: &mut Chars<'_>,
+    ) -> Result<Self, DeRonErr> {
+        let levels = Levels::most();
+        ReadsRon::<Self>::read_ron(levels, 128, alloc, state, input)
     }
 }

@@ -15,6 +15,8 @@ use nano_json_nested::{
 };
 use nano_json_schema::{DeJson, DeJsonErr, DeJsonState, JsonCodec, SerJson, SerJsonState};
 use nano_levels::{Levels, Other, Within};
+use nano_ron_nested::{NestedRon, ReadsRon, WritesRon, read_choice_ron_within};
+use nano_ron_schema::{DeRon, DeRonErr, DeRonState, RonCodec, SerRon, SerRonState};
 use nano_schema::{Either, EnumSchema, Label, Newtype, Tuple, Value, Variant};
 use std::alloc::{AllocError, Global};
 use std::str::Chars;
@@ -250,5 +252,89 @@ impl DeJson for Expression {
     ) -> Result<Self, DeJsonErr> {
         let levels = Levels::most();
         ReadsJson::<Self>::read_json(levels, 128, alloc, state, input)
+    }
+}
+
+// ---- RON
+
+impl RonCodec for Expression {
+    ghost use Rattle.test_nested_derived.specs.ExpressionRonCodecs.{expression_ron, expression_ron_agrees};
+
+    ghost ron = { expression_ron };
+
+    ghost agrees = { expression_ron_agrees };
+}
+
+impl NestedRon for Expression {
+    ghost use Rattle.test_nested_derived.specs.ExpressionCodecs.{expression_means};
+    ghost use Rattle.test_nested_derived.specs.ExpressionRonCodecs.{expression_ron_at};
+
+    ghost means = { expression_means };
+
+    ghost at = { expression_ron_at };
+}
+
+impl WritesRon for Expression {
+    #[tactic(auto, using(crate::proofs::ExpressionRonCodecsLaws::expression_ron_texts))]
+    fn write_ron(&self, alloc: Global, d: usize, s: &mut SerRonState) -> Result<(), AllocError> {
+        match self {
+            Self::Number(first) => {
+                nano_ron_nested::write_variant_other(alloc, "Number", first, d, s)
+            }
+            Self::Negated(first) => {
+                nano_ron_nested::write_variant_within(alloc, "Negated", first, d, s)
+            }
+            Self::Sum(first, second) => {
+                nano_ron_nested::write_pair_within(alloc, "Sum", first, second, d, s)
+            }
+        }
+    }
+}
+
+impl SerRon for Expression {
+    fn ser_ron(&self, alloc: Global, d: usize, s: &mut SerRonState) -> Result<(), AllocError> {
+        WritesRon::write_ron(self, alloc, d, s)
+    }
+}
+
+impl ReadsRon<Expression> for Levels {
+    #[cycle(read)]
+    fn read_ron(
+        &self,
+        left: usize,
+        alloc: Global,
+        state: &mut DeRonState,
+        input: &mut Chars<'_>,
+    ) -> Result<Expression, DeRonErr> {
+        if left == 0 {
+            return Err(nano_ron_nested::too_deep(alloc, state));
+        }
+        let Levels::More(below) = self else {
+            return Err(nano_ron_nested::no_levels(alloc, state));
+        };
+        let Some(below) = below.first() else {
+            return Err(nano_ron_nested::no_levels(alloc, state));
+        };
+        match read_choice_ron_within::<Levels, ExpressionVariants>(
+            below,
+            left - 1,
+            alloc,
+            state,
+            input,
+        ) {
+            Ok(values) => Ok(Expression::make(values)),
+            Err(error) => Err(error),
+        }
+    }
+}
+
+impl DeRon for Expression {
+    fn de_ron(
+        alloc: Global,
+        state: &mut DeRonState,
+        input: &mut Chars<'_>,
+    ) -> Result<Self, DeRonErr> {
+        let levels = Levels::most();
+        ReadsRon::<Self>::read_ron(levels, 128, alloc, state, input)
     }
 }

@@ -14,6 +14,8 @@ use nano_json_nested::{
 };
 use nano_json_schema::{DeJson, DeJsonErr, DeJsonState, JsonCodec, SerJson, SerJsonState};
 use nano_levels::{Levels, Other, Within};
+use nano_ron_nested::{NestedRon, ReadsRon, WritesRon, read_choice_ron_within};
+use nano_ron_schema::{DeRon, DeRonErr, DeRonState, RonCodec, SerRon, SerRonState};
 use nano_schema::{Either, EnumSchema, Label, Newtype, Value, Variant};
 use std::alloc::{AllocError, Global};
 use std::str::Chars;
@@ -198,5 +200,76 @@ impl DeJson for Tree {
     ) -> Result<Self, DeJsonErr> {
         let levels = Levels::most();
         ReadsJson::<Self>::read_json(levels, 128, alloc, state, input)
+    }
+}
+
+// ---- RON
+
+impl RonCodec for Tree {
+    ghost use Rattle.test_nested_derived.specs.TreeRonCodecs.{tree_ron, tree_ron_agrees};
+
+    ghost ron = { tree_ron };
+
+    ghost agrees = { tree_ron_agrees };
+}
+
+impl NestedRon for Tree {
+    ghost use Rattle.test_nested_derived.specs.TreeCodecs.{tree_means};
+    ghost use Rattle.test_nested_derived.specs.TreeRonCodecs.{tree_ron_at};
+
+    ghost means = { tree_means };
+
+    ghost at = { tree_ron_at };
+}
+
+impl WritesRon for Tree {
+    #[tactic(auto, using(crate::proofs::TreeRonCodecsLaws::tree_ron_texts))]
+    fn write_ron(&self, alloc: Global, d: usize, s: &mut SerRonState) -> Result<(), AllocError> {
+        match self {
+            Self::Leaf(first) => nano_ron_nested::write_variant_other(alloc, "Leaf", first, d, s),
+            Self::Node(first) => nano_ron_nested::write_variant_within(alloc, "Node", first, d, s),
+        }
+    }
+}
+
+impl SerRon for Tree {
+    fn ser_ron(&self, alloc: Global, d: usize, s: &mut SerRonState) -> Result<(), AllocError> {
+        WritesRon::write_ron(self, alloc, d, s)
+    }
+}
+
+impl ReadsRon<Tree> for Levels {
+    #[cycle(read)]
+    fn read_ron(
+        &self,
+        left: usize,
+        alloc: Global,
+        state: &mut DeRonState,
+        input: &mut Chars<'_>,
+    ) -> Result<Tree, DeRonErr> {
+        if left == 0 {
+            return Err(nano_ron_nested::too_deep(alloc, state));
+        }
+        let Levels::More(below) = self else {
+            return Err(nano_ron_nested::no_levels(alloc, state));
+        };
+        let Some(below) = below.first() else {
+            return Err(nano_ron_nested::no_levels(alloc, state));
+        };
+        match read_choice_ron_within::<Levels, TreeVariants>(below, left - 1, alloc, state, input) {
+            Ok(values) => Ok(Tree::make(values)),
+            Err(error) => Err(error),
+        }
+    }
+}
+
+impl DeRon for Tree {
+    fn de_ron(
+        alloc: Global,
+        state: &mut DeRonState,
+        input: &mut Chars<'_>,
+    ) -> Result<Self, DeRonErr> {
+        let levels = Levels::most();
+        ReadsRon::<Self>::read_ron(levels, 128, alloc, state, input)
     }
 }

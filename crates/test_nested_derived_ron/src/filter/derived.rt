@@ -14,10 +14,7 @@ use nano_json_schema::{
     DeJson, DeJsonErr, DeJsonState, JsonCodec, JsonRefs, SerJson, SerJsonState, write_unit_variant,
 };
 use nano_levels::{Levels, Other, Within};
-use nano_ron_nested::{
-    NestedRon, ReadsRon, WritesRon, append_last_within, append_part, append_required, open_variant,
-    read_choice_ron_within,
-};
+use nano_ron_nested::{NestedRon, ReadsRon, WritesRon, append_required, read_choice_ron_within};
 use nano_ron_schema::{DeRon, DeRonErr, DeRonState, RonCodec, SerRon, SerRonState};
 use nano_schema::{
     Either, EnumSchema, Label, Newtype, Optional, Required, Struct, Tuple, Unit, Value, Variant,
@@ -322,44 +319,6 @@ impl NestedRon for Filter {
     ghost at = { filter_ron_at };
 }
 
-ghost use Rattle.test_nested_derived_ron.specs.FilterRonCodecs.{filter_ron_of_at_least};
-
-/// Appends `AtLeast`. If the write fails, what was written so far is left.
-#[cycle(write_filter_ron)]
-fn append_filter_at_least_ron(
-    v0: &u8,
-    v1: &Vec<Filter>,
-    alloc: Global,
-    d: usize,
-    s: &mut SerRonState,
-) -> Result<(), AllocError>
-    ensures ok { OnOk result
-        (Appends s.old.out s.new.out (filter_ron_of_at_least d v0.now v1.now)) }
-    ensures err { OnErr result (AppendsPart s.old.out s.new.out) }
-{
-    open_variant("AtLeast", s)?;
-    append_part(alloc, v0, d, s)?;
-    append_last_within(alloc, v1, d, s)
-}
-
-/// Appends `AtLeast`. If the write fails, the text is unchanged.
-#[cycle(write_filter_ron)]
-fn write_filter_at_least_ron(
-    v0: &u8,
-    v1: &Vec<Filter>,
-    alloc: Global,
-    d: usize,
-    s: &mut SerRonState,
-) -> Result<(), AllocError>
-    ensures ok { OnOk result
-        (Appends s.old.out s.new.out (filter_ron_of_at_least d v0.now v1.now)) }
-    ensures err { OnErr result (Unchanged s.old.out s.new.out) }
-{
-    let start = s.out.len();
-    let written = append_filter_at_least_ron(v0, v1, alloc, d, s);
-    nano_ron_nested::rollback_on_error(&mut s.out, start, written)
-}
-
 ghost use Rattle.test_nested_derived_ron.specs.FilterRonCodecs.{filter_ron_of_has};
 
 /// Appends `Has`. If the write fails, what was written so far is left.
@@ -408,7 +367,10 @@ impl WritesRon for Filter {
         match self {
             Self::Any => nano_ron_schema::write_unit_variant("Any", s),
             Self::Not(first) => nano_ron_nested::write_variant_within(alloc, "Not", first, d, s),
-            Self::AtLeast(v0, v1) => write_filter_at_least_ron(v0, v1, alloc, d, s),
+            Self::AtLeast(first, second) => {
+                let first = &nano_ron_schema::Part { of: first };
+                nano_ron_nested::write_pair_within(alloc, "AtLeast", first, second, d, s)
+            }
             Self::Has { field: v0, and: v1 } => write_filter_has_ron(v0, v1, alloc, d, s),
         }
     }

@@ -1,12 +1,12 @@
 -- Written by derive_files.
-use Rattle.std.proofs.Common.{[], ◌∷◌, ◌++◌, chars, codes, string_bytes}
+use Rattle.std.proofs.Common.{◌++◌, chars, codes, string_bytes}
 use Rattle.std.proofs.lemmas.Result.{on_ok_weaker}
 use Rattle.nano_grammar.specs.FieldCodec.{field_text, fields_text}
 use Rattle.nano_grammar.proofs.WrittenLists.{both_written}
 use Rattle.nano_text.proofs.RollbackLaws.{unchanged_by}
 use Rattle.nano_ron_schema.specs.FieldCodecs.{ron_fields}
 use Rattle.nano_ron_schema.proofs.WrittenFields.{more_lines}
-use Rattle.nano_ron_nested.proofs.WrittenLaws.{written_between, opened_before, part_before}
+use Rattle.nano_ron_nested.proofs.WrittenLaws.{written_between}
 use Rattle.test_nested_derived_ron.proofs.CommentRonCodecsLaws.{comment_ron_field_author, comment_ron_field_text, comment_ron_field_votes, comment_ron_field_pinned, comment_ron_field_quoted, comment_ron_field_answers, comment_ron_text}
 use Rattle.test_nested_derived_ron.proofs.comment.derived.+write_comment_ron.Goals as goal
 

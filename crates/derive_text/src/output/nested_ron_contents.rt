@@ -1,0 +1,139 @@
+//! The variants with named fields of enums that contain themselves, in RON: what writes each.
+
+use crate::output::nested::specs_of;
+use crate::output::nested_json::import_outcomes;
+use crate::output::nested_ron_steps::field_steps;
+use crate::output::nested_text::RON;
+use crate::output::sheet::Sheet;
+use crate::output::target::Target;
+use crate::output::template::Holes;
+use crate::output::types::type_text;
+use derive_syntax::{Case, Content, Field, Variant, variant_name};
+use std::alloc::{AllocError, Global};
+
+const WRITER: &str = "
+ghost use Rattle.$TEXTS.{$OWN};
+
+/// Appends `$CASE`. If the write fails, what was written so far is left.
+#[cycle($CYCLE)]
+fn $APPEND(
+$ARGUMENTS    alloc: std::alloc::Global,
+    d: usize,
+    s: &mut nano_ron_schema::SerRonState,
+) -> Result<(), std::alloc::AllocError>
+    ensures ok { OnOk result
+        (Appends s.old.out s.new.out ($OWN d$SAID)) }
+    ensures err { OnErr result (AppendsPart s.old.out s.new.out) }
+{
+$STEPS}
+
+/// Appends `$CASE`. If the write fails, the text is unchanged.
+#[cycle($CYCLE)]
+fn $PUT(
+$ARGUMENTS    alloc: std::alloc::Global,
+    d: usize,
+    s: &mut nano_ron_schema::SerRonState,
+) -> Result<(), std::alloc::AllocError>
+    ensures ok { OnOk result
+        (Appends s.old.out s.new.out ($OWN d$SAID)) }
+    ensures err { OnErr result (Unchanged s.old.out s.new.out) }
+{
+    let start = s.out.len();
+    let written = $APPEND($GIVENalloc, d, s);
+    nano_ron_nested::rollback_on_error(&mut s.out, start, written)
+}";
+
+/// The names of a type and of a variant, as those of functions have them.
+fn name_of<'a>(
+    alloc: Global,
+    target: &Target<'a>,
+    variant: &Variant<'a>,
+) -> Result<String, AllocError> {
+    let of = Case::Snake.of_variant(alloc, target.name.text)?;
+    let end = Case::Snake.of_variant(alloc, variant.name.text)?;
+    format!(in alloc; "{of}_{end}")
+}
+
+/// Appends what writes each variant that has named fields, and says whether there is one.
+pub(crate) fn append_contents<'a>(
+    sheet: &mut Sheet,
+    target: &Target<'a>,
+    variants: &[Variant<'a>],
+) -> Result<bool, AllocError> {
+    let mut is_there = false;
+    for variant in variants {
+        if let Content::Fields(fields) = &variant.content {
+            append_content(sheet, target, variant, fields)?;
+            is_there = true;
+        }
+    }
+    Ok(is_there)
+}
+
+/// Appends what writes a variant that has these fields.
+fn append_content<'a>(
+    sheet: &mut Sheet,
+    target: &Target<'a>,
+    variant: &Variant<'a>,
+    fields: &[Field<'a>],
+) -> Result<(), AllocError> {
+    import_outcomes(sheet)?;
+    sheet.import("ghost use Rattle.nano_text.specs.Outcomes.{Unchanged};")?;
+    let alloc = sheet.alloc;
+    let name = Case::Snake.of_variant(alloc, target.name.text)?;
+    let end = Case::Snake.of_variant(alloc, variant.name.text)?;
+    let mut holes = Holes::new(alloc);
+    put_arguments(&mut holes, alloc, fields)?;
+    let steps = steps_of(sheet, target, variant, fields)?;
+    let of = name_of(alloc, target, variant)?;
+    let texts = specs_of(alloc, target.module, RON.word)?;
+    holes.put("TEXTS", texts.as_str())?;
+    holes.put("OWN", format!(in alloc; "{name}_ron_of_{end}")?.as_str())?;
+    holes.put("CASE", variant.name.text)?;
+    holes.put("CYCLE", format!(in alloc; "write_{name}_ron")?.as_str())?;
+    holes.put("APPEND", format!(in alloc; "append_{of}_ron")?.as_str())?;
+    holes.put("PUT", format!(in alloc; "write_{of}_ron")?.as_str())?;
+    holes.put("STEPS", steps.as_str())?;
+    sheet.write(WRITER, &holes)
+}
+
+/// Adds the values of fields as arguments, as what is passed, and as a clause says them.
+fn put_arguments<'a>(
+    holes: &mut Holes,
+    alloc: Global,
+    fields: &[Field<'a>],
+) -> Result<(), AllocError> {
+    let mut arguments = String::new(alloc);
+    let mut given = String::new(alloc);
+    let mut said = String::new(alloc);
+    for (i, field) in fields.iter().enumerate() {
+        let of = type_text(alloc, field.of)?;
+        arguments.push_str(format!(in alloc; "    v{i}: &{of},\n")?.as_str())?;
+        given.push_str(format!(in alloc; "v{i}, ")?.as_str())?;
+        said.push_str(format!(in alloc; " v{i}.now")?.as_str())?;
+    }
+    holes.put("ARGUMENTS", arguments.as_str())?;
+    holes.put("GIVEN", given.as_str())?;
+    holes.put("SAID", said.as_str())
+}
+
+/// The steps that append a variant that has these fields.
+fn steps_of<'a>(
+    sheet: &mut Sheet,
+    target: &Target<'a>,
+    variant: &Variant<'a>,
+    fields: &[Field<'a>],
+) -> Result<String, AllocError> {
+    let alloc = sheet.alloc;
+    let called = variant_name(alloc, variant, None)?;
+    let call = format!(in alloc; "nano_ron_schema::write_unit_variant(\"{called}\", s)")?;
+    let call = sheet.short(call.as_str())?;
+    let steps = field_steps(sheet, target.name, fields, false)?;
+    format!(in alloc;
+        "    {call}?;
+    s.st_pre()?;
+    let inner = d.saturating_add(1);
+{steps}    s.st_post(d)
+"
+    )
+}

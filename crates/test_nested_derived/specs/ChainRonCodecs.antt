@@ -1,0 +1,80 @@
+-- Written by derive_files: types that contain themselves, and their codecs.
+use Rattle.std.specs.Prelude.{◌≡◌, ℕ, max, refl, codes}
+use Rattle.std.proofs.Common.{◌∙◌, arith}
+use Rattle.nano_value.specs.Meaning.{Meaning, Agrees, number}
+use Rattle.nano_schema_levels.proofs.StepsLaws.{by_option}
+use Rattle.nano_levels.specs.Layers.{Layer, Nested}
+use Rattle.nano_levels.proofs.LayersLaws.{itself_layer}
+use Rattle.nano_levels.proofs.LevelsLaws.{level, limited}
+use Rattle.nano_schema_levels.specs.FieldLayers.{FieldsLayer}
+use Rattle.nano_schema_levels.proofs.FieldLayersLaws.{fields_pair_layer, optional_layer, other_fields, struct_layer}
+use Rattle.nano_schema_levels.proofs.LegalLevelsLaws.{agree_through, nested_agrees}
+use Rattle.nano_schema_levels.proofs.PartLaws.{seen_layer}
+use Rattle.nano_bin_nested.proofs.LegalLaws.{nested_agrees as bin_agrees}
+use Rattle.nano_ron.specs.Codec.{Codec}
+use Rattle.nano_ron_tokens.specs.Cut.{ron_grammar}
+use Rattle.nano_ron_tokens.proofs.RonLaws.{ron}
+use Rattle.nano_ron_schema.specs.FieldCodecs.{required_field, ron_fields, word_names}
+use Rattle.nano_ron_nested.specs.TypeCodecs.{u32_codec}
+use Rattle.test_nested_derived.specs.declared.chain.Chain.{Chain}
+use Rattle.test_nested_derived.specs.declared.chain.Chain.TheOpen.{Chain-F}
+use Rattle.test_nested_derived.specs.declared.chain.Chain.TheViews.{out-Chain}
+use Rattle.test_nested_derived.specs.declared.chain.Chain.TheFolds.{map-Chain, fold_out-Chain}
+use Rattle.test_nested_derived.specs.ChainCodecs.{ChainContent, chain_opened, chain_view, chain_means, chain_means_step}
+use Rattle.test_nested_derived.specs.ChainCodecs.{chain_depth, chain_depth_step}
+use Rattle.test_nested_derived.specs.ChainCodecs.{chain_step, chain_nested, chain_codec}
+
+-- ==== Chain: the layer around the values in it
+
+abbrev pub chain_ron_fields : FieldsLayer ron_fields Chain (ChainContent Chain)
+chain_ron_fields =
+    fields_pair_layer (other_fields ron_fields (required_field (codes "number") u32_codec)) (optional_layer ron_fields (codes "next") (seen_layer (λ x. x.value) itself_layer))
+
+abbrev pub chain_ron_layer : Layer ron ron_grammar Chain (ChainContent Chain)
+chain_ron_layer = struct_layer chain_ron_fields (λ f. word_names refl) (λ f. refl)
+
+-- what holds no values of the type before what does
+pub chain_ron_later_depth : {a b : ℕ} → a ≡ b → a ≡ max 0 b
+chain_ron_later_depth e = omega (arith, e)
+
+pub chain_ron_means_opened : (y : Chain-F Chain)
+    → chain_means_step (map-Chain Chain Meaning chain_means y)
+    ≡ chain_ron_layer.means chain_means (chain_opened y)
+chain_ron_means_opened y =
+    by_option (λ o. chain_means_step (map-Chain Chain Meaning chain_means (record { number = y.number; next = o }))
+    ≡ chain_ron_layer.means chain_means (chain_opened {X = Chain} (record { number = y.number; next = o })))
+    refl (λ x1. refl)
+    y.next
+
+pub chain_ron_depth_opened : (y : Chain-F Chain)
+    → chain_depth_step (map-Chain Chain ℕ chain_depth y)
+    ≡ chain_ron_layer.deep chain_depth (chain_opened y)
+chain_ron_depth_opened y =
+    by_option (λ o. chain_depth_step (map-Chain Chain ℕ chain_depth (record { number = y.number; next = o }))
+    ≡ chain_ron_layer.deep chain_depth (chain_opened {X = Chain} (record { number = y.number; next = o })))
+    refl (λ x1. chain_ron_later_depth refl)
+    y.next
+
+abbrev pub chain_ron_nested : Nested ron ron_grammar Chain
+chain_ron_nested = record {
+  Seen = ChainContent Chain;
+  layer = chain_ron_layer;
+  view = chain_view;
+  means = chain_means;
+  depth = chain_depth;
+  means_is = λ x. fold_out-Chain Meaning chain_means_step x ∙ chain_ron_means_opened (out-Chain x);
+  depth_is = λ x. fold_out-Chain ℕ chain_depth_step x ∙ chain_ron_depth_opened (out-Chain x);
+}
+
+-- those of at most so many levels
+abbrev pub chain_ron_at : ℕ → Codec Chain
+chain_ron_at = level chain_ron_nested
+
+-- those that are read
+abbrev pub chain_ron : Codec Chain
+chain_ron = limited chain_ron_nested 128
+
+pub chain_ron_agrees : Agrees chain_means chain_codec.encoding.legal chain_means chain_ron.encoding.legal
+chain_ron_agrees =
+    agree_through (bin_agrees chain_nested chain_step (λ f. refl))
+    (nested_agrees chain_ron_nested chain_step (λ f. refl) 128)

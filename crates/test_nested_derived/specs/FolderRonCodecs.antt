@@ -1,0 +1,73 @@
+-- Written by derive_files: types that contain themselves, and their codecs.
+use Rattle.std.specs.Prelude.{◌≡◌, ℕ, max, refl, codes}
+use Rattle.std.proofs.Common.{◌∙◌, arith}
+use Rattle.nano_value.specs.Meaning.{Meaning, Agrees}
+use Rattle.nano_schema_levels.proofs.StepsLaws.{list_depth}
+use Rattle.nano_levels.specs.Layers.{Layer, Nested}
+use Rattle.nano_levels.proofs.LayersLaws.{itself_layer, list_layer}
+use Rattle.nano_levels.proofs.LevelsLaws.{level, limited}
+use Rattle.nano_schema_levels.specs.FieldLayers.{FieldsLayer}
+use Rattle.nano_schema_levels.proofs.FieldLayersLaws.{fields_pair_layer, other_fields, required_layer, struct_layer}
+use Rattle.nano_schema_levels.proofs.LegalLevelsLaws.{agree_through, nested_agrees}
+use Rattle.nano_schema_levels.proofs.PartLaws.{seen_layer}
+use Rattle.nano_bin_nested.proofs.LegalLaws.{nested_agrees as bin_agrees}
+use Rattle.nano_ron.specs.Codec.{Codec}
+use Rattle.nano_ron_tokens.specs.Cut.{ron_grammar}
+use Rattle.nano_ron_tokens.proofs.RonLaws.{ron, block_brackets}
+use Rattle.nano_ron_tokens.proofs.StylesLaws.{line_style}
+use Rattle.nano_ron_schema.specs.FieldCodecs.{required_field, ron_fields, word_names}
+use Rattle.nano_ron_nested.specs.TypeCodecs.{string_codec}
+use Rattle.test_nested_derived.specs.declared.folder.Folder.{Folder}
+use Rattle.test_nested_derived.specs.declared.folder.Folder.TheOpen.{Folder-F}
+use Rattle.test_nested_derived.specs.declared.folder.Folder.TheViews.{out-Folder}
+use Rattle.test_nested_derived.specs.declared.folder.Folder.TheFolds.{map-Folder, fold_out-Folder}
+use Rattle.test_nested_derived.specs.FolderCodecs.{FolderContent, folder_opened, folder_view, folder_means, folder_means_step}
+use Rattle.test_nested_derived.specs.FolderCodecs.{folder_depth, folder_depth_step}
+use Rattle.test_nested_derived.specs.FolderCodecs.{folder_step, folder_nested, folder_codec}
+
+-- ==== Folder: the layer around the values in it
+
+abbrev pub folder_ron_fields : FieldsLayer ron_fields Folder (FolderContent Folder)
+folder_ron_fields =
+    fields_pair_layer (other_fields ron_fields (required_field (codes "name") string_codec)) (required_layer ron_fields (codes "folders") (seen_layer (λ x. x.items) (list_layer line_style block_brackets itself_layer)))
+
+abbrev pub folder_ron_layer : Layer ron ron_grammar Folder (FolderContent Folder)
+folder_ron_layer = struct_layer folder_ron_fields (λ f. word_names refl) (λ f. refl)
+
+-- what holds no values of the type before what does
+pub folder_ron_later_depth : {a b : ℕ} → a ≡ b → a ≡ max 0 b
+folder_ron_later_depth e = omega (arith, e)
+
+pub folder_ron_means_opened : (y : Folder-F Folder)
+    → folder_means_step (map-Folder Folder Meaning folder_means y)
+    ≡ folder_ron_layer.means folder_means (folder_opened y)
+folder_ron_means_opened y = refl
+
+pub folder_ron_depth_opened : (y : Folder-F Folder)
+    → folder_depth_step (map-Folder Folder ℕ folder_depth y)
+    ≡ folder_ron_layer.deep folder_depth (folder_opened y)
+folder_ron_depth_opened y = folder_ron_later_depth (list_depth _ _ _ (λ x. refl) y.folders.items)
+
+abbrev pub folder_ron_nested : Nested ron ron_grammar Folder
+folder_ron_nested = record {
+  Seen = FolderContent Folder;
+  layer = folder_ron_layer;
+  view = folder_view;
+  means = folder_means;
+  depth = folder_depth;
+  means_is = λ x. fold_out-Folder Meaning folder_means_step x ∙ folder_ron_means_opened (out-Folder x);
+  depth_is = λ x. fold_out-Folder ℕ folder_depth_step x ∙ folder_ron_depth_opened (out-Folder x);
+}
+
+-- those of at most so many levels
+abbrev pub folder_ron_at : ℕ → Codec Folder
+folder_ron_at = level folder_ron_nested
+
+-- those that are read
+abbrev pub folder_ron : Codec Folder
+folder_ron = limited folder_ron_nested 128
+
+pub folder_ron_agrees : Agrees folder_means folder_codec.encoding.legal folder_means folder_ron.encoding.legal
+folder_ron_agrees =
+    agree_through (bin_agrees folder_nested folder_step (λ f. refl))
+    (nested_agrees folder_ron_nested folder_step (λ f. refl) 128)
