@@ -1,12 +1,12 @@
 -- Written by derive_files.
-use Rattle.std.proofs.Common.{[], ◌∷◌, ◌++◌, chars, codes, string_bytes}
+use Rattle.std.proofs.Common.{◌++◌, chars, codes, string_bytes}
 use Rattle.std.proofs.lemmas.Result.{on_ok_weaker}
 use Rattle.nano_grammar.specs.FieldCodec.{field_text, fields_text}
 use Rattle.nano_grammar.proofs.WrittenLists.{both_written}
 use Rattle.nano_text.proofs.RollbackLaws.{unchanged_by}
 use Rattle.nano_ron_schema.specs.FieldCodecs.{ron_fields}
 use Rattle.nano_ron_schema.proofs.WrittenFields.{more_lines}
-use Rattle.nano_ron_nested.proofs.WrittenLaws.{written_between, opened_before, part_before}
+use Rattle.nano_ron_nested.proofs.WrittenLaws.{written_between}
 use Rattle.test_nested_derived_ron.proofs.MenuRonCodecsLaws.{menu_ron_field_title, menu_ron_field_entries, menu_ron_text}
 use Rattle.test_nested_derived_ron.proofs.menu.derived.+write_menu_ron.Goals as goal
 
