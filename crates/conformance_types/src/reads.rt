@@ -113,27 +113,15 @@ fn text_of<T: SerJson + SerRon>(
     format: Format,
     value: &T,
 ) -> Result<String, AllocError> {
+    let out = String::new(alloc);
     match format {
         Format::BinRon => value.serialize_ron(alloc),
         Format::RonWrite => {
-            let out = String::new(alloc);
             let mut state = SerRonState { out };
             value.ser_ron(alloc, usize::MAX, &mut state)?;
             Ok(state.out)
         }
-        _ => json_text(alloc, format, value),
-    }
-}
-
-/// A value as a JSON text: at level 0, or at the greatest.
-pub(crate) fn json_text<T: SerJson>(
-    alloc: Global,
-    format: Format,
-    value: &T,
-) -> Result<String, AllocError> {
-    match format {
         Format::JsonWrite => {
-            let out = String::new(alloc);
             let mut state = SerJsonState { out };
             value.ser_json(alloc, usize::MAX, &mut state)?;
             Ok(state.out)

@@ -1,9 +1,9 @@
 //! Types that contain themselves, as bytes, by impls that `derive` writes.
 
+use crate::checks::holds;
 use crate::{Chain, Expression, Folder, Tree};
 use nano_bin::{BothBin, DeBin, DeBinKind};
 use std::alloc::{AllocError, Global};
-use std::process::Abort;
 
 const TREES: &[&[u8]] = &[
     &[0, 0, 254, 255, 255, 255],
@@ -63,12 +63,6 @@ const DEEP_FOLDER: Deep = Deep {
     around: &[0, 0, 0, 0, 0, 0, 0, 0, 1, 0, 0, 0, 0, 0, 0, 0],
     inner: &[0, 0, 0, 0, 0, 0, 0, 0, 0, 0, 0, 0, 0, 0, 0, 0],
 };
-
-/// What is said of a call holds: a call stands in a function that answers whether it did as it
-/// should, and the answer is asserted separately.
-fn holds(rt: &impl Abort, is_so: bool, call: &str) {
-    assert!(rt; is_so, "at {call}");
-}
 
 /// All of the bytes are a value, and are what is written of it.
 fn is_read_back<T: BothBin>(alloc: Global, bytes: &[u8]) -> bool {

@@ -1,9 +1,9 @@
 //! Types that contain themselves, as RON, by impls that `derive` writes.
 
+use crate::checks::holds;
 use crate::{Chain, Expression, Folder, Tree};
 use nano_ron_schema::{BothRon, DeRon};
 use std::alloc::{AllocError, Global};
-use std::process::Abort;
 
 const TREES: &[&str] = &[
     "Leaf(-2)",
@@ -67,12 +67,6 @@ const DEEP_FOLDER: Deep = Deep {
     innermost: "(name:\"b\",folders:[])",
     closing: "])",
 };
-
-/// What is said of a call holds: a call stands in a function that answers whether it did as it
-/// should, and the answer is asserted separately.
-fn holds(rt: &impl Abort, is_so: bool, call: &str) {
-    assert!(rt; is_so, "at {call}");
-}
 
 /// All of the text is a value, and is what is written of it.
 fn is_read_back<T: BothRon>(alloc: Global, text: &str) -> bool {

@@ -1,2 +1,0 @@
-mod Trees
-mod Folders

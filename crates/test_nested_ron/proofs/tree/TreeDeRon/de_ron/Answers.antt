@@ -1,4 +1,0 @@
-use Rattle.test_nested_ron.proofs.tree.TreeDeRon.de_ron.Goals as goal
-
-pub returns : goal.returns
-returns c = c.read_ron.ensures

@@ -1,2 +1,0 @@
-pub mod TreeRonCodecs
-pub mod FolderRonCodecs
