@@ -10,3 +10,4 @@ mod Folders
 mod Menus
 mod Outlines
 mod Statements
+mod StatementsJson

@@ -17,6 +17,8 @@ mod outline;
 #[cfg(test)]
 mod part_tests;
 mod statement;
+#[cfg(test)]
+mod statement_json_tests;
 mod tree;
 
 pub use chain::Chain;

@@ -1,4 +1,4 @@
-//! Statements and their branches, which contain each other: their schemas, and then bytes.
+//! Statements and their branches, which contain each other: their schemas, and then bytes and JSON.
 
 /// A statement.
 #[derive(PartialEq, Debug, Drop)]
@@ -23,3 +23,4 @@ pub struct Branch {
 }
 
 mod impls;
+mod json;
