@@ -11,3 +11,4 @@ mod Menus
 mod Outlines
 mod Statements
 mod StatementsJson
+mod StatementsRon

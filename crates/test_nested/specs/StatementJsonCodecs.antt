@@ -1,5 +1,5 @@
--- Statements and their branches in JSON, and their codecs: a branch is a layer around its statements.
-use Rattle.std.specs.Prelude.{◌≡◌, ℕ, refl, codes, Option, Some, None, Box, Vec}
+-- Statements and their branches in JSON, and their codecs: a branch is a layer around statements.
+use Rattle.std.specs.Prelude.{◌≡◌, ℕ, refl, codes, Option, Some, None, Box}
 use Rattle.std.specs.Global.{Global}
 use Rattle.std.specs.Int.{w32}
 use Rattle.std.proofs.Common.{◌∙◌, ap}

@@ -114,7 +114,12 @@ pub(crate) fn is_read_back<T: BothJson>(alloc: Global, text: &str) -> bool {
 }
 
 /// No value is there, which is reported in this column with these words.
-pub(crate) fn is_rejected<T: DeJson>(alloc: Global, text: &str, column: usize, words: &str) -> bool {
+pub(crate) fn is_rejected<T: DeJson>(
+    alloc: Global,
+    text: &str,
+    column: usize,
+    words: &str,
+) -> bool {
     match T::deserialize_json(alloc, text) {
         Ok(_value) => false,
         Err(error) => error.line == 0 && error.col == column && error.msg.as_str() == words,

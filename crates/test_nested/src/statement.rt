@@ -1,4 +1,5 @@
-//! Statements and their branches, which contain each other: their schemas, and then bytes and JSON.
+//! Statements and their branches, which contain each other: their schemas, and then bytes, JSON
+//! and RON.
 
 /// A statement.
 #[derive(PartialEq, Debug, Drop)]
@@ -24,3 +25,4 @@ pub struct Branch {
 
 mod impls;
 mod json;
+mod ron;

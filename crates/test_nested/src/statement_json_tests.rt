@@ -31,11 +31,7 @@ const BRANCHES: &[&str] = &[
 
 /// Texts that are no branch, with the column and the words of the error.
 const NO_BRANCHES: &[(&str, usize, &str)] = &[
-    (
-        r#"{"otherwise":{"Block":[[]]}}"#,
-        28,
-        "Key not found then",
-    ),
+    (r#"{"otherwise":{"Block":[[]]}}"#, 28, "Key not found then"),
     (
         r#"{"then":{"Block":[[7]]}}"#,
         21,
