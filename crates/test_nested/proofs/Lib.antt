@@ -10,3 +10,5 @@ mod Folders
 mod Menus
 mod Outlines
 mod Statements
+mod StatementsJson
+mod StatementsRon

@@ -84,7 +84,7 @@ const NO_MENUS: &[(&str, usize, &str)] = &[
 ];
 
 /// A value in others, so many levels in all.
-fn nested(
+pub(crate) fn nested(
     alloc: Global,
     levels: usize,
     opening: &str,
@@ -103,7 +103,7 @@ fn nested(
 }
 
 /// All of the text is a value, which is written as the same text.
-fn is_read_back<T: BothJson>(alloc: Global, text: &str) -> bool {
+pub(crate) fn is_read_back<T: BothJson>(alloc: Global, text: &str) -> bool {
     let Ok(value) = T::deserialize_json_whole(alloc, text) else {
         return false;
     };
@@ -114,7 +114,12 @@ fn is_read_back<T: BothJson>(alloc: Global, text: &str) -> bool {
 }
 
 /// No value is there, which is reported in this column with these words.
-fn is_rejected<T: DeJson>(alloc: Global, text: &str, column: usize, words: &str) -> bool {
+pub(crate) fn is_rejected<T: DeJson>(
+    alloc: Global,
+    text: &str,
+    column: usize,
+    words: &str,
+) -> bool {
     match T::deserialize_json(alloc, text) {
         Ok(_value) => false,
         Err(error) => error.line == 0 && error.col == column && error.msg.as_str() == words,
@@ -122,7 +127,7 @@ fn is_rejected<T: DeJson>(alloc: Global, text: &str, column: usize, words: &str)
 }
 
 /// 128 levels are a value, and 129 are too deep, which is reported in this column.
-fn ends_at_128<T: BothJson>(
+pub(crate) fn ends_at_128<T: BothJson>(
     alloc: Global,
     opening: &str,
     innermost: &str,

@@ -1,4 +1,5 @@
-//! User-defined types that contain themselves, as bytes and in JSON.
+//! User-defined types that contain themselves, as bytes and in JSON. Two that contain each other
+//! have RON too.
 #![tactic(auto)]
 
 #[cfg(test)]
@@ -17,6 +18,10 @@ mod outline;
 #[cfg(test)]
 mod part_tests;
 mod statement;
+#[cfg(test)]
+mod statement_json_tests;
+#[cfg(test)]
+mod statement_ron_tests;
 mod tree;
 
 pub use chain::Chain;

@@ -1,4 +1,5 @@
-//! Statements and their branches, which contain each other: their schemas, and then bytes.
+//! Statements and their branches, which contain each other: their schemas, and then bytes, JSON
+//! and RON.
 
 /// A statement.
 #[derive(PartialEq, Debug, Drop)]
@@ -23,3 +24,5 @@ pub struct Branch {
 }
 
 mod impls;
+mod json;
+mod ron;

@@ -1,6 +1,6 @@
 //! The impls of the types of the module above, written by hand: their schemas, and their bytes.
 
-ghost use Rattle.std.specs.Prelude.{refl};
+ghost use Rattle.std.specs.Prelude.{codes, if◌then◌else◌, ◌==◌, refl};
 ghost use Rattle.nano_schema.specs.UserTypes.{agreed};
 ghost use Rattle.test_nested.specs.StatementCodecs.{statement_view, statement_means};
 ghost use Rattle.test_nested.specs.StatementCodecs.{statement_codec, branch_view, branch_means};
@@ -13,10 +13,26 @@ use nano_bin_nested::{
     append_part_within, append_variant, append_variant_within, no_memory, read_choice_within,
     read_record_within,
 };
-use nano_schema::{Either, EnumSchema, Newtype, Optional, Required, StructSchema, Value, Variant};
+use nano_schema::{
+    Either, EnumSchema, Label, Newtype, Optional, Required, StructSchema, Tuple, Value, Variant,
+};
 use std::alloc::{AllocError, Global};
 
-struct StatementNames<const I: usize> {}
+pub(super) struct StatementNames<const I: usize> {}
+
+impl<const I: usize> Label for StatementNames<I> {
+    ghost label = { if I == 0 then codes "Assign"
+        else if I == 1 then codes "Block"
+        else codes "If" };
+
+    fn text() -> &'static str {
+        match I {
+            0 => "Assign",
+            1 => "Block",
+            _ => "If",
+        }
+    }
+}
 
 type StatementAssignParts = Other<(Newtype<String>, Newtype<i32>)>;
 
@@ -29,6 +45,12 @@ type StatementVariants2 = (
 
 type StatementVariants = (
     Variant<StatementNames<0>, StatementAssignParts>,
+    StatementVariants2,
+);
+
+/// The variants in JSON and RON, whose parts stand in brackets.
+pub(super) type StatementTextVariants = (
+    Variant<StatementNames<0>, Other<Tuple<(String, i32)>>>,
     StatementVariants2,
 );
 
@@ -54,9 +76,21 @@ impl EnumSchema for Statement {
     }
 }
 
-struct BranchNames<const I: usize> {}
+pub(super) struct BranchNames<const I: usize> {}
 
-type BranchFields = (
+impl<const I: usize> Label for BranchNames<I> {
+    ghost label = { if I == 0 then codes "then"
+        else codes "otherwise" };
+
+    fn text() -> &'static str {
+        match I {
+            0 => "then",
+            _ => "otherwise",
+        }
+    }
+}
+
+pub(super) type BranchFields = (
     Within<Required<BranchNames<0>, Statement>>,
     Within<Optional<BranchNames<1>, Box<Statement>>>,
 );
