@@ -1,13 +1,3 @@
-mod Trees
-mod TreesJson
-mod ExpressionsJson
-mod ChainsJson
-mod FoldersJson
-mod MenusJson
-mod Expressions
-mod Chains
-mod Folders
-mod Menus
 mod Outlines
 mod Statements
 mod StatementsJson

@@ -12,25 +12,12 @@ pub(crate) fn holds(rt: &impl Abort, is_so: bool, call: &str) {
 
 /// All of the bytes are a value, and are what is written of it.
 pub(crate) fn is_read_back<T: BothBin>(alloc: Global, bytes: &[u8]) -> bool {
-    is_read_as::<T>(alloc, bytes, bytes)
-}
-
-/// All of the bytes are a value, which is written as the others.
-pub(crate) fn is_read_as<T: BothBin>(alloc: Global, bytes: &[u8], others: &[u8]) -> bool {
     let Ok(value) = T::deserialize_bin_whole(alloc, bytes) else {
         return false;
     };
     match value.serialize_bin(alloc) {
-        Ok(written) => written.as_slice() == others,
+        Ok(written) => written.as_slice() == bytes,
         Err(_error) => false,
-    }
-}
-
-/// No value begins the bytes, which is found at this place.
-pub(crate) fn is_rejected<T: DeBin>(alloc: Global, bytes: &[u8], place: usize) -> bool {
-    match T::deserialize_bin(alloc, bytes) {
-        Ok(_value) => false,
-        Err(error) => error.o == place && error.kind != DeBinKind::Memory,
     }
 }
 

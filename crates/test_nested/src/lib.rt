@@ -1,33 +1,19 @@
-//! User-defined types that contain themselves, as bytes and in JSON. Two that contain each other
-//! have RON too.
+//! User-defined types that contain themselves, or each other, whose impls are written by hand: an
+//! outline as bytes, and statements with their branches as bytes, in JSON and in RON.
 #![tactic(auto)]
 
 #[cfg(test)]
 mod bin_tests;
-mod chain;
 #[cfg(test)]
 mod checks;
-mod expression;
-mod folder;
 #[cfg(test)]
-mod json_part_tests;
-#[cfg(test)]
-mod json_tests;
-mod menu;
+mod json_checks;
 mod outline;
-#[cfg(test)]
-mod part_tests;
 mod statement;
 #[cfg(test)]
 mod statement_json_tests;
 #[cfg(test)]
 mod statement_ron_tests;
-mod tree;
 
-pub use chain::Chain;
-pub use expression::Expression;
-pub use folder::Folder;
-pub use menu::Menu;
 pub use outline::Outline;
 pub use statement::{Branch, Statement};
-pub use tree::Tree;

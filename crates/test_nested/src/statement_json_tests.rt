@@ -1,7 +1,7 @@
 //! Types that contain each other in JSON.
 
 use crate::checks::holds;
-use crate::json_tests::{ends_at_128, is_read_back, is_rejected};
+use crate::json_checks::{ends_at_128, is_read_back, is_rejected};
 use crate::{Branch, Statement};
 use nano_bin::{DeBin, SerBin};
 use nano_json_nested::{DeJson, SerJson};

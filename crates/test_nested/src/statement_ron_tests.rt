@@ -1,7 +1,7 @@
 //! Types that contain each other in RON.
 
 use crate::checks::holds;
-use crate::json_tests::nested;
+use crate::json_checks::nested;
 use crate::{Branch, Statement};
 use nano_bin::{DeBin, SerBin};
 use nano_ron_nested::{BothRon, DeRon, SerRon};

@@ -1,9 +1,0 @@
-use Rattle.nano_bin_nested.proofs.NestedLaws.{seen_ok, seen_err}
-use Rattle.test_nested.specs.ChainCodecs.{chain_nested}
-use Rattle.test_nested.proofs.chain.impls.LevelsReadsBinChain.+read.Goals as goal
-
-pub returns-in-Some-clause-ok : goal.returns-in-Some-clause-ok
-returns-in-Some-clause-ok t c = seen_ok chain_nested _ _ _ c.read_record_within.result c.read_record_within.ensures.ok
-
-pub returns-in-Some-clause-err : goal.returns-in-Some-clause-err
-returns-in-Some-clause-err t c = seen_err chain_nested _ _ _ c.read_record_within.result c.read_record_within.ensures.err

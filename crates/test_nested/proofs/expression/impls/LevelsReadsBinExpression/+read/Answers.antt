@@ -1,9 +1,0 @@
-use Rattle.nano_bin_nested.proofs.NestedLaws.{seen_ok, seen_err}
-use Rattle.test_nested.specs.ExpressionCodecs.{expression_nested}
-use Rattle.test_nested.proofs.expression.impls.LevelsReadsBinExpression.+read.Goals as goal
-
-pub returns-in-Some-clause-ok : goal.returns-in-Some-clause-ok
-returns-in-Some-clause-ok t c = seen_ok expression_nested _ _ _ c.read_choice_within.result c.read_choice_within.ensures.ok
-
-pub returns-in-Some-clause-err : goal.returns-in-Some-clause-err
-returns-in-Some-clause-err t c = seen_err expression_nested _ _ _ c.read_choice_within.result c.read_choice_within.ensures.err

@@ -1,5 +1,0 @@
-use Rattle.test_nested.proofs.Folders.{legal_fields}
-use Rattle.test_nested.proofs.folder.impls.FolderValue.+known.Goals as goal
-
-pub returns : goal.returns
-returns t c = legal_fields c.args.self.now c.known.ensures c.known-2.ensures

@@ -1,5 +1,0 @@
-use Rattle.test_nested.proofs.Menus.{legal_fields}
-use Rattle.test_nested.proofs.menu.impls.MenuValue.+known.Goals as goal
-
-pub returns : goal.returns
-returns t c = legal_fields c.args.self.now c.known.ensures c.known-2.ensures
