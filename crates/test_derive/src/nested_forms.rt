@@ -81,7 +81,7 @@ enum A {
     B(Box<A>, Box<A>),
     C(u8, Vec<A>),
     D,
-    VariantWhoseNameIsSoLongThatItsCallDoesNotStandOnOneLineAnyMore(Box<A>, Vec<A>),
+    VariantWhoseNameIsSoLongThatItsCallIsCut(Box<A>, Vec<A>),
 }
 =>
             Self::B(first, second) => write_pair_within(alloc, "B", first, second, d, s),
@@ -93,7 +93,7 @@ enum A {
 =>
                 write_pair_within(
                     alloc,
-                    "VariantWhoseNameIsSoLongThatItsCallDoesNotStandOnOneLineAnyMore",
+                    "VariantWhoseNameIsSoLongThatItsCallIsCut",
                     first,
                     second,
                     d,
