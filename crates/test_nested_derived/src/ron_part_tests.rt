@@ -4,8 +4,9 @@
 use crate::Tree;
 use crate::checks::holds;
 use nano_ron_nested::{
-    DeRonErr, DeRonState, Levels, Other, RonChoicesWithin, SerRonState, Within, append_last,
-    append_last_within, append_part, append_part_within, open_variant,
+    DeRonErr, DeRonState, Levels, Other, RonChoicesWithin, SerRonState, Within, append_field,
+    append_field_within, append_last, append_last_within, append_part, append_part_within,
+    open_variant,
 };
 use nano_schema::{
     Defaulted, Either, Label, Newtype, Optional, Required, Struct, TypeDefault, Unit, Variant,
@@ -125,6 +126,23 @@ fn written_within(alloc: Global) -> Result<String, AllocError> {
     Ok(state.out)
 }
 
+/// A number and a tree, as fields that are written one below the other.
+fn written_fields(alloc: Global) -> Result<String, AllocError> {
+    let mut state = SerRonState {
+        out: String::new(alloc),
+    };
+    append_field(alloc, "number", &7u8, 1, &mut state)?;
+    append_field_within(alloc, "tree", &Tree::Leaf(4), 1, &mut state)?;
+    Ok(state.out)
+}
+
+fn are_fields_written(alloc: Global) -> bool {
+    match written_fields(alloc) {
+        Ok(text) => text.as_str() == "    number:7,\n    tree:Leaf(4),\n",
+        Err(_error) => false,
+    }
+}
+
 fn is_written(alloc: Global) -> bool {
     match written(alloc) {
         Ok(text) => text.as_str() == "Pair(7, 8)",
@@ -178,4 +196,5 @@ fn parts_and_fields_are_read_within_levels(rt: HostRuntime) {
     );
     holds(&rt, is_written(alloc), "parts");
     holds(&rt, is_written_within(alloc), "parts that are trees");
+    holds(&rt, are_fields_written(alloc), "fields");
 }
