@@ -3,21 +3,16 @@
 //! whether what is written is read back, prefixes, and the same entries in the other order.
 #![tactic(auto)]
 
-mod answers;
 mod asked;
 mod calls;
 mod case;
 mod counterparts;
-mod dates;
 mod findings;
-mod json_calls;
 mod names;
 mod questions;
 mod repeat;
-mod ron_calls;
 mod table;
 mod words;
-mod writer;
 
 pub use asked::{Asked, Count, Question};
 pub use calls::outcome_of;

@@ -1,5 +1,7 @@
 //! The formats that a case can name.
 
+use crate::named::named;
+
 /// A format, and how much of the input is to be a value of it.
 #[derive(Clone, Copy)]
 pub enum Format {
@@ -76,12 +78,7 @@ const NAMES: &[(&str, Format)] = &[
 impl Format {
     /// The format of this name.
     pub fn of(word: &str) -> Option<Format> {
-        for (name, format) in NAMES {
-            if *name == word {
-                return Some(*format);
-            }
-        }
-        None
+        named(NAMES, word)
     }
 
     /// The same format, for an input that is a value.

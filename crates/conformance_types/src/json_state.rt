@@ -2,13 +2,14 @@
 
 use crate::outcome::Outcome;
 use crate::start::{Left, Start, reported, start_of};
+use crate::token::Token;
 use nanoserde::{DeJsonErr, DeJsonState, DeJsonTok};
 use std::alloc::{AllocError, Global};
 use std::str::Chars;
 
 /// Puts a reader into the state that a case describes, and answers with the characters after its
 /// current one, or `None` where it describes none.
-pub fn json_start<'a>(
+pub(crate) fn json_start<'a>(
     state: &mut DeJsonState,
     text: &'a str,
 ) -> Result<Option<Chars<'a>>, AllocError> {
@@ -24,8 +25,8 @@ pub fn json_start<'a>(
         _ => state.identbuf.push_str(start.content)?,
     }
     let mut input = start.text.chars();
+    state.next(&mut input);
     state.tok = tok;
-    state.cur = input.next().unwrap_or('\0');
     state.line = start.line;
     state.col = start.col;
     Ok(Some(input))
@@ -42,28 +43,28 @@ pub(crate) fn json_begun(alloc: Global, input: &mut Chars<'_>) -> DeJsonState {
 /// The pending token.
 fn token(start: &Start<'_>) -> Option<DeJsonTok> {
     match start.token {
-        "U64" => Some(DeJsonTok::U64(start.unsigned?)),
-        "I64" => Some(DeJsonTok::I64(start.signed?)),
-        "Bool" => Some(DeJsonTok::Bool(start.content == "true")),
-        "Char" => Some(DeJsonTok::Char(start.character?)),
-        "Str" => Some(DeJsonTok::Str),
-        "F64" => Some(DeJsonTok::F64),
-        "BareIdent" => Some(DeJsonTok::BareIdent),
-        "Null" => Some(DeJsonTok::Null),
-        "Colon" => Some(DeJsonTok::Colon),
-        "CurlyOpen" => Some(DeJsonTok::CurlyOpen),
-        "CurlyClose" => Some(DeJsonTok::CurlyClose),
-        "BlockOpen" => Some(DeJsonTok::BlockOpen),
-        "BlockClose" => Some(DeJsonTok::BlockClose),
-        "Comma" => Some(DeJsonTok::Comma),
-        "Bof" => Some(DeJsonTok::Bof),
-        "Eof" => Some(DeJsonTok::Eof),
+        Token::U64 => Some(DeJsonTok::U64(start.unsigned()?)),
+        Token::I64 => Some(DeJsonTok::I64(start.signed()?)),
+        Token::Bool => Some(DeJsonTok::Bool(start.content == "true")),
+        Token::Char => Some(DeJsonTok::Char(start.character()?)),
+        Token::Str => Some(DeJsonTok::Str),
+        Token::F64 => Some(DeJsonTok::F64),
+        Token::BareIdent => Some(DeJsonTok::BareIdent),
+        Token::Null => Some(DeJsonTok::Null),
+        Token::Colon => Some(DeJsonTok::Colon),
+        Token::CurlyOpen => Some(DeJsonTok::CurlyOpen),
+        Token::CurlyClose => Some(DeJsonTok::CurlyClose),
+        Token::BlockOpen => Some(DeJsonTok::BlockOpen),
+        Token::BlockClose => Some(DeJsonTok::BlockClose),
+        Token::Comma => Some(DeJsonTok::Comma),
+        Token::Bof => Some(DeJsonTok::Bof),
+        Token::Eof => Some(DeJsonTok::Eof),
         _ => None,
     }
 }
 
 /// Appends the state after an answer.
-pub fn append_json_state(
+pub(crate) fn append_json_state(
     answer: &mut String,
     state: &DeJsonState,
     input: &Chars<'_>,
@@ -85,7 +86,7 @@ pub fn append_json_state(
 }
 
 /// An error as the answer of a call.
-pub fn json_fault(alloc: Global, error: &DeJsonErr) -> Result<String, AllocError> {
+pub(crate) fn json_fault(alloc: Global, error: &DeJsonErr) -> Result<String, AllocError> {
     let msg = error.msg.as_str();
     reported(alloc, error.memory, msg, (error.line, error.col))
 }

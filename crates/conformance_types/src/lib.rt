@@ -1,26 +1,30 @@
 //! What the input of a case comes to, read as a value of a type that the case names: its normal
-//! form, its bytes or its error. What is asked of it further is asked by `conformance`.
+//! form, its bytes or its error. So do calls in a state answer. What is asked of it further is asked
+//! by `conformance`.
 #![tactic(auto)]
 
-mod bytes_alone;
+mod answers;
+mod call;
+mod calls;
 mod containers;
+mod dates;
 mod errors;
 mod fields;
 mod format;
+mod json_calls;
 mod json_state;
-mod nested_types;
+mod named;
 mod outcome;
 mod reads;
+mod ron_calls;
 mod ron_state;
 mod start;
+mod token;
 mod types;
-mod user_types;
+mod writer;
 
+pub use calls::outcome_of_kind;
 pub use errors::code;
 pub use fields::{escape, unescape};
 pub use format::Format;
-pub use json_state::{append_json_state, json_fault, json_start};
 pub use outcome::Outcome;
-pub use ron_state::{append_ron_state, ron_fault, ron_start};
-pub use start::OUT_OF_MEMORY;
-pub use types::outcome_of_type;

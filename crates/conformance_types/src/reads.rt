@@ -146,8 +146,20 @@ fn of_text<T: SerBin + DeBin + SerJson + DeJson + SerRon + DeRon>(
     }
 }
 
+/// The outcome of an input, of a type that has JSON alone.
+pub(crate) fn of_json_alone<T: SerJson + DeJson>(
+    alloc: Global,
+    format: Format,
+    input: &[u8],
+) -> Result<Outcome, AllocError> {
+    match str::from_utf8(input) {
+        Ok(text) => of_json::<T>(alloc, format, text),
+        Err(_) => not_a_text(alloc),
+    }
+}
+
 /// The outcome of a JSON text, in JSON.
-pub(crate) fn of_json<T: SerJson + DeJson>(
+fn of_json<T: SerJson + DeJson>(
     alloc: Global,
     format: Format,
     text: &str,

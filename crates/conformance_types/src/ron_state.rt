@@ -2,13 +2,14 @@
 
 use crate::outcome::Outcome;
 use crate::start::{Left, Start, reported, start_of};
+use crate::token::Token;
 use nanoserde::{DeRonErr, DeRonState, DeRonTok};
 use std::alloc::{AllocError, Global};
 use std::str::Chars;
 
 /// Puts a reader into the state that a case describes, and answers with the characters after its
 /// current one, or `None` where it describes none.
-pub fn ron_start<'a>(
+pub(crate) fn ron_start<'a>(
     state: &mut DeRonState,
     text: &'a str,
 ) -> Result<Option<Chars<'a>>, AllocError> {
@@ -24,8 +25,8 @@ pub fn ron_start<'a>(
         _ => state.identbuf.push_str(start.content)?,
     }
     let mut input = start.text.chars();
+    state.next(&mut input);
     state.tok = tok;
-    state.cur = input.next().unwrap_or('\0');
     state.line = start.line;
     state.col = start.col;
     Ok(Some(input))
@@ -42,29 +43,29 @@ pub(crate) fn ron_begun(alloc: Global, input: &mut Chars<'_>) -> DeRonState {
 /// The pending token.
 fn token(start: &Start<'_>) -> Option<DeRonTok> {
     match start.token {
-        "U64" => Some(DeRonTok::U64(start.unsigned?)),
-        "I64" => Some(DeRonTok::I64(start.signed?)),
-        "Bool" => Some(DeRonTok::Bool(start.content == "true")),
-        "Char" => Some(DeRonTok::Char(start.character?)),
-        "Ident" => Some(DeRonTok::Ident),
-        "Str" => Some(DeRonTok::Str),
-        "F64" => Some(DeRonTok::F64),
-        "Colon" => Some(DeRonTok::Colon),
-        "CurlyOpen" => Some(DeRonTok::CurlyOpen),
-        "CurlyClose" => Some(DeRonTok::CurlyClose),
-        "ParenOpen" => Some(DeRonTok::ParenOpen),
-        "ParenClose" => Some(DeRonTok::ParenClose),
-        "BlockOpen" => Some(DeRonTok::BlockOpen),
-        "BlockClose" => Some(DeRonTok::BlockClose),
-        "Comma" => Some(DeRonTok::Comma),
-        "Bof" => Some(DeRonTok::Bof),
-        "Eof" => Some(DeRonTok::Eof),
+        Token::U64 => Some(DeRonTok::U64(start.unsigned()?)),
+        Token::I64 => Some(DeRonTok::I64(start.signed()?)),
+        Token::Bool => Some(DeRonTok::Bool(start.content == "true")),
+        Token::Char => Some(DeRonTok::Char(start.character()?)),
+        Token::Ident => Some(DeRonTok::Ident),
+        Token::Str => Some(DeRonTok::Str),
+        Token::F64 => Some(DeRonTok::F64),
+        Token::Colon => Some(DeRonTok::Colon),
+        Token::CurlyOpen => Some(DeRonTok::CurlyOpen),
+        Token::CurlyClose => Some(DeRonTok::CurlyClose),
+        Token::ParenOpen => Some(DeRonTok::ParenOpen),
+        Token::ParenClose => Some(DeRonTok::ParenClose),
+        Token::BlockOpen => Some(DeRonTok::BlockOpen),
+        Token::BlockClose => Some(DeRonTok::BlockClose),
+        Token::Comma => Some(DeRonTok::Comma),
+        Token::Bof => Some(DeRonTok::Bof),
+        Token::Eof => Some(DeRonTok::Eof),
         _ => None,
     }
 }
 
 /// Appends the state after an answer.
-pub fn append_ron_state(
+pub(crate) fn append_ron_state(
     answer: &mut String,
     state: &DeRonState,
     input: &Chars<'_>,
@@ -87,7 +88,7 @@ pub fn append_ron_state(
 }
 
 /// An error as the answer of a call.
-pub fn ron_fault(alloc: Global, error: &DeRonErr) -> Result<String, AllocError> {
+pub(crate) fn ron_fault(alloc: Global, error: &DeRonErr) -> Result<String, AllocError> {
     let msg = error.msg.as_str();
     reported(alloc, error.memory, msg, (error.line, error.col))
 }

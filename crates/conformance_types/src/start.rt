@@ -1,20 +1,15 @@
 //! A reader's state as a case has it: `TOKEN LINE:COL TEXT`, where the text begins with `cur`.
 
+use crate::token::Token;
 use std::alloc::{AllocError, Global};
 
 /// A state of either format.
 #[derive(Clone, Copy)]
 pub(crate) struct Start<'a> {
-    /// The name of the pending token.
-    pub(crate) token: &'a str,
+    /// The pending token, without what it carries.
+    pub(crate) token: Token,
     /// What it carries, which stands in parentheses.
     pub(crate) content: &'a str,
-    /// What it carries as a number of `u64`, where it is one.
-    pub(crate) unsigned: Option<u64>,
-    /// What it carries as a number of `i64`, where it is one.
-    pub(crate) signed: Option<i64>,
-    /// The character of which it carries the debug form.
-    pub(crate) character: Option<char>,
     /// The line.
     pub(crate) line: usize,
     /// The column.
@@ -23,7 +18,7 @@ pub(crate) struct Start<'a> {
     pub(crate) text: &'a str,
 }
 
-/// The state that is described, or `None` where it has no place.
+/// The state that is described, or `None` where it has no place, or a token of neither format.
 pub(crate) fn start_of(state: &str) -> Option<Start<'_>> {
     let (token, rest) = parted(state, ' ');
     let (place, text) = parted(rest, ' ');
@@ -31,15 +26,32 @@ pub(crate) fn start_of(state: &str) -> Option<Start<'_>> {
     let (token, content) = parted(token, '(');
     let content = content.strip_suffix(')').unwrap_or(content);
     Some(Start {
-        token,
+        token: Token::of(token)?,
         content,
-        unsigned: content.parse().ok(),
-        signed: content.parse().ok(),
-        character: content.chars().nth(1),
         line: line.parse().ok()?,
         col: col.parse().ok()?,
         text,
     })
+}
+
+impl Start<'_> {
+    /// What the token carries as a number of `u64`, where it is one.
+    pub(crate) fn unsigned(&self) -> Option<u64> {
+        self.content.parse().ok()
+    }
+
+    /// What the token carries as a number of `i64`, where it is one.
+    pub(crate) fn signed(&self) -> Option<i64> {
+        self.content.parse().ok()
+    }
+
+    /// The character that the token carries, where it is one of a byte, between quotes.
+    pub(crate) fn character(&self) -> Option<char> {
+        match self.content.as_bytes() {
+            [b'\'', byte, b'\''] => Some(char::from(*byte)),
+            _ => None,
+        }
+    }
 }
 
 /// What stands before the first of these characters and what stands after it, or the whole text
@@ -49,7 +61,7 @@ fn parted(text: &str, between: char) -> (&str, &str) {
 }
 
 /// What a call answers that ran out of memory.
-pub const OUT_OF_MEMORY: &str = "out of memory";
+pub(crate) const OUT_OF_MEMORY: &str = "out of memory";
 
 /// An error as an answer. Out of memory has no message.
 pub(crate) fn reported(

@@ -1,6 +1,6 @@
 //! The date of a key in a TOML text.
 
-use conformance_types::Outcome;
+use crate::outcome::Outcome;
 use nanoserde::{Toml, TomlParser};
 use std::alloc::{AllocError, Global};
 

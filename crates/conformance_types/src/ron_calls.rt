@@ -1,7 +1,10 @@
 //! Calls of a state of RON's reader: what is answered, and the state afterwards.
 
 use crate::answers::append_answer;
-use conformance_types::{OUT_OF_MEMORY, Outcome, append_ron_state, ron_fault, ron_start};
+use crate::call::Call;
+use crate::outcome::Outcome;
+use crate::ron_state::{append_ron_state, ron_fault, ron_start};
+use crate::start::OUT_OF_MEMORY;
 use nanoserde::{DeRonErr, DeRonState};
 use std::alloc::{AllocError, Global};
 use std::fmt::Display;
@@ -30,7 +33,10 @@ fn append_answers(
     calls: &str,
     answers: &mut String,
 ) -> Result<bool, AllocError> {
-    for call in calls.split(' ') {
+    for word in calls.split(' ') {
+        let Some(call) = Call::of(word) else {
+            return Ok(false);
+        };
         let Some(answer) = taken(alloc, state, input, call)? else {
             return Ok(false);
         };
@@ -59,22 +65,22 @@ fn taken(
     alloc: Global,
     state: &mut DeRonState,
     input: &mut Chars<'_>,
-    call: &str,
+    call: Call,
 ) -> Result<Option<String>, AllocError> {
     let taken = match call {
-        ".next_tok" => state.next_tok(alloc, input),
-        ".colon" => state.colon(alloc, input),
-        ".next_colon" => state.next_colon(alloc, input),
-        ".ident" => state.ident(alloc, input),
-        ".block_open" => state.block_open(alloc, input),
-        ".block_close" => state.block_close(alloc, input),
-        ".curly_open" => state.curly_open(alloc, input),
-        ".curly_close" => state.curly_close(alloc, input),
-        ".paren_open" => state.paren_open(alloc, input),
-        ".paren_close" => state.paren_close(alloc, input),
-        ".eat_comma_block" => state.eat_comma_block(alloc, input),
-        ".eat_comma_curly" => state.eat_comma_curly(alloc, input),
-        ".eat_comma_paren" => state.eat_comma_paren(alloc, input),
+        Call::NextTok => state.next_tok(alloc, input),
+        Call::Colon => state.colon(alloc, input),
+        Call::NextColon => state.next_colon(alloc, input),
+        Call::Ident => state.ident(alloc, input),
+        Call::BlockOpen => state.block_open(alloc, input),
+        Call::BlockClose => state.block_close(alloc, input),
+        Call::CurlyOpen => state.curly_open(alloc, input),
+        Call::CurlyClose => state.curly_close(alloc, input),
+        Call::ParenOpen => state.paren_open(alloc, input),
+        Call::ParenClose => state.paren_close(alloc, input),
+        Call::EatCommaBlock => state.eat_comma_block(alloc, input),
+        Call::EatCommaCurly => state.eat_comma_curly(alloc, input),
+        Call::EatCommaParen => state.eat_comma_paren(alloc, input),
         _ => return other(alloc, state, input, call),
     };
     match taken {
@@ -88,51 +94,51 @@ fn other(
     alloc: Global,
     state: &mut DeRonState,
     input: &mut Chars<'_>,
-    call: &str,
+    call: Call,
 ) -> Result<Option<String>, AllocError> {
     match call {
-        ".next" => {
+        Call::Next => {
             state.next(input);
             Ok(Some(String::from_str(alloc, "ok")?))
         }
-        ".fail" => {
+        Call::Fail => {
             state.fail();
             Ok(Some(String::from_str(alloc, "ok")?))
         }
-        ".as_string" => value(alloc, state.as_string(alloc)),
-        ".as_bool" => value(alloc, state.as_bool(alloc)),
-        ".u64_range_3" => value(alloc, state.u64_range(alloc, 3)),
-        ".i64_range_-5_5" => value(alloc, state.i64_range(alloc, -5, 5)),
-        ".i64_range_5_-5" => value(alloc, state.i64_range(alloc, 5, -5)),
-        ".i64_range" => value(alloc, state.i64_range(alloc, i64::MIN, i64::MAX)),
+        Call::AsString => value(alloc, state.as_string(alloc)),
+        Call::AsBool => value(alloc, state.as_bool(alloc)),
+        Call::U64Range3 => value(alloc, state.u64_range(alloc, 3)),
+        Call::I64RangeToFive => value(alloc, state.i64_range(alloc, -5, 5)),
+        Call::I64RangeOfNone => value(alloc, state.i64_range(alloc, 5, -5)),
+        Call::I64Range => value(alloc, state.i64_range(alloc, i64::MIN, i64::MAX)),
         _ => seen(alloc, state, call),
     }
 }
 
 /// What a call answers that looks at the pending token, or one that makes an error.
-fn seen(alloc: Global, state: &DeRonState, call: &str) -> Result<Option<String>, AllocError> {
+fn seen(alloc: Global, state: &DeRonState, call: Call) -> Result<Option<String>, AllocError> {
     let is_so = match call {
-        ".is_none" => state.is_none(),
-        ".is_block_close" => state.is_block_close(),
-        ".is_curly_close" => state.is_curly_close(),
-        ".is_paren_close" => state.is_paren_close(),
-        ".next_ident" => state.next_ident().is_some(),
+        Call::IsNone => state.is_none(),
+        Call::IsBlockClose => state.is_block_close(),
+        Call::IsCurlyClose => state.is_curly_close(),
+        Call::IsParenClose => state.is_paren_close(),
+        Call::NextIdent => state.next_ident().is_some(),
         _ => return made(alloc, state, call),
     };
     Ok(Some(format!(in alloc; "{is_so}")?))
 }
 
 /// The error that a call makes, and its clone.
-fn made(alloc: Global, state: &DeRonState, call: &str) -> Result<Option<String>, AllocError> {
+fn made(alloc: Global, state: &DeRonState, call: Call) -> Result<Option<String>, AllocError> {
     let error = match call {
-        ".err_exp" => state.err_exp(alloc, "k"),
-        ".err_nf" => state.err_nf(alloc, "k"),
-        ".err_enum" => state.err_enum(alloc, "V"),
-        ".err_token" => state.err_token(alloc, "x"),
-        ".err_range" => state.err_range(alloc, "x"),
-        ".err_type" => state.err_type(alloc, "x"),
-        ".err_parse" => state.err_parse(alloc, "x"),
-        ".err_memory" => state.err_memory(alloc),
+        Call::ErrExp => state.err_exp(alloc, "k"),
+        Call::ErrNf => state.err_nf(alloc, "k"),
+        Call::ErrEnum => state.err_enum(alloc, "V"),
+        Call::ErrToken => state.err_token(alloc, "x"),
+        Call::ErrRange => state.err_range(alloc, "x"),
+        Call::ErrType => state.err_type(alloc, "x"),
+        Call::ErrParse => state.err_parse(alloc, "x"),
+        Call::ErrMemory => state.err_memory(alloc),
         _ => return Ok(None),
     };
     let again = error.clone(alloc)?;

@@ -1,6 +1,8 @@
 //! Calls of a writer's state, and the text afterwards.
 
-use conformance_types::{OUT_OF_MEMORY, Outcome};
+use crate::call::Call;
+use crate::outcome::Outcome;
+use crate::start::OUT_OF_MEMORY;
 use nanoserde::{SerJsonState, SerRonState};
 use std::alloc::{AllocError, Global};
 
@@ -9,13 +11,13 @@ pub(crate) fn json_call(alloc: Global, call: &str, text: &str) -> Result<Outcome
     let mut state = SerJsonState {
         out: String::from_str(alloc, text)?,
     };
-    let written = match call {
-        ".indent_1" => state.indent(1),
-        ".field_1_a" => state.field(1, "a"),
-        ".label_b" => state.label("b"),
-        ".conl" => state.conl(),
-        ".st_pre" => state.st_pre(),
-        ".st_post_1" => state.st_post(1),
+    let written = match Call::of(call) {
+        Some(Call::Indent1) => state.indent(1),
+        Some(Call::Field1A) => state.field(1, "a"),
+        Some(Call::LabelB) => state.label("b"),
+        Some(Call::Conl) => state.conl(),
+        Some(Call::StPre) => state.st_pre(),
+        Some(Call::StPost1) => state.st_post(1),
         _ => return Ok(Outcome::Unknown),
     };
     left(alloc, written, state.out.as_str())
@@ -26,13 +28,13 @@ pub(crate) fn ron_call(alloc: Global, call: &str, text: &str) -> Result<Outcome,
     let mut state = SerRonState {
         out: String::from_str(alloc, text)?,
     };
-    let written = match call {
-        ".indent_1" => state.indent(1),
-        ".field_1_a" => state.field(1, "a"),
-        ".conl" => state.conl(),
-        ".st_pre" => state.st_pre(),
-        ".st_post_0" => state.st_post(0),
-        ".st_post_1" => state.st_post(1),
+    let written = match Call::of(call) {
+        Some(Call::Indent1) => state.indent(1),
+        Some(Call::Field1A) => state.field(1, "a"),
+        Some(Call::Conl) => state.conl(),
+        Some(Call::StPre) => state.st_pre(),
+        Some(Call::StPost0) => state.st_post(0),
+        Some(Call::StPost1) => state.st_post(1),
         _ => return Ok(Outcome::Unknown),
     };
     left(alloc, written, state.out.as_str())
