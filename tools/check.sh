@@ -5,10 +5,10 @@
 #
 # Each step is printed with its seconds; the first that fails ends it with status 1 and is named. The last
 # line is `N passed, M failed`, as that of `rt ci` is. The steps are tools/check_*.py, list_calls.py and
-# what_to_read.py; whether each generated file is what derive_files writes; 1,200 drawn definitions, of which
-# check_impls.py reads what derive wrote; 20,000 drawn cases (fuzz.py), always the same; and worked.tsv with
-# memory refused. It takes about a minute, and runs the programs that `rt ci` left in out/ of conformance_run,
-# derive_files and two examples; it wants cc and Python too.
+# what_to_read.py; whether each generated file is what derive_files or write_types.py writes; 1,600 drawn
+# definitions, of which check_impls.py reads what derive wrote; 20,000 drawn cases (fuzz.py), always the same;
+# and worked.tsv with memory refused. It takes about a minute, and runs the programs that `rt ci` left in out/
+# of conformance_run, derive_files and two examples; it wants cc and Python too.
 set -u
 cd "$(dirname "$0")/.." || exit 2
 program=crates/conformance_run/out/conformance_run
@@ -47,6 +47,7 @@ done
 # shellcheck disable=SC2046
 step "derive --check" is_fresh $(grep -lx -e 'mod derived;' -r crates/*/src |
     grep -v -e '^crates/derive_' -e '^crates/test_derive/' | sort)
+step "write_types.py --check" python3 tools/write_types.py --check
 step "check_impls.py --drawn" python3 tools/check_impls.py --drawn 400 "$derive"
 step "fuzz.py" python3 tools/fuzz.py "$program" --seed 1 --cases 20000
 step "refuse_memory.sh" env PROGRAM="$PWD/$program" sh tools/measure/refuse_memory.sh worked.tsv
