@@ -37,7 +37,7 @@ struct Deep {
     inner: &'static [u8],
 }
 
-/// A choice, and its second statement, which counts as two levels.
+/// A choice, and its second statement.
 const DEEP_STATEMENT: Deep = Deep {
     around: &[2, 0, 1, 0, 0, 0, 0, 0, 0, 0, 0, 0, 1],
     inner: &[1, 0, 0, 0, 0, 0, 0, 0, 0, 0],
@@ -89,8 +89,8 @@ fn types_that_contain_themselves_are_bytes(rt: HostRuntime) {
 }
 
 #[test]
-fn levels_of_types_that_contain_each_other_are_counted_together(rt: HostRuntime) {
+fn levels_are_counted_by_statements(rt: HostRuntime) {
     let alloc = rt.alloc();
-    let statements = ends_after::<Statement>(alloc, &DEEP_STATEMENT, 64, 821);
+    let statements = ends_after::<Statement>(alloc, &DEEP_STATEMENT, 128, 1653);
     holds(&rt, statements.unwrap_or(false), "statements");
 }

@@ -216,15 +216,7 @@ impl ReadsBin<Branch> for Levels {
         offset: &mut usize,
         bytes: &[u8],
     ) -> Result<Branch, DeBinErr> {
-        let Levels::More(below) = self else {
-            return Err(no_memory(*offset, bytes));
-        };
-        match below.first() {
-            Some(below) => read_record_within::<Levels, Branch, BranchFields>(
-                below, alloc, offset, bytes,
-            ),
-            None => Err(no_memory(*offset, bytes)),
-        }
+        read_record_within::<Levels, Branch, BranchFields>(self, alloc, offset, bytes)
     }
 }
 
