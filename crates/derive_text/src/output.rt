@@ -2,23 +2,6 @@
 //!
 //! The text is a whole module, which brings in what it says by name.
 
-mod agreement;
-mod bounds;
-mod chains;
-mod choices;
-mod codec;
-mod codecs;
-mod defaults;
-mod fields;
-mod forms;
-mod held;
-mod key_names;
-mod keys;
-mod labels;
-mod layout;
-mod making;
-mod means;
-mod names;
 mod nested;
 mod nested_bodies;
 mod nested_json;
@@ -31,31 +14,13 @@ mod nested_ron_steps;
 mod nested_rows;
 mod nested_text;
 mod nested_writes;
-mod parameters;
-mod records;
-mod rows;
-mod seen;
-mod sheet;
-mod target;
-mod template;
-mod transparent;
-mod tuples;
-mod types;
-mod uses;
-mod variants;
-mod views;
 
-use choices::append_choice;
-use derive_syntax::{Definition, Fault, Shape, Source};
-use keys::append_key;
-use names::Names;
+use derive_impls::append_flat;
+use derive_impls::names::Names;
+use derive_impls::sheet::Sheet;
+use derive_syntax::{Definition, Fault, Source};
 use nested::append_nested;
-use records::append_record;
-use sheet::Sheet;
 use std::alloc::Global;
-use target::Target;
-use transparent::append_transparent;
-use tuples::append_tuple;
 
 const NO_TYPE: &str =
     "no struct or enum has a line `// nanoserde: bin json ron`, which says in which \
@@ -89,16 +54,8 @@ fn append_impls<'a>(
     definition: &Definition<'a>,
 ) -> Result<(), Fault> {
     if definition.contains_itself() {
-        return append_nested(sheet, module, definition);
+        append_nested(sheet, module, definition)
+    } else {
+        append_flat(sheet, module, definition)
     }
-    let target = Target::new(sheet, module, definition)?;
-    match &definition.shape {
-        Shape::Fields(fields) => append_record(sheet, &target, fields)?,
-        Shape::Parts(parts) => match parts.as_slice() {
-            [part] => append_transparent(sheet, &target, *part)?,
-            _ => append_tuple(sheet, &target, parts)?,
-        },
-        Shape::Variants(variants) => append_choice(sheet, &target, variants)?,
-    }
-    append_key(sheet, &target, &definition.shape)
 }

@@ -1,7 +1,6 @@
 //! Types that contain themselves: their schema, and as bytes what writes them part by part, and what
 //! reads them within levels. Their codecs stand in a file of definitions.
 
-use crate::output::layout::{Brackets, Items, Piece, list};
 use crate::output::nested_bodies::{known_arms, known_fields};
 use crate::output::nested_json::{append_json_choice, append_json_record};
 use crate::output::nested_json_fields::json_fields;
@@ -9,9 +8,10 @@ use crate::output::nested_ron::{append_ron_choice, append_ron_record};
 use crate::output::nested_rows::{NestedRow, append_choice_row, append_record_row};
 use crate::output::nested_text::first_text;
 use crate::output::nested_writes::{write_arms, write_fields};
-use crate::output::sheet::Sheet;
-use crate::output::target::Target;
-use crate::output::template::Holes;
+use derive_impls::layout::{Brackets, Items, Piece, list};
+use derive_impls::sheet::Sheet;
+use derive_impls::target::Target;
+use derive_impls::template::Holes;
 use derive_syntax::{Attributes, Case, Definition, Fault, Shape, codecs_name, crate_of};
 use std::alloc::{AllocError, Global};
 

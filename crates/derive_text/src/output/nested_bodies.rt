@@ -1,13 +1,13 @@
 //! The bodies of the methods of types that contain themselves.
 
-use crate::output::fields::field_texts;
-use crate::output::layout::{COLUMNS, Items, width};
-use crate::output::records::{laid, made};
-use crate::output::rows::paired;
-use crate::output::sheet::Sheet;
-use crate::output::target::Target;
-use crate::output::tuples::named;
-use crate::output::variants::{PARTS, named_variant};
+use derive_impls::fields::field_texts;
+use derive_impls::layout::{COLUMNS, Items, width};
+use derive_impls::records::{laid, made};
+use derive_impls::rows::paired;
+use derive_impls::sheet::Sheet;
+use derive_impls::target::Target;
+use derive_impls::tuples::named;
+use derive_impls::variants::{PARTS, named_variant};
 use derive_syntax::{Content, Field, Type, Variant};
 use std::alloc::{AllocError, Global};
 

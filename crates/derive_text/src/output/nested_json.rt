@@ -5,8 +5,8 @@ use crate::output::nested_json_contents::append_contents;
 use crate::output::nested_json_variants::{arms, json_variants};
 use crate::output::nested_rows::NestedRow;
 use crate::output::nested_text::{JSON, reading, text_holes};
-use crate::output::sheet::Sheet;
-use crate::output::target::Target;
+use derive_impls::sheet::Sheet;
+use derive_impls::target::Target;
 use derive_syntax::{Case, Variant};
 use std::alloc::{AllocError, Global};
 

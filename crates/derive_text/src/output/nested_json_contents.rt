@@ -1,15 +1,15 @@
 //! The variants with named fields of enums that contain themselves, in JSON: what writes each.
 
-use crate::output::layout::Items;
 use crate::output::nested::specs_of;
 use crate::output::nested_json::{cycle_of, import_outcomes};
 use crate::output::nested_json_fields::json_fields;
-use crate::output::rows::{Leaf, paired};
-use crate::output::sheet::Sheet;
-use crate::output::target::Target;
-use crate::output::template::Holes;
-use crate::output::types::type_text;
-use crate::output::variants::bracketed;
+use derive_impls::layout::Items;
+use derive_impls::rows::{Leaf, paired};
+use derive_impls::sheet::Sheet;
+use derive_impls::target::Target;
+use derive_impls::template::Holes;
+use derive_impls::types::type_text;
+use derive_impls::variants::bracketed;
 use derive_syntax::{Case, Content, Field, Variant, variant_name};
 use std::alloc::{AllocError, Global};
 

@@ -1,16 +1,16 @@
 //! The variants of enums that contain themselves: their row in JSON, and what writes each in JSON and
 //! in RON.
 
-use crate::output::chains::append_variants;
-use crate::output::labels::name_of;
-use crate::output::layout::{Brackets, Items, Piece, list};
 use crate::output::nested_bodies::{Held, arm, arm_of, parts_of};
 use crate::output::nested_json_contents::writer_of;
 use crate::output::nested_text::{JSON, TextNames};
-use crate::output::rows::Leaf;
-use crate::output::sheet::Sheet;
-use crate::output::target::Target;
-use crate::output::variants::bracketed;
+use derive_impls::chains::append_variants;
+use derive_impls::labels::name_of;
+use derive_impls::layout::{Brackets, Items, Piece, list};
+use derive_impls::rows::Leaf;
+use derive_impls::sheet::Sheet;
+use derive_impls::target::Target;
+use derive_impls::variants::bracketed;
 use derive_syntax::{Content, Field, Variant, variant_name};
 use std::alloc::AllocError;
 

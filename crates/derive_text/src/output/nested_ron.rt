@@ -6,8 +6,8 @@ use crate::output::nested_json_variants::arms;
 use crate::output::nested_ron_contents::append_contents;
 use crate::output::nested_ron_steps::field_steps;
 use crate::output::nested_text::{RON, in_ron, reading, text_holes};
-use crate::output::sheet::Sheet;
-use crate::output::target::Target;
+use derive_impls::sheet::Sheet;
+use derive_impls::target::Target;
 use derive_syntax::{Case, Field, Variant};
 use std::alloc::{AllocError, Global};
 

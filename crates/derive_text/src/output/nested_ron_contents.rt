@@ -4,10 +4,10 @@ use crate::output::nested::specs_of;
 use crate::output::nested_json::import_outcomes;
 use crate::output::nested_ron_steps::field_steps;
 use crate::output::nested_text::RON;
-use crate::output::sheet::Sheet;
-use crate::output::target::Target;
-use crate::output::template::Holes;
-use crate::output::types::type_text;
+use derive_impls::sheet::Sheet;
+use derive_impls::target::Target;
+use derive_impls::template::Holes;
+use derive_impls::types::type_text;
 use derive_syntax::{Case, Content, Field, Variant, variant_name};
 use std::alloc::{AllocError, Global};
 

@@ -1,8 +1,8 @@
 //! The steps that append the fields of a struct that contains itself in RON, or those of a variant.
 
-use crate::output::layout::{Brackets, Items, Piece, list};
-use crate::output::sheet::Sheet;
-use crate::output::types::optional_part;
+use derive_impls::layout::{Brackets, Items, Piece, list};
+use derive_impls::sheet::Sheet;
+use derive_impls::types::optional_part;
 use derive_syntax::{Field, Token, field_name};
 use std::alloc::AllocError;
 

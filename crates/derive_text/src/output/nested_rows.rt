@@ -1,18 +1,18 @@
 //! The rows of types that contain themselves: `Within` stands around fields and parts that hold
 //! values of the type, and `Other` around the rest.
 
-use crate::output::chains::append_owned_chains;
-use crate::output::fields::field_texts;
-use crate::output::labels::{append_labels, name_of};
-use crate::output::layout::Items;
-use crate::output::names::in_type_name;
 use crate::output::nested_bodies::{record_making, variants_making};
-use crate::output::records::laid;
-use crate::output::rows::{Leaf, append_row, paired};
-use crate::output::sheet::Sheet;
-use crate::output::target::Target;
-use crate::output::tuples::part_types;
-use crate::output::types::{optional_part, type_text};
+use derive_impls::chains::append_owned_chains;
+use derive_impls::fields::field_texts;
+use derive_impls::labels::{append_labels, name_of};
+use derive_impls::layout::Items;
+use derive_impls::names::in_type_name;
+use derive_impls::records::laid;
+use derive_impls::rows::{Leaf, append_row, paired};
+use derive_impls::sheet::Sheet;
+use derive_impls::target::Target;
+use derive_impls::tuples::part_types;
+use derive_impls::types::{optional_part, type_text};
 use derive_syntax::{Content, Field, Token, Type, Variant, field_name, variant_name};
 use std::alloc::{AllocError, Global};
 

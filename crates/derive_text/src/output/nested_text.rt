@@ -1,11 +1,11 @@
 //! What types that contain themselves have in each format of texts: what stands in the templates of
 //! the format, and the call that reads a value.
 
-use crate::output::layout::{Brackets, Items, Piece, list};
 use crate::output::nested::{laws_of, nested_holes, specs_of};
-use crate::output::sheet::Sheet;
-use crate::output::target::Target;
-use crate::output::template::Holes;
+use derive_impls::layout::{Brackets, Items, Piece, list};
+use derive_impls::sheet::Sheet;
+use derive_impls::target::Target;
+use derive_impls::template::Holes;
 use derive_syntax::{Attributes, Case};
 use std::alloc::{AllocError, Global};
 

@@ -1,7 +1,7 @@
 //! The bodies of the methods that write a value of a type that contains itself as bytes.
 
 use crate::output::nested_bodies::{arm, borrowed, indented, parts_of};
-use crate::output::sheet::Sheet;
+use derive_impls::sheet::Sheet;
 use derive_syntax::{Content, Field, Token, Variant};
 use std::alloc::{AllocError, Global};
 

@@ -1,0 +1,128 @@
+//! Fields with names, of a struct or of a variant.
+
+use crate::defaults::append_default;
+use crate::labels::append_labels;
+use crate::rows::{Around, Leaf};
+use crate::sheet::Sheet;
+use crate::target::Target;
+use crate::template::Holes;
+use crate::types::{optional_part, type_text};
+use derive_syntax::{Case, Field, field_name};
+use std::alloc::{AllocError, Global};
+
+/// The fields that are read and written.
+pub(crate) fn row_fields<'a>(
+    alloc: Global,
+    fields: &[Field<'a>],
+) -> Result<Vec<Field<'a>>, AllocError> {
+    let mut in_row = Vec::new(alloc);
+    for field in fields {
+        if field.attributes.skip.is_none() {
+            in_row.push(*field)?;
+        }
+    }
+    Ok(in_row)
+}
+
+/// Whether none of the fields is read and written.
+pub(crate) fn are_skipped<'a>(fields: &[Field<'a>]) -> bool {
+    for field in fields {
+        if field.attributes.skip.is_none() {
+            return false;
+        }
+    }
+    true
+}
+
+/// Appends the labels of fields, whose names are in this case, and returns the fields as they stand
+/// in a schema.
+pub(crate) fn append_fields<'a>(
+    sheet: &mut Sheet,
+    target: &Target<'a>,
+    owner: &str,
+    fields: &[Field<'a>],
+    case: Option<Case>,
+) -> Result<Vec<Leaf>, AllocError> {
+    let names = names_of(sheet.alloc, fields, case)?;
+    let mut labels = append_labels(sheet, owner, &names)?.into_iter();
+    let mut leaves = Vec::new(sheet.alloc);
+    for field in fields {
+        let Some(label) = labels.next() else {
+            break;
+        };
+        let mut leaf = schema_field(sheet, target, owner, *field, label)?;
+        for _alias in &field.attributes.aliases(sheet.alloc)? {
+            if let Some(label) = labels.next() {
+                let open = sheet.short("nano_schema::Aliased<")?;
+                leaf.around.push(Around { open, label })?;
+            }
+        }
+        leaves.push(leaf)?;
+    }
+    Ok(leaves)
+}
+
+/// The names of fields, each before its aliases.
+fn names_of<'a>(
+    alloc: Global,
+    fields: &[Field<'a>],
+    case: Option<Case>,
+) -> Result<Vec<String>, AllocError> {
+    let mut names = Vec::new(alloc);
+    for field in fields {
+        names.push(field_name(alloc, *field, case)?)?;
+        for alias in &field.attributes.aliases(alloc)? {
+            names.push(String::from_str(alloc, alias.quoted())?)?;
+        }
+    }
+    Ok(names)
+}
+
+/// A field as it stands in a schema, after its default, if it has one.
+fn schema_field<'a>(
+    sheet: &mut Sheet,
+    target: &Target<'a>,
+    owner: &str,
+    field: Field<'a>,
+    label: String,
+) -> Result<Leaf, AllocError> {
+    let mut texts = Vec::new(sheet.alloc);
+    let (open, part) = match (field.attributes.default, optional_part(field.of)) {
+        (Some(_), _) => ("nano_schema::Defaulted<", field.of),
+        (None, Some(part)) => ("nano_schema::Optional<", part),
+        (None, None) => ("nano_schema::Required<", field.of),
+    };
+    let open = sheet.short(open)?;
+    texts.push(label)?;
+    texts.push(type_text(sheet.alloc, part)?)?;
+    if field.attributes.default.is_some() {
+        texts.push(append_default(sheet, target, owner, field)?)?;
+    }
+    Ok(Leaf {
+        open,
+        texts,
+        close: ">",
+        around: Vec::new(sheet.alloc),
+    })
+}
+
+/// A text for each field, from a template with its name and its type.
+pub fn field_texts<'a>(
+    alloc: Global,
+    fields: &[Field<'a>],
+    template: &str,
+) -> Result<Vec<String>, AllocError> {
+    let mut texts = Vec::new(alloc);
+    for field in fields {
+        texts.push(field_text(alloc, *field, template)?)?;
+    }
+    Ok(texts)
+}
+
+/// A text for a field, from a template with its name and its type.
+fn field_text<'a>(alloc: Global, field: Field<'a>, template: &str) -> Result<String, AllocError> {
+    let mut holes = Holes::new(alloc);
+    holes.put("NAME", field.name.text)?;
+    holes.put("TYPE", type_text(alloc, field.of)?.as_str())?;
+    holes.fill(template)
+}

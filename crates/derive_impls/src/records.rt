@@ -1,0 +1,84 @@
+//! Structs with named fields: their schema, and then each format.
+
+use crate::codecs::append_codecs;
+use crate::defaults::made_field;
+use crate::fields::{append_fields, field_texts, row_fields};
+use crate::forms::RECORD;
+use crate::layout::{Brackets, Items, Piece, list};
+use crate::rows::{append_row, laid_pairs, paired};
+use crate::seen::{Seen, append_seen};
+use crate::sheet::Sheet;
+use crate::target::Target;
+use derive_syntax::Field;
+use std::alloc::{AllocError, Global};
+
+/// Appends the impls of a struct with named fields.
+pub(crate) fn append_record<'a>(
+    sheet: &mut Sheet,
+    target: &Target<'a>,
+    fields: &[Field<'a>],
+) -> Result<(), AllocError> {
+    let in_row = row_fields(sheet.alloc, fields)?;
+    let leaves = append_fields(
+        sheet,
+        target,
+        target.name.text,
+        &in_row,
+        target.attributes.case,
+    )?;
+    append_row(sheet, target.row.as_str(), &leaves)?;
+    append_seen(sheet, target, &seen(sheet.alloc, target, fields, &in_row)?)?;
+    append_codecs(sheet, target, &RECORD, &RECORD)
+}
+
+/// The struct as the values of the fields that stand in its row.
+fn seen<'a>(
+    alloc: Global,
+    target: &Target<'a>,
+    fields: &[Field<'a>],
+    in_row: &[Field<'a>],
+) -> Result<Seen, AllocError> {
+    Ok(Seen {
+        types: laid(alloc, in_row, "$TYPE", Items::Types, (4, 18))?,
+        refs: laid(alloc, in_row, "&'a $TYPE", Items::Types, (4, 16))?,
+        view: laid_pairs(alloc, &field_texts(alloc, in_row, "x.$NAME")?, 4, (24, 3))?,
+        pattern: laid(alloc, in_row, "$NAME", Items::Patterns, (8, 12))?,
+        made: made(alloc, target, fields)?.laid,
+        borrowed: laid(alloc, in_row, "&self.$NAME", Items::Values, (8, 7))?,
+    })
+}
+
+/// A text for each field as nested pairs, on a line that is indented so far, after so many columns
+/// of it.
+pub fn laid<'a>(
+    alloc: Global,
+    fields: &[Field<'a>],
+    template: &str,
+    items: Items,
+    (indent, before): (usize, usize),
+) -> Result<String, AllocError> {
+    let texts = field_texts(alloc, fields, template)?;
+    Ok(paired(alloc, texts, items, indent, before)?.laid)
+}
+
+/// A struct of fields that are at hand by their names, but for those that are skipped.
+pub fn made<'a>(
+    alloc: Global,
+    target: &Target<'a>,
+    fields: &[Field<'a>],
+) -> Result<Piece, AllocError> {
+    let mut names = Vec::new(alloc);
+    for field in fields {
+        names.push(Piece::of(alloc, made_field(alloc, *field)?.as_str())?)?;
+    }
+    let open = format!(in alloc; "{} {{", target.name.text)?;
+    let brackets = Brackets {
+        open: open.as_str(),
+        close: "}",
+        items: Items::Fields,
+        indent: 8,
+        before: 8,
+        after: 0,
+    };
+    list(alloc, brackets, &names)
+}

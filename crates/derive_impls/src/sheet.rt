@@ -1,0 +1,236 @@
+//! What is written, line by line.
+
+use crate::keys::Known;
+use crate::layout::{COLUMNS, start_line, width};
+use crate::names::Names;
+use crate::template::Holes;
+use crate::uses::Uses;
+use std::alloc::{AllocError, Global};
+
+/// How far a line is indented that goes on with a ghost member, but for the space before a word.
+const INDENT: usize = 7;
+/// How much further a case in it is indented.
+const CASE: usize = 2;
+
+/// What is written so far.
+#[derive(Drop)]
+pub struct Sheet {
+    /// What takes memory.
+    pub alloc: Global,
+    /// The names that are taken.
+    pub names: Names,
+    /// The items.
+    text: String,
+    /// What brings ghost names in, once for each module.
+    imports: Vec<Import>,
+    /// What brings items in.
+    uses: Uses,
+    /// The functions that say what values mean in a format, by the format's module.
+    pub(crate) laws: Vec<(&'static str, String)>,
+    /// The keys that were written.
+    pub(crate) keys: Vec<Known>,
+}
+
+/// What brings in ghost names of a module.
+#[derive(Drop)]
+struct Import {
+    /// The line up to the names.
+    module: &'static str,
+    /// The names, each once.
+    names: Vec<&'static str>,
+}
+
+impl Import {
+    /// Adds names, if they are not there yet.
+    fn add(&mut self, names: &'static str) -> Result<(), AllocError> {
+        if !self.names.contains(&names) {
+            self.names.push(names)?;
+        }
+        Ok(())
+    }
+}
+
+impl Sheet {
+    /// Nothing.
+    pub fn new(alloc: Global, names: Names) -> Result<Sheet, AllocError> {
+        Ok(Sheet {
+            alloc,
+            names,
+            text: String::new(alloc),
+            imports: Vec::new(alloc),
+            uses: Uses::new(alloc)?,
+            laws: Vec::new(alloc),
+            keys: Vec::new(alloc),
+        })
+    }
+
+    /// A text in which each item that can be brought in is said by its name alone, and is.
+    pub fn short(&mut self, text: &str) -> Result<String, AllocError> {
+        self.uses.short(&mut self.names, text)
+    }
+
+    /// Brings in what a line brings in: `ghost use`, a module, and names between braces.
+    pub fn import(&mut self, line: &'static str) -> Result<(), AllocError> {
+        let (module, names) = line.split_once(".{").unwrap_or((line, "};"));
+        let names = names.strip_suffix("};").unwrap_or(names);
+        for import in &mut self.imports {
+            if import.module == module {
+                return import.add(names);
+            }
+        }
+        let mut import = Import {
+            module,
+            names: Vec::new(self.alloc),
+        };
+        import.add(names)?;
+        Ok(self.imports.push(import)?)
+    }
+
+    /// Appends the name of a type.
+    pub fn alias(&mut self, name: &str, of: &str) -> Result<(), AllocError> {
+        let mut holes = Holes::new(self.alloc);
+        holes.put("NAME", name)?;
+        holes.put("OF", of)?;
+        self.write("\ntype $NAME = $OF;", &holes)
+    }
+
+    /// Appends the lines of a template, in which items are said by their names alone.
+    pub fn write(&mut self, template: &str, holes: &Holes) -> Result<(), AllocError> {
+        let template = self.short(template)?;
+        let text = holes.fill(template.as_str())?;
+        for line in text.split('\n') {
+            self.line(line)?;
+        }
+        Ok(())
+    }
+
+    /// Appends a line. One that is too long becomes several if it is the head of an impl or of a
+    /// method, or a ghost member with no text in it.
+    fn line(&mut self, line: &str) -> Result<(), AllocError> {
+        if width(line) <= COLUMNS {
+            self.text.push_str(line)?;
+        } else if line.starts_with("impl") {
+            self.head(line)?;
+        } else if line.starts_with("    fn ") {
+            self.signature(line)?;
+        } else if line.starts_with("    ghost ") && line.ends_with(" };") && !line.contains('"') {
+            self.member(line)?;
+        } else {
+            self.text.push_str(line)?;
+        }
+        self.text.push('\n')
+    }
+
+    /// Appends the head of an impl in two lines, or with a line for each of its parameters.
+    fn head(&mut self, line: &str) -> Result<(), AllocError> {
+        let (start, of) = line.split_once(" for ").unwrap_or((line, ""));
+        if width(start) <= COLUMNS {
+            self.text.push_str(start)?;
+            self.text.push_str("\n    for ")?;
+            return self.text.push_str(of);
+        }
+        let (parameters, rest) = line.split_once("> ").unwrap_or((line, ""));
+        let parameters = parameters.strip_prefix("impl<").unwrap_or(parameters);
+        self.text.push_str("impl<\n")?;
+        for parameter in parameters.split(", ") {
+            self.text.push_str("    ")?;
+            self.text.push_str(parameter)?;
+            self.text.push_str(",\n")?;
+        }
+        self.text.push_str("> ")?;
+        self.text.push_str(rest)
+    }
+
+    /// Appends the head of a method with a line for each of its parameters.
+    fn signature(&mut self, line: &str) -> Result<(), AllocError> {
+        let (name, rest) = line.split_once('(').unwrap_or((line, ""));
+        let (parameters, result) = rest.split_once(") -> ").unwrap_or((rest, ""));
+        self.text.push_str(name)?;
+        self.text.push_str("(\n")?;
+        for parameter in parameters.split(", ") {
+            self.text.push_str("        ")?;
+            self.text.push_str(parameter)?;
+            self.text.push_str(",\n")?;
+        }
+        self.text.push_str("    ) -> ")?;
+        self.text.push_str(result)
+    }
+
+    /// Appends a ghost member, in lines of as many columns as there are. A line ends at a space,
+    /// but at none after a comma, nor between `⟦` and `⟧`. Each case has a line, and what closes
+    /// the cases begins one.
+    fn member(&mut self, line: &str) -> Result<(), AllocError> {
+        let (start, term) = line.split_once(" = { ").unwrap_or((line, ""));
+        self.text.push_str(start)?;
+        self.text.push_str(" = {")?;
+        let mut used = width(start).saturating_add(4);
+        let mut part = String::new(self.alloc);
+        for word in term.split(' ') {
+            part.push(' ')?;
+            part.push_str(word)?;
+            if is_closed(part.as_str()) {
+                used = self.word(part.as_str(), used)?;
+                part.clear();
+            }
+        }
+        Ok(())
+    }
+
+    /// Appends a part of a ghost term, after a space or on a new line, to a line of so many
+    /// columns. Answers how many it has then.
+    fn word(&mut self, part: &str, used: usize) -> Result<usize, AllocError> {
+        let whole = used.saturating_add(width(part));
+        let case = if part == " |" { CASE } else { 0 };
+        let begins_line = case > 0 || part == " ])";
+        if part == " };" || !begins_line && whole.saturating_add(3) <= COLUMNS {
+            self.text.push_str(part)?;
+            return Ok(whole);
+        }
+        let indent = INDENT.saturating_add(case);
+        start_line(&mut self.text, indent)?;
+        self.text.push_str(part)?;
+        Ok(width(part).saturating_add(indent))
+    }
+
+    /// What the module is, the lines that bring names in, and then the items.
+    pub fn finish(self) -> Result<String, AllocError> {
+        let mut output = String::from_str(self.alloc, HEAD)?;
+        for import in &self.imports {
+            append_import(&mut output, import)?;
+        }
+        output.push('\n')?;
+        output.push_str(self.uses.lines()?.as_str())?;
+        output.push_str(self.text.as_str())?;
+        Ok(output)
+    }
+}
+
+/// The first lines of the module.
+const HEAD: &str =
+    "//! Written by derive_files: how the types of the module above are encoded.\n\n";
+
+/// Appends what brings in names of a module, on each line as many as it has space for.
+fn append_import(output: &mut String, import: &Import) -> Result<(), AllocError> {
+    let mut used = 0usize;
+    for names in &import.names {
+        let longer = used.saturating_add(width(*names)).saturating_add(2);
+        if used > 0 && longer.saturating_add(2) <= COLUMNS {
+            output.push_str(", ")?;
+            used = longer;
+        } else {
+            output.push_str(if used > 0 { "};\n" } else { "" })?;
+            output.push_str(import.module)?;
+            output.push_str(".{")?;
+            used = width(import.module)
+                .saturating_add(2)
+                .saturating_add(width(*names));
+        }
+        output.push_str(*names)?;
+    }
+    output.push_str("};\n")
+}
+
+/// Whether a line may end after a part of a term: no `⟦` is open, and no item of a tuple follows.
+fn is_closed(part: &str) -> bool {
+    part.matches('⟦').count() == part.matches('⟧').count() && !part.ends_with(',')
+}

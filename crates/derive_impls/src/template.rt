@@ -1,0 +1,57 @@
+//! Templates: texts with holes, each of which is a dollar sign and a name.
+
+use std::alloc::{AllocError, Global};
+
+/// What stands in the holes of a template.
+#[derive(Drop)]
+pub struct Holes {
+    alloc: Global,
+    holes: Vec<Hole>,
+}
+
+/// A hole. No name begins with another one.
+#[derive(Drop)]
+struct Hole {
+    name: &'static str,
+    text: String,
+}
+
+impl Holes {
+    /// Nothing.
+    pub fn new(alloc: Global) -> Holes {
+        Holes {
+            alloc,
+            holes: Vec::new(alloc),
+        }
+    }
+
+    /// Puts a text into the hole of this name.
+    pub fn put(&mut self, name: &'static str, text: &str) -> Result<(), AllocError> {
+        let text = String::from_str(self.alloc, text)?;
+        Ok(self.holes.push(Hole { name, text })?)
+    }
+
+    /// A template with what stands in its holes.
+    pub fn fill(&self, template: &str) -> Result<String, AllocError> {
+        let mut text = String::new(self.alloc);
+        for (i, part) in template.split('$').enumerate() {
+            if i == 0 {
+                text.push_str(part)?;
+            } else {
+                self.append(&mut text, part)?;
+            }
+        }
+        Ok(text)
+    }
+
+    /// Appends a part of a template, with what stands in the hole with whose name it begins.
+    fn append(&self, text: &mut String, part: &str) -> Result<(), AllocError> {
+        for hole in &self.holes {
+            if let Some(rest) = part.strip_prefix(hole.name) {
+                text.push_str(hole.text.as_str())?;
+                return text.push_str(rest);
+            }
+        }
+        text.push_str(part)
+    }
+}

@@ -1,0 +1,102 @@
+//! Tuple structs of two to four parts, each of which is what the tuple of its parts is.
+
+use crate::codecs::append_codecs;
+use crate::forms::{RECORD, tupled};
+use crate::layout::Items;
+use crate::seen::{Seen, append_seen};
+use crate::sheet::Sheet;
+use crate::target::Target;
+use crate::template::Holes;
+use crate::types::type_text;
+use crate::variants::{PARTS, bracketed};
+use derive_syntax::Type;
+use std::alloc::{AllocError, Global};
+
+/// Appends the impls of a tuple struct.
+pub(crate) fn append_tuple<'a>(
+    sheet: &mut Sheet,
+    target: &Target<'a>,
+    parts: &[Type<'a>],
+) -> Result<(), AllocError> {
+    let values = target.values.as_str();
+    let types = part_types(sheet.alloc, parts, "$TYPE")?;
+    let before = values.len().saturating_add("type  = ".len());
+    let tuple = bracketed(sheet.alloc, ("(", ")"), &types, Items::Types, (0, before))?;
+    sheet.alias(values, tuple.laid.as_str())?;
+    let row = format!(in sheet.alloc; "nano_schema::Tuple<{values}>")?;
+    let row = sheet.short(row.as_str())?;
+    sheet.alias(target.row.as_str(), row.as_str())?;
+    append_seen(sheet, target, &seen(sheet.alloc, target, parts)?)?;
+    let write = parts_writer(sheet.alloc, parts.len())?;
+    append_codecs(sheet, target, &RECORD, &tupled(write.as_str()))
+}
+
+/// What writes the tuple of so many parts in a text.
+fn parts_writer(alloc: Global, count: usize) -> Result<String, AllocError> {
+    let mut text = String::from_str(alloc, "        let parts = (\n")?;
+    for place in PLACES.iter().take(count) {
+        text.push_str("            nano_$MODULE_schema::Part { of: &self.")?;
+        text.push_str(*place)?;
+        text.push_str(" },\n")?;
+    }
+    text.push_str(
+        "        );\n        nano_$MODULE_schema::Ser$NAME::ser_$MODULE(&parts, $ARGUMENTS)",
+    )?;
+    Ok(text)
+}
+
+/// What a program calls the parts of a struct.
+pub(crate) const PLACES: [&str; 4] = ["0", "1", "2", "3"];
+
+/// The struct as the tuple of its parts.
+fn seen<'a>(alloc: Global, target: &Target<'a>, parts: &[Type<'a>]) -> Result<Seen, AllocError> {
+    let count = parts.len();
+    let names = named(alloc, "", &PARTS, count)?;
+    let refs = part_types(alloc, parts, "&'a $TYPE")?;
+    let borrowed = named(alloc, "&self.", &PLACES, count)?;
+    let view = named(alloc, "x.", &PLACES, count)?;
+    let open = format!(in alloc; "{}(", target.name.text)?;
+    let made = (open.as_str(), ")");
+    Ok(Seen {
+        types: target.values.clone()?,
+        refs: bracketed(alloc, ("(", ")"), &refs, Items::Types, (4, 16))?.laid,
+        view: bracketed(alloc, ("(", ")"), &view, Items::Values, (0, 0))?.flat,
+        pattern: bracketed(alloc, ("(", ")"), &names, Items::Patterns, (8, 12))?.laid,
+        made: bracketed(alloc, made, &names, Items::Values, (8, 8))?.laid,
+        borrowed: bracketed(alloc, ("(", ")"), &borrowed, Items::Values, (8, 7))?.laid,
+    })
+}
+
+/// A text for each part, from a template with its type.
+pub fn part_types<'a>(
+    alloc: Global,
+    parts: &[Type<'a>],
+    template: &str,
+) -> Result<Vec<String>, AllocError> {
+    let mut texts = Vec::new(alloc);
+    for part in parts {
+        texts.push(part_type(alloc, *part, template)?)?;
+    }
+    Ok(texts)
+}
+
+/// A text for a part, from a template with its type.
+fn part_type<'a>(alloc: Global, part: Type<'a>, template: &str) -> Result<String, AllocError> {
+    let mut holes = Holes::new(alloc);
+    holes.put("TYPE", type_text(alloc, part)?.as_str())?;
+    holes.fill(template)
+}
+
+/// The first of these names, so many, each after some text.
+pub fn named(
+    alloc: Global,
+    before: &str,
+    names: &[&str],
+    count: usize,
+) -> Result<Vec<String>, AllocError> {
+    let mut texts = Vec::new(alloc);
+    for name in names.iter().take(count) {
+        texts.push(format!(in alloc; "{before}{name}")?)?;
+    }
+    Ok(texts)
+}

@@ -1,4 +1,0 @@
-use Rattle.derive_text.proofs.output.held.+held_terms.Given as goal
-
-abbrev pub decreases-held_terms : goal.decreases-held_terms
-decreases-held_terms l = l.depth

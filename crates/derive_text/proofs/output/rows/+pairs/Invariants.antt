@@ -1,5 +1,0 @@
-use Rattle.std.proofs.Common.{length}
-use Rattle.derive_text.proofs.output.rows.+pairs.Given as goal
-
-abbrev pub decreases-pairs : goal.decreases-pairs
-decreases-pairs l = length l.leaves.now
