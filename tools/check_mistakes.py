@@ -3,7 +3,8 @@
 
 The messages are the second column of the table that begins `| You wrote | `derive` says |`. What a
 message is about, in backticks at its beginning, is left out: the rest is to stand in a text of
-derive_syntax or derive_text, from its beginning. Usage, at the top of the repository: python3 tools/check_mistakes.py
+derive_syntax, derive_impls or derive_text, from its beginning. Usage, at the top of the repository:
+python3 tools/check_mistakes.py
 """
 import pathlib
 import re
@@ -11,7 +12,7 @@ import sys
 
 DOCUMENT = pathlib.Path("docs/USER_TYPES.md")
 HEAD = "| You wrote | `derive` says |"
-SOURCES = ["crates/derive_syntax/src", "crates/derive_text/src"]
+SOURCES = ["crates/derive_syntax/src", "crates/derive_impls/src", "crates/derive_text/src"]
 TEXT = re.compile(r'"((?:\\.|[^"\\])*)"', re.S)
 
 
