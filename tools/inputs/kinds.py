@@ -49,6 +49,7 @@ STRUCTS = {
     "Chain": "number: u32, next?: Option<Box<Chain>>",
     "Folder": "name: String, folders: Vec<Folder>",
     "Menu": "title: String, entries: BTreeMap<String, Menu>",
+    "Branch": "then: Statement, otherwise?: Option<Box<Statement>>",
 }
 ENUMS = {
     "Choice": ["A", "B(i32, String)", "C{a: i32, b: String}"],
@@ -62,10 +63,11 @@ ENUMS = {
     "Role": ["Guest", "Member", "Moderator", "Owner"],
     "Reply": ["Found(i32)", "Failed(String, u32)", "Listed{items: Vec<i32>, next?: Option<String>}"],
     "Tree": ["Leaf(i32)", "Node(Vec<Tree>)"],
+    "Statement": ["Assign(String, i32)", "Block(Vec<Statement>)", "If(Box<Branch>)"],
     "Expression": ["Number(i64)", "Negated(Box<Expression>)", "Sum(Box<Expression>, Box<Expression>)"],
 }
 # These contain themselves; of an enum the first variant does not.
-NESTED = {"Tree", "Expression", "Chain", "Folder", "Menu"}
+NESTED = {"Tree", "Expression", "Chain", "Folder", "Menu", "Statement"}
 
 
 @functools.lru_cache(maxsize=None)

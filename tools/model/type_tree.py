@@ -83,8 +83,8 @@ STRUCTS = {
     "Trip": ["there: Marker", "new: Option<Empty>", "steps: Vec<Step>"],
     "Hall": ["visits: Visits", "greetings: Greetings", "taken: Seats"],
     "Tagged": ["first: A", "other: Option<B>", "more: Vec<A>", ("times: u32", 1)],
-    "Chain": ["number: u32", "next: Option<Box<Chain>>"],
-    "Folder": ["name: String", "folders: Vec<Folder>"],
+    "Chain": ["number: u32", "next: Option<Box<Chain>>"], "Folder": ["name: String", "folders: Vec<Folder>"],
+    "Branch": ["then: Statement", "otherwise: Option<Box<Statement>>"],
     "Menu": ["title: String", "entries: BTreeMap<String, Menu>"],
 }
 ENUMS = {
@@ -98,10 +98,10 @@ ENUMS = {
     "Step": [{"Rest": []}, "Walk(u16)", {"Stop": []}],
     "Role": ["Guest", "Member", "Moderator", "Owner"],
     "Reply": ["Found(A)", "Failed(B, u32)", {"Listed": ["items: Vec<A>", "next: Option<B>"]}],
-    "Tree": ["Leaf(i32)", "Node(Vec<Tree>)"],
+    "Tree": ["Leaf(i32)", "Node(Vec<Tree>)"], "Statement": ["Assign(String, i32)", "Block(Vec<Statement>)", "If(Box<Branch>)"],
     "Expression": ["Number(i64)", "Negated(Box<Expression>)", "Sum(Box<Expression>, Box<Expression>)"],
 }
-NESTED = {"Tree", "Expression", "Chain", "Folder", "Menu"}  # these contain themselves
+NESTED = {"Tree", "Expression", "Chain", "Folder", "Menu", "Statement"}  # these contain themselves
 LEVELS = 128  # of a value of one, the value itself being the first
 STRICT = {"Proxy"}  # these are `deny_unknown`
 PARAMETERS = {"Holder": 1, "Tagged": 2, "Reply": 2}
@@ -183,7 +183,7 @@ def named(word, parts, given):
         return parse(ALIASES[word])
     if len(parts) != PARAMETERS.get(word, 0):
         raise Unknown(word)
-    return defined(word, dict(zip("AB", parts)))
+    return defined(word, dict(zip("AB", parts)) or given)
 
 
 def defined(word, given):

@@ -1,4 +1,4 @@
-//! The types of `nanoserde::records`, `test_types` and `test_nested_derived`, and what holds them.
+//! The types of `nanoserde::records`, `test_types` and `test_nested`, and what holds them.
 //!
 //! tools/write_types.py writes this file of tools/types.tsv.
 
@@ -10,6 +10,7 @@ use crate::reads::{of_bytes, of_json_alone, of_type};
 use nanoserde::records::{Choice, Holder, Item, Plain, Test};
 use std::alloc::{AllocError, Global};
 use std::collections::{BTreeSet, HashMap, HashSet, LinkedList};
+use test_nested::{Branch, Statement};
 use test_nested_derived::{Chain, Expression, Folder, Tree};
 use test_nested_derived_ron::Menu;
 use test_types::{
@@ -142,14 +143,9 @@ const KEYS_NAMES: &[&str] = &[
     "Greetings",
     "Seats",
     "Hall",
-    "Tree",
-    "Expression",
-    "Chain",
-    "Folder",
-    "Menu",
 ];
 
-/// A type of `test_types` that is a key or that holds some, or a type that contains itself, or no type that a case can name.
+/// A type of `test_types` that is a key or that holds some, or another type.
 pub(crate) fn of_keys(
     alloc: Global,
     format: Format,
@@ -165,11 +161,36 @@ pub(crate) fn of_keys(
         Some(5) => of_type::<Greetings>(alloc, format, input),
         Some(6) => of_type::<Seats>(alloc, format, input),
         Some(7) => of_type::<Hall>(alloc, format, input),
-        Some(8) => of_type::<Tree>(alloc, format, input),
-        Some(9) => of_type::<Expression>(alloc, format, input),
-        Some(10) => of_type::<Chain>(alloc, format, input),
-        Some(11) => of_type::<Folder>(alloc, format, input),
-        Some(12) => of_type::<Menu>(alloc, format, input),
+        _ => of_itself(alloc, format, kind, input),
+    }
+}
+
+/// The names of the types of `of_itself`, in the order of its arms.
+const ITSELF_NAMES: &[&str] = &[
+    "Tree",
+    "Expression",
+    "Chain",
+    "Folder",
+    "Menu",
+    "Statement",
+    "Branch",
+];
+
+/// A type that contains itself, or one of two that contain each other, or no type that a case can name.
+pub(crate) fn of_itself(
+    alloc: Global,
+    format: Format,
+    kind: &str,
+    input: &[u8],
+) -> Result<Outcome, AllocError> {
+    match place_of(ITSELF_NAMES, kind) {
+        Some(0) => of_type::<Tree>(alloc, format, input),
+        Some(1) => of_type::<Expression>(alloc, format, input),
+        Some(2) => of_type::<Chain>(alloc, format, input),
+        Some(3) => of_type::<Folder>(alloc, format, input),
+        Some(4) => of_type::<Menu>(alloc, format, input),
+        Some(5) => of_type::<Statement>(alloc, format, input),
+        Some(6) => of_type::<Branch>(alloc, format, input),
         _ => Ok(Outcome::Unknown),
     }
 }
