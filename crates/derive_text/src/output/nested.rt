@@ -4,15 +4,15 @@
 use crate::output::nested_bodies::{known_arms, known_fields};
 use crate::output::nested_json::{append_json_choice, append_json_record};
 use crate::output::nested_json_fields::json_fields;
+use crate::output::nested_names::{nested_holes, put_codec, put_laws};
 use crate::output::nested_ron::{append_ron_choice, append_ron_record};
 use crate::output::nested_rows::{NestedRow, append_choice_row, append_record_row};
-use crate::output::nested_text::first_text;
 use crate::output::nested_writes::{write_arms, write_fields};
 use derive_impls::layout::{Brackets, Items, Piece, list};
 use derive_impls::sheet::Sheet;
 use derive_impls::target::Target;
 use derive_impls::template::Holes;
-use derive_syntax::{Attributes, Case, Definition, Fault, Shape, codecs_name, crate_of};
+use derive_syntax::{Case, Definition, Fault, Field, Shape, Variant};
 use std::alloc::{AllocError, Global};
 
 /// What differs between structs and enums.
@@ -44,45 +44,60 @@ pub(crate) fn append_nested<'a>(
     definition: &Definition<'a>,
 ) -> Result<(), Fault> {
     let target = Target::new(sheet, module, definition)?;
-    let name = definition.name;
     match &definition.shape {
         Shape::Parts(_parts) => Ok(()),
-        Shape::Fields(fields) => {
-            let row = append_record_row(sheet, &target, fields)?;
-            let known = known_fields(sheet, fields)?;
-            let write = if target.attributes.bin.is_used() {
-                write_fields(sheet, name, fields)?
-            } else {
-                String::new(sheet.alloc)
-            };
-            append_impls(sheet, &target, &RECORD, &row, (&known, &write))?;
-            if target.attributes.json.is_used() {
-                let appended = json_fields(sheet, name, fields, (&row.leaves, "&value."))?;
-                append_json_record(sheet, &target, appended.as_str())?;
-            }
-            if target.attributes.ron.is_used() {
-                append_ron_record(sheet, &target, fields)?;
-            }
-            Ok(())
-        }
-        Shape::Variants(variants) => {
-            let row = append_choice_row(sheet, &target, variants)?;
-            let known = known_arms(sheet, variants)?;
-            let write = if target.attributes.bin.is_used() {
-                write_arms(sheet, name, variants)?
-            } else {
-                String::new(sheet.alloc)
-            };
-            append_impls(sheet, &target, &CHOICE, &row, (&known, &write))?;
-            if target.attributes.json.is_used() {
-                append_json_choice(sheet, &target, variants, &row)?;
-            }
-            if target.attributes.ron.is_used() {
-                append_ron_choice(sheet, &target, variants)?;
-            }
-            Ok(())
-        }
+        Shape::Fields(fields) => append_record(sheet, &target, fields),
+        Shape::Variants(variants) => append_choice(sheet, &target, variants),
     }
+}
+
+/// Appends the impls of a struct.
+fn append_record<'a>(
+    sheet: &mut Sheet,
+    target: &Target<'a>,
+    fields: &[Field<'a>],
+) -> Result<(), Fault> {
+    let (name, attributes) = (target.name, target.attributes);
+    let row = append_record_row(sheet, target, fields)?;
+    let known = known_fields(sheet, fields)?;
+    let write = if attributes.bin.is_used() {
+        write_fields(sheet, name, fields)?
+    } else {
+        String::new(sheet.alloc)
+    };
+    append_impls(sheet, target, &RECORD, &row, (&known, &write))?;
+    if attributes.json.is_used() {
+        let appended = json_fields(sheet, name, fields, (&row.leaves, "&value."))?;
+        append_json_record(sheet, target, appended.as_str())?;
+    }
+    if attributes.ron.is_used() {
+        append_ron_record(sheet, target, fields)?;
+    }
+    Ok(())
+}
+
+/// Appends the impls of an enum.
+fn append_choice<'a>(
+    sheet: &mut Sheet,
+    target: &Target<'a>,
+    variants: &[Variant<'a>],
+) -> Result<(), Fault> {
+    let (name, attributes) = (target.name, target.attributes);
+    let row = append_choice_row(sheet, target, variants)?;
+    let known = known_arms(sheet, variants)?;
+    let write = if attributes.bin.is_used() {
+        write_arms(sheet, name, variants)?
+    } else {
+        String::new(sheet.alloc)
+    };
+    append_impls(sheet, target, &CHOICE, &row, (&known, &write))?;
+    if attributes.json.is_used() {
+        append_json_choice(sheet, target, variants, &row)?;
+    }
+    if attributes.ron.is_used() {
+        append_ron_choice(sheet, target, variants)?;
+    }
+    Ok(())
 }
 
 const SCHEMA: &str = "
@@ -181,68 +196,6 @@ fn append_impls<'a>(
     Ok(())
 }
 
-/// Adds the laws that tactics name: those by which an enum is made, a struct is known to be legal,
-/// and a value is written.
-fn put_laws<'a>(
-    holes: &mut Holes,
-    alloc: Global,
-    target: &Target<'a>,
-    is_enum: bool,
-) -> Result<(), AllocError> {
-    let laws = laws_of(alloc, target, "")?;
-    let views = format!(in alloc; "    #[tactic(auto, using({laws}_views))]\n")?;
-    let first = laws_of(alloc, target, first_infix(target.attributes))?;
-    let legal = format!(in alloc; "    #[tactic(auto, using({first}_legal))]\n")?;
-    holes.put("LAWS", laws.as_str())?;
-    if is_enum {
-        holes.put("VIEWS", views.as_str())?;
-        holes.put("LEGAL", "")
-    } else {
-        holes.put("VIEWS", "")?;
-        holes.put("LEGAL", legal.as_str())
-    }
-}
-
-/// The beginning of the names of the laws of a type, in all formats or in one of texts.
-pub(crate) fn laws_of<'a>(
-    alloc: Global,
-    target: &Target<'a>,
-    infix: &str,
-) -> Result<String, AllocError> {
-    let name = Case::Snake.of_variant(alloc, target.name.text)?;
-    let specs = specs_of(alloc, target.module, infix)?;
-    let (_crate, file) = specs.as_str().rsplit_once('.').unwrap_or(("", ""));
-    format!(in alloc; "crate::proofs::{file}Laws::{name}")
-}
-
-/// What stands in the names of the files of the first format of a type.
-fn first_infix(attributes: Attributes<'_>) -> &'static str {
-    match first_text(attributes) {
-        Some(format) => format.word,
-        None => "",
-    }
-}
-
-/// Adds the codec by which a value is legal, and the lines that bring it in.
-fn put_codec<'a>(holes: &mut Holes, alloc: Global, target: &Target<'a>) -> Result<(), AllocError> {
-    let name = Case::Snake.of_variant(alloc, target.name.text)?;
-    let specs = specs_of(alloc, target.module, "")?;
-    let Some(format) = first_text(target.attributes) else {
-        let cited = format!(in alloc;
-            "    ghost use Rattle.{specs}.{{{name}_means, {name}_codec}};"
-        )?;
-        holes.put("CITED", cited.as_str())?;
-        return holes.put("FIRST", format!(in alloc; "{name}_codec")?.as_str());
-    };
-    let (texts, end) = (specs_of(alloc, target.module, format.word)?, format.name);
-    let cited = format!(in alloc;
-        "    ghost use Rattle.{specs}.{{{name}_means}};
-    ghost use Rattle.{texts}.{{{name}_{end}}};"
-    )?;
-    holes.put("CITED", cited.as_str())?;
-    holes.put("FIRST", format!(in alloc; "{name}_{end}")?.as_str())
-}
-
 /// Appends the impls of bytes, of which the body is given that writes a value.
 fn append_bytes<'a>(
     sheet: &mut Sheet,
@@ -259,28 +212,6 @@ fn append_bytes<'a>(
     holes.put("BIN", format!(in alloc; "{name}_codec")?.as_str())?;
     holes.put("WRITE", write.as_str())?;
     sheet.write(BYTES, &holes)
-}
-
-/// The holes that names of a type stand in, with those of its definitions.
-pub(crate) fn nested_holes<'a>(
-    sheet: &mut Sheet,
-    target: &Target<'a>,
-) -> Result<Holes, AllocError> {
-    let alloc = sheet.alloc;
-    let name = Case::Snake.of_variant(alloc, target.name.text)?;
-    let mut holes = target.holes(alloc)?;
-    holes.put("SPECS", specs_of(alloc, target.module, "")?.as_str())?;
-    holes.put("SEEN", format!(in alloc; "{name}_view")?.as_str())?;
-    holes.put("MEANS", format!(in alloc; "{name}_means")?.as_str())?;
-    Ok(holes)
-}
-
-/// The module of the definitions of the types of a module, or of those of a format of texts.
-pub(crate) fn specs_of(alloc: Global, module: &str, format: &str) -> Result<String, AllocError> {
-    let (library, _path) = crate_of(module);
-    let file = codecs_name(alloc, module)?;
-    let stem = file.as_str().strip_suffix("Codecs").unwrap_or("");
-    format!(in alloc; "{library}.specs.{stem}{format}Codecs")
 }
 
 /// The call that reads a value one level below.

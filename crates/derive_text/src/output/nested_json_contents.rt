@@ -1,8 +1,8 @@
 //! The variants with named fields of enums that contain themselves, in JSON: what writes each.
 
-use crate::output::nested::specs_of;
 use crate::output::nested_json::{cycle_of, import_outcomes};
 use crate::output::nested_json_fields::json_fields;
+use crate::output::nested_names::specs_of;
 use derive_impls::layout::Items;
 use derive_impls::rows::{Leaf, paired};
 use derive_impls::sheet::Sheet;

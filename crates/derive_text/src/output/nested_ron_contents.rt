@@ -1,7 +1,7 @@
 //! The variants with named fields of enums that contain themselves, in RON: what writes each.
 
-use crate::output::nested::specs_of;
 use crate::output::nested_json::import_outcomes;
+use crate::output::nested_names::specs_of;
 use crate::output::nested_ron_steps::field_steps;
 use crate::output::nested_text::RON;
 use derive_impls::sheet::Sheet;

@@ -1,7 +1,7 @@
 //! What types that contain themselves have in each format of texts: what stands in the templates of
 //! the format, and the call that reads a value.
 
-use crate::output::nested::{laws_of, nested_holes, specs_of};
+use crate::output::nested_names::{laws_of, nested_holes, specs_of};
 use derive_impls::layout::{Brackets, Items, Piece, list};
 use derive_impls::sheet::Sheet;
 use derive_impls::target::Target;

@@ -1,0 +1,97 @@
+//! The names that stand in the impls of a type that contains itself: those of its definitions and of
+//! its laws.
+
+use crate::output::nested_text::first_text;
+use derive_impls::sheet::Sheet;
+use derive_impls::target::Target;
+use derive_impls::template::Holes;
+use derive_syntax::{Attributes, Case, codecs_name, crate_of};
+use std::alloc::{AllocError, Global};
+
+/// Adds the laws that tactics name: those by which an enum is made, a struct is known to be legal,
+/// and a value is written.
+pub(crate) fn put_laws<'a>(
+    holes: &mut Holes,
+    alloc: Global,
+    target: &Target<'a>,
+    is_enum: bool,
+) -> Result<(), AllocError> {
+    let laws = laws_of(alloc, target, "")?;
+    let views = format!(in alloc; "    #[tactic(auto, using({laws}_views))]\n")?;
+    let first = laws_of(alloc, target, first_infix(target.attributes))?;
+    let legal = format!(in alloc; "    #[tactic(auto, using({first}_legal))]\n")?;
+    holes.put("LAWS", laws.as_str())?;
+    if is_enum {
+        holes.put("VIEWS", views.as_str())?;
+        holes.put("LEGAL", "")
+    } else {
+        holes.put("VIEWS", "")?;
+        holes.put("LEGAL", legal.as_str())
+    }
+}
+
+/// The beginning of the names of the laws of a type, in all formats or in one of texts.
+pub(crate) fn laws_of<'a>(
+    alloc: Global,
+    target: &Target<'a>,
+    infix: &str,
+) -> Result<String, AllocError> {
+    let name = Case::Snake.of_variant(alloc, target.name.text)?;
+    let specs = specs_of(alloc, target.module, infix)?;
+    let (_crate, file) = specs.as_str().rsplit_once('.').unwrap_or(("", ""));
+    format!(in alloc; "crate::proofs::{file}Laws::{name}")
+}
+
+/// What stands in the names of the files of the first format of a type.
+fn first_infix(attributes: Attributes<'_>) -> &'static str {
+    match first_text(attributes) {
+        Some(format) => format.word,
+        None => "",
+    }
+}
+
+/// Adds the codec by which a value is legal, and the lines that bring it in.
+pub(crate) fn put_codec<'a>(
+    holes: &mut Holes,
+    alloc: Global,
+    target: &Target<'a>,
+) -> Result<(), AllocError> {
+    let name = Case::Snake.of_variant(alloc, target.name.text)?;
+    let specs = specs_of(alloc, target.module, "")?;
+    let Some(format) = first_text(target.attributes) else {
+        let cited = format!(in alloc;
+            "    ghost use Rattle.{specs}.{{{name}_means, {name}_codec}};"
+        )?;
+        holes.put("CITED", cited.as_str())?;
+        return holes.put("FIRST", format!(in alloc; "{name}_codec")?.as_str());
+    };
+    let (texts, end) = (specs_of(alloc, target.module, format.word)?, format.name);
+    let cited = format!(in alloc;
+        "    ghost use Rattle.{specs}.{{{name}_means}};
+    ghost use Rattle.{texts}.{{{name}_{end}}};"
+    )?;
+    holes.put("CITED", cited.as_str())?;
+    holes.put("FIRST", format!(in alloc; "{name}_{end}")?.as_str())
+}
+
+/// The holes that names of a type stand in, with those of its definitions.
+pub(crate) fn nested_holes<'a>(
+    sheet: &mut Sheet,
+    target: &Target<'a>,
+) -> Result<Holes, AllocError> {
+    let alloc = sheet.alloc;
+    let name = Case::Snake.of_variant(alloc, target.name.text)?;
+    let mut holes = target.holes(alloc)?;
+    holes.put("SPECS", specs_of(alloc, target.module, "")?.as_str())?;
+    holes.put("SEEN", format!(in alloc; "{name}_view")?.as_str())?;
+    holes.put("MEANS", format!(in alloc; "{name}_means")?.as_str())?;
+    Ok(holes)
+}
+
+/// The module of the definitions of the types of a module, or of those of a format of texts.
+pub(crate) fn specs_of(alloc: Global, module: &str, format: &str) -> Result<String, AllocError> {
+    let (library, _path) = crate_of(module);
+    let file = codecs_name(alloc, module)?;
+    let stem = file.as_str().strip_suffix("Codecs").unwrap_or("");
+    format!(in alloc; "{library}.specs.{stem}{format}Codecs")
+}
