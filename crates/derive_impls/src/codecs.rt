@@ -58,9 +58,19 @@ fn append_codec<'a>(
             "",
         )?;
     }
-    if !directions.reads {
-        return Ok(());
+    if directions.reads {
+        append_reader(sheet, target, form, codec)?;
     }
+    Ok(())
+}
+
+/// Appends the impl by which a value is read.
+fn append_reader<'a>(
+    sheet: &mut Sheet,
+    target: &Target<'a>,
+    form: &Form<'_>,
+    codec: &Codec,
+) -> Result<(), AllocError> {
     if codec.says_decodable {
         import_cited(sheet, target.agreement.decodable.as_str())?;
     }
