@@ -16,6 +16,10 @@ pub(crate) struct Nested<'a> {
     pub(crate) names: Names,
     /// Whether it is an enum.
     pub(crate) is_enum: bool,
+    /// How many levels are read.
+    pub(crate) limit: &'a str,
+    /// The function that reports more.
+    pub(crate) too_deep: &'static str,
     /// What its variants hold, or what it has as a struct.
     pub(crate) contents: Vec<Held<'a>>,
 }
@@ -61,9 +65,16 @@ pub(crate) fn nested_of<'a>(
             contents.push(variant_held(alloc, &names, definition.name, variant)?)?;
         }
     }
+    let attributes = definition.attributes;
+    let too_deep = match attributes.levels {
+        Some(_limit) => "too_many_levels",
+        None => "too_deep",
+    };
     Ok(Nested {
         names,
         is_enum,
+        limit: attributes.level_limit(),
+        too_deep,
         contents,
     })
 }

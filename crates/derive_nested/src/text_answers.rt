@@ -18,7 +18,7 @@ pub(crate) fn text_reader(
     let (goals, stem) = (place.goals.as_str(), place.stem.as_str());
     let cited = format!(in alloc; "{}_{}", nested.names.snake, format.name)?;
     let (cited, end) = (cited.as_str(), format.name);
-    let answers = read_answers(alloc, nested.is_enum, cited)?;
+    let answers = read_answers(alloc, nested, cited)?;
     Ok(Answers {
         path: format!(in alloc; "{folder}/LevelsReads{word}{name}/+read/Answers.antt")?,
         text: format!(in alloc;
@@ -32,8 +32,9 @@ use {goals}.LevelsReads{word}{name}.+read.Goals as goal
 }
 
 /// The answers for the reader of a type whose definitions in the format begin so.
-fn read_answers(alloc: Global, is_enum: bool, cited: &str) -> Result<String, AllocError> {
-    let (read, none) = if is_enum {
+fn read_answers(alloc: Global, nested: &Nested<'_>, cited: &str) -> Result<String, AllocError> {
+    let too_deep = nested.too_deep;
+    let (read, none) = if nested.is_enum {
         ("c.in-Ok.ensures.read", "c.in-Err.ensures.none")
     } else {
         ("c.in-Ok.ensures", "c.in-Err.ensures")
@@ -42,7 +43,7 @@ fn read_answers(alloc: Global, is_enum: bool, cited: &str) -> Result<String, All
         "
 pub returns-then-left-eq0 : goal.returns-then-left-eq0
 returns-then-left-eq0 t c =
-    none_left {cited}_nested c.args.left c.args.input.now c.if-left-eq0.true c.too_deep.ensures
+    none_left {cited}_nested c.args.left c.args.input.now c.if-left-eq0.true c.{too_deep}.ensures
 
 pub returns-in_default : goal.returns-in_default
 returns-in_default t c =

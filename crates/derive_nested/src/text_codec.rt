@@ -165,7 +165,7 @@ fn variant(
 /// The codec of the values of so many levels, and that of the values that are read.
 fn codec(alloc: Global, nested: &Nested<'_>, format: &TextTerms) -> Result<String, AllocError> {
     let (name, snake) = (nested.names.of.as_str(), nested.names.snake.as_str());
-    let (end, infix) = (format.name, format.coded.infix);
+    let (end, infix, limit) = (format.name, format.coded.infix, nested.limit);
     format!(in alloc;
         "
 -- those of at most so many levels
@@ -174,7 +174,7 @@ abbrev pub {snake}_{infix}at : ℕ → Codec {name}
 
 -- those that are read
 abbrev pub {snake}_{end} : Codec {name}
-{snake}_{end} = limited {snake}_{infix}nested 128
+{snake}_{end} = limited {snake}_{infix}nested {limit}
 "
     )
 }
@@ -186,7 +186,7 @@ fn agreement(
     format: &TextTerms,
     before: &str,
 ) -> Result<String, AllocError> {
-    let snake = nested.names.snake.as_str();
+    let (snake, limit) = (nested.names.snake.as_str(), nested.limit);
     let (end, infix) = (format.name, format.coded.infix);
     let (codec, agrees) = if before == "bin" {
         (
@@ -197,7 +197,7 @@ fn agreement(
         (
             format!(in alloc; "{snake}_{before}")?,
             format!(in alloc;
-                "nested_agrees {snake}_{before}_nested {snake}_step (λ f. refl) 128"
+                "nested_agrees {snake}_{before}_nested {snake}_step (λ f. refl) {limit}"
             )?,
         )
     };
@@ -206,7 +206,7 @@ fn agreement(
 pub {snake}_{infix}agrees : Agrees {snake}_means {codec}.encoding.legal {snake}_means {snake}_{end}.encoding.legal
 {snake}_{infix}agrees =
     agree_through ({agrees})
-    (nested_agrees {snake}_{infix}nested {snake}_step (λ f. refl) 128)
+    (nested_agrees {snake}_{infix}nested {snake}_step (λ f. refl) {limit})
 "
     )
 }

@@ -51,7 +51,7 @@ fn legal_law(
     let (snake, end, infix) = (nested.names.snake.as_str(), format.name, format.coded.infix);
     let known = Known {
         codec: format!(in alloc; "{snake}_{end}")?,
-        law: format!(in alloc; "legal_seen {snake}_{infix}nested 128")?,
+        law: format!(in alloc; "legal_seen {snake}_{infix}nested {}", nested.limit)?,
     };
     if nested.is_enum {
         variant_legal(alloc, nested, (held, i), &known)
@@ -81,6 +81,7 @@ fn struct_law(
 ) -> Result<String, AllocError> {
     let (name, snake) = (nested.names.of.as_str(), nested.names.snake.as_str());
     let (end, infix, style) = (format.name, format.coded.infix, format.fields);
+    let limit = nested.limit;
     let parts = field_definitions(alloc, nested, format, held)?;
     format!(in alloc;
         "{parts}
@@ -90,7 +91,7 @@ abbrev pub {snake}_{infix}written : {name} → List (WrittenField Token)
 
 pub {snake}_{infix}text : (d : ℕ) → (x : {name}) → {snake}_{end}.canonical.text d x
     ≡ fields_text {style} d ({snake}_{infix}written x)
-{snake}_{infix}text d x = text_seen {snake}_{infix}nested 128 d x ({snake}_view x) refl
+{snake}_{infix}text d x = text_seen {snake}_{infix}nested {limit} d x ({snake}_view x) refl
 "
     )
 }
@@ -104,7 +105,7 @@ fn variant_law(
 ) -> Result<String, AllocError> {
     let Variant { value, seen, view } = variant_at(alloc, nested, held, i)?;
     let (snake, end) = (nested.names.snake.as_str(), law_end(alloc, held)?);
-    let (codec, infix) = (format.name, format.coded.infix);
+    let (codec, infix, limit) = (format.name, format.coded.infix, nested.limit);
     let (parts, values) = (binders(alloc, nested, held)?, held.values(alloc)?);
     let written = written(alloc, nested, format, held)?;
     format!(in alloc;
@@ -113,7 +114,7 @@ pub {snake}_{infix}text_{end} : (d : ℕ)
     → {parts}{snake}_{codec}.canonical.text d {value}
     ≡ {written}
 {snake}_{infix}text_{end} d{values} =
-    text_seen {snake}_{infix}nested 128 d {value} {} {}
+    text_seen {snake}_{infix}nested {limit} d {value} {} {}
 ",
         atom(alloc, seen.as_str())?,
         atom(alloc, view.as_str())?

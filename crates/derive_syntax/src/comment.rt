@@ -9,7 +9,7 @@ const FORM: &str =
     colon";
 
 /// The words with which an attribute begins.
-const WORDS: [&str; 16] = [
+const WORDS: [&str; 17] = [
     "bin",
     "json",
     "ron",
@@ -24,6 +24,7 @@ const WORDS: [&str; 16] = [
     "rename",
     "rename_all",
     "deny_unknown",
+    "levels",
     "default",
     "skip",
 ];

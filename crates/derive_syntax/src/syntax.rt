@@ -65,6 +65,8 @@ pub struct Attributes<'a> {
     pub rename_all: Option<Token<'a>>,
     /// The case that this text names.
     pub case: Option<Case>,
+    /// The text after `levels`.
+    pub levels: Option<Token<'a>>,
     /// The word `deny_unknown`.
     pub deny_unknown: Option<Token<'a>>,
     /// The word `default`.
@@ -97,6 +99,14 @@ impl<'a> Attributes<'a> {
             }
         }
         Ok(aliases)
+    }
+
+    /// How many levels are read of a type that contains itself, as the program has the number.
+    pub fn level_limit(self) -> &'a str {
+        match self.levels {
+            Some(limit) => limit.quoted(),
+            None => "128",
+        }
     }
 }
 

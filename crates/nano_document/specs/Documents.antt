@@ -1,6 +1,6 @@
 -- A document of JSON: its alternatives, what it means, and how many levels it has below the first.
 use Rattle.std.specs.Prelude.{◌≡◌, ◌⊎◌, ℕ, zero, suc, ℤ, pos, Bool, List}
-use Rattle.std.specs.Prelude.{map, String, string_bytes, if◌then◌else◌, ◌++◌, codes, decimal}
+use Rattle.std.specs.Prelude.{map, String, string_bytes, if◌then◌else◌}
 use Rattle.std.specs.Global.{Global}
 use Rattle.nano_value.specs.Meaning.{Meaning, number, whole, truth, text, nothing, listed, paired}
 use Rattle.nano_meaning.specs.Sums.{tagged}
@@ -94,11 +94,6 @@ depth = fold-Json ℕ depth_step
 -- how many levels a document may have that is read
 abbrev pub most_levels : ℕ
 most_levels = 128
-
--- the message of the error where there are more levels than a limit
-abbrev pub levels_message : ℕ → List ℕ
-levels_message limit =
-    codes "Value out of range " ++ ((codes "levels>" ++ decimal limit) ++ codes " ")
 
 -- ---- what a document holds
 

@@ -16,11 +16,12 @@ use Rattle.nano_json_tokens.proofs.Calling.{gives_up}
 use Rattle.nano_json_tokens.proofs.JsonLaws.{json}
 use Rattle.nano_levels.specs.Layers.{Nested}
 use Rattle.nano_levels.proofs.LevelsLaws.{level, level_none}
-use Rattle.nano_json_nested.specs.Depth.{RejectsDepth, RunsOut}
+use Rattle.nano_json_nested.specs.Depth.{RejectsLevels, RunsOut}
 
 -- where nothing is encoded, too deep is no less than the truth
-pub nothing_there : {old new : DeJsonState} {e : DeJsonErr} (E : List Token → Meaning → Type 0)
-    (i : Chars) → ((ts : List Token) (m : Meaning) → E ts m → ⊥) → RejectsDepth old new e
+pub nothing_there : {old new : DeJsonState} {e : DeJsonErr} {limit : ℕ}
+    (E : List Token → Meaning → Type 0)
+    (i : Chars) → ((ts : List Token) (m : Meaning) → E ts m → ⊥) → RejectsLevels limit old new e
     → ReadsNoneAndEnds Cut E (position old i) (position new i) ended (report e)
 nothing_there {old} {new} E i none h =
     let up = gives_up old new i h.state in
@@ -43,8 +44,9 @@ ran_out {old} {new} E i h =
     }
 
 -- no level is left
-pub none_left : {A : Type 0} (l : Nested json json_grammar A) {old new : DeJsonState}
-    {e : DeJsonErr} (left : ℕ) (i : Chars) → left ≡ 0 → RejectsDepth old new e
+pub none_left : {A : Type 0} (l : Nested json json_grammar A) {limit : ℕ}
+    {old new : DeJsonState} {e : DeJsonErr} (left : ℕ) (i : Chars) → left ≡ 0
+    → RejectsLevels limit old new e
     → ReadsNoneAndEnds Cut (level l left).encoding.encodes (position old i) (position new i) ended
     (report e)
 none_left l left i is h =

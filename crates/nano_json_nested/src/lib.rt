@@ -24,7 +24,7 @@ mod variant_writer;
 pub use choice::read_choice_json_within;
 pub use choices::JsonChoicesWithin;
 pub use contents::JsonContentWithin;
-pub use depth::{no_levels, too_deep};
+pub use depth::{no_levels, too_deep, too_many_levels};
 pub use field_writer::{append_optional_within, append_required_within};
 pub use fields::JsonFieldsWithin;
 pub use nano_json::{

@@ -1,3 +1,4 @@
 pub mod Layers
 pub mod Kinds
 pub mod Chains
+pub mod Limits

@@ -1,6 +1,6 @@
 //! How many levels of a type that contains itself may follow.
 
-ghost use Rattle.std.specs.Prelude.{◌≡◌};
+ghost use Rattle.std.specs.Prelude.{◌≡◌, ℕ, suc, min};
 ghost use Rattle.nano_levels.specs.Chains.{left};
 
 use Levels::{More, Out};
@@ -87,5 +87,28 @@ impl Levels {
         ensures { left result.now ≡ 128 }
     {
         &LEVELS_128[0]
+    }
+
+    /// As many levels as `limit` says, or 128 where that is less.
+    pub fn at_most(limit: usize) -> &'static Levels
+        ensures { left result.now ≡ min limit 128 }
+    {
+        let mut levels = Levels::most();
+        let mut count: usize = 128;
+        while count > limit {
+            levels = levels.below();
+            count -= 1;
+        }
+        levels
+    }
+
+    /// One level fewer, or none where there is none.
+    fn below(&'static self) -> &'static Levels
+        ensures { (n : ℕ) → left self.now ≡ suc n → left result.now ≡ n }
+    {
+        match self {
+            Out => self,
+            More(below) => below.first().unwrap_or(self),
+        }
     }
 }

@@ -17,11 +17,12 @@ use Rattle.nano_ron_tokens.proofs.Calling.{gives_up}
 use Rattle.nano_ron_tokens.proofs.RonLaws.{ron}
 use Rattle.nano_levels.specs.Layers.{Nested}
 use Rattle.nano_levels.proofs.LevelsLaws.{level, level_holds, level_content, level_none}
-use Rattle.nano_ron_nested.specs.Depth.{RejectsDepth, RunsOut}
+use Rattle.nano_ron_nested.specs.Depth.{RejectsLevels, RunsOut}
 
 -- where nothing is encoded, too deep is no less than the truth
-pub nothing_there : {old new : DeRonState} {e : DeRonErr} (E : List Token → Meaning → Type 0)
-    (i : Chars) → ((ts : List Token) (m : Meaning) → E ts m → ⊥) → RejectsDepth old new e
+pub nothing_there : {old new : DeRonState} {e : DeRonErr} {limit : ℕ}
+    (E : List Token → Meaning → Type 0)
+    (i : Chars) → ((ts : List Token) (m : Meaning) → E ts m → ⊥) → RejectsLevels limit old new e
     → ReadsNoneAndEnds Cut E (position old i) (position new i) ended (report e)
 nothing_there {old} {new} E i none h =
     let up = gives_up old new i h.state in
@@ -53,8 +54,8 @@ module _ {A : Type 0} (l : Nested ron ron_grammar A) where
   EncodesAround n = (l.layer.codec (level l n)).encoding.encodes
 
   -- no level is left
-  pub none_left : {old new : DeRonState} {e : DeRonErr} (left : ℕ) (i : Chars) → left ≡ 0
-      → RejectsDepth old new e
+  pub none_left : {limit : ℕ} {old new : DeRonState} {e : DeRonErr} (left : ℕ) (i : Chars)
+      → left ≡ 0 → RejectsLevels limit old new e
       → ReadsNoneAndEnds Cut (Encodes left) (position old i) (position new i) ended (report e)
   none_left left i is h =
       nothing_there (Encodes left) i

@@ -27,7 +27,7 @@ pub use choice::read_choice_ron_within;
 pub use choices::RonChoicesWithin;
 pub use contents::RonContentWithin;
 pub use defaulted::RonDefaultWithin;
-pub use depth::{no_levels, too_deep};
+pub use depth::{no_levels, too_deep, too_many_levels};
 pub use field_writer::{
     append_field, append_field_within, append_optional, append_optional_within, append_required,
     append_required_within,

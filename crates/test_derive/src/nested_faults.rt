@@ -26,16 +26,6 @@ enum A {
 }
 => 3:5: `B` has braces with nothing between them, which no variant has in JSON and RON
 ----
-// nanoserde: json
-enum A {
-    B {
-        left: Box<A>,
-        right: Box<A>,
-    },
-    C,
-}
-=> 5:9: `right` is a second field of a variant that holds the enum itself
-----
 // nanoserde: bin
 struct A<T> {
     a: Vec<A>,
@@ -157,7 +147,56 @@ struct A {
 struct A {
     a: Vec<Self>,
 }
-=> 3:12: `Self` stands for the type around it"#;
+=> 3:12: `Self` stands for the type around it
+----
+// nanoserde: bin, levels = "0"
+struct A {
+    a: Vec<A>,
+}
+=> 1:28: `"0"` is no number of levels: that is one from 1 to 128
+----
+// nanoserde: json levels = "129"
+struct A {
+    a: Vec<A>,
+}
+=> 1:28: `"129"` is no number of levels
+----
+// nanoserde: json levels = "064"
+struct A {
+    a: Vec<A>,
+}
+=> 1:28: `"064"` is no number of levels
+----
+// nanoserde: ron levels = "many"
+struct A {
+    a: Vec<A>,
+}
+=> 1:27: `"many"` is no number of levels
+----
+// nanoserde: ron levels
+struct A {
+    a: Vec<A>,
+}
+=> 2:1: `struct` stands where `=` and a text are wanted
+----
+// nanoserde: bin levels = "3", levels = "3"
+struct A {
+    a: Vec<A>,
+}
+=> 1:33: `levels` stands twice
+----
+// nanoserde: bin json, levels = "64"
+struct A {
+    a: Vec<u8>,
+}
+=> 1:34: `"64"` is for a type that contains itself, and this one does not
+----
+// nanoserde: bin
+struct A {
+    // nanoserde: levels = "64"
+    a: Vec<A>,
+}
+=> 3:19: `levels` stands only above a struct or an enum"#;
 
 /// Types contain each other.
 pub(crate) const CIRCLES: &str = r#"// nanoserde: json

@@ -76,6 +76,46 @@ type AFields = (
 =>
         write_record_bin::<Self, BFields>(self, alloc, output)
 ----
+// nanoserde: bin json ron, levels = "64"
+enum A {
+    B {
+        // nanoserde: rename = "l"
+        left: Box<A>,
+        right: Box<A>,
+    },
+    C,
+}
+=>
+        let levels = Levels::at_most(64);
+        ReadsBin::<Self>::read_bin(levels, alloc, offset, bytes)
+=>
+            return Err(too_many_levels(alloc, 64, state));
+=>
+            return Err(nano_ron_nested::too_many_levels(alloc, 64, state));
+=>
+        let levels = Levels::most();
+        ReadsJson::<Self>::read_json(levels, 64, alloc, state, input)
+=>
+ghost use Rattle.app.specs.declared.shapes.A.{B as A-B};
+=>
+fn append_a_b_fields(
+    value: &A,
+    v0: &Box<A>,
+    v1: &Box<A>,
+    alloc: Global,
+    d: usize,
+    s: &mut SerJsonState,
+) -> Result<(), AllocError>
+    requires { value.now ≡ A-B v0.now v1.now }
+=>
+    let right_is_first = append_required_within(alloc, "l", v0, true, inner, s)?;
+    append_required_within(alloc, "right", v1, right_is_first, inner, s)?;
+=>
+            Self::B {
+                left: v0,
+                right: v1,
+            } => write_a_b(self, v0, v1, alloc, d, s),
+----
 // nanoserde: ron
 enum A {
     B(Box<A>, Box<A>),

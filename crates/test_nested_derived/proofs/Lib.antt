@@ -10,3 +10,6 @@ mod TreeRonCodecsLaws
 mod ExpressionRonCodecsLaws
 mod ChainRonCodecsLaws
 mod FolderRonCodecsLaws
+mod RuleCodecsLaws
+mod RuleJsonCodecsLaws
+mod RuleRonCodecsLaws

@@ -10,3 +10,6 @@ pub mod TreeRonCodecs
 pub mod ExpressionRonCodecs
 pub mod ChainRonCodecs
 pub mod FolderRonCodecs
+pub mod RuleCodecs
+pub mod RuleJsonCodecs
+pub mod RuleRonCodecs

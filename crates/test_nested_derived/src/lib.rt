@@ -21,9 +21,11 @@ mod ron_part_tests;
 mod ron_row_tests;
 #[cfg(test)]
 mod ron_tests;
+mod rule;
 mod tree;
 
 pub use chain::Chain;
 pub use expression::Expression;
 pub use folder::Folder;
+pub use rule::Rule;
 pub use tree::Tree;

@@ -157,7 +157,7 @@ fn is_known<'a>(source: &Source<'a>, token: Token<'a>, text: &'a str) -> bool {
 }
 
 /// Whether a text is a number of this type, in digits without leading zeros.
-fn is_number(of: &str, text: &str) -> bool {
+pub(crate) fn is_number(of: &str, text: &str) -> bool {
     let digits = text.strip_prefix('-').unwrap_or(text);
     let is_plain = match digits.chars().next() {
         Some('0') => digits == "0",

@@ -1,5 +1,6 @@
 //! Types that contain themselves, and types that contain each other.
 
+use crate::check::defaults::is_number;
 use crate::check::nested_json::check_nested_json;
 use crate::fault::Fault;
 use crate::nested::nested_part;
@@ -18,8 +19,12 @@ const GENERIC: &str =
 const NO_CODEC: &str = "stands above a type that contains itself: write `bin`, `json`, `ron` or \
     several of them";
 
-/// The formats of types that contain themselves.
-const FORMATS: [&str; 3] = ["bin", "json", "ron"];
+/// The words that may stand above a type that contains itself.
+const WORDS: [&str; 4] = ["bin", "json", "ron", "levels"];
+
+const NO_LEVELS: &str = "is for a type that contains itself, and this one does not";
+
+const NO_LIMIT: &str = "is no number of levels: that is one from 1 to 128";
 
 const NO_WORD: &str = "stands in a type that contains itself: above its fields and variants is no \
     attribute but `rename`";
@@ -35,6 +40,7 @@ pub(crate) fn check_nested<'a>(
         return Ok(());
     }
     check_circle(alloc, source, definition)?;
+    check_levels(definition)?;
     if !definition.contains_itself() {
         return Ok(());
     }
@@ -53,6 +59,21 @@ pub(crate) fn check_nested<'a>(
     }
 }
 
+/// An error where a limit of levels is no number of them, or stands above a type that has none.
+fn check_levels<'a>(definition: &Definition<'a>) -> Result<(), Fault> {
+    let Some(limit) = definition.attributes.levels else {
+        return Ok(());
+    };
+    if !definition.contains_itself() {
+        return Err(limit.fault(NO_LEVELS));
+    }
+    let number = limit.quoted();
+    match number.parse::<u8>() {
+        Ok(levels) if levels >= 1 && levels <= 128 && is_number("u8", number) => Ok(()),
+        _ => Err(limit.fault(NO_LIMIT)),
+    }
+}
+
 /// An error at the first word above a type that asks for more than these formats in both directions.
 fn check_formats(attributes: Attributes<'_>) -> Result<(), Fault> {
     let mut in_comment = false;
@@ -60,7 +81,7 @@ fn check_formats(attributes: Attributes<'_>) -> Result<(), Fault> {
         match token.kind {
             TokenKind::Attribute => in_comment = true,
             TokenKind::AttributeEnd => in_comment = false,
-            TokenKind::Word if in_comment && !FORMATS.contains(&token.text) => {
+            TokenKind::Word if in_comment && !WORDS.contains(&token.text) => {
                 return Err(token.fault(NO_CODEC));
             }
             _ => {}

@@ -37,6 +37,7 @@ const NO_ATTRIBUTES: Attributes = Attributes {
     above: &[],
     rename_all: None,
     case: None,
+    levels: None,
     deny_unknown: None,
     default: None,
     default_path: None,
@@ -181,12 +182,6 @@ fn read_word<'a>(
             let text = value(cursor)?;
             set(&mut attributes.rename, text, word)
         }
-        "rename_all" => {
-            above(below == Below::Definition, word, DEFINITION)?;
-            let text = value(cursor)?;
-            attributes.case = Some(case_of(text)?);
-            set(&mut attributes.rename_all, text, word)
-        }
         "alias" => {
             above(below == Below::Field, word, FIELD)?;
             value(cursor)?;
@@ -203,6 +198,29 @@ fn read_word<'a>(
             }
             set(&mut attributes.default, word, word)
         }
+        _ => read_type_word(cursor, attributes, below, word),
+    }
+}
+
+/// Takes what belongs to a word that stands above a struct or an enum.
+fn read_type_word<'a>(
+    cursor: &mut Cursor<'a>,
+    attributes: &mut Attributes<'a>,
+    below: Below,
+    word: Token<'a>,
+) -> Result<(), Fault> {
+    match word.text {
+        "rename_all" => {
+            above(below == Below::Definition, word, DEFINITION)?;
+            let text = value(cursor)?;
+            attributes.case = Some(case_of(text)?);
+            set(&mut attributes.rename_all, text, word)
+        }
+        "levels" => {
+            above(below == Below::Definition, word, DEFINITION)?;
+            let text = value(cursor)?;
+            set(&mut attributes.levels, text, word)
+        }
         "transparent" => set_above(&mut attributes.transparent, below, word),
         "key" => set_above(&mut attributes.key, below, word),
         "deny_unknown" => set_above(&mut attributes.deny_unknown, below, word),
@@ -217,8 +235,8 @@ const FIELD: &str = "stands only above a field with a name";
 const FIELD_OR_VARIANT: &str = "stands only above a field with a name or a variant";
 
 const NO_ATTRIBUTE: &str = "is no attribute: those of a type are bin, json, ron, each of them also \
-    with de_ or ser_ before it, key, rename_all, deny_unknown and transparent; those of a field \
-    rename, alias, default and skip";
+    with de_ or ser_ before it, key, rename_all, deny_unknown, transparent and levels; those of a \
+    field rename, alias, default and skip";
 
 const NO_CASE: &str = "is no case: those of names are lowercase, UPPERCASE, PascalCase, camelCase, \
     snake_case, SCREAMING_SNAKE_CASE, kebab-case and SCREAMING-KEBAB-CASE";

@@ -167,7 +167,7 @@ impl nano_bin_schema::DeBin for $TYPE {
 
     fn de_bin(alloc: std::alloc::Global, offset: &mut usize, bytes: &[u8]) \
         -> Result<Self, nano_bin_schema::DeBinErr> {
-        let levels = nano_levels::Levels::most();
+        let levels = nano_levels::Levels::$LEVELS;
         nano_bin_nested::ReadsBin::<Self>::read_bin(levels, alloc, offset, bytes)
     }
 }";
@@ -210,8 +210,17 @@ fn append_bytes<'a>(
     let name = Case::Snake.of_variant(alloc, target.name.text)?;
     holes.put("CALL", reading(sheet, target, kind)?.as_str())?;
     holes.put("BIN", format!(in alloc; "{name}_codec")?.as_str())?;
+    holes.put("LEVELS", levels_of(alloc, target)?.as_str())?;
     holes.put("WRITE", write.as_str())?;
     sheet.write(BYTES, &holes)
+}
+
+/// The call that gives the levels that are read.
+pub(crate) fn levels_of<'a>(alloc: Global, target: &Target<'a>) -> Result<String, AllocError> {
+    match target.attributes.levels {
+        Some(_limit) => format!(in alloc; "at_most({})", target.attributes.level_limit()),
+        None => String::from_str(alloc, "most()"),
+    }
 }
 
 /// The call that reads a value one level below.

@@ -196,13 +196,21 @@ pub(crate) fn arm_of(
 ) -> Result<String, AllocError> {
     if let [line] = lines {
         let flat = format!(in alloc; "            {pattern} => {line},")?;
-        if width(flat.as_str()) <= COLUMNS {
+        if width(last_line(flat.as_str())) <= COLUMNS {
             return format!(in alloc; "{flat}\n");
         }
     }
     let end = if lines.len() > 1 { end } else { "" };
     let body = indented(alloc, lines, "                ", end)?;
     format!(in alloc; "            {pattern} => {{\n{body}            }}\n")
+}
+
+/// The last line of a text.
+fn last_line(text: &str) -> &str {
+    match text.rsplit_once('\n') {
+        Some((_before, line)) => line,
+        None => text,
+    }
 }
 
 /// Lines, each after such an indent and with such an end.

@@ -83,7 +83,7 @@ impl nano_json_nested::ReadsJson<$TYPE> for nano_levels::Levels {
         state: &mut nano_json_schema::DeJsonState, input: &mut std::str::Chars<'_>) \
         -> Result<$TYPE, nano_json_schema::DeJsonErr> {
         if left == 0 {
-            return Err(nano_json_nested::too_deep(alloc, state));
+            return Err($DEEP);
         }
         let nano_levels::Levels::More(below) = self else {
             return Err(nano_json_nested::no_levels(alloc, state));
@@ -102,7 +102,7 @@ impl nano_json_schema::DeJson for $TYPE {
     fn de_json(alloc: std::alloc::Global, state: &mut nano_json_schema::DeJsonState, \
         input: &mut std::str::Chars<'_>) -> Result<Self, nano_json_schema::DeJsonErr> {
         let levels = nano_levels::Levels::most();
-        nano_json_nested::ReadsJson::<Self>::read_json(levels, 128, alloc, state, input)
+        nano_json_nested::ReadsJson::<Self>::read_json(levels, $LIMIT, alloc, state, input)
     }
 }";
 

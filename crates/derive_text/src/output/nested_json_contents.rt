@@ -2,7 +2,7 @@
 
 use crate::output::nested_json::{cycle_of, import_outcomes};
 use crate::output::nested_json_fields::json_fields;
-use crate::output::nested_names::specs_of;
+use crate::output::nested_names::{put_variant, specs_of};
 use derive_impls::layout::Items;
 use derive_impls::rows::{Leaf, paired};
 use derive_impls::sheet::Sheet;
@@ -14,11 +14,12 @@ use derive_syntax::{Case, Content, Field, Variant, variant_name};
 use std::alloc::{AllocError, Global};
 
 const CONTENT: &str = "
-ghost use Rattle.$TEXTS.{$JSON, $CONTENT};
+$BROUGHTghost use Rattle.$TEXTS.{$JSON, $CONTENT};
 
 /// Appends the fields of `$NAME` between braces. If the write fails, what was written so far is left.
 #[cycle($CYCLE)]
 $INNER
+    requires { value.now ≡ $WHOLE }
     ensures ok { OnOk result (Appends s.old.out s.new.out
         (($CONTENT.codec $JSON).canonical.text d $VALUE)) }
     ensures err { OnErr result (AppendsPart s.old.out s.new.out) }
@@ -31,6 +32,7 @@ $FIELDS    s.st_post(d)
 /// Appends `$NAME` with its fields. If the write fails, what was written so far is left.
 #[cycle($CYCLE)]
 $MIDDLE
+    requires { value.now ≡ $WHOLE }
     ensures ok { OnOk result (Appends s.old.out s.new.out
         (content_text (codes \"$KEY\")
         (($CONTENT.codec $JSON).canonical.text d $VALUE))) }
@@ -39,20 +41,21 @@ $MIDDLE
     s.st_pre()?;
     \"$KEY\".ser_json(alloc, 0, s)?;
     s.out.push_str(\":\")?;
-    append_$OF_fields($ARGUMENTSalloc, d, s)?;
+    append_$OF_fields(value, $ARGUMENTSalloc, d, s)?;
     s.st_post(d)
 }
 
 /// Appends `$NAME` with its fields. If the write fails, `s.out` is unchanged.
 #[cycle($CYCLE)]
 $OUTER
+    requires { value.now ≡ $WHOLE }
     ensures ok { OnOk result (Appends s.old.out s.new.out
         (content_text (codes \"$KEY\")
         (($CONTENT.codec $JSON).canonical.text d $VALUE))) }
     ensures err { OnErr result (Unchanged s.old.out s.new.out) }
 {
     let start = s.out.len();
-    let written = append_$OF($ARGUMENTSalloc, d, s);
+    let written = append_$OF(value, $ARGUMENTSalloc, d, s);
     nano_json_nested::rollback_on_error(&mut s.out, start, written)
 }";
 
@@ -105,7 +108,9 @@ fn append_content<'a>(
     import_outcomes(sheet)?;
     sheet.import("ghost use Rattle.nano_text.specs.Outcomes.{Unchanged};")?;
     sheet.import("ghost use Rattle.nano_json_schema.specs.Variants.{content_text};")?;
+    sheet.import("ghost use Rattle.std.specs.Prelude.{◌≡◌};")?;
     let mut holes = value_holes(alloc, fields)?;
+    put_variant(&mut holes, alloc, target, (variant, fields.len(), false))?;
     let of = Case::Snake.of_variant(alloc, target.name.text)?;
     let end = Case::Snake.of_variant(alloc, variant.name.text)?;
     let content = format!(in alloc; "{of}_json_content_{end}")?;
@@ -120,9 +125,18 @@ fn append_content<'a>(
     let inner = format!(in alloc; "append_{of}_fields")?;
     let middle = format!(in alloc; "append_{of}")?;
     let outer = writer_of(alloc, target, variant)?;
-    holes.put("INNER", head(sheet, inner.as_str(), fields)?.as_str())?;
-    holes.put("MIDDLE", head(sheet, middle.as_str(), fields)?.as_str())?;
-    holes.put("OUTER", head(sheet, outer.as_str(), fields)?.as_str())?;
+    holes.put(
+        "INNER",
+        head(sheet, target, inner.as_str(), fields)?.as_str(),
+    )?;
+    holes.put(
+        "MIDDLE",
+        head(sheet, target, middle.as_str(), fields)?.as_str(),
+    )?;
+    holes.put(
+        "OUTER",
+        head(sheet, target, outer.as_str(), fields)?.as_str(),
+    )?;
     holes.put("OF", of.as_str())?;
     holes.put("CYCLE", cycle_of(alloc, target)?.as_str())?;
     sheet.write(CONTENT, &holes)
@@ -145,10 +159,16 @@ fn value_holes<'a>(alloc: Global, fields: &[Field<'a>]) -> Result<Holes, AllocEr
     Ok(holes)
 }
 
-/// The head of a function of this name, which takes the values of fields.
-fn head<'a>(sheet: &mut Sheet, name: &str, fields: &[Field<'a>]) -> Result<String, AllocError> {
+/// The head of a function of this name, which takes a value and the values of its fields.
+fn head<'a>(
+    sheet: &mut Sheet,
+    target: &Target<'a>,
+    name: &str,
+    fields: &[Field<'a>],
+) -> Result<String, AllocError> {
     let alloc = sheet.alloc;
     let mut parameters = Vec::new(alloc);
+    parameters.push(format!(in alloc; "value: &{}", target.full)?)?;
     for (i, field) in fields.iter().enumerate() {
         let of = type_text(alloc, field.of)?;
         parameters.push(format!(in alloc; "v{i}: &{of}")?)?;

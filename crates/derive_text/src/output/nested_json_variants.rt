@@ -109,9 +109,9 @@ fn fields_arm<'a>(
     let mut bound = Vec::new(alloc);
     let mut call = writer_of(alloc, target, variant)?;
     call.push_str(if format.name == JSON.name {
-        "("
+        "(self, "
     } else {
-        "_ron("
+        "_ron(self, "
     })?;
     for (i, field) in fields.iter().enumerate() {
         bound.push(format!(in alloc; "{}: v{i}", field.name.text)?)?;

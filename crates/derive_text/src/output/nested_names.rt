@@ -5,7 +5,7 @@ use crate::output::nested_text::first_text;
 use derive_impls::sheet::Sheet;
 use derive_impls::target::Target;
 use derive_impls::template::Holes;
-use derive_syntax::{Attributes, Case, codecs_name, crate_of};
+use derive_syntax::{Attributes, Case, Variant, codecs_name, crate_of};
 use std::alloc::{AllocError, Global};
 
 /// Adds the laws that tactics name: those by which an enum is made, a struct is known to be legal,
@@ -86,6 +86,30 @@ pub(crate) fn nested_holes<'a>(
     holes.put("SEEN", format!(in alloc; "{name}_view")?.as_str())?;
     holes.put("MEANS", format!(in alloc; "{name}_means")?.as_str())?;
     Ok(holes)
+}
+
+/// Adds what says that a value is of a variant with so many fields, and the line that brings in the
+/// variant for it, unless an earlier format has it.
+pub(crate) fn put_variant<'a>(
+    holes: &mut Holes,
+    alloc: Global,
+    target: &Target<'a>,
+    (variant, count, is_brought): (&Variant<'a>, usize, bool),
+) -> Result<(), AllocError> {
+    let (of, own) = (target.name.text, variant.name.text);
+    let (library, path) = crate_of(target.module);
+    let mut whole = format!(in alloc; "{of}-{own}")?;
+    for i in 0..count {
+        whole.push_str(format!(in alloc; " v{i}.now")?.as_str())?;
+    }
+    holes.put("WHOLE", whole.as_str())?;
+    if is_brought {
+        return holes.put("BROUGHT", "");
+    }
+    let line = format!(in alloc;
+        "ghost use Rattle.{library}.specs.declared{path}.{of}.{{{own} as {of}-{own}}};\n"
+    )?;
+    holes.put("BROUGHT", line.as_str())
 }
 
 /// The module of the definitions of the types of a module, or of those of a format of texts.

@@ -1,7 +1,7 @@
 //! The variants with named fields of enums that contain themselves, in RON: what writes each.
 
 use crate::output::nested_json::import_outcomes;
-use crate::output::nested_names::specs_of;
+use crate::output::nested_names::{put_variant, specs_of};
 use crate::output::nested_ron_steps::field_steps;
 use crate::output::nested_text::RON;
 use derive_impls::sheet::Sheet;
@@ -12,15 +12,17 @@ use derive_syntax::{Case, Content, Field, Variant, variant_name};
 use std::alloc::{AllocError, Global};
 
 const WRITER: &str = "
-ghost use Rattle.$TEXTS.{$OWN};
+$BROUGHTghost use Rattle.$TEXTS.{$OWN};
 
 /// Appends `$CASE`. If the write fails, what was written so far is left.
 #[cycle($CYCLE)]
 fn $APPEND(
+    value: &$TYPE,
 $ARGUMENTS    alloc: std::alloc::Global,
     d: usize,
     s: &mut nano_ron_schema::SerRonState,
 ) -> Result<(), std::alloc::AllocError>
+    requires { value.now ≡ $WHOLE }
     ensures ok { OnOk result
         (Appends s.old.out s.new.out ($OWN d$SAID)) }
     ensures err { OnErr result (AppendsPart s.old.out s.new.out) }
@@ -30,16 +32,18 @@ $STEPS}
 /// Appends `$CASE`. If the write fails, the text is unchanged.
 #[cycle($CYCLE)]
 fn $PUT(
+    value: &$TYPE,
 $ARGUMENTS    alloc: std::alloc::Global,
     d: usize,
     s: &mut nano_ron_schema::SerRonState,
 ) -> Result<(), std::alloc::AllocError>
+    requires { value.now ≡ $WHOLE }
     ensures ok { OnOk result
         (Appends s.old.out s.new.out ($OWN d$SAID)) }
     ensures err { OnErr result (Unchanged s.old.out s.new.out) }
 {
     let start = s.out.len();
-    let written = $APPEND($GIVENalloc, d, s);
+    let written = $APPEND(value, $GIVENalloc, d, s);
     nano_ron_nested::rollback_on_error(&mut s.out, start, written)
 }";
 
@@ -79,16 +83,25 @@ fn append_content<'a>(
 ) -> Result<(), AllocError> {
     import_outcomes(sheet)?;
     sheet.import("ghost use Rattle.nano_text.specs.Outcomes.{Unchanged};")?;
+    sheet.import("ghost use Rattle.std.specs.Prelude.{◌≡◌};")?;
     let alloc = sheet.alloc;
     let name = Case::Snake.of_variant(alloc, target.name.text)?;
     let end = Case::Snake.of_variant(alloc, variant.name.text)?;
     let mut holes = Holes::new(alloc);
     put_arguments(&mut holes, alloc, fields)?;
+    let is_brought = target.attributes.json.is_used();
+    put_variant(
+        &mut holes,
+        alloc,
+        target,
+        (variant, fields.len(), is_brought),
+    )?;
     let steps = steps_of(sheet, target, variant, fields)?;
     let of = name_of(alloc, target, variant)?;
     let texts = specs_of(alloc, target.module, RON.word)?;
     holes.put("TEXTS", texts.as_str())?;
     holes.put("OWN", format!(in alloc; "{name}_ron_of_{end}")?.as_str())?;
+    holes.put("TYPE", target.full.as_str())?;
     holes.put("CASE", variant.name.text)?;
     holes.put("CYCLE", format!(in alloc; "write_{name}_ron")?.as_str())?;
     holes.put("APPEND", format!(in alloc; "append_{of}_ron")?.as_str())?;

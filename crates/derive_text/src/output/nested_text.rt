@@ -98,7 +98,22 @@ pub(crate) fn text_holes<'a>(
     holes.put("OWN", codec.as_str())?;
     holes.put("AGREES", agrees.as_str())?;
     holes.put("AT", format!(in alloc; "{name}_{end}_at")?.as_str())?;
+    holes.put("LIMIT", target.attributes.level_limit())?;
+    holes.put("DEEP", too_deep(sheet, target, end)?.as_str())?;
     Ok(holes)
+}
+
+/// The call that reports more levels than are read, in the format of this name.
+fn too_deep<'a>(sheet: &mut Sheet, target: &Target<'a>, end: &str) -> Result<String, AllocError> {
+    let alloc = sheet.alloc;
+    let call = match target.attributes.levels {
+        Some(_limit) => format!(in alloc;
+            "nano_{end}_nested::too_many_levels(alloc, {}, state)",
+            target.attributes.level_limit()
+        )?,
+        None => format!(in alloc; "nano_{end}_nested::too_deep(alloc, state)")?,
+    };
+    sheet.short(call.as_str())
 }
 
 /// The call that reads what a value is seen as by this row, of structs or of enums, one level below.

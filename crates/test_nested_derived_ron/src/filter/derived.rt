@@ -1,6 +1,6 @@
 //! Written by derive_files: how the types of the module above are encoded.
 
-ghost use Rattle.std.specs.Prelude.{codes, ◌==◌, if◌then◌else◌, OnOk, OnErr};
+ghost use Rattle.std.specs.Prelude.{codes, ◌==◌, if◌then◌else◌, OnOk, OnErr, ◌≡◌};
 ghost use Rattle.nano_schema.specs.UserTypes.{agreed};
 ghost use Rattle.nano_text.specs.Outcomes.{Appends, AppendsPart, Unchanged};
 ghost use Rattle.nano_json_schema.specs.Variants.{content_text};
@@ -172,17 +172,20 @@ type FilterJsonVariants2 = (
 
 type FilterJsonVariants = (Variant<FilterNames<0>, Other<Unit>>, FilterJsonVariants2);
 
+ghost use Rattle.test_nested_derived_ron.specs.declared.filter.Filter.{Has as Filter-Has};
 ghost use Rattle.test_nested_derived_ron.specs.FilterJsonCodecs.{filter_json, filter_json_content_has};
 
 /// Appends the fields of `Has` between braces. If the write fails, what was written so far is left.
 #[cycle(write_filter_json)]
 fn append_filter_has_fields(
+    value: &Filter,
     v0: &String,
     v1: &Option<Box<Filter>>,
     alloc: Global,
     d: usize,
     s: &mut SerJsonState,
 ) -> Result<(), AllocError>
+    requires { value.now ≡ Filter-Has v0.now v1.now }
     ensures ok { OnOk result (Appends s.old.out s.new.out
         ((filter_json_content_has.codec filter_json).canonical.text d (v0.now, v1.now))) }
     ensures err { OnErr result (AppendsPart s.old.out s.new.out) }
@@ -199,12 +202,14 @@ fn append_filter_has_fields(
 /// Appends `Has` with its fields. If the write fails, what was written so far is left.
 #[cycle(write_filter_json)]
 fn append_filter_has(
+    value: &Filter,
     v0: &String,
     v1: &Option<Box<Filter>>,
     alloc: Global,
     d: usize,
     s: &mut SerJsonState,
 ) -> Result<(), AllocError>
+    requires { value.now ≡ Filter-Has v0.now v1.now }
     ensures ok { OnOk result (Appends s.old.out s.new.out
         (content_text (codes "Has")
         ((filter_json_content_has.codec filter_json).canonical.text d (v0.now, v1.now)))) }
@@ -213,26 +218,28 @@ fn append_filter_has(
     s.st_pre()?;
     "Has".ser_json(alloc, 0, s)?;
     s.out.push_str(":")?;
-    append_filter_has_fields(v0, v1, alloc, d, s)?;
+    append_filter_has_fields(value, v0, v1, alloc, d, s)?;
     s.st_post(d)
 }
 
 /// Appends `Has` with its fields. If the write fails, `s.out` is unchanged.
 #[cycle(write_filter_json)]
 fn write_filter_has(
+    value: &Filter,
     v0: &String,
     v1: &Option<Box<Filter>>,
     alloc: Global,
     d: usize,
     s: &mut SerJsonState,
 ) -> Result<(), AllocError>
+    requires { value.now ≡ Filter-Has v0.now v1.now }
     ensures ok { OnOk result (Appends s.old.out s.new.out
         (content_text (codes "Has")
         ((filter_json_content_has.codec filter_json).canonical.text d (v0.now, v1.now)))) }
     ensures err { OnErr result (Unchanged s.old.out s.new.out) }
 {
     let start = s.out.len();
-    let written = append_filter_has(v0, v1, alloc, d, s);
+    let written = append_filter_has(value, v0, v1, alloc, d, s);
     rollback_on_error(&mut s.out, start, written)
 }
 
@@ -247,7 +254,7 @@ impl WritesJson for Filter {
                 let first = &nano_json_schema::Part { of: first };
                 write_pair_within(alloc, "AtLeast", first, second, d, s)
             }
-            Self::Has { field: v0, and: v1 } => write_filter_has(v0, v1, alloc, d, s),
+            Self::Has { field: v0, and: v1 } => write_filter_has(self, v0, v1, alloc, d, s),
         }
     }
 }
@@ -324,12 +331,14 @@ ghost use Rattle.test_nested_derived_ron.specs.FilterRonCodecs.{filter_ron_of_ha
 /// Appends `Has`. If the write fails, what was written so far is left.
 #[cycle(write_filter_ron)]
 fn append_filter_has_ron(
+    value: &Filter,
     v0: &String,
     v1: &Option<Box<Filter>>,
     alloc: Global,
     d: usize,
     s: &mut SerRonState,
 ) -> Result<(), AllocError>
+    requires { value.now ≡ Filter-Has v0.now v1.now }
     ensures ok { OnOk result
         (Appends s.old.out s.new.out (filter_ron_of_has d v0.now v1.now)) }
     ensures err { OnErr result (AppendsPart s.old.out s.new.out) }
@@ -345,18 +354,20 @@ fn append_filter_has_ron(
 /// Appends `Has`. If the write fails, the text is unchanged.
 #[cycle(write_filter_ron)]
 fn write_filter_has_ron(
+    value: &Filter,
     v0: &String,
     v1: &Option<Box<Filter>>,
     alloc: Global,
     d: usize,
     s: &mut SerRonState,
 ) -> Result<(), AllocError>
+    requires { value.now ≡ Filter-Has v0.now v1.now }
     ensures ok { OnOk result
         (Appends s.old.out s.new.out (filter_ron_of_has d v0.now v1.now)) }
     ensures err { OnErr result (Unchanged s.old.out s.new.out) }
 {
     let start = s.out.len();
-    let written = append_filter_has_ron(v0, v1, alloc, d, s);
+    let written = append_filter_has_ron(value, v0, v1, alloc, d, s);
     nano_ron_nested::rollback_on_error(&mut s.out, start, written)
 }
 
@@ -371,7 +382,7 @@ impl WritesRon for Filter {
                 let first = &nano_ron_schema::Part { of: first };
                 nano_ron_nested::write_pair_within(alloc, "AtLeast", first, second, d, s)
             }
-            Self::Has { field: v0, and: v1 } => write_filter_has_ron(v0, v1, alloc, d, s),
+            Self::Has { field: v0, and: v1 } => write_filter_has_ron(self, v0, v1, alloc, d, s),
         }
     }
 }
