@@ -65,9 +65,10 @@ ENUMS = {
     "Tree": ["Leaf(i32)", "Node(Vec<Tree>)"],
     "Statement": ["Assign(String, i32)", "Block(Vec<Statement>)", "If(Box<Branch>)"],
     "Expression": ["Number(i64)", "Negated(Box<Expression>)", "Sum(Box<Expression>, Box<Expression>)"],
+    "Rule": ["Always", "From(u8)", "When{condition: Box<Rule>, then: Box<Rule>, otherwise?: Option<Box<Rule>>}"],
 }
 # These contain themselves; of an enum the first variant does not.
-NESTED = {"Tree", "Expression", "Chain", "Folder", "Menu", "Statement"}
+NESTED = {"Tree", "Expression", "Chain", "Folder", "Menu", "Statement", "Rule"}
 
 
 @functools.lru_cache(maxsize=None)

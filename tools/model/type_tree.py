@@ -100,9 +100,10 @@ ENUMS = {
     "Reply": ["Found(A)", "Failed(B, u32)", {"Listed": ["items: Vec<A>", "next: Option<B>"]}],
     "Tree": ["Leaf(i32)", "Node(Vec<Tree>)"], "Statement": ["Assign(String, i32)", "Block(Vec<Statement>)", "If(Box<Branch>)"],
     "Expression": ["Number(i64)", "Negated(Box<Expression>)", "Sum(Box<Expression>, Box<Expression>)"],
+    "Rule": ["Always", "From(u8)", {"When": ["condition: Box<Rule>", "then: Box<Rule>", "otherwise: Option<Box<Rule>>"]}],
 }
-NESTED = {"Tree", "Expression", "Chain", "Folder", "Menu", "Statement"}  # these contain themselves
-LEVELS = 128  # of a value of one, the value itself being the first
+# These contain themselves; a value of each has at most so many levels, itself being the first.
+NESTED = dict.fromkeys(("Tree", "Expression", "Chain", "Folder", "Menu", "Statement"), 128) | {"Rule": 5}
 STRICT = {"Proxy"}  # these are `deny_unknown`
 PARAMETERS = {"Holder": 1, "Tagged": 2, "Reply": 2}
 # These have one format alone.
@@ -168,7 +169,7 @@ def named(word, parts, given):
     if word in given:
         return given[word]
     if word in NESTED and not parts:
-        return Type("nested", name=word, levels=LEVELS)
+        return Type("nested", name=word, levels=NESTED[word])
     if word[1:] in BITS and word[0] in "ui" and not parts and word != "isize":
         bits = BITS[word[1:]]
         low, high = (0, 2**bits - 1) if word[0] == "u" else (-(2 ** (bits - 1)), 2 ** (bits - 1) - 1)

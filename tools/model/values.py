@@ -3,7 +3,7 @@
 See What each type asks, in order, in docs/ERRORS.md, and the tables of types in docs/FORMATS.md.
 """
 from .reader import BLOCK, CURLY, GREATEST
-from .type_tree import LEVELS, collected, opened
+from .type_tree import NESTED, collected, opened
 
 
 def read(reader, type):
@@ -31,7 +31,7 @@ def read(reader, type):
         return reader.variant(type.variants)
     if kind == "nested":
         if type.levels == 0:
-            raise reader.err_range(f"levels>{LEVELS}")
+            raise reader.err_range(f"levels>{NESTED[type.name]}")
         return read(reader, opened(type))
     if kind == "map":
         return collected(kind, read_list(reader, CURLY, lambda: read_pair(reader, *type.parts)))

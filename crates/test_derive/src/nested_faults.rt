@@ -153,31 +153,31 @@ struct A {
 struct A {
     a: Vec<A>,
 }
-=> 1:28: `"0"` is no number of levels: that is one from 1 to 128
+=> 1:29: `"0"` is no number of levels: that is one from 1 to 128
 ----
 // nanoserde: json levels = "129"
 struct A {
     a: Vec<A>,
 }
-=> 1:28: `"129"` is no number of levels
+=> 1:29: `"129"` is no number of levels
 ----
 // nanoserde: json levels = "064"
 struct A {
     a: Vec<A>,
 }
-=> 1:28: `"064"` is no number of levels
+=> 1:29: `"064"` is no number of levels
 ----
 // nanoserde: ron levels = "many"
 struct A {
     a: Vec<A>,
 }
-=> 1:27: `"many"` is no number of levels
+=> 1:28: `"many"` is no number of levels
 ----
 // nanoserde: ron levels
 struct A {
     a: Vec<A>,
 }
-=> 2:1: `struct` stands where `=` and a text are wanted
+=> 1:25: the end of the line stands where `=` and a text are wanted
 ----
 // nanoserde: bin levels = "3", levels = "3"
 struct A {

@@ -1,7 +1,7 @@
 //! Types that contain themselves, as bytes, by impls that `derive` writes.
 
 use crate::checks::holds;
-use crate::{Chain, Expression, Folder, Tree};
+use crate::{Chain, Expression, Folder, Rule, Tree};
 use nano_bin::{BothBin, DeBin, DeBinKind};
 use std::alloc::{AllocError, Global};
 
@@ -64,6 +64,11 @@ const DEEP_FOLDER: Deep = Deep {
     inner: &[0, 0, 0, 0, 0, 0, 0, 0, 0, 0, 0, 0, 0, 0, 0, 0],
 };
 
+const DEEP_RULE: Deep = Deep {
+    around: &[2, 0, 0, 0, 0, 0, 1],
+    inner: &[0, 0],
+};
+
 /// All of the bytes are a value, and are what is written of it.
 fn is_read_back<T: BothBin>(alloc: Global, bytes: &[u8]) -> bool {
     let Ok(value) = T::deserialize_bin_whole(alloc, bytes) else {
@@ -103,14 +108,16 @@ fn nested(alloc: Global, deep: &Deep, count: usize) -> Result<Vec<u8>, AllocErro
     Ok(bytes)
 }
 
-/// Whether 128 values one in the other are read, and of 129 the levels run out at this place.
-fn ends_after_128<T: BothBin>(
+/// Whether so many values one in the other are read, and of one more the levels run out at this
+/// place.
+fn ends_after<T: BothBin>(
     alloc: Global,
     deep: &Deep,
+    levels: usize,
     place: usize,
 ) -> Result<bool, AllocError> {
-    let bytes = nested(alloc, deep, 128)?;
-    let deeper = nested(alloc, deep, 129)?;
+    let bytes = nested(alloc, deep, levels)?;
+    let deeper = nested(alloc, deep, levels.saturating_add(1))?;
     Ok(is_read_back::<T>(alloc, &bytes) && is_rejected::<T>(alloc, &deeper, place, true))
 }
 
@@ -134,14 +141,16 @@ fn other_bytes_are_rejected_where_they_differ(rt: HostRuntime) {
 }
 
 #[test]
-fn levels_run_out_after_128(rt: HostRuntime) {
+fn levels_run_out_after_as_many_as_are_read(rt: HostRuntime) {
     let alloc = rt.alloc();
-    let trees = ends_after_128::<Tree>(alloc, &DEEP_TREE, 1280);
+    let trees = ends_after::<Tree>(alloc, &DEEP_TREE, 128, 1280);
     holds(&rt, trees.unwrap_or(false), "trees");
-    let expressions = ends_after_128::<Expression>(alloc, &DEEP_EXPRESSION, 256);
+    let expressions = ends_after::<Expression>(alloc, &DEEP_EXPRESSION, 128, 256);
     holds(&rt, expressions.unwrap_or(false), "expressions");
-    let chains = ends_after_128::<Chain>(alloc, &DEEP_CHAIN, 640);
+    let chains = ends_after::<Chain>(alloc, &DEEP_CHAIN, 128, 640);
     holds(&rt, chains.unwrap_or(false), "chains");
-    let folders = ends_after_128::<Folder>(alloc, &DEEP_FOLDER, 2048);
+    let folders = ends_after::<Folder>(alloc, &DEEP_FOLDER, 128, 2048);
     holds(&rt, folders.unwrap_or(false), "folders");
+    let rules = ends_after::<Rule>(alloc, &DEEP_RULE, 5, 35);
+    holds(&rt, rules.unwrap_or(false), "rules");
 }

@@ -11,7 +11,7 @@ use nanoserde::records::{Choice, Holder, Item, Plain, Test};
 use std::alloc::{AllocError, Global};
 use std::collections::{BTreeSet, HashMap, HashSet, LinkedList};
 use test_nested::{Branch, Statement};
-use test_nested_derived::{Chain, Expression, Folder, Tree};
+use test_nested_derived::{Chain, Expression, Folder, Rule, Tree};
 use test_nested_derived_ron::Menu;
 use test_types::{
     Change, Clock, Command, Count, Empty, Entry, Event, Greetings, Hall, HallName, Marker, Message,
@@ -171,6 +171,7 @@ const ITSELF_NAMES: &[&str] = &[
     "Expression",
     "Chain",
     "Folder",
+    "Rule",
     "Menu",
     "Statement",
     "Branch",
@@ -188,9 +189,10 @@ pub(crate) fn of_itself(
         Some(1) => of_type::<Expression>(alloc, format, input),
         Some(2) => of_type::<Chain>(alloc, format, input),
         Some(3) => of_type::<Folder>(alloc, format, input),
-        Some(4) => of_type::<Menu>(alloc, format, input),
-        Some(5) => of_type::<Statement>(alloc, format, input),
-        Some(6) => of_type::<Branch>(alloc, format, input),
+        Some(4) => of_type::<Rule>(alloc, format, input),
+        Some(5) => of_type::<Menu>(alloc, format, input),
+        Some(6) => of_type::<Statement>(alloc, format, input),
+        Some(7) => of_type::<Branch>(alloc, format, input),
         _ => Ok(Outcome::Unknown),
     }
 }

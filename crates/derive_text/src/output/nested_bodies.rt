@@ -196,7 +196,7 @@ pub(crate) fn arm_of(
 ) -> Result<String, AllocError> {
     if let [line] = lines {
         let flat = format!(in alloc; "            {pattern} => {line},")?;
-        if width(last_line(flat.as_str())) <= COLUMNS {
+        if !line.contains('\n') && width(last_line(flat.as_str())) <= COLUMNS {
             return format!(in alloc; "{flat}\n");
         }
     }
