@@ -228,6 +228,23 @@ def without_levels(impls, name, fields, row):
     return "(" + ",".join(inner) + ")"
 
 
+def compare_levels(impls, name, attributes):
+    """As many levels are read in each format, and reported, as the type says."""
+    limit = attributes.get("levels")
+    for trait in {"DeBin", "DeJson", "DeRon"} & impls.traits(name):
+        chain = f"at_most({limit})" if trait == "DeBin" and limit else "most()"
+        block = impls.block(rf"(?:\w+::)?{trait} for {name}\b")
+        got = re.search(r"Levels::(\w+\(\d*\))", block)[1]
+        same(f"levels of `{trait}` for `{name}`", chain, got)
+        if trait != "DeBin":
+            got = re.search(r"\(levels, (\d+), alloc", block)[1]
+            same(f"count of `{trait}` for `{name}`", limit or "128", got)
+            reader = impls.block(rf"(?:\w+::)?Reads{trait[2:]}<{name}> for (?:\w+::)?Levels")
+            got = re.search(r"Err\((?:\w+::)?(too_\w+)\(alloc, (?:(\d+), )?state\)\)", reader).groups()
+            wanted = ("too_many_levels", limit) if limit else ("too_deep", None)
+            same(f"what is too deep in `{trait}` for `{name}`", wanted, got)
+
+
 def compare_nested(impls, kind, name, content):
     """A type that contains itself: names, types and order, and which parts hold the type itself."""
     if kind == "struct":
@@ -308,6 +325,7 @@ def compare(source, text):
             same(f"bounds of `{trait}` for `{name}`", bounds, written)
         types = [field.type for field in fields_of(kind, content)]
         if any(re.search(rf"\b{name}\b", of) for of in types):
+            compare_levels(impls, name, attributes)
             compare_nested(impls, kind, name, content)
         else:
             (compare_struct if kind == "struct" else compare_enum)(impls, name, attributes, content)

@@ -89,18 +89,17 @@ def drawn_fields(draw, types, names, in_line):
     return lines
 
 
-def drawn_parts(draw, name, names, most):
-    """The types of so many parts of a type of this name, of which at most so many hold the type itself."""
-    held = draw.sample(names, min(len(names), most))
-    held = held[: draw.randrange(len(held) + 1)]
+def drawn_parts(draw, name, names):
+    """The types of so many parts of a type of this name, of which some hold the type itself."""
+    held = draw.sample(names, draw.randrange(len(names) + 1))
     plain = lambda: draw.choice(AROUND).format(draw.choice(PLAIN))
     return [draw.choice(ITSELF).replace("$", name) if part in held else plain() for part in names]
 
 
-def drawn_nested_fields(draw, name, names, most, in_line):
-    """Named fields of a type of this name, of which at most so many hold the type itself."""
+def drawn_nested_fields(draw, name, names, in_line):
+    """Named fields of a type of this name, of which some hold the type itself."""
     lines = []
-    for field, type in zip(names, drawn_parts(draw, name, names, most)):
+    for field, type in zip(names, drawn_parts(draw, name, names)):
         if draw.random() < 0.25:
             lines.append(f'    // nanoserde: rename = "{draw.choice("xyz")}_{field}"')
         lines.append(f"    {in_line}{field}: {type},")
@@ -109,10 +108,11 @@ def drawn_nested_fields(draw, name, names, most, in_line):
 
 def drawn_nested(draw, name, formats, words):
     """A struct or an enum of this name, with a part that holds the type itself."""
-    lines = [f"// nanoserde: {formats}", "#[derive(Drop)]"]
+    levels = f', levels = "{draw.randrange(1, 129)}"' if draw.random() < 0.3 else ""
+    lines = [f"// nanoserde: {formats}{levels}", "#[derive(Drop)]"]
     itself = draw.choice(ITSELF).replace("$", name)
     if draw.random() < 0.4:
-        fields = drawn_nested_fields(draw, name, draw.sample(words, draw.randrange(5)), 9, "pub ")
+        fields = drawn_nested_fields(draw, name, draw.sample(words, draw.randrange(5)), "pub ")
         return lines + [f"pub struct {name} {{", *fields, f"    pub itself: {itself},", "}"]
     in_text = formats != "bin"
     lines += [f"pub enum {name} {{", f"    Itself({itself}),"]
@@ -122,11 +122,11 @@ def drawn_nested(draw, name, formats, words):
             lines.append(f"    {variant},")
         elif kind == 1:
             places = list(range(draw.randrange(1, 3 if in_text else 5)))
-            parts = drawn_parts(draw, name, places, 1 if "ron" in formats else 9)
+            parts = drawn_parts(draw, name, places)
             lines.append(f"    {variant}({', '.join(parts)}),")
         else:
             names = draw.sample(words, draw.randrange(1 if in_text else 0, 4))
-            fields = drawn_nested_fields(draw, name, names, 1 if in_text else 9, "    ")
+            fields = drawn_nested_fields(draw, name, names, "    ")
             lines += [f"    {variant} {{", *fields, "    },"]
     return lines + ["}"]
 
