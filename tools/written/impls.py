@@ -52,8 +52,9 @@ class Impls:
     def expanded(self, type):
         """A row of fields or variants with its aliases written out."""
         while True:
-            match = re.search(r"\b(\w+?(?:Fields|Parts|Values|Variants\d*))\b(?:<[\w,]*>)?", type)
-            if not match or match[1] not in self.aliases:
+            found = re.finditer(r"\b(\w+?(?:Fields|Parts|Values|Variants\d*))\b(?:<[\w,]*>)?", type)
+            match = next((match for match in found if match[1] in self.aliases), None)
+            if not match:
                 return type
             type = type[: match.start()] + self.aliases[match[1]] + type[match.end() :]
 
