@@ -1,0 +1,3 @@
+mod SceneCodecsLaws
+mod SceneJsonCodecsLaws
+mod SceneRonCodecsLaws

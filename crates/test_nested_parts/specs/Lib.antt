@@ -1,0 +1,3 @@
+pub mod SceneCodecs
+pub mod SceneJsonCodecs
+pub mod SceneRonCodecs
