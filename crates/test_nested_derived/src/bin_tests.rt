@@ -151,6 +151,6 @@ fn levels_run_out_after_as_many_as_are_read(rt: HostRuntime) {
     holds(&rt, chains.unwrap_or(false), "chains");
     let folders = ends_after::<Folder>(alloc, &DEEP_FOLDER, 128, 2048);
     holds(&rt, folders.unwrap_or(false), "folders");
-    let rules = ends_after::<Rule>(alloc, &DEEP_RULE, 5, 35);
+    let rules = ends_after::<Rule>(alloc, &DEEP_RULE, 5, 30);
     holds(&rt, rules.unwrap_or(false), "rules");
 }
