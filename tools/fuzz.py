@@ -61,11 +61,16 @@ def judged(form, kind, data):
 
 
 def rows_of(cases):
-    """Each case with the model's answer, as the fields of a row, or None where it judges none."""
+    """Each case with the model's answer, as the fields of a row, or None where it judges none. False stands
+    for bytes of a value that is too deep: that is out of memory, with which the program would end."""
     for form, kind, data in cases:
         verdict, text = judged(form, kind, data)
-        known = verdict != "unknown"
-        yield [form, kind, "".join([PLAIN[b] for b in data]), verdict, text] if known else None
+        if verdict == "unknown":
+            yield None
+        elif verdict == "error" and text.startswith("Memory "):
+            yield False
+        else:
+            yield [form, kind, "".join([PLAIN[b] for b in data]), verdict, text]
 
 
 def run_program(program, first, rows):
@@ -135,7 +140,7 @@ def run_block(program, oracle, first, count):
     took("model")
     differ, printed = run_program(program, first, rows)
     took("program")
-    counts = Counter({"differ": differ, "unknown to the model": rows.count(None)})
+    counts = Counter({"differ": differ, "unknown to the model": rows.count(None), "too deep": rows.count(False)})
     counts.update(f"{row[0]} {row[3]}" for row in rows if row)
     told = Counter()
     if oracle:
@@ -154,6 +159,8 @@ def print_counts(counts, told, seconds, cases):
         print(f"{count:9} {name}")
     print(", ".join(f"{part} {1e6 * time_of / cases:.0f}" for part, time_of in seconds.items())
           + ": microseconds a case, each on one core")
+    if counts["too deep"]:
+        print(f"{counts['too deep']} too deep in bytes, which are not asked")
     print(f"{cases} cases, {counts['unknown to the model']} unknown to the model, {counts['differ']} differ")
 
 
