@@ -132,7 +132,7 @@ pub(crate) fn folder_of(alloc: Global, path: &str) -> Result<String, AllocError>
 }
 
 /// The first line of each file.
-pub(crate) const HEAD: &str = "-- Written by derive_files.\n";
+pub(crate) const HEAD: &str = "-- Written by derive_files.";
 
 /// The answers for the reader of a type.
 fn read_text(
@@ -140,24 +140,30 @@ fn read_text(
     nested: &Nested<'_>,
     (goals, specs): (&str, &str),
 ) -> Result<String, AllocError> {
-    let (name, snake) = (nested.names.of.as_str(), nested.names.snake.as_str());
     let read = if nested.is_enum {
         "read_choice_within"
     } else {
         "read_record_within"
     };
-    format!(in alloc;
-        "{HEAD}use Rattle.nano_bin_nested.proofs.NestedLaws.{{seen_ok, seen_err}}
-use {specs}.{{{snake}_nested}}
-use {goals}.LevelsReadsBin{name}.+read.Goals as goal
+    let mut holes = nested.holes(alloc);
+    holes.put("HEAD", HEAD);
+    holes.put("SPECS", specs);
+    holes.put("GOALS", goals);
+    holes.put("READ", read);
+    holes.fill(READ_TEXT)
+}
+
+const READ_TEXT: &str = "\
+$HEAD
+use Rattle.nano_bin_nested.proofs.NestedLaws.{seen_ok, seen_err}
+use $SPECS.{$SNAKE_nested}
+use $GOALS.LevelsReadsBin$NAME.+read.Goals as goal
 
 pub returns-clause-ok : goal.returns-clause-ok
 returns-clause-ok t c =
-    seen_ok {snake}_nested _ _ _ c.{read}.result c.{read}.ensures.ok
+    seen_ok $SNAKE_nested _ _ _ c.$READ.result c.$READ.ensures.ok
 
 pub returns-clause-err : goal.returns-clause-err
 returns-clause-err t c =
-    seen_err {snake}_nested _ _ _ c.{read}.result c.{read}.ensures.err
-"
-    )
-}
+    seen_err $SNAKE_nested _ _ _ c.$READ.result c.$READ.ensures.err
+";

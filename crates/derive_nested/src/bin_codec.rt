@@ -21,30 +21,34 @@ pub(crate) fn bin_codec(alloc: Global, nested: &Nested<'_>) -> Result<String, Al
 
 /// The layer around values of the type itself.
 fn layer(alloc: Global, nested: &Nested<'_>) -> Result<String, AllocError> {
-    let (name, snake) = (nested.names.of.as_str(), nested.names.snake.as_str());
     let layer = layers(alloc, nested)?;
-    let head = format!(in alloc; "{snake}_layer")?;
-    let defined = if nested.is_enum {
-        format!(in alloc;
-            "abbrev pub {snake}_variants : ChoiceLayer {name} ({name}Content {name})
-{snake}_variants =
-    {layer}
+    let mut holes = nested.holes(alloc);
+    if nested.is_enum {
+        holes.put("LAYER", layer.as_str());
+        return holes.fill(VARIANTS);
+    }
+    let head = format!(in alloc; "{}_layer", nested.names.snake)?;
+    let line = equation(alloc, head.as_str(), layer.as_str())?;
+    holes.put("LAYER", line.as_str());
+    holes.fill(FIELDS)
+}
 
-abbrev pub {snake}_layer : Layer {name} ({name}Content {name})
-{head} = choice_layer {snake}_variants (λ f. lit≤ tt)
-"
-        )?
-    } else {
-        let line = equation(alloc, head.as_str(), layer.as_str())?;
-        format!(in alloc; "abbrev pub {snake}_layer : Layer {name} ({name}Content {name})\n{line}")?
-    };
-    format!(in alloc;
-        "
+const VARIANTS: &str = "
 -- ---- as bytes: the layer around the values in it, and the codec
 
-{defined}"
-    )
-}
+abbrev pub $SNAKE_variants : ChoiceLayer $NAME ($NAMEContent $NAME)
+$SNAKE_variants =
+    $LAYER
+
+abbrev pub $SNAKE_layer : Layer $NAME ($NAMEContent $NAME)
+$SNAKE_layer = choice_layer $SNAKE_variants (λ f. lit≤ tt)
+";
+
+const FIELDS: &str = "
+-- ---- as bytes: the layer around the values in it, and the codec
+
+abbrev pub $SNAKE_layer : Layer $NAME ($NAMEContent $NAME)
+$LAYER";
 
 /// The layer of a struct, or those of the variants.
 fn layers(alloc: Global, nested: &Nested<'_>) -> Result<String, AllocError> {
@@ -66,11 +70,10 @@ fn layers(alloc: Global, nested: &Nested<'_>) -> Result<String, AllocError> {
 
 /// The codec.
 fn codec(alloc: Global, nested: &Nested<'_>) -> Result<String, AllocError> {
-    let (name, snake) = (nested.names.of.as_str(), nested.names.snake.as_str());
-    format!(in alloc;
-        "
-abbrev pub {snake}_codec : Codec {name}
-{snake}_codec = nested_codec {snake}_nested
-"
-    )
+    nested.holes(alloc).fill(CODEC)
 }
+
+const CODEC: &str = "
+abbrev pub $SNAKE_codec : Codec $NAME
+$SNAKE_codec = nested_codec $SNAKE_nested
+";

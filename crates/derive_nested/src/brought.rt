@@ -15,14 +15,16 @@ pub(crate) fn declared_lines(
 ) -> Result<String, AllocError> {
     let name = nested.names.of.as_str();
     let of = format!(in alloc; "use Rattle.{module}.{name}")?;
-    format!(in alloc;
-        "{of}.{{{name}}}
-{of}.TheOpen.{{{name}-F}}
-{of}.TheViews.{{out-{name}}}
-{of}.TheFolds.{{map-{name}, fold-{name}, fold_out-{name}}}
-"
-    )
+    let mut holes = nested.holes(alloc);
+    holes.put("OF", of.as_str());
+    holes.fill(DECLARED)
 }
+
+const DECLARED: &str = "$OF.{$NAME}
+$OF.TheOpen.{$NAME-F}
+$OF.TheViews.{out-$NAME}
+$OF.TheFolds.{map-$NAME, fold-$NAME, fold_out-$NAME}
+";
 
 /// The lines that bring in what the definitions of a format of texts cite of a type.
 pub(crate) fn text_lines(
@@ -46,16 +48,21 @@ pub(crate) fn text_lines(
     } else {
         String::new(alloc)
     };
-    format!(in alloc;
-        "{of}.{{{name}}}
-{of}.TheOpen.{{{name}-F}}
-{of}.TheViews.{{out-{name}}}
-{of}.TheFolds.{{map-{name}, fold_out-{name}}}
-{specs}.{{{name}Content, {snake}_opened, {snake}_view, {snake}_means, {snake}_means_step}}
-{specs}.{{{snake}_depth, {snake}_depth_step{maps}}}
-{several}"
-    )
+    let mut holes = nested.holes(alloc);
+    holes.put("OF", of.as_str());
+    holes.put("SPECS", specs.as_str());
+    holes.put("MAPS", maps.as_str());
+    holes.put("SEVERAL", several.as_str());
+    holes.fill(TEXT_LINES)
 }
+
+const TEXT_LINES: &str = "$OF.{$NAME}
+$OF.TheOpen.{$NAME-F}
+$OF.TheViews.{out-$NAME}
+$OF.TheFolds.{map-$NAME, fold_out-$NAME}
+$SPECS.{$NAMEContent, $SNAKE_opened, $SNAKE_view, $SNAKE_means, $SNAKE_means_step}
+$SPECS.{$SNAKE_depth, $SNAKE_depth_step$MAPS}
+$SEVERAL";
 
 /// The lines that bring in what is legal, and the codec of an earlier format of texts.
 fn earlier_lines(
@@ -65,14 +72,19 @@ fn earlier_lines(
     earlier: &str,
 ) -> Result<String, AllocError> {
     let (library, _path) = crate_of(module);
-    let (snake, specs) = (nested.names.snake.as_str(), specs_of(alloc, module)?);
+    let specs = specs_of(alloc, module)?;
     let file = codecs_name_in(alloc, module, earlier)?;
-    format!(in alloc;
-        "{specs}.{{{snake}_step}}
-use Rattle.{library}.specs.{file}.{{{snake}_{earlier}_nested, {snake}_{earlier}}}
-"
-    )
+    let mut holes = nested.holes(alloc);
+    holes.put("SPECS", specs.as_str());
+    holes.put("LIBRARY", library);
+    holes.put("FILE", file.as_str());
+    holes.put("EARLIER", earlier);
+    holes.fill(EARLIER_LINES)
 }
+
+const EARLIER_LINES: &str = "$SPECS.{$SNAKE_step}
+use Rattle.$LIBRARY.specs.$FILE.{$SNAKE_$EARLIER_nested, $SNAKE_$EARLIER}
+";
 
 /// What begins a line that brings in definitions of the types of a module.
 fn specs_of(alloc: Global, module: &str) -> Result<String, AllocError> {
@@ -150,12 +162,11 @@ pub(crate) fn text_cited(
     let of = format!(in alloc; "use Rattle.{module}.{name}")?;
     let specs = specs_of(alloc, module)?;
     let file = text_codecs_name(alloc, module, format)?;
-    let (end, infix) = (format.name, format.coded.infix);
     let parts = parts_lines(alloc, of.as_str(), nested)?;
     let fields = if nested.is_enum {
         content_names(alloc, nested, format)?
     } else {
-        format!(in alloc; ", {snake}_{infix}fields")?
+        format!(in alloc; ", {snake}_{}fields", format.coded.infix)?
     };
     let means = if is_first {
         format!(in alloc; ", {snake}_means")?
@@ -163,13 +174,22 @@ pub(crate) fn text_cited(
         String::new(alloc)
     };
     let views = views_line(alloc, module, nested)?;
-    format!(in alloc;
-        "{of}.{{{name}}}
-{specs}.{{{snake}_view{means}}}
-use Rattle.{library}.specs.{file}.{{{snake}_{infix}nested, {snake}_{end}{fields}}}
-{views}{parts}"
-    )
+    let mut holes = format.holes(alloc, nested);
+    holes.put("OF", of.as_str());
+    holes.put("SPECS", specs.as_str());
+    holes.put("LIBRARY", library);
+    holes.put("FILE", file.as_str());
+    holes.put("MEANS", means.as_str());
+    holes.put("FIELDS", fields.as_str());
+    holes.put("VIEWS", views.as_str());
+    holes.put("PARTS", parts.as_str());
+    holes.fill(TEXT_CITED)
 }
+
+const TEXT_CITED: &str = "$OF.{$NAME}
+$SPECS.{$SNAKE_view$MEANS}
+use Rattle.$LIBRARY.specs.$FILE.{$SNAKE_$INFIXnested, $SNAKE_$FORMAT$FIELDS}
+$VIEWS$PARTS";
 
 /// The names of the layers of the named fields of variants, each after a comma.
 pub(crate) fn content_names(

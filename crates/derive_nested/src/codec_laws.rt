@@ -69,18 +69,20 @@ pub(crate) fn law_end(alloc: Global, held: &Held<'_>) -> Result<String, AllocErr
 
 /// The laws of a struct.
 fn struct_laws(alloc: Global, nested: &Nested<'_>, held: &Held<'_>) -> Result<String, AllocError> {
-    let (name, snake) = (nested.names.of.as_str(), nested.names.snake.as_str());
     let written = itself_at(alloc, nested, held.row.written.as_str())?;
     let legal = struct_legal(alloc, nested, held, &bytes(alloc, nested)?)?;
-    format!(in alloc;
-        "
-pub {snake}_written : (x : {name})
-    → {snake}_codec.canonical.written x
-    ≡ {written}
-{snake}_written x = written_seen {snake}_nested x ({snake}_view x) refl
-{legal}"
-    )
+    let mut holes = nested.holes(alloc);
+    holes.put("WRITTEN", written.as_str());
+    holes.put("LEGAL", legal.as_str());
+    holes.fill(STRUCT_LAWS)
 }
+
+const STRUCT_LAWS: &str = "
+pub $SNAKE_written : (x : $NAME)
+    → $SNAKE_codec.canonical.written x
+    ≡ $WRITTEN
+$SNAKE_written x = written_seen $SNAKE_nested x ($SNAKE_view x) refl
+$LEGAL";
 
 /// What a variant at its place is seen as.
 fn view_law(
@@ -95,15 +97,20 @@ fn view_law(
         view,
         ..
     } = variant_at(alloc, nested, held, i)?;
-    let (snake, end) = (nested.names.snake.as_str(), law_end(alloc, held)?);
-    let parts = binders(alloc, nested, held)?;
-    format!(in alloc;
-        "
-pub {snake}_view_{end} : {parts}{snake}_view {value} ≡ {seen}
-{view} = search (rules, the_lemmas)
-"
-    )
+    let (end, parts) = (law_end(alloc, held)?, binders(alloc, nested, held)?);
+    let mut holes = nested.holes(alloc);
+    holes.put("END", end.as_str());
+    holes.put("PARTS", parts.as_str());
+    holes.put("VALUE", value.as_str());
+    holes.put("SEEN", seen.as_str());
+    holes.put("VIEW", view.as_str());
+    holes.fill(VIEW_LAW)
 }
+
+const VIEW_LAW: &str = "
+pub $SNAKE_view_$END : $PARTS$SNAKE_view $VALUE ≡ $SEEN
+$VIEW = search (rules, the_lemmas)
+";
 
 /// A value of a variant, as ghost terms.
 #[derive(Drop)]
@@ -151,16 +158,25 @@ fn variant_laws(
     )?;
     let legal = variant_legal(alloc, nested, (held, i), &bytes(alloc, nested)?)?;
     let written = itself_at(alloc, nested, held.row.written.as_str())?;
-    format!(in alloc;
-        "
-pub {snake}_written_{end} : {parts}{snake}_codec.canonical.written {value}
-    ≡ little_endian 2 {i}
-    ++ {written}
-{snake}_written_{end}{values} =
-    written_seen {of}
-{legal}"
-    )
+    let mut holes = nested.holes(alloc);
+    holes.put("END", end.as_str());
+    holes.put("PARTS", parts.as_str());
+    holes.put("VALUE", value.as_str());
+    holes.put("PLACE", format!(in alloc; "{i}")?.as_str());
+    holes.put("WRITTEN", written.as_str());
+    holes.put("GIVEN", values.as_str());
+    holes.put("LAW", of.as_str());
+    holes.put("LEGAL", legal.as_str());
+    holes.fill(VARIANT_LAWS)
 }
+
+const VARIANT_LAWS: &str = "
+pub $SNAKE_written_$END : $PARTS$SNAKE_codec.canonical.written $VALUE
+    ≡ little_endian 2 $PLACE
+    ++ $WRITTEN
+$SNAKE_written_$END$GIVEN =
+    written_seen $LAW
+$LEGAL";
 
 /// What bytes call legal.
 fn bytes(alloc: Global, nested: &Nested<'_>) -> Result<Known, AllocError> {

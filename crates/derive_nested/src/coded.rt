@@ -50,7 +50,6 @@ pub {name} : {{a b : ℕ}} → a ≡ b → a ≡ max 0 b
 
 /// That what a value means and how deep it is are said by the layer.
 fn opened(alloc: Global, nested: &Nested<'_>, infix: &str) -> Result<String, AllocError> {
-    let (name, snake) = (nested.names.of.as_str(), nested.names.snake.as_str());
     let mut means = Vec::new(alloc);
     let mut depths = Vec::new(alloc);
     for (i, held) in nested.contents.iter().enumerate() {
@@ -71,35 +70,40 @@ fn opened(alloc: Global, nested: &Nested<'_>, infix: &str) -> Result<String, All
         format!(in alloc; "{infix}depth_opened")?.as_str(),
         &depths,
     )?;
-    format!(in alloc;
-        "
-pub {snake}_{infix}means_opened : (y : {name}-F {name})
-    → {snake}_means_step (map-{name} {name} Meaning {snake}_means y)
-    ≡ {snake}_{infix}layer.means {snake}_means ({snake}_opened y)
-{means}
-pub {snake}_{infix}depth_opened : (y : {name}-F {name})
-    → {snake}_depth_step (map-{name} {name} ℕ {snake}_depth y)
-    ≡ {snake}_{infix}layer.deep {snake}_depth ({snake}_opened y)
-{depths}"
-    )
+    let mut holes = nested.holes(alloc);
+    holes.put("INFIX", infix);
+    holes.put("MEANS", means.as_str());
+    holes.put("DEPTHS", depths.as_str());
+    holes.fill(OPENED)
 }
+
+const OPENED: &str = "
+pub $SNAKE_$INFIXmeans_opened : (y : $NAME-F $NAME)
+    → $SNAKE_means_step (map-$NAME $NAME Meaning $SNAKE_means y)
+    ≡ $SNAKE_$INFIXlayer.means $SNAKE_means ($SNAKE_opened y)
+$MEANS
+pub $SNAKE_$INFIXdepth_opened : (y : $NAME-F $NAME)
+    → $SNAKE_depth_step (map-$NAME $NAME ℕ $SNAKE_depth y)
+    ≡ $SNAKE_$INFIXlayer.deep $SNAKE_depth ($SNAKE_opened y)
+$DEPTHS";
 
 /// The record of the layer, and of what a value is seen as, means and how deep it is.
 fn record(alloc: Global, nested: &Nested<'_>, format: Coded) -> Result<String, AllocError> {
-    let (name, snake) = (nested.names.of.as_str(), nested.names.snake.as_str());
-    let Coded { infix, of } = format;
-    format!(in alloc;
-        "
-abbrev pub {snake}_{infix}nested : Nested {of}{name}
-{snake}_{infix}nested = record {{
-  Seen = {name}Content {name};
-  layer = {snake}_{infix}layer;
-  view = {snake}_view;
-  means = {snake}_means;
-  depth = {snake}_depth;
-  means_is = λ x. fold_out-{name} Meaning {snake}_means_step x ∙ {snake}_{infix}means_opened (out-{name} x);
-  depth_is = λ x. fold_out-{name} ℕ {snake}_depth_step x ∙ {snake}_{infix}depth_opened (out-{name} x);
-}}
-"
-    )
+    let mut holes = nested.holes(alloc);
+    holes.put("INFIX", format.infix);
+    holes.put("OF", format.of);
+    holes.fill(RECORD)
 }
+
+const RECORD: &str = "
+abbrev pub $SNAKE_$INFIXnested : Nested $OF$NAME
+$SNAKE_$INFIXnested = record {
+  Seen = $NAMEContent $NAME;
+  layer = $SNAKE_$INFIXlayer;
+  view = $SNAKE_view;
+  means = $SNAKE_means;
+  depth = $SNAKE_depth;
+  means_is = λ x. fold_out-$NAME Meaning $SNAKE_means_step x ∙ $SNAKE_$INFIXmeans_opened (out-$NAME x);
+  depth_is = λ x. fold_out-$NAME ℕ $SNAKE_depth_step x ∙ $SNAKE_$INFIXdepth_opened (out-$NAME x);
+}
+";

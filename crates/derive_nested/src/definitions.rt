@@ -26,8 +26,7 @@ pub(crate) fn definitions(
 
 /// What a value is seen as.
 fn seen(alloc: Global, nested: &Nested<'_>) -> Result<String, AllocError> {
-    let (name, snake) = (nested.names.of.as_str(), nested.names.snake.as_str());
-    let head = format!(in alloc; "{name}Content X")?;
+    let head = format!(in alloc; "{}Content X", nested.names.of)?;
     let content = nested.seen(alloc, "X")?;
     let content = equation(alloc, head.as_str(), content.as_str())?;
     let mut values = Vec::new(alloc);
@@ -35,19 +34,22 @@ fn seen(alloc: Global, nested: &Nested<'_>) -> Result<String, AllocError> {
         values.push(nested.at_place(alloc, i, held.row.value.as_str())?)?;
     }
     let opened = cases(alloc, nested, "opened", &values)?;
-    format!(in alloc;
-        "
--- ==== {name}: what a value is seen as
-
-abbrev pub {name}Content : Type 0 → Type 0
-{content}
-abbrev pub {snake}_opened : {{X : Type 0}} → {name}-F X → {name}Content X
-{opened}
-abbrev pub {snake}_view : {name} → {name}Content {name}
-{snake}_view x = {snake}_opened (out-{name} x)
-"
-    )
+    let mut holes = nested.holes(alloc);
+    holes.put("CONTENT", content.as_str());
+    holes.put("OPENED", opened.as_str());
+    holes.fill(SEEN)
 }
+
+const SEEN: &str = "
+-- ==== $NAME: what a value is seen as
+
+abbrev pub $NAMEContent : Type 0 → Type 0
+$CONTENT
+abbrev pub $SNAKE_opened : {X : Type 0} → $NAME-F X → $NAMEContent X
+$OPENED
+abbrev pub $SNAKE_view : $NAME → $NAMEContent $NAME
+$SNAKE_view x = $SNAKE_opened (out-$NAME x)
+";
 
 /// How many columns a line has.
 const COLUMNS: usize = 100;
@@ -93,7 +95,6 @@ fn pattern(alloc: Global, nested: &Nested<'_>, held: &Held<'_>) -> Result<String
 
 /// What a value means, and how deep it is.
 fn meant(alloc: Global, nested: &Nested<'_>) -> Result<String, AllocError> {
-    let (name, snake) = (nested.names.of.as_str(), nested.names.snake.as_str());
     let mut steps = Vec::new(alloc);
     let mut depths = Vec::new(alloc);
     for (i, held) in nested.contents.iter().enumerate() {
@@ -102,22 +103,25 @@ fn meant(alloc: Global, nested: &Nested<'_>) -> Result<String, AllocError> {
     }
     let steps = cases(alloc, nested, "means_step", &steps)?;
     let depths = cases(alloc, nested, "depth_step", &depths)?;
-    format!(in alloc;
-        "
+    let mut holes = nested.holes(alloc);
+    holes.put("STEPS", steps.as_str());
+    holes.put("DEPTHS", depths.as_str());
+    holes.fill(MEANT)
+}
+
+const MEANT: &str = "
 -- ---- what it means, and how deep it is
 
-abbrev pub {snake}_means_step : {name}-F Meaning → Meaning
-{steps}
-abbrev pub {snake}_means : {name} → Meaning
-{snake}_means = fold-{name} Meaning {snake}_means_step
+abbrev pub $SNAKE_means_step : $NAME-F Meaning → Meaning
+$STEPS
+abbrev pub $SNAKE_means : $NAME → Meaning
+$SNAKE_means = fold-$NAME Meaning $SNAKE_means_step
 
-abbrev pub {snake}_depth_step : {name}-F ℕ → ℕ
-{depths}
-abbrev pub {snake}_depth : {name} → ℕ
-{snake}_depth = fold-{name} ℕ {snake}_depth_step
-"
-    )
-}
+abbrev pub $SNAKE_depth_step : $NAME-F ℕ → ℕ
+$DEPTHS
+abbrev pub $SNAKE_depth : $NAME → ℕ
+$SNAKE_depth = fold-$NAME ℕ $SNAKE_depth_step
+";
 
 /// What a value of a variant at its place means, or one of the struct.
 fn step(

@@ -4,21 +4,20 @@ ghost use Rattle.std.specs.Prelude.{IfErr};
 ghost use Rattle.derive_syntax.specs.Errors.{IsErrorIn};
 
 use crate::answers::{Answers, answers_of};
-use crate::bin_codec::bin_codec;
-use crate::brought::{cited_lines, declared_lines, text_cited, text_codecs_name, text_lines};
+use crate::bodies::{
+    Body, File, append_definitions, append_laws, append_text_definitions, append_text_laws,
+};
+use crate::brought::text_codecs_name;
 use crate::cited::{BYTES, SHARED};
-use crate::codec_laws::codec_laws;
-use crate::definitions::definitions;
-use crate::formats::{before, has_several, has_text};
+use crate::formats::has_text;
 use crate::imports::{Known, imports};
 use crate::nested::nested_of;
 use crate::ron_cited::RON as RON_CITED;
 use crate::text_cited::{JSON as JSON_CITED, TEXTS};
-use crate::text_codec::{JSON, RON, TextTerms, text_codec};
-use crate::text_laws::text_laws;
+use crate::text_codec::{JSON, RON, TextTerms};
 use derive_syntax::{
-    Definition, DeriveError, Fault, check_source, codecs_name, error_of, source_of, text_above,
-    tokens_of,
+    Definition, DeriveError, Fault, Source, check_source, codecs_name, error_of, source_of,
+    text_above, tokens_of,
 };
 use std::alloc::{AllocError, Global};
 
@@ -83,10 +82,9 @@ fn files(alloc: Global, module: &str, source: &str) -> Result<Vec<NestedFile>, F
     check_source(alloc, &source)?;
     let mut files = Vec::new(alloc);
     if contain_themselves(&source.definitions) {
-        append_codecs(alloc, module, &source.definitions, &mut files)?;
-        let types = source.definitions.as_slice();
-        append_texts(alloc, module, types, (&JSON, &JSON_CITED), &mut files)?;
-        append_texts(alloc, module, types, (&RON, &RON_CITED), &mut files)?;
+        append_codecs(alloc, module, &source, &mut files)?;
+        append_texts(alloc, module, &source, (&JSON, &JSON_CITED), &mut files)?;
+        append_texts(alloc, module, &source, (&RON, &RON_CITED), &mut files)?;
         append_answers(alloc, module, &source.definitions, &mut files)?;
     }
     Ok(files)
@@ -111,37 +109,22 @@ fn contain_themselves(types: &[Definition<'_>]) -> bool {
 fn append_codecs<'a>(
     alloc: Global,
     module: &str,
-    types: &[Definition<'a>],
+    source: &Source<'a>,
     files: &mut Vec<NestedFile>,
 ) -> Result<(), Fault> {
+    let name = codecs_name(alloc, module)?;
+    let file = File {
+        module,
+        name: name.as_str(),
+    };
     let mut specs = Body::new(alloc);
     let mut proofs = Body::new(alloc);
-    for definition in types {
-        if !is_nested(definition) {
-            continue;
+    for definition in &source.definitions {
+        if is_nested(definition) {
+            append_definitions(alloc, file, (source, definition), &mut specs)?;
+            append_laws(alloc, file, (source, definition), &mut proofs)?;
         }
-        let nested = nested_of(alloc, definition, "y")?;
-        let several = has_several(definition.attributes);
-        specs
-            .text
-            .push_str(definitions(alloc, &nested, several)?.as_str())?;
-        if definition.attributes.bin.is_used() {
-            specs.text.push_str(bin_codec(alloc, &nested)?.as_str())?;
-        }
-        specs
-            .brought
-            .push_str(declared_lines(alloc, module, &nested)?.as_str())?;
-        let value = format!(in alloc; "(out-{} x)", definition.name.text)?;
-        let nested = nested_of(alloc, definition, value.as_str())?;
-        let has_bin = definition.attributes.bin.is_used();
-        proofs
-            .text
-            .push_str(codec_laws(alloc, &nested, has_bin)?.as_str())?;
-        proofs
-            .brought
-            .push_str(cited_lines(alloc, module, &nested, has_bin)?.as_str())?;
     }
-    let name = codecs_name(alloc, module)?;
     let tables: [&[Known]; 2] = [&SHARED, &BYTES];
     files.push(specs_file(alloc, name.as_str(), &specs, &tables)?)?;
     files.push(proofs_file(alloc, name.as_str(), &proofs, &tables)?)?;
@@ -152,59 +135,30 @@ fn append_codecs<'a>(
 fn append_texts<'a>(
     alloc: Global,
     module: &str,
-    types: &[Definition<'a>],
+    source: &Source<'a>,
     (format, cited): (&TextTerms, &[Known]),
     files: &mut Vec<NestedFile>,
 ) -> Result<(), Fault> {
+    let name = text_codecs_name(alloc, module, format)?;
+    let file = File {
+        module,
+        name: name.as_str(),
+    };
     let mut specs = Body::new(alloc);
     let mut proofs = Body::new(alloc);
-    for definition in types {
-        if !is_nested(definition) || !has_text(definition.attributes, format) {
-            continue;
+    for definition in &source.definitions {
+        if is_nested(definition) && has_text(definition.attributes, format) {
+            append_text_definitions(alloc, file, (source, definition, format), &mut specs)?;
+            append_text_laws(alloc, file, (source, definition, format), &mut proofs)?;
         }
-        let before = before(definition.attributes, format);
-        let nested = nested_of(alloc, definition, "y")?;
-        specs
-            .text
-            .push_str(text_codec(alloc, &nested, format, before)?.as_str())?;
-        specs
-            .brought
-            .push_str(text_lines(alloc, module, &nested, before)?.as_str())?;
-        let value = format!(in alloc; "(out-{} x)", definition.name.text)?;
-        let nested = nested_of(alloc, definition, value.as_str())?;
-        let is_first = before.is_none();
-        proofs
-            .text
-            .push_str(text_laws(alloc, &nested, format, is_first)?.as_str())?;
-        proofs.brought.push_str(text_cited(alloc, module, &nested, format, is_first)?.as_str())?;
     }
     if specs.text.is_empty() {
         return Ok(());
     }
-    let name = text_codecs_name(alloc, module, format)?;
     let tables: [&[Known]; 3] = [&SHARED, &TEXTS, cited];
     files.push(specs_file(alloc, name.as_str(), &specs, &tables)?)?;
     files.push(proofs_file(alloc, name.as_str(), &proofs, &tables)?)?;
     Ok(())
-}
-
-/// What a file of ghost terms says.
-#[derive(Drop)]
-struct Body {
-    /// The lines that bring in what is declared of its types.
-    brought: String,
-    /// Its definitions or laws.
-    text: String,
-}
-
-impl Body {
-    /// Nothing.
-    fn new(alloc: Global) -> Body {
-        Body {
-            brought: String::new(alloc),
-            text: String::new(alloc),
-        }
-    }
 }
 
 /// A file of definitions.

@@ -5,6 +5,7 @@ use crate::answers::HEAD;
 use crate::brought::content_names;
 use crate::json_rows::{Appended, fields_proof};
 use crate::nested::{Held, Nested};
+use crate::template::Holes;
 use crate::text_codec::JSON;
 use crate::text_fields::{field_name, has_contents, has_long_row};
 use crate::text_layers::content_name;
@@ -21,20 +22,16 @@ pub(crate) fn written_text(
     if nested.is_enum && !has_contents(nested) {
         return Ok(None);
     }
-    let (snake, cited) = (nested.names.snake.as_str(), cited_laws(alloc, nested)?);
+    let cited = cited_laws(alloc, nested)?;
     let specs = cited_definitions(alloc, nested, (library, stem))?;
-    let mut text = format!(in alloc;
-        "{HEAD}use Rattle.std.proofs.Common.{{◌++◌, true, string_bytes}}
-use Rattle.std.proofs.lemmas.Result.{{on_ok_weaker}}
-use Rattle.nano_grammar.specs.FieldCodec.{{field_text}}
-use Rattle.nano_text.proofs.RollbackLaws.{{unchanged_by}}
-use Rattle.nano_json_schema.specs.FieldCodecs.{{json_fields}}
-use Rattle.nano_json_schema.proofs.WrittenFields.{{more_fields}}
-use Rattle.nano_json_nested.proofs.WrittenLaws.{{written_between}}
-use Rattle.{library}.proofs.{stem}JsonCodecsLaws.{{{cited}}}
-{specs}use {goals}.+write_{snake}_json.Goals as goal
-"
-    )?;
+    let mut holes = nested.holes(alloc);
+    holes.put("HEAD", HEAD);
+    holes.put("LIBRARY", library);
+    holes.put("STEM", stem);
+    holes.put("CITED", cited.as_str());
+    holes.put("SPECS", specs.as_str());
+    holes.put("GOALS", goals);
+    let mut text = holes.fill(WRITTEN_TEXT)?;
     for held in &nested.contents {
         let answers = if !nested.is_enum {
             struct_answers(alloc, nested, held)?
@@ -47,6 +44,19 @@ use Rattle.{library}.proofs.{stem}JsonCodecsLaws.{{{cited}}}
     }
     Ok(Some(text))
 }
+
+const WRITTEN_TEXT: &str = "\
+$HEAD
+use Rattle.std.proofs.Common.{◌++◌, true, string_bytes}
+use Rattle.std.proofs.lemmas.Result.{on_ok_weaker}
+use Rattle.nano_grammar.specs.FieldCodec.{field_text}
+use Rattle.nano_text.proofs.RollbackLaws.{unchanged_by}
+use Rattle.nano_json_schema.specs.FieldCodecs.{json_fields}
+use Rattle.nano_json_schema.proofs.WrittenFields.{more_fields}
+use Rattle.nano_json_nested.proofs.WrittenLaws.{written_between}
+use Rattle.$LIBRARY.proofs.$STEMJsonCodecsLaws.{$CITED}
+$SPECSuse $GOALS.+write_$SNAKE_json.Goals as goal
+";
 
 /// The lines that bring in the definitions that the answers for variants cite, if a type has such.
 fn cited_definitions(
@@ -95,17 +105,20 @@ fn cited_fields(alloc: Global, nested: &Nested<'_>, held: &Held<'_>) -> Result<S
 
 /// That nothing is left of what is not written whole, by this function, in this call.
 fn rollback(alloc: Global, function: &str, call: &str) -> Result<String, AllocError> {
-    format!(in alloc;
-        "
-pub {function}-rollback_on_error-requires :
-    goal.{function}-rollback_on_error-requires
-{function}-rollback_on_error-requires t c =
-    unchanged_by c.{call}-written.result c.args.s.now.out
-    c.{call}-written.new.s.out c.len-start.result _ c.len-start.ensures
-    c.{call}-written.ensures.ok c.{call}-written.ensures.err
-"
-    )
+    let mut holes = Holes::new(alloc);
+    holes.put("FUNCTION", function);
+    holes.put("CALL", call);
+    holes.fill(ROLLBACK)
 }
+
+const ROLLBACK: &str = "
+pub $FUNCTION-rollback_on_error-requires :
+    goal.$FUNCTION-rollback_on_error-requires
+$FUNCTION-rollback_on_error-requires t c =
+    unchanged_by c.$CALL-written.result c.args.s.now.out
+    c.$CALL-written.new.s.out c.len-start.result _ c.len-start.ensures
+    c.$CALL-written.ensures.ok c.$CALL-written.ensures.err
+";
 
 /// What the fields append between braces, as a ghost term of this many levels.
 fn between(alloc: Global, row: &Appended, inside: &str) -> Result<String, AllocError> {
@@ -145,17 +158,22 @@ fn struct_answers(
         opening(alloc, &row)?,
         between(alloc, &row, inside.as_str())?,
     );
-    format!(in alloc;
-        "{rollback}
-pub {append}-returns-clause-ok : goal.{append}-returns-clause-ok
-{append}-returns-clause-ok t c =
-    let x = c.args.value.now in
-{opening}
-    rw ({snake}_json_text c.args.d x)
-    {between}
-"
-    )
+    let mut holes = nested.holes(alloc);
+    holes.put("ROLLBACK", rollback.as_str());
+    holes.put("APPEND", append.as_str());
+    holes.put("OPENING", opening.as_str());
+    holes.put("BETWEEN", between.as_str());
+    holes.fill(STRUCT_ANSWERS)
 }
+
+const STRUCT_ANSWERS: &str = "$ROLLBACK
+pub $APPEND-returns-clause-ok : goal.$APPEND-returns-clause-ok
+$APPEND-returns-clause-ok t c =
+    let x = c.args.value.now in
+$OPENING
+    rw ($SNAKE_json_text c.args.d x)
+    $BETWEEN
+";
 
 /// The answers for what writes a variant with named fields.
 fn variant_answers(
@@ -174,15 +192,21 @@ fn variant_answers(
         between(alloc, &row, inside.as_str())?,
     );
     let content = content_answer(alloc, nested, held, append.as_str())?;
-    format!(in alloc;
-        "{rollback}
-pub {append}_fields-returns-clause-ok : goal.{append}_fields-returns-clause-ok
-{append}_fields-returns-clause-ok t c =
-{opening}
-    {between}
-{content}"
-    )
+    let mut holes = Holes::new(alloc);
+    holes.put("ROLLBACK", rollback.as_str());
+    holes.put("APPEND", append.as_str());
+    holes.put("OPENING", opening.as_str());
+    holes.put("BETWEEN", between.as_str());
+    holes.put("CONTENT", content.as_str());
+    holes.fill(VARIANT_ANSWERS)
 }
+
+const VARIANT_ANSWERS: &str = "$ROLLBACK
+pub $APPEND_fields-returns-clause-ok : goal.$APPEND_fields-returns-clause-ok
+$APPEND_fields-returns-clause-ok t c =
+$OPENING
+    $BETWEEN
+$CONTENT";
 
 /// The answer for the function that appends a variant with named fields: its name, and the fields.
 fn content_answer(
@@ -194,21 +218,26 @@ fn content_answer(
     let snake = nested.names.snake.as_str();
     let content = content_name(alloc, &JSON, snake, held)?;
     let (key, values) = (held.key.as_str(), arguments(alloc, 0, held.leaves.len())?);
-    format!(in alloc;
-        "
-pub {append}-returns-clause-ok : goal.{append}-returns-clause-ok
-{append}-returns-clause-ok t c =
+    let mut holes = nested.holes(alloc);
+    holes.put("APPEND", append);
+    holes.put("KEY", key);
+    holes.put("CONTENT", content.as_str());
+    holes.put("VALUES", values.as_str());
+    holes.fill(CONTENT_ANSWER)
+}
+
+const CONTENT_ANSWER: &str = "
+pub $APPEND-returns-clause-ok : goal.$APPEND-returns-clause-ok
+$APPEND-returns-clause-ok t c =
     on_ok_weaker c.st_post.result
-    ({snake}_json_between (written_text (codes \"{key}\"))
-    (({content}.codec {snake}_json).canonical.text c.args.d {values})
+    ($SNAKE_json_between (written_text (codes \"$KEY\"))
+    (($CONTENT.codec $SNAKE_json).canonical.text c.args.d $VALUES)
     (string_bytes c.args.s.now.out) (string_bytes c.st_pre.new.self.out)
     (string_bytes c.ser_json.new.s.out) (string_bytes c.push_str.new.self)
-    (string_bytes c.{append}_fields.new.s.out) (string_bytes c.st_post.new.self.out)
+    (string_bytes c.$APPEND_fields.new.s.out) (string_bytes c.st_post.new.self.out)
     c.in_ok-st_pre.ensures.ok c.in_ok-ser_json.ensures.ok c.in_ok-push_str.ensures.bytes
-    c.in_ok-{append}_fields.ensures.ok) c.st_post.ensures.ok
-"
-    )
-}
+    c.in_ok-$APPEND_fields.ensures.ok) c.st_post.ensures.ok
+";
 
 /// The values of the fields from one place up to another, as nested pairs of arguments.
 fn arguments(alloc: Global, from: usize, end: usize) -> Result<String, AllocError> {

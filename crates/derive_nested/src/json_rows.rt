@@ -48,21 +48,33 @@ fn row_proof(
     let before = state_before(alloc, held, from)?;
     let between = state_before(alloc, held, middle)?;
     let after = state_before(alloc, held, end)?;
+    let mut holes = nested.holes(alloc);
+    holes.put("FIRST", first.as_str());
+    holes.put("SECOND", next.as_str());
+    holes.put("LAST", last.as_str());
+    holes.put("ONE_FIELDS", one.fields.as_str());
+    holes.put("OTHER_FIELDS", other.fields.as_str());
+    holes.put("ONE_OK", one.ok.as_str());
+    holes.put("ONE_NEXT", one.next.as_str());
+    holes.put("OTHER_OK", other.ok.as_str());
+    holes.put("OTHER_NEXT", other.next.as_str());
+    holes.put("BEFORE", before.as_str());
+    holes.put("BETWEEN", between.as_str());
+    holes.put("AFTER", after.as_str());
     Ok(Appended {
         fields: format!(in alloc; "({} ++ {})", one.fields, other.fields)?,
-        ok: format!(in alloc;
-            "more_fields (field_text json_fields inner) {first} {next} {} {}
-    {before} {between} {after}
-    ({}) ({}) ({})",
-            one.fields, other.fields, one.ok, one.next, other.ok
-        )?,
-        next: format!(in alloc;
-            "{}_json_none_so_far {first} {next} {last} {} {}
-    ({}) ({})",
-            nested.names.snake, one.fields, other.fields, one.next, other.next
-        )?,
+        ok: holes.fill(MORE_FIELDS)?,
+        next: holes.fill(NONE_SO_FAR)?,
     })
 }
+
+const NONE_SO_FAR: &str = "$SNAKE_json_none_so_far $FIRST $SECOND $LAST $ONE_FIELDS $OTHER_FIELDS
+    ($ONE_NEXT) ($OTHER_NEXT)";
+
+const MORE_FIELDS: &str = "more_fields (field_text json_fields inner) \
+    $FIRST $SECOND $ONE_FIELDS $OTHER_FIELDS
+    $BEFORE $BETWEEN $AFTER
+    ($ONE_OK) ($ONE_NEXT) ($OTHER_OK)";
 
 /// What is proved of the field at a place.
 fn field_proof(

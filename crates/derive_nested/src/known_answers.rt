@@ -21,15 +21,24 @@ pub(crate) fn known_answers(
     let name = nested.names.of.as_str();
     let folder = folder_of(alloc, path)?;
     let (cited, answers) = answered(alloc, nested)?;
+    let mut holes = nested.holes(alloc);
+    holes.put("HEAD", HEAD);
+    holes.put("LIBRARY", library);
+    holes.put("FILE", file);
+    holes.put("CITED", cited.as_str());
+    holes.put("PATH", path);
+    holes.put("ANSWERS", answers.as_str());
     Ok(Answers {
         path: format!(in alloc; "{folder}/{name}Value/+known/Answers.antt")?,
-        text: format!(in alloc;
-            "{HEAD}use Rattle.{library}.proofs.{file}Laws.{{{cited}}}
-use Rattle.{library}.proofs{path}.derived.{name}Value.+known.Goals as goal
-{answers}"
-        )?,
+        text: holes.fill(KNOWN_ANSWERS)?,
     })
 }
+
+const KNOWN_ANSWERS: &str = "\
+$HEAD
+use Rattle.$LIBRARY.proofs.$FILELaws.{$CITED}
+use Rattle.$LIBRARY.proofs$PATH.derived.$NAMEValue.+known.Goals as goal
+$ANSWERS";
 
 /// The names of the laws of the variants, and the answers by them.
 fn answered(alloc: Global, nested: &Nested<'_>) -> Result<(String, String), AllocError> {

@@ -22,20 +22,25 @@ pub(crate) fn struct_legal(
     held: &Held<'_>,
     known: &Known,
 ) -> Result<String, AllocError> {
-    let (name, snake) = (nested.names.of.as_str(), nested.names.snake.as_str());
     let Known { codec, law } = known;
     let premises = premises(alloc, held, codec.as_str())?;
     let (hypotheses, legal) = (hypotheses(alloc, held)?, held.row.legal.as_str());
-    format!(in alloc;
-        "
-pub {snake}_legal : (x : {name}){premises}
-    → {codec}.encoding.legal ({snake}_means x)
-{snake}_legal x{hypotheses} =
-    {law} x ({snake}_view x) refl
-    {legal}
-"
-    )
+    let mut holes = nested.holes(alloc);
+    holes.put("PREMISES", premises.as_str());
+    holes.put("CODEC", codec.as_str());
+    holes.put("HYPOTHESES", hypotheses.as_str());
+    holes.put("LAW", law.as_str());
+    holes.put("LEGAL", legal);
+    holes.fill(STRUCT_LEGAL)
 }
+
+const STRUCT_LEGAL: &str = "
+pub $SNAKE_legal : (x : $NAME)$PREMISES
+    → $CODEC.encoding.legal ($SNAKE_means x)
+$SNAKE_legal x$HYPOTHESES =
+    $LAW x ($SNAKE_view x) refl
+    $LEGAL
+";
 
 /// That a variant at its place is legal.
 pub(crate) fn variant_legal(
@@ -44,7 +49,6 @@ pub(crate) fn variant_legal(
     (held, i): (&Held<'_>, usize),
     known: &Known,
 ) -> Result<String, AllocError> {
-    let snake = nested.names.snake.as_str();
     let Known { codec, law } = known;
     let (end, values) = (law_end(alloc, held)?, held.values(alloc)?);
     let Variant { value, seen, view } = variant_at(alloc, nested, held, i)?;
@@ -52,15 +56,27 @@ pub(crate) fn variant_legal(
     let parts = binders(alloc, nested, held)?;
     let premises = premises(alloc, held, codec.as_str())?;
     let (hypotheses, legal) = (hypotheses(alloc, held)?, legal_at(alloc, held, i)?);
-    format!(in alloc;
-        "
-pub {snake}_legal_{end} : {parts}{premises}{codec}.encoding.legal ({snake}_means {value})
-{snake}_legal_{end}{values}{hypotheses} =
-    {law} {value} {seen} {view}
-    {legal}
-"
-    )
+    let mut holes = nested.holes(alloc);
+    holes.put("END", end.as_str());
+    holes.put("PARTS", parts.as_str());
+    holes.put("PREMISES", premises.as_str());
+    holes.put("CODEC", codec.as_str());
+    holes.put("VALUE", value.as_str());
+    holes.put("GIVEN", values.as_str());
+    holes.put("HYPOTHESES", hypotheses.as_str());
+    holes.put("LAW", law.as_str());
+    holes.put("SEEN", seen.as_str());
+    holes.put("VIEW", view.as_str());
+    holes.put("LEGAL", legal.as_str());
+    holes.fill(VARIANT_LEGAL)
 }
+
+const VARIANT_LEGAL: &str = "
+pub $SNAKE_legal_$END : $PARTS$PREMISES$CODEC.encoding.legal ($SNAKE_means $VALUE)
+$SNAKE_legal_$END$GIVEN$HYPOTHESES =
+    $LAW $VALUE $SEEN $VIEW
+    $LEGAL
+";
 
 /// That each part is legal, as arguments of a law.
 fn premises(alloc: Global, held: &Held<'_>, itself: &str) -> Result<String, AllocError> {

@@ -5,6 +5,7 @@
 
 mod answers;
 mod bin_codec;
+mod bodies;
 mod brought;
 mod cases;
 mod cited;
@@ -20,12 +21,14 @@ mod known_answers;
 mod legal_laws;
 mod maps;
 mod nested;
+mod others;
 mod part;
 mod ron_answers;
 mod ron_cited;
 mod ron_contents;
 mod ron_rows;
 mod row;
+mod template;
 mod text_answers;
 mod text_cited;
 mod text_codec;

@@ -2,6 +2,7 @@
 
 use crate::part::Names;
 use crate::row::{Leaf, Row, row_of};
+use crate::template::Holes;
 use crate::wrapped::{at, atom, part_of};
 use derive_syntax::{
     Case, Content, Definition, Fault, Field, Shape, Token, Type, Variant, field_name, nested_part,
@@ -216,6 +217,15 @@ fn field_names(alloc: Global, fields: &[Field<'_>]) -> Result<Vec<String>, Alloc
 }
 
 impl Nested<'_> {
+    /// The holes of templates in which its names stand, and how many levels are read.
+    pub(crate) fn holes(&self, alloc: Global) -> Holes {
+        let mut holes = Holes::new(alloc);
+        holes.put("NAME", self.names.of.as_str());
+        holes.put("SNAKE", self.names.snake.as_str());
+        holes.put("LIMIT", self.limit);
+        holes
+    }
+
     /// What a value is seen as: what the variants hold, each of the first variant and the rest.
     /// The type itself is called so.
     pub(crate) fn seen(&self, alloc: Global, itself: &str) -> Result<String, AllocError> {

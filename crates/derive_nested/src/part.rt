@@ -1,7 +1,7 @@
 //! What is said of a part of a type that contains itself, as ghost terms. Where a term speaks of
 //! values of the type itself or of the part's value, it has a hole, which is a dollar sign.
 
-use derive_syntax::Core;
+use derive_syntax::{Case, Core};
 use std::alloc::{AllocError, Global};
 
 /// What is said of a part.
@@ -41,7 +41,7 @@ pub(crate) struct Names {
 
 /// The types of Rust's: the name, and as ghost terms the type, the codec, the meaning, and which
 /// meanings are legal.
-const PLAIN: [(&str, &str, &str, &str, &str); 14] = [
+const PLAIN: &[(&str, &str, &str, &str, &str)] = &[
     ("bool", "Bool", "boolean_codec", "truth $", "LegalTruth"),
     ("u8", "ℕ", "u8_codec", "whole $", "LegalUnsigned 8"),
     ("u16", "ℕ", "u16_codec", "whole $", "LegalUnsigned 16"),
@@ -81,7 +81,20 @@ pub(crate) fn core_part(alloc: Global, names: &Names, core: Core<'_>) -> Result<
     match core {
         Core::Itself => itself(alloc, names),
         Core::Plain(name) => plain_part(alloc, name),
+        Core::Other(name) => user_part(alloc, name),
     }
+}
+
+/// What is said of another user-defined type, by what its impls say.
+fn user_part(alloc: Global, name: &str) -> Result<Part, AllocError> {
+    let snake = Case::Snake.of_variant(alloc, name)?;
+    let codec = format!(in alloc; "{snake}_part")?;
+    let means = format!(in alloc; "{snake}_value.means $")?;
+    let legal = format!(in alloc; "{snake}_value.legal")?;
+    other_part(
+        alloc,
+        (name, codec.as_str(), means.as_str(), legal.as_str()),
+    )
 }
 
 /// What is said of the type itself.
@@ -104,8 +117,8 @@ fn itself(alloc: Global, names: &Names) -> Result<Part, AllocError> {
 /// What is said of a type of Rust's.
 pub(crate) fn plain_part(alloc: Global, name: &str) -> Result<Part, AllocError> {
     for (known, of, codec, means, legal) in PLAIN {
-        if known == name {
-            return other_part(alloc, (of, codec, means, legal));
+        if *known == name {
+            return other_part(alloc, (*of, *codec, *means, *legal));
         }
     }
     nothing_part(alloc)

@@ -5,6 +5,7 @@ use crate::answers::{Answers, HEAD, Place};
 use crate::codec_laws::law_end;
 use crate::nested::{Held, Nested};
 use crate::ron_rows::{Written, fields_proof, struct_proof};
+use crate::template::Holes;
 use crate::text_codec::RON;
 use crate::text_fields::field_name;
 use std::alloc::{AllocError, Global};
@@ -32,23 +33,32 @@ pub(crate) fn ron_writer(
     }
     let (folder, snake) = (place.folder.as_str(), nested.names.snake.as_str());
     let (library, stem, goals) = (place.library, place.stem.as_str(), place.goals.as_str());
+    let mut holes = nested.holes(alloc);
+    holes.put("HEAD", HEAD);
+    holes.put("LIBRARY", library);
+    holes.put("STEM", stem);
+    holes.put("CITED", cited.as_str());
+    holes.put("GOALS", goals);
+    holes.put("ANSWERS", answers.as_str());
     Ok(Some(Answers {
         path: format!(in alloc; "{folder}/+write_{snake}_ron/Answers.antt")?,
-        text: format!(in alloc;
-            "{HEAD}use Rattle.std.proofs.Common.{{◌++◌, chars, codes, string_bytes}}
-use Rattle.std.proofs.lemmas.Result.{{on_ok_weaker}}
-use Rattle.nano_grammar.specs.FieldCodec.{{field_text, fields_text}}
-use Rattle.nano_grammar.proofs.WrittenLists.{{both_written}}
-use Rattle.nano_text.proofs.RollbackLaws.{{unchanged_by}}
-use Rattle.nano_ron_schema.specs.FieldCodecs.{{ron_fields}}
-use Rattle.nano_ron_schema.proofs.WrittenFields.{{more_lines}}
-use Rattle.nano_ron_nested.proofs.WrittenLaws.{{written_between}}
-use Rattle.{library}.proofs.{stem}RonCodecsLaws.{{{cited}}}
-use {goals}.+write_{snake}_ron.Goals as goal
-{answers}"
-        )?,
+        text: holes.fill(WRITER)?,
     }))
 }
+
+const WRITER: &str = "\
+$HEAD
+use Rattle.std.proofs.Common.{◌++◌, chars, codes, string_bytes}
+use Rattle.std.proofs.lemmas.Result.{on_ok_weaker}
+use Rattle.nano_grammar.specs.FieldCodec.{field_text, fields_text}
+use Rattle.nano_grammar.proofs.WrittenLists.{both_written}
+use Rattle.nano_text.proofs.RollbackLaws.{unchanged_by}
+use Rattle.nano_ron_schema.specs.FieldCodecs.{ron_fields}
+use Rattle.nano_ron_schema.proofs.WrittenFields.{more_lines}
+use Rattle.nano_ron_nested.proofs.WrittenLaws.{written_between}
+use Rattle.$LIBRARY.proofs.$STEMRonCodecsLaws.{$CITED}
+use $GOALS.+write_$SNAKE_ron.Goals as goal
+$ANSWERS";
 
 /// The names of what writes a struct, or a variant.
 #[derive(Drop)]
@@ -103,17 +113,21 @@ fn written_by(
 fn answered(alloc: Global, names: &WriterNames, written: &Written) -> Result<String, AllocError> {
     let WriterNames { append, write, .. } = names;
     let proof = written.proof.as_str();
-    format!(in alloc;
-        "
-pub {write}-rollback_on_error-requires :
-    goal.{write}-rollback_on_error-requires
-{write}-rollback_on_error-requires t c =
-    unchanged_by c.{append}-written.result c.args.s.now.out c.{append}-written.new.s.out
-    c.len-start.result _ c.len-start.ensures c.{append}-written.ensures.ok
-    c.{append}-written.ensures.err
-
-pub {append}-returns-clause-ok : goal.{append}-returns-clause-ok
-{append}-returns-clause-ok t c =
-{proof}"
-    )
+    let mut holes = Holes::new(alloc);
+    holes.put("WRITE", write.as_str());
+    holes.put("APPEND", append.as_str());
+    holes.put("PROOF", proof);
+    holes.fill(ANSWERED)
 }
+
+const ANSWERED: &str = "
+pub $WRITE-rollback_on_error-requires :
+    goal.$WRITE-rollback_on_error-requires
+$WRITE-rollback_on_error-requires t c =
+    unchanged_by c.$APPEND-written.result c.args.s.now.out c.$APPEND-written.new.s.out
+    c.len-start.result _ c.len-start.ensures c.$APPEND-written.ensures.ok
+    c.$APPEND-written.ensures.err
+
+pub $APPEND-returns-clause-ok : goal.$APPEND-returns-clause-ok
+$APPEND-returns-clause-ok t c =
+$PROOF";

@@ -3,6 +3,7 @@
 
 use crate::nested::{Held, Nested};
 use crate::ron_answers::WriterNames;
+use crate::template::Holes;
 use derive_syntax::Holder;
 use std::alloc::{AllocError, Global};
 
@@ -133,14 +134,24 @@ fn row_proof(
     let before = state_before(alloc, held, from)?;
     let between = state_before(alloc, held, middle)?;
     let after = state_before(alloc, held, end)?;
+    let mut holes = Holes::new(alloc);
+    holes.put("ONE_FIELDS", one.fields.as_str());
+    holes.put("OTHER_FIELDS", other.fields.as_str());
+    holes.put("ONE_OK", one.ok.as_str());
+    holes.put("OTHER_OK", other.ok.as_str());
+    holes.put("BEFORE", before.as_str());
+    holes.put("BETWEEN", between.as_str());
+    holes.put("AFTER", after.as_str());
     Ok(Appended {
         fields: format!(in alloc; "({} ++ {})", one.fields, other.fields)?,
-        ok: format!(in alloc;
-            "more_lines inner (field_text ron_fields inner) {} {}\n    {before} {between}\n    {after} ({}) ({})",
-            one.fields, other.fields, one.ok, other.ok
-        )?,
+        ok: holes.fill(MORE_LINES)?,
     })
 }
+
+const MORE_LINES: &str = "more_lines inner (field_text ron_fields inner) \
+    $ONE_FIELDS $OTHER_FIELDS
+    $BEFORE $BETWEEN
+    $AFTER ($ONE_OK) ($OTHER_OK)";
 
 /// The text before the field at a place, as a ghost term.
 fn state_before(alloc: Global, held: &Held<'_>, i: usize) -> Result<String, AllocError> {

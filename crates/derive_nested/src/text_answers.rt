@@ -3,6 +3,7 @@
 
 use crate::answers::{Answers, HEAD, Place};
 use crate::nested::Nested;
+use crate::template::Holes;
 use crate::text_codec::TextTerms;
 use std::alloc::{AllocError, Global};
 
@@ -14,54 +15,67 @@ pub(crate) fn text_reader(
     place: &Place<'_>,
 ) -> Result<Answers, AllocError> {
     let (name, word) = (nested.names.of.as_str(), format.word);
-    let (folder, library) = (place.folder.as_str(), place.library);
-    let (goals, stem) = (place.goals.as_str(), place.stem.as_str());
+    let folder = place.folder.as_str();
     let cited = format!(in alloc; "{}_{}", nested.names.snake, format.name)?;
-    let (cited, end) = (cited.as_str(), format.name);
-    let answers = read_answers(alloc, nested, cited)?;
+    let answers = read_answers(alloc, nested, cited.as_str())?;
+    let mut holes = nested.holes(alloc);
+    holes.put("HEAD", HEAD);
+    holes.put("FORMAT", format.name);
+    holes.put("LIBRARY", place.library);
+    holes.put("STEM", place.stem.as_str());
+    holes.put("WORD", word);
+    holes.put("CITED", cited.as_str());
+    holes.put("GOALS", place.goals.as_str());
+    holes.put("ANSWERS", answers.as_str());
     Ok(Answers {
         path: format!(in alloc; "{folder}/LevelsReads{word}{name}/+read/Answers.antt")?,
-        text: format!(in alloc;
-            "{HEAD}use Rattle.nano_schema_levels.proofs.ReadingLaws.{{seen_read, seen_none}}
-use Rattle.nano_{end}_nested.proofs.NestedLaws.{{none_left, ran_out}}
-use Rattle.{library}.specs.{stem}{word}Codecs.{{{cited}_at, {cited}_nested}}
-use {goals}.LevelsReads{word}{name}.+read.Goals as goal
-{answers}"
-        )?,
+        text: holes.fill(READER)?,
     })
 }
 
+const READER: &str = "\
+$HEAD
+use Rattle.nano_schema_levels.proofs.ReadingLaws.{seen_read, seen_none}
+use Rattle.nano_$FORMAT_nested.proofs.NestedLaws.{none_left, ran_out}
+use Rattle.$LIBRARY.specs.$STEM$WORDCodecs.{$CITED_at, $CITED_nested}
+use $GOALS.LevelsReads$WORD$NAME.+read.Goals as goal
+$ANSWERS";
+
 /// The answers for the reader of a type whose definitions in the format begin so.
 fn read_answers(alloc: Global, nested: &Nested<'_>, cited: &str) -> Result<String, AllocError> {
-    let too_deep = nested.too_deep;
     let (read, none) = if nested.is_enum {
         ("c.in-Ok.ensures.read", "c.in-Err.ensures.none")
     } else {
         ("c.in-Ok.ensures", "c.in-Err.ensures")
     };
-    format!(in alloc;
-        "
+    let mut holes = Holes::new(alloc);
+    holes.put("CITED", cited);
+    holes.put("TOO_DEEP", nested.too_deep);
+    holes.put("READ", read);
+    holes.put("NONE", none);
+    holes.fill(READ_ANSWERS)
+}
+
+const READ_ANSWERS: &str = "
 pub returns-then-left-eq0 : goal.returns-then-left-eq0
 returns-then-left-eq0 t c =
-    none_left {cited}_nested c.args.left c.args.input.now c.if-left-eq0.true c.{too_deep}.ensures
+    none_left $CITED_nested c.args.left c.args.input.now c.if-left-eq0.true c.$TOO_DEEP.ensures
 
 pub returns-in_default : goal.returns-in_default
 returns-in_default t c =
-    ran_out ({cited}_at c.args.left).encoding.encodes c.args.input.now c.no_levels.ensures
+    ran_out ($CITED_at c.args.left).encoding.encodes c.args.input.now c.no_levels.ensures
 
 pub returns-in_default-first : goal.returns-in_default-first
 returns-in_default-first t c =
-    ran_out ({cited}_at c.args.left).encoding.encodes c.args.input.now
+    ran_out ($CITED_at c.args.left).encoding.encodes c.args.input.now
     c.no_levels-in_default-first.ensures
 
 pub returns-in-Ok : goal.returns-in-Ok
 returns-in-Ok t c =
-    seen_read {cited}_nested c.args.left c.if-left-eq0.false c.make.result c.in-Ok.values
-    c.make.ensures {read}
+    seen_read $CITED_nested c.args.left c.if-left-eq0.false c.make.result c.in-Ok.values
+    c.make.ensures $READ
 
 pub returns-in-Err : goal.returns-in-Err
 returns-in-Err t c =
-    seen_none {cited}_nested c.args.left c.if-left-eq0.false {none}
-"
-    )
-}
+    seen_none $CITED_nested c.args.left c.if-left-eq0.false $NONE
+";

@@ -4,7 +4,9 @@
 use crate::coded::{Coded, nested_record};
 use crate::definitions::equation;
 use crate::nested::{Held, Nested};
+use crate::others::Said;
 use crate::ron_contents::variant_texts;
+use crate::template::Holes;
 use crate::text_layers::{content_layer, content_layers, row_layer};
 use crate::wrapped::atom;
 use std::alloc::{AllocError, Global};
@@ -18,6 +20,8 @@ pub(crate) struct TextTerms {
     pub(crate) word: &'static str,
     /// What its layers are named with.
     pub(crate) coded: Coded,
+    /// What brings in the codec of another type.
+    pub(crate) said: Said,
     /// The style of lists, and that its brackets are brackets.
     pub(crate) list: &'static str,
     /// The style of options.
@@ -36,6 +40,16 @@ pub(crate) struct TextTerms {
     pub(crate) alone: &'static str,
 }
 
+impl TextTerms {
+    /// The holes of templates in which the names of a type and of the format stand.
+    pub(crate) fn holes(&self, alloc: Global, nested: &Nested<'_>) -> Holes {
+        let mut holes = nested.holes(alloc);
+        holes.put("FORMAT", self.name);
+        holes.put("INFIX", self.coded.infix);
+        holes
+    }
+}
+
 /// JSON.
 pub(crate) const JSON: TextTerms = TextTerms {
     name: "json",
@@ -43,6 +57,10 @@ pub(crate) const JSON: TextTerms = TextTerms {
     coded: Coded {
         infix: "json_",
         of: "json json_grammar ",
+    },
+    said: Said {
+        by: "JsonCodec",
+        called: "json",
     },
     list: "block_style block_brackets",
     option: "null_style",
@@ -61,6 +79,10 @@ pub(crate) const RON: TextTerms = TextTerms {
     coded: Coded {
         infix: "ron_",
         of: "ron ron_grammar ",
+    },
+    said: Said {
+        by: "RonCodec",
+        called: "ron",
     },
     list: "line_style block_brackets",
     option: "none_style",
@@ -94,8 +116,6 @@ pub(crate) fn text_codec(
 
 /// The layer around values of the type itself.
 fn layer(alloc: Global, nested: &Nested<'_>, format: &TextTerms) -> Result<String, AllocError> {
-    let (name, snake) = (nested.names.of.as_str(), nested.names.snake.as_str());
-    let Coded { infix, of } = format.coded;
     let contents = content_layers(alloc, nested, format)?;
     let layers = layers(alloc, nested, format)?;
     let (kind, rows, made) = if nested.is_enum {
@@ -108,19 +128,28 @@ fn layer(alloc: Global, nested: &Nested<'_>, format: &TextTerms) -> Result<Strin
     } else {
         (format.fields, format.names)
     };
-    format!(in alloc;
-        "
--- ==== {name}: the layer around the values in it
-{contents}
-abbrev pub {snake}_{infix}{kind} : {rows} {style} {name} ({name}Content {name})
-{snake}_{infix}{kind} =
-    {layers}
-
-abbrev pub {snake}_{infix}layer : Layer {of}{name} ({name}Content {name})
-{snake}_{infix}layer = {made} {snake}_{infix}{kind} (λ f. {names}) (λ f. refl)
-"
-    )
+    let mut holes = format.holes(alloc, nested);
+    holes.put("OF", format.coded.of);
+    holes.put("CONTENTS", contents.as_str());
+    holes.put("LAYERS", layers.as_str());
+    holes.put("KIND", kind);
+    holes.put("ROWS", rows);
+    holes.put("MADE", made);
+    holes.put("STYLE", style);
+    holes.put("WRITABLE", names);
+    holes.fill(LAYER)
 }
+
+const LAYER: &str = "
+-- ==== $NAME: the layer around the values in it
+$CONTENTS
+abbrev pub $SNAKE_$INFIX$KIND : $ROWS $STYLE $NAME ($NAMEContent $NAME)
+$SNAKE_$INFIX$KIND =
+    $LAYERS
+
+abbrev pub $SNAKE_$INFIXlayer : Layer $OF$NAME ($NAMEContent $NAME)
+$SNAKE_$INFIXlayer = $MADE $SNAKE_$INFIX$KIND (λ f. $WRITABLE) (λ f. refl)
+";
 
 /// The layer of the fields of a struct, or those of the variants.
 fn layers(alloc: Global, nested: &Nested<'_>, format: &TextTerms) -> Result<String, AllocError> {
@@ -164,20 +193,18 @@ fn variant(
 
 /// The codec of the values of so many levels, and that of the values that are read.
 fn codec(alloc: Global, nested: &Nested<'_>, format: &TextTerms) -> Result<String, AllocError> {
-    let (name, snake) = (nested.names.of.as_str(), nested.names.snake.as_str());
-    let (end, infix, limit) = (format.name, format.coded.infix, nested.limit);
-    format!(in alloc;
-        "
+    format.holes(alloc, nested).fill(CODEC)
+}
+
+const CODEC: &str = "
 -- those of at most so many levels
-abbrev pub {snake}_{infix}at : ℕ → Codec {name}
-{snake}_{infix}at = level {snake}_{infix}nested
+abbrev pub $SNAKE_$INFIXat : ℕ → Codec $NAME
+$SNAKE_$INFIXat = level $SNAKE_$INFIXnested
 
 -- those that are read
-abbrev pub {snake}_{end} : Codec {name}
-{snake}_{end} = limited {snake}_{infix}nested {limit}
-"
-    )
-}
+abbrev pub $SNAKE_$FORMAT : Codec $NAME
+$SNAKE_$FORMAT = limited $SNAKE_$INFIXnested $LIMIT
+";
 
 /// That the format calls legal what the one before it does.
 fn agreement(
@@ -187,7 +214,6 @@ fn agreement(
     before: &str,
 ) -> Result<String, AllocError> {
     let (snake, limit) = (nested.names.snake.as_str(), nested.limit);
-    let (end, infix) = (format.name, format.coded.infix);
     let (codec, agrees) = if before == "bin" {
         (
             format!(in alloc; "{snake}_codec")?,
@@ -201,12 +227,15 @@ fn agreement(
             )?,
         )
     };
-    format!(in alloc;
-        "
-pub {snake}_{infix}agrees : Agrees {snake}_means {codec}.encoding.legal {snake}_means {snake}_{end}.encoding.legal
-{snake}_{infix}agrees =
-    agree_through ({agrees})
-    (nested_agrees {snake}_{infix}nested {snake}_step (λ f. refl) {limit})
-"
-    )
+    let mut holes = format.holes(alloc, nested);
+    holes.put("CODEC", codec.as_str());
+    holes.put("AGREES", agrees.as_str());
+    holes.fill(AGREEMENT)
 }
+
+const AGREEMENT: &str = "
+pub $SNAKE_$INFIXagrees : Agrees $SNAKE_means $CODEC.encoding.legal $SNAKE_means $SNAKE_$FORMAT.encoding.legal
+$SNAKE_$INFIXagrees =
+    agree_through ($AGREES)
+    (nested_agrees $SNAKE_$INFIXnested $SNAKE_step (λ f. refl) $LIMIT)
+";

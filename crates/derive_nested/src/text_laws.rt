@@ -79,22 +79,22 @@ fn struct_law(
     format: &TextTerms,
     held: &Held<'_>,
 ) -> Result<String, AllocError> {
-    let (name, snake) = (nested.names.of.as_str(), nested.names.snake.as_str());
-    let (end, infix, style) = (format.name, format.coded.infix, format.fields);
-    let limit = nested.limit;
     let parts = field_definitions(alloc, nested, format, held)?;
-    format!(in alloc;
-        "{parts}
-abbrev pub {snake}_{infix}written : {name} → List (WrittenField Token)
-{snake}_{infix}written x =
-    ({snake}_{infix}fields.codec {snake}_{end}).canonical.fields ({snake}_view x)
-
-pub {snake}_{infix}text : (d : ℕ) → (x : {name}) → {snake}_{end}.canonical.text d x
-    ≡ fields_text {style} d ({snake}_{infix}written x)
-{snake}_{infix}text d x = text_seen {snake}_{infix}nested {limit} d x ({snake}_view x) refl
-"
-    )
+    let mut holes = format.holes(alloc, nested);
+    holes.put("PARTS", parts.as_str());
+    holes.put("STYLE", format.fields);
+    holes.fill(STRUCT_LAW)
 }
+
+const STRUCT_LAW: &str = "$PARTS
+abbrev pub $SNAKE_$INFIXwritten : $NAME → List (WrittenField Token)
+$SNAKE_$INFIXwritten x =
+    ($SNAKE_$INFIXfields.codec $SNAKE_$FORMAT).canonical.fields ($SNAKE_view x)
+
+pub $SNAKE_$INFIXtext : (d : ℕ) → (x : $NAME) → $SNAKE_$FORMAT.canonical.text d x
+    ≡ fields_text $STYLE d ($SNAKE_$INFIXwritten x)
+$SNAKE_$INFIXtext d x = text_seen $SNAKE_$INFIXnested $LIMIT d x ($SNAKE_view x) refl
+";
 
 /// How a variant at its place is written.
 fn variant_law(
@@ -104,22 +104,27 @@ fn variant_law(
     (held, i): (&Held<'_>, usize),
 ) -> Result<String, AllocError> {
     let Variant { value, seen, view } = variant_at(alloc, nested, held, i)?;
-    let (snake, end) = (nested.names.snake.as_str(), law_end(alloc, held)?);
-    let (codec, infix, limit) = (format.name, format.coded.infix, nested.limit);
-    let (parts, values) = (binders(alloc, nested, held)?, held.values(alloc)?);
+    let (end, values) = (law_end(alloc, held)?, held.values(alloc)?);
+    let parts = binders(alloc, nested, held)?;
     let written = written(alloc, nested, format, held)?;
-    format!(in alloc;
-        "
-pub {snake}_{infix}text_{end} : (d : ℕ)
-    → {parts}{snake}_{codec}.canonical.text d {value}
-    ≡ {written}
-{snake}_{infix}text_{end} d{values} =
-    text_seen {snake}_{infix}nested {limit} d {value} {} {}
-",
-        atom(alloc, seen.as_str())?,
-        atom(alloc, view.as_str())?
-    )
+    let mut holes = format.holes(alloc, nested);
+    holes.put("END", end.as_str());
+    holes.put("PARTS", parts.as_str());
+    holes.put("VALUE", value.as_str());
+    holes.put("WRITTEN", written.as_str());
+    holes.put("GIVEN", values.as_str());
+    holes.put("SEEN", atom(alloc, seen.as_str())?.as_str());
+    holes.put("VIEW", atom(alloc, view.as_str())?.as_str());
+    holes.fill(VARIANT_LAW)
 }
+
+const VARIANT_LAW: &str = "
+pub $SNAKE_$INFIXtext_$END : (d : ℕ)
+    → $PARTS$SNAKE_$FORMAT.canonical.text d $VALUE
+    ≡ $WRITTEN
+$SNAKE_$INFIXtext_$END d$GIVEN =
+    text_seen $SNAKE_$INFIXnested $LIMIT d $VALUE $SEEN $VIEW
+";
 
 /// The text of a variant.
 pub(crate) fn written(

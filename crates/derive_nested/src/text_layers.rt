@@ -4,6 +4,7 @@ use crate::codec_laws::law_end;
 use crate::maps::map_layer;
 use crate::nested::{Held, Nested};
 use crate::row::Leaf;
+use crate::template::Holes;
 use crate::text_codec::TextTerms;
 use crate::wrapped::{at, atom};
 use derive_syntax::Holder;
@@ -60,21 +61,24 @@ pub(crate) fn content_layers(
         let layer = content_name(alloc, format, snake, held)?;
         let of = at(alloc, held.row.part.of.as_str(), name)?;
         let row = row_layer(alloc, format, &held.leaves)?;
-        let defined = format!(in alloc;
-            "
-abbrev pub {layer} : Layer {}{name} {}
-{layer} =
-    struct_layer {} (λ f. {}) (λ f. refl)
-",
-            format.coded.of,
-            atom(alloc, of.as_str())?,
-            atom(alloc, row.as_str())?,
-            format.names
-        )?;
+        let mut holes = Holes::new(alloc);
+        holes.put("LAYER", layer.as_str());
+        holes.put("OF", format.coded.of);
+        holes.put("NAME", name);
+        holes.put("SEEN", atom(alloc, of.as_str())?.as_str());
+        holes.put("ROW", atom(alloc, row.as_str())?.as_str());
+        holes.put("WRITABLE", format.names);
+        let defined = holes.fill(CONTENT_LAYER)?;
         text.push_str(defined.as_str())?;
     }
     Ok(text)
 }
+
+const CONTENT_LAYER: &str = "
+abbrev pub $LAYER : Layer $OF$NAME $SEEN
+$LAYER =
+    struct_layer $ROW (λ f. $WRITABLE) (λ f. refl)
+";
 
 /// The layer of fields: that of one, or of half of them and of the other half.
 pub(crate) fn row_layer(

@@ -18,6 +18,7 @@ mod scan;
 mod state;
 mod syntax;
 mod token;
+mod used;
 
 pub use case::Case;
 pub use check::{Missing, check_source, field_name, missing_value, variant_name};

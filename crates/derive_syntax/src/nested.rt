@@ -2,7 +2,7 @@
 
 use crate::fault::Fault;
 use crate::syntax::{Content, Definition, Field, Shape, Type, Variant};
-use crate::token::Token;
+use crate::token::{Token, TokenKind};
 use std::alloc::Global;
 
 /// A type of the library that a part of a type that contains itself may stand in.
@@ -25,6 +25,8 @@ pub enum Core<'a> {
     Itself,
     /// A type of Rust's, by its name.
     Plain(&'a str),
+    /// Another user-defined type, by its name.
+    Other(&'a str),
 }
 
 /// A part of a type that contains itself.
@@ -108,7 +110,8 @@ const KEYS: [&str; 11] = [
 ];
 
 const NO_PART: &str = "stands in a type that contains itself: a part of one is an integer, `bool`, \
-    `()`, a `String` or the type itself, as it is or within `Vec`, `Option`, `Box` and `BTreeMap`";
+    `()`, a `String`, the type itself or another one by its name, as it is or within `Vec`, \
+    `Option`, `Box` and `BTreeMap`";
 
 const NO_KEY: &str = "is no key of a map in a type that contains itself: such a key is a `String`, \
     `bool` or an integer of at most 64 bits";
@@ -203,11 +206,12 @@ fn map_of<'a>(between: Type<'a>) -> Result<Option<(Holder<'a>, Type<'a>)>, Fault
     }
 }
 
-/// What a type is that stands in no other: the type of this name, or one of Rust's.
+/// What a type is that stands in no other: the type of this name, one of Rust's, or another one.
 fn core_of<'a>(name: Token<'a>, of: Type<'a>) -> Option<Core<'a>> {
     match of.0 {
         [word] if word.text == name.text => Some(Core::Itself),
         [word] if PLAIN.contains(&word.text) => Some(Core::Plain(word.text)),
+        [word] if word.kind == TokenKind::Word => Some(Core::Other(word.text)),
         [open, close] if open.is("(") && close.is(")") => Some(Core::Plain("()")),
         _ => None,
     }

@@ -118,7 +118,25 @@ struct A {
     a: Vec<A>,
     b: B,
 }
-=> 7:8: `B` stands in a type that contains itself
+=> 7:8: `B` is another user-defined type in one that contains itself
+----
+use crate::B;
+
+// nanoserde: bin
+struct A {
+    a: Vec<A>,
+    b: Option<B>,
+}
+=> 6:15: `B` is another user-defined type in one that contains itself
+----
+use crate::b::{C as B, D};
+
+// nanoserde: bin
+enum A {
+    B(Box<A>, D),
+    C(B),
+}
+=> 6:7: `B` is another user-defined type in one that contains itself
 ----
 // nanoserde: bin
 struct A {

@@ -1,3 +1,6 @@
 mod SceneCodecsLaws
 mod SceneJsonCodecsLaws
 mod SceneRonCodecsLaws
+mod QuestCodecsLaws
+mod QuestJsonCodecsLaws
+mod QuestRonCodecsLaws

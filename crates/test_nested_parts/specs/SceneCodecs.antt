@@ -1,5 +1,5 @@
--- Scenes, and their codecs, given that of a mode.
-use Rattle.std.specs.Prelude.{◌≡◌, ℕ, suc, map, refl, Vec, true}
+-- Written by derive_files: types that contain themselves, and their codecs.
+use Rattle.std.specs.Prelude.{◌≡◌, ℕ, suc, map, refl, Vec}
 use Rattle.std.specs.Global.{Global}
 use Rattle.std.proofs.Common.{◌∙◌}
 use Rattle.nano_value.specs.Meaning.{Meaning, listed, paired, LegalList, LegalPair}
@@ -11,12 +11,17 @@ use Rattle.nano_bin_levels.specs.Layers.{Layer, Nested}
 use Rattle.nano_bin_levels.proofs.LayersLaws.{itself_layer, next_layer, seen_layer}
 use Rattle.nano_bin_levels.proofs.ListsLaws.{list_layer}
 use Rattle.nano_bin_levels.proofs.LevelsLaws.{nested_codec}
-use Rattle.test_nested_parts.specs.declared.mode.Mode.{Mode}
+use Rattle.test_nested_parts.specs.contracts.mode.derived.ModeBinCodec.TheImpl.{ghosts as mode_bin}
 use Rattle.test_nested_parts.specs.declared.scene.Scene.{Scene}
 use Rattle.test_nested_parts.specs.declared.scene.Scene.TheOpen.{Scene-F}
 use Rattle.test_nested_parts.specs.declared.scene.Scene.TheViews.{out-Scene}
-use Rattle.test_nested_parts.specs.declared.scene.Scene.TheFolds.{map-Scene}
-use Rattle.test_nested_parts.specs.declared.scene.Scene.TheFolds.{fold-Scene, fold_out-Scene}
+use Rattle.test_nested_parts.specs.declared.scene.Scene.TheFolds.{map-Scene, fold-Scene, fold_out-Scene}
+use Rattle.test_nested_parts.specs.declared.mode.Mode.{Mode}
+use Rattle.test_nested_parts.specs.contracts.mode.derived.ModeValue.TheImpl.{ghosts as mode_value}
+
+-- the codec of `Mode`
+abbrev pub mode_part : Codec Mode
+mode_part = mode_bin.bin
 
 -- ==== Scene: what a value is seen as
 
@@ -29,14 +34,13 @@ scene_opened y = (y.mode, y.scenes)
 abbrev pub scene_view : Scene → SceneContent Scene
 scene_view x = scene_opened (out-Scene x)
 
--- ---- what it means, given what a mode means, and how deep it is
+-- ---- what it means, and how deep it is
 
-module _ (mode_means : Mode → Meaning) where
-  abbrev pub scene_means_step : Scene-F Meaning → Meaning
-  scene_means_step y = paired (mode_means y.mode, listed y.scenes.items)
+abbrev pub scene_means_step : Scene-F Meaning → Meaning
+scene_means_step y = paired (mode_value.means y.mode, listed y.scenes.items)
 
-  abbrev pub scene_means : Scene → Meaning
-  scene_means = fold-Scene Meaning scene_means_step
+abbrev pub scene_means : Scene → Meaning
+scene_means = fold-Scene Meaning scene_means_step
 
 abbrev pub scene_depth_step : Scene-F ℕ → ℕ
 scene_depth_step y = greatest (map (λ x. suc x) y.scenes.items)
@@ -44,39 +48,36 @@ scene_depth_step y = greatest (map (λ x. suc x) y.scenes.items)
 abbrev pub scene_depth : Scene → ℕ
 scene_depth = fold-Scene ℕ scene_depth_step
 
--- ---- which meanings are legal, given those that are of modes, and of the values in it
+-- ---- which meanings are legal, given those that are of the values in it
 
-abbrev pub scene_step : (Meaning → Type 0) → LegalStep
-scene_step mode_legal P = LegalPair mode_legal (LegalList P)
+abbrev pub scene_step : LegalStep
+scene_step P = LegalPair mode_value.legal (LegalList P)
 
--- ---- as bytes, given the codec of a mode: the layer around the values in it, and the codec
+-- ---- as bytes: the layer around the values in it, and the codec
 
-module _ (mode : Codec Mode) (mode_read : mode.is_decodable ≡ true) where
-  abbrev pub scene_layer : Layer Scene (SceneContent Scene)
-  scene_layer = next_layer mode mode_read (seen_layer (λ x. x.items) (list_layer itself_layer))
+abbrev pub scene_layer : Layer Scene (SceneContent Scene)
+scene_layer = next_layer mode_part refl (seen_layer (λ x. x.items) (list_layer itself_layer))
 
-  pub scene_means_opened : (y : Scene-F Scene)
-      → scene_means_step mode.canonical.means (map-Scene Scene Meaning (scene_means
-      mode.canonical.means) y)
-      ≡ scene_layer.means (scene_means mode.canonical.means) (scene_opened y)
-  scene_means_opened y = refl
+pub scene_means_opened : (y : Scene-F Scene)
+    → scene_means_step (map-Scene Scene Meaning scene_means y)
+    ≡ scene_layer.means scene_means (scene_opened y)
+scene_means_opened y = refl
 
-  pub scene_depth_opened : (y : Scene-F Scene)
-      → scene_depth_step (map-Scene Scene ℕ scene_depth y)
-      ≡ scene_layer.deep scene_depth (scene_opened y)
-  scene_depth_opened y = list_depth _ _ _ (λ x. refl) y.scenes.items
+pub scene_depth_opened : (y : Scene-F Scene)
+    → scene_depth_step (map-Scene Scene ℕ scene_depth y)
+    ≡ scene_layer.deep scene_depth (scene_opened y)
+scene_depth_opened y = list_depth _ _ _ (λ x. refl) y.scenes.items
 
-  abbrev pub scene_nested : Nested Scene
-  scene_nested = record {
-    Seen = SceneContent Scene;
-    layer = scene_layer;
-    view = scene_view;
-    means = scene_means mode.canonical.means;
-    depth = scene_depth;
-    means_is = λ x. fold_out-Scene Meaning (scene_means_step mode.canonical.means) x ∙
-        scene_means_opened (out-Scene x);
-    depth_is = λ x. fold_out-Scene ℕ scene_depth_step x ∙ scene_depth_opened (out-Scene x);
-  }
+abbrev pub scene_nested : Nested Scene
+scene_nested = record {
+  Seen = SceneContent Scene;
+  layer = scene_layer;
+  view = scene_view;
+  means = scene_means;
+  depth = scene_depth;
+  means_is = λ x. fold_out-Scene Meaning scene_means_step x ∙ scene_means_opened (out-Scene x);
+  depth_is = λ x. fold_out-Scene ℕ scene_depth_step x ∙ scene_depth_opened (out-Scene x);
+}
 
-  abbrev pub scene_codec : Codec Scene
-  scene_codec = nested_codec scene_nested
+abbrev pub scene_codec : Codec Scene
+scene_codec = nested_codec scene_nested

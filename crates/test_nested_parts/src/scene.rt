@@ -1,8 +1,9 @@
-//! A scene: its schema, and then bytes, JSON and RON.
+//! A scene, which has a part of another user-defined type.
 
-use crate::Mode;
+use crate::mode::Mode;
 
 /// A scene with those in it.
+// nanoserde: bin json ron
 #[derive(PartialEq, Debug, Drop)]
 pub struct Scene {
     /// How hard it is.
@@ -11,6 +12,4 @@ pub struct Scene {
     pub scenes: Vec<Scene>,
 }
 
-mod impls;
-mod json;
-mod ron;
+mod derived;

@@ -1,19 +1,19 @@
-//! Scenes in each format.
+//! Scenes and quests in each format.
 
-use crate::{Mode, Scene};
+use crate::{Mode, Quest, Scene};
 use nano_bin_schema::{DeBin, SerBin};
 use nano_json_schema::{DeJson, SerJson};
 use nano_ron_schema::{DeRon, SerRon};
 use std::alloc::Global;
 use std::process::Abort;
 
-const BYTES: &[u8] = &[
+const SCENE: &[u8] = &[
     1, 0, 3, 1, 0, 0, 0, 0, 0, 0, 0, 0, 0, 0, 0, 0, 0, 0, 0, 0, 0,
 ];
 
-const JSON: &str = r#"{"mode":{"Hard":[3]},"scenes":[{"mode":"Easy","scenes":[]}]}"#;
+const SCENE_JSON: &str = r#"{"mode":{"Hard":[3]},"scenes":[{"mode":"Easy","scenes":[]}]}"#;
 
-const RON: &str = "(
+const SCENE_RON: &str = "(
     mode:Hard(3),
     scenes:[
         (
@@ -24,39 +24,58 @@ const RON: &str = "(
     ],
 )";
 
+const QUEST: &[u8] = &[
+    2, 0, 1, 0, 0, 0, 0, 0, 0, 0, 0, 0, 0, 0, 1, 0, 0, 0, 0, 0, 0, 0, 1, 0, 2, 0,
+];
+
+const QUEST_JSON: &str = r#"{"All":{"quests":[{"Win":["Easy"]}],"modes":[{"Hard":[2]}]}}"#;
+
+const QUEST_RON: &str = "All(
+    quests:[
+        Win(Easy),
+    ],
+    modes:[
+        Hard(2),
+    ],
+)";
+
+const BRING: &str = r#"{"Bring":[{"name":"rope","count":2},{"Win":["Easy"]}]}"#;
+
+const FIND: &str = r#"{"Find":[{"a":{"name":"oil"},"b":{"name":"rope","count":0}}]}"#;
+
 /// Stops where a condition does not hold.
 fn holds(rt: &impl Abort, condition: bool, what: &str) {
     assert!(rt; condition, "{what}");
 }
 
-/// All of the bytes are a scene, and are what is written of it.
-fn is_code(alloc: Global, bytes: &[u8]) -> bool {
-    let Ok(scene) = Scene::deserialize_bin_whole(alloc, bytes) else {
+/// All of the bytes are a value, and are what is written of it.
+fn is_code<T: SerBin + DeBin + Drop>(alloc: Global, bytes: &[u8]) -> bool {
+    let Ok(value) = T::deserialize_bin_whole(alloc, bytes) else {
         return false;
     };
-    match scene.serialize_bin(alloc) {
+    match value.serialize_bin(alloc) {
         Ok(written) => written.as_slice() == bytes,
         Err(_error) => false,
     }
 }
 
-/// All of the text is a scene, and is what is written of it.
-fn is_json(alloc: Global, text: &str) -> bool {
-    let Ok(scene) = Scene::deserialize_json_whole(alloc, text) else {
+/// All of the text is a value, and is what is written of it.
+fn is_json<T: SerJson + DeJson + Drop>(alloc: Global, text: &str) -> bool {
+    let Ok(value) = T::deserialize_json_whole(alloc, text) else {
         return false;
     };
-    match scene.serialize_json(alloc) {
+    match value.serialize_json(alloc) {
         Ok(written) => written.as_str() == text,
         Err(_error) => false,
     }
 }
 
-/// All of the text is a scene, and is what is written of it.
-fn is_ron(alloc: Global, text: &str) -> bool {
-    let Ok(scene) = Scene::deserialize_ron_whole(alloc, text) else {
+/// All of the text is a value, and is what is written of it.
+fn is_ron<T: SerRon + DeRon + Drop>(alloc: Global, text: &str) -> bool {
+    let Ok(value) = T::deserialize_ron_whole(alloc, text) else {
         return false;
     };
-    match scene.serialize_ron(alloc) {
+    match value.serialize_ron(alloc) {
         Ok(written) => written.as_str() == text,
         Err(_error) => false,
     }
@@ -81,10 +100,20 @@ fn is_mode(alloc: Global) -> bool {
 #[test]
 fn scenes_are_read_and_written_back(rt: HostRuntime) {
     let alloc = rt.alloc();
-    holds(&rt, is_code(alloc, BYTES), "bytes");
-    holds(&rt, is_json(alloc, JSON), "JSON");
-    holds(&rt, is_ron(alloc, RON), "RON");
+    holds(&rt, is_code::<Scene>(alloc, SCENE), "bytes");
+    holds(&rt, is_json::<Scene>(alloc, SCENE_JSON), "JSON");
+    holds(&rt, is_ron::<Scene>(alloc, SCENE_RON), "RON");
     holds(&rt, is_mode(alloc), "a mode");
+}
+
+#[test]
+fn quests_are_read_and_written_back(rt: HostRuntime) {
+    let alloc = rt.alloc();
+    holds(&rt, is_code::<Quest>(alloc, QUEST), "bytes");
+    holds(&rt, is_json::<Quest>(alloc, QUEST_JSON), "JSON");
+    holds(&rt, is_ron::<Quest>(alloc, QUEST_RON), "RON");
+    holds(&rt, is_json::<Quest>(alloc, BRING), "an item");
+    holds(&rt, is_json::<Quest>(alloc, FIND), "a map of items");
 }
 
 #[test]

@@ -3,7 +3,7 @@
 use crate::check::defaults::is_number;
 use crate::check::nested_json::check_nested_json;
 use crate::fault::Fault;
-use crate::nested::nested_part;
+use crate::nested::{Core, nested_part};
 use crate::syntax::{Attributes, Content, Definition, Field, Shape, Source, Type, Variant};
 use crate::token::{Token, TokenKind};
 use std::alloc::{AllocError, Global};
@@ -25,6 +25,10 @@ const WORDS: [&str; 4] = ["bin", "json", "ron", "levels"];
 const NO_LEVELS: &str = "is for a type that contains itself, and this one does not";
 
 const NO_LIMIT: &str = "is no number of levels: that is one from 1 to 128";
+
+const NO_MODULE: &str =
+    "is another user-defined type in one that contains itself: it is defined in \
+    a file of its own, and a line `use crate::module::Type;` names that file's module and the type";
 
 const NO_WORD: &str = "stands in a type that contains itself: above its fields and variants is no \
     attribute but `rename`";
@@ -53,9 +57,9 @@ pub(crate) fn check_nested<'a>(
         check_nested_json(definition)?;
     }
     match &definition.shape {
-        Shape::Fields(fields) => check_fields(alloc, definition.name, fields),
+        Shape::Fields(fields) => check_fields(alloc, source, definition.name, fields),
         Shape::Parts(_parts) => Err(definition.name.fault(TUPLE)),
-        Shape::Variants(variants) => check_variants(alloc, definition.name, variants),
+        Shape::Variants(variants) => check_variants(alloc, source, definition.name, variants),
     }
 }
 
@@ -91,10 +95,15 @@ fn check_formats(attributes: Attributes<'_>) -> Result<(), Fault> {
 }
 
 /// An error at a field that is not written.
-fn check_fields<'a>(alloc: Global, name: Token<'a>, fields: &[Field<'a>]) -> Result<(), Fault> {
+fn check_fields<'a>(
+    alloc: Global,
+    source: &Source<'a>,
+    name: Token<'a>,
+    fields: &[Field<'a>],
+) -> Result<(), Fault> {
     for field in fields {
         check_words(alloc, field.attributes)?;
-        let _part = nested_part(alloc, name, field.of)?;
+        check_part(alloc, source, name, field.of)?;
     }
     Ok(())
 }
@@ -113,9 +122,36 @@ fn check_words(alloc: Global, attributes: Attributes<'_>) -> Result<(), Fault> {
 }
 
 /// An error at a part that is not written.
-fn check_parts<'a>(alloc: Global, name: Token<'a>, parts: &[Type<'a>]) -> Result<(), Fault> {
+fn check_parts<'a>(
+    alloc: Global,
+    source: &Source<'a>,
+    name: Token<'a>,
+    parts: &[Type<'a>],
+) -> Result<(), Fault> {
     for part in parts {
-        let _part = nested_part(alloc, name, *part)?;
+        check_part(alloc, source, name, *part)?;
+    }
+    Ok(())
+}
+
+/// An error at a part that is not written, or at another type whose module no line says.
+fn check_part<'a>(
+    alloc: Global,
+    source: &Source<'a>,
+    name: Token<'a>,
+    of: Type<'a>,
+) -> Result<(), Fault> {
+    let part = nested_part(alloc, name, of)?;
+    let Core::Other(other) = part.core else {
+        return Ok(());
+    };
+    if source.module_of_type(alloc, other)?.is_some() {
+        return Ok(());
+    }
+    for token in of.0 {
+        if token.text == other {
+            return Err(token.fault(NO_MODULE));
+        }
     }
     Ok(())
 }
@@ -123,14 +159,15 @@ fn check_parts<'a>(alloc: Global, name: Token<'a>, parts: &[Type<'a>]) -> Result
 /// An error at a variant that is not written.
 fn check_variants<'a>(
     alloc: Global,
+    source: &Source<'a>,
     name: Token<'a>,
     variants: &[Variant<'a>],
 ) -> Result<(), Fault> {
     for variant in variants {
         match &variant.content {
             Content::Nothing => {}
-            Content::Parts(parts) => check_parts(alloc, name, parts)?,
-            Content::Fields(fields) => check_fields(alloc, name, fields)?,
+            Content::Parts(parts) => check_parts(alloc, source, name, parts)?,
+            Content::Fields(fields) => check_fields(alloc, source, name, fields)?,
         }
     }
     Ok(())

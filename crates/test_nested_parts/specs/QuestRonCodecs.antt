@@ -1,0 +1,111 @@
+-- Written by derive_files: types that contain themselves, and their codecs.
+use Rattle.std.specs.Prelude.{◌≡◌, ℕ, List, max, refl, codes, Option, String, Vec, string_cmp}
+use Rattle.std.specs.BTreeMap.{BTreeMap}
+use Rattle.std.specs.Global.{Global}
+use Rattle.std.proofs.Common.{◌∙◌, arith}
+use Rattle.nano_value.specs.Meaning.{Meaning, Agrees}
+use Rattle.nano_meaning.proofs.OrderLaws.{texts}
+use Rattle.nano_schema_levels.proofs.StepsLaws.{list_depth, pair_depth}
+use Rattle.nano_levels.specs.Layers.{Layer, Nested}
+use Rattle.nano_levels.proofs.LayersLaws.{itself_layer, list_layer, other_layer}
+use Rattle.nano_levels.proofs.LevelsLaws.{level, limited}
+use Rattle.nano_schema_levels.specs.VariantLayers.{VariantsLayer}
+use Rattle.nano_schema_levels.proofs.FieldLayersLaws.{fields_pair_layer, other_fields, required_layer, struct_layer}
+use Rattle.nano_schema_levels.proofs.LegalLevelsLaws.{agree_through, nested_agrees}
+use Rattle.nano_schema_levels.proofs.PartLaws.{pair_layer, seen_layer, single_layer}
+use Rattle.nano_schema_levels.proofs.VariantLayersLaws.{choice_layer, last_variant, next_variant}
+use Rattle.nano_bin_nested.proofs.LegalLaws.{nested_agrees as bin_agrees}
+use Rattle.nano_ron.specs.Codec.{Codec, codec_as}
+use Rattle.nano_ron.specs.ContainerCodecs.{ordered_map_codec}
+use Rattle.nano_ron_tokens.specs.Cut.{ron_grammar}
+use Rattle.nano_ron_tokens.proofs.RonLaws.{ron, block_brackets, paren_brackets}
+use Rattle.nano_ron_tokens.proofs.StylesLaws.{line_style, tuple_style}
+use Rattle.nano_ron_schema.specs.FieldCodecs.{optional_field, required_field, ron_fields, word_names}
+use Rattle.nano_ron_schema.specs.VariantCodecs.{ron_variants}
+use Rattle.nano_ron_schema.specs.Variants.{content_text}
+use Rattle.nano_ron_nested.specs.TypeCodecs.{list_codec, string_codec}
+use Rattle.test_nested_parts.specs.contracts.mode.derived.ModeRonCodec.TheImpl.{ghosts as mode_ron}
+use Rattle.test_nested_parts.specs.contracts.item.derived.ItemRonCodec.TheImpl.{ghosts as item_ron}
+use Rattle.test_nested_parts.specs.declared.quest.Quest.{Quest}
+use Rattle.test_nested_parts.specs.declared.quest.Quest.TheOpen.{Quest-F}
+use Rattle.test_nested_parts.specs.declared.quest.Quest.TheViews.{out-Quest}
+use Rattle.test_nested_parts.specs.declared.quest.Quest.TheFolds.{map-Quest, fold_out-Quest}
+use Rattle.test_nested_parts.specs.QuestCodecs.{QuestContent, quest_opened, quest_view, quest_means, quest_means_step}
+use Rattle.test_nested_parts.specs.QuestCodecs.{quest_depth, quest_depth_step}
+use Rattle.test_nested_parts.specs.QuestCodecs.{quest_step, quest_nested, quest_codec}
+use Rattle.test_nested_parts.specs.declared.mode.Mode.{Mode}
+use Rattle.test_nested_parts.specs.declared.item.Item.{Item}
+
+-- the codec of `Mode`
+abbrev pub mode_part : Codec Mode
+mode_part = mode_ron.ron
+
+-- the codec of `Item`
+abbrev pub item_part : Codec Item
+item_part = item_ron.ron
+
+-- ==== Quest: the layer around the values in it
+
+abbrev pub quest_ron_content_all : Layer ron ron_grammar Quest (Vec Quest Global × (Vec Mode Global × Option Mode))
+quest_ron_content_all =
+    struct_layer (fields_pair_layer (required_layer ron_fields (codes "quests") (seen_layer (λ x. x.items) (list_layer line_style block_brackets itself_layer))) (fields_pair_layer (other_fields ron_fields (required_field (codes "modes") (codec_as (λ (x : Vec Mode Global). x.items) (list_codec mode_part)))) (other_fields ron_fields (optional_field (codes "mode") mode_part)))) (λ f. word_names refl) (λ f. refl)
+
+abbrev pub quest_ron_variants : VariantsLayer ron_variants Quest (QuestContent Quest)
+quest_ron_variants =
+    next_variant ron_variants (codes "Win") (single_layer tuple_style paren_brackets (other_layer mode_part)) (λ f x d. refl)
+    (next_variant ron_variants (codes "Bring") (pair_layer tuple_style paren_brackets (other_layer item_part) (seen_layer (λ x. x.value) itself_layer)) (λ f x d. refl)
+    (next_variant ron_variants (codes "All") quest_ron_content_all (λ f x d. refl)
+    (last_variant ron_variants (codes "Find") (single_layer tuple_style paren_brackets (other_layer (codec_as (λ (x : BTreeMap (String Global) Item). x.entries) (ordered_map_codec texts string_cmp string_codec item_part)))) (λ f x d. refl))))
+
+abbrev pub quest_ron_layer : Layer ron ron_grammar Quest (QuestContent Quest)
+quest_ron_layer = choice_layer quest_ron_variants (λ f. refl) (λ f. refl)
+
+-- what holds no values of the type before what does
+pub quest_ron_later_depth : {a b : ℕ} → a ≡ b → a ≡ max 0 b
+quest_ron_later_depth e = omega (arith, e)
+
+pub quest_ron_means_opened : (y : Quest-F Quest)
+    → quest_means_step (map-Quest Quest Meaning quest_means y)
+    ≡ quest_ron_layer.means quest_means (quest_opened y)
+quest_ron_means_opened (Quest-F.Win v) = refl
+quest_ron_means_opened (Quest-F.Bring v0 v1) = refl
+quest_ron_means_opened (Quest-F.All v0 v1 v2) = refl
+quest_ron_means_opened (Quest-F.Find v) = refl
+
+pub quest_ron_depth_opened : (y : Quest-F Quest)
+    → quest_depth_step (map-Quest Quest ℕ quest_depth y)
+    ≡ quest_ron_layer.deep quest_depth (quest_opened y)
+quest_ron_depth_opened (Quest-F.Win v) = refl
+quest_ron_depth_opened (Quest-F.Bring v0 v1) = quest_ron_later_depth refl
+quest_ron_depth_opened (Quest-F.All v0 v1 v2) =
+    pair_depth (list_depth _ _ _ (λ x. refl) v0.items) refl
+quest_ron_depth_opened (Quest-F.Find v) = refl
+
+abbrev pub quest_ron_nested : Nested ron ron_grammar Quest
+quest_ron_nested = record {
+  Seen = QuestContent Quest;
+  layer = quest_ron_layer;
+  view = quest_view;
+  means = quest_means;
+  depth = quest_depth;
+  means_is = λ x. fold_out-Quest Meaning quest_means_step x ∙ quest_ron_means_opened (out-Quest x);
+  depth_is = λ x. fold_out-Quest ℕ quest_depth_step x ∙ quest_ron_depth_opened (out-Quest x);
+}
+
+-- those of at most so many levels
+abbrev pub quest_ron_at : ℕ → Codec Quest
+quest_ron_at = level quest_ron_nested
+
+-- those that are read
+abbrev pub quest_ron : Codec Quest
+quest_ron = limited quest_ron_nested 128
+
+-- a value of `All` as it is written
+abbrev pub quest_ron_of_all : ℕ → Vec Quest Global → Vec Mode Global → Option Mode → List ℕ
+quest_ron_of_all d v0 v1 v2 =
+    content_text (codes "All") ((quest_ron_content_all.codec quest_ron).canonical.text d (v0, (v1, v2)))
+
+pub quest_ron_agrees : Agrees quest_means quest_codec.encoding.legal quest_means quest_ron.encoding.legal
+quest_ron_agrees =
+    agree_through (bin_agrees quest_nested quest_step (λ f. refl))
+    (nested_agrees quest_ron_nested quest_step (λ f. refl) 128)
