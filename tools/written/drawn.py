@@ -37,7 +37,7 @@ GENERIC = [
     "Vec<(u8, (A, super::c::C), Option<Vec<B>>)>",
 ]
 # What a type that contains itself is made of, where `$` is the type.
-PLAIN = ["u8", "i64", "bool", "String", "()"]
+PLAIN = ["u8", "i64", "bool", "String", "()", "Mode", "Place"]
 AROUND = ["{}", "Vec<{}>", "Option<{}>", "Box<{}>", "Vec<Option<{}>>"]
 ITSELF = ["Vec<$>", "Box<$>", "Option<Box<$>>", "Option<Vec<$>>", "Vec<Box<$>>", "Vec<Vec<$>>"]
 TRAITS = ["Clone", "PartialEq<u8>", "'static", "super::c::T", "self::super::c::U<Vec<u8>>"]
@@ -145,6 +145,8 @@ def drawn(draw, number):
     is_unit = not names and draw.random() < 0.5
     parameters, end, types = drawn_head(draw, ";" if is_unit else " {")
     lines = [
+        "use crate::mode::Mode;",
+        "use crate::map::place::{City, Place};",
         "use std::collections::{BTreeMap, LinkedList};",
         f"// nanoserde: {formats}{case if names else ''}{denied}",
         "#[derive(Drop)]",
