@@ -188,7 +188,7 @@ pub(crate) fn text_cited(
 
 const TEXT_CITED: &str = "$OF.{$NAME}
 $SPECS.{$SNAKE_view$MEANS}
-use Rattle.$LIBRARY.specs.$FILE.{$SNAKE_$INFIXnested, $SNAKE_$FORMAT$FIELDS}
+use Rattle.$LIBRARY.specs.$FILE.{$SNAKE_$INFIXnested, $SNAKE_$SUFFIX$FIELDS}
 $VIEWS$PARTS";
 
 /// The names of the layers of the named fields of variants, each after a comma.

@@ -2,7 +2,7 @@
 
 use std::alloc::{AllocError, Global};
 
-/// What stands in the holes of templates. That memory ran out is told when one is filled.
+/// What stands in the holes of templates. That memory ran out is reported when one is filled.
 #[derive(Drop)]
 pub(crate) struct Holes {
     alloc: Global,

@@ -20,7 +20,7 @@ pub(crate) fn text_reader(
     let answers = read_answers(alloc, nested, cited.as_str())?;
     let mut holes = nested.holes(alloc);
     holes.put("HEAD", HEAD);
-    holes.put("FORMAT", format.name);
+    holes.put("SUFFIX", format.name);
     holes.put("LIBRARY", place.library);
     holes.put("STEM", place.stem.as_str());
     holes.put("WORD", word);
@@ -36,7 +36,7 @@ pub(crate) fn text_reader(
 const READER: &str = "\
 $HEAD
 use Rattle.nano_schema_levels.proofs.ReadingLaws.{seen_read, seen_none}
-use Rattle.nano_$FORMAT_nested.proofs.NestedLaws.{none_left, ran_out}
+use Rattle.nano_$SUFFIX_nested.proofs.NestedLaws.{none_left, ran_out}
 use Rattle.$LIBRARY.specs.$STEM$WORDCodecs.{$CITED_at, $CITED_nested}
 use $GOALS.LevelsReads$WORD$NAME.+read.Goals as goal
 $ANSWERS";

@@ -44,7 +44,7 @@ impl TextTerms {
     /// The holes of templates in which the names of a type and of the format stand.
     pub(crate) fn holes(&self, alloc: Global, nested: &Nested<'_>) -> Holes {
         let mut holes = nested.holes(alloc);
-        holes.put("FORMAT", self.name);
+        holes.put("SUFFIX", self.name);
         holes.put("INFIX", self.coded.infix);
         holes
     }
@@ -202,8 +202,8 @@ abbrev pub $SNAKE_$INFIXat : ℕ → Codec $NAME
 $SNAKE_$INFIXat = level $SNAKE_$INFIXnested
 
 -- those that are read
-abbrev pub $SNAKE_$FORMAT : Codec $NAME
-$SNAKE_$FORMAT = limited $SNAKE_$INFIXnested $LIMIT
+abbrev pub $SNAKE_$SUFFIX : Codec $NAME
+$SNAKE_$SUFFIX = limited $SNAKE_$INFIXnested $LIMIT
 ";
 
 /// That the format calls legal what the one before it does.
@@ -234,7 +234,7 @@ fn agreement(
 }
 
 const AGREEMENT: &str = "
-pub $SNAKE_$INFIXagrees : Agrees $SNAKE_means $CODEC.encoding.legal $SNAKE_means $SNAKE_$FORMAT.encoding.legal
+pub $SNAKE_$INFIXagrees : Agrees $SNAKE_means $CODEC.encoding.legal $SNAKE_means $SNAKE_$SUFFIX.encoding.legal
 $SNAKE_$INFIXagrees =
     agree_through ($AGREES)
     (nested_agrees $SNAKE_$INFIXnested $SNAKE_step (λ f. refl) $LIMIT)

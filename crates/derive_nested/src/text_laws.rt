@@ -89,9 +89,9 @@ fn struct_law(
 const STRUCT_LAW: &str = "$PARTS
 abbrev pub $SNAKE_$INFIXwritten : $NAME → List (WrittenField Token)
 $SNAKE_$INFIXwritten x =
-    ($SNAKE_$INFIXfields.codec $SNAKE_$FORMAT).canonical.fields ($SNAKE_view x)
+    ($SNAKE_$INFIXfields.codec $SNAKE_$SUFFIX).canonical.fields ($SNAKE_view x)
 
-pub $SNAKE_$INFIXtext : (d : ℕ) → (x : $NAME) → $SNAKE_$FORMAT.canonical.text d x
+pub $SNAKE_$INFIXtext : (d : ℕ) → (x : $NAME) → $SNAKE_$SUFFIX.canonical.text d x
     ≡ fields_text $STYLE d ($SNAKE_$INFIXwritten x)
 $SNAKE_$INFIXtext d x = text_seen $SNAKE_$INFIXnested $LIMIT d x ($SNAKE_view x) refl
 ";
@@ -120,7 +120,7 @@ fn variant_law(
 
 const VARIANT_LAW: &str = "
 pub $SNAKE_$INFIXtext_$END : (d : ℕ)
-    → $PARTS$SNAKE_$FORMAT.canonical.text d $VALUE
+    → $PARTS$SNAKE_$SUFFIX.canonical.text d $VALUE
     ≡ $WRITTEN
 $SNAKE_$INFIXtext_$END d$GIVEN =
     text_seen $SNAKE_$INFIXnested $LIMIT d $VALUE $SEEN $VIEW

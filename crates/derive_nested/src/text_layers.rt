@@ -52,29 +52,37 @@ pub(crate) fn content_layers(
     nested: &Nested<'_>,
     format: &TextTerms,
 ) -> Result<String, AllocError> {
-    let (name, snake) = (nested.names.of.as_str(), nested.names.snake.as_str());
     let mut text = String::new(alloc);
     for held in &nested.contents {
-        if !nested.is_enum || !held.has_fields {
-            continue;
+        if nested.is_enum && held.has_fields {
+            text.push_str(fields_layer(alloc, nested, format, held)?.as_str())?;
         }
-        let layer = content_name(alloc, format, snake, held)?;
-        let of = at(alloc, held.row.part.of.as_str(), name)?;
-        let row = row_layer(alloc, format, &held.leaves)?;
-        let mut holes = Holes::new(alloc);
-        holes.put("LAYER", layer.as_str());
-        holes.put("OF", format.coded.of);
-        holes.put("NAME", name);
-        holes.put("SEEN", atom(alloc, of.as_str())?.as_str());
-        holes.put("ROW", atom(alloc, row.as_str())?.as_str());
-        holes.put("WRITABLE", format.names);
-        let defined = holes.fill(CONTENT_LAYER)?;
-        text.push_str(defined.as_str())?;
     }
     Ok(text)
 }
 
-const CONTENT_LAYER: &str = "
+/// The layer of the named fields of a variant, by its name.
+fn fields_layer(
+    alloc: Global,
+    nested: &Nested<'_>,
+    format: &TextTerms,
+    held: &Held<'_>,
+) -> Result<String, AllocError> {
+    let name = nested.names.of.as_str();
+    let layer = content_name(alloc, format, nested.names.snake.as_str(), held)?;
+    let seen = at(alloc, held.row.part.of.as_str(), name)?;
+    let row = row_layer(alloc, format, &held.leaves)?;
+    let mut holes = Holes::new(alloc);
+    holes.put("LAYER", layer.as_str());
+    holes.put("OF", format.coded.of);
+    holes.put("NAME", name);
+    holes.put("SEEN", atom(alloc, seen.as_str())?.as_str());
+    holes.put("ROW", atom(alloc, row.as_str())?.as_str());
+    holes.put("WRITABLE", format.names);
+    holes.fill(FIELDS_LAYER)
+}
+
+const FIELDS_LAYER: &str = "
 abbrev pub $LAYER : Layer $OF$NAME $SEEN
 $LAYER =
     struct_layer $ROW (λ f. $WRITABLE) (λ f. refl)
